@@ -1,0 +1,81 @@
+//! Lists that grow, and answer where there is no memory.
+
+ghost use Rattle.std.specs.Prelude.{◌≡◌, ℕ, List as Items, [], ◌∷◌, ◌++◌, ◌+◌, ◌<◌, ◌≤◌, length, OnOk, OnErr, IsTrue, ◌↔◌};
+
+use crate::NoMemory;
+use std::alloc::Global;
+use std::marker::Model;
+
+/// A list of values. Contracts see its items, and its room: how many more fit with no further memory.
+#[derive(Debug, Drop)]
+pub struct List<T> {
+    values: Vec<T>,
+}
+
+impl<T> Model for List<T> {
+    ghost use Rattle.std.specs.Prelude.{◌-◌, vec_len, vec_capacity};
+    ghost use Rattle.zw_base.specs.Listed.{Listed};
+
+    ghost Value = { Listed T };
+
+    ghost view = { λ l. record { items = l.values.items; room = vec_capacity l.values - vec_len l.values } };
+}
+
+impl<T> List<T> {
+    /// No items. It takes no memory.
+    pub fn new(alloc: Global) -> List<T>
+        ensures { result.items ≡ [] }
+    {
+        List {
+            values: Vec::new(alloc),
+        }
+    }
+
+    pub fn len(&self) -> usize
+        ensures { result ≡ length self.now.items }
+    {
+        self.values.len()
+    }
+
+    pub fn is_empty(&self) -> bool
+        ensures { IsTrue result ↔ (self.now.items ≡ []) }
+    {
+        self.values.is_empty()
+    }
+
+    /// Makes room for so many more items.
+    pub fn reserve(&mut self, additional: usize) -> Result<(), NoMemory>
+        ensures items { self.new.items ≡ self.old.items }
+        ensures ok { OnOk result (additional ≤ self.new.room) }
+        ensures grows { self.old.room ≤ self.new.room }
+    {
+        self.values.reserve(additional)?;
+        Ok(())
+    }
+
+    /// Adds an item at the end, for which there is room.
+    pub fn put(&mut self, item: T)
+        requires { 0 < self.old.room }
+        ensures items { self.new.items ≡ self.old.items ++ item ∷ [] }
+        ensures room { self.new.room + 1 ≡ self.old.room }
+    {
+        self.values.push_reserved(item);
+    }
+
+    /// Adds an item at the end.
+    pub fn push(&mut self, item: T) -> Result<(), NoMemory>
+    where
+        T: Drop,
+        ensures ok { OnOk result (self.new.items ≡ self.old.items ++ item ∷ []) }
+        ensures err { OnErr result (self.new.items ≡ self.old.items) }
+    {
+        self.values.push(item)?;
+        Ok(())
+    }
+
+    pub fn as_slice(&self) -> &[T]
+        ensures { result.now ≡ self.now.items }
+    {
+        self.values.as_slice()
+    }
+}
