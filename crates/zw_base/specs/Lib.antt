@@ -1,1 +1,5 @@
 pub mod Listed
+pub mod PropertyOrder
+pub mod Faults
+pub mod Supply
+pub mod Store

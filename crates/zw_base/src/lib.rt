@@ -8,12 +8,28 @@
 
 mod bytes;
 mod end_point;
+mod fixed_draw;
 mod list;
 mod memory;
+mod memory_sink;
+mod memory_source;
 mod node;
+mod outside;
+mod payload;
+mod plain;
+mod property;
+mod standard;
 
 pub use bytes::Bytes;
 pub use end_point::{EndPoint, read_end};
+pub use fixed_draw::FixedDraw;
 pub use list::List;
 pub use memory::NoMemory;
+pub use memory_sink::MemorySink;
+pub use memory_source::MemorySource;
 pub use node::{NodeId, read_node};
+pub use outside::{Draw, Failed, Sink, Source};
+pub use payload::{Payload, Replies};
+pub use plain::{PlainSink, PlainSource};
+pub use property::{Name, Property, Setting};
+pub use standard::{StdSink, StdSource};

@@ -1,6 +1,6 @@
 //! Lists that grow, and answer where there is no memory.
 
-ghost use Rattle.std.specs.Prelude.{◌≡◌, ℕ, List as Items, [], ◌∷◌, ◌++◌, ◌+◌, ◌<◌, ◌≤◌, length, OnOk, OnErr, IsTrue, ◌↔◌};
+ghost use Rattle.std.specs.Prelude.{◌≡◌, ℕ, List as Items, [], ◌∷◌, ◌++◌, ◌+◌, ◌<◌, ◌≤◌, length, IfOk, OnOk, OnErr, IsTrue, ◌↔◌};
 
 use crate::NoMemory;
 use std::alloc::Global;
@@ -29,6 +29,17 @@ impl<T> List<T> {
         List {
             values: Vec::new(alloc),
         }
+    }
+
+    /// A copy of these items.
+    pub fn from_slice(alloc: Global, items: &[T]) -> Result<List<T>, NoMemory>
+    where
+        T: Copy,
+        ensures { IfOk result (λ copy. copy.items ≡ items.now) }
+    {
+        Ok(List {
+            values: Vec::from_slice(alloc, items)?,
+        })
     }
 
     pub fn len(&self) -> usize
@@ -71,6 +82,16 @@ impl<T> List<T> {
     {
         self.values.push(item)?;
         Ok(())
+    }
+
+    /// Takes all items away. Their places are room for others.
+    pub fn clear(&mut self)
+    where
+        T: Drop,
+        ensures items { self.new.items ≡ [] }
+        ensures room { self.new.room ≡ self.old.room + length self.old.items }
+    {
+        self.values.clear();
     }
 
     pub fn as_slice(&self) -> &[T]
