@@ -18,6 +18,7 @@ mod outside;
 mod payload;
 mod plain;
 mod property;
+mod sequence;
 mod standard;
 
 pub use bytes::Bytes;
@@ -31,5 +32,6 @@ pub use node::{NodeId, read_node};
 pub use outside::{Draw, Failed, Sink, Source};
 pub use payload::{Payload, Replies};
 pub use plain::{PlainSink, PlainSource};
-pub use property::{Name, Property, Setting};
+pub use property::{By, Name, Property, Setting, properties_in_order};
+pub use sequence::Sequence;
 pub use standard::{StdSink, StdSource};

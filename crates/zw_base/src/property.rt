@@ -37,6 +37,17 @@ pub struct Setting {
     pub value: u32,
 }
 
+/// What made a change of a device.
+#[derive(Clone, Copy, Debug, PartialEq, Eq)]
+pub enum By {
+    /// The command of that session, from 1 on.
+    Session(u64),
+    /// Somebody at the device.
+    Local,
+    /// A Set without Supervision.
+    Plain,
+}
+
 /// Properties are in order of their end points, then of their names as declared, then of the numbers in a name.
 pub fn properties_in_order(first: Property, second: Property)
     ensures { ⟦<Property as Ord>⟧.cmp first second ≡ slice_cmp nat_cmp (rank_of first) (rank_of second) }
