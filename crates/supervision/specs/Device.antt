@@ -2,7 +2,7 @@
 -- of the Supervision Command Class).
 use Rattle.std.specs.Prelude.{◌≡◌, ℕ, ◌+◌, Bool, ◌==◌, ◌&&◌, not, nat_lt, if◌then◌else◌}
 use Rattle.supervision.specs.Session.{wire_id}
-use Rattle.supervision.specs.declared.session.TheConstants.{WORKING, NO_SUPPORT}
+use Rattle.supervision.specs.declared.session.TheConstants.{WORKING, SUCCESS}
 use Rattle.supervision.specs.declared.device_book.Heard.{Heard}
 use Rattle.supervision.specs.declared.device_book.Heard.TheVariants.{New, Again, Old}
 
@@ -13,7 +13,7 @@ pub record Taken : Type 0 where
 
 -- nothing taken
 abbrev pub none_taken : Taken
-none_taken = record { taken = 0; status = NO_SUPPORT }
+none_taken = record { taken = 0; status = SUCCESS }
 
 -- the id names the session after the last one taken, and the device is not at work on that one
 abbrev pub is_new : Taken → ℕ → Bool

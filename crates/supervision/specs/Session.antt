@@ -10,7 +10,7 @@ wire_id session = session % 64
 abbrev pub Names : ℕ → ℕ → Type 0
 Names id session = id ≡ wire_id session
 
--- the four statuses of a Supervision Report: success 0x00, working 0x01, fail 0x02, no support 0xFF
+-- the four statuses of a Supervision Report: no support 0x00, working 0x01, fail 0x02, success 0xFF
 abbrev pub is_status : ℕ → Bool
 is_status status = status == 0 || status == 1 || status == 2 || status == 255
 

@@ -4,7 +4,7 @@ ghost use Rattle.std.specs.Prelude.{◌≡◌, ℕ, ◌+◌, ◌^◌, ◌<◌};
 ghost use Rattle.supervision.specs.Session.{IsStatus};
 ghost use Rattle.supervision.specs.Device.{none_taken, heard_of, after_get, finished};
 
-use crate::session::{NO_SUPPORT, WORKING, session_id};
+use crate::session::{SUCCESS, WORKING, session_id};
 use std::marker::Model;
 
 /// What a device makes of a Supervision Get.
@@ -43,7 +43,7 @@ impl DeviceBook {
     {
         DeviceBook {
             taken: 0,
-            status: NO_SUPPORT,
+            status: SUCCESS,
         }
     }
 

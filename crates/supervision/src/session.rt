@@ -3,8 +3,8 @@
 ghost use Rattle.std.specs.Prelude.{◌≡◌, ◌<◌};
 ghost use Rattle.supervision.specs.Session.{wire_id};
 
-/// The command was carried out.
-pub const SUCCESS: u8 = 0x00;
+/// The device does not support the command.
+pub const NO_SUPPORT: u8 = 0x00;
 
 /// The command was taken, and its final status comes later.
 pub const WORKING: u8 = 0x01;
@@ -12,8 +12,8 @@ pub const WORKING: u8 = 0x01;
 /// The command could not be carried out.
 pub const FAIL: u8 = 0x02;
 
-/// The device does not support the command.
-pub const NO_SUPPORT: u8 = 0xFF;
+/// The command was carried out.
+pub const SUCCESS: u8 = 0xFF;
 
 /// How many ids the wire has.
 pub const WIRE_IDS: u64 = 64;
