@@ -44,6 +44,10 @@ command_at commands (suc before) = slice_get commands before
 abbrev pub begins : HostBook → ℕ → HostBook
 begins book command = record { commands = book.commands ++ command ∷ []; outcome = None; attempts = 0 }
 
+-- the book with so many attempts counted in the series
+abbrev pub with_attempts : HostBook → ℕ → HostBook
+with_attempts book attempts = record book { attempts = attempts }
+
 -- what the host makes of a report with this id and status
 abbrev pub told_of : HostBook → ℕ → ℕ → Told
 told_of book id status = told_by (open_session book) id status

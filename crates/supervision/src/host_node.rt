@@ -2,7 +2,7 @@
 
 ghost use Rattle.std.specs.Prelude.{◌≡◌, ◌≢◌, ℕ, ◌+◌, ◌<◌, ◌≤◌, ◌↔◌, Option, Some, None, Err, IsSome, IfOk, OnOk, OnErr};
 ghost use Rattle.supervision.specs.Session.{IsStatus};
-ghost use Rattle.supervision.specs.Host.{no_sessions, begun_of, open_session, command_at, begins, told_of, after_report};
+ghost use Rattle.supervision.specs.Host.{no_sessions, begun_of, open_session, command_at, begins, with_attempts, told_of, after_report};
 
 use crate::session::{WORKING, session_id};
 use std::alloc::Global;
@@ -150,7 +150,7 @@ impl HostNode {
         requires open { IsSome (open_session self.old.book) }
         requires more { self.old.book.attempts < MAX_ATTEMPTS }
         ensures count { result ≡ self.old.book.attempts + 1 }
-        ensures counted { self.new.book ≡ record self.old.book { attempts = result } }
+        ensures counted { self.new.book ≡ with_attempts self.old.book result }
         ensures room { self.new.room ≡ self.old.room }
     {
         self.attempts += 1;
@@ -159,7 +159,8 @@ impl HostNode {
 
     /// Starts a new series of attempts.
     pub fn restart_series(&mut self)
-        ensures { self.new ≡ record self.old { book = record self.old.book { attempts = 0 } } }
+        ensures book { self.new.book ≡ with_attempts self.old.book 0 }
+        ensures room { self.new.room ≡ self.old.room }
     {
         self.attempts = 0;
     }
