@@ -3,3 +3,4 @@ pub mod PropertyOrder
 pub mod Faults
 pub mod Supply
 pub mod Store
+pub mod Crc

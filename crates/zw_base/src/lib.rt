@@ -7,6 +7,7 @@
 #![tactic(auto)]
 
 mod bytes;
+mod crc;
 mod end_point;
 mod fixed_draw;
 mod list;
@@ -22,6 +23,7 @@ mod sequence;
 mod standard;
 
 pub use bytes::Bytes;
+pub use crc::crc_ccitt;
 pub use end_point::{EndPoint, read_end};
 pub use fixed_draw::FixedDraw;
 pub use list::List;
