@@ -17,6 +17,14 @@ pub record Ended : Type 0 where
   pub command : ℕ
   pub status : ℕ
 
+-- one ended session comes before the other
+abbrev pub IsEarlier : Ended → Ended → Type 0
+IsEarlier a b = a.session < b.session
+
+-- the host began that session, for that command
+abbrev pub IsBegun : List ℕ → Ended → Type 0
+IsBegun commands e = command_at commands e.session ≡ Some e.command
+
 -- both ends, every message that was ever sent, the command of the last session taken, what the device brought to an
 -- end and what the host was told so, each in order
 pub record World : Type 0 where

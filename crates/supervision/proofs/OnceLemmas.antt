@@ -1,0 +1,276 @@
+-- Every event keeps the facts of both ends, so they hold after every list of events.
+use Rattle.std.proofs.Common.{◌≡◌, ◌≢◌, ℕ, zero, suc, ◌+◌, ◌<◌, ◌≤◌, Bool, true, false, ◌==◌, ◌&&◌, not, ◌⊎◌, List, [], ◌∷◌, ◌++◌, length, get_or, Option, Some, None, refl, sym, ap, subst, ◌∙◌, inl, inr, arith, length-append}
+use Rattle.std.specs.Prelude.{if◌then◌else◌, nat_lt, nat_le, slice_get, filter, unwrap_or, All, AllPairs, Contains, Any}
+use Rattle.std.proofs.Math.ListN.{get_or-append}
+use Rattle.std.proofs.lemmas.Bool.Decides.{nat_tests, eqb_tells}
+use Rattle.std.proofs.lemmas.Option.{slice_get_within, get_or_from_slice_get}
+use Rattle.std.proofs.lemmas.List.Elements.{All-nil, All-push, All-weaker, All-filter, Contains-append_left, Contains-push}
+use Rattle.std.proofs.lemmas.List.Quantifiers.{all_pairs_push, Any-push}
+use Rattle.std.proofs.lemmas.List.Kept.{AllPairs-filter}
+use Rattle.supervision.specs.Session.{wire_id, is_status}
+use Rattle.supervision.specs.Host.{HostBook, no_sessions, begun_of, open_session, command_at, begins, with_attempts, told_of, after_report}
+use Rattle.supervision.specs.Device.{Taken, none_taken, heard_of, after_get, finished}
+use Rattle.supervision.specs.Ends.{Get, Report, is_fresh, is_fresh_on_line, IsSettled, EndsAgree, GetFits, ReportFits}
+use Rattle.supervision.specs.Once.{Ended, IsEarlier, IsBegun, World, Event, start, begin_when, send_when, take_when, hear_get, finish_when, answer_when, tell_when, hear_report, happens, run, changes}
+use Rattle.supervision.specs.Once.Event.{Begin, Attempts, Send, Get_comes, Finish, Answer, Report_comes}
+use Rattle.supervision.specs.declared.session.TheConstants.{SUCCESS, WORKING}
+use Rattle.supervision.specs.declared.host_node.Told.{Told}
+use Rattle.supervision.specs.declared.host_node.Told.TheVariants.{Final, Working as still_working, Old as unknown}
+use Rattle.supervision.specs.declared.device_book.Heard.{Heard}
+use Rattle.supervision.specs.declared.device_book.Heard.TheVariants.{New, Again, Old}
+use Rattle.supervision.proofs.EndsLemmas.{heard_of-New, IsTaken, told_of-Final, open_session-Some, open_session-None, command_at-Some, command_at-push, all_taken, EndsAgree-begins, EndsAgree-attempts, EndsAgree-taken, EndsAgree-finished, EndsAgree-told, GetFits-sent, GetFits-begins, GetNames, get_in_time, ReportFits-sent, ReportFits-begins, ReportFits-taken, ReportFits-finished, ReportNames, report_in_time}
+
+abbrev pub IsWithin : ℕ → Ended → Type 0
+IsWithin n e = e.session ≤ n
+
+abbrev pub IsBefore : ℕ → Ended → Type 0
+IsBefore n e = e.session < n
+
+-- what the device brought to an end, beside both books
+pub record DoneFits (commands : List ℕ) (device : Taken) (held : ℕ) (done : List Ended) : Type 0 where
+  pub rise : AllPairs IsEarlier done
+  pub within : All (IsWithin device.taken) done
+  pub before : device.status ≡ WORKING → All (IsBefore device.taken) done
+  pub begun : All (IsBegun commands) done
+  pub busy : device.status ≡ WORKING → 0 < device.taken
+  pub holds : 0 < device.taken → command_at commands device.taken ≡ Some held
+  pub last : 0 < device.taken → device.status ≢ WORKING → Contains done (record { session = device.taken; command = held; status = device.status })
+
+-- what the host was told, beside its book and what the device brought to an end
+pub record ToldFits (host : HostBook) (done told : List Ended) : Type 0 where
+  pub rise : AllPairs IsEarlier told
+  pub within : All (IsWithin (begun_of host)) told
+  pub before : host.outcome ≡ None → All (IsBefore (begun_of host)) told
+  pub was_done : All (Contains done) told
+  pub each : (session : ℕ) → 0 < session → session < begun_of host → Any (λ e. e.session ≡ session) told
+  pub last : (status : ℕ) → host.outcome ≡ Some status → Any (λ e. e.session ≡ begun_of host) told
+
+-- what holds of every world
+pub record Facts (w : World) : Type 0 where
+  pub agree : EndsAgree w.host w.device
+  pub gets : All (GetFits w.host.commands) w.gets
+  pub reports : All (ReportFits (begun_of w.host) w.device) w.reports
+  pub done : DoneFits w.host.commands w.device w.held w.done
+  pub told : ToldFits w.host w.done w.told
+
+-- lists
+
+pub All-slice_get : {X : Type 0} (P : X → Type 0) (xs : List X) (k : ℕ) (x : X) → All P xs → slice_get xs k ≡ Some x → P x
+All-slice_get P xs k x all e =
+    subst P (get_or_from_slice_get xs k x x e) (all k x (slice_get_within xs k x e))
+
+Any-append_left : {X : Type 0} (P : X → Type 0) (xs : List X) (y : X) → Any P xs → Any P (xs ++ y ∷ [])
+Any-append_left P xs y any =
+    let longer : length (xs ++ y ∷ []) ≡ length xs + 1 = grind (arith, length-append) in
+    (any.0, any.1, omega arith, get_or-append xs (y ∷ []) any.1 any.0 any.2 ∙ any.3, any.4)
+
+pub start-facts : Facts start
+start-facts = record {
+  agree = record { not_ahead = omega arith; one_behind = omega arith; settled = λ status e. absurd (grind arith) };
+  gets = All-nil _;
+  reports = All-nil _;
+  done = record {
+    rise = λ i j d a b. absurd (omega arith);
+    within = All-nil _;
+    before = λ _. All-nil _;
+    begun = All-nil _;
+    busy = λ e. absurd (omega arith);
+    holds = λ some. absurd (omega arith);
+    last = λ some _. absurd (omega arith);
+  };
+  told = record {
+    rise = λ i j d a b. absurd (omega arith);
+    within = All-nil _;
+    before = λ _. All-nil _;
+    was_done = All-nil _;
+    each = λ session a b. absurd (omega arith);
+    last = λ status e. absurd (grind arith);
+  };
+}
+
+-- a session begins
+
+DoneFits-begins : (commands : List ℕ) (command : ℕ) (device : Taken) (held : ℕ) (done : List Ended) → DoneFits commands device held done → DoneFits (commands ++ command ∷ []) device held done
+DoneFits-begins commands command device held done fits = record {
+  rise = fits.rise;
+  within = fits.within;
+  before = fits.before;
+  begun = All-weaker (IsBegun commands) (IsBegun (commands ++ command ∷ [])) (λ e is. command_at-push commands e.session e.command command is) done fits.begun;
+  busy = fits.busy;
+  holds = λ some. command_at-push commands device.taken held command (fits.holds some);
+  last = fits.last;
+}
+
+-- each session before the next one has its outcome
+each_before : (host : HostBook) (done told : List Ended) → ToldFits host done told → open_session host ≡ None → (session : ℕ) → 0 < session → session < begun_of host + 1 → Any (λ e. e.session ≡ session) told
+each_before host done told fits none session from_one below =
+    elim (eqb_tells session (begun_of host)) [
+      inl same ↦
+        elim (open_session-None host none) [
+          inl empty ↦ let is : session ≡ begun_of host = same.1 in absurd (omega arith)
+        | inr ended ↦ subst (λ (n : ℕ). Any (λ e. e.session ≡ n) told) (sym same.1) (fits.last ended.0 ended.1)
+        ]
+    | inr other ↦ let ne : session ≢ begun_of host = other.1 in fits.each session from_one (omega arith)
+    ]
+
+ToldFits-begins : (host : HostBook) (command : ℕ) (done told : List Ended) → ToldFits host done told → open_session host ≡ None → ToldFits (begins host command) done told
+ToldFits-begins host command done told fits none =
+    let longer : length (host.commands ++ command ∷ []) ≡ length host.commands + 1 = grind (arith, length-append) in
+    record {
+      rise = fits.rise;
+      within = All-weaker (IsWithin (begun_of host)) (IsWithin (begun_of (begins host command))) (λ e is. omega arith) told fits.within;
+      before = λ _.
+        All-weaker (IsWithin (begun_of host)) (IsBefore (begun_of (begins host command))) (λ e is. omega arith) told fits.within;
+      was_done = fits.was_done;
+      each = λ session from_one below. each_before host done told fits none session from_one (omega arith);
+      last = λ status e. absurd (grind arith);
+    }
+
+Facts-begin : (w : World) (command : ℕ) → Facts w → open_session w.host ≡ None → Facts (record w { host = begins w.host command })
+Facts-begin w command facts none =
+    let longer : length (w.host.commands ++ command ∷ []) ≡ length w.host.commands + 1 = grind (arith, length-append) in
+    record {
+      agree = EndsAgree-begins w.host w.device command facts.agree none;
+      gets = All-weaker _ _ (λ get fits. GetFits-begins w.host.commands command get fits) w.gets facts.gets;
+      reports = All-weaker _ _
+        (λ report fits. ReportFits-begins (begun_of w.host) (begun_of (begins w.host command)) w.device report (omega arith) fits)
+        w.reports facts.reports;
+      done = DoneFits-begins w.host.commands command w.device w.held w.done facts.done;
+      told = ToldFits-begins w.host command w.done w.told facts.told none;
+    }
+
+-- attempts end, and series start
+
+ToldFits-attempts : (host : HostBook) (now : ℕ) (done told : List Ended) → ToldFits host done told → ToldFits (with_attempts host now) done told
+ToldFits-attempts host now done told fits = record {
+  rise = fits.rise;
+  within = fits.within;
+  before = fits.before;
+  was_done = fits.was_done;
+  each = fits.each;
+  last = fits.last;
+}
+
+Facts-attempts : (w : World) (now : ℕ) → Facts w → Facts (record w { host = with_attempts w.host now })
+Facts-attempts w now facts = record {
+  agree = EndsAgree-attempts w.host w.device now facts.agree;
+  gets = facts.gets;
+  reports = facts.reports;
+  done = facts.done;
+  told = ToldFits-attempts w.host now w.done w.told facts.told;
+}
+
+-- a Get goes on the air
+
+Facts-send : (w : World) (session command : ℕ) → Facts w → command_at w.host.commands session ≡ Some command → begun_of w.host ≤ session + 1 → Facts (record w { gets = w.gets ++ record { session = session; command = command; begun = begun_of w.host } ∷ [] })
+Facts-send w session command facts is near = record {
+  agree = facts.agree;
+  gets = All-push (GetFits w.host.commands) w.gets _ facts.gets (GetFits-sent w.host.commands session command is near);
+  reports = facts.reports;
+  done = facts.done;
+  told = facts.told;
+}
+
+-- the device takes a session
+
+DoneFits-taken : (commands : List ℕ) (device : Taken) (held command : ℕ) (done : List Ended) → DoneFits commands device held done → command_at commands (device.taken + 1) ≡ Some command → DoneFits commands (record { taken = device.taken + 1; status = WORKING }) command done
+DoneFits-taken commands device held command done fits is = record {
+  rise = fits.rise;
+  within = All-weaker (IsWithin device.taken) (IsWithin (device.taken + 1)) (λ e below. omega arith) done fits.within;
+  before = λ _. All-weaker (IsWithin device.taken) (IsBefore (device.taken + 1)) (λ e below. omega arith) done fits.within;
+  begun = fits.begun;
+  busy = λ _. omega arith;
+  holds = λ _. is;
+  last = λ _ final. absurd (final refl);
+}
+
+Facts-take : (w : World) (get : Get) (session : ℕ) → Facts w → GetFits w.host.commands get → get.session ≡ w.device.taken + 1 → Facts (record w { device = record { taken = w.device.taken + 1; status = WORKING }; held = get.command })
+Facts-take w get session facts fits next =
+    let after : get.session ≤ get.begun = fits.after_begin in
+    let already : get.begun ≤ begun_of w.host = fits.already in
+    record {
+      agree = EndsAgree-taken w.host w.device facts.agree (omega arith);
+      gets = facts.gets;
+      reports = All-weaker _ _ (λ report is. ReportFits-taken (begun_of w.host) w.device report is) w.reports facts.reports;
+      done = DoneFits-taken w.host.commands w.device w.held get.command w.done facts.done
+        (subst (λ (n : ℕ). command_at w.host.commands n ≡ Some get.command) next fits.carries);
+      told = facts.told;
+    }
+
+-- the device brings it to its end
+
+DoneFits-finished : (commands : List ℕ) (device : Taken) (held status : ℕ) (done : List Ended) → DoneFits commands device held done → device.status ≡ WORKING → status ≢ WORKING → DoneFits commands (finished device status) held (done ++ record { session = device.taken; command = held; status = status } ∷ [])
+DoneFits-finished commands device held status done fits working final = record {
+  rise = all_pairs_push IsEarlier done _ fits.rise (fits.before working);
+  within = All-push (IsWithin device.taken) done _ fits.within (omega arith);
+  before = λ is. absurd (final is);
+  begun = All-push (IsBegun commands) done _ fits.begun (fits.holds (fits.busy working));
+  busy = λ is. absurd (final is);
+  holds = fits.holds;
+  last = λ _ _. Contains-push done _;
+}
+
+ToldFits-finished : (host : HostBook) (done told : List Ended) (next : Ended) → ToldFits host done told → ToldFits host (done ++ next ∷ []) told
+ToldFits-finished host done told next fits = record {
+  rise = fits.rise;
+  within = fits.within;
+  before = fits.before;
+  was_done = All-weaker (Contains done) (Contains (done ++ next ∷ [])) (λ e is. Contains-append_left done (next ∷ []) e is) told fits.was_done;
+  each = fits.each;
+  last = fits.last;
+}
+
+Facts-finish : (w : World) (status : ℕ) → Facts w → w.device.status ≡ WORKING → status ≢ WORKING → Facts (record w { device = finished w.device status; done = w.done ++ record { session = w.device.taken; command = w.held; status = status } ∷ [] })
+Facts-finish w status facts working final = record {
+  agree = EndsAgree-finished w.host w.device status facts.agree working;
+  gets = facts.gets;
+  reports = All-weaker _ _ (λ report is. ReportFits-finished (begun_of w.host) w.device status report working is) w.reports facts.reports;
+  done = DoneFits-finished w.host.commands w.device w.held status w.done facts.done working final;
+  told = ToldFits-finished w.host w.done w.told _ facts.told;
+}
+
+-- it reports
+
+Facts-answer : (w : World) → Facts w → 0 < w.device.taken → Facts (record w { reports = w.reports ++ record { session = w.device.taken; status = w.device.status; begun = begun_of w.host } ∷ [] })
+Facts-answer w facts some = record {
+  agree = facts.agree;
+  gets = facts.gets;
+  reports = All-push (ReportFits (begun_of w.host) w.device) w.reports _ facts.reports (ReportFits-sent w.host w.device facts.agree some);
+  done = facts.done;
+  told = facts.told;
+}
+
+-- the host is told
+
+ToldFits-told : (host : HostBook) (done told : List Ended) (next : Ended) → ToldFits host done told → host.outcome ≡ None → next.session ≡ begun_of host → Contains done next → ToldFits (record host { outcome = Some next.status }) done (told ++ next ∷ [])
+ToldFits-told host done told next fits none last is = record {
+  rise = all_pairs_push IsEarlier told _ fits.rise (λ k d below. let is_before = fits.before none k d below in omega (arith, is_before));
+  within = All-push (IsWithin (begun_of host)) told _ fits.within (omega arith);
+  before = λ e. absurd (grind arith);
+  was_done = All-push (Contains done) told _ fits.was_done is;
+  each = λ session from_one below. Any-append_left _ told next (fits.each session from_one below);
+  last = λ status e. Any-push _ told next last;
+}
+
+abbrev ended_as : ℕ → ℕ → ℕ → Ended
+ended_as session command status = record { session = session; command = command; status = status }
+
+Facts-told : (w : World) (report : Report) (session : ℕ) → Facts w → ReportFits (begun_of w.host) w.device report → session ≡ report.session → open_session w.host ≡ Some report.session → report.session ≡ w.device.taken → report.status ≢ WORKING → w.device.status ≡ report.status → Facts (record w { host = record w.host { outcome = Some report.status }; told = w.told ++ record { session = session; command = unwrap_or (command_at w.host.commands session) 0; status = report.status } ∷ [] })
+Facts-told w report session facts fits same is_open of_last final tells =
+    let opened = open_session-Some w.host report.session is_open in
+    let from_one : 0 < report.session = fits.from_one in
+    let some : 0 < w.device.taken = omega arith in
+    let idle : w.device.status ≢ WORKING = λ e. final (sym tells ∙ e) in
+    let number : session ≡ w.device.taken = same ∙ of_last in
+    let holds : command_at w.host.commands session ≡ Some w.held =
+        subst (λ (n : ℕ). command_at w.host.commands n ≡ Some w.held) (sym number) (facts.done.holds some) in
+    let command : unwrap_or (command_at w.host.commands session) 0 ≡ w.held = ap (λ (o : Option ℕ). unwrap_or o 0) holds in
+    let equal : ended_as w.device.taken w.held w.device.status ≡ ended_as session (unwrap_or (command_at w.host.commands session) 0) report.status = cc in
+    record {
+      agree = EndsAgree-told w.host w.device report facts.agree fits is_open final;
+      gets = facts.gets;
+      reports = facts.reports;
+      done = facts.done;
+      told = ToldFits-told w.host w.done w.told _ facts.told opened.2 (same ∙ opened.0) (
+        subst (λ (e : Ended). Contains w.done e) equal (facts.done.last some idle));
+    }
