@@ -1,0 +1,14 @@
+//! Units of the Z-Wave Serial API: what stands on the line between host and chip.
+//!
+//! It promises that a unit is written in its one layout, and that a stream of bytes and tick marks is split in
+//! the one way that there is, in whatever pieces it comes.
+//! The definitions stand in `specs/`: `Frame` (layout), `Items` (units and refusals) and `Stream` (splitting).
+#![tactic(auto)]
+
+mod frame;
+mod item;
+mod unit;
+
+pub use frame::{Frame, Kind, MAX_BODY};
+pub use item::{Item, Refusal};
+pub use unit::{ACK, CAN, NAK, SOF, Unit, encode};
