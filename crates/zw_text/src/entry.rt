@@ -1,7 +1,7 @@
 //! The entries of a transcript.
 
 use crate::{Line, LineFault, Sequence};
-use zw_base::{Bytes, NodeId};
+use zw_base::{Bytes, NodeId, Property, Setting};
 
 /// A side of the serial line.
 #[derive(Clone, Copy, Debug, PartialEq, Eq)]
@@ -93,10 +93,21 @@ pub enum Entry {
     Heard {
         frame: u64,
     },
+    /// `dev N BY P X`: a setting of a change of the device.
+    Dev {
+        node: NodeId,
+        by: By,
+        setting: Setting,
+    },
     /// `out I WORD`: the command ended so.
     Out {
         command: u32,
         ended: Ended,
+    },
+    /// `store N P X`: the value is confirmed.
+    Store {
+        node: NodeId,
+        setting: Setting,
     },
     /// `t T`: what follows comes in this tick, counted from 1.
     Time {
@@ -110,6 +121,18 @@ pub enum Entry {
     TableNode {
         node: NodeId,
         sessions: Sequence<u32>,
+    },
+    /// `value N P confirmed X heard X`: what the host keeps of a property.
+    TableValue {
+        node: NodeId,
+        property: Property,
+        confirmed: Option<u32>,
+        heard: Option<u32>,
+    },
+    /// `device N P X`: what the device keeps of a property.
+    Device {
+        node: NodeId,
+        setting: Setting,
     },
     /// `badline K NAME`: the line of this number, from 1 on, is none.
     BadLine {
