@@ -1,0 +1,20 @@
+//! The text of a scenario: the lines that the program reads, the entries of the transcript that it prints, and
+//! their exact words.
+//!
+//! It promises that `read_line` answers a line exactly where the text is that line's text, and that `print_entry`
+//! gives exactly the text of the entry.
+//! The definitions stand in `specs/`: `Line` and `Entry` for the texts, `Transcript` for what a list of entries
+//! shows of the nodes, the commands and the units.
+#![tactic(auto)]
+
+mod entry;
+mod fault;
+mod line;
+mod print;
+mod sequence;
+
+pub use entry::{By, Ended, Entry, Outcome, Refusal, Side};
+pub use fault::{LineFault, ReadLineFault};
+pub use line::{Line, Word};
+pub use print::print_entry;
+pub use sequence::Sequence;
