@@ -9,12 +9,12 @@ use Rattle.zw_base.specs.declared.property.Setting.{Setting}
 use Rattle.zw_text.specs.Line.{spoken}
 use Rattle.zw_text.specs.declared.fault.LineFault.{LineFault}
 use Rattle.zw_text.specs.declared.fault.LineFault.TheVariants.{Unknown, Missing, Number, Extra, TooLong}
-use Rattle.zw_text.specs.declared.entry.By.{By}
-use Rattle.zw_text.specs.declared.entry.By.TheVariants.{Session, Local, Plain}
+use Rattle.zw_base.specs.declared.property.By.{By}
+use Rattle.zw_base.specs.declared.property.By.TheVariants.{Session, Local, Plain}
 use Rattle.zw_text.specs.declared.entry.Ended.{Ended}
 use Rattle.zw_text.specs.declared.entry.Ended.TheVariants.{Success, Fail, NoSupport, Unanswered, Cancelled}
 use Rattle.zw_text.specs.declared.entry.Entry.{Entry}
-use Rattle.zw_text.specs.declared.entry.Entry.TheVariants.{Echo, Accepted, Refused, Begin, Written, Air, Heard, Dev, Out, Store, Time, TableEnd, TableNode, TableValue, Device, BadLine}
+use Rattle.zw_text.specs.declared.entry.Entry.TheVariants.{Echo, Accepted, Refused, Begin, Written, Air, Heard, Unheard, Dev, Out, Store, Time, TableEnd, TableNode, TableValue, Device, BadLine}
 use Rattle.zw_text.specs.declared.entry.Refusal.{Refusal}
 use Rattle.zw_text.specs.declared.entry.Refusal.TheVariants.{NotJoined, BadValue, MailboxFull}
 use Rattle.zw_text.specs.declared.entry.Side.{Side}
@@ -100,6 +100,7 @@ shown (Air frame sender receiver repeaters payload) =
     ++ (codes ">"
     ++ (decimal receiver ++ (codes " via " ++ (numbers_text repeaters ++ (codes " " ++ encode_upper payload))))))))
 shown (Heard frame) = codes "heard " ++ decimal frame
+shown (Unheard frame) = codes "unheard " ++ decimal frame
 shown (Dev node by setting) =
     codes "dev " ++ (decimal node ++ (codes " " ++ (by_text by ++ (codes " " ++ setting_text setting))))
 shown (Out command ended) = codes "out " ++ (decimal command ++ (codes " " ++ ended_text ended))

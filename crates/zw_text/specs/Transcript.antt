@@ -5,7 +5,7 @@ use Rattle.std.specs.List.{flat_map}
 use Rattle.zw_base.specs.declared.property.Setting.{Setting}
 use Rattle.zw_text.specs.declared.line.Line.{Line}
 use Rattle.zw_text.specs.declared.line.Line.TheVariants.{Set}
-use Rattle.zw_text.specs.declared.entry.By.{By}
+use Rattle.zw_base.specs.declared.property.By.{By}
 use Rattle.zw_text.specs.declared.entry.Ended.{Ended}
 use Rattle.zw_text.specs.declared.entry.Ended.TheVariants.{Success as EndedSuccess, Fail as EndedFail, NoSupport as EndedNoSupport, Unanswered as EndedUnanswered, Cancelled as EndedCancelled}
 use Rattle.zw_text.specs.declared.entry.Entry.{Entry}

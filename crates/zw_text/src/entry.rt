@@ -1,24 +1,13 @@
 //! The entries of a transcript.
 
-use crate::{Line, LineFault, Sequence};
-use zw_base::{Bytes, NodeId, Property, Setting};
+use crate::{Line, LineFault};
+use zw_base::{By, Bytes, NodeId, Payload, Property, Sequence, Setting};
 
 /// A side of the serial line.
 #[derive(Clone, Copy, Debug, PartialEq, Eq)]
 pub enum Side {
     Host,
     Chip,
-}
-
-/// What made a change of a device.
-#[derive(Clone, Copy, Debug, PartialEq, Eq)]
-pub enum By {
-    /// The command of that session, from 1 on.
-    Session(u64),
-    /// Somebody at the device.
-    Local,
-    /// A Set without Supervision.
-    Plain,
 }
 
 /// How a command ended.
@@ -87,10 +76,14 @@ pub enum Entry {
         sender: NodeId,
         receiver: NodeId,
         repeaters: Sequence<NodeId>,
-        payload: Bytes,
+        payload: Payload,
     },
     /// `heard I`: the frame was heard by its receiver.
     Heard {
+        frame: u64,
+    },
+    /// `unheard I`: the frame was not lost, and nobody heard it.
+    Unheard {
         frame: u64,
     },
     /// `dev N BY P X`: a setting of a change of the device.

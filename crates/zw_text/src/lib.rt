@@ -11,10 +11,8 @@ mod entry;
 mod fault;
 mod line;
 mod print;
-mod sequence;
 
-pub use entry::{By, Ended, Entry, Outcome, Refusal, Side};
+pub use entry::{Ended, Entry, Outcome, Refusal, Side};
 pub use fault::{LineFault, ReadLineFault};
 pub use line::{Line, Word};
 pub use print::print_entry;
-pub use sequence::Sequence;

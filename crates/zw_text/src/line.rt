@@ -1,9 +1,6 @@
 //! The lines of a scenario.
 
-ghost use Rattle.std.specs.Prelude.{◌≡◌, IfOk};
-
-use std::alloc::Global;
-use zw_base::{EndPoint, NoMemory, NodeId};
+use zw_base::{EndPoint, NodeId};
 
 /// What a `set` line asks for.
 #[derive(Clone, Copy, Debug, PartialEq, Eq)]
@@ -15,7 +12,7 @@ pub enum Word {
 }
 
 /// A line of a scenario (this project's own).
-#[derive(Debug, Drop)]
+#[derive(Clone, Copy, Debug, PartialEq, Eq)]
 pub enum Line {
     /// `set N V`: a command for the node.
     Set {
@@ -27,20 +24,4 @@ pub enum Line {
     Tick {
         count: u32,
     },
-}
-
-impl Line {
-    /// A copy of the line.
-    pub fn copy(&self, _alloc: Global) -> Result<Line, NoMemory>
-        ensures { IfOk result (λ line. line ≡ self.now) }
-    {
-        match self {
-            Line::Set { node, end, word } => Ok(Line::Set {
-                node: *node,
-                end: *end,
-                word: *word,
-            }),
-            Line::Tick { count } => Ok(Line::Tick { count: *count }),
-        }
-    }
 }

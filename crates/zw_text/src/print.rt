@@ -5,9 +5,9 @@ ghost use Rattle.hex.specs.Hex.{encode_upper};
 ghost use Rattle.zw_text.specs.Line.{spoken, target_word, value_word};
 ghost use Rattle.zw_text.specs.Entry.{by_text, ended_text, fault_text, line_text, name_text, number_text, numbers_text, property_text, refusal_text, setting_text, shown, side_text};
 
-use crate::{By, Ended, Entry, Line, LineFault, Refusal, Side, Word};
+use crate::{Ended, Entry, Line, LineFault, Refusal, Side, Word};
 use std::alloc::{AllocError, Global};
-use zw_base::{Bytes, EndPoint, Name, NoMemory, NodeId, Property, Setting};
+use zw_base::{By, Bytes, EndPoint, Name, NoMemory, NodeId, Property, Setting};
 
 /// The line of a transcript that shows the entry, with the line feed that ends it.
 pub fn print_entry(alloc: Global, entry: &Entry) -> Result<Bytes, NoMemory>
@@ -49,10 +49,11 @@ fn show(alloc: Global, entry: &Entry) -> Result<String, AllocError>
             let sender = sender.number();
             let receiver = receiver.number();
             let repeaters = show_nodes(alloc, repeaters.as_slice())?;
-            let payload = hex::encode_upper(alloc, payload.as_slice())?;
+            let payload = hex::encode_upper(alloc, payload.bytes())?;
             format!(in alloc; "air {frame} {sender}>{receiver} via {repeaters} {payload}")
         }
         Entry::Heard { frame } => format!(in alloc; "heard {frame}"),
+        Entry::Unheard { frame } => format!(in alloc; "unheard {frame}"),
         Entry::Dev { node, by, setting } => show_made(alloc, *node, *by, *setting),
         Entry::Out { command, ended } => {
             let ended = ended_word(*ended);

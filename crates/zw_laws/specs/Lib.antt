@@ -1,0 +1,12 @@
+pub mod Lists
+pub mod Orders
+pub mod Once
+pub mod Units
+pub mod Answers
+pub mod Frames
+pub mod Devices
+pub mod Prompt
+pub mod Confirmed
+pub mod Table
+pub mod Lines
+pub mod Headline
