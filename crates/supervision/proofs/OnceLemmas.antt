@@ -2,7 +2,7 @@
 use Rattle.std.proofs.Common.{◌≡◌, ◌≢◌, ℕ, zero, suc, ◌+◌, ◌<◌, ◌≤◌, Bool, true, false, ◌==◌, ◌&&◌, not, ◌⊎◌, List, [], ◌∷◌, ◌++◌, length, get_or, Option, Some, None, refl, sym, ap, subst, ◌∙◌, inl, inr, arith, length-append}
 use Rattle.std.specs.Prelude.{if◌then◌else◌, nat_lt, nat_le, slice_get, filter, unwrap_or, All, AllPairs, Contains, Any}
 use Rattle.std.proofs.Math.ListN.{get_or-append}
-use Rattle.std.proofs.lemmas.Bool.Decides.{nat_tests, eqb_tells}
+use Rattle.std.proofs.lemmas.Bool.Decides.{nat_tests, eqb_tells, leb_tells}
 use Rattle.std.proofs.lemmas.Option.{slice_get_within, get_or_from_slice_get}
 use Rattle.std.proofs.lemmas.List.Elements.{All-nil, All-push, All-weaker, All-filter, Contains-append_left, Contains-push}
 use Rattle.std.proofs.lemmas.List.Quantifiers.{all_pairs_push, Any-push}
@@ -274,3 +274,82 @@ Facts-told w report session facts fits same is_open of_last final tells =
       told = ToldFits-told w.host w.done w.told _ facts.told opened.2 (same ∙ opened.0) (
         subst (λ (e : Ended). Contains w.done e) equal (facts.done.last some idle));
     }
+
+-- every event
+
+begin_when-keeps : (w : World) (command : ℕ) (o : Option ℕ) → open_session w.host ≡ o → Facts w → Facts (begin_when w command o)
+begin_when-keeps w command None e facts = Facts-begin w command facts e
+begin_when-keeps w command (Some session) e facts = facts
+
+send_when-keeps : (w : World) (session : ℕ) (o : Option ℕ) → command_at w.host.commands session ≡ o → Facts w → Facts (send_when w session o)
+send_when-keeps w session None e facts = facts
+send_when-keeps w session (Some command) e facts =
+    elim (leb_tells (begun_of w.host) (session + 1)) [
+      inl near ↦ rw near.0 (Facts-send w session command facts e near.1)
+    | inr far ↦ rw far.0 facts
+    ]
+
+take_when-keeps : (w : World) (get : Get) (heard : Heard) → heard_of w.device (wire_id get.session) ≡ heard → GetFits w.host.commands get → GetNames w.device get → Facts w → Facts (take_when w get heard)
+take_when-keeps w get (New session) e fits names facts =
+    let taken : IsTaken w.device (wire_id get.session) session = heard_of-New w.device (wire_id get.session) session e in
+    rw taken.after (Facts-take w get session facts fits (names.fresh session e).1)
+take_when-keeps w get (Again status) e fits names facts = facts
+take_when-keeps w get Old e fits names facts = facts
+
+hear_get-keeps : (w : World) (which : ℕ) (o : Option Get) → slice_get w.gets which ≡ o → Facts w → Facts (hear_get w o)
+hear_get-keeps w which None e facts = facts
+hear_get-keeps w which (Some get) e facts =
+    let fits : GetFits w.host.commands get = All-slice_get (GetFits w.host.commands) w.gets which get facts.gets e in
+    elim (leb_tells (begun_of w.host) (get.begun + 61)) [
+      inl fresh ↦
+        rw fresh.0 (take_when-keeps w get (heard_of w.device (wire_id get.session)) refl fits
+          (get_in_time w.host w.device get facts.agree fits fresh.1) facts)
+    | inr stale ↦ rw stale.0 facts
+    ]
+
+finish_when-keeps : (w : World) (status : ℕ) (now : Bool) → (w.device.status == WORKING && (is_status status && not (status == WORKING))) ≡ now → Facts w → Facts (finish_when w status now)
+finish_when-keeps w status true e facts =
+    Facts-finish w status facts (grind (arith, nat_tests)) (grind (arith, nat_tests))
+finish_when-keeps w status false e facts = facts
+
+answer_when-keeps : (w : World) (now : Bool) → nat_lt 0 w.device.taken ≡ now → Facts w → Facts (answer_when w now)
+answer_when-keeps w true e facts = Facts-answer w facts (grind (arith, nat_tests))
+answer_when-keeps w false e facts = facts
+
+after_report-Final : (host : HostBook) (id status session : ℕ) → told_of host id status ≡ Final session → after_report host id status ≡ record host { outcome = Some status }
+after_report-Final host id status session e = rw (after_report, e) refl
+
+tell_when-keeps : (w : World) (report : Report) (told : Told) → told_of w.host (wire_id report.session) report.status ≡ told → ReportFits (begun_of w.host) w.device report → ReportNames w.host w.device report → Facts w → Facts (tell_when w report told)
+tell_when-keeps w report (Final session) e fits names facts =
+    let is = names.final session e in
+    rw (after_report-Final w.host (wire_id report.session) report.status session e)
+      (Facts-told w report session facts fits is.0 is.1 is.2 is.3 is.4)
+tell_when-keeps w report still_working e fits names facts = facts
+tell_when-keeps w report unknown e fits names facts = facts
+
+hear_report-keeps : (w : World) (which : ℕ) (o : Option Report) → slice_get w.reports which ≡ o → Facts w → Facts (hear_report w o)
+hear_report-keeps w which None e facts = facts
+hear_report-keeps w which (Some report) e facts =
+    let fits : ReportFits (begun_of w.host) w.device report = All-slice_get (ReportFits (begun_of w.host) w.device) w.reports which report facts.reports e in
+    elim (leb_tells (begun_of w.host) (report.begun + 62)) [
+      inl fresh ↦
+        rw fresh.0 (tell_when-keeps w report (told_of w.host (wire_id report.session) report.status) refl fits
+          (report_in_time w.host w.device report facts.agree fits fresh.1) facts)
+    | inr stale ↦ rw stale.0 facts
+    ]
+
+pub happens-keeps : (w : World) (event : Event) → Facts w → Facts (happens w event)
+happens-keeps w (Begin command) facts = begin_when-keeps w command (open_session w.host) refl facts
+happens-keeps w (Attempts now) facts = Facts-attempts w now facts
+happens-keeps w (Send session) facts = send_when-keeps w session (command_at w.host.commands session) refl facts
+happens-keeps w (Get_comes which) facts = hear_get-keeps w which (slice_get w.gets which) refl facts
+happens-keeps w (Finish status) facts = finish_when-keeps w status _ refl facts
+happens-keeps w Answer facts = answer_when-keeps w (nat_lt 0 w.device.taken) refl facts
+happens-keeps w (Report_comes which) facts = hear_report-keeps w which (slice_get w.reports which) refl facts
+
+run-keeps : (events : List Event) (w : World) → Facts w → Facts (run events w)
+run-keeps [] w facts = facts
+run-keeps (event ∷ events) w facts = run-keeps events (happens w event) (happens-keeps w event facts)
+
+pub always-facts : (events : List Event) → Facts (run events start)
+always-facts events = run-keeps events start start-facts

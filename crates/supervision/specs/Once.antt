@@ -1,6 +1,6 @@
 -- Both ends of one node over every list of events. A message once sent may be heard never, once or often, and in any
 -- order, while it is fresh: that is loss, repetition and reordering.
-use Rattle.std.specs.Prelude.{◌≡◌, ◌≢◌, ℕ, ◌+◌, ◌<◌, Bool, true, false, ◌==◌, ◌&&◌, not, nat_lt, nat_le, List, [], ◌∷◌, ◌++◌, slice_get, filter, Option, Some, None, unwrap_or, if◌then◌else◌}
+use Rattle.std.specs.Prelude.{◌≡◌, ◌≢◌, ℕ, ◌+◌, ◌<◌, Bool, true, false, ◌==◌, ◌&&◌, not, nat_lt, nat_le, List, [], ◌∷◌, ◌++◌, slice_get, filter, All, Any, Contains, IsTrue, Option, Some, None, unwrap_or, if◌then◌else◌}
 use Rattle.supervision.specs.Session.{wire_id, is_status}
 use Rattle.supervision.specs.Host.{HostBook, no_sessions, begun_of, open_session, command_at, begins, told_of, after_report, with_attempts}
 use Rattle.supervision.specs.Device.{Taken, none_taken, heard_of, after_get, finished}
@@ -144,3 +144,43 @@ run (event ∷ events) w = run events (happens w event)
 -- the changes that the device made: one for each session that ended with success
 abbrev pub changes : World → List Ended
 changes w = filter (λ e. e.status == SUCCESS) w.done
+
+-- P holds of the world after every list of events
+abbrev pub Always : (World → Type 0) → Type 0
+Always P = (events : List Event) → P (run events start)
+
+-- a Get that was sent and is fresh names no session but its own: New is its own number, and Again is the last session
+-- taken, which is its own
+pub record GetsNameOne (w : World) (get : Get) : Type 0 where
+  pub taken_as : (session : ℕ) → heard_of w.device (wire_id get.session) ≡ New session → session ≡ get.session
+  pub repeated_as : (status : ℕ) → heard_of w.device (wire_id get.session) ≡ Again status → w.device.taken ≡ get.session
+
+-- a report that was sent and is fresh names no session but its own, which is the open one
+pub record ReportsNameOne (w : World) (report : Report) : Type 0 where
+  pub ends : (session : ℕ) → told_of w.host (wire_id report.session) report.status ≡ Final session → session ≡ report.session
+  pub is_open : told_of w.host (wire_id report.session) report.status ≢ unknown → open_session w.host ≡ Some report.session
+
+-- a fresh Get
+abbrev pub MayHearGet : World → Get → Type 0
+MayHearGet w get = Contains w.gets get × IsTrue (is_fresh (begun_of w.host) get.begun)
+
+-- a fresh report
+abbrev pub MayHearReport : World → Report → Type 0
+MayHearReport w report = Contains w.reports report × IsTrue (is_fresh_on_line (begun_of w.host) report.begun)
+
+-- the host knows how the last session ended: the device has taken that one, and keeps that status
+pub record KnowsEnd (w : World) (status : ℕ) : Type 0 where
+  pub taken : w.device.taken ≡ begun_of w.host
+  pub status_kept : w.device.status ≡ status
+
+-- the host was told of success only where the device made the change, with that session's command
+abbrev pub SuccessIsChange : World → Ended → Type 0
+SuccessIsChange w told = told.status ≡ SUCCESS → Contains (changes w) told
+
+-- the host was told of another end only where the device made no change by that session
+abbrev pub RefusalIsNoChange : World → Ended → Type 0
+RefusalIsNoChange w told = told.status ≢ SUCCESS → All (λ change. change.session ≢ told.session) (changes w)
+
+-- each session before the last has its end
+abbrev pub EachEndedBefore : World → Type 0
+EachEndedBefore w = (session : ℕ) → 0 < session → session < begun_of w.host → Any (λ e. e.session ≡ session) w.told

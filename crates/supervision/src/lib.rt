@@ -9,8 +9,10 @@
 
 mod device_book;
 mod host_node;
+mod laws;
 mod session;
 
 pub use device_book::{DeviceBook, Heard};
 pub use host_node::{BeginFault, HostNode, MAX_ATTEMPTS, Told};
+pub use laws::once_only;
 pub use session::{FAIL, NO_SUPPORT, SUCCESS, WIRE_IDS, WORKING, session_id};
