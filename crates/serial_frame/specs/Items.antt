@@ -39,7 +39,7 @@ abbrev pub RefusedText : Refusal → List ℕ → Type 0
 RefusedText (Stray x) bytes = BeginsNothing x × (bytes ≡ x ∷ [])
 RefusedText (BadLength n) bytes = (n < 3) × (bytes ≡ 1 ∷ n ∷ [])
 RefusedText (BadSum want got) bytes = (counted : List ℕ) × IsCounted counted × (want ≡ checksum counted) × (got ≢ want) × (bytes ≡ framed counted got)
-RefusedText (BadKind x) bytes = (func : ℕ) × (body : List ℕ) × (1 < x) × (length body ≤ 252) × (bytes ≡ framed (x ∷ func ∷ body) (checksum (x ∷ func ∷ body)))
+RefusedText (BadKind x) bytes = (more : List ℕ) × (1 < x) × IsCounted (x ∷ more) × (bytes ≡ framed (x ∷ more) (checksum (x ∷ more)))
 RefusedText Aborted bytes = ⊥
 
 -- the bytes of an item

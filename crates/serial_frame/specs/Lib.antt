@@ -1,2 +1,5 @@
+pub mod Decoder
 pub mod Frame
 pub mod Items
+pub mod Search
+pub mod Stream

@@ -5,10 +5,19 @@
 //! The definitions stand in `specs/`: `Frame` (layout), `Items` (units and refusals) and `Stream` (splitting).
 #![tactic(auto)]
 
+mod decoder;
 mod frame;
 mod item;
+mod law;
+mod search;
+mod split;
 mod unit;
 
+pub use decoder::Decoder;
 pub use frame::{Frame, Kind, MAX_BODY};
 pub use item::{Item, Refusal};
+pub use law::{one_byte_changed, one_reading, one_splitting};
 pub use unit::{ACK, CAN, NAK, SOF, Unit, encode};
+
+#[cfg(test)]
+mod tests;

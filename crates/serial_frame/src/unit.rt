@@ -1,8 +1,9 @@
 //! Units (Serial API: ACK, NAK, CAN and data frames), and how they are written.
 
-ghost use Rattle.std.specs.Prelude.{◌≡◌, ◌≤◌, IfOk, length};
+ghost use Rattle.std.specs.Prelude.{◌≡◌, ◌≤◌, [], ◌∷◌, IfOk, length};
 ghost use Rattle.serial_frame.specs.Frame.{kind_code, xor_all, checksum, framed};
-ghost use Rattle.serial_frame.specs.Items.{counted_of, unit_text, ItemText};
+ghost use Rattle.serial_frame.specs.Items.{counted_of, unit_text};
+ghost use Rattle.serial_frame.specs.Stream.{Reads};
 
 use crate::{Frame, Item, Kind};
 use std::alloc::Global;
@@ -18,7 +19,7 @@ pub const NAK: u8 = 0x15;
 pub const CAN: u8 = 0x18;
 
 /// What a checksum begins with.
-const SUM_START: u8 = 0xff;
+pub(crate) const SUM_START: u8 = 0xff;
 
 /// What one side writes at a time.
 #[derive(Debug, Drop)]
@@ -39,7 +40,7 @@ fn kind_code(kind: Kind) -> u8
 }
 
 /// The checksum, carried on over these bytes.
-fn xor_all(start: u8, bytes: &[u8]) -> u8
+pub(crate) fn xor_all(start: u8, bytes: &[u8]) -> u8
     ensures { result ≡ xor_all start bytes.now }
 {
     let mut sum = start;
@@ -52,7 +53,7 @@ fn xor_all(start: u8, bytes: &[u8]) -> u8
 /// The bytes of a unit on the line.
 pub fn encode(alloc: Global, unit: &Unit) -> Result<Bytes, NoMemory>
     ensures text { IfOk result (λ bytes. bytes ≡ unit_text unit.now) }
-    ensures item { IfOk result (λ bytes. ItemText (Item.Good unit.now) bytes) }
+    ensures reads { IfOk result (λ bytes. Reads bytes (Item.Good unit.now ∷ []) []) }
 {
     match unit {
         Unit::Ack => Bytes::from_slice(alloc, &[ACK]),

@@ -1,0 +1,6 @@
+pub mod Changed
+pub mod Feeding
+pub mod First
+pub mod Moving
+pub mod Streams
+pub mod Sums
