@@ -11,8 +11,10 @@ mod entry;
 mod fault;
 mod line;
 mod print;
+mod read;
 
 pub use entry::{Ended, Entry, Outcome, Refusal, Side};
 pub use fault::{LineFault, ReadLineFault};
 pub use line::{Line, Word};
 pub use print::print_entry;
+pub use read::read_line;
