@@ -1,9 +1,9 @@
 -- The text of a number: its digits, and what one more digit makes of it.
-use Rattle.std.proofs.Common.{◌≡◌, ◌≢◌, ℕ, zero, suc, ◌+◌, ◌*◌, ◌/◌, ◌%◌, ◌<◌, ◌≤◌, ◌^◌, List, [], ◌∷◌, ◌++◌, length, get_or, take, decimal, arith, ap, subst, ◌∙◌, sym, refl, add-one}
+use Rattle.std.proofs.Common.{◌≡◌, ◌≢◌, ℕ, zero, suc, ◌+◌, ◌*◌, ◌/◌, ◌%◌, ◌<◌, ◌≤◌, ◌^◌, List, [], ◌∷◌, ◌++◌, length, get_or, take, decimal, arith, ap, subst, ◌∙◌, sym, refl, add-one, ◌⊎◌, inl, inr}
 use Rattle.std.specs.Int.{IsInRange}
 use Rattle.std.proofs.Math.Nat.{pow-suc, pow-le-pow_right}
 use Rattle.std.proofs.Math.Seq.{take-suc}
-use Rattle.std.proofs.lemmas.Fmt.{decimal_digit, decimal_is_IsNumeral, decimal_step, first_decimal, length-decimal-le}
+use Rattle.std.proofs.lemmas.Fmt.{decimal_digit, decimal_is_IsNumeral, decimal_step, decimal_injective, decimal_nonempty, first_decimal, length-decimal-le}
 use Rattle.std.proofs.lemmas.Str.Parse.{digit_at}
 
 -- each byte of a number's text is a digit
@@ -55,3 +55,21 @@ pub above_zero-more : (word : List ℕ) (n d i : ℕ) → get_or word i 0 ≡ 48
 above_zero-more word n zero zero is other some = absurd (other is)
 above_zero-more word n (suc d) zero is other some = omega arith
 above_zero-more word n d (suc i) is other some = omega (arith, some (omega arith))
+
+-- the empty text is that of no number
+pub empty-decimal : (word : List ℕ) (n : ℕ) → length word ≡ 0 → n < 10 ^ 9 → word ≢ decimal n
+empty-decimal word n empty small e = omega (arith, decimal_nonempty n (omega arith), ap length e, empty)
+
+-- a text that begins with 0 and is not 0 alone is that of no number
+pub zero_first-decimal : (word : List ℕ) (n : ℕ) → word ≢ (48 ∷ []) → get_or word 0 0 ≡ 48 → n < 10 ^ 9 → word ≢ decimal n
+zero_first-decimal word zero more first small e = more (e ∙ decimal_digit 0 (omega arith))
+zero_first-decimal word (suc n) more first small e =
+    omega (arith, first_decimal (suc n) (omega arith) (omega arith), ap (λ w. get_or w 0 0) e, first)
+
+-- a number outside of a range, whose text is not that of a number in the range
+pub outside-decimal :
+    (word : List ℕ) (m n least most : ℕ) → word ≡ decimal m → m < 10 ^ 9 → most < 10 ^ 9 → (m < least) ⊎ (most < m)
+    → least ≤ n → n ≤ most → word ≢ decimal n
+outside-decimal word m n least most is small bound outside low high e =
+    let same : m ≡ n = decimal_injective m n (omega arith) (omega arith) (sym is ∙ e) in
+    elim outside [ inl under ↦ omega (arith, same, under, low) | inr over ↦ omega (arith, same, over, high) ]

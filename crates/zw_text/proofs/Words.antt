@@ -1,9 +1,7 @@
 -- The words of a text, and the words of a line in its text.
-use Rattle.std.proofs.Common.{◌≡◌, ◌≢◌, ℕ, ◌+◌, ◌<◌, ◌≤◌, ◌^◌, ◌==◌, Bool, true, false, List, [], ◌∷◌, ◌++◌, length, get_or, take, drop, decimal, codes, arith, ap, subst, ◌∙◌, sym, refl, add-one, drop-cons}
+use Rattle.std.proofs.Common.{◌≡◌, ◌≢◌, ℕ, ◌+◌, ◌<◌, ◌≤◌, ◌^◌, ◌==◌, false, List, [], ◌∷◌, ◌++◌, length, get_or, take, drop, decimal, codes, arith, ap, subst, ◌∙◌, sym, refl, add-one, drop-cons}
 use Rattle.std.specs.Prelude.{All}
-use Rattle.std.specs.Int.{IsInRange}
-use Rattle.std.specs.List.{join_with_byte, slice_split}
-use Rattle.std.proofs.lemmas.Bool.{eqb-false, false_from_ne_true}
+use Rattle.std.specs.List.{join_with_byte}
 use Rattle.std.proofs.lemmas.List.{get_or_default, get_or-take, length-take-le, take-append-drop}
 use Rattle.std.proofs.lemmas.List.Splits.{join_with_byte-slice_split, slice_split_at, slice_split_none}
 use Rattle.zw_text.proofs.Decimals.{digit_of-decimal}
@@ -84,3 +82,45 @@ words_in-spoken (Tick count) good =
 -- a text whose words are those of a line is its text
 pub spoken-words_in : (text : List ℕ) (line : Line) → words_in text ≡ words_of line → text ≡ spoken line
 spoken-words_in text line e = sym (join_with_byte-slice_split 32 text) ∙ ap (join_with_byte 32) e
+
+-- a text whose only word is this one is this word
+word_alone : (text word : List ℕ) → words_in text ≡ word ∷ [] → text ≡ word
+word_alone text word e = sym (join_with_byte-slice_split 32 text) ∙ ap (join_with_byte 32) e
+
+-- the words of a `tick` line
+pub tick_words : (rest : List ℕ) (n : ℕ) → n ≤ 100000 → rest ≡ decimal n → codes "tick" ∷ words_in rest ≡ words_of (Tick n)
+tick_words rest n small is =
+    ap (λ ws. codes "tick" ∷ ws) (ap words_in is ∙ words_in-word (decimal n) (one_word-decimal n (omega arith)))
+
+-- what follows the word `tick` is no count, so it is no line
+pub no_tick :
+    (rest : List ℕ) → ((n : ℕ) → 1 ≤ n → n ≤ 100000 → rest ≢ decimal n)
+    → (line : Line) → IsWithinRanges line → codes "tick" ∷ words_in rest ≢ words_of line
+no_tick rest none (Set node end value) good e =
+    let other : 116 ≡ 115 = ap (λ ws. get_or (get_or ws 0 []) 0 0) e in omega (arith, other)
+no_tick rest none (Tick count) good e = none count good.0 good.1 (word_alone rest (decimal count) (ap (drop 1) e))
+
+-- a node without an end point
+target_alone : (node end : ℕ) → end ≡ 0 → target_word node end ≡ decimal node
+target_alone node end e = let P : ℕ → Type 0 = λ n. target_word node n ≡ decimal node in subst P (sym e) refl
+
+-- the words of a `set` line
+pub set_words :
+    (rest target value : List ℕ) (node end : ℕ) (word : Word)
+    → words_in rest ≡ target ∷ words_in value → target ≡ decimal node → value ≡ value_word word → IsValue word → end ≡ 0
+    → codes "set" ∷ words_in rest ≡ words_of (Set node end word)
+set_words rest target value node end word cut is_node is_value good root =
+    ap (λ ws. codes "set" ∷ ws)
+    (cut
+    ∙ ap (λ w. w ∷ words_in value) (is_node ∙ sym (target_alone node end root))
+    ∙ ap (λ ws. target_word node end ∷ ws) (ap words_in is_value ∙ words_in-value word good))
+
+-- what follows the node of a `set` line is no value, so it is no line
+pub no_set_value :
+    (rest target value : List ℕ) → words_in rest ≡ target ∷ words_in value
+    → ((word : Word) → IsValue word → value ≢ value_word word)
+    → (line : Line) → IsWithinRanges line → codes "set" ∷ words_in rest ≢ words_of line
+no_set_value rest target value cut none (Set node end word) good e =
+    none word good.3 (word_alone value (value_word word) (sym (ap (drop 1) cut) ∙ ap (drop 2) e))
+no_set_value rest target value cut none (Tick count) good e =
+    let other : 115 ≡ 116 = ap (λ ws. get_or (get_or ws 0 []) 0 0) e in omega (arith, other)

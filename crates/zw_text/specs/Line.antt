@@ -1,5 +1,5 @@
 -- The lines of a scenario and their texts. All of it is this project's own rule.
-use Rattle.std.specs.Prelude.{◌≡◌, ℕ, ◌==◌, ◌≤◌, if◌then◌else◌, List, [], ◌∷◌, ◌++◌, codes, decimal}
+use Rattle.std.specs.Prelude.{◌≡◌, ◌≢◌, MatchOption, Option, ℕ, ◌==◌, ◌≤◌, if◌then◌else◌, List, [], ◌∷◌, ◌++◌, codes, decimal}
 use Rattle.std.specs.List.{join_with_byte, slice_split}
 use Rattle.zw_text.specs.declared.line.Line.{Line}
 use Rattle.zw_text.specs.declared.line.Line.TheVariants.{Set, Tick}
@@ -45,3 +45,9 @@ IsWithinRanges (Tick count) = (1 ≤ count) × (count ≤ 100000)
 pub record LineText (text : List ℕ) (line : Line) : Type 0 where
   pub in_range : IsWithinRanges line
   pub text_is : text ≡ spoken line
+
+-- the line that has these words, where one has
+abbrev pub IsLineOf : List (List ℕ) → Option Line → Type 0
+IsLineOf words found =
+    MatchOption found ((line : Line) → IsWithinRanges line → words ≢ words_of line)
+    (λ line. IsWithinRanges line × (words ≡ words_of line))

@@ -2,7 +2,7 @@
 //! form and range, and nothing before or after them.
 
 ghost use Rattle.std.specs.Prelude.{◌≡◌, ◌≢◌, ℕ, ◌<◌, ◌≤◌, ◌^◌, ◌⊎◌, [], ◌∷◌, codes, decimal, length, slice_index, IfErr, IfNone, IfOk, IfSome, IsSomeAnd, MatchOption};
-ghost use Rattle.zw_text.specs.Line.{IsValue, IsWithinRanges, LineText, value_word, words_in, words_of};
+ghost use Rattle.zw_text.specs.Line.{IsValue, IsLineOf, LineText, value_word, words_in};
 ghost use Rattle.zw_text.specs.declared.line.Line.{Line as AnyLine};
 ghost use Rattle.zw_text.specs.declared.line.Word.{Word as AnyWord};
 
@@ -35,8 +35,7 @@ pub fn read_line(_alloc: Global, text: &[u8]) -> Result<Option<Line>, ReadLineFa
 }
 
 fn find_line(text: &[u8]) -> Option<Line>
-    ensures some { IfSome result (λ line. LineText text.now line) }
-    ensures none { IfNone result ((line : AnyLine) → ¬ (LineText text.now line)) }
+    ensures { IsLineOf (words_in text.now) result }
 {
     let (first, rest) = cut_word(text)?;
     match first {
@@ -48,8 +47,7 @@ fn find_line(text: &[u8]) -> Option<Line>
 
 /// The words of a `set` line after the first.
 fn read_set(rest: &[u8]) -> Option<Line>
-    ensures some { IfSome result (λ line. IsWithinRanges line × (codes "set" ∷ words_in rest.now ≡ words_of line)) }
-    ensures none { IfNone result ((line : AnyLine) → IsWithinRanges line → codes "set" ∷ words_in rest.now ≢ words_of line) }
+    ensures { IsLineOf (codes "set" ∷ words_in rest.now) result }
 {
     let (target, value) = cut_word(rest)?;
     let node = read_target(target)?;
@@ -63,8 +61,7 @@ fn read_set(rest: &[u8]) -> Option<Line>
 
 /// The words of a `tick` line after the first.
 fn read_tick(rest: &[u8]) -> Option<Line>
-    ensures some { IfSome result (λ line. IsWithinRanges line × (codes "tick" ∷ words_in rest.now ≡ words_of line)) }
-    ensures none { IfNone result ((line : AnyLine) → IsWithinRanges line → codes "tick" ∷ words_in rest.now ≢ words_of line) }
+    ensures { IsLineOf (codes "tick" ∷ words_in rest.now) result }
 {
     let count = read_between(rest, 1, MOST_TICKS)?;
     Some(Line::Tick { count })
@@ -110,12 +107,13 @@ fn read_number(word: &[u8]) -> Option<u32>
     ensures some { IfSome result (λ n. (n < 10 ^ 9) × (word.now ≡ decimal n)) }
     ensures none { IfNone result ((n : ℕ) → n < 10 ^ 9 → word.now ≢ decimal n) }
 {
-    match word {
-        [] => None,
-        [b'0'] => Some(0),
-        [b'0', ..] => None,
-        _ => read_digits(word),
+    if word == b"0".as_slice() {
+        return Some(0);
     }
+    if word.is_empty() || word[0] == b'0' {
+        return None;
+    }
+    read_digits(word)
 }
 
 /// The number that one to nine digits make, of which the first is not 0.

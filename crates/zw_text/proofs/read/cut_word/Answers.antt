@@ -1,7 +1,6 @@
 -- The first space ends the first word.
-use Rattle.std.proofs.Common.{◌+◌, ◌<◌, ◌∷◌, ◌∙◌, arith, ap, length, take}
+use Rattle.std.proofs.Common.{◌+◌, arith}
 use Rattle.std.proofs.lemmas.List.{take_rest}
-use Rattle.zw_text.specs.Line.{words_in}
 use Rattle.zw_text.proofs.Words.{words_in-cut, words_in-one}
 use Rattle.zw_text.proofs.read.cut_word.Goals as goal
 

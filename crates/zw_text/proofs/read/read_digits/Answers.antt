@@ -1,5 +1,5 @@
 -- The digits so far make the number; a text that is too long or has another byte is that of no number.
-use Rattle.std.proofs.Common.{◌≡◌, ℕ, ◌+◌, ◌<◌, ◌^◌, ◌-◌, List, arith, get_or, length, take, ◌∙◌, sym, rules}
+use Rattle.std.proofs.Common.{◌≡◌, ℕ, ◌+◌, ◌<◌, ◌^◌, List, arith, get_or, length, ◌∙◌, sym}
 use Rattle.std.proofs.Math.Seq.{take-length}
 use Rattle.std.specs.Int.{IsInRange}
 use Rattle.zw_text.proofs.Decimals.{above_zero-more, no_digit-decimal, power_of_ten-more, power_of_ten-within, take-decimal, too_long-decimal}
@@ -41,6 +41,7 @@ loop-digit-preserved c =
 
 pub returns-clause-some : goal.returns-clause-some
 returns-clause-some c =
-    let whole : c.loop-digit.digit-index ≡ length c.args.word.now = omega arith in
-    (power_of_ten-within c.loop-digit.number c.loop-digit.digit-index 9 c.loop-digit.invariant.small (omega arith),
-    sym (take-length c.args.word.now) ∙ rw (sym whole) (c.loop-digit.invariant.read (omega arith)))
+    let whole : c.loop-digit.digit-index ≡ length c.args.word.now = omega arith in (
+      power_of_ten-within c.loop-digit.number c.loop-digit.digit-index 9 c.loop-digit.invariant.small (omega arith),
+      sym (take-length c.args.word.now) ∙ rw (sym whole) (c.loop-digit.invariant.read (omega arith)),
+    )

@@ -1,4 +1,4 @@
-use Rattle.std.proofs.Common.{◌≡◌, ℕ, ◌<◌, ◌≤◌, ◌^◌, length, take, decimal}
+use Rattle.std.proofs.Common.{◌≡◌, ◌<◌, ◌≤◌, ◌^◌, length, take, decimal}
 use Rattle.zw_text.proofs.read.read_digits.Given as goal
 
 -- the digits so far, of which there are at most nine, make the number
