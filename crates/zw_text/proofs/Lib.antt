@@ -1,2 +1,4 @@
 pub mod Decimals
+pub mod SameWords
+pub mod TranscriptLemmas
 pub mod Words

@@ -101,7 +101,7 @@ no_tick rest none (Set node end value) good e =
 no_tick rest none (Tick count) good e = none count good.0 good.1 (word_alone rest (decimal count) (ap (drop 1) e))
 
 -- a node without an end point
-target_alone : (node end : ℕ) → end ≡ 0 → target_word node end ≡ decimal node
+pub target_alone : (node end : ℕ) → end ≡ 0 → target_word node end ≡ decimal node
 target_alone node end e = let P : ℕ → Type 0 = λ n. target_word node n ≡ decimal node in subst P (sym e) refl
 
 -- the words of a `set` line
