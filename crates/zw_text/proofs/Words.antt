@@ -1,5 +1,5 @@
 -- The words of a text, and the words of a line in its text.
-use Rattle.std.proofs.Common.{◌≡◌, ◌≢◌, ℕ, ◌+◌, ◌<◌, ◌≤◌, ◌^◌, ◌==◌, false, List, [], ◌∷◌, ◌++◌, length, get_or, take, drop, decimal, codes, arith, ap, subst, ◌∙◌, sym, refl, add-one, drop-cons}
+use Rattle.std.proofs.Common.{◌≡◌, ◌≢◌, ℕ, ◌+◌, ◌<◌, ◌≤◌, ◌^◌, ◌==◌, false, List, [], ◌∷◌, ◌++◌, length, get_or, take, drop, decimal, codes, arith, ap, ne_eqb, subst, ◌∙◌, sym, refl, add-one, drop-cons}
 use Rattle.std.specs.Prelude.{All}
 use Rattle.std.specs.List.{join_with_byte}
 use Rattle.std.proofs.lemmas.List.{get_or_default, get_or-take, length-take-le, take-append-drop}
@@ -47,6 +47,11 @@ words_in-one text none =
 one_word-decimal : (n : ℕ) → n < 2 ^ 64 → IsOneWord (decimal n)
 one_word-decimal n small k d below =
     no_space _ (λ e. omega (arith, digit_of-decimal n k small below, get_or_default (decimal n) k 0 d below, e))
+
+-- the text of a number has no line feed
+pub no_feed-decimal : (n : ℕ) → n < 2 ^ 64 → All (λ b. (b == 10) ≡ false) (decimal n)
+no_feed-decimal n small k d below =
+    ne_eqb _ 10 (λ e. omega (arith, digit_of-decimal n k small below, get_or_default (decimal n) k 0 d below, e))
 
 -- a first word and what follows it after a space
 words_in-first : (word rest : List ℕ) → IsOneWord word → words_in (word ++ (32 ∷ rest)) ≡ word ∷ words_in rest
