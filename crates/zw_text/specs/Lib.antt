@@ -1,3 +1,4 @@
 pub mod Line
 pub mod Entry
+pub mod Printable
 pub mod Transcript

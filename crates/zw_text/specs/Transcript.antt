@@ -47,11 +47,15 @@ abbrev pub order_for : ℕ → Line → List Line
 order_for n (Set node end word) = where_same node n (Set node end word)
 order_for n _ = []
 
--- the line of the last entry, where that entry shows one
+-- the line of an entry, where it shows one
+abbrev pub line_at : Entry → Option Line
+line_at (Echo line) = Some line
+line_at _ = None
+
+-- the line of the last entry, where that entry shows one; without entries the one that stands before them
 abbrev pub line_before : Option Line → List Entry → Option Line
 line_before before [] = before
-line_before before (Echo line ∷ entries) = line_before (Some line) entries
-line_before before (entry ∷ entries) = line_before None entries
+line_before before (entry ∷ entries) = line_before (line_at entry) entries
 
 -- the commands of a number for those lines
 abbrev pub numbered : ℕ → List Line → List Command
@@ -68,7 +72,7 @@ accepted_at n _ _ = []
 abbrev pub accepted_after : ℕ → Option Line → List Entry → List Command
 accepted_after n before [] = []
 accepted_after n before (entry ∷ entries) =
-    accepted_at n before entry ++ accepted_after n (line_before before (entry ∷ [])) entries
+    accepted_at n before entry ++ accepted_after n (line_at entry) entries
 
 -- the accepted commands of node n, in order: the `accepted` entries that directly follow a line that orders a command of it
 abbrev pub accepted : ℕ → List Entry → List Command
