@@ -1,16 +1,15 @@
 -- How each event keeps what holds of both ends, and what an id names.
-use Rattle.std.proofs.Common.{◌≡◌, ◌≢◌, ℕ, zero, suc, ◌+◌, ◌<◌, ◌≤◌, Bool, true, false, ◌==◌, ◌&&◌, not, ◌⊎◌, List, [], ◌∷◌, ◌++◌, length, Option, Some, None, refl, sym, ap, subst, ◌∙◌, inl, inr, arith, length-append}
-use Rattle.std.specs.Prelude.{if◌then◌else◌, nat_lt, slice_get}
+use Rattle.std.proofs.Common.{true, false, ◌≡◌, ◌≢◌, ℕ, zero, suc, ◌+◌, ◌<◌, ◌≤◌, ◌⊎◌, List, [], ◌∷◌, ◌++◌, length, Some, None, refl, sym, subst, ◌∙◌, inl, inr, arith, length-append}
+use Rattle.std.specs.Prelude.{if◌then◌else◌, slice_get}
 use Rattle.std.proofs.lemmas.Bool.Decides.{nat_tests}
 use Rattle.std.proofs.lemmas.Option.{slice_get_within}
 use Rattle.supervision.specs.Session.{wire_id}
-use Rattle.supervision.specs.Host.{HostBook, begun_of, open_session, command_at, begins, with_attempts, told_of, after_report}
-use Rattle.supervision.specs.Device.{Taken, is_new, is_again, heard_of, after_get, finished}
+use Rattle.supervision.specs.Host.{HostBook, no_sessions, begun_of, open_session, command_at, begins, with_attempts, told_of, after_report}
+use Rattle.supervision.specs.Device.{Taken, none_taken, is_new, is_again, heard_of, after_get, finished}
 use Rattle.supervision.specs.Ends.{Get, Report, IsSettled, EndsAgree, GetFits, ReportFits}
 use Rattle.supervision.specs.declared.session.TheConstants.{WORKING}
-use Rattle.supervision.specs.declared.host_node.Told.{Told}
 use Rattle.supervision.specs.declared.host_node.Told.TheVariants.{Final, Working as still_working, Old as unknown}
-use Rattle.supervision.specs.declared.device_book.Heard.{Heard}
+use Rattle.supervision.specs.declared.host_node.Told.{Told}
 use Rattle.supervision.specs.declared.device_book.Heard.TheVariants.{New, Again, Old}
 
 -- of 64 sessions in a row no two have one id
@@ -69,8 +68,8 @@ command_at-push commands (suc before) command next e = slice_get-push commands b
 pub all_taken : (host : HostBook) (device : Taken) → EndsAgree host device → open_session host ≡ None → device.taken ≡ begun_of host
 all_taken host device agree none =
     elim (open_session-None host none) [
-      inl empty ↦ let below : device.taken ≤ begun_of host = agree.not_ahead in omega arith
-    | inr ended ↦ (agree.settled ended.0 ended.1).taken
+      | inl empty ↦ let below : device.taken ≤ begun_of host = agree.not_ahead in omega arith
+      | inr ended ↦ (agree.settled ended.0 ended.1).taken
     ]
 
 pub EndsAgree-begins : (host : HostBook) (device : Taken) (command : ℕ) → EndsAgree host device → open_session host ≡ None → EndsAgree (begins host command) device
@@ -88,7 +87,10 @@ EndsAgree-attempts host device now agree = record {
   not_ahead = agree.not_ahead;
   one_behind = agree.one_behind;
   settled = λ status e. let was : IsSettled host device status = agree.settled status e in record {
-    begun = was.begun; taken = was.taken; status_kept = was.status_kept; final = was.final;
+    begun = was.begun;
+    taken = was.taken;
+    status_kept = was.status_kept;
+    final = was.final;
   };
 }
 
@@ -97,7 +99,7 @@ EndsAgree-taken host device agree below = record {
   not_ahead = below;
   one_behind = let behind : begun_of host ≤ device.taken + 1 = agree.one_behind in omega arith;
   settled = λ status e.
-    let all : device.taken ≡ begun_of host = (agree.settled status e).taken in absurd (omega arith);
+      let all : device.taken ≡ begun_of host = (agree.settled status e).taken in absurd (omega arith);
 }
 
 pub EndsAgree-finished : (host : HostBook) (device : Taken) (status : ℕ) → EndsAgree host device → device.status ≡ WORKING → EndsAgree host (finished device status)
@@ -118,13 +120,13 @@ EndsAgree-told host device report agree fits is_open final =
       not_ahead = agree.not_ahead;
       one_behind = agree.one_behind;
       settled = λ status e.
-        let equal : report.status ≡ status = grind arith in
-        record {
-          begun = omega arith;
-          taken = omega arith;
-          status_kept = fits.tells same final ∙ equal;
-          final = subst (λ (x : ℕ). x ≢ WORKING) equal final;
-        };
+          let equal : report.status ≡ status = grind arith in
+          record {
+            begun = omega arith;
+            taken = omega arith;
+            status_kept = fits.tells same final ∙ equal;
+            final = subst (λ (x : ℕ). x ≢ WORKING) equal final;
+          };
     }
 
 -- a Get
@@ -162,15 +164,15 @@ get_names device get within near = record {
   within = within;
   near = near;
   fresh = λ session e.
-    let taken : IsTaken device (wire_id get.session) session = heard_of-New device (wire_id get.session) session e in
-    let next : session ≡ device.taken + 1 = taken.next in
-    let named : wire_id get.session ≡ wire_id session = taken.named in
-    let same : get.session ≡ session = same_session get.session session named (omega arith) (omega arith) in
-    (sym same, same ∙ next);
+      let taken : IsTaken device (wire_id get.session) session = heard_of-New device (wire_id get.session) session e in
+      let next : session ≡ device.taken + 1 = taken.next in
+      let named : wire_id get.session ≡ wire_id session = taken.named in
+      let same : get.session ≡ session = same_session get.session session named (omega arith) (omega arith) in
+      (sym same, same ∙ next);
   again = λ status e.
-    let named : wire_id get.session ≡ wire_id device.taken = (heard_of-Again device (wire_id get.session) status e).1 in
-    let below : get.session ≤ device.taken = omega arith in
-    same_session get.session device.taken named below (omega arith);
+      let named : wire_id get.session ≡ wire_id device.taken = (heard_of-Again device (wire_id get.session) status e).1 in
+      let below : get.session ≤ device.taken = omega arith in
+      same_session get.session device.taken named below (omega arith);
 }
 
 -- a Get that fits is one of 64 in a row while at most 61 sessions have begun since it was first sent
@@ -242,17 +244,17 @@ report_names host device report agree fits near =
     let reached : report.session ≤ device.taken = fits.of_taken in
     record {
       final = λ session e.
-        let told = told_of-Final host (wire_id report.session) report.status session e in
-        let last : session ≡ begun_of host = (open_session-Some host session told.0).0 in
-        let named : wire_id report.session ≡ wire_id session = told.1 in
-        let same : report.session ≡ session = same_session report.session session named (omega arith) (omega arith) in
-        let of_last : report.session ≡ device.taken = omega arith in
-        (sym same, subst (λ (x : ℕ). open_session host ≡ Some x) (sym same) told.0, of_last, told.2, fits.tells of_last told.2);
+          let told = told_of-Final host (wire_id report.session) report.status session e in
+          let last : session ≡ begun_of host = (open_session-Some host session told.0).0 in
+          let named : wire_id report.session ≡ wire_id session = told.1 in
+          let same : report.session ≡ session = same_session report.session session named (omega arith) (omega arith) in
+          let of_last : report.session ≡ device.taken = omega arith in
+          (sym same, subst (λ (x : ℕ). open_session host ≡ Some x) (sym same) told.0, of_last, told.2, fits.tells of_last told.2);
       working = λ e.
-        let told = told_of-Working host (wire_id report.session) report.status e in
-        let last : told.0 ≡ begun_of host = (open_session-Some host told.0 told.1).0 in
-        let same : report.session ≡ told.0 = same_session report.session told.0 told.2 (omega arith) (omega arith) in
-        subst (λ (x : ℕ). open_session host ≡ Some x) (sym same) told.1;
+          let told = told_of-Working host (wire_id report.session) report.status e in
+          let last : told.0 ≡ begun_of host = (open_session-Some host told.0 told.1).0 in
+          let same : report.session ≡ told.0 = same_session report.session told.0 told.2 (omega arith) (omega arith) in
+          subst (λ (x : ℕ). open_session host ≡ Some x) (sym same) told.1;
     }
 
 -- a report that fits is one of 64 in a row while at most 62 sessions have begun since it was first sent
@@ -260,3 +262,75 @@ pub report_in_time : (host : HostBook) (device : Taken) (report : Report) → En
 report_in_time host device report agree fits fresh =
     let before : report.begun ≤ report.session + 1 = fits.before_second in
     report_names host device report agree fits (omega arith)
+
+-- whole calls
+
+-- an id that is heard is taken as new, or leaves the device as it was
+after_get-cases : (device : Taken) (id : ℕ) → (after_get device id ≡ device) ⊎ ((session : ℕ) × (heard_of device id ≡ New session))
+after_get-cases device id =
+    elim (is_new device id) as (λ b. ((if b then record { taken = device.taken + 1; status = WORKING } else device) ≡ device) ⊎ ((session : ℕ) × ((if b then New (device.taken + 1) else (if is_again device id then Again device.status else Old)) ≡ New session))) [
+      | true ↦ inr (device.taken + 1, refl)
+      | false ↦ inl refl
+    ]
+
+-- hearing a Get that is one of 64 in a row keeps that both ends agree
+pub EndsAgree-heard : (host : HostBook) (device : Taken) (get : Get) → EndsAgree host device → GetFits host.commands get → device.taken + 1 ≤ get.session + 63 → EndsAgree host (after_get device (wire_id get.session))
+EndsAgree-heard host device get agree fits near =
+    let after : get.session ≤ get.begun = fits.after_begin in
+    let already : get.begun ≤ begun_of host = fits.already in
+    let behind : begun_of host ≤ device.taken + 1 = agree.one_behind in
+    let names : GetNames device get = get_names device get (omega arith) near in
+    elim (after_get-cases device (wire_id get.session)) [
+      | inl same ↦ rw same agree
+      | inr fresh ↦
+          let next : get.session ≡ device.taken + 1 = (names.fresh fresh.0 fresh.1).1 in
+          let taken : IsTaken device (wire_id get.session) fresh.0 = heard_of-New device (wire_id get.session) fresh.0 fresh.1 in
+          rw taken.after (EndsAgree-taken host device agree (omega arith))
+    ]
+
+-- hearing any id keeps that a report fits
+pub ReportFits-heard : (begun : ℕ) (device : Taken) (id : ℕ) (report : Report) → ReportFits begun device report → ReportFits begun (after_get device id) report
+ReportFits-heard begun device id report fits =
+    elim (after_get-cases device id) [
+      | inl same ↦ rw same fits
+      | inr fresh ↦
+          let taken : IsTaken device id fresh.0 = heard_of-New device id fresh.0 fresh.1 in
+          rw taken.after (ReportFits-taken begun device report fits)
+    ]
+
+pub after_report-Final : (host : HostBook) (id status session : ℕ) → told_of host id status ≡ Final session → after_report host id status ≡ record host { outcome = Some status }
+after_report-Final host id status session e = rw (after_report, e) refl
+
+-- a report says one of three things
+after_report-cases : (host : HostBook) (id status : ℕ) (told : Told) → told_of host id status ≡ told → (after_report host id status ≡ host) ⊎ ((session : ℕ) × (told_of host id status ≡ Final session))
+after_report-cases host id status (Final session) e = inr (session, e)
+after_report-cases host id status still_working e = inl (rw (after_report, e) refl)
+after_report-cases host id status unknown e = inl (rw (after_report, e) refl)
+
+-- taking a report that is one of 64 in a row keeps that both ends agree
+pub EndsAgree-reported : (host : HostBook) (device : Taken) (report : Report) → EndsAgree host device → ReportFits (begun_of host) device report → begun_of host ≤ report.session + 63 → EndsAgree (after_report host (wire_id report.session) report.status) device
+EndsAgree-reported host device report agree fits near =
+    elim (after_report-cases host (wire_id report.session) report.status _ refl) [
+      | inl same ↦ rw same agree
+      | inr final ↦
+          let is = (report_names host device report agree fits near).final final.0 final.1 in
+          rw (after_report-Final host (wire_id report.session) report.status final.0 final.1)
+          (EndsAgree-told host device report agree fits is.1 is.3)
+    ]
+
+-- nothing has happened
+pub EndsAgree-start : EndsAgree no_sessions none_taken
+EndsAgree-start = record {
+  not_ahead = omega arith;
+  one_behind = omega arith;
+  settled = λ status e. absurd (grind arith);
+}
+
+-- a Get that was first sent at most 61 sessions ago is one of 64 in a row
+pub get_near : (host : HostBook) (device : Taken) (get : Get) → EndsAgree host device → GetFits host.commands get → begun_of host ≤ get.begun + 61 → device.taken + 1 ≤ get.session + 63
+get_near host device get agree fits fresh = (get_in_time host device get agree fits fresh).near
+
+-- a report that was first sent at most 62 sessions ago is one of 64 in a row
+pub report_near : (host : HostBook) (device : Taken) (report : Report) → ReportFits (begun_of host) device report → begun_of host ≤ report.begun + 62 → begun_of host ≤ report.session + 63
+report_near host device report fits fresh =
+    let before : report.begun ≤ report.session + 1 = fits.before_second in omega arith

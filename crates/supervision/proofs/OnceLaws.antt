@@ -1,15 +1,14 @@
 -- What the facts say of a world.
-use Rattle.std.proofs.Common.{◌≡◌, ◌≢◌, ℕ, zero, suc, ◌+◌, ◌<◌, ◌≤◌, Bool, true, false, ◌==◌, List, [], ◌∷◌, length, get_or, Option, Some, None, refl, sym, ap, subst, ◌∙◌, inl, inr, arith, eq-eqb}
-use Rattle.std.specs.Prelude.{filter, All, AllPairs, Contains, IsTrue, if◌then◌else◌}
-use Rattle.std.proofs.lemmas.Bool.Decides.{nat_tests, eqb_tells, leb_tells}
+use Rattle.std.proofs.Common.{◌≡◌, ◌≢◌, ℕ, zero, suc, ◌<◌, Bool, true, false, ◌==◌, List, [], ◌∷◌, get_or, Some, refl, sym, ap, ◌∙◌, inl, inr, arith, eq-eqb}
+use Rattle.std.specs.Prelude.{filter, All, AllPairs, Contains, if◌then◌else◌}
+use Rattle.std.proofs.lemmas.Bool.Decides.{nat_tests, leb_tells}
 use Rattle.std.proofs.lemmas.List.Elements.{All-weaker, All-filter, All-contains, All-contains_itself, filter_passes}
 use Rattle.std.proofs.lemmas.List.{get_or_default}
 use Rattle.std.proofs.lemmas.List.Kept.{AllPairs-filter}
 use Rattle.supervision.specs.Session.{wire_id}
 use Rattle.supervision.specs.Host.{begun_of, open_session, told_of}
-use Rattle.supervision.specs.Device.{heard_of}
-use Rattle.supervision.specs.Ends.{Get, Report, is_fresh, is_fresh_on_line, GetFits, ReportFits, IsSettled}
-use Rattle.supervision.specs.Once.{Ended, IsEarlier, IsBegun, World, changes, GetsNameOne, ReportsNameOne, MayHearGet, MayHearReport, KnowsEnd, SuccessIsChange, RefusalIsNoChange}
+use Rattle.supervision.specs.Ends.{Get, Report, GetFits, ReportFits, IsSettled}
+use Rattle.supervision.specs.Once.{Ended, IsEarlier, World, changes, GetsNameOne, ReportsNameOne, MayHearGet, MayHearReport, KnowsEnd, SuccessIsChange, RefusalIsNoChange}
 use Rattle.supervision.specs.declared.session.TheConstants.{SUCCESS}
 use Rattle.supervision.specs.declared.host_node.Told.{Told}
 use Rattle.supervision.specs.declared.host_node.Told.TheVariants.{Final, Working as still_working, Old as unknown}
@@ -26,8 +25,8 @@ Contains-filter p (y ∷ ys) x (zero, lt, here) e =
 Contains-filter p (y ∷ ys) x (suc k, lt, there) e =
     let rest : Contains (filter p ys) x = Contains-filter p ys x (k, omega arith, there) e in
     elim (p y) as (λ b. Contains (if b then y ∷ filter p ys else filter p ys) x) [
-      true ↦ (suc rest.0, omega arith, rest.2)
-    | false ↦ rest
+      | true ↦ (suc rest.0, omega arith, rest.2)
+      | false ↦ rest
     ]
 
 -- in a rising list the one that stands before has a smaller session
@@ -43,21 +42,18 @@ earlier xs a b rise in_a in_b before same =
 same_ended : (xs : List Ended) (a b : Ended) → AllPairs IsEarlier xs → Contains xs a → Contains xs b → a.session ≡ b.session → a ≡ b
 same_ended xs a b rise in_a in_b same =
     elim (leb_tells in_a.0 in_b.0) [
-      inl up ↦
-        elim (leb_tells in_b.0 in_a.0) [
-          inl down ↦
-            let place : in_a.0 ≡ in_b.0 = omega (arith, up.1, down.1) in
-            sym in_a.2 ∙ (get_or_default xs in_a.0 a b in_a.1 ∙ (ap (λ (k : ℕ). get_or xs k b) place ∙ in_b.2))
-        | inr below ↦ absurd (earlier xs a b rise in_a in_b below.1 same)
-        ]
-    | inr above ↦ absurd (earlier xs b a rise in_b in_a above.1 (sym same))
+      | inl up ↦
+          elim (leb_tells in_b.0 in_a.0) [
+            | inl down ↦
+                let place : in_a.0 ≡ in_b.0 = omega (arith, up.1, down.1) in
+                sym in_a.2 ∙ (get_or_default xs in_a.0 a b in_a.1 ∙ (ap (λ (k : ℕ). get_or xs k b) place ∙ in_b.2))
+            | inr below ↦ absurd (earlier xs a b rise in_a in_b below.1 same)
+          ]
+      | inr above ↦ absurd (earlier xs b a rise in_b in_a above.1 (sym same))
     ]
 
 pub changes-rise : (w : World) → Facts w → AllPairs IsEarlier (changes w)
 changes-rise w facts = AllPairs-filter IsEarlier is_success w.done facts.done.rise
-
-pub changes-begun : (w : World) → Facts w → All (IsBegun w.host.commands) (changes w)
-changes-begun w facts = All-filter is_success (IsBegun w.host.commands) w.done facts.done.begun
 
 pub get_names_one : (w : World) → Facts w → (get : Get) → MayHearGet w get → GetsNameOne w get
 get_names_one w facts get may =
@@ -82,19 +78,19 @@ report_names_one w facts report may =
 pub told-success : (w : World) → Facts w → All (SuccessIsChange w) w.told
 told-success w facts =
     All-weaker (Contains w.done) (SuccessIsChange w)
-      (λ e is success. Contains-filter is_success w.done e is (eq-eqb e.status SUCCESS success)) w.told facts.told.was_done
+    (λ e is success. Contains-filter is_success w.done e is (eq-eqb e.status SUCCESS success)) w.told facts.told.was_done
 
 pub told-refusal : (w : World) → Facts w → All (RefusalIsNoChange w) w.told
 told-refusal w facts =
     All-weaker (Contains w.done) (RefusalIsNoChange w)
-      (λ told is refused k d below same.
-        let done : Contains w.done (get_or (changes w) k d) =
-            All-filter is_success (Contains w.done) w.done (All-contains_itself w.done) k d below in
-        let success : is_success (get_or (changes w) k d) ≡ true = filter_passes is_success w.done k d below in
-        let one : get_or (changes w) k d ≡ told = same_ended w.done (get_or (changes w) k d) told facts.done.rise done is same in
-        let succeeded : is_success told ≡ true = ap is_success (sym one) ∙ success in
-        refused (grind (arith, nat_tests)))
-      w.told facts.told.was_done
+    (λ told is refused k d below same.
+    let done : Contains w.done (get_or (changes w) k d) =
+    All-filter is_success (Contains w.done) w.done (All-contains_itself w.done) k d below in
+    let success : is_success (get_or (changes w) k d) ≡ true = filter_passes is_success w.done k d below in
+    let one : get_or (changes w) k d ≡ told = same_ended w.done (get_or (changes w) k d) told facts.done.rise done is same in
+    let succeeded : is_success told ≡ true = ap is_success (sym one) ∙ success in
+    refused (grind (arith, nat_tests)))
+    w.told facts.told.was_done
 
 pub end_known : (w : World) → Facts w → (status : ℕ) → w.host.outcome ≡ Some status → KnowsEnd w status
 end_known w facts status e =

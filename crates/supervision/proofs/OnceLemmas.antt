@@ -1,24 +1,23 @@
 -- Every event keeps the facts of both ends, so they hold after every list of events.
-use Rattle.std.proofs.Common.{◌≡◌, ◌≢◌, ℕ, zero, suc, ◌+◌, ◌<◌, ◌≤◌, Bool, true, false, ◌==◌, ◌&&◌, not, ◌⊎◌, List, [], ◌∷◌, ◌++◌, length, get_or, Option, Some, None, refl, sym, ap, subst, ◌∙◌, inl, inr, arith, length-append}
-use Rattle.std.specs.Prelude.{if◌then◌else◌, nat_lt, nat_le, slice_get, filter, unwrap_or, All, AllPairs, Contains, Any}
+use Rattle.std.proofs.Common.{◌≡◌, ◌≢◌, ℕ, ◌+◌, ◌<◌, ◌≤◌, Bool, true, false, ◌==◌, ◌&&◌, not, List, [], ◌∷◌, ◌++◌, length, Option, Some, None, refl, sym, ap, subst, ◌∙◌, inl, inr, arith, length-append}
+use Rattle.std.specs.Prelude.{nat_lt, slice_get, unwrap_or, All, AllPairs, Contains, Any}
 use Rattle.std.proofs.Math.ListN.{get_or-append}
 use Rattle.std.proofs.lemmas.Bool.Decides.{nat_tests, eqb_tells, leb_tells}
 use Rattle.std.proofs.lemmas.Option.{slice_get_within, get_or_from_slice_get}
-use Rattle.std.proofs.lemmas.List.Elements.{All-nil, All-push, All-weaker, All-filter, Contains-append_left, Contains-push}
+use Rattle.std.proofs.lemmas.List.Elements.{All-nil, All-push, All-weaker, Contains-append_left, Contains-push}
 use Rattle.std.proofs.lemmas.List.Quantifiers.{all_pairs_push, Any-push}
-use Rattle.std.proofs.lemmas.List.Kept.{AllPairs-filter}
 use Rattle.supervision.specs.Session.{wire_id, is_status}
-use Rattle.supervision.specs.Host.{HostBook, no_sessions, begun_of, open_session, command_at, begins, with_attempts, told_of, after_report}
-use Rattle.supervision.specs.Device.{Taken, none_taken, heard_of, after_get, finished}
-use Rattle.supervision.specs.Ends.{Get, Report, is_fresh, is_fresh_on_line, IsSettled, EndsAgree, GetFits, ReportFits}
-use Rattle.supervision.specs.Once.{Ended, IsEarlier, IsBegun, World, Event, start, begin_when, send_when, take_when, hear_get, finish_when, answer_when, tell_when, hear_report, happens, run, changes}
+use Rattle.supervision.specs.Host.{HostBook, begun_of, open_session, command_at, begins, with_attempts, told_of}
+use Rattle.supervision.specs.Device.{Taken, heard_of, finished}
+use Rattle.supervision.specs.Ends.{Get, Report, EndsAgree, GetFits, ReportFits}
+use Rattle.supervision.specs.Once.{Ended, IsEarlier, IsBegun, World, Event, start, begin_when, send_when, take_when, hear_get, finish_when, answer_when, tell_when, hear_report, happens, run}
 use Rattle.supervision.specs.Once.Event.{Begin, Attempts, Send, Get_comes, Finish, Answer, Report_comes}
-use Rattle.supervision.specs.declared.session.TheConstants.{SUCCESS, WORKING}
+use Rattle.supervision.specs.declared.session.TheConstants.{WORKING}
 use Rattle.supervision.specs.declared.host_node.Told.{Told}
 use Rattle.supervision.specs.declared.host_node.Told.TheVariants.{Final, Working as still_working, Old as unknown}
 use Rattle.supervision.specs.declared.device_book.Heard.{Heard}
 use Rattle.supervision.specs.declared.device_book.Heard.TheVariants.{New, Again, Old}
-use Rattle.supervision.proofs.EndsLemmas.{heard_of-New, IsTaken, told_of-Final, open_session-Some, open_session-None, command_at-Some, command_at-push, all_taken, EndsAgree-begins, EndsAgree-attempts, EndsAgree-taken, EndsAgree-finished, EndsAgree-told, GetFits-sent, GetFits-begins, GetNames, get_in_time, ReportFits-sent, ReportFits-begins, ReportFits-taken, ReportFits-finished, ReportNames, report_in_time}
+use Rattle.supervision.proofs.EndsLemmas.{heard_of-New, IsTaken, open_session-Some, open_session-None, command_at-push, EndsAgree-begins, EndsAgree-start, after_report-Final, EndsAgree-attempts, EndsAgree-taken, EndsAgree-finished, EndsAgree-told, GetFits-sent, GetFits-begins, GetNames, get_in_time, ReportFits-sent, ReportFits-begins, ReportFits-taken, ReportFits-finished, ReportNames, report_in_time}
 
 abbrev pub IsWithin : ℕ → Ended → Type 0
 IsWithin n e = e.session ≤ n
@@ -66,7 +65,7 @@ Any-append_left P xs y any =
 
 pub start-facts : Facts start
 start-facts = record {
-  agree = record { not_ahead = omega arith; one_behind = omega arith; settled = λ status e. absurd (grind arith) };
+  agree = EndsAgree-start;
   gets = All-nil _;
   reports = All-nil _;
   done = record {
@@ -90,7 +89,7 @@ start-facts = record {
 
 -- a session begins
 
-DoneFits-begins : (commands : List ℕ) (command : ℕ) (device : Taken) (held : ℕ) (done : List Ended) → DoneFits commands device held done → DoneFits (commands ++ command ∷ []) device held done
+pub DoneFits-begins : (commands : List ℕ) (command : ℕ) (device : Taken) (held : ℕ) (done : List Ended) → DoneFits commands device held done → DoneFits (commands ++ command ∷ []) device held done
 DoneFits-begins commands command device held done fits = record {
   rise = fits.rise;
   within = fits.within;
@@ -105,22 +104,22 @@ DoneFits-begins commands command device held done fits = record {
 each_before : (host : HostBook) (done told : List Ended) → ToldFits host done told → open_session host ≡ None → (session : ℕ) → 0 < session → session < begun_of host + 1 → Any (λ e. e.session ≡ session) told
 each_before host done told fits none session from_one below =
     elim (eqb_tells session (begun_of host)) [
-      inl same ↦
-        elim (open_session-None host none) [
-          inl empty ↦ let is : session ≡ begun_of host = same.1 in absurd (omega arith)
-        | inr ended ↦ subst (λ (n : ℕ). Any (λ e. e.session ≡ n) told) (sym same.1) (fits.last ended.0 ended.1)
-        ]
-    | inr other ↦ let ne : session ≢ begun_of host = other.1 in fits.each session from_one (omega arith)
+      | inl same ↦
+          elim (open_session-None host none) [
+            | inl empty ↦ let is : session ≡ begun_of host = same.1 in absurd (omega arith)
+            | inr ended ↦ subst (λ (n : ℕ). Any (λ e. e.session ≡ n) told) (sym same.1) (fits.last ended.0 ended.1)
+          ]
+      | inr other ↦ let ne : session ≢ begun_of host = other.1 in fits.each session from_one (omega arith)
     ]
 
-ToldFits-begins : (host : HostBook) (command : ℕ) (done told : List Ended) → ToldFits host done told → open_session host ≡ None → ToldFits (begins host command) done told
+pub ToldFits-begins : (host : HostBook) (command : ℕ) (done told : List Ended) → ToldFits host done told → open_session host ≡ None → ToldFits (begins host command) done told
 ToldFits-begins host command done told fits none =
     let longer : length (host.commands ++ command ∷ []) ≡ length host.commands + 1 = grind (arith, length-append) in
     record {
       rise = fits.rise;
       within = All-weaker (IsWithin (begun_of host)) (IsWithin (begun_of (begins host command))) (λ e is. omega arith) told fits.within;
       before = λ _.
-        All-weaker (IsWithin (begun_of host)) (IsBefore (begun_of (begins host command))) (λ e is. omega arith) told fits.within;
+          All-weaker (IsWithin (begun_of host)) (IsBefore (begun_of (begins host command))) (λ e is. omega arith) told fits.within;
       was_done = fits.was_done;
       each = λ session from_one below. each_before host done told fits none session from_one (omega arith);
       last = λ status e. absurd (grind arith);
@@ -133,15 +132,15 @@ Facts-begin w command facts none =
       agree = EndsAgree-begins w.host w.device command facts.agree none;
       gets = All-weaker _ _ (λ get fits. GetFits-begins w.host.commands command get fits) w.gets facts.gets;
       reports = All-weaker _ _
-        (λ report fits. ReportFits-begins (begun_of w.host) (begun_of (begins w.host command)) w.device report (omega arith) fits)
-        w.reports facts.reports;
+          (λ report fits. ReportFits-begins (begun_of w.host) (begun_of (begins w.host command)) w.device report (omega arith) fits)
+          w.reports facts.reports;
       done = DoneFits-begins w.host.commands command w.device w.held w.done facts.done;
       told = ToldFits-begins w.host command w.done w.told facts.told none;
     }
 
 -- attempts end, and series start
 
-ToldFits-attempts : (host : HostBook) (now : ℕ) (done told : List Ended) → ToldFits host done told → ToldFits (with_attempts host now) done told
+pub ToldFits-attempts : (host : HostBook) (now : ℕ) (done told : List Ended) → ToldFits host done told → ToldFits (with_attempts host now) done told
 ToldFits-attempts host now done told fits = record {
   rise = fits.rise;
   within = fits.within;
@@ -173,7 +172,7 @@ Facts-send w session command facts is near = record {
 
 -- the device takes a session
 
-DoneFits-taken : (commands : List ℕ) (device : Taken) (held command : ℕ) (done : List Ended) → DoneFits commands device held done → command_at commands (device.taken + 1) ≡ Some command → DoneFits commands (record { taken = device.taken + 1; status = WORKING }) command done
+pub DoneFits-taken : (commands : List ℕ) (device : Taken) (held command : ℕ) (done : List Ended) → DoneFits commands device held done → command_at commands (device.taken + 1) ≡ Some command → DoneFits commands (record { taken = device.taken + 1; status = WORKING }) command done
 DoneFits-taken commands device held command done fits is = record {
   rise = fits.rise;
   within = All-weaker (IsWithin device.taken) (IsWithin (device.taken + 1)) (λ e below. omega arith) done fits.within;
@@ -193,13 +192,13 @@ Facts-take w get session facts fits next =
       gets = facts.gets;
       reports = All-weaker _ _ (λ report is. ReportFits-taken (begun_of w.host) w.device report is) w.reports facts.reports;
       done = DoneFits-taken w.host.commands w.device w.held get.command w.done facts.done
-        (subst (λ (n : ℕ). command_at w.host.commands n ≡ Some get.command) next fits.carries);
+          (subst (λ (n : ℕ). command_at w.host.commands n ≡ Some get.command) next fits.carries);
       told = facts.told;
     }
 
 -- the device brings it to its end
 
-DoneFits-finished : (commands : List ℕ) (device : Taken) (held status : ℕ) (done : List Ended) → DoneFits commands device held done → device.status ≡ WORKING → status ≢ WORKING → DoneFits commands (finished device status) held (done ++ record { session = device.taken; command = held; status = status } ∷ [])
+pub DoneFits-finished : (commands : List ℕ) (device : Taken) (held status : ℕ) (done : List Ended) → DoneFits commands device held done → device.status ≡ WORKING → status ≢ WORKING → DoneFits commands (finished device status) held (done ++ record { session = device.taken; command = held; status = status } ∷ [])
 DoneFits-finished commands device held status done fits working final = record {
   rise = all_pairs_push IsEarlier done _ fits.rise (fits.before working);
   within = All-push (IsWithin device.taken) done _ fits.within (omega arith);
@@ -210,7 +209,7 @@ DoneFits-finished commands device held status done fits working final = record {
   last = λ _ _. Contains-push done _;
 }
 
-ToldFits-finished : (host : HostBook) (done told : List Ended) (next : Ended) → ToldFits host done told → ToldFits host (done ++ next ∷ []) told
+pub ToldFits-finished : (host : HostBook) (done told : List Ended) (next : Ended) → ToldFits host done told → ToldFits host (done ++ next ∷ []) told
 ToldFits-finished host done told next fits = record {
   rise = fits.rise;
   within = fits.within;
@@ -242,7 +241,7 @@ Facts-answer w facts some = record {
 
 -- the host is told
 
-ToldFits-told : (host : HostBook) (done told : List Ended) (next : Ended) → ToldFits host done told → host.outcome ≡ None → next.session ≡ begun_of host → Contains done next → ToldFits (record host { outcome = Some next.status }) done (told ++ next ∷ [])
+pub ToldFits-told : (host : HostBook) (done told : List Ended) (next : Ended) → ToldFits host done told → host.outcome ≡ None → next.session ≡ begun_of host → Contains done next → ToldFits (record host { outcome = Some next.status }) done (told ++ next ∷ [])
 ToldFits-told host done told next fits none last is = record {
   rise = all_pairs_push IsEarlier told _ fits.rise (λ k d below. let is_before = fits.before none k d below in omega (arith, is_before));
   within = All-push (IsWithin (begun_of host)) told _ fits.within (omega arith);
@@ -263,7 +262,7 @@ Facts-told w report session facts fits same is_open of_last final tells =
     let idle : w.device.status ≢ WORKING = λ e. final (sym tells ∙ e) in
     let number : session ≡ w.device.taken = same ∙ of_last in
     let holds : command_at w.host.commands session ≡ Some w.held =
-        subst (λ (n : ℕ). command_at w.host.commands n ≡ Some w.held) (sym number) (facts.done.holds some) in
+    subst (λ (n : ℕ). command_at w.host.commands n ≡ Some w.held) (sym number) (facts.done.holds some) in
     let command : unwrap_or (command_at w.host.commands session) 0 ≡ w.held = ap (λ (o : Option ℕ). unwrap_or o 0) holds in
     let equal : ended_as w.device.taken w.held w.device.status ≡ ended_as session (unwrap_or (command_at w.host.commands session) 0) report.status = cc in
     record {
@@ -272,7 +271,7 @@ Facts-told w report session facts fits same is_open of_last final tells =
       reports = facts.reports;
       done = facts.done;
       told = ToldFits-told w.host w.done w.told _ facts.told opened.2 (same ∙ opened.0) (
-        subst (λ (e : Ended). Contains w.done e) equal (facts.done.last some idle));
+          subst (λ (e : Ended). Contains w.done e) equal (facts.done.last some idle));
     }
 
 -- every event
@@ -285,8 +284,8 @@ send_when-keeps : (w : World) (session : ℕ) (o : Option ℕ) → command_at w.
 send_when-keeps w session None e facts = facts
 send_when-keeps w session (Some command) e facts =
     elim (leb_tells (begun_of w.host) (session + 1)) [
-      inl near ↦ rw near.0 (Facts-send w session command facts e near.1)
-    | inr far ↦ rw far.0 facts
+      | inl near ↦ rw near.0 (Facts-send w session command facts e near.1)
+      | inr far ↦ rw far.0 facts
     ]
 
 take_when-keeps : (w : World) (get : Get) (heard : Heard) → heard_of w.device (wire_id get.session) ≡ heard → GetFits w.host.commands get → GetNames w.device get → Facts w → Facts (take_when w get heard)
@@ -301,10 +300,10 @@ hear_get-keeps w which None e facts = facts
 hear_get-keeps w which (Some get) e facts =
     let fits : GetFits w.host.commands get = All-slice_get (GetFits w.host.commands) w.gets which get facts.gets e in
     elim (leb_tells (begun_of w.host) (get.begun + 61)) [
-      inl fresh ↦
-        rw fresh.0 (take_when-keeps w get (heard_of w.device (wire_id get.session)) refl fits
+      | inl fresh ↦
+          rw fresh.0 (take_when-keeps w get (heard_of w.device (wire_id get.session)) refl fits
           (get_in_time w.host w.device get facts.agree fits fresh.1) facts)
-    | inr stale ↦ rw stale.0 facts
+      | inr stale ↦ rw stale.0 facts
     ]
 
 finish_when-keeps : (w : World) (status : ℕ) (now : Bool) → (w.device.status == WORKING && (is_status status && not (status == WORKING))) ≡ now → Facts w → Facts (finish_when w status now)
@@ -316,14 +315,11 @@ answer_when-keeps : (w : World) (now : Bool) → nat_lt 0 w.device.taken ≡ now
 answer_when-keeps w true e facts = Facts-answer w facts (grind (arith, nat_tests))
 answer_when-keeps w false e facts = facts
 
-after_report-Final : (host : HostBook) (id status session : ℕ) → told_of host id status ≡ Final session → after_report host id status ≡ record host { outcome = Some status }
-after_report-Final host id status session e = rw (after_report, e) refl
-
 tell_when-keeps : (w : World) (report : Report) (told : Told) → told_of w.host (wire_id report.session) report.status ≡ told → ReportFits (begun_of w.host) w.device report → ReportNames w.host w.device report → Facts w → Facts (tell_when w report told)
 tell_when-keeps w report (Final session) e fits names facts =
     let is = names.final session e in
     rw (after_report-Final w.host (wire_id report.session) report.status session e)
-      (Facts-told w report session facts fits is.0 is.1 is.2 is.3 is.4)
+    (Facts-told w report session facts fits is.0 is.1 is.2 is.3 is.4)
 tell_when-keeps w report still_working e fits names facts = facts
 tell_when-keeps w report unknown e fits names facts = facts
 
@@ -332,10 +328,10 @@ hear_report-keeps w which None e facts = facts
 hear_report-keeps w which (Some report) e facts =
     let fits : ReportFits (begun_of w.host) w.device report = All-slice_get (ReportFits (begun_of w.host) w.device) w.reports which report facts.reports e in
     elim (leb_tells (begun_of w.host) (report.begun + 62)) [
-      inl fresh ↦
-        rw fresh.0 (tell_when-keeps w report (told_of w.host (wire_id report.session) report.status) refl fits
+      | inl fresh ↦
+          rw fresh.0 (tell_when-keeps w report (told_of w.host (wire_id report.session) report.status) refl fits
           (report_in_time w.host w.device report facts.agree fits fresh.1) facts)
-    | inr stale ↦ rw stale.0 facts
+      | inr stale ↦ rw stale.0 facts
     ]
 
 pub happens-keeps : (w : World) (event : Event) → Facts w → Facts (happens w event)

@@ -1,6 +1,6 @@
 -- What a supervised device keeps, and what it makes of a session id (this project's own rule over the Supervision Get
 -- of the Supervision Command Class).
-use Rattle.std.specs.Prelude.{◌≡◌, ℕ, ◌+◌, Bool, ◌==◌, ◌&&◌, not, nat_lt, if◌then◌else◌}
+use Rattle.std.specs.Prelude.{ℕ, ◌+◌, Bool, ◌==◌, ◌&&◌, not, nat_lt, if◌then◌else◌}
 use Rattle.supervision.specs.Session.{wire_id}
 use Rattle.supervision.specs.declared.session.TheConstants.{WORKING, SUCCESS}
 use Rattle.supervision.specs.declared.device_book.Heard.{Heard}

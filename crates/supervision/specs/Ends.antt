@@ -1,8 +1,7 @@
 -- What holds of both ends of one node at every moment, and of each message between them that may still arrive (this
 -- project's own rule). A world with events of its own keeps these facts by the lemmas of `proofs/Ends.antt`.
-use Rattle.std.specs.Prelude.{◌≡◌, ◌≢◌, ℕ, ◌+◌, ◌<◌, ◌≤◌, Bool, List, Option, Some, nat_le, length}
-use Rattle.supervision.specs.Session.{wire_id}
-use Rattle.supervision.specs.Host.{HostBook, begun_of, open_session, command_at}
+use Rattle.std.specs.Prelude.{◌≡◌, ◌≢◌, ℕ, ◌+◌, ◌<◌, ◌≤◌, Bool, List, Some, nat_le, length}
+use Rattle.supervision.specs.Host.{HostBook, begun_of, command_at}
 use Rattle.supervision.specs.Device.{Taken}
 use Rattle.supervision.specs.declared.session.TheConstants.{WORKING}
 

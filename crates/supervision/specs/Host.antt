@@ -1,6 +1,6 @@
 -- What the sender of supervised commands keeps of one node, and what it makes of a report (Supervision Command
 -- Class; that a session stays open until its final report is this project's own rule).
-use Rattle.std.specs.Prelude.{◌≡◌, ℕ, zero, suc, List, [], ◌∷◌, ◌++◌, length, slice_get, Option, Some, None, ◌==◌, if◌then◌else◌}
+use Rattle.std.specs.Prelude.{ℕ, zero, suc, List, [], ◌∷◌, ◌++◌, length, slice_get, Option, Some, None, ◌==◌, if◌then◌else◌}
 use Rattle.supervision.specs.Session.{wire_id}
 use Rattle.supervision.specs.declared.session.TheConstants.{WORKING}
 use Rattle.supervision.specs.declared.host_node.Told.{Told}

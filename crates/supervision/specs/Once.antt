@@ -56,7 +56,13 @@ pub data Event : Type 0 where
 -- the world in which nothing has happened
 abbrev pub start : World
 start = record {
-  host = no_sessions; device = none_taken; gets = []; reports = []; held = 0; done = []; told = []
+  host = no_sessions;
+  device = none_taken;
+  gets = [];
+  reports = [];
+  held = 0;
+  done = [];
+  told = [];
 }
 
 -- a session begins only where none is open

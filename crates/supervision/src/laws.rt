@@ -1,23 +1,29 @@
-//! The law of both ends, over every list of events: sessions begin, Gets and reports go out, and each that was ever
-//! sent may be heard never, once or often, and in any order, while it is fresh.
+//! The laws of both ends: what each call keeps, and what therefore holds over every list of events. Sessions begin, Gets
+//! and reports go out, and each that was ever sent may be heard never, once or often, and in any order, while it is
+//! fresh.
 
-ghost use Rattle.std.specs.Prelude.{◌≡◌, ℕ, ◌+◌, ◌≤◌, All, AllPairs, Contains, Some};
-ghost use Rattle.supervision.specs.Host.{begun_of};
+ghost use Rattle.std.specs.Prelude.{◌≡◌, ℕ, ◌+◌, ◌<◌, ◌≤◌, List, [], ◌∷◌, ◌++◌, length, All, AllPairs, Contains, IsTrue, Some, None};
+ghost use Rattle.supervision.specs.Session.{wire_id};
+ghost use Rattle.supervision.specs.Host.{HostBook, no_sessions, begun_of, open_session, command_at, begins, with_attempts, after_report};
+ghost use Rattle.supervision.specs.Device.{Taken, none_taken, after_get, finished};
+ghost use Rattle.supervision.specs.Ends.{Get, Report, EndsAgree, GetFits, ReportFits, is_fresh, is_fresh_on_line};
+ghost use Rattle.supervision.specs.declared.session.TheConstants.{WORKING};
 ghost use Rattle.supervision.specs.Once.{Always, IsEarlier, IsBegun, GetsNameOne, ReportsNameOne, MayHearGet, MayHearReport, KnowsEnd, SuccessIsChange, RefusalIsNoChange, EachEndedBefore, changes};
 
 /// What holds of both ends whatever happens between them.
 pub fn once_only()
     // The device's changes are those of sessions in strictly rising order, so each at most once.
     ensures rising { Always (λ w. AllPairs IsEarlier (changes w)) }
-    // Each is of a session that the host began, with that session's command.
-    ensures begun { Always (λ w. All (IsBegun w.host.commands) (changes w)) }
+    // So are all the sessions that it brought to an end, each begun by the host with that command.
+    ensures done_once { Always (λ w. AllPairs IsEarlier w.done) }
+    ensures begun { Always (λ w. All (IsBegun w.host.commands) w.done) }
     // The device has taken all the sessions begun, or all but the last.
     ensures not_ahead { Always (λ w. w.device.taken ≤ begun_of w.host) }
     ensures one_behind { Always (λ w. begun_of w.host ≤ w.device.taken + 1) }
 
     // An id names one session, at either end.
-    ensures get_names_one { Always (λ w. (get : _) → MayHearGet w get → GetsNameOne w get) }
-    ensures report_names_one { Always (λ w. (report : _) → MayHearReport w report → ReportsNameOne w report) }
+    ensures get_names_one { Always (λ w. (get : Get) → MayHearGet w get → GetsNameOne w get) }
+    ensures report_names_one { Always (λ w. (report : Report) → MayHearReport w report → ReportsNameOne w report) }
 
     // What the host was told is what the device did, with the same command and status, once for each session.
     ensures told_is_done { Always (λ w. All (Contains w.done) w.told) }
@@ -28,5 +34,46 @@ pub fn once_only()
 
     // A session begins only once the one before has its end.
     ensures each_ended { Always EachEndedBefore }
-{
-}
+{}
+
+/// What each call keeps of both ends, and of each message that may still arrive. A message is one of 64 sessions in a row
+/// where it is fresh, and wherever else a caller shows so.
+pub fn both_ends()
+    ensures at_first { EndsAgree no_sessions none_taken }
+    ensures begin { (host : HostBook) (device : Taken) (command : ℕ) →
+        EndsAgree host device → open_session host ≡ None → EndsAgree (begins host command) device }
+    ensures attempts { (host : HostBook) (device : Taken) (count : ℕ) →
+        EndsAgree host device → EndsAgree (with_attempts host count) device }
+    ensures hear { (host : HostBook) (device : Taken) (get : Get) →
+        EndsAgree host device → GetFits host.commands get → device.taken + 1 ≤ get.session + 63 →
+        EndsAgree host (after_get device (wire_id get.session)) }
+    ensures finish { (host : HostBook) (device : Taken) (status : ℕ) →
+        EndsAgree host device → device.status ≡ WORKING → EndsAgree host (finished device status) }
+    ensures report { (host : HostBook) (device : Taken) (report : Report) →
+        EndsAgree host device → ReportFits (begun_of host) device report → begun_of host ≤ report.session + 63 →
+        EndsAgree (after_report host (wire_id report.session) report.status) device }
+
+    // A fresh message is one of 64 sessions in a row.
+    ensures get_near { (host : HostBook) (device : Taken) (get : Get) →
+        EndsAgree host device → GetFits host.commands get → IsTrue (is_fresh (begun_of host) get.begun) →
+        device.taken + 1 ≤ get.session + 63 }
+    ensures report_near { (host : HostBook) (device : Taken) (report : Report) →
+        ReportFits (begun_of host) device report → IsTrue (is_fresh_on_line (begun_of host) report.begun) →
+        begun_of host ≤ report.session + 63 }
+
+    // A message fits when it is sent, and goes on to fit.
+    ensures get_sent { (commands : List ℕ) (session command : ℕ) →
+        command_at commands session ≡ Some command → length commands ≤ session + 1 →
+        GetFits commands (record { session = session; command = command; begun = length commands }) }
+    ensures get_kept { (commands : List ℕ) (next : ℕ) (get : Get) →
+        GetFits commands get → GetFits (commands ++ next ∷ []) get }
+    ensures report_sent { (host : HostBook) (device : Taken) → EndsAgree host device → 0 < device.taken →
+        ReportFits (begun_of host) device
+        (record { session = device.taken; status = device.status; begun = begun_of host }) }
+    ensures report_kept { (begun more : ℕ) (device : Taken) (report : Report) →
+        begun ≤ more → ReportFits begun device report → ReportFits more device report }
+    ensures report_kept_on_hear { (begun : ℕ) (device : Taken) (id : ℕ) (report : Report) →
+        ReportFits begun device report → ReportFits begun (after_get device id) report }
+    ensures report_kept_on_finish { (begun : ℕ) (device : Taken) (status : ℕ) (report : Report) →
+        device.status ≡ WORKING → ReportFits begun device report → ReportFits begun (finished device status) report }
+{}

@@ -4,15 +4,18 @@
 //! the sender keeps: it begins a session only once the one before has its final report, and takes a report only for
 //! the session that is open. `DeviceBook` is what the device keeps: it takes each session once, and answers a repeat
 //! with the status that it kept.
-//! The definitions stand in `specs/`: `Session`, `Host`, `Device`.
+//! The laws `once_only` and `both_ends` say what holds of both ends whatever is lost, repeated or reordered.
+//! The definitions stand in `specs/`: `Session`, `Host`, `Device`, `Ends`, `Once`.
 #![tactic(auto)]
 
 mod device_book;
 mod host_node;
 mod laws;
 mod session;
+#[cfg(test)]
+mod tests;
 
 pub use device_book::{DeviceBook, Heard};
 pub use host_node::{BeginFault, HostNode, MAX_ATTEMPTS, Told};
-pub use laws::once_only;
+pub use laws::{both_ends, once_only};
 pub use session::{FAIL, NO_SUPPORT, SUCCESS, WIRE_IDS, WORKING, session_id};

@@ -1,6 +1,6 @@
 -- Each clause is one of the facts that every list of events keeps.
 use Rattle.supervision.proofs.OnceLemmas.{always-facts}
-use Rattle.supervision.proofs.OnceLaws.{changes-rise, changes-begun, get_names_one, report_names_one, told-success, told-refusal, end_known}
+use Rattle.supervision.proofs.OnceLaws.{changes-rise, get_names_one, report_names_one, told-success, told-refusal, end_known}
 use Rattle.supervision.specs.Once.{run, start}
 use Rattle.supervision.proofs.laws.once_only.Goals as goal
 
@@ -8,7 +8,10 @@ pub returns-clause-rising : goal.returns-clause-rising
 returns-clause-rising c = λ events. changes-rise (run events start) (always-facts events)
 
 pub returns-clause-begun : goal.returns-clause-begun
-returns-clause-begun c = λ events. changes-begun (run events start) (always-facts events)
+returns-clause-begun c = λ events. (always-facts events).done.begun
+
+pub returns-clause-done_once : goal.returns-clause-done_once
+returns-clause-done_once c = λ events. (always-facts events).done.rise
 
 pub returns-clause-not_ahead : goal.returns-clause-not_ahead
 returns-clause-not_ahead c = λ events. (always-facts events).agree.not_ahead
