@@ -1,0 +1,5 @@
+mod Masks
+mod Below
+pub mod Networks
+mod Search
+mod Tables
