@@ -1,0 +1,7 @@
+pub mod Place
+pub mod Seen
+pub mod Field
+pub mod Mask
+pub mod Request
+pub mod Response
+pub mod Notice

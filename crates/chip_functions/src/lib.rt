@@ -1,0 +1,30 @@
+//! Bodies of the functions of the Z-Wave Serial API that host and chip speak by.
+//!
+//! It promises that a value is written in the one written form of its row, and that bytes are read exactly where a
+//! row relates them to a value, with that value, and else with the first fault from the left.
+//! The definitions stand in `specs/`: `Place` and `Field` (fields of a body), `Mask` (nodes in bits), and the rows,
+//! one file a direction: `Request`, `Response` and `Notice`.
+#![tactic(auto)]
+
+mod fault;
+mod function;
+mod mask;
+mod notice;
+mod place;
+mod reading;
+mod request;
+mod response;
+mod writing;
+
+pub use fault::BodyFault;
+pub use function::{
+    APPLICATION_COMMAND_HANDLER, APPLICATION_UPDATE, GET_CAPABILITIES, GET_INIT_DATA,
+    GET_NODE_PROTOCOL_INFO, GET_ROUTING_INFO, GET_VERSION, IS_FAILED_NODE, MEMORY_GET_ID,
+    REQUEST_NODE_INFO, SEND_DATA, SEND_DATA_ABORT,
+};
+pub use mask::NodeMask;
+pub use notice::{Notice, TransmitStatus, UPDATE_FAILED, UPDATE_RECEIVED, Update};
+pub use reading::{read_notice, read_request, read_response};
+pub use request::{Request, TRANSMIT_OPTIONS};
+pub use response::{REFUSED, Response};
+pub use writing::{write_notice, write_request, write_response};

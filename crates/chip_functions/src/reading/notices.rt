@@ -1,0 +1,109 @@
+//! Notices, as the host reads them.
+
+ghost use Rattle.std.specs.Prelude.{◌≡◌, ℕ, ◌≤◌};
+ghost use Rattle.chip_functions.specs.Place.{Gives, start_of};
+ghost use Rattle.chip_functions.specs.Seen.{place_of};
+ghost use Rattle.chip_functions.specs.Notice.{handler_at, callback_at, received_at, request_failed_at, update, update_at, notice_at, notice_of};
+
+use crate::function::{APPLICATION_COMMAND_HANDLER, APPLICATION_UPDATE, SEND_DATA};
+use crate::notice::{DEVICE_CLASSES, UPDATE_FAILED, UPDATE_RECEIVED};
+use crate::place::Place;
+use crate::{BodyFault, Notice, Update};
+use std::alloc::Global;
+use zw_base::Bytes;
+
+#[tactic(auto, unfolding(crate::specs::Notice::handler_at))]
+fn handler(alloc: Global, place: &mut Place) -> Result<Notice, BodyFault>
+    requires { place.old.before ≡ 0 }
+    ensures { Gives (λ x. (x, place_of place.new)) result (handler_at (place_of place.old)) }
+{
+    Ok(Notice::ApplicationCommandHandler {
+        rx_status: place.byte()?,
+        source: place.node()?,
+        payload: place.counted(alloc)?,
+    })
+}
+
+#[tactic(auto, unfolding(crate::specs::Notice::callback_at))]
+fn callback(place: &mut Place) -> Result<Notice, BodyFault>
+    requires { place.old.before ≡ 0 }
+    ensures { Gives (λ x. (x, place_of place.new)) result (callback_at (place_of place.old)) }
+{
+    Ok(Notice::SendData {
+        callback_id: place.byte()?,
+        status: place.status()?,
+    })
+}
+
+#[tactic(auto, unfolding(crate::specs::Notice::received_at))]
+fn received(alloc: Global, place: &mut Place) -> Result<Update, BodyFault>
+    requires { place.old.before ≤ 1 }
+    ensures { Gives (λ x. (x, place_of place.new)) result (received_at (place_of place.old)) }
+{
+    let node = place.node()?;
+    let before = place.before;
+    let len = place.byte()?;
+    if len < DEVICE_CLASSES {
+        return Err(BodyFault::BadField(before));
+    }
+    let basic = place.byte()?;
+    let generic = place.byte()?;
+    let specific = place.byte()?;
+    let classes = Bytes::from_slice(alloc, place.piece(len - DEVICE_CLASSES)?)?;
+    Ok(Update::Received {
+        node,
+        basic,
+        generic,
+        specific,
+        classes,
+    })
+}
+
+#[tactic(auto, unfolding(crate::specs::Notice::request_failed_at))]
+fn request_failed(place: &mut Place) -> Result<Update, BodyFault>
+    requires { place.old.before ≤ 1 }
+    ensures { Gives (λ x. (x, place_of place.new)) result (request_failed_at (place_of place.old)) }
+{
+    place.mark(0)?;
+    place.mark(0)?;
+    Ok(Update::RequestFailed)
+}
+
+fn update(alloc: Global, place: &mut Place) -> Result<Update, BodyFault>
+    requires { place.old.before ≡ 0 }
+    ensures { Gives (λ x. (x, place_of place.new)) result (update.read (place_of place.old)) }
+{
+    match place.byte()? {
+        UPDATE_RECEIVED => received(alloc, place),
+        UPDATE_FAILED => request_failed(place),
+        _ => Err(BodyFault::BadField(0)),
+    }
+}
+
+#[tactic(auto, unfolding(crate::specs::Notice::notice_at, crate::specs::Notice::update_at))]
+fn notice(alloc: Global, func: u8, place: &mut Place) -> Result<Notice, BodyFault>
+    requires { place.old.before ≡ 0 }
+    ensures { Gives (λ x. (x, place_of place.new)) result (notice_at func (place_of place.old)) }
+{
+    match func {
+        APPLICATION_COMMAND_HANDLER => handler(alloc, place),
+        SEND_DATA => callback(place),
+        APPLICATION_UPDATE => Ok(Notice::ApplicationUpdate {
+            update: update(alloc, place)?,
+        }),
+        _ => Err(BodyFault::UnknownFunction(func)),
+    }
+}
+
+/// The notice that the body of a function begins with.
+#[tactic(auto, unfolding(crate::specs::Notice::notice_of))]
+pub fn read_notice(alloc: Global, func: u8, body: &[u8]) -> Result<Notice, BodyFault>
+    // Which value it is, or which fault.
+    ensures exact { Gives (λ notice. notice) result (notice_of func body.now) }
+{
+    let mut place = Place {
+        before: 0,
+        rest: body,
+    };
+    notice(alloc, func, &mut place)
+}

@@ -1,0 +1,87 @@
+//! Requests, as the chip reads them.
+
+ghost use Rattle.std.specs.Prelude.{◌≡◌, ℕ};
+ghost use Rattle.chip_functions.specs.Place.{Gives, start_of};
+ghost use Rattle.chip_functions.specs.Seen.{place_of};
+ghost use Rattle.chip_functions.specs.Request.{send_data_at, get_routing_info_at, request_at, request_of};
+
+use crate::function::{
+    GET_CAPABILITIES, GET_INIT_DATA, GET_NODE_PROTOCOL_INFO, GET_ROUTING_INFO, GET_VERSION,
+    IS_FAILED_NODE, MEMORY_GET_ID, REQUEST_NODE_INFO, SEND_DATA, SEND_DATA_ABORT,
+};
+use crate::place::Place;
+use crate::{BodyFault, Request};
+use std::alloc::Global;
+
+#[tactic(auto, unfolding(crate::specs::Request::send_data_at))]
+fn send_data(alloc: Global, place: &mut Place) -> Result<Request, BodyFault>
+    requires { place.old.before ≡ 0 }
+    ensures { Gives (λ x. (x, place_of place.new)) result (send_data_at (place_of place.old)) }
+{
+    let node = place.node()?;
+    let payload = place.counted(alloc)?;
+    let options = place.byte()?;
+    let callback_id = place.callback_id()?;
+    Ok(Request::SendData {
+        node,
+        payload,
+        options,
+        callback_id,
+    })
+}
+
+#[tactic(auto, unfolding(crate::specs::Request::get_routing_info_at))]
+fn get_routing_info(place: &mut Place) -> Result<Request, BodyFault>
+    requires { place.old.before ≡ 0 }
+    ensures { Gives (λ x. (x, place_of place.new)) result (get_routing_info_at (place_of place.old)) }
+{
+    Ok(Request::GetRoutingInfo {
+        node: place.node()?,
+        remove_bad: place.byte()?,
+        remove_non_repeaters: place.byte()?,
+        function_id: place.byte()?,
+    })
+}
+
+#[tactic(auto, unfolding(crate::specs::Request::request_at))]
+fn request(alloc: Global, func: u8, place: &mut Place) -> Result<Request, BodyFault>
+    requires { place.old.before ≡ 0 }
+    ensures { Gives (λ x. (x, place_of place.new)) result (request_at func (place_of place.old)) }
+{
+    match func {
+        GET_INIT_DATA => Ok(Request::GetInitData),
+        GET_CAPABILITIES => Ok(Request::GetCapabilities),
+        SEND_DATA => send_data(alloc, place),
+        GET_VERSION => Ok(Request::GetVersion),
+        SEND_DATA_ABORT => Ok(Request::SendDataAbort),
+        MEMORY_GET_ID => Ok(Request::MemoryGetId),
+        GET_NODE_PROTOCOL_INFO => Ok(Request::GetNodeProtocolInfo {
+            node: place.node()?,
+        }),
+        REQUEST_NODE_INFO => Ok(Request::RequestNodeInfo {
+            node: place.node()?,
+        }),
+        IS_FAILED_NODE => Ok(Request::IsFailedNode {
+            node: place.node()?,
+        }),
+        GET_ROUTING_INFO => get_routing_info(place),
+        _ => Err(BodyFault::UnknownFunction(func)),
+    }
+}
+
+/// The request that the body of a function is.
+#[tactic(auto, unfolding(crate::specs::Request::request_of))]
+pub fn read_request(alloc: Global, func: u8, body: &[u8]) -> Result<Request, BodyFault>
+    // Which value it is, or which fault.
+    ensures exact { Gives (λ request. request) result (request_of func body.now) }
+{
+    let mut place = Place {
+        before: 0,
+        rest: body,
+    };
+    let request = request(alloc, func, &mut place)?;
+    match place.rest {
+        [] => Ok(request),
+        [..] => Err(BodyFault::BadField(place.before)),
+    }
+}

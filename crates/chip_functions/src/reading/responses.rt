@@ -1,0 +1,133 @@
+//! Responses, as the host reads them.
+
+ghost use Rattle.std.specs.Prelude.{◌≡◌, ℕ};
+ghost use Rattle.chip_functions.specs.Place.{Gives, start_of};
+ghost use Rattle.chip_functions.specs.Seen.{place_of};
+ghost use Rattle.chip_functions.specs.Response.{init_data_at, capabilities_at, version_at, memory_id_at, protocol_info_at, response_at, response_of};
+
+use crate::function::{
+    GET_CAPABILITIES, GET_INIT_DATA, GET_NODE_PROTOCOL_INFO, GET_ROUTING_INFO, GET_VERSION,
+    IS_FAILED_NODE, MEMORY_GET_ID, REQUEST_NODE_INFO, SEND_DATA,
+};
+use crate::mask::MASK_BYTES;
+use crate::place::Place;
+use crate::{BodyFault, Response};
+use std::alloc::Global;
+
+#[tactic(auto, unfolding(crate::specs::Response::init_data_at))]
+fn init_data(place: &mut Place) -> Result<Response, BodyFault>
+    requires { place.old.before ≡ 0 }
+    ensures { Gives (λ x. (x, place_of place.new)) result (init_data_at (place_of place.old)) }
+{
+    let version = place.byte()?;
+    let capabilities = place.byte()?;
+    place.mark(MASK_BYTES)?;
+    Ok(Response::GetInitData {
+        version,
+        capabilities,
+        nodes: place.mask()?,
+        chip_type: place.byte()?,
+        chip_version: place.byte()?,
+    })
+}
+
+#[tactic(auto, unfolding(crate::specs::Response::capabilities_at))]
+fn capabilities(place: &mut Place) -> Result<Response, BodyFault>
+    requires { place.old.before ≡ 0 }
+    ensures { Gives (λ x. (x, place_of place.new)) result (capabilities_at (place_of place.old)) }
+{
+    let version = place.byte()?;
+    let revision = place.byte()?;
+    let manufacturer = place.number16()?;
+    let product_type = place.number16()?;
+    let product = place.number16()?;
+    let mut functions = [0; 32];
+    functions.copy_from_slice(place.piece(32)?);
+    Ok(Response::GetCapabilities {
+        version,
+        revision,
+        manufacturer,
+        product_type,
+        product,
+        functions,
+    })
+}
+
+#[tactic(auto, unfolding(crate::specs::Response::version_at))]
+fn version(place: &mut Place) -> Result<Response, BodyFault>
+    requires { place.old.before ≡ 0 }
+    ensures { Gives (λ x. (x, place_of place.new)) result (version_at (place_of place.old)) }
+{
+    let mut text = [0; 12];
+    text.copy_from_slice(place.piece(12)?);
+    Ok(Response::GetVersion {
+        text,
+        library_type: place.byte()?,
+    })
+}
+
+#[tactic(auto, unfolding(crate::specs::Response::memory_id_at))]
+fn memory_id(place: &mut Place) -> Result<Response, BodyFault>
+    requires { place.old.before ≡ 0 }
+    ensures { Gives (λ x. (x, place_of place.new)) result (memory_id_at (place_of place.old)) }
+{
+    Ok(Response::MemoryGetId {
+        home_id: place.number32()?,
+        node: place.node()?,
+    })
+}
+
+#[tactic(auto, unfolding(crate::specs::Response::protocol_info_at))]
+fn protocol_info(place: &mut Place) -> Result<Response, BodyFault>
+    requires { place.old.before ≡ 0 }
+    ensures { Gives (λ x. (x, place_of place.new)) result (protocol_info_at (place_of place.old)) }
+{
+    Ok(Response::GetNodeProtocolInfo {
+        capability: place.byte()?,
+        security: place.byte()?,
+        reserved: place.byte()?,
+        basic: place.byte()?,
+        generic: place.byte()?,
+        specific: place.byte()?,
+    })
+}
+
+#[tactic(auto, unfolding(crate::specs::Response::response_at))]
+fn response(func: u8, place: &mut Place) -> Result<Response, BodyFault>
+    requires { place.old.before ≡ 0 }
+    ensures { Gives (λ x. (x, place_of place.new)) result (response_at func (place_of place.old)) }
+{
+    match func {
+        GET_INIT_DATA => init_data(place),
+        GET_CAPABILITIES => capabilities(place),
+        SEND_DATA => Ok(Response::SendData {
+            answer: place.byte()?,
+        }),
+        GET_VERSION => version(place),
+        MEMORY_GET_ID => memory_id(place),
+        GET_NODE_PROTOCOL_INFO => protocol_info(place),
+        REQUEST_NODE_INFO => Ok(Response::RequestNodeInfo {
+            answer: place.byte()?,
+        }),
+        IS_FAILED_NODE => Ok(Response::IsFailedNode {
+            failed: place.failed()?,
+        }),
+        GET_ROUTING_INFO => Ok(Response::GetRoutingInfo {
+            nodes: place.mask()?,
+        }),
+        _ => Err(BodyFault::UnknownFunction(func)),
+    }
+}
+
+/// The response that the body of a function begins with.
+#[tactic(auto, unfolding(crate::specs::Response::response_of))]
+pub fn read_response(_alloc: Global, func: u8, body: &[u8]) -> Result<Response, BodyFault>
+    // Which value it is, or which fault.
+    ensures exact { Gives (λ response. response) result (response_of func body.now) }
+{
+    let mut place = Place {
+        before: 0,
+        rest: body,
+    };
+    response(func, &mut place)
+}

@@ -1,0 +1,91 @@
+//! Notices, as the chip writes them.
+
+ghost use Rattle.std.specs.Prelude.{◌≡◌, ◌≤◌, length, IfOk};
+ghost use Rattle.serial_frame.specs.declared.frame.Kind.TheVariants.{Request as of_request};
+ghost use Rattle.chip_functions.specs.Notice.{handler, classes, update, notice_function, notice_body, HasNoticeRow};
+
+use crate::function::{APPLICATION_COMMAND_HANDLER, APPLICATION_UPDATE, SEND_DATA};
+use crate::notice::{DEVICE_CLASSES, UPDATE_FAILED, UPDATE_RECEIVED};
+use crate::{Notice, Update};
+use serial_frame::{Frame, Kind};
+use std::alloc::Global;
+use zw_base::{Bytes, NoMemory, NodeId};
+
+fn function(value: &Notice) -> u8
+    ensures { result ≡ notice_function value.now }
+{
+    match value {
+        Notice::ApplicationCommandHandler { .. } => APPLICATION_COMMAND_HANDLER,
+        Notice::SendData { .. } => SEND_DATA,
+        Notice::ApplicationUpdate { .. } => APPLICATION_UPDATE,
+    }
+}
+
+fn handler(alloc: Global, rx_status: u8, source: NodeId, payload: &Bytes) -> Result<Bytes, NoMemory>
+    requires { length payload.now ≤ 255 }
+    ensures { IfOk result (λ body. body ≡ handler.spell (rx_status, (source, payload.now))) }
+{
+    let mut body = Bytes::from_slice(alloc, &[rx_status, source.number(), payload.len() as u8])?;
+    body.extend(payload.as_slice())?;
+    Ok(body)
+}
+
+fn update(alloc: Global, value: &Update) -> Result<Bytes, NoMemory>
+    requires { length (update.spell value.now) ≤ 252 }
+    ensures { IfOk result (λ body. body ≡ update.spell value.now) }
+{
+    match value {
+        Update::Received {
+            node,
+            basic,
+            generic,
+            specific,
+            classes,
+        } => {
+            let len = classes.len() as u8 + DEVICE_CLASSES;
+            let front = [
+                UPDATE_RECEIVED,
+                node.number(),
+                len,
+                *basic,
+                *generic,
+                *specific,
+            ];
+            let mut body = Bytes::from_slice(alloc, &front)?;
+            body.extend(classes.as_slice())?;
+            Ok(body)
+        }
+        Update::RequestFailed => Bytes::from_slice(alloc, &[UPDATE_FAILED, 0, 0]),
+    }
+}
+
+fn body(alloc: Global, value: &Notice) -> Result<Bytes, NoMemory>
+    requires { length (notice_body value.now) ≤ 252 }
+    ensures { IfOk result (λ body. body ≡ notice_body value.now) }
+{
+    match value {
+        Notice::ApplicationCommandHandler {
+            rx_status,
+            source,
+            payload,
+        } => handler(alloc, *rx_status, *source, payload),
+        Notice::SendData {
+            callback_id,
+            status,
+        } => Bytes::from_slice(alloc, &[*callback_id, status.code()]),
+        Notice::ApplicationUpdate { update: value } => update(alloc, value),
+    }
+}
+
+/// The frame of a notice. It needs a value that a row has, with a body of at most 252 bytes.
+pub fn write_notice(alloc: Global, value: &Notice) -> Result<Frame, NoMemory>
+    requires row { HasNoticeRow value.now }
+    requires fits { length (notice_body value.now) ≤ 252 }
+    ensures { IfOk result (λ frame. frame ≡ record { kind = of_request; func = notice_function value.now; body = notice_body value.now }) }
+{
+    Ok(Frame {
+        kind: Kind::Request,
+        func: function(value),
+        body: body(alloc, value)?,
+    })
+}
