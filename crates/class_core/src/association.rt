@@ -1,13 +1,12 @@
 //! Association (Association Command Class).
 
 ghost use Rattle.std.specs.Prelude.{◌≡◌};
-ghost use Rattle.class_core.specs.Reading.{Gives};
+ghost use Rattle.class_fields.specs.Reading.{Gives};
 ghost use Rattle.class_core.specs.MessageReading.{in_class, association_by, association_at};
 
-use crate::fault::ClassFault;
-use crate::fields::byte;
 use crate::message::CoreMessage;
-use crate::node_list::node_list;
+use class_fields::ClassFault;
+use class_fields::fields::{byte, nodes};
 use std::alloc::Global;
 
 /// The class.
@@ -25,11 +24,11 @@ pub fn read_association(alloc: Global, bytes: &[u8]) -> Result<CoreMessage, Clas
     match byte(bytes, 1)? {
         SET => Ok(CoreMessage::AssociationSet {
             group: byte(bytes, 2)?,
-            members: node_list(alloc, bytes, 3)?,
+            members: nodes(alloc, bytes, 3)?,
         }),
         REMOVE => Ok(CoreMessage::AssociationRemove {
             group: byte(bytes, 2)?,
-            members: node_list(alloc, bytes, 3)?,
+            members: nodes(alloc, bytes, 3)?,
         }),
         command => Err(ClassFault::UnknownCommand(ASSOCIATION, command)),
     }

@@ -3,9 +3,9 @@
 ghost use Rattle.std.specs.Prelude.{◌≡◌};
 ghost use Rattle.class_core.specs.MessageReading.{in_class, basic_by};
 
-use crate::fault::ClassFault;
-use crate::fields::byte;
 use crate::message::CoreMessage;
+use class_fields::ClassFault;
+use class_fields::fields::byte;
 
 /// The class.
 pub const BASIC: u8 = 0x20;

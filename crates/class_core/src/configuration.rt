@@ -1,13 +1,12 @@
 //! Configuration (Configuration Command Class).
 
 ghost use Rattle.std.specs.Prelude.{◌≡◌};
-ghost use Rattle.class_core.specs.Reading.{Gives};
+ghost use Rattle.class_fields.specs.Reading.{Gives};
 ghost use Rattle.class_core.specs.MessageReading.{in_class, configuration_by, configuration_set_at, configuration_report_at, configuration_bulk_at};
 
-use crate::fault::ClassFault;
-use crate::fields::{byte, high_bit, number, size, size_byte, word};
 use crate::message::CoreMessage;
-use crate::number_list::number_list;
+use class_fields::ClassFault;
+use class_fields::fields::{byte, high_bit, number, numbers, size, size_byte, word};
 use std::alloc::Global;
 
 /// The class.
@@ -70,7 +69,7 @@ fn read_bulk_set(alloc: Global, bytes: &[u8]) -> Result<CoreMessage, ClassFault>
     let count = byte(bytes, 4)?;
     let default = high_bit(bytes, 5)?;
     let size = size(bytes, 5)?;
-    let values = number_list(alloc, bytes, 6, size, count)?;
+    let values = numbers(alloc, bytes, 6, size, count)?;
     Ok(CoreMessage::ConfigurationBulkSet {
         offset,
         default,

@@ -3,9 +3,9 @@
 ghost use Rattle.std.specs.Prelude.{◌≡◌};
 ghost use Rattle.class_core.specs.MessageReading.{in_class, door_lock_by};
 
-use crate::fault::ClassFault;
-use crate::fields::{byte, lock_mode};
 use crate::message::CoreMessage;
+use class_fields::ClassFault;
+use class_fields::fields::{byte, lock_mode};
 
 /// The class.
 pub const DOOR_LOCK: u8 = 0x62;

@@ -1,12 +1,8 @@
 //! The messages of the actuator command classes.
 
-use crate::decimal::Decimal;
-use crate::level::Level;
-use crate::node_list::NodeList;
-use crate::number::Number;
-use crate::number_list::NumberList;
-use crate::small::{Mode, Seconds, SetpointKind};
-use crate::switch::{LockMode, Switch};
+use class_fields::{
+    Decimal, Level, LockMode, Mode, NodeList, Number, NumberList, Seconds, SetpointKind, Switch,
+};
 use zw_base::NodeId;
 
 /// A message that sets or reports what an actuator does, with its fields. Times of a lock are in minutes and

@@ -1,20 +1,20 @@
 //! From bytes to messages.
 
 ghost use Rattle.std.specs.Prelude.{◌≡◌, IfOk};
-ghost use Rattle.class_core.specs.Reading.{Gives};
+ghost use Rattle.class_fields.specs.Reading.{Gives};
 ghost use Rattle.class_core.specs.MessageReading.{message_at};
 
 use crate::association::{ASSOCIATION, read_association};
 use crate::basic::{BASIC, read_basic};
 use crate::configuration::{CONFIGURATION, read_configuration};
 use crate::door_lock::{DOOR_LOCK, read_door_lock};
-use crate::fault::ClassFault;
 use crate::message::CoreMessage;
 use crate::switch_binary::{SWITCH_BINARY, read_switch_binary};
 use crate::switch_multilevel::{SWITCH_MULTILEVEL, read_switch_multilevel};
 use crate::thermostat_mode::{THERMOSTAT_MODE, read_thermostat_mode};
 use crate::thermostat_setpoint::{THERMOSTAT_SETPOINT, read_thermostat_setpoint};
 use crate::wake_up::{WAKE_UP, read_wake_up};
+use class_fields::ClassFault;
 use std::alloc::Global;
 
 #[tactic(auto, unfolding(crate::specs::MessageReading::message_at))]

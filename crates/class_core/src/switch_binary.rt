@@ -3,9 +3,9 @@
 ghost use Rattle.std.specs.Prelude.{◌≡◌};
 ghost use Rattle.class_core.specs.MessageReading.{in_class, switch_binary_by};
 
-use crate::fault::ClassFault;
-use crate::fields::{byte, switch};
 use crate::message::CoreMessage;
+use class_fields::ClassFault;
+use class_fields::fields::{byte, switch};
 
 /// The class.
 pub const SWITCH_BINARY: u8 = 0x25;

@@ -3,9 +3,9 @@
 ghost use Rattle.std.specs.Prelude.{◌≡◌};
 ghost use Rattle.class_core.specs.MessageReading.{in_class, switch_multilevel_by};
 
-use crate::fault::ClassFault;
-use crate::fields::{byte, level};
 use crate::message::CoreMessage;
+use class_fields::ClassFault;
+use class_fields::fields::{byte, level};
 
 /// The class.
 pub const SWITCH_MULTILEVEL: u8 = 0x26;

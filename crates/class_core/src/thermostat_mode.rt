@@ -3,9 +3,9 @@
 ghost use Rattle.std.specs.Prelude.{◌≡◌};
 ghost use Rattle.class_core.specs.MessageReading.{in_class, thermostat_mode_by};
 
-use crate::fault::ClassFault;
-use crate::fields::{byte, mode};
 use crate::message::CoreMessage;
+use class_fields::ClassFault;
+use class_fields::fields::{byte, mode};
 
 /// The class.
 pub const THERMOSTAT_MODE: u8 = 0x40;

@@ -3,9 +3,9 @@
 ghost use Rattle.std.specs.Prelude.{◌≡◌};
 ghost use Rattle.class_core.specs.MessageReading.{in_class, setpoint_at, thermostat_setpoint_by};
 
-use crate::fault::ClassFault;
-use crate::fields::{byte, decimal, setpoint_kind};
 use crate::message::CoreMessage;
+use class_fields::ClassFault;
+use class_fields::fields::{byte, decimal, setpoint_kind};
 
 /// The class.
 pub const THERMOSTAT_SETPOINT: u8 = 0x43;

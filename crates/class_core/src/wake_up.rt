@@ -3,9 +3,9 @@
 ghost use Rattle.std.specs.Prelude.{◌≡◌};
 ghost use Rattle.class_core.specs.MessageReading.{in_class, wake_up_by};
 
-use crate::fault::ClassFault;
-use crate::fields::{byte, node, seconds};
 use crate::message::CoreMessage;
+use class_fields::ClassFault;
+use class_fields::fields::{byte, node, seconds};
 
 /// The class.
 pub const WAKE_UP: u8 = 0x84;

@@ -7,15 +7,15 @@ use crate::association::{self, ASSOCIATION};
 use crate::basic::{self, BASIC};
 use crate::configuration::{self, CONFIGURATION};
 use crate::door_lock::{self, DOOR_LOCK};
-use crate::forms::{
-    default_and_size, put_decimal, put_nodes, put_number, put_numbers, put_seconds, put_word,
-};
 use crate::message::CoreMessage;
 use crate::switch_binary::{self, SWITCH_BINARY};
 use crate::switch_multilevel::{self, SWITCH_MULTILEVEL};
 use crate::thermostat_mode::{self, THERMOSTAT_MODE};
 use crate::thermostat_setpoint::{self, THERMOSTAT_SETPOINT};
 use crate::wake_up::{self, WAKE_UP};
+use class_fields::forms::{
+    default_and_size, put_decimal, put_nodes, put_number, put_numbers, put_seconds, put_word,
+};
 use std::alloc::Global;
 use zw_base::{Bytes, NoMemory};
 

@@ -1,5 +1,0 @@
-use Rattle.class_core.proofs.ListSteps.{IsNodesSoFar}
-use Rattle.class_core.proofs.node_list.node_list.Given as goal
-
-abbrev pub invariant-loop-i : goal.invariant-loop-i
-invariant-loop-i l = IsNodesSoFar l.at l.bytes l.list l.i

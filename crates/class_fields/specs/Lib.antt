@@ -1,0 +1,4 @@
+pub mod Ranges
+pub mod Cell
+pub mod Fields
+pub mod Reading
