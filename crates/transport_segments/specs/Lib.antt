@@ -1,3 +1,6 @@
 pub mod Segment
 pub mod Parts
 pub mod Faults
+pub mod Places
+pub mod Kept
+pub mod Reassembly

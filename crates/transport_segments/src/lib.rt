@@ -9,7 +9,10 @@
 mod fault;
 mod segment;
 mod cutting;
+mod places;
+mod assembler;
 
+pub use assembler::Taken;
 pub use cutting::{SEGMENT_LEN, cut};
 pub use fault::SegmentFault;
 pub use segment::{ends_datagram, segment_id};

@@ -19,6 +19,7 @@ pub const MAX_DATAGRAM: u16 = 512;
 const CHECK_LEN: usize = 2;
 
 /// A First or Subsequent Segment, taken apart.
+#[derive(Clone, Copy)]
 pub struct Segment<'a> {
     pub id: u8,
     pub size: u16,
