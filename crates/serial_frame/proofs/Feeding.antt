@@ -1,11 +1,12 @@
 -- What a decoder's fields say of its unfinished frame.
-use Rattle.std.proofs.Common.{◌≡◌, ℕ, ◌+◌, ◌≤◌, List, [], ◌∷◌, ◌++◌, length, take, refl, ap, sym, ◌∙◌, subst, arith}
-use Rattle.std.proofs.lemmas.List.{length-take-le}
+use Rattle.std.proofs.Common.{◌≡◌, ℕ, ◌+◌, ◌≤◌, List, [], ◌∷◌, ◌++◌, length, take, refl, ap, sym, ◌∙◌, subst, inl, inr, arith}
+use Rattle.std.proofs.lemmas.List.{length-take-le, append-nil}
 use Rattle.std.specs.Prelude.{◌≢◌}
 use Rattle.serial_frame.specs.Items.{ItemText}
-use Rattle.serial_frame.specs.Stream.{IsUnfinished, Reads, Rest, Feeds}
+use Rattle.serial_frame.specs.Stream.{IsUnfinished, Reads, Rest, Feeds, GoesOn, piece_of}
 use Rattle.serial_frame.specs.declared.item.Item.{Item}
-use Rattle.serial_frame.proofs.First.{one_reading}
+use Rattle.serial_frame.proofs.First.{one_reading, whole_not_unfinished}
+use Rattle.serial_frame.proofs.Streams.{cut_twice, goes-feed}
 
 -- all of the piece is of the unfinished frame
 pub feeds_part : (old new : Rest) (held piece : List ℕ) → held ≡ old.bytes → IsUnfinished (held ++ piece)
@@ -41,3 +42,14 @@ pub only_added : (old : Rest) (piece : List ℕ) (new : Rest) (added before afte
 only_added old piece new added before after e feeds items rest reads =
     let same = one_reading (old.bytes ++ piece) added items new.bytes rest feeds.reads reads in
     (e ∙ ap (λ (t : List Item). before ++ t) same.0, same.1)
+
+-- a front of the piece ends the item
+pub item_front : (old new : Rest) (held piece text rest : List ℕ) (item : Item) → held ≡ old.bytes → IsUnfinished held → ItemText item text
+    → held ++ piece ≡ text ++ rest → new ≡ record { bytes = []; ticks = 0 } → (front : List ℕ) × (piece ≡ front ++ rest) × Feeds old front new (item ∷ []) × GoesOn old (piece_of front) new (item ∷ [])
+item_front old new held piece text rest item same unfinished whole cut e =
+    elim (cut_twice held piece text rest cut) [
+      inl w ↦
+        (let feeds = feeds_whole old new held w.between item [] [] [] text same e whole (sym w.longer ∙ sym (append-nil text)) (tt, refl) in
+        (w.between, w.left, feeds, goes-feed old w.between new (item ∷ []) feeds))
+    | inr w ↦ absurd (whole_not_unfinished item text w.between whole (subst (λ (t : List ℕ). IsUnfinished t) w.longer unfinished))
+    ]

@@ -1,5 +1,5 @@
 -- A stream and its one splitting (Serial API: frame layout; that a frame ends at the fifteenth tick is this project's own rule).
-use Rattle.std.specs.Prelude.{◌≡◌, ◌≢◌, ℕ, Bool, true, false, List, ◌∷◌, [], ◌++◌, ◌+◌, ◌<◌, ◌≤◌, ◌==◌, if◌then◌else◌, ◌⊎◌, length, map}
+use Rattle.std.specs.Prelude.{◌≡◌, ◌≢◌, ℕ, Bool, true, false, Option, Some, None, List, ◌∷◌, [], ◌++◌, ◌+◌, ◌<◌, ◌≤◌, ◌==◌, if◌then◌else◌, ◌⊎◌, length, map}
 use Rattle.serial_frame.specs.Items.{ItemText}
 use Rattle.serial_frame.specs.declared.item.Item.{Item}
 use Rattle.serial_frame.specs.declared.item.Item.TheVariants.{Refused}
@@ -104,6 +104,11 @@ pub record Feeds (old : Rest) (piece : List ℕ) (new : Rest) (added : List Item
 -- Whatever stream was split up to here, it is split with more signals and more items.
 abbrev pub GoesOn : Rest → List Signal → Rest → List Item → Type 0
 GoesOn old signals new added = (stream : List Signal) (items : List Item) → Splits stream items old → Splits (stream ++ signals) (items ++ added) new
+
+-- From the old rest, a front of the piece ends the one item, or the whole piece ends none; each splitting of the stream so far goes on.
+abbrev pub FeedsOne : Rest → List ℕ → Rest → Option Item → List ℕ → Type 0
+FeedsOne old piece new None left = (left ≡ []) × Feeds old piece new [] × GoesOn old (piece_of piece) new []
+FeedsOne old piece new (Some item) left = (front : List ℕ) × (piece ≡ front ++ left) × Feeds old front new (item ∷ []) × GoesOn old (piece_of front) new (item ∷ [])
 
 -- ticks are counted where a frame is unfinished
 abbrev pub next_tick : List ℕ → ℕ → ℕ

@@ -1,7 +1,7 @@
 //! The decoder: a stream of bytes and ticks, split as it comes.
 
-ghost use Rattle.std.specs.Prelude.{◌≡◌, ℕ, List as Items, [], ◌∷◌, ◌++◌, ◌+◌, ◌<◌, ◌≤◌, ◌↔◌, IsTrue, OnOk, OnErr, length, take};
-ghost use Rattle.serial_frame.specs.Stream.{IsUnfinished, IsRest, Reads, Adds, Feeds, GoesOn, no_rest, piece_of, mark, after_tick, aborted_if};
+ghost use Rattle.std.specs.Prelude.{◌≡◌, ℕ, List as Items, [], ◌∷◌, ◌++◌, ◌+◌, ◌<◌, ◌≤◌, ◌↔◌, IsTrue, OnOk, OnErr, IfOk, OnSome, length, take};
+ghost use Rattle.serial_frame.specs.Stream.{IsUnfinished, IsRest, Reads, Adds, Feeds, FeedsOne, GoesOn, no_rest, piece_of, mark, after_tick, aborted_if};
 ghost use Rattle.serial_frame.specs.Search.{running_sum};
 
 use crate::Item;
@@ -81,6 +81,28 @@ impl Decoder {
             }
         }
         Ok(())
+    }
+
+    /// Takes the bytes up to the end of the first item that ends in the piece, or all of them. The answer is that
+    /// item and the bytes that were not taken.
+    pub fn next_item<'a>(
+        &mut self,
+        piece: &'a [u8],
+    ) -> Result<(Option<Item>, &'a [u8]), NoMemory>
+        ensures feeds { IfOk result (λ found. FeedsOne self.old piece.now self.new found.0 found.1.now) }
+        ensures shorter { IfOk result (λ found. OnSome found.0 (length found.1.now < length piece.now)) }
+        ensures err { OnErr result (self.new ≡ self.old) }
+    {
+        match find(self.alloc, &self.held[..self.len], self.sum, piece)? {
+            Found::Part { sum } => {
+                self.extend(piece, sum);
+                Ok((None, &[]))
+            }
+            Found::Whole { item, rest } => {
+                self.replace(&[], SUM_START);
+                Ok((Some(item), rest))
+            }
+        }
     }
 
     /// All of the piece is of the unfinished frame.
