@@ -15,5 +15,6 @@ mod switch;
 
 pub use change::Change;
 pub use device::Device;
-pub use kind::{Kind, Profile};
+pub use kind::{ASSOCIATION, Kind, Profile, SUPERVISION, SWITCH_BINARY};
+pub use report::SUPERVISION_REPORT;
 pub use switch::{Switch, make_switch};

@@ -172,6 +172,13 @@ impl HostNode {
         self.commands.len() as u64
     }
 
+    /// The commands of the sessions begun, in order: the first is that of session 1.
+    pub fn commands(&self) -> &[u32]
+        ensures { result.now ≡ self.now.book.commands }
+    {
+        self.commands.as_slice()
+    }
+
     /// The command of a session, 1 to `sessions`.
     pub fn command_of(&self, session: u64) -> Option<u32>
         ensures { result ≡ command_at self.now.book.commands session }
