@@ -4,9 +4,10 @@ use Rattle.std.proofs.lemmas.List.{append-nil}
 use Rattle.std.specs.Prelude.{nat_lt, Result, Ok, Err, OnErr}
 use Rattle.serial_frame.specs.Stream.{IsUnfinished, Reads, Rest, IsRest, Signal, Splits, piece_of, Feeds, GoesOn, ticks_after}
 use Rattle.serial_frame.specs.declared.item.Item.{Item}
+use Rattle.serial_frame.proofs.First.{one_reading}
 use Rattle.serial_link.specs.State.{Side, LinkState, answer, turn_heard, outs_heard, collisions_after, hear, hear_outs, hear_all}
 use Rattle.serial_link.specs.Rules.{Step, outs_of, SideObeys, Obeys, KeepsRules}
-use Rattle.serial_link.specs.Calls.{heard_steps, Takes}
+use Rattle.serial_link.specs.Calls.{heard_steps, Takes, OnlyTakes}
 use Rattle.serial_link.specs.declared.out.LinkOut.{LinkOut}
 use Rattle.serial_link.specs.declared.turn.Turn.{Turn}
 use Rattle.serial_link.proofs.Counting.{marks_of-piece, piece_of-append, items_heard, no_ticks_heard, hear_all-append, heard_steps-append, outs_of-append}
@@ -100,3 +101,20 @@ takes-append a p b q c x y z first later =
 pub on_err : {T E P : Type 0} (r : Result T E) → P → OnErr r P
 on_err (Ok x) p = tt
 on_err (Err e) p = p
+
+same_link : (a b : LinkState) → a.decoder.bytes ≡ b.decoder.bytes → a.decoder.ticks ≡ b.decoder.ticks → a.side ≡ b.side → a ≡ b
+same_link a b bytes ticks side =
+    ap (λ (t : List ℕ). record { decoder = record { bytes = t; ticks = a.decoder.ticks }; side = a.side }) bytes
+    ∙ ap (λ (n : ℕ). record { decoder = record { bytes = b.decoder.bytes; ticks = n }; side = a.side }) ticks
+    ∙ ap (λ (t : Side). record { decoder = b.decoder; side = t }) side
+
+-- bytes are read in one way, so no other items were heard
+pub only_takes : (old : LinkState) (bytes : List ℕ) (new : LinkState) (before after : List LinkOut) → Takes old bytes new before after → OnlyTakes old bytes new before after
+only_takes old bytes new before after takes items rest reads =
+    let same = one_reading (old.decoder.bytes ++ bytes) takes.items items new.decoder.bytes rest takes.decoder.reads reads in (
+      same_link new (record { decoder = record { bytes = rest; ticks = ticks_after old.decoder.ticks items }; side = hear_all old.side items })
+          same.1
+          (takes.decoder.ticks ∙ ap (λ (t : List Item). ticks_after old.decoder.ticks t) same.0)
+          (takes.side ∙ ap (λ (t : List Item). hear_all old.side t) same.0),
+      takes.outs ∙ ap (λ (t : List Item). before ++ outs_of (heard_steps old.side t)) same.0,
+    )

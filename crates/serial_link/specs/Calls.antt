@@ -1,7 +1,7 @@
 -- What the calls of a link do, by the list of the events that were done.
 use Rattle.std.specs.Prelude.{◌≡◌, ℕ, Option, Some, None, List, [], ◌∷◌, ◌++◌, ◌<◌, ◌==◌, if◌then◌else◌, length}
 use Rattle.std.proofs.Common.{Bor}
-use Rattle.serial_frame.specs.Stream.{Rest, Feeds, piece_of}
+use Rattle.serial_frame.specs.Stream.{Rest, Feeds, piece_of, Reads, ticks_after}
 use Rattle.serial_frame.specs.Frame.{FrameParts}
 use Rattle.serial_frame.specs.declared.item.Item.TheVariants.{Refused}
 use Rattle.serial_frame.specs.declared.item.Refusal.TheVariants.{Aborted}
@@ -40,6 +40,11 @@ pub record Takes (old : LinkState) (bytes : List ℕ) (new : LinkState) (before 
   pub side : new.side ≡ hear_all old.side items
   pub outs : after ≡ before ++ outs_of (heard_steps old.side items)
   pub rules : KeepsRules old (piece_of bytes) (heard_steps old.side items) new
+
+-- Whatever items and unfinished end the bytes read as, these items were heard and answered, and this end is left.
+abbrev pub OnlyTakes : LinkState → List ℕ → LinkState → List LinkOut → List LinkOut → Type 0
+OnlyTakes old bytes new before after = (items : List Item) (rest : List ℕ) → Reads (old.decoder.bytes ++ bytes) items rest →
+    (new ≡ record { decoder = record { bytes = rest; ticks = ticks_after old.decoder.ticks items }; side = hear_all old.side items }) × (after ≡ before ++ outs_of (heard_steps old.side items))
 
 -- a front of these bytes was taken, and the rest was not
 pub record TakesFront (old : LinkState) (bytes : List ℕ) (new : LinkState) (before after : List LinkOut) : Type 0 where

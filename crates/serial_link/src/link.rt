@@ -4,7 +4,7 @@ ghost use Rattle.std.specs.Prelude.{◌≡◌, ◌↔◌, ◌+◌, ◌-◌, ◌^
 ghost use Rattle.serial_frame.specs.Stream.{mark, after_tick};
 ghost use Rattle.serial_link.specs.State.{fresh, IsBusy, IsTurn, answer, turn_heard, outs_heard, collisions_after, hear_all, tick_side, submitted_link};
 ghost use Rattle.serial_link.specs.Rules.{Obeys, KeepsRules, outs_of, asked};
-ghost use Rattle.serial_link.specs.Calls.{Takes, TakesFront, TakesOne, submit_step, aborted_at, tick_steps};
+ghost use Rattle.serial_link.specs.Calls.{Takes, OnlyTakes, TakesFront, TakesOne, submit_step, aborted_at, tick_steps};
 
 use crate::{LinkOut, SubmitFault, Turn, turn};
 use serial_frame::{Decoder, Frame, Item, Refusal, Unit};
@@ -96,6 +96,7 @@ impl Link {
     /// done, and neither is what comes after it.
     pub fn feed(&mut self, piece: &[u8], out: &mut List<LinkOut>) -> Result<(), NoMemory>
         ensures ok { OnOk result (Takes self.old piece.now self.new out.old.items out.new.items) }
+        ensures only { OnOk result (OnlyTakes self.old piece.now self.new out.old.items out.new.items) }
         ensures err { OnErr result (TakesFront self.old piece.now self.new out.old.items out.new.items) }
     {
         let mut left = piece;

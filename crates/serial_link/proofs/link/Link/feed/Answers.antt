@@ -3,7 +3,7 @@ use Rattle.std.proofs.lemmas.List.{append-nil}
 use Rattle.serial_link.specs.State.{LinkState}
 use Rattle.serial_link.specs.Calls.{Takes, TakesFront}
 use Rattle.serial_link.specs.declared.out.LinkOut.{LinkOut}
-use Rattle.serial_link.proofs.Taking.{takes-append, on_err}
+use Rattle.serial_link.proofs.Taking.{takes-append, only_takes, on_err}
 use Rattle.serial_link.proofs.link.Link.feed.Goals as goal
 
 pub loop-rest-init : goal.loop-rest-init
@@ -38,3 +38,6 @@ returns-clause-ok c =
     let all = rw c.in_default.is at c.in_ok-rest.ensures.takes in
     subst (λ (t : List ℕ). Takes c.args.self.now t c.take_item.new.self c.args.out.now.items c.take_item.new.out.items) (sym inv.1)
     (inv.2 c.loop-rest.left.now c.take_item.new.self c.take_item.new.out.items all)
+
+pub returns-clause-only : goal.returns-clause-only
+returns-clause-only c = only_takes c.args.self.now c.args.piece.now c.take_item.new.self c.args.out.now.items c.take_item.new.out.items (returns-clause-ok c)
