@@ -8,7 +8,7 @@ use Rattle.std.specs.Int.Bits.{xor_assoc, xor_self, xor_zero_l}
 use Rattle.std.proofs.lemmas.Nat.{xor_comm}
 use Rattle.std.proofs.lemmas.Bool.{cases_lt}
 use Rattle.serial_frame.specs.Frame.{FrameParts, xor_all, checksum, framed}
-use Rattle.serial_frame.specs.Items.{counted_of, unit_text, IsCounted, ItemText}
+use Rattle.serial_frame.specs.Items.{counted_of, unit_text, IsCounted}
 use Rattle.serial_frame.specs.Stream.{Reads}
 use Rattle.serial_frame.specs.declared.unit.Unit.TheVariants.{Framed}
 use Rattle.serial_frame.specs.declared.item.Item.TheVariants.{Refused}

@@ -1,5 +1,5 @@
 -- What a decoder's fields say of its unfinished frame.
-use Rattle.std.proofs.Common.{◌≡◌, ℕ, ◌+◌, ◌≤◌, List, [], ◌∷◌, ◌++◌, length, take, refl, ap, sym, ◌∙◌, subst, inl, inr, arith}
+use Rattle.std.proofs.Common.{◌≡◌, ℕ, ◌≤◌, List, [], ◌∷◌, ◌++◌, length, take, refl, ap, sym, ◌∙◌, subst, inl, inr}
 use Rattle.std.proofs.lemmas.List.{length-take-le, append-nil}
 use Rattle.std.specs.Prelude.{◌≢◌}
 use Rattle.serial_frame.specs.Items.{ItemText}
@@ -48,8 +48,8 @@ pub item_front : (old new : Rest) (held piece text rest : List ℕ) (item : Item
     → held ++ piece ≡ text ++ rest → new ≡ record { bytes = []; ticks = 0 } → (front : List ℕ) × (piece ≡ front ++ rest) × Feeds old front new (item ∷ []) × GoesOn old (piece_of front) new (item ∷ [])
 item_front old new held piece text rest item same unfinished whole cut e =
     elim (cut_twice held piece text rest cut) [
-      inl w ↦
-        (let feeds = feeds_whole old new held w.between item [] [] [] text same e whole (sym w.longer ∙ sym (append-nil text)) (tt, refl) in
-        (w.between, w.left, feeds, goes-feed old w.between new (item ∷ []) feeds))
-    | inr w ↦ absurd (whole_not_unfinished item text w.between whole (subst (λ (t : List ℕ). IsUnfinished t) w.longer unfinished))
+      | inl w ↦
+          (let feeds = feeds_whole old new held w.between item [] [] [] text same e whole (sym w.longer ∙ sym (append-nil text)) (tt, refl) in
+          (w.between, w.left, feeds, goes-feed old w.between new (item ∷ []) feeds))
+      | inr w ↦ absurd (whole_not_unfinished item text w.between whole (subst (λ (t : List ℕ). IsUnfinished t) w.longer unfinished))
     ]

@@ -1,13 +1,13 @@
 -- Streams of bytes and ticks, and their splittings.
-use Rattle.std.proofs.Common.{◌≡◌, ℕ, ◌+◌, ◌<◌, ◌≤◌, Bool, true, false, List, [], ◌∷◌, ◌++◌, length, refl, ap, sym, ◌∙◌, subst, inl, inr, arith, append_assoc, length-append}
+use Rattle.std.proofs.Common.{◌≡◌, ℕ, ◌+◌, ◌<◌, List, [], ◌∷◌, ◌++◌, refl, ap, sym, ◌∙◌, subst, inl, inr, arith, append_assoc}
 use Rattle.std.proofs.lemmas.List.{append-nil}
-use Rattle.std.specs.Prelude.{map, ◌⊎◌, ◌≢◌}
+use Rattle.std.specs.Prelude.{◌⊎◌, ◌≢◌}
 use Rattle.serial_frame.specs.Items.{ItemText}
-use Rattle.serial_frame.specs.Stream.{IsUnfinished, Reads, Signal, byte, mark, bytes_of, marks_of, Starts, IsIdle, Closes, Spans, Rest, no_rest, IsRest, Leaves, Splits, piece_of, Feeds, GoesOn, ticks_after, next_tick, aborted_if}
+use Rattle.serial_frame.specs.Stream.{IsUnfinished, Reads, Signal, byte, mark, bytes_of, marks_of, Starts, IsIdle, Closes, Spans, Rest, no_rest, Leaves, Splits, piece_of, Feeds, GoesOn, ticks_after}
 use Rattle.serial_frame.specs.declared.item.Item.{Item}
 use Rattle.serial_frame.specs.declared.item.Item.TheVariants.{Refused}
 use Rattle.serial_frame.specs.declared.item.Refusal.TheVariants.{Aborted}
-use Rattle.serial_frame.proofs.First.{whole_not_unfinished, no_longer, reads-unfinished}
+use Rattle.serial_frame.proofs.First.{whole_not_unfinished, no_longer}
 
 pub bytes_of-append : (s t : List Signal) → bytes_of (s ++ t) ≡ bytes_of s ++ bytes_of t
 bytes_of-append [] t = refl

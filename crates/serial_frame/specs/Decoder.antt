@@ -1,7 +1,7 @@
 -- What a decoder keeps true of its fields.
 use Rattle.std.specs.Prelude.{◌≡◌, ◌≤◌, take}
 use Rattle.serial_frame.specs.Search.{running_sum}
-use Rattle.serial_frame.specs.Stream.{Rest, IsRest}
+use Rattle.serial_frame.specs.Stream.{IsRest}
 use Rattle.serial_frame.specs.declared.decoder.Decoder.TheInside.{Inside}
 
 -- what is held is an unfinished frame, with the sum over it

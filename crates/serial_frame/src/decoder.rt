@@ -44,7 +44,8 @@ impl Model for Decoder {
 impl Decoder {
     /// A decoder at the beginning of a stream. It takes no memory.
     pub fn new(alloc: Global) -> Decoder
-        ensures { result ≡ no_rest }
+        ensures state { result ≡ no_rest }
+        ensures is_rest { IsRest result }
     {
         Decoder {
             alloc,
@@ -71,6 +72,7 @@ impl Decoder {
             (out.new.items ≡ out.old.items ++ items) × (self.new.bytes ≡ rest)) }
         // So they go on with each splitting of the stream so far.
         ensures stream { OnOk result (Adds out.old.items out.new.items (GoesOn self.old (piece_of piece.now) self.new)) }
+        ensures is_rest { IsRest self.new }
         ensures err { OnErr result ((self.new ≡ self.old) × (out.new.items ≡ out.old.items)) }
     {
         match find(self.alloc, &self.held[..self.len], self.sum, piece)? {
@@ -85,12 +87,10 @@ impl Decoder {
 
     /// Takes the bytes up to the end of the first item that ends in the piece, or all of them. The answer is that
     /// item and the bytes that were not taken.
-    pub fn next_item<'a>(
-        &mut self,
-        piece: &'a [u8],
-    ) -> Result<(Option<Item>, &'a [u8]), NoMemory>
+    pub fn next_item<'a>(&mut self, piece: &'a [u8]) -> Result<(Option<Item>, &'a [u8]), NoMemory>
         ensures feeds { IfOk result (λ found. FeedsOne self.old piece.now self.new found.0 found.1.now) }
         ensures shorter { IfOk result (λ found. OnSome found.0 (length found.1.now < length piece.now)) }
+        ensures is_rest { IsRest self.new }
         ensures err { OnErr result (self.new ≡ self.old) }
     {
         match find(self.alloc, &self.held[..self.len], self.sum, piece)? {
@@ -110,7 +110,8 @@ impl Decoder {
         requires unfinished { IsUnfinished (self.old.bytes ++ piece.now) }
         requires sum { sum ≡ running_sum (self.old.bytes ++ piece.now) }
         requires room { length (self.old.bytes ++ piece.now) ≤ 256 }
-        ensures { self.new ≡ record { bytes = self.old.bytes ++ piece.now; ticks = self.old.ticks } }
+        ensures state { self.new ≡ record { bytes = self.old.bytes ++ piece.now; ticks = self.old.ticks } }
+        ensures is_rest { IsRest self.new }
     {
         put_at(&mut self.held, self.len, piece);
         self.len += piece.len();
@@ -122,7 +123,8 @@ impl Decoder {
         requires unfinished { IsUnfinished tail.now }
         requires sum { sum ≡ running_sum tail.now }
         requires room { length tail.now ≤ 256 }
-        ensures { self.new ≡ record { bytes = tail.now; ticks = 0 } }
+        ensures state { self.new ≡ record { bytes = tail.now; ticks = 0 } }
+        ensures is_rest { IsRest self.new }
     {
         put_at(&mut self.held, 0, tail);
         self.len = tail.len();
@@ -135,6 +137,7 @@ impl Decoder {
     pub fn tick(&mut self) -> bool
         ensures aborts { IsTrue result ↔ (self.old.ticks ≡ 14) }
         ensures after { self.new ≡ after_tick self.old }
+        ensures is_rest { IsRest self.new }
         ensures stream { GoesOn self.old (mark ∷ []) self.new (aborted_if result) }
     {
         if self.len == 0 {

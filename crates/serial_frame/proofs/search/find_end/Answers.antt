@@ -1,4 +1,4 @@
-use Rattle.std.proofs.Common.{◌≡◌, ℕ, ◌+◌, ◌-◌, ◌++◌, ◌∷◌, length, take, refl, ap, sym, ◌∙◌, arith, length-append, length-take-le}
+use Rattle.std.proofs.Common.{◌≡◌, ◌+◌, ◌-◌, ◌++◌, ◌∷◌, length, take, refl, ap, sym, ◌∙◌, arith, length-append, length-take-le}
 use Rattle.std.specs.Prelude.{bit_xor}
 use Rattle.serial_frame.specs.Frame.{xor_all}
 use Rattle.serial_frame.proofs.Sums.{sum_in_parts}

@@ -1,4 +1,4 @@
-use Rattle.std.proofs.Common.{◌≡◌, ◌≤◌, ◌++◌, length}
+use Rattle.std.proofs.Common.{◌++◌}
 use Rattle.std.specs.Vec.Iter.{into_iter_items}
 use Rattle.serial_frame.proofs.Moving.{Moves}
 use Rattle.serial_frame.proofs.split.put_all.Given as goal

@@ -1,4 +1,4 @@
-use Rattle.std.proofs.Common.{◌≡◌, List, ℕ, [], ◌∷◌, ◌++◌, subst, refl}
+use Rattle.std.proofs.Common.{List, ℕ, [], ◌++◌, subst, refl}
 use Rattle.std.proofs.lemmas.List.{append-nil}
 use Rattle.serial_frame.specs.Stream.{Reads}
 use Rattle.serial_frame.specs.Search.{Finds, Ends}

@@ -1,4 +1,4 @@
-use Rattle.std.proofs.Common.{◌≡◌, ℕ, List, ◌++◌, length}
+use Rattle.std.proofs.Common.{ℕ, List, ◌++◌, length}
 use Rattle.serial_frame.specs.Stream.{Adds, Reads}
 use Rattle.serial_frame.specs.declared.item.Item.{Item}
 use Rattle.serial_frame.proofs.split.split_all.Given as goal

@@ -1,6 +1,6 @@
-use Rattle.std.proofs.Common.{◌≡◌, List, ℕ, [], ◌∷◌, ◌++◌, sym, ◌∙◌, ap, append_assoc}
+use Rattle.std.proofs.Common.{[], ◌∷◌, sym, ◌∙◌, ap, append_assoc}
 use Rattle.std.proofs.lemmas.List.{append-nil}
-use Rattle.serial_frame.specs.Stream.{Rest, Feeds, GoesOn, piece_of}
+use Rattle.serial_frame.specs.Stream.{Rest, Feeds}
 use Rattle.serial_frame.proofs.First.{reads-unfinished}
 use Rattle.serial_frame.proofs.Feeding.{feeds_part, feeds_whole, only_added}
 use Rattle.serial_frame.proofs.Streams.{goes-feed}
@@ -16,7 +16,7 @@ part : (c : goal.After-extend) → Feeds c.args.self.now c.args.piece.now c.exte
 part c =
     let found = rw c.in-Part.is at c.in_ok-sum.ensures in
     let held = ap (λ (r : Rest). r.bytes) c.self.view_is in
-    feeds_part c.args.self.now c.extend.new.self _ c.args.piece.now held found.0 c.extend.ensures
+    feeds_part c.args.self.now c.extend.new.self _ c.args.piece.now held found.0 c.extend.ensures.state
 
 pub returns-in-Part-clause-only : goal.returns-in-Part-clause-only
 returns-in-Part-clause-only c =
@@ -34,7 +34,7 @@ returns-in_ok-sum-in-Whole-clause-feeds c =
       c.in-Whole.item ∷ ends.0,
       ends.1 ∙ append_assoc c.args.out.now.items (c.in-Whole.item ∷ []) ends.0,
       feeds_whole c.args.self.now c.replace.new.self _ c.args.piece.now c.in-Whole.item c.in-Whole.rest.now c.in_ok-sum-in-Whole.tail.now ends.0 found.0
-          held c.replace.ensures found.1 found.2 ends.2.reads,
+          held c.replace.ensures.state found.1 found.2 ends.2.reads,
     )
 
 pub returns-in_ok-sum-in-Whole-clause-only : goal.returns-in_ok-sum-in-Whole-clause-only

@@ -1,5 +1,5 @@
-use Rattle.std.proofs.Common.{◌≡◌, ◌+◌, ◌<◌, ◌≤◌, List, ℕ, [], ◌∷◌, ◌++◌, length, sym, ◌∙◌, ap, arith}
-use Rattle.serial_frame.specs.Stream.{Rest, GoesOn}
+use Rattle.std.proofs.Common.{◌≡◌, ◌+◌, ap, arith}
+use Rattle.serial_frame.specs.Stream.{Rest}
 use Rattle.serial_frame.proofs.Feeding.{nothing_held, something_held}
 use Rattle.serial_frame.proofs.Streams.{goes-idle, goes-tick, goes-abort}
 use Rattle.serial_frame.proofs.decoder.Decoder.tick.Goals as goal
@@ -14,7 +14,7 @@ returns-then-self-lt-ABORT_TICKS-clause-stream c =
     let ticks : c.self.inside.ticks ≡ c.args.self.now.ticks = ap (λ (r : Rest). r.ticks) c.self.view_is in
     goes-tick c.args.self.now _
     (something_held c.self.inside.len c.self.inside.held _ bytes (omega (arith, c.self.told, c.self.invariant.room)) c.if-self-eq0.false)
-    bytes (ap (λ n. n + 1) ticks) c.if-self-lt-ABORT_TICKS.true
+    bytes (ap (λ n. n + 1) ticks) (omega (arith, c.if-self-lt-ABORT_TICKS.true))
 
 pub returns-clause-stream : goal.returns-clause-stream
 returns-clause-stream c =
