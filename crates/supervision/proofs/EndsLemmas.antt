@@ -1,5 +1,5 @@
 -- How each event keeps what holds of both ends, and what an id names.
-use Rattle.std.proofs.Common.{true, false, ◌≡◌, ◌≢◌, ℕ, zero, suc, ◌+◌, ◌<◌, ◌≤◌, ◌⊎◌, List, [], ◌∷◌, ◌++◌, length, Some, None, refl, sym, subst, ◌∙◌, inl, inr, arith, length-append}
+use Rattle.std.proofs.Common.{ap, true, false, ◌≡◌, ◌≢◌, ℕ, zero, suc, ◌+◌, ◌<◌, ◌≤◌, ◌⊎◌, List, [], ◌∷◌, ◌++◌, length, Some, None, refl, sym, subst, ◌∙◌, inl, inr, arith, length-append}
 use Rattle.std.specs.Prelude.{if◌then◌else◌, slice_get}
 use Rattle.std.proofs.lemmas.Bool.Decides.{nat_tests}
 use Rattle.std.proofs.lemmas.Option.{slice_get_within}
@@ -7,7 +7,7 @@ use Rattle.supervision.specs.Session.{wire_id}
 use Rattle.supervision.specs.Host.{HostBook, no_sessions, begun_of, open_session, command_at, begins, with_attempts, told_of, after_report}
 use Rattle.supervision.specs.Device.{Taken, none_taken, is_new, is_again, heard_of, after_get, finished}
 use Rattle.supervision.specs.Ends.{Get, Report, IsSettled, EndsAgree, GetFits, ReportFits}
-use Rattle.supervision.specs.declared.session.TheConstants.{WORKING}
+use Rattle.supervision.specs.declared.session.TheConstants.{SUCCESS, WORKING}
 use Rattle.supervision.specs.declared.host_node.Told.TheVariants.{Final, Working as still_working, Old as unknown}
 use Rattle.supervision.specs.declared.host_node.Told.{Told}
 use Rattle.supervision.specs.declared.device_book.Heard.TheVariants.{New, Again, Old}
@@ -334,3 +334,23 @@ get_near host device get agree fits fresh = (get_in_time host device get agree f
 pub report_near : (host : HostBook) (device : Taken) (report : Report) → ReportFits (begun_of host) device report → begun_of host ≤ report.begun + 62 → begun_of host ≤ report.session + 63
 report_near host device report fits fresh =
     let before : report.begun ≤ report.session + 1 = fits.before_second in omega arith
+
+-- a segment that was first sent at most 13 sessions ago is of one of 16 in a row
+pub segment_near : (host : HostBook) (device : Taken) (get : Get) → EndsAgree host device → GetFits host.commands get → begun_of host ≤ get.begun + 13 → device.taken + 1 ≤ get.session + 15
+segment_near host device get agree fits fresh =
+    let below : device.taken ≤ begun_of host = agree.not_ahead in
+    let before : get.begun ≤ get.session + 1 = fits.before_second in
+    omega arith
+
+-- one session more: a Get that is heard then is taken for the session 64 further on
+pub late_get : (session : ℕ) → heard_of (record { taken = session + 63; status = SUCCESS }) (wire_id session) ≡ New (session + 64)
+late_get session =
+    let same : wire_id session ≡ wire_id (session + 64) = omega arith in grind (arith, nat_tests)
+
+-- and so is a report
+pub late_report : (commands : List ℕ) (session : ℕ) → length commands ≡ session + 64 → told_of (record { commands = commands; outcome = None; attempts = 0 }) (wire_id session) SUCCESS ≡ Final (session + 64)
+late_report [] session e = absurd (omega arith)
+late_report (command ∷ more) session e =
+    let same : wire_id session ≡ wire_id (session + 64) = omega arith in
+    let named : wire_id session ≡ wire_id (length (command ∷ more)) = same ∙ ap wire_id (sym e) in
+    grind (arith, nat_tests)

@@ -10,7 +10,7 @@ use Rattle.supervision.specs.Session.{wire_id, is_status}
 use Rattle.supervision.specs.Host.{HostBook, begun_of, open_session, command_at, begins, with_attempts, told_of}
 use Rattle.supervision.specs.Device.{Taken, heard_of, finished}
 use Rattle.supervision.specs.Ends.{Get, Report, EndsAgree, GetFits, ReportFits}
-use Rattle.supervision.specs.Once.{Ended, IsEarlier, IsBegun, World, Event, start, begin_when, send_when, take_when, hear_get, finish_when, answer_when, tell_when, hear_report, happens, run}
+use Rattle.supervision.specs.Once.{Ended, ended_as, IsEarlier, IsBegun, World, Event, start, begin_when, send_when, take_when, hear_get, finish_when, answer_when, tell_when, hear_report, happens, run}
 use Rattle.supervision.specs.Once.Event.{Begin, Attempts, Send, Get_comes, Finish, Answer, Report_comes}
 use Rattle.supervision.specs.declared.session.TheConstants.{WORKING}
 use Rattle.supervision.specs.declared.host_node.Told.{Told}
@@ -250,9 +250,6 @@ ToldFits-told host done told next fits none last is = record {
   each = λ session from_one below. Any-append_left _ told next (fits.each session from_one below);
   last = λ status e. Any-push _ told next last;
 }
-
-abbrev ended_as : ℕ → ℕ → ℕ → Ended
-ended_as session command status = record { session = session; command = command; status = status }
 
 Facts-told : (w : World) (report : Report) (session : ℕ) → Facts w → ReportFits (begun_of w.host) w.device report → session ≡ report.session → open_session w.host ≡ Some report.session → report.session ≡ w.device.taken → report.status ≢ WORKING → w.device.status ≡ report.status → Facts (record w { host = record w.host { outcome = Some report.status }; told = w.told ++ record { session = session; command = unwrap_or (command_at w.host.commands session) 0; status = report.status } ∷ [] })
 Facts-told w report session facts fits same is_open of_last final tells =

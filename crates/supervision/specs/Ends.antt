@@ -25,6 +25,10 @@ is_fresh begun_now begun_then = nat_le begun_now (begun_then + 61)
 abbrev pub is_fresh_on_line : ℕ → ℕ → Bool
 is_fresh_on_line begun_now begun_then = nat_le begun_now (begun_then + 62)
 
+-- the air brings a segment of a long message while at most 13 sessions have begun since it was first sent
+abbrev pub is_fresh_segment : ℕ → ℕ → Bool
+is_fresh_segment begun_now begun_then = nat_le begun_now (begun_then + 13)
+
 -- the last session ended with this status: the device took it, and kept that status
 pub record IsSettled (host : HostBook) (device : Taken) (status : ℕ) : Type 0 where
   pub begun : 0 < begun_of host

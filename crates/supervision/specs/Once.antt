@@ -5,7 +5,7 @@ use Rattle.supervision.specs.Session.{wire_id, is_status}
 use Rattle.supervision.specs.Host.{HostBook, no_sessions, begun_of, open_session, command_at, begins, told_of, after_report, with_attempts}
 use Rattle.supervision.specs.Device.{Taken, none_taken, heard_of, after_get, finished}
 use Rattle.supervision.specs.Ends.{Get, Report, is_fresh, is_fresh_on_line}
-use Rattle.supervision.specs.declared.session.TheConstants.{SUCCESS, WORKING}
+use Rattle.supervision.specs.declared.session.TheConstants.{SUCCESS, WORKING, FAIL}
 use Rattle.supervision.specs.declared.host_node.Told.{Told}
 use Rattle.supervision.specs.declared.host_node.Told.TheVariants.{Final, Working as still_working, Old as unknown}
 use Rattle.supervision.specs.declared.device_book.Heard.{Heard}
@@ -190,3 +190,14 @@ RefusalIsNoChange w told = told.status ≢ SUCCESS → All (λ change. change.se
 -- each session before the last has its end
 abbrev pub EachEndedBefore : World → Type 0
 EachEndedBefore w = (session : ℕ) → 0 < session → session < begun_of w.host → Any (λ e. e.session ≡ session) w.told
+
+-- a run: the first report is lost, the Get is repeated and answered again, and both are heard late once more
+abbrev pub worked_events : List Event
+worked_events =
+    Begin 7 ∷ Send 1 ∷ Get_comes 0 ∷ Finish SUCCESS ∷ Answer ∷ Send 1 ∷ Get_comes 1 ∷ Answer ∷ Report_comes 1 ∷
+    Begin 8 ∷ Send 2 ∷ Get_comes 0 ∷ Get_comes 2 ∷ Report_comes 0 ∷ Finish FAIL ∷ Get_comes 1 ∷ Answer ∷ Report_comes 2 ∷
+    Begin 9 ∷ Send 3 ∷ Get_comes 3 ∷ Finish SUCCESS ∷ []
+
+-- a session that ended so
+abbrev pub ended_as : ℕ → ℕ → ℕ → Ended
+ended_as session command status = record { session = session; command = command; status = status }

@@ -4,11 +4,13 @@
 
 ghost use Rattle.std.specs.Prelude.{◌≡◌, ℕ, ◌+◌, ◌<◌, ◌≤◌, List, [], ◌∷◌, ◌++◌, length, All, AllPairs, Contains, IsTrue, Some, None};
 ghost use Rattle.supervision.specs.Session.{wire_id};
-ghost use Rattle.supervision.specs.Host.{HostBook, no_sessions, begun_of, open_session, command_at, begins, with_attempts, after_report};
-ghost use Rattle.supervision.specs.Device.{Taken, none_taken, after_get, finished};
-ghost use Rattle.supervision.specs.Ends.{Get, Report, EndsAgree, GetFits, ReportFits, is_fresh, is_fresh_on_line};
-ghost use Rattle.supervision.specs.declared.session.TheConstants.{WORKING};
-ghost use Rattle.supervision.specs.Once.{Always, IsEarlier, IsBegun, GetsNameOne, ReportsNameOne, MayHearGet, MayHearReport, KnowsEnd, SuccessIsChange, RefusalIsNoChange, EachEndedBefore, changes};
+ghost use Rattle.supervision.specs.Host.{HostBook, no_sessions, begun_of, open_session, command_at, begins, with_attempts, told_of, after_report};
+ghost use Rattle.supervision.specs.Device.{Taken, none_taken, heard_of, after_get, finished};
+ghost use Rattle.supervision.specs.Ends.{Get, Report, EndsAgree, GetFits, ReportFits, is_fresh, is_fresh_on_line, is_fresh_segment};
+ghost use Rattle.supervision.specs.declared.session.TheConstants.{SUCCESS, WORKING, FAIL};
+ghost use Rattle.supervision.specs.Once.{Always, IsEarlier, IsBegun, GetsNameOne, ReportsNameOne, MayHearGet, MayHearReport, KnowsEnd, SuccessIsChange, RefusalIsNoChange, EachEndedBefore, changes, run, start, worked_events, ended_as};
+
+use crate::{Heard, Told};
 
 /// What holds of both ends whatever happens between them.
 pub fn once_only()
@@ -53,10 +55,13 @@ pub fn both_ends()
         EndsAgree host device → ReportFits (begun_of host) device report → begun_of host ≤ report.session + 63 →
         EndsAgree (after_report host (wire_id report.session) report.status) device }
 
-    // A fresh message is one of 64 sessions in a row.
+    // A fresh message is of one of 64 sessions in a row, and a fresh segment of one of 16.
     ensures get_near { (host : HostBook) (device : Taken) (get : Get) →
         EndsAgree host device → GetFits host.commands get → IsTrue (is_fresh (begun_of host) get.begun) →
         device.taken + 1 ≤ get.session + 63 }
+    ensures segment_near { (host : HostBook) (device : Taken) (get : Get) →
+        EndsAgree host device → GetFits host.commands get → IsTrue (is_fresh_segment (begun_of host) get.begun) →
+        device.taken + 1 ≤ get.session + 15 }
     ensures report_near { (host : HostBook) (device : Taken) (report : Report) →
         ReportFits (begun_of host) device report → IsTrue (is_fresh_on_line (begun_of host) report.begun) →
         begun_of host ≤ report.session + 63 }
@@ -76,4 +81,19 @@ pub fn both_ends()
         ReportFits begun device report → ReportFits begun (after_get device id) report }
     ensures report_kept_on_finish { (begun : ℕ) (device : Taken) (status : ℕ) (report : Report) →
         device.status ≡ WORKING → ReportFits begun device report → ReportFits begun (finished device status) report }
+{}
+
+/// The ages are exact: a message that is heard one session later can be taken for the session 64 further on.
+pub fn ages_are_exact()
+    ensures get { (session : ℕ) →
+        heard_of (record { taken = session + 63; status = SUCCESS }) (wire_id session) ≡ Heard.New (session + 64) }
+    ensures report { (commands : List ℕ) (session : ℕ) → length commands ≡ session + 64 →
+        told_of (record { commands = commands; outcome = None; attempts = 0 }) (wire_id session) SUCCESS
+        ≡ Told.Final (session + 64) }
+{}
+
+/// A worked run: the changes that it makes, and what the sender is told.
+pub fn worked_run()
+    ensures changes { changes (run worked_events start) ≡ ended_as 1 7 SUCCESS ∷ ended_as 3 9 SUCCESS ∷ [] }
+    ensures told { (run worked_events start).told ≡ ended_as 1 7 SUCCESS ∷ ended_as 2 8 FAIL ∷ [] }
 {}

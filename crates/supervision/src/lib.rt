@@ -17,5 +17,5 @@ mod tests;
 
 pub use device_book::{DeviceBook, Heard};
 pub use host_node::{BeginFault, HostNode, MAX_ATTEMPTS, Told};
-pub use laws::{both_ends, once_only};
+pub use laws::{ages_are_exact, both_ends, once_only, worked_run};
 pub use session::{FAIL, NO_SUPPORT, SUCCESS, WIRE_IDS, WORKING, session_id};

@@ -1,7 +1,7 @@
 -- Each clause is a lemma on one call.
 use Rattle.std.proofs.Common.{arith}
 use Rattle.std.proofs.lemmas.Bool.Decides.{nat_tests}
-use Rattle.supervision.proofs.EndsLemmas.{EndsAgree-start, EndsAgree-begins, EndsAgree-attempts, EndsAgree-heard, EndsAgree-finished, EndsAgree-reported, get_near, report_near, GetFits-sent, GetFits-begins, ReportFits-sent, ReportFits-begins, ReportFits-heard, ReportFits-finished}
+use Rattle.supervision.proofs.EndsLemmas.{EndsAgree-start, EndsAgree-begins, EndsAgree-attempts, EndsAgree-heard, EndsAgree-finished, EndsAgree-reported, get_near, segment_near, report_near, GetFits-sent, GetFits-begins, ReportFits-sent, ReportFits-begins, ReportFits-heard, ReportFits-finished}
 use Rattle.supervision.proofs.laws.both_ends.Goals as goal
 
 pub returns-clause-at_first : goal.returns-clause-at_first
@@ -45,3 +45,6 @@ returns-clause-report_kept_on_hear c = ReportFits-heard
 
 pub returns-clause-report_kept_on_finish : goal.returns-clause-report_kept_on_finish
 returns-clause-report_kept_on_finish c = ReportFits-finished
+
+pub returns-clause-segment_near : goal.returns-clause-segment_near
+returns-clause-segment_near c = λ host device get agree fits fresh. segment_near host device get agree fits (grind (arith, nat_tests))

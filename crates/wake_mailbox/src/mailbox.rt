@@ -1,0 +1,134 @@
+//! A queue of command numbers that is bounded.
+
+ghost use Rattle.std.specs.Prelude.{◌≡◌, ◌++◌, ◌∷◌, [], ◌<◌, ◌≤◌, ◌↔◌, length, slice_get, drop, Contains, ◌==◌, position, IsSome, IsTrue, IsOk, IsErr, IfOk, OnOk, OnErr};
+ghost use Rattle.wake_mailbox.specs.Mailbox.{nothing_waits, holding, TakesOut};
+
+use std::alloc::Global;
+use std::marker::Model;
+use zw_base::NoMemory;
+
+/// The most commands that wait for one node.
+pub const CAPACITY: usize = 16;
+
+/// Sixteen commands wait already.
+#[derive(Clone, Copy, Debug, PartialEq, Eq)]
+pub struct Full;
+
+/// That command does not wait.
+#[derive(Clone, Copy, Debug, PartialEq, Eq)]
+pub struct NotWaiting;
+
+/// The commands that wait for a node, by number, and whether the node counts as awake. Contracts see the two.
+#[derive(Debug, Drop)]
+pub struct Mailbox {
+    commands: Vec<u32>,
+    awake: bool,
+}
+
+impl Model for Mailbox {
+    ghost use Rattle.std.specs.Prelude.{◌≤◌, vec_len, vec_capacity};
+    ghost use Rattle.wake_mailbox.specs.Mailbox.{Waiting};
+
+    ghost Value = { Waiting };
+
+    ghost view = { λ m. record { commands = m.commands.items; awake = m.awake } };
+
+    ghost invariant = { λ m. (vec_len m.commands ≤ 16) × (16 ≤ vec_capacity m.commands) };
+}
+
+impl Mailbox {
+    /// Makes the room for sixteen commands. None waits, and the node counts as asleep.
+    pub fn new(alloc: Global) -> Result<Mailbox, NoMemory>
+        ensures { IfOk result (λ mailbox. mailbox ≡ nothing_waits) }
+    {
+        Ok(Mailbox {
+            commands: Vec::with_capacity(alloc, CAPACITY)?,
+            awake: false,
+        })
+    }
+
+    /// Puts a command behind those that wait.
+    pub fn put(&mut self, command: u32) -> Result<(), Full>
+        ensures full { IsErr result ↔ (length self.old.commands ≡ CAPACITY) }
+        ensures ok { OnOk result (self.new ≡ holding self.old (self.old.commands ++ command ∷ [])) }
+        ensures err { OnErr result (self.new ≡ self.old) }
+    {
+        if self.commands.len() == CAPACITY {
+            return Err(Full);
+        }
+        self.commands.push_reserved(command);
+        Ok(())
+    }
+
+    /// The command that has waited longest.
+    pub fn front(&self) -> Option<u32>
+        ensures { result ≡ slice_get self.now.commands 0 }
+    {
+        self.commands.first().copied()
+    }
+
+    /// Takes out the command that has waited longest.
+    pub fn pop(&mut self) -> Option<u32>
+        ensures front { result ≡ slice_get self.old.commands 0 }
+        ensures rest { self.new ≡ holding self.old (drop 1 self.old.commands) }
+    {
+        if self.commands.is_empty() {
+            None
+        } else {
+            Some(self.commands.remove(0))
+        }
+    }
+
+    /// Takes out the command of that number.
+    pub fn cancel(&mut self, command: u32) -> Result<(), NotWaiting>
+        ensures waits { IsOk result ↔ Contains self.old.commands command }
+        ensures ok { OnOk result (TakesOut self.old.commands self.new.commands command) }
+        ensures err { OnErr result (self.new.commands ≡ self.old.commands) }
+        ensures awake { self.new.awake ≡ self.old.awake }
+    {
+        match place_of(&self.commands, command) {
+            Some(place) => {
+                self.commands.remove(place);
+                Ok(())
+            }
+            None => Err(NotWaiting),
+        }
+    }
+
+    /// How many commands wait, 0 to 16.
+    pub fn len(&self) -> u8
+        ensures count { result ≡ length self.now.commands }
+        ensures bound { result ≤ 16 }
+    {
+        self.commands.len() as u8
+    }
+
+    /// Whether no command waits.
+    pub fn is_empty(&self) -> bool
+        ensures { IsTrue result ↔ (self.now.commands ≡ []) }
+    {
+        self.commands.is_empty()
+    }
+
+    /// Counts the node as awake or asleep from now on.
+    pub fn set_awake(&mut self, awake: bool)
+        ensures { self.new ≡ record self.old { awake = awake } }
+    {
+        self.awake = awake;
+    }
+
+    /// Whether the node counts as awake.
+    pub fn is_awake(&self) -> bool
+        ensures { result ≡ self.now.awake }
+    {
+        self.awake
+    }
+}
+
+/// Where the command waits first, from 0.
+fn place_of(commands: &[u32], command: u32) -> Option<usize>
+    ensures waits { IsSome result ↔ Contains commands.now command }
+    ensures place { result ≡ position (λ waiting. waiting == command) commands.now }
+{
+    commands.iter().position(|waiting| *waiting == command)
+}
