@@ -1,3 +1,4 @@
 pub mod Steps
 pub mod FieldLaws
 pub mod ListSteps
+pub mod WrittenLaws
