@@ -8,21 +8,14 @@ use Rattle.class_fields.specs.declared.fault.ClassFault.TheVariants.{Empty, Unkn
 use Rattle.class_fields.specs.Ranges.{is_level, is_node, bytes_in, size_of, value_of, Scaled, Numbers}
 use Rattle.class_fields.specs.Cell.{Cell, Whole, Limited, Divided, StandsAt, Stand, bits}
 use Rattle.class_fields.specs.Fields.{part, flag, scaled, nodes, word, three}
-use Rattle.class_fields.specs.Reading.{◌>>=◌, Gives, byte_at, limited_at, bits_at, switch_at, lock_at, word_at, three_at, number_at, numbers_at, size_at, size_byte_at, flag_at, scaled_at, nodes_at}
+use Rattle.class_fields.specs.Reading.{◌>>=◌, Gives, byte_at, limited_at, bits_at, switch_at, lock_at, word_at, three_at, number_at, numbers_at, size_at, size_byte_at, flag_at, scaled_at, nodes_at, in_class}
+use Rattle.class_fields.proofs.Heads.{Headed, narrowed, class_takes}
 use Rattle.class_fields.proofs.Steps.{bind_ok, chosen, ok_is, not_ok, some_is, made_of}
 use Rattle.class_fields.proofs.FieldLaws.{IsBytes, byte_takes, byte_again, limited_takes, limited_again, switch_takes, switch_again, lock_takes, lock_again, HasBits, bits_takes, bits_again, has_of, size_takes, size_again, size_byte_takes, size_byte_again, flag_takes, flag_again, word_takes, word_again, three_takes, three_again, number_takes, number_again, scaled_takes, scaled_again, numbers_take, numbers_again, nodes_take, nodes_again}
 use Rattle.class_core.specs.declared.message.CoreMessage.{CoreMessage}
 use Rattle.class_core.specs.declared.message.CoreMessage.TheVariants.{BasicSet, BasicGet, BasicReport, SwitchBinarySet, SwitchBinaryGet, SwitchBinaryReport, SwitchMultilevelSet, SwitchMultilevelGet, SwitchMultilevelReport, ThermostatModeSet, ThermostatModeGet, ThermostatModeReport, ThermostatSetpointSet, ThermostatSetpointGet, ThermostatSetpointReport, DoorLockOperationSet, DoorLockOperationGet, DoorLockOperationReport, ConfigurationSet, ConfigurationGet, ConfigurationReport, ConfigurationBulkSet, AssociationSet, AssociationRemove, WakeUpIntervalSet}
 use Rattle.class_core.specs.Spelling.{Spells}
-use Rattle.class_core.specs.MessageReading.{basic_by, switch_binary_by, switch_multilevel_by, thermostat_mode_by, setpoint_at, thermostat_setpoint_by, lock_report_at, door_lock_by, configuration_set_at, configuration_report_at, configuration_bulk_at, configuration_by, association_at, association_by, interval_set_at, wake_up_by, in_class, message_by, message_at}
-
--- the class and the command that stand at the front
-record Headed (bytes : List ℕ) (class command : ℕ) : Type 0 where
-  class_is : slice_get bytes 0 ≡ Some class
-  command_is : slice_get bytes 1 ≡ Some command
-
-narrowed : (bytes : List ℕ) (class command n : ℕ) → Headed bytes class command → eqb command n ≡ true → Headed bytes class n
-narrowed bytes class command n h e = record { class_is = h.class_is; command_is = h.command_is ∙ ap Some (eqb-true _ _ e) }
+use Rattle.class_core.specs.MessageReading.{basic_by, switch_binary_by, switch_multilevel_by, thermostat_mode_by, setpoint_at, thermostat_setpoint_by, lock_report_at, door_lock_by, configuration_set_at, configuration_report_at, configuration_bulk_at, configuration_by, association_at, association_by, interval_set_at, wake_up_by, message_by, message_at}
 
 -- ---- rows of several fields
 
@@ -241,50 +234,43 @@ association_takes bytes c m fits h e =
 
 -- ---- the class
 
-class_takes : (bytes : List ℕ) (class : ℕ) (m : CoreMessage) (by : List ℕ → ℕ → Result CoreMessage ClassFault) → slice_get bytes 0 ≡ Some class
-    → ((c : ℕ) → Headed bytes class c → by bytes c ≡ Ok m → Spells m bytes) → in_class by bytes ≡ Ok m → Spells m bytes
-unfolding in_class
-class_takes bytes class m by s takes e =
-    let a = bind_ok (byte_at 1 bytes) (by bytes) m e in
-    takes a.0 (record { class_is = s; command_is = byte_takes 1 bytes a.0 a.1 }) a.2
-
 by_takes : (bytes : List ℕ) (class : ℕ) (m : CoreMessage) → IsBytes bytes → slice_get bytes 0 ≡ Some class → message_by bytes class ≡ Ok m → Spells m bytes
 by_takes bytes class m fits s e =
     elim (chosen (eqb class 0x20) _ _ _ e) [
-      | inl a ↦ class_takes bytes 0x20 m basic_by (s ∙ ap Some (eqb-true _ _ a.0)) (λ k. basic_takes bytes k m fits) a.1
+      | inl a ↦ class_takes (λ (x : CoreMessage). Spells x bytes) bytes 0x20 m basic_by (s ∙ ap Some (eqb-true _ _ a.0)) (λ k. basic_takes bytes k m fits) a.1
       | inr a ↦
-          elim (chosen (eqb class 0x25) _ _ _ a.1) [
-            | inl b ↦ class_takes bytes 0x25 m switch_binary_by (s ∙ ap Some (eqb-true _ _ b.0)) (λ k. switch_binary_takes bytes k m fits) b.1
-            | inr b ↦
-                elim (chosen (eqb class 0x26) _ _ _ b.1) [
-                  | inl c ↦ class_takes bytes 0x26 m switch_multilevel_by (s ∙ ap Some (eqb-true _ _ c.0)) (λ k. switch_multilevel_takes bytes k m fits) c.1
-                  | inr c ↦
-                      elim (chosen (eqb class 0x40) _ _ _ c.1) [
-                        | inl d ↦ class_takes bytes 0x40 m thermostat_mode_by (s ∙ ap Some (eqb-true _ _ d.0)) (λ k. thermostat_mode_takes bytes k m fits) d.1
-                        | inr d ↦
-                            elim (chosen (eqb class 0x43) _ _ _ d.1) [
-                              | inl f ↦ class_takes bytes 0x43 m thermostat_setpoint_by (s ∙ ap Some (eqb-true _ _ f.0)) (λ k. thermostat_setpoint_takes bytes k m fits) f.1
-                              | inr f ↦
-                                  elim (chosen (eqb class 0x62) _ _ _ f.1) [
-                                    | inl g ↦ class_takes bytes 0x62 m door_lock_by (s ∙ ap Some (eqb-true _ _ g.0)) (λ k. door_lock_takes bytes k m fits) g.1
-                                    | inr g ↦
-                                        elim (chosen (eqb class 0x70) _ _ _ g.1) [
-                                          | inl h ↦ class_takes bytes 0x70 m configuration_by (s ∙ ap Some (eqb-true _ _ h.0)) (λ k. configuration_takes bytes k m fits) h.1
-                                          | inr h ↦
-                                              elim (chosen (eqb class 0x84) _ _ _ h.1) [
-                                                | inl i ↦ class_takes bytes 0x84 m wake_up_by (s ∙ ap Some (eqb-true _ _ i.0)) (λ k. wake_up_takes bytes k m fits) i.1
-                                                | inr i ↦
-                                                    elim (chosen (eqb class 0x85) _ _ _ i.1) [
-                                                      | inl j ↦ class_takes bytes 0x85 m association_by (s ∙ ap Some (eqb-true _ _ j.0)) (λ k. association_takes bytes k m fits) j.1
-                                                      | inr j ↦ absurd (not_ok (UnknownClass class) m j.1)
-                                                    ]
-                                              ]
-                                        ]
-                                  ]
-                            ]
-                      ]
+      elim (chosen (eqb class 0x25) _ _ _ a.1) [
+        | inl b ↦ class_takes (λ (x : CoreMessage). Spells x bytes) bytes 0x25 m switch_binary_by (s ∙ ap Some (eqb-true _ _ b.0)) (λ k. switch_binary_takes bytes k m fits) b.1
+        | inr b ↦
+        elim (chosen (eqb class 0x26) _ _ _ b.1) [
+          | inl c ↦ class_takes (λ (x : CoreMessage). Spells x bytes) bytes 0x26 m switch_multilevel_by (s ∙ ap Some (eqb-true _ _ c.0)) (λ k. switch_multilevel_takes bytes k m fits) c.1
+          | inr c ↦
+          elim (chosen (eqb class 0x40) _ _ _ c.1) [
+            | inl d ↦ class_takes (λ (x : CoreMessage). Spells x bytes) bytes 0x40 m thermostat_mode_by (s ∙ ap Some (eqb-true _ _ d.0)) (λ k. thermostat_mode_takes bytes k m fits) d.1
+            | inr d ↦
+            elim (chosen (eqb class 0x43) _ _ _ d.1) [
+              | inl f ↦ class_takes (λ (x : CoreMessage). Spells x bytes) bytes 0x43 m thermostat_setpoint_by (s ∙ ap Some (eqb-true _ _ f.0)) (λ k. thermostat_setpoint_takes bytes k m fits) f.1
+              | inr f ↦
+              elim (chosen (eqb class 0x62) _ _ _ f.1) [
+                | inl g ↦ class_takes (λ (x : CoreMessage). Spells x bytes) bytes 0x62 m door_lock_by (s ∙ ap Some (eqb-true _ _ g.0)) (λ k. door_lock_takes bytes k m fits) g.1
+                | inr g ↦
+                elim (chosen (eqb class 0x70) _ _ _ g.1) [
+                  | inl h ↦ class_takes (λ (x : CoreMessage). Spells x bytes) bytes 0x70 m configuration_by (s ∙ ap Some (eqb-true _ _ h.0)) (λ k. configuration_takes bytes k m fits) h.1
+                  | inr h ↦
+                  elim (chosen (eqb class 0x84) _ _ _ h.1) [
+                    | inl i ↦ class_takes (λ (x : CoreMessage). Spells x bytes) bytes 0x84 m wake_up_by (s ∙ ap Some (eqb-true _ _ i.0)) (λ k. wake_up_takes bytes k m fits) i.1
+                    | inr i ↦
+                    elim (chosen (eqb class 0x85) _ _ _ i.1) [
+                      | inl j ↦ class_takes (λ (x : CoreMessage). Spells x bytes) bytes 0x85 m association_by (s ∙ ap Some (eqb-true _ _ j.0)) (λ k. association_takes bytes k m fits) j.1
+                      | inr j ↦ absurd (not_ok (UnknownClass class) m j.1)
+                    ]
+                  ]
                 ]
+              ]
+            ]
           ]
+        ]
+      ]
     ]
 
 -- what is read is spelled so

@@ -2,3 +2,4 @@ pub mod Steps
 pub mod FieldLaws
 pub mod ListSteps
 pub mod WrittenLaws
+pub mod Heads
