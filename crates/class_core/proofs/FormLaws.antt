@@ -8,7 +8,7 @@ use Rattle.class_core.specs.declared.message.CoreMessage.{CoreMessage}
 use Rattle.class_core.specs.declared.message.CoreMessage.TheVariants.{BasicSet, BasicGet, BasicReport, SwitchBinarySet, SwitchBinaryGet, SwitchBinaryReport, SwitchMultilevelSet, SwitchMultilevelGet, SwitchMultilevelReport, ThermostatModeSet, ThermostatModeGet, ThermostatModeReport, ThermostatSetpointSet, ThermostatSetpointGet, ThermostatSetpointReport, DoorLockOperationSet, DoorLockOperationGet, DoorLockOperationReport, ConfigurationSet, ConfigurationGet, ConfigurationReport, ConfigurationBulkSet, AssociationSet, AssociationRemove, WakeUpIntervalSet}
 use Rattle.class_core.specs.Spelling.{cells, form, Spells, IsInRange}
 
-has_all : (m : CoreMessage) → IsInRange m → HasAll (cells m)
+pub has_all : (m : CoreMessage) → IsInRange m → HasAll (cells m)
 has_all (BasicSet value) h = (tt, (tt, (tt, tt)))
 has_all BasicGet h = (tt, (tt, tt))
 has_all (BasicReport value) h = (tt, (tt, (tt, tt)))

@@ -239,38 +239,38 @@ by_takes bytes class m fits s e =
     elim (chosen (eqb class 0x20) _ _ _ e) [
       | inl a ↦ class_takes (λ (x : CoreMessage). Spells x bytes) bytes 0x20 m basic_by (s ∙ ap Some (eqb-true _ _ a.0)) (λ k. basic_takes bytes k m fits) a.1
       | inr a ↦
-      elim (chosen (eqb class 0x25) _ _ _ a.1) [
-        | inl b ↦ class_takes (λ (x : CoreMessage). Spells x bytes) bytes 0x25 m switch_binary_by (s ∙ ap Some (eqb-true _ _ b.0)) (λ k. switch_binary_takes bytes k m fits) b.1
-        | inr b ↦
-        elim (chosen (eqb class 0x26) _ _ _ b.1) [
-          | inl c ↦ class_takes (λ (x : CoreMessage). Spells x bytes) bytes 0x26 m switch_multilevel_by (s ∙ ap Some (eqb-true _ _ c.0)) (λ k. switch_multilevel_takes bytes k m fits) c.1
-          | inr c ↦
-          elim (chosen (eqb class 0x40) _ _ _ c.1) [
-            | inl d ↦ class_takes (λ (x : CoreMessage). Spells x bytes) bytes 0x40 m thermostat_mode_by (s ∙ ap Some (eqb-true _ _ d.0)) (λ k. thermostat_mode_takes bytes k m fits) d.1
-            | inr d ↦
-            elim (chosen (eqb class 0x43) _ _ _ d.1) [
-              | inl f ↦ class_takes (λ (x : CoreMessage). Spells x bytes) bytes 0x43 m thermostat_setpoint_by (s ∙ ap Some (eqb-true _ _ f.0)) (λ k. thermostat_setpoint_takes bytes k m fits) f.1
-              | inr f ↦
-              elim (chosen (eqb class 0x62) _ _ _ f.1) [
-                | inl g ↦ class_takes (λ (x : CoreMessage). Spells x bytes) bytes 0x62 m door_lock_by (s ∙ ap Some (eqb-true _ _ g.0)) (λ k. door_lock_takes bytes k m fits) g.1
-                | inr g ↦
-                elim (chosen (eqb class 0x70) _ _ _ g.1) [
-                  | inl h ↦ class_takes (λ (x : CoreMessage). Spells x bytes) bytes 0x70 m configuration_by (s ∙ ap Some (eqb-true _ _ h.0)) (λ k. configuration_takes bytes k m fits) h.1
-                  | inr h ↦
-                  elim (chosen (eqb class 0x84) _ _ _ h.1) [
-                    | inl i ↦ class_takes (λ (x : CoreMessage). Spells x bytes) bytes 0x84 m wake_up_by (s ∙ ap Some (eqb-true _ _ i.0)) (λ k. wake_up_takes bytes k m fits) i.1
-                    | inr i ↦
-                    elim (chosen (eqb class 0x85) _ _ _ i.1) [
-                      | inl j ↦ class_takes (λ (x : CoreMessage). Spells x bytes) bytes 0x85 m association_by (s ∙ ap Some (eqb-true _ _ j.0)) (λ k. association_takes bytes k m fits) j.1
-                      | inr j ↦ absurd (not_ok (UnknownClass class) m j.1)
-                    ]
-                  ]
+          elim (chosen (eqb class 0x25) _ _ _ a.1) [
+            | inl b ↦ class_takes (λ (x : CoreMessage). Spells x bytes) bytes 0x25 m switch_binary_by (s ∙ ap Some (eqb-true _ _ b.0)) (λ k. switch_binary_takes bytes k m fits) b.1
+            | inr b ↦
+                elim (chosen (eqb class 0x26) _ _ _ b.1) [
+                  | inl c ↦ class_takes (λ (x : CoreMessage). Spells x bytes) bytes 0x26 m switch_multilevel_by (s ∙ ap Some (eqb-true _ _ c.0)) (λ k. switch_multilevel_takes bytes k m fits) c.1
+                  | inr c ↦
+                      elim (chosen (eqb class 0x40) _ _ _ c.1) [
+                        | inl d ↦ class_takes (λ (x : CoreMessage). Spells x bytes) bytes 0x40 m thermostat_mode_by (s ∙ ap Some (eqb-true _ _ d.0)) (λ k. thermostat_mode_takes bytes k m fits) d.1
+                        | inr d ↦
+                            elim (chosen (eqb class 0x43) _ _ _ d.1) [
+                              | inl f ↦ class_takes (λ (x : CoreMessage). Spells x bytes) bytes 0x43 m thermostat_setpoint_by (s ∙ ap Some (eqb-true _ _ f.0)) (λ k. thermostat_setpoint_takes bytes k m fits) f.1
+                              | inr f ↦
+                                  elim (chosen (eqb class 0x62) _ _ _ f.1) [
+                                    | inl g ↦ class_takes (λ (x : CoreMessage). Spells x bytes) bytes 0x62 m door_lock_by (s ∙ ap Some (eqb-true _ _ g.0)) (λ k. door_lock_takes bytes k m fits) g.1
+                                    | inr g ↦
+                                        elim (chosen (eqb class 0x70) _ _ _ g.1) [
+                                          | inl h ↦ class_takes (λ (x : CoreMessage). Spells x bytes) bytes 0x70 m configuration_by (s ∙ ap Some (eqb-true _ _ h.0)) (λ k. configuration_takes bytes k m fits) h.1
+                                          | inr h ↦
+                                              elim (chosen (eqb class 0x84) _ _ _ h.1) [
+                                                | inl i ↦ class_takes (λ (x : CoreMessage). Spells x bytes) bytes 0x84 m wake_up_by (s ∙ ap Some (eqb-true _ _ i.0)) (λ k. wake_up_takes bytes k m fits) i.1
+                                                | inr i ↦
+                                                    elim (chosen (eqb class 0x85) _ _ _ i.1) [
+                                                      | inl j ↦ class_takes (λ (x : CoreMessage). Spells x bytes) bytes 0x85 m association_by (s ∙ ap Some (eqb-true _ _ j.0)) (λ k. association_takes bytes k m fits) j.1
+                                                      | inr j ↦ absurd (not_ok (UnknownClass class) m j.1)
+                                                    ]
+                                              ]
+                                        ]
+                                  ]
+                            ]
+                      ]
                 ]
-              ]
-            ]
           ]
-        ]
-      ]
     ]
 
 -- what is read is spelled so
@@ -279,7 +279,7 @@ unfolding message_at
 takes [] m fits e = absurd (not_ok Empty m e)
 takes (b ∷ bs) m fits e = by_takes (b ∷ bs) b m fits refl e
 
-by_class : (bytes : List ℕ) (class : ℕ) → slice_get bytes 0 ≡ Some class → message_at bytes ≡ message_by bytes class
+pub by_class : (bytes : List ℕ) (class : ℕ) → slice_get bytes 0 ≡ Some class → message_at bytes ≡ message_by bytes class
 unfolding message_at
 by_class [] class e = absurd cc
 by_class (b ∷ bs) class e = ap (message_by (b ∷ bs)) (some_is b class e)

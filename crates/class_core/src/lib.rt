@@ -25,4 +25,4 @@ pub use class_fields::{
 };
 pub use message::CoreMessage;
 pub use reading::{one_message, read};
-pub use writing::write;
+pub use writing::{head, put_fields, write};

@@ -21,7 +21,7 @@ use std::alloc::Global;
 use zw_base::{Bytes, NoMemory};
 
 /// The class and the command of a message.
-fn head(message: &CoreMessage) -> [u8; 2]
+pub fn head(message: &CoreMessage) -> [u8; 2]
     ensures { result ≡ take 2 (form message.now) }
 {
     match message {
@@ -65,8 +65,8 @@ fn head(message: &CoreMessage) -> [u8; 2]
     }
 }
 
-/// Adds the fields behind the command: those of the classes that switch.
-fn put_fields(out: &mut Bytes, message: &CoreMessage) -> Result<(), NoMemory>
+/// Adds the fields behind the command.
+pub fn put_fields(out: &mut Bytes, message: &CoreMessage) -> Result<(), NoMemory>
     ensures ok { OnOk result (out.new ≡ out.old ++ drop 2 (form message.now)) }
     ensures range { OnOk result (IsInRange message.now) }
 {
