@@ -5,7 +5,7 @@ use Rattle.class_fields.specs.declared.fault.ClassFault.TheVariants.{Empty, Unkn
 use Rattle.class_core.specs.declared.message.CoreMessage.{CoreMessage}
 use Rattle.class_core.specs.declared.message.CoreMessage.TheVariants.{BasicSet, BasicGet, BasicReport, SwitchBinarySet, SwitchBinaryGet, SwitchBinaryReport, SwitchMultilevelSet, SwitchMultilevelGet, SwitchMultilevelReport, ThermostatModeSet, ThermostatModeGet, ThermostatModeReport, ThermostatSetpointSet, ThermostatSetpointGet, ThermostatSetpointReport, DoorLockOperationSet, DoorLockOperationGet, DoorLockOperationReport, ConfigurationSet, ConfigurationGet, ConfigurationReport, ConfigurationBulkSet, AssociationSet, AssociationRemove, WakeUpIntervalSet}
 use Rattle.class_fields.specs.Ranges.{is_level, is_node, Scaled}
-use Rattle.class_fields.specs.Reading.{◌>>=◌, byte_at, limited_at, bits_at, switch_at, lock_at, word_at, three_at, number_at, numbers_at, size_at, size_byte_at, flag_at, scaled_at, nodes_at}
+use Rattle.class_fields.specs.Reading.{◌>>=◌, byte_at, limited_at, bits_at, switch_at, lock_at, word_at, three_at, number_at, numbers_at, size_at, size_byte_at, flag_at, scaled_at, nodes_at, in_class}
 
 -- Basic, by its command
 abbrev pub basic_by : List ℕ → ℕ → Result CoreMessage ClassFault
@@ -134,10 +134,6 @@ abbrev pub wake_up_by : List ℕ → ℕ → Result CoreMessage ClassFault
 wake_up_by bytes command =
     if command == 4 then interval_set_at bytes
     else Err (UnknownCommand 0x84 command)
-
--- a message of a class, by its command
-unfoldable pub in_class : (List ℕ → ℕ → Result CoreMessage ClassFault) → List ℕ → Result CoreMessage ClassFault
-in_class by bytes = byte_at 1 bytes >>= by bytes
 
 -- a message by its class
 abbrev pub message_by : List ℕ → ℕ → Result CoreMessage ClassFault

@@ -1,9 +1,9 @@
 -- Which cells each message of the actuator classes is made of, and so which bytes spell it (Z-Wave Application
 -- and Management Command Class Specifications, in this project's profile of values).
-use Rattle.std.specs.Prelude.{ℕ, List, [], ◌∷◌, ◌++◌, length}
+use Rattle.std.specs.Prelude.{ℕ, ◌<◌, List, [], ◌∷◌, ◌++◌, length, IsTrue}
 use Rattle.class_core.specs.declared.message.CoreMessage.{CoreMessage}
 use Rattle.class_core.specs.declared.message.CoreMessage.TheVariants.{BasicSet, BasicGet, BasicReport, SwitchBinarySet, SwitchBinaryGet, SwitchBinaryReport, SwitchMultilevelSet, SwitchMultilevelGet, SwitchMultilevelReport, ThermostatModeSet, ThermostatModeGet, ThermostatModeReport, ThermostatSetpointSet, ThermostatSetpointGet, ThermostatSetpointReport, DoorLockOperationSet, DoorLockOperationGet, DoorLockOperationReport, ConfigurationSet, ConfigurationGet, ConfigurationReport, ConfigurationBulkSet, AssociationSet, AssociationRemove, WakeUpIntervalSet}
-use Rattle.class_fields.specs.Ranges.{is_level, bytes_in, size_of, value_of}
+use Rattle.class_fields.specs.Ranges.{is_level, is_node, bytes_in, size_of, value_of, IsScaled, AreNodes}
 use Rattle.class_fields.specs.Cell.{Cell, Whole, Limited, Divided, Stand, written}
 use Rattle.class_fields.specs.Fields.{switch_byte, lock_byte, part, flag, word, three, number, numbers, scaled, node, nodes}
 
@@ -42,3 +42,17 @@ Spells message bytes = Stand (cells message) 0 bytes
 -- the written form of the message
 abbrev pub form : CoreMessage → List ℕ
 form message = written (cells message)
+
+-- what the types of its fields keep: a level and nodes are of their row, and numbers of few bits fit them
+abbrev pub IsInRange : CoreMessage → Type 0
+IsInRange (SwitchMultilevelSet level) = IsTrue (is_level level)
+IsInRange (SwitchMultilevelReport level) = IsTrue (is_level level)
+IsInRange (ThermostatModeSet mode) = mode < 32
+IsInRange (ThermostatModeReport mode) = mode < 32
+IsInRange (ThermostatSetpointSet kind value) = (kind < 16) × IsScaled value
+IsInRange (ThermostatSetpointGet kind) = kind < 16
+IsInRange (ThermostatSetpointReport kind value) = (kind < 16) × IsScaled value
+IsInRange (AssociationSet group members) = AreNodes members
+IsInRange (AssociationRemove group members) = AreNodes members
+IsInRange (WakeUpIntervalSet seconds target) = IsTrue (is_node target)
+IsInRange _ = Unit {0}

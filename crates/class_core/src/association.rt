@@ -1,8 +1,8 @@
 //! Association (Association Command Class).
 
 ghost use Rattle.std.specs.Prelude.{◌≡◌};
-ghost use Rattle.class_fields.specs.Reading.{Gives};
-ghost use Rattle.class_core.specs.MessageReading.{in_class, association_by, association_at};
+ghost use Rattle.class_fields.specs.Reading.{Gives, in_class};
+ghost use Rattle.class_core.specs.MessageReading.{association_by, association_at};
 
 use crate::message::CoreMessage;
 use class_fields::ClassFault;
@@ -17,7 +17,7 @@ pub(crate) const SET: u8 = 1;
 pub(crate) const REMOVE: u8 = 4;
 
 /// The message of this class that the bytes spell.
-#[tactic(auto, unfolding(crate::specs::MessageReading::in_class, crate::specs::MessageReading::association_at))]
+#[tactic(auto, unfolding(class_fields::specs::Reading::in_class, crate::specs::MessageReading::association_at))]
 pub fn read_association(alloc: Global, bytes: &[u8]) -> Result<CoreMessage, ClassFault>
     ensures { Gives result (in_class association_by bytes.now) }
 {

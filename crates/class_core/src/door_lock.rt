@@ -1,7 +1,8 @@
 //! Door Lock (Door Lock Command Class).
 
 ghost use Rattle.std.specs.Prelude.{◌≡◌};
-ghost use Rattle.class_core.specs.MessageReading.{in_class, door_lock_by};
+ghost use Rattle.class_fields.specs.Reading.{in_class};
+ghost use Rattle.class_core.specs.MessageReading.{door_lock_by};
 
 use crate::message::CoreMessage;
 use class_fields::ClassFault;
@@ -17,7 +18,7 @@ pub(crate) const OPERATION_GET: u8 = 2;
 pub(crate) const OPERATION_REPORT: u8 = 3;
 
 /// The message of this class that the bytes spell.
-#[tactic(auto, unfolding(crate::specs::MessageReading::in_class, crate::specs::MessageReading::lock_report_at))]
+#[tactic(auto, unfolding(class_fields::specs::Reading::in_class, crate::specs::MessageReading::lock_report_at))]
 pub fn read_door_lock(bytes: &[u8]) -> Result<CoreMessage, ClassFault>
     ensures { result ≡ in_class door_lock_by bytes.now }
 {

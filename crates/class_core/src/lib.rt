@@ -24,5 +24,5 @@ pub use class_fields::{
     SetpointKind, Size, Switch,
 };
 pub use message::CoreMessage;
-pub use reading::read;
-pub use writing::write;
+pub use reading::{one_message, read};
+pub use writing::{head, put_fields, write};

@@ -1,6 +1,8 @@
 //! From bytes to messages.
 
-ghost use Rattle.std.specs.Prelude.{◌≡◌, IfOk};
+ghost use Rattle.std.specs.Prelude.{◌≡◌, ℕ, List, IfOk, Ok};
+ghost use Rattle.class_core.specs.declared.message.CoreMessage.{CoreMessage};
+ghost use Rattle.class_core.specs.Spelling.{Spells};
 ghost use Rattle.class_fields.specs.Reading.{Gives};
 ghost use Rattle.class_core.specs.MessageReading.{message_at};
 
@@ -36,10 +38,19 @@ fn read_row(alloc: Global, bytes: &[u8]) -> Result<CoreMessage, ClassFault>
     }
 }
 
-/// The message that the bytes spell.
+/// The message that the bytes spell. A tail behind its fields, and bits that its row does not name, are ignored.
 pub fn read(alloc: Global, bytes: &[u8]) -> Result<CoreMessage, ClassFault>
+    // What is read is spelled so.
+    ensures found { IfOk result (λ message. Spells message bytes.now) }
+    // What is spelled so is read, unless there was no memory.
+    ensures only { (message : CoreMessage) → Spells message bytes.now → Gives result (Ok message) }
     // Which fault it is.
     ensures exact { Gives result (message_at bytes.now) }
 {
     read_row(alloc, bytes)
 }
+
+/// A law: no bytes spell two messages.
+pub fn one_message()
+    ensures { (bytes : List ℕ) (a b : CoreMessage) → Spells a bytes → Spells b bytes → a ≡ b }
+{}

@@ -1,7 +1,7 @@
 //! From messages to bytes.
 
 ghost use Rattle.std.specs.Prelude.{◌≡◌, ◌++◌, take, drop, OnOk, IfOk};
-ghost use Rattle.class_core.specs.Spelling.{form};
+ghost use Rattle.class_core.specs.Spelling.{form, IsInRange, Spells};
 
 use crate::association::{self, ASSOCIATION};
 use crate::basic::{self, BASIC};
@@ -14,13 +14,14 @@ use crate::thermostat_mode::{self, THERMOSTAT_MODE};
 use crate::thermostat_setpoint::{self, THERMOSTAT_SETPOINT};
 use crate::wake_up::{self, WAKE_UP};
 use class_fields::forms::{
-    default_and_size, put_decimal, put_nodes, put_number, put_numbers, put_seconds, put_word,
+    default_and_size, node_number, put_decimal, put_nodes, put_number, put_numbers, put_seconds,
+    put_word,
 };
 use std::alloc::Global;
 use zw_base::{Bytes, NoMemory};
 
 /// The class and the command of a message.
-fn head(message: &CoreMessage) -> [u8; 2]
+pub fn head(message: &CoreMessage) -> [u8; 2]
     ensures { result ≡ take 2 (form message.now) }
 {
     match message {
@@ -64,9 +65,10 @@ fn head(message: &CoreMessage) -> [u8; 2]
     }
 }
 
-/// Adds the fields behind the command: those of the classes that switch.
-fn put_fields(out: &mut Bytes, message: &CoreMessage) -> Result<(), NoMemory>
+/// Adds the fields behind the command.
+pub fn put_fields(out: &mut Bytes, message: &CoreMessage) -> Result<(), NoMemory>
     ensures ok { OnOk result (out.new ≡ out.old ++ drop 2 (form message.now)) }
+    ensures range { OnOk result (IsInRange message.now) }
 {
     match message {
         CoreMessage::BasicSet { value } | CoreMessage::BasicReport { value } => out.push(*value),
@@ -122,7 +124,7 @@ fn put_fields(out: &mut Bytes, message: &CoreMessage) -> Result<(), NoMemory>
         }
         CoreMessage::WakeUpIntervalSet { seconds, target } => {
             put_seconds(out, *seconds)?;
-            out.push(target.number())
+            out.push(node_number(*target))
         }
         _ => Ok(()),
     }
@@ -131,6 +133,8 @@ fn put_fields(out: &mut Bytes, message: &CoreMessage) -> Result<(), NoMemory>
 /// The written form of a message.
 pub fn write(alloc: Global, message: &CoreMessage) -> Result<Bytes, NoMemory>
     ensures form { IfOk result (λ bytes. bytes ≡ form message.now) }
+    // The written form is read as the message.
+    ensures spelled { IfOk result (λ bytes. Spells message.now bytes) }
 {
     let mut out = Bytes::from_slice(alloc, &head(message))?;
     put_fields(&mut out, message)?;

@@ -1,3 +1,5 @@
 pub mod Steps
 pub mod FieldLaws
 pub mod ListSteps
+pub mod WrittenLaws
+pub mod Heads

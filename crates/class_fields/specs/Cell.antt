@@ -49,3 +49,16 @@ written (Whole value ∷ cs) = value ∷ written cs
 written (Limited allowed value ∷ cs) = value ∷ written cs
 written (Divided parts ∷ cs) = byte_of parts ∷ written cs
 written (End ∷ cs) = written cs
+
+-- a value that the cell has: one of those allowed, or parts that stand in the byte made of them
+abbrev pub Has : Cell → Type 0
+Has (Whole value) = Unit {0}
+Has (Limited allowed value) = IsTrue (allowed value)
+Has (Divided parts) = HasParts parts (byte_of parts)
+Has End = Unit {0}
+
+-- each cell has its value, and nothing follows the end
+abbrev pub HasAll : List Cell → Type 0
+HasAll [] = Unit {0}
+HasAll (End ∷ cs) = cs ≡ []
+HasAll (c ∷ cs) = Has c × HasAll cs

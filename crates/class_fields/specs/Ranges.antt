@@ -1,5 +1,6 @@
 -- Which values the fields of class messages have, and what the types of values are to their callers.
-use Rattle.std.specs.Prelude.{ℕ, ◌<◌, ◌≤◌, ◌^◌, ◌||◌, ◌&&◌, ◌==◌, nat_le, Bool, List, length, All}
+use Rattle.std.specs.Prelude.{ℕ, ◌<◌, ◌≤◌, ◌^◌, ◌||◌, ◌&&◌, ◌==◌, nat_le, Bool, IsTrue, List, length, All}
+use Rattle.std.specs.List.{list_all}
 use Rattle.class_fields.specs.declared.number.Size.{Size}
 use Rattle.class_fields.specs.declared.number.Size.TheVariants.{One, Two, Four}
 use Rattle.class_fields.specs.declared.number.Number.{Number}
@@ -48,6 +49,14 @@ pub record Scaled : Type 0 where
   pub precision : ℕ
   pub scale : ℕ
   pub number : Number
+
+-- the precision has three bits and the scale two
+abbrev pub IsScaled : Scaled → Type 0
+IsScaled d = (d.precision < 8) × (d.scale < 4)
+
+-- each is a node
+abbrev pub AreNodes : List ℕ → Type 0
+AreNodes ns = IsTrue (list_all is_node ns)
 
 -- numbers of one size
 pub record Numbers : Type 0 where

@@ -131,3 +131,7 @@ nodes_of at (byte ∷ rest) = if is_node byte then (nodes_of (at + 1) rest >>= �
 -- nodes from an offset to the end
 unfoldable pub nodes_at : ℕ → List ℕ → Result (List ℕ) ClassFault
 nodes_at at bytes = nodes_of at (drop at bytes)
+
+-- a message of a class, by the command that stands behind the class
+unfoldable pub in_class : {M : Type 0} → (List ℕ → ℕ → Result M ClassFault) → List ℕ → Result M ClassFault
+in_class by bytes = byte_at 1 bytes >>= by bytes

@@ -1,7 +1,7 @@
 //! The written forms of the fields of class messages.
 
-ghost use Rattle.std.specs.Prelude.{◌≡◌, ◌<◌, [], ◌∷◌, ◌++◌, OnOk};
-ghost use Rattle.class_fields.specs.Ranges.{bytes_in, limit, size_of, value_of};
+ghost use Rattle.std.specs.Prelude.{◌≡◌, ◌<◌, [], ◌∷◌, ◌++◌, OnOk, IsTrue};
+ghost use Rattle.class_fields.specs.Ranges.{bytes_in, limit, size_of, value_of, is_node, IsScaled, AreNodes};
 ghost use Rattle.class_fields.specs.Cell.{written, byte_of};
 ghost use Rattle.class_fields.specs.Fields.{word as word_cells, three, number as number_cells, numbers, scaled, nodes, flag, part};
 
@@ -10,7 +10,15 @@ use crate::node_list::NodeList;
 use crate::number::{Number, Size};
 use crate::number_list::NumberList;
 use crate::small::Seconds;
-use zw_base::{Bytes, NoMemory};
+use zw_base::{Bytes, NoMemory, NodeId};
+
+/// The byte of a node.
+pub fn node_number(node: NodeId) -> u8
+    ensures value { result ≡ node }
+    ensures range { IsTrue (is_node node) }
+{
+    node.number()
+}
 
 /// Adds a number of two bytes.
 pub fn put_word(out: &mut Bytes, number: u16) -> Result<(), NoMemory>
@@ -50,6 +58,7 @@ pub fn put_number(out: &mut Bytes, number: Number) -> Result<(), NoMemory>
 /// Adds a byte with precision, scale and size, then the number.
 pub fn put_decimal(out: &mut Bytes, value: Decimal) -> Result<(), NoMemory>
     ensures ok { OnOk result (out.new ≡ out.old ++ written (scaled value)) }
+    ensures range { IsScaled value }
 {
     let number = value.number();
     out.push(value.precision() * 32 + value.scale() * 8 + number.size().bytes())?;
@@ -70,6 +79,7 @@ pub fn default_and_size(default: bool, size: Size) -> u8
 /// Adds nodes.
 pub fn put_nodes(out: &mut Bytes, list: &NodeList) -> Result<(), NoMemory>
     ensures ok { OnOk result (out.new ≡ out.old ++ written (nodes list.now)) }
+    ensures range { AreNodes list.now }
 {
     for node in list.as_slice() {
         out.push(node.number())?;

@@ -2,10 +2,12 @@
 
 ghost use Rattle.std.specs.Prelude.{◌≡◌, ℕ, List, [], ◌∷◌, ◌++◌, length, OnOk, OnErr, Err};
 ghost use Rattle.class_fields.specs.declared.fault.ClassFault.TheVariants.{BadValue};
+ghost use Rattle.class_fields.specs.Ranges.{AreNodes};
 ghost use Rattle.class_fields.specs.Reading.{Gives, nodes_at};
 
 use crate::fault::ClassFault;
 use crate::fields::node_of;
+use crate::forms::node_number;
 use std::alloc::Global;
 use std::marker::Model;
 use zw_base::{NoMemory, NodeId};
@@ -17,9 +19,14 @@ pub struct NodeList {
 }
 
 impl Model for NodeList {
+    ghost use Rattle.std.specs.Prelude.{ℕ, List};
+    ghost use Rattle.class_fields.specs.Ranges.{AreNodes};
+
     ghost Value = { List ℕ };
 
     ghost view = { λ l. l.nodes.items };
+
+    ghost invariant = { λ l. AreNodes l.nodes.items };
 }
 
 impl NodeList {
@@ -43,12 +50,14 @@ impl NodeList {
         ensures ok { OnOk result (self.new ≡ self.old ++ node ∷ []) }
         ensures err { OnErr result (self.new ≡ self.old) }
     {
+        let _number = node_number(node);
         self.nodes.push(node)?;
         Ok(())
     }
 
     pub fn as_slice(&self) -> &[NodeId]
-        ensures { result.now ≡ self.now }
+        ensures items { result.now ≡ self.now }
+        ensures nodes { AreNodes self.now }
     {
         self.nodes.as_slice()
     }

@@ -1,0 +1,3 @@
+pub mod OwnLaws
+pub mod InfoLaws
+pub mod FormLaws
