@@ -1,13 +1,13 @@
 -- A mask and the nodes in it say the same.
-use Rattle.std.proofs.Common.{◌≡◌, ◌≢◌, ℕ, zero, suc, ◌+◌, ◌-◌, ◌*◌, ◌/◌, ◌%◌, ◌^◌, ◌<◌, ◌≤◌, Bool, true, false, cond, eqb, List, [], ◌∷◌, length, get_or, refl, sym, ap, subst, ◌∙◌, arith, inl, inr, eq-eqb, lit<}
+use Rattle.std.proofs.Common.{◌≡◌, ◌≢◌, ℕ, zero, suc, ◌+◌, ◌-◌, ◌*◌, ◌/◌, ◌%◌, ◌^◌, ◌<◌, ◌≤◌, Bool, true, false, cond, eqb, List, [], ◌∷◌, length, get_or, refl, sym, ap, subst, ◌∙◌, arith, inl, inr, eq-eqb, lit<, lit≤}
 use Rattle.std.specs.Prelude.{map, filter, ◌||◌}
 use Rattle.std.specs.List.{range_with_len, list_any}
 use Rattle.std.specs.Int.{bit_at}
 use Rattle.std.proofs.lemmas.Bool.{cases_lt, cases_eq, cases_Bool, eqb-true, ne_eqb}
-use Rattle.std.proofs.lemmas.List.FromFn.{fill_by_all}
+use Rattle.std.proofs.lemmas.List.FromFn.{fill_by_all, length-map-range_with_len, get_or-map-range_with_len}
 use Rattle.std.proofs.lemmas.Nat.Bits.{bit_at-lt, bit_at_cat_low, bit_at_cat_high, same_from_bits_below}
 use Rattle.std.proofs.Math.Nat.{pow-suc}
-use Rattle.chip_functions.specs.Mask.{IsBytes, is_marked, is_among, nodes_of, number_with, mask_of}
+use Rattle.chip_functions.specs.Mask.{IsBytes, AreNodesFrom, AreNodes, is_marked, is_among, nodes_of, number_with, mask_of}
 
 -- ---- a number by its bits
 
@@ -85,3 +85,76 @@ mask_of-nodes_of bytes long fits =
     (λ k below.
     let at = place_of_bit i k below in
     among_range (is_marked bytes) 232 1 (8 * i + k + 1) (omega arith) (omega arith) ∙ ap (λ (j : ℕ × ℕ). eqb (bit_at (get_or bytes j.0 0) j.1) 1) (cc)))
+
+pub mask_len : (nodes : List ℕ) → length (mask_of nodes) ≡ 29
+unfolding mask_of
+mask_len nodes = length-map-range_with_len (λ i. number_with 8 (λ k. is_among nodes (8 * i + k + 1))) 0 29
+
+-- ---- nodes in order
+
+lower : (least : ℕ) (nodes : List ℕ) → AreNodesFrom (least + 1) nodes → AreNodesFrom least nodes
+lower least [] h = tt
+lower least (n ∷ nodes) h = (omega (arith, h.0), h.1, h.2)
+
+rising_filter : (p : ℕ → Bool) (n a : ℕ) → a + n ≤ 233 → AreNodesFrom a (filter p (range_with_len a n))
+rising_filter p zero a le = tt
+rising_filter p (suc n) a le =
+    let ih : AreNodesFrom (a + 1) (filter p (range_with_len (a + 1) n)) = rising_filter p n (a + 1) (omega arith) in
+    elim (p a) as (λ t. AreNodesFrom a (cond t (a ∷ filter p (range_with_len (a + 1) n)) (filter p (range_with_len (a + 1) n)))) [
+      | true ↦ (omega arith, omega arith, ih)
+      | false ↦ lower a (filter p (range_with_len (a + 1) n)) ih
+    ]
+
+pub are_nodes : (bytes : List ℕ) → AreNodes (nodes_of bytes)
+unfolding nodes_of
+are_nodes bytes = rising_filter (is_marked bytes) 232 1 (lit≤ tt)
+
+none_rising : (least : ℕ) (nodes : List ℕ) (m : ℕ) → AreNodesFrom least nodes → m < least → is_among nodes m ≡ false
+none_rising least [] m h lt = refl
+none_rising least (n ∷ nodes) m h lt =
+    let miss : eqb n m ≡ false = ne_eqb n m (λ e. omega (arith, h.0)) in
+    rw miss (none_rising (n + 1) nodes m h.2 (omega (arith, h.0)))
+
+-- the nodes in order are those of the range that are among them
+among_again : (p : ℕ → Bool) (n a : ℕ) (nodes : List ℕ) → a + n ≡ 233 → AreNodesFrom a nodes → ((m : ℕ) → a ≤ m → m < 233 → p m ≡ is_among nodes m) → filter p (range_with_len a n) ≡ nodes
+among_again p zero a [] e h same = refl
+among_again p zero a (m ∷ nodes) e h same = absurd (omega (arith, h.0, h.1))
+among_again p (suc n) a [] e h same =
+    let skip : p a ≡ false = same a (omega arith) (omega arith) in
+    let ih : filter p (range_with_len (a + 1) n) ≡ [] = among_again p n (a + 1) [] (omega arith) tt (λ m le lt. same m (omega arith) lt) in
+    rw skip ih
+among_again p (suc n) a (m ∷ nodes) e h same =
+    elim (cases_eq a m) [
+      | inl here ↦
+          let hit : eqb m a ≡ true = eq-eqb m a (sym here) in
+          let keep : p a ≡ true = same a (omega arith) (omega arith) ∙ rw hit refl in
+          let later : AreNodesFrom (a + 1) nodes = subst (λ (k : ℕ). AreNodesFrom (k + 1) nodes) (sym here) h.2 in
+          let ih : filter p (range_with_len (a + 1) n) ≡ nodes = among_again p n (a + 1) nodes (omega arith) later (λ k le lt.
+          let miss : eqb m k ≡ false = ne_eqb m k (λ q. omega arith) in
+          same k (omega arith) lt ∙ rw miss refl) in
+          rw keep (ap (λ (xs : List ℕ). a ∷ xs) ih ∙ ap (λ (k : ℕ). k ∷ nodes) here)
+      | inr other ↦
+          let above : AreNodesFrom (a + 1) (m ∷ nodes) = (omega (arith, h.0, other), h.1, h.2) in
+          let skip : p a ≡ false = same a (omega arith) (omega arith) ∙ none_rising (a + 1) (m ∷ nodes) a above (omega arith) in
+          let ih : filter p (range_with_len (a + 1) n) ≡ m ∷ nodes = among_again p n (a + 1) (m ∷ nodes) (omega arith) above (λ k le lt. same k (omega arith) lt) in
+          rw skip ih
+    ]
+
+one_of : (t : Bool) → eqb (cond t 1 0) 1 ≡ t
+one_of true = refl
+one_of false = refl
+
+marked_again : (nodes : List ℕ) (n : ℕ) → 1 ≤ n → n < 233 → is_marked (mask_of nodes) n ≡ is_among nodes n
+unfolding mask_of
+marked_again nodes n le lt =
+    let f : ℕ → ℕ = λ (i : ℕ). number_with 8 (λ k. is_among nodes (8 * i + k + 1)) in
+    let i = (n - 1) / 8 in
+    let k = (n - 1) % 8 in
+    let byte : get_or (map f (range_with_len 0 29)) i 0 ≡ f i = get_or-map-range_with_len f 0 29 i i 0 (omega arith) (omega arith) in
+    let whole : 8 * i + k + 1 ≡ n = omega arith in
+    ap (λ (b : ℕ). eqb (bit_at b k) 1) byte ∙ ap (λ (b : ℕ). eqb b 1) (number_with-bit 8 (λ (j : ℕ). is_among nodes (8 * i + j + 1)) k (omega arith)) ∙ one_of (is_among nodes (8 * i + k + 1)) ∙ ap (is_among nodes) whole
+
+-- the nodes of the mask of nodes are these nodes
+pub nodes_of-mask_of : (nodes : List ℕ) → AreNodes nodes → nodes_of (mask_of nodes) ≡ nodes
+unfolding nodes_of
+nodes_of-mask_of nodes h = among_again (is_marked (mask_of nodes)) 232 1 nodes (refl) h (λ m le lt. marked_again nodes m le lt)

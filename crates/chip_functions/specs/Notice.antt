@@ -12,7 +12,7 @@ use Rattle.chip_functions.specs.declared.notice.Notice.{Notice}
 use Rattle.chip_functions.specs.declared.notice.Notice.TheVariants.{ApplicationCommandHandler, SendData, ApplicationUpdate}
 use Rattle.chip_functions.specs.declared.notice.TheConstants.{DEVICE_CLASSES, UPDATE_RECEIVED, UPDATE_FAILED}
 use Rattle.chip_functions.specs.Place.{Place, Reading, ◌>>=◌, start_of, byte_from, piece_from}
-use Rattle.chip_functions.specs.Field.{Field, byte, node, mark, counted, coded, ◌then◌, read_as}
+use Rattle.chip_functions.specs.Field.{Field, byte, IsNode, node, mark, counted, coded, ◌then◌, read_as}
 
 -- an ApplicationCommandHandler: the status of its receipt, the source, and a payload of at least one byte behind its length
 abbrev pub handler : Field (ℕ × (ℕ × List ℕ))
@@ -95,6 +95,23 @@ abbrev pub HasNoticeRow : Notice → Type 0
 HasNoticeRow (ApplicationCommandHandler status source payload) = 1 ≤ length payload
 HasNoticeRow (SendData id status) = Unit {0}
 HasNoticeRow (ApplicationUpdate u) = Unit {0}
+
+-- a notice that a row has
+abbrev pub IsUpdate : Update → Type 0
+IsUpdate (Received n b g s list) = IsNode n
+IsUpdate RequestFailed = Unit {0}
+
+abbrev pub IsNotice : Notice → Type 0
+IsNotice (ApplicationCommandHandler status source payload) = IsNode source × (1 ≤ length payload)
+IsNotice (SendData id status) = Unit {0}
+IsNotice (ApplicationUpdate u) = IsUpdate u
+
+-- the body of that function begins with the notice
+pub record IsNoticeBody (func : ℕ) (body : List ℕ) (value : Notice) : Type 0 where
+  pub row : IsNotice value
+  pub function : func ≡ notice_function value
+  pub tail : List ℕ
+  pub text : body ≡ notice_body value ++ tail
 
 -- the rows, as they are read
 unfoldable pub handler_at : Place → Reading Notice
