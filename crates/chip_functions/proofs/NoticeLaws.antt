@@ -12,11 +12,11 @@ use Rattle.chip_functions.specs.declared.notice.Notice.{Notice}
 use Rattle.chip_functions.specs.declared.notice.Notice.TheVariants.{ApplicationCommandHandler, SendData, ApplicationUpdate}
 use Rattle.chip_functions.specs.declared.notice.TheConstants.{DEVICE_CLASSES, UPDATE_RECEIVED, UPDATE_FAILED}
 use Rattle.chip_functions.specs.Mask.{IsBytes}
-use Rattle.chip_functions.specs.Place.{Place, Reading, ◌>>=◌, start_of, byte_from, piece_from}
-use Rattle.chip_functions.specs.Field.{Field, byte, IsNode, coded, read_as}
-use Rattle.chip_functions.specs.Notice.{handler, status_code, status_of, callback, classes, received, request_failed, update_spelling, received_at, request_failed_at, update, notice_function, notice_body, IsUpdate, IsNotice, IsNoticeBody, handler_at, callback_at, update_at, notice_at, notice_of}
-use Rattle.chip_functions.proofs.FieldLaws.{Takes, Reads, Lawful, bind_ok, guard_ok, ok_is, byte_takes, byte_again, byte_lawful, piece_takes, piece_again, then_lawful, node_lawful, mark_lawful, counted_lawful, coded_lawful}
-use Rattle.chip_functions.proofs.RowLaws.{reads_to, no_row, some_is, none_is, row_cases, row_takes, ReadsOn, row_again}
+use Rattle.chip_functions.specs.Place.{Place, Reading, IsFaultFrom, IsBodyFault, ◌>>=◌, start_of, byte_from, piece_from}
+use Rattle.chip_functions.specs.Field.{Field, IsNode, coded, read_as}
+use Rattle.chip_functions.specs.Notice.{handler, status_code, status_of, callback, classes_of, classes, received, request_failed, update_spelling, received_at, request_failed_at, update, notice_function, notice_body, IsUpdate, IsNotice, IsNoticeBody, handler_at, callback_at, update_at, notice_at, notice_of}
+use Rattle.chip_functions.proofs.FieldLaws.{Takes, Takes-then, Reads, Lawful, bind_ok, bind_err, guard_ok, guard_err, no_fault, err_is, fault_back, bad_here, ok_is, as_faults, byte_takes, byte_again, byte_faults, byte_step, byte_lawful, piece_lawful, then_lawful, node_lawful, mark_lawful, counted_lawful, coded_lawful}
+use Rattle.chip_functions.proofs.RowLaws.{reads_to, no_row, some_is, none_is, row_cases, row_takes, ReadsOn, row_again, IsFaultOf, row_faults, unknown, body_fault}
 
 handler_lawful : Lawful handler (λ x. Unit {0} × (IsNode x.1.0 × (1 ≤ length x.1.1)))
 handler_lawful = then_lawful byte_lawful (then_lawful node_lawful (counted_lawful 1))
@@ -45,58 +45,53 @@ callback_lawful = then_lawful byte_lawful (coded_lawful status_code status_of (�
 abbrev Classes : Type 0
 Classes = ℕ × (ℕ × (ℕ × List ℕ))
 
-joined : (all one two three four five : List ℕ) (n m b g s : ℕ) → all ≡ n ∷ one → one ≡ b ∷ two → two ≡ g ∷ three → three ≡ s ∷ four → four ≡ five → n ≡ m → all ≡ m ∷ b ∷ g ∷ s ∷ five
-joined all one two three four five n m b g s e0 e1 e2 e3 e4 e5 = cc
+classes_of_lawful : (len : ℕ) → Lawful (classes_of len) (λ x. Unit {0} × (Unit {0} × (Unit {0} × (length x.1.1.1 ≡ len - DEVICE_CLASSES))))
+classes_of_lawful len = then_lawful byte_lawful (then_lawful byte_lawful (then_lawful byte_lawful (piece_lawful (len - DEVICE_CLASSES))))
 
 classes_takes : (p : Place) (x : Classes) (q : Place) → IsBytes p.rest → classes.read p ≡ Ok (x, q) → Takes p q (classes.spell x) × Unit {0}
 classes_takes p x q fits e =
-    let tail : ℕ → Place → Reading Classes = λ (n : ℕ) (p1 : Place). byte.read p1 >>= λ b. byte.read b.1 >>= λ g. byte.read g.1 >>= λ s. piece_from (n - DEVICE_CLASSES) s.1.before s.1.rest >>= λ c. Ok ((b.0, (g.0, (s.0, c.0))), c.1) in
-    let n = bind_ok (byte_from p.before p.rest) (λ n. cond (ltb n.0 DEVICE_CLASSES) (Err (BadField p.before)) (tail n.0 n.1)) (x, q) e in
+    let n = bind_ok (byte_from p.before p.rest) (λ n. cond (ltb n.0 DEVICE_CLASSES) (Err (BadField p.before)) ((classes_of n.0).read n.1)) (x, q) e in
     let t = byte_takes p.before p.rest n.0.0 n.0.1 fits n.1 in
-    let g0 = guard_ok (ltb n.0.0 DEVICE_CLASSES) (BadField p.before) (tail n.0.0 n.0.1) (x, q) n.2 in
-    let b = bind_ok (byte.read n.0.1) (λ b. byte.read b.1 >>= λ g. byte.read g.1 >>= λ s. piece_from (n.0.0 - DEVICE_CLASSES) s.1.before s.1.rest >>= λ c. Ok ((b.0, (g.0, (s.0, c.0))), c.1)) (x, q) g0.1 in
-    let tb = byte_takes n.0.1.before n.0.1.rest b.0.0 b.0.1 t.1 b.1 in
-    let g = bind_ok (byte.read b.0.1) (λ g. byte.read g.1 >>= λ s. piece_from (n.0.0 - DEVICE_CLASSES) s.1.before s.1.rest >>= λ c. Ok ((b.0.0, (g.0, (s.0, c.0))), c.1)) (x, q) b.2 in
-    let tg = byte_takes b.0.1.before b.0.1.rest g.0.0 g.0.1 tb.1 g.1 in
-    let s = bind_ok (byte.read g.0.1) (λ s. piece_from (n.0.0 - DEVICE_CLASSES) s.1.before s.1.rest >>= λ c. Ok ((b.0.0, (g.0.0, (s.0, c.0))), c.1)) (x, q) g.2 in
-    let ts = byte_takes g.0.1.before g.0.1.rest s.0.0 s.0.1 tg.1 s.1 in
-    let c = bind_ok (piece_from (n.0.0 - DEVICE_CLASSES) s.0.1.before s.0.1.rest) (λ c. Ok ((b.0.0, (g.0.0, (s.0.0, c.0))), c.1)) (x, q) s.2 in
-    let tc = piece_takes (n.0.0 - DEVICE_CLASSES) s.0.1.before s.0.1.rest c.0.0 c.0.1 ts.1 c.1 in
-    let made : Classes × Place = ((b.0.0, (g.0.0, (s.0.0, c.0.0))), c.0.1) in
-    let len : n.0.0 ≡ length c.0.0 + DEVICE_CLASSES = omega (arith, tc.2, ltb-false _ _ g0.0) in
-    let all : p.rest ≡ (length c.0.0 + DEVICE_CLASSES) ∷ b.0.0 ∷ g.0.0 ∷ s.0.0 ∷ (c.0.0 ++ c.0.1.rest) =
-    joined p.rest n.0.1.rest b.0.1.rest g.0.1.rest s.0.1.rest (c.0.0 ++ c.0.1.rest) n.0.0 (length c.0.0 + DEVICE_CLASSES) b.0.0 g.0.0 s.0.0 t.0 tb.0 tg.0 ts.0 tc.0 len in
-    subst (λ (y : Classes × Place). Takes p y.1 (classes.spell y.0) × Unit {0}) (ok_is made (x, q) c.2) (record { parts = all; fits = tc.1 }, tt)
+    let g = guard_ok (ltb n.0.0 DEVICE_CLASSES) (BadField p.before) ((classes_of n.0.0).read n.0.1) (x, q) n.2 in
+    let u = (classes_of_lawful n.0.0).takes n.0.1 x q t.1 g.1 in
+    let len : n.0.0 ≡ length x.1.1.1 + DEVICE_CLASSES = omega (arith, u.1.1.1.1, ltb-false _ _ g.0) in
+    let text = x.0 ∷ x.1.0 ∷ x.1.1.0 ∷ x.1.1.1 in
+    let whole : Takes p q (n.0.0 ∷ text) = Takes-then p n.0.1 q (n.0.0 ∷ []) text (byte_step p n.0.1 n.0.0 t) u.0 in
+    (subst (λ (k : ℕ). Takes p q (k ∷ text)) len whole, tt)
 
 classes_again : (x : Classes) (p : Place) (rest : List ℕ) → Unit {0} → p.rest ≡ classes.spell x ++ rest → Reads classes x p rest
 classes_again x p rest fits e =
-    let list = x.1.1.1 in
-    let last : Place = record { before = p.before + 1 + 1 + 1 + 1; rest = list ++ rest } in
-    let enough : ltb (length list + DEVICE_CLASSES) DEVICE_CLASSES ≡ false = le-ltb (length list + DEVICE_CLASSES) DEVICE_CLASSES (omega arith) in
-    let len : length list ≡ length list + DEVICE_CLASSES - DEVICE_CLASSES = omega arith in
-    record {
-      place = record { before = p.before + 1 + 1 + 1 + 1 + (length list + DEVICE_CLASSES - DEVICE_CLASSES); rest = rest };
-      is = rw (byte_again p (length list + DEVICE_CLASSES) (x.0 ∷ x.1.0 ∷ x.1.1.0 ∷ (list ++ rest)) e, enough, piece_again (length list + DEVICE_CLASSES - DEVICE_CLASSES) last list rest len refl) refl;
-      after = refl;
-    }
+    let len = length x.1.1.1 + DEVICE_CLASSES in
+    let text = x.0 ∷ x.1.0 ∷ x.1.1.0 ∷ x.1.1.1 in
+    let after : Place = record { before = p.before + 1; rest = text ++ rest } in
+    let enough : ltb len DEVICE_CLASSES ≡ false = le-ltb len DEVICE_CLASSES (omega arith) in
+    let r = (classes_of_lawful len).again x after rest (tt, (tt, (tt, omega arith))) refl in
+    record { place = r.place; is = rw (byte_again p len (text ++ rest) e, enough) r.is; after = r.after }
+
+classes_faults : (p : Place) (fault : BodyFault) → IsBytes p.rest → classes.read p ≡ Err fault → IsFaultFrom p fault
+classes_faults p fault fits e =
+    bind_err (byte_from p.before p.rest) (λ n. cond (ltb n.0 DEVICE_CLASSES) (Err (BadField p.before)) ((classes_of n.0).read n.1)) fault e (λ h. byte_faults p.before p.rest fault h) (λ n h f.
+    let t = byte_takes p.before p.rest n.0 n.1 fits h in
+    let s = byte_step p n.1 n.0 t in
+    guard_err (ltb n.0 DEVICE_CLASSES) (BadField p.before) ((classes_of n.0).read n.1) fault f (λ same. bad_here p n.0 n.1.rest fault t.0 same) (λ _ k. fault_back p n.1 fault s.moves s.sum ((classes_of_lawful n.0).faults n.1 fault t.1 k)))
 
 received_lawful : Lawful received (λ x. IsNode x.0 × Unit {0})
-received_lawful = then_lawful node_lawful (record { takes = classes_takes; again = classes_again })
+received_lawful = then_lawful node_lawful (record { takes = classes_takes; again = classes_again; faults = classes_faults })
 
 request_failed_lawful : Lawful request_failed (λ _. Unit {0} × Unit {0})
 request_failed_lawful = then_lawful (mark_lawful 0) (mark_lawful 0)
 
 -- a status, and then what follows it
-update_front : (p q r : Place) (code : ℕ) (text : List ℕ) → p.rest ≡ code ∷ q.rest → Takes q r text → Takes p r (code ∷ text)
-update_front p q r code text e t = record { parts = e ∙ ap (λ (rest : List ℕ). code ∷ rest) t.parts; fits = t.fits }
+update_front : (p q r : Place) (n code : ℕ) (text : List ℕ) → n ≡ code → Takes p q (n ∷ []) → Takes q r text → Takes p r (code ∷ text)
+update_front p q r n code text same first rest = subst (λ (k : ℕ). Takes p r (k ∷ text)) same (Takes-then p q r (n ∷ []) text first rest)
 
 update_takes : (p : Place) (u : Update) (q : Place) → IsBytes p.rest → update.read p ≡ Ok (u, q) → Takes p q (update.spell u) × IsUpdate u
 unfolding received_at request_failed_at
 update_takes p u q fits e =
     let a = bind_ok (byte_from p.before p.rest) (λ status. cond (eqb status.0 UPDATE_RECEIVED) (received_at status.1) (cond (eqb status.0 UPDATE_FAILED) (request_failed_at status.1) (Err (BadField p.before)))) (u, q) e in
     let t = byte_takes p.before p.rest a.0.0 a.0.1 fits a.1 in
-    row_cases a.0.0 UPDATE_RECEIVED _ _ _ a.2 (λ f h. row_takes received_lawful _ a.0.1 q u (λ v. Takes p q (update.spell v) × IsUpdate v) t.1 (λ x tx g. (update_front p a.0.1 q UPDATE_RECEIVED (received.spell x) (t.0 ∙ ap (λ (k : ℕ). k ∷ a.0.1.rest) f) tx, g.0)) h) (λ e.
-    row_cases a.0.0 UPDATE_FAILED _ _ _ e (λ f h. row_takes request_failed_lawful _ a.0.1 q u (λ v. Takes p q (update.spell v) × IsUpdate v) t.1 (λ x tx g. (update_front p a.0.1 q UPDATE_FAILED (request_failed.spell x) (t.0 ∙ ap (λ (k : ℕ). k ∷ a.0.1.rest) f) tx, tt)) h) (λ e.
+    row_cases a.0.0 UPDATE_RECEIVED _ _ _ a.2 (λ f h. row_takes received_lawful _ a.0.1 q u (λ v. Takes p q (update.spell v) × IsUpdate v) t.1 (λ x tx g. (update_front p a.0.1 q a.0.0 UPDATE_RECEIVED (received.spell x) f (byte_step p a.0.1 a.0.0 t) tx, g.0)) h) (λ e.
+    row_cases a.0.0 UPDATE_FAILED _ _ _ e (λ f h. row_takes request_failed_lawful _ a.0.1 q u (λ v. Takes p q (update.spell v) × IsUpdate v) t.1 (λ x tx g. (update_front p a.0.1 q a.0.0 UPDATE_FAILED (request_failed.spell x) f (byte_step p a.0.1 a.0.0 t) tx, tt)) h) (λ e.
     absurd (no_row (BadField p.before) u q e)))
 
 update_again : (u : Update) (p : Place) (rest : List ℕ) → IsUpdate u → p.rest ≡ update.spell u ++ rest → Reads update u p rest
@@ -111,8 +106,18 @@ update_again RequestFailed p rest row e =
     let r = row_again request_failed_lawful (λ (x : Unit {0} × Unit {0}). RequestFailed) (tt, tt) after rest (tt, tt) refl in
     record { place = r.place; is = rw (byte_again p UPDATE_FAILED (request_failed.spell (tt, tt) ++ rest) e) r.is; after = r.after }
 
+update_faults : (p : Place) (fault : BodyFault) → IsBytes p.rest → update.read p ≡ Err fault → IsFaultFrom p fault
+unfolding received_at request_failed_at
+update_faults p fault fits e =
+    bind_err (byte_from p.before p.rest) (λ status. cond (eqb status.0 UPDATE_RECEIVED) (received_at status.1) (cond (eqb status.0 UPDATE_FAILED) (request_failed_at status.1) (Err (BadField p.before)))) fault e (λ h. byte_faults p.before p.rest fault h) (λ n h f.
+    let t = byte_takes p.before p.rest n.0 n.1 fits h in
+    let s = byte_step p n.1 n.0 t in
+    row_cases n.0 UPDATE_RECEIVED _ _ _ f (λ _ k. fault_back p n.1 fault s.moves s.sum (received_lawful.faults n.1 fault t.1 (as_faults _ _ fault k))) (λ f.
+    row_cases n.0 UPDATE_FAILED _ _ _ f (λ _ k. fault_back p n.1 fault s.moves s.sum (request_failed_lawful.faults n.1 fault t.1 (as_faults _ _ fault k))) (λ f.
+    bad_here p n.0 n.1.rest fault t.0 (err_is {A = Update × Place} (BadField p.before) fault f))))
+
 update_lawful : Lawful update IsUpdate
-update_lawful = record { takes = update_takes; again = update_again }
+update_lawful = record { takes = update_takes; again = update_again; faults = update_faults }
 
 -- the function, the text and the row of what was read from p on, up to q
 record IsRow (func : ℕ) (p q : Place) (v : Notice) : Type 0 where
@@ -148,3 +153,19 @@ unfolding notice_of
 notice_only func body v h =
     let r = notice_reads v (start_of body) h.tail h.row h.text in
     rw h.function (rw r.is refl)
+
+notice_faults : (func : ℕ) (p : Place) (fault : BodyFault) → IsBytes p.rest → notice_at func p ≡ Err fault → IsFaultOf func p fault
+unfolding notice_at handler_at callback_at update_at
+notice_faults func p fault fits e =
+    row_cases func APPLICATION_COMMAND_HANDLER _ _ _ e (λ f h. row_faults handler_lawful _ func p fault fits h) (λ e.
+    row_cases func SEND_DATA _ _ _ e (λ f h. row_faults callback_lawful _ func p fault fits h) (λ e.
+    row_cases func APPLICATION_UPDATE _ _ _ e (λ f h. row_faults update_lawful _ func p fault fits h) (λ e.
+    unknown {V = Notice} func p fault e)))
+
+-- a fault tells the bytes that there are, or names one of them
+pub notice_fault : (func : ℕ) (body : List ℕ) (fault : BodyFault) → IsBytes body → notice_of func body ≡ Err fault → IsBodyFault func body fault
+unfolding notice_of
+notice_fault func body fault fits e =
+    bind_err (notice_at func (start_of body)) (λ x. Ok x.0) fault e
+    (λ h. body_fault func body fault (notice_faults func (start_of body) fault fits h))
+    (λ x h f. no_fault {A = Notice} x.0 fault f)

@@ -1,5 +1,5 @@
 -- A request that is read is spelled so, and one that is spelled so is read.
-use Rattle.std.proofs.Common.{◌≡◌, ℕ, ◌≤◌, List, [], ◌∷◌, ◌++◌, length, Result, Ok, Err, refl, sym, ap, subst, ◌∙◌}
+use Rattle.std.proofs.Common.{zero-add, arith, ◌+◌, ◌≡◌, ℕ, ◌≤◌, List, [], ◌∷◌, ◌++◌, length, Result, Ok, Err, refl, sym, ap, subst, ◌∙◌}
 use Rattle.std.proofs.lemmas.List.{append-nil}
 use Rattle.std.specs.Prelude.{IfOk}
 use Rattle.chip_functions.specs.declared.fault.BodyFault.{BodyFault}
@@ -8,11 +8,11 @@ use Rattle.chip_functions.specs.declared.function.TheConstants.{GET_INIT_DATA, G
 use Rattle.chip_functions.specs.declared.request.Request.{Request}
 use Rattle.chip_functions.specs.declared.request.Request.TheVariants.{GetInitData, GetCapabilities, SendData, GetVersion, SendDataAbort, MemoryGetId, GetNodeProtocolInfo, RequestNodeInfo, IsFailedNode, GetRoutingInfo}
 use Rattle.chip_functions.specs.Mask.{IsBytes}
-use Rattle.chip_functions.specs.Place.{Place, Reading, ◌>>=◌, start_of, ended_from}
+use Rattle.chip_functions.specs.Place.{Place, Reading, IsBodyFault, ◌>>=◌, start_of, ended_from}
 use Rattle.chip_functions.specs.Field.{Field, node, IsNode, read_as}
 use Rattle.chip_functions.specs.Request.{send_data, get_routing_info, request_function, request_body, IsRequest, IsRequestBody, send_data_at, get_routing_info_at, request_at, request_of}
-use Rattle.chip_functions.proofs.FieldLaws.{Takes, Lawful, bind_ok, ok_is, byte_lawful, then_lawful, within_lawful, node_lawful, counted_lawful}
-use Rattle.chip_functions.proofs.RowLaws.{reads_to, no_row, row_cases, row_takes, ReadsOn, row_again, ended_ok}
+use Rattle.chip_functions.proofs.FieldLaws.{Takes, Lawful, bind_ok, bind_err, no_fault, ok_is, byte_lawful, then_lawful, within_lawful, node_lawful, counted_lawful}
+use Rattle.chip_functions.proofs.RowLaws.{reads_to, no_row, row_cases, row_takes, ReadsOn, row_again, ended_ok, IsFaultOf, row_faults, unknown, body_fault, ended_err}
 
 send_data_lawful : Lawful send_data (λ x. IsNode x.0 × ((1 ≤ length x.1.0) × (Unit {0} × ((1 ≤ x.1.1.1) × (x.1.1.1 ≤ 255)))))
 send_data_lawful = then_lawful node_lawful (then_lawful (counted_lawful 1) (then_lawful byte_lawful (within_lawful 1 255)))
@@ -29,7 +29,7 @@ record IsRow (func : ℕ) (p q : Place) (v : Request) : Type 0 where
 -- a row with no field
 empty_row : (func : ℕ) (p q : Place) (v w : Request) → IsBytes p.rest → func ≡ request_function w → request_body w ≡ [] → IsRequest w → reads_to w p ≡ reads_to v q → IsRow func p q v
 empty_row func p q v w fits f none row e =
-    let here : Takes p p (request_body w) = rw none (record { parts = refl; fits = fits }) in
+    let here : Takes p p (request_body w) = rw none (record { parts = refl; fits = fits; moves = omega arith; sum = refl }) in
     subst (λ (y : Request × Place). IsRow func p y.1 y.0) (ok_is (w, p) (v, q) e) (record { function = f; takes = here; row = row })
 
 request_takes : (func : ℕ) (p q : Place) (v : Request) → IsBytes p.rest → request_at func p ≡ Ok (v, q) → IsRow func p q v
@@ -76,3 +76,28 @@ unfolding request_of
 request_only func body v h =
     let r = request_reads v (start_of body) [] h.row (h.text ∙ sym (append-nil (request_body v))) in
     rw h.function (rw (r.is, r.after) refl)
+
+request_faults : (func : ℕ) (p : Place) (fault : BodyFault) → IsBytes p.rest → request_at func p ≡ Err fault → IsFaultOf func p fault
+unfolding request_at send_data_at get_routing_info_at
+request_faults func p fault fits e =
+    row_cases func GET_INIT_DATA _ _ _ e (λ f h. no_fault {A = Request × Place} (GetInitData, p) fault h) (λ e.
+    row_cases func GET_CAPABILITIES _ _ _ e (λ f h. no_fault {A = Request × Place} (GetCapabilities, p) fault h) (λ e.
+    row_cases func SEND_DATA _ _ _ e (λ f h. row_faults send_data_lawful _ func p fault fits h) (λ e.
+    row_cases func GET_VERSION _ _ _ e (λ f h. no_fault {A = Request × Place} (GetVersion, p) fault h) (λ e.
+    row_cases func SEND_DATA_ABORT _ _ _ e (λ f h. no_fault {A = Request × Place} (SendDataAbort, p) fault h) (λ e.
+    row_cases func MEMORY_GET_ID _ _ _ e (λ f h. no_fault {A = Request × Place} (MemoryGetId, p) fault h) (λ e.
+    row_cases func GET_NODE_PROTOCOL_INFO _ _ _ e (λ f h. row_faults node_lawful _ func p fault fits h) (λ e.
+    row_cases func REQUEST_NODE_INFO _ _ _ e (λ f h. row_faults node_lawful _ func p fault fits h) (λ e.
+    row_cases func IS_FAILED_NODE _ _ _ e (λ f h. row_faults node_lawful _ func p fault fits h) (λ e.
+    row_cases func GET_ROUTING_INFO _ _ _ e (λ f h. row_faults get_routing_info_lawful _ func p fault fits h) (λ e.
+    unknown {V = Request} func p fault e))))))))))
+
+-- a fault tells the bytes that there are, or names one of them
+pub request_fault : (func : ℕ) (body : List ℕ) (fault : BodyFault) → IsBytes body → request_of func body ≡ Err fault → IsBodyFault func body fault
+unfolding request_of
+request_fault func body fault fits e =
+    bind_err (request_at func (start_of body)) (λ x. ended_from x.0 x.1.before x.1.rest) fault e
+    (λ h. body_fault func body fault (request_faults func (start_of body) fault fits h))
+    (λ x h f.
+    let t = request_takes func (start_of body) x.1 x.0 fits h in
+    ended_err func body x.0 x.1 fault (t.takes.sum ∙ zero-add (length body)) f)

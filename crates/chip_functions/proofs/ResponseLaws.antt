@@ -9,11 +9,11 @@ use Rattle.chip_functions.specs.declared.mask.TheConstants.{MASK_BYTES}
 use Rattle.chip_functions.specs.declared.response.Response.{Response}
 use Rattle.chip_functions.specs.declared.response.Response.TheVariants.{GetInitData, GetCapabilities, SendData, GetVersion, MemoryGetId, GetNodeProtocolInfo, RequestNodeInfo, IsFailedNode, GetRoutingInfo}
 use Rattle.chip_functions.specs.Mask.{IsBytes, AreNodes}
-use Rattle.chip_functions.specs.Place.{Place, Reading, ◌>>=◌, start_of}
+use Rattle.chip_functions.specs.Place.{Place, Reading, IsBodyFault, ◌>>=◌, start_of}
 use Rattle.chip_functions.specs.Field.{Field, IsNode, coded, read_as}
 use Rattle.chip_functions.specs.Response.{init_data, capabilities, version, memory_id, protocol_info, failed_code, failed_of, response_function, response_body, IsResponse, IsResponseBody, init_data_at, capabilities_at, version_at, memory_id_at, protocol_info_at, response_at, response_of}
-use Rattle.chip_functions.proofs.FieldLaws.{Takes, Lawful, bind_ok, ok_is, byte_lawful, piece_lawful, then_lawful, node_lawful, mark_lawful, wide16, wide32, number_lawful, mask_lawful, coded_lawful}
-use Rattle.chip_functions.proofs.RowLaws.{reads_to, no_row, some_is, none_is, row_cases, row_takes, ReadsOn, row_again}
+use Rattle.chip_functions.proofs.FieldLaws.{Takes, Lawful, bind_ok, bind_err, no_fault, ok_is, byte_lawful, piece_lawful, then_lawful, node_lawful, mark_lawful, wide16, wide32, number_lawful, mask_lawful, coded_lawful}
+use Rattle.chip_functions.proofs.RowLaws.{reads_to, no_row, some_is, none_is, row_cases, row_takes, ReadsOn, row_again, IsFaultOf, row_faults, unknown, body_fault}
 
 init_data_lawful : Lawful init_data (λ x. Unit {0} × (Unit {0} × (Unit {0} × (AreNodes x.1.1.1.0 × (Unit {0} × Unit {0})))))
 init_data_lawful = then_lawful byte_lawful (then_lawful byte_lawful (then_lawful (mark_lawful MASK_BYTES) (then_lawful mask_lawful (then_lawful byte_lawful byte_lawful))))
@@ -91,3 +91,25 @@ unfolding response_of
 response_only func body v h =
     let r = response_reads v (start_of body) h.tail h.row h.text in
     rw h.function (rw r.is refl)
+
+response_faults : (func : ℕ) (p : Place) (fault : BodyFault) → IsBytes p.rest → response_at func p ≡ Err fault → IsFaultOf func p fault
+unfolding response_at init_data_at capabilities_at version_at memory_id_at protocol_info_at
+response_faults func p fault fits e =
+    row_cases func GET_INIT_DATA _ _ _ e (λ f h. row_faults init_data_lawful _ func p fault fits h) (λ e.
+    row_cases func GET_CAPABILITIES _ _ _ e (λ f h. row_faults capabilities_lawful _ func p fault fits h) (λ e.
+    row_cases func SEND_DATA _ _ _ e (λ f h. row_faults byte_lawful _ func p fault fits h) (λ e.
+    row_cases func GET_VERSION _ _ _ e (λ f h. row_faults version_lawful _ func p fault fits h) (λ e.
+    row_cases func MEMORY_GET_ID _ _ _ e (λ f h. row_faults memory_id_lawful _ func p fault fits h) (λ e.
+    row_cases func GET_NODE_PROTOCOL_INFO _ _ _ e (λ f h. row_faults protocol_info_lawful _ func p fault fits h) (λ e.
+    row_cases func REQUEST_NODE_INFO _ _ _ e (λ f h. row_faults byte_lawful _ func p fault fits h) (λ e.
+    row_cases func IS_FAILED_NODE _ _ _ e (λ f h. row_faults failed_lawful _ func p fault fits h) (λ e.
+    row_cases func GET_ROUTING_INFO _ _ _ e (λ f h. row_faults mask_lawful _ func p fault fits h) (λ e.
+    unknown {V = Response} func p fault e)))))))))
+
+-- a fault tells the bytes that there are, or names one of them
+pub response_fault : (func : ℕ) (body : List ℕ) (fault : BodyFault) → IsBytes body → response_of func body ≡ Err fault → IsBodyFault func body fault
+unfolding response_of
+response_fault func body fault fits e =
+    bind_err (response_at func (start_of body)) (λ x. Ok x.0) fault e
+    (λ h. body_fault func body fault (response_faults func (start_of body) fault fits h))
+    (λ x h f. no_fault {A = Response} x.0 fault f)

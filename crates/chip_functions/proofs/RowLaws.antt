@@ -1,12 +1,13 @@
 -- What serves the rows of every direction.
-use Rattle.std.proofs.Common.{◌≡◌, ℕ, Bool, true, false, cond, eqb, List, [], ◌∷◌, ◌++◌, Option, Some, None, Result, Ok, Err, refl, sym, ap, subst, ◌∙◌}
-use Rattle.std.specs.Prelude.{IfOk}
+use Rattle.std.proofs.Common.{◌≡◌, ℕ, Bool, true, false, cond, eqb, List, [], ◌∷◌, ◌++◌, Option, Some, None, Result, Ok, Err, refl, sym, ap, subst, ◌∙◌, ◌+◌, ◌⊎◌, inl, inr, length, arith}
+use Rattle.std.specs.Prelude.{IfOk, IfErr}
 use Rattle.std.proofs.lemmas.Bool.{eqb-true}
 use Rattle.chip_functions.specs.declared.fault.BodyFault.{BodyFault}
+use Rattle.chip_functions.specs.declared.fault.BodyFault.TheVariants.{UnknownFunction, Short, BadField, NoMemory}
 use Rattle.chip_functions.specs.Mask.{IsBytes}
-use Rattle.chip_functions.specs.Place.{Place, Reading, Gives, ended_from}
+use Rattle.chip_functions.specs.Place.{Place, Reading, Gives, IsFaultFrom, IsBodyFault, start_of, ended_from}
 use Rattle.chip_functions.specs.Field.{Field, read_as}
-use Rattle.chip_functions.proofs.FieldLaws.{Takes, Reads, Lawful, as_takes}
+use Rattle.chip_functions.proofs.FieldLaws.{Takes, Reads, Lawful, as_takes, as_faults, failed, err_is, no_fault}
 
 -- a reading that went well
 abbrev pub reads_to : {V : Type 0} → V → Place → Reading V
@@ -58,3 +59,46 @@ ended_ok v w before (b ∷ rest) e = absurd cc
 pub if_ok : {V : Type 0} (r : Result V BodyFault) (reading : Result V BodyFault) (P : V → Type 0) → Gives (λ v. v) r reading → ((v : V) → reading ≡ Ok v → P v) → IfOk r P
 if_ok (Ok v) reading P given each = each v given
 if_ok (Err fault) reading P given each = tt
+
+-- ---- faults
+
+-- a fault of what a function reads at a place
+abbrev pub IsFaultOf : ℕ → Place → BodyFault → Type 0
+IsFaultOf func p fault = (fault ≡ UnknownFunction func) ⊎ IsFaultFrom p fault
+
+-- the faults of a row are those of its fields
+pub row_faults : {A V : Type 0} {field : Field A} {F : A → Type 0} (law : Lawful field F) (make : A → V) (func : ℕ) (p : Place) (fault : BodyFault) → IsBytes p.rest → read_as make (field.read p) ≡ Err fault → IsFaultOf func p fault
+row_faults {field} law make func p fault fits e = inr (law.faults p fault fits (as_faults make (field.read p) fault e))
+
+-- where no row is left the function is unknown
+pub unknown : {V : Type 0} (func : ℕ) (p : Place) (fault : BodyFault) → Err (UnknownFunction func) ≡ failed {A = V × Place} fault → IsFaultOf func p fault
+unknown {V} func p fault e = inl (sym (err_is {A = V × Place} (UnknownFunction func) fault e))
+
+unknown_is : (number func : ℕ) → UnknownFunction number ≡ UnknownFunction func → number ≡ func
+unknown_is number func e = cc
+
+-- the faults of a body are those of what is read from its beginning
+pub body_fault : (func : ℕ) (body : List ℕ) (fault : BodyFault) → IsFaultOf func (start_of body) fault → IsBodyFault func body fault
+body_fault func body (Short need got) (inl e) = absurd cc
+body_fault func body (Short need got) (inr h) = (omega (arith, h.0), h.1)
+body_fault func body (BadField place) (inl e) = absurd cc
+body_fault func body (BadField place) (inr h) = omega (arith, h.1)
+body_fault func body (UnknownFunction number) (inl e) = unknown_is number func e
+body_fault func body (UnknownFunction number) (inr h) = absurd h
+body_fault func body NoMemory h = tt
+
+-- what an error is, is what each fault of the reading is
+pub if_err : {V : Type 0} (func : ℕ) (body : List ℕ) (r : Result V BodyFault) (reading : Result V BodyFault) → Gives (λ v. v) r reading → ((fault : BodyFault) → reading ≡ Err fault → IsBodyFault func body fault) → IfErr r (λ fault. IsBodyFault func body fault)
+if_err func body (Ok v) reading given each = tt
+if_err func body (Err (UnknownFunction number)) reading given each = each (UnknownFunction number) given
+if_err func body (Err (Short need got)) reading given each = each (Short need got) given
+if_err func body (Err (BadField place)) reading given each = each (BadField place) given
+if_err func body (Err NoMemory) reading given each = tt
+
+goes_on : {V : Type 0} (func : ℕ) (body : List ℕ) (v : V) (before : ℕ) (rest : List ℕ) (fault : BodyFault) → before + length rest ≡ length body → ended_from v before rest ≡ Err fault → IsBodyFault func body fault
+goes_on {V} func body v before [] fault sum e = no_fault {A = V} v fault e
+goes_on {V} func body v before (b ∷ rest) fault sum e = subst (IsBodyFault func body) (err_is {A = V} (BadField before) fault e) (omega arith)
+
+-- a request that goes on has a bad field there
+pub ended_err : {V : Type 0} (func : ℕ) (body : List ℕ) (v : V) (q : Place) (fault : BodyFault) → q.before + length q.rest ≡ length body → ended_from v q.before q.rest ≡ Err fault → IsBodyFault func body fault
+ended_err {V} func body v q fault sum e = goes_on func body v q.before q.rest fault sum e

@@ -1,7 +1,7 @@
 //! Notices, as the host reads them.
 
-ghost use Rattle.std.specs.Prelude.{◌≡◌, ℕ, ◌≤◌, IfOk};
-ghost use Rattle.chip_functions.specs.Place.{Gives, start_of};
+ghost use Rattle.std.specs.Prelude.{◌≡◌, ℕ, ◌≤◌, IfOk, IfErr};
+ghost use Rattle.chip_functions.specs.Place.{Gives, IsBodyFault};
 ghost use Rattle.chip_functions.specs.Seen.{place_of};
 ghost use Rattle.chip_functions.specs.Notice.{handler_at, callback_at, received_at, request_failed_at, update, update_at, IsNoticeBody, notice_at, notice_of};
 ghost use Rattle.chip_functions.specs.declared.notice.Notice.{Notice};
@@ -116,6 +116,8 @@ pub fn read_notice(alloc: Global, func: u8, body: &[u8]) -> Result<Notice, BodyF
     ensures only { (notice : Notice) → IsNoticeBody func body.now notice → Gives (λ found. found) result (Ok notice) }
     // Which value it is, or which fault.
     ensures exact { Gives (λ notice. notice) result (notice_of func body.now) }
+    // A fault names the function, tells how many bytes there are and that more are needed, or names one of them.
+    ensures fault { IfErr result (λ fault. IsBodyFault func body.now fault) }
 {
     first_notice(alloc, func, body)
 }

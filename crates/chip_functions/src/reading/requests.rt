@@ -1,7 +1,7 @@
 //! Requests, as the chip reads them.
 
-ghost use Rattle.std.specs.Prelude.{◌≡◌, ℕ, IfOk};
-ghost use Rattle.chip_functions.specs.Place.{Gives, start_of};
+ghost use Rattle.std.specs.Prelude.{◌≡◌, ℕ, IfOk, IfErr};
+ghost use Rattle.chip_functions.specs.Place.{Gives, IsBodyFault};
 ghost use Rattle.chip_functions.specs.Seen.{place_of};
 ghost use Rattle.chip_functions.specs.Request.{send_data_at, get_routing_info_at, IsRequestBody, request_at, request_of};
 ghost use Rattle.chip_functions.specs.declared.request.Request.{Request};
@@ -94,6 +94,8 @@ pub fn read_request(alloc: Global, func: u8, body: &[u8]) -> Result<Request, Bod
     ensures only { (request : Request) → IsRequestBody func body.now request → Gives (λ found. found) result (Ok request) }
     // Which value it is, or which fault.
     ensures exact { Gives (λ request. request) result (request_of func body.now) }
+    // A fault names the function, tells how many bytes there are and that more are needed, or names one of them.
+    ensures fault { IfErr result (λ fault. IsBodyFault func body.now fault) }
 {
     whole_request(alloc, func, body)
 }

@@ -1,7 +1,7 @@
 //! Responses, as the host reads them.
 
-ghost use Rattle.std.specs.Prelude.{◌≡◌, ℕ, IfOk};
-ghost use Rattle.chip_functions.specs.Place.{Gives, start_of};
+ghost use Rattle.std.specs.Prelude.{◌≡◌, ℕ, IfOk, IfErr};
+ghost use Rattle.chip_functions.specs.Place.{Gives, IsBodyFault};
 ghost use Rattle.chip_functions.specs.Seen.{place_of};
 ghost use Rattle.chip_functions.specs.Response.{init_data_at, capabilities_at, version_at, memory_id_at, protocol_info_at, IsResponseBody, response_at, response_of};
 ghost use Rattle.chip_functions.specs.declared.response.Response.{Response};
@@ -140,6 +140,8 @@ pub fn read_response(_alloc: Global, func: u8, body: &[u8]) -> Result<Response, 
     ensures only { (response : Response) → IsResponseBody func body.now response → Gives (λ found. found) result (Ok response) }
     // Which value it is, or which fault.
     ensures exact { Gives (λ response. response) result (response_of func body.now) }
+    // A fault names the function, tells how many bytes there are and that more are needed, or names one of them.
+    ensures fault { IfErr result (λ fault. IsBodyFault func body.now fault) }
 {
     first_response(func, body)
 }
