@@ -1,1 +1,6 @@
 pub mod MaskLemmas
+pub mod FieldLaws
+pub mod RowLaws
+pub mod RequestLaws
+pub mod ResponseLaws
+pub mod NoticeLaws

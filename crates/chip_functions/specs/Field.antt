@@ -1,5 +1,5 @@
 -- The fields that bodies are made of. Each has one spelling, and is read from left to right.
-use Rattle.std.specs.Prelude.{ℕ, ◌+◌, ◌-◌, Bool, true, false, List, [], ◌∷◌, ◌++◌, length, Option, Some, None, Ok, Err, nat_lt, nat_le, ◌==◌, ◌&&◌, if◌then◌else◌}
+use Rattle.std.specs.Prelude.{ℕ, ◌+◌, ◌-◌, ◌≤◌, Bool, true, false, List, [], ◌∷◌, ◌++◌, length, Option, Some, None, Ok, Err, nat_lt, nat_le, ◌==◌, ◌&&◌, if◌then◌else◌}
 use Rattle.std.specs.Int.{Width, w16, w32, byte_len, to_be_bytes, from_be_bytes}
 use Rattle.chip_functions.specs.declared.fault.BodyFault.TheVariants.{Short, BadField}
 use Rattle.chip_functions.specs.declared.mask.TheConstants.{MASK_BYTES}
@@ -41,6 +41,10 @@ coded code value_of = record {
 -- a byte in a range
 abbrev pub byte_within : ℕ → ℕ → Field ℕ
 byte_within low high = coded (λ b. b) (λ b. if nat_le low b && nat_le b high then Some b else None)
+
+-- a number that is a node's
+abbrev pub IsNode : ℕ → Type 0
+IsNode n = (1 ≤ n) × (n ≤ 232)
 
 -- a node, 1 to 232
 abbrev pub node : Field ℕ

@@ -29,10 +29,14 @@ number_with (suc k) test = (if test k then 1 else 0) * 2 ^ k + number_with k tes
 unfoldable pub mask_of : List ℕ → List ℕ
 mask_of nodes = map (λ i. number_with 8 (λ k. is_among nodes (8 * i + k + 1))) (range_with_len 0 29)
 
--- nodes that a mask can have: each once, in order, and within 1 to 232
-pub record AreNodes (nodes : List ℕ) : Type 0 where
-  pub rising : IsStrictlyIncreasing nodes
-  pub each : All (λ n. (1 ≤ n) × (n ≤ 232)) nodes
+-- nodes in order, each once, from a first one up to 232
+abbrev pub AreNodesFrom : ℕ → List ℕ → Type 0
+AreNodesFrom least [] = Unit {0}
+AreNodesFrom least (n ∷ nodes) = (least ≤ n) × (n ≤ 232) × AreNodesFrom (n + 1) nodes
+
+-- what a mask can have: nodes in order, each once
+abbrev pub AreNodes : List ℕ → Type 0
+AreNodes nodes = AreNodesFrom 1 nodes
 
 -- the nodes with one more, in order
 abbrev pub with_node : ℕ → List ℕ → List ℕ

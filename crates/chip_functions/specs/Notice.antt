@@ -12,7 +12,7 @@ use Rattle.chip_functions.specs.declared.notice.Notice.{Notice}
 use Rattle.chip_functions.specs.declared.notice.Notice.TheVariants.{ApplicationCommandHandler, SendData, ApplicationUpdate}
 use Rattle.chip_functions.specs.declared.notice.TheConstants.{DEVICE_CLASSES, UPDATE_RECEIVED, UPDATE_FAILED}
 use Rattle.chip_functions.specs.Place.{Place, Reading, ◌>>=◌, start_of, byte_from, piece_from}
-use Rattle.chip_functions.specs.Field.{Field, byte, node, mark, counted, coded, ◌then◌, read_as}
+use Rattle.chip_functions.specs.Field.{Field, byte, piece, IsNode, node, mark, counted, coded, ◌then◌, read_as}
 
 -- an ApplicationCommandHandler: the status of its receipt, the source, and a payload of at least one byte behind its length
 abbrev pub handler : Field (ℕ × (ℕ × List ℕ))
@@ -40,12 +40,15 @@ status_of b =
 abbrev pub callback : Field (ℕ × TransmitStatus)
 callback = byte then coded status_code status_of
 
--- basic, generic and specific device class and the command classes, behind the length of all these
+-- basic, generic and specific device class and the command classes, so many bytes in all
+abbrev pub classes_of : ℕ → Field (ℕ × (ℕ × (ℕ × List ℕ)))
+classes_of len = byte then byte then byte then piece (len - DEVICE_CLASSES)
+
+-- these behind their length
 abbrev pub classes : Field (ℕ × (ℕ × (ℕ × List ℕ)))
 classes = record {
-  spell = λ x. (length x.1.1.1 + DEVICE_CLASSES) ∷ x.0 ∷ x.1.0 ∷ x.1.1.0 ∷ x.1.1.1;
-  read = λ p. byte_from p.before p.rest >>= λ n. if nat_lt n.0 DEVICE_CLASSES then Err (BadField p.before) else
-      (byte.read n.1 >>= λ b. byte.read b.1 >>= λ g. byte.read g.1 >>= λ s. piece_from (n.0 - DEVICE_CLASSES) s.1.before s.1.rest >>= λ c. Ok ((b.0, (g.0, (s.0, c.0))), c.1));
+  spell = λ x. (length x.1.1.1 + DEVICE_CLASSES) ∷ (classes_of (length x.1.1.1 + DEVICE_CLASSES)).spell x;
+  read = λ p. byte_from p.before p.rest >>= λ n. if nat_lt n.0 DEVICE_CLASSES then Err (BadField p.before) else (classes_of n.0).read n.1;
 }
 
 -- the information of a node
@@ -95,6 +98,23 @@ abbrev pub HasNoticeRow : Notice → Type 0
 HasNoticeRow (ApplicationCommandHandler status source payload) = 1 ≤ length payload
 HasNoticeRow (SendData id status) = Unit {0}
 HasNoticeRow (ApplicationUpdate u) = Unit {0}
+
+-- a notice that a row has
+abbrev pub IsUpdate : Update → Type 0
+IsUpdate (Received n b g s list) = IsNode n
+IsUpdate RequestFailed = Unit {0}
+
+abbrev pub IsNotice : Notice → Type 0
+IsNotice (ApplicationCommandHandler status source payload) = IsNode source × (1 ≤ length payload)
+IsNotice (SendData id status) = Unit {0}
+IsNotice (ApplicationUpdate u) = IsUpdate u
+
+-- the body of that function begins with the notice
+pub record IsNoticeBody (func : ℕ) (body : List ℕ) (value : Notice) : Type 0 where
+  pub row : IsNotice value
+  pub function : func ≡ notice_function value
+  pub tail : List ℕ
+  pub text : body ≡ notice_body value ++ tail
 
 -- the rows, as they are read
 unfoldable pub handler_at : Place → Reading Notice

@@ -1,7 +1,7 @@
 -- A place in a body, and the fault where a field is not whole.
-use Rattle.std.specs.Prelude.{◌≡◌, ℕ, ◌+◌, ◌<◌, List, [], ◌∷◌, ◌++◌, length, take, drop, Option, Some, None, Result, Ok, Err, nat_lt, if◌then◌else◌}
+use Rattle.std.specs.Prelude.{◌≡◌, ℕ, ◌+◌, ◌<◌, ◌≤◌, List, [], ◌∷◌, ◌++◌, length, take, drop, Option, Some, None, Result, Ok, Err, nat_lt, if◌then◌else◌}
 use Rattle.chip_functions.specs.declared.fault.BodyFault.{BodyFault}
-use Rattle.chip_functions.specs.declared.fault.BodyFault.TheVariants.{Short, BadField, NoMemory}
+use Rattle.chip_functions.specs.declared.fault.BodyFault.TheVariants.{UnknownFunction, Short, BadField, NoMemory}
 
 -- how many bytes of the body stand before the place, and the bytes from it on
 pub record Place : Type 0 where
@@ -46,3 +46,17 @@ found_at before (Some value) after = Ok (value, after)
 abbrev pub ended_from : {A : Type 0} → A → ℕ → List ℕ → Result A BodyFault
 ended_from value before [] = Ok value
 ended_from value before (byte ∷ rest) = Err (BadField before)
+
+-- a fault of what stands from a place on: it tells the bytes that there are, or names one of them
+abbrev pub IsFaultFrom : Place → BodyFault → Type 0
+IsFaultFrom p (Short need got) = (got ≡ p.before + length p.rest) × (got < need)
+IsFaultFrom p (BadField place) = (p.before ≤ place) × (place < p.before + length p.rest)
+IsFaultFrom p (UnknownFunction func) = ⊥
+IsFaultFrom p NoMemory = ⊥
+
+-- a fault of the body of a function
+abbrev pub IsBodyFault : ℕ → List ℕ → BodyFault → Type 0
+IsBodyFault func body (Short need got) = (got ≡ length body) × (got < need)
+IsBodyFault func body (BadField place) = place < length body
+IsBodyFault func body (UnknownFunction number) = number ≡ func
+IsBodyFault func body NoMemory = Unit {0}

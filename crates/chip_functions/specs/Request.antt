@@ -6,7 +6,7 @@ use Rattle.chip_functions.specs.declared.function.TheConstants.{GET_INIT_DATA, G
 use Rattle.chip_functions.specs.declared.request.Request.{Request}
 use Rattle.chip_functions.specs.declared.request.Request.TheVariants.{GetInitData, GetCapabilities, SendData, GetVersion, SendDataAbort, MemoryGetId, GetNodeProtocolInfo, RequestNodeInfo, IsFailedNode, GetRoutingInfo}
 use Rattle.chip_functions.specs.Place.{Place, Reading, ◌>>=◌, start_of, ended_from}
-use Rattle.chip_functions.specs.Field.{Field, nothing, byte, byte_within, node, counted, ◌then◌, read_as}
+use Rattle.chip_functions.specs.Field.{Field, byte, byte_within, IsNode, node, counted, ◌then◌, read_as}
 
 -- a SendData: the node, a payload of at least one byte behind its length, the options and a callback id that is not 0
 abbrev pub send_data : Field (ℕ × (List ℕ × (ℕ × ℕ)))
@@ -54,6 +54,25 @@ HasRequestRow (GetNodeProtocolInfo n) = Unit {0}
 HasRequestRow (RequestNodeInfo n) = Unit {0}
 HasRequestRow (IsFailedNode n) = Unit {0}
 HasRequestRow (GetRoutingInfo n x y z) = Unit {0}
+
+-- a request that a row has
+abbrev pub IsRequest : Request → Type 0
+IsRequest GetInitData = Unit {0}
+IsRequest GetCapabilities = Unit {0}
+IsRequest (SendData n payload options id) = IsNode n × (1 ≤ length payload) × (1 ≤ id) × (id ≤ 255)
+IsRequest GetVersion = Unit {0}
+IsRequest SendDataAbort = Unit {0}
+IsRequest MemoryGetId = Unit {0}
+IsRequest (GetNodeProtocolInfo n) = IsNode n
+IsRequest (RequestNodeInfo n) = IsNode n
+IsRequest (IsFailedNode n) = IsNode n
+IsRequest (GetRoutingInfo n x y z) = IsNode n
+
+-- the body of that function is the request, the whole of it
+pub record IsRequestBody (func : ℕ) (body : List ℕ) (value : Request) : Type 0 where
+  pub row : IsRequest value
+  pub function : func ≡ request_function value
+  pub text : body ≡ request_body value
 
 -- the rows, as they are read
 unfoldable pub send_data_at : Place → Reading Request

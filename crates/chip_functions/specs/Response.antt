@@ -1,5 +1,5 @@
 -- Responses of the chip (Serial API: Host Application Programming Guide; that a tail is ignored is this project's own rule).
-use Rattle.std.specs.Prelude.{◌≡◌, ℕ, ◌<◌, ◌≤◌, ◌^◌, Bool, true, false, List, [], ◌∷◌, length, Option, Some, None, Result, Ok, Err, ◌==◌, if◌then◌else◌}
+use Rattle.std.specs.Prelude.{◌≡◌, ℕ, ◌<◌, ◌≤◌, ◌^◌, Bool, true, false, List, [], ◌∷◌, ◌++◌, length, Option, Some, None, Result, Ok, Err, ◌==◌, if◌then◌else◌}
 use Rattle.std.specs.Int.{w16, w32}
 use Rattle.chip_functions.specs.declared.fault.BodyFault.{BodyFault}
 use Rattle.chip_functions.specs.declared.fault.BodyFault.TheVariants.{UnknownFunction}
@@ -7,8 +7,9 @@ use Rattle.chip_functions.specs.declared.function.TheConstants.{GET_INIT_DATA, G
 use Rattle.chip_functions.specs.declared.mask.TheConstants.{MASK_BYTES}
 use Rattle.chip_functions.specs.declared.response.Response.{Response}
 use Rattle.chip_functions.specs.declared.response.Response.TheVariants.{GetInitData, GetCapabilities, SendData, GetVersion, MemoryGetId, GetNodeProtocolInfo, RequestNodeInfo, IsFailedNode, GetRoutingInfo}
+use Rattle.chip_functions.specs.Mask.{AreNodes}
 use Rattle.chip_functions.specs.Place.{Place, Reading, ◌>>=◌, start_of}
-use Rattle.chip_functions.specs.Field.{Field, byte, piece, node, mark, number, mask, coded, ◌then◌, read_as}
+use Rattle.chip_functions.specs.Field.{Field, byte, piece, IsNode, node, mark, number, mask, coded, ◌then◌, read_as}
 
 -- a GetInitData: version, capabilities, the length of the mask and the mask, chip type and chip version
 abbrev pub init_data : Field (ℕ × (ℕ × (Unit {0} × (List ℕ × (ℕ × ℕ)))))
@@ -62,6 +63,25 @@ response_body (GetNodeProtocolInfo c s r b g t) = protocol_info.spell (c, (s, (r
 response_body (RequestNodeInfo answer) = byte.spell answer
 response_body (IsFailedNode failed) = (coded failed_code failed_of).spell failed
 response_body (GetRoutingInfo nodes) = mask.spell nodes
+
+-- a response that a row has
+abbrev pub IsResponse : Response → Type 0
+IsResponse (GetInitData v c nodes t u) = AreNodes nodes
+IsResponse (GetCapabilities v r m t p functions) = (m < 2 ^ 16) × (t < 2 ^ 16) × (p < 2 ^ 16) × (length functions ≡ 32)
+IsResponse (SendData answer) = Unit {0}
+IsResponse (GetVersion text t) = length text ≡ 12
+IsResponse (MemoryGetId home n) = (home < 2 ^ 32) × IsNode n
+IsResponse (GetNodeProtocolInfo c s r b g t) = Unit {0}
+IsResponse (RequestNodeInfo answer) = Unit {0}
+IsResponse (IsFailedNode failed) = Unit {0}
+IsResponse (GetRoutingInfo nodes) = AreNodes nodes
+
+-- the body of that function begins with the response
+pub record IsResponseBody (func : ℕ) (body : List ℕ) (value : Response) : Type 0 where
+  pub row : IsResponse value
+  pub function : func ≡ response_function value
+  pub tail : List ℕ
+  pub text : body ≡ response_body value ++ tail
 
 -- the rows, as they are read
 unfoldable pub init_data_at : Place → Reading Response

@@ -1,9 +1,10 @@
 //! Notices, as the host reads them.
 
-ghost use Rattle.std.specs.Prelude.{◌≡◌, ℕ, ◌≤◌};
-ghost use Rattle.chip_functions.specs.Place.{Gives, start_of};
+ghost use Rattle.std.specs.Prelude.{◌≡◌, ℕ, ◌≤◌, IfOk, IfErr};
+ghost use Rattle.chip_functions.specs.Place.{Gives, IsBodyFault};
 ghost use Rattle.chip_functions.specs.Seen.{place_of};
-ghost use Rattle.chip_functions.specs.Notice.{handler_at, callback_at, received_at, request_failed_at, update, update_at, notice_at, notice_of};
+ghost use Rattle.chip_functions.specs.Notice.{handler_at, callback_at, received_at, request_failed_at, update, update_at, IsNoticeBody, notice_at, notice_of};
+ghost use Rattle.chip_functions.specs.declared.notice.Notice.{Notice};
 
 use crate::function::{APPLICATION_COMMAND_HANDLER, APPLICATION_UPDATE, SEND_DATA};
 use crate::notice::{DEVICE_CLASSES, UPDATE_FAILED, UPDATE_RECEIVED};
@@ -95,15 +96,28 @@ fn notice(alloc: Global, func: u8, place: &mut Place) -> Result<Notice, BodyFaul
     }
 }
 
-/// The notice that the body of a function begins with.
+/// The front of the body of a function, read from left to right.
 #[tactic(auto, unfolding(crate::specs::Notice::notice_of))]
-pub fn read_notice(alloc: Global, func: u8, body: &[u8]) -> Result<Notice, BodyFault>
-    // Which value it is, or which fault.
-    ensures exact { Gives (λ notice. notice) result (notice_of func body.now) }
+fn first_notice(alloc: Global, func: u8, body: &[u8]) -> Result<Notice, BodyFault>
+    ensures { Gives (λ notice. notice) result (notice_of func body.now) }
 {
     let mut place = Place {
         before: 0,
         rest: body,
     };
     notice(alloc, func, &mut place)
+}
+
+/// The notice that the body of a function begins with.
+pub fn read_notice(alloc: Global, func: u8, body: &[u8]) -> Result<Notice, BodyFault>
+    // What is read is spelled so.
+    ensures found { IfOk result (λ notice. IsNoticeBody func body.now notice) }
+    // What is spelled so is read, unless there is no memory.
+    ensures only { (notice : Notice) → IsNoticeBody func body.now notice → Gives (λ found. found) result (Ok notice) }
+    // Which value it is, or which fault.
+    ensures exact { Gives (λ notice. notice) result (notice_of func body.now) }
+    // A fault names the function, tells how many bytes there are and that more are needed, or names one of them.
+    ensures fault { IfErr result (λ fault. IsBodyFault func body.now fault) }
+{
+    first_notice(alloc, func, body)
 }

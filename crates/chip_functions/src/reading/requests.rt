@@ -1,9 +1,10 @@
 //! Requests, as the chip reads them.
 
-ghost use Rattle.std.specs.Prelude.{◌≡◌, ℕ};
-ghost use Rattle.chip_functions.specs.Place.{Gives, start_of};
+ghost use Rattle.std.specs.Prelude.{◌≡◌, ℕ, IfOk, IfErr};
+ghost use Rattle.chip_functions.specs.Place.{Gives, IsBodyFault};
 ghost use Rattle.chip_functions.specs.Seen.{place_of};
-ghost use Rattle.chip_functions.specs.Request.{send_data_at, get_routing_info_at, request_at, request_of};
+ghost use Rattle.chip_functions.specs.Request.{send_data_at, get_routing_info_at, IsRequestBody, request_at, request_of};
+ghost use Rattle.chip_functions.specs.declared.request.Request.{Request};
 
 use crate::function::{
     GET_CAPABILITIES, GET_INIT_DATA, GET_NODE_PROTOCOL_INFO, GET_ROUTING_INFO, GET_VERSION,
@@ -69,11 +70,10 @@ fn request(alloc: Global, func: u8, place: &mut Place) -> Result<Request, BodyFa
     }
 }
 
-/// The request that the body of a function is.
+/// The whole body of a function, read from left to right.
 #[tactic(auto, unfolding(crate::specs::Request::request_of))]
-pub fn read_request(alloc: Global, func: u8, body: &[u8]) -> Result<Request, BodyFault>
-    // Which value it is, or which fault.
-    ensures exact { Gives (λ request. request) result (request_of func body.now) }
+fn whole_request(alloc: Global, func: u8, body: &[u8]) -> Result<Request, BodyFault>
+    ensures { Gives (λ request. request) result (request_of func body.now) }
 {
     let mut place = Place {
         before: 0,
@@ -84,4 +84,18 @@ pub fn read_request(alloc: Global, func: u8, body: &[u8]) -> Result<Request, Bod
         [] => Ok(request),
         [..] => Err(BodyFault::BadField(place.before)),
     }
+}
+
+/// The request that the whole body of a function is.
+pub fn read_request(alloc: Global, func: u8, body: &[u8]) -> Result<Request, BodyFault>
+    // What is read is spelled so.
+    ensures found { IfOk result (λ request. IsRequestBody func body.now request) }
+    // What is spelled so is read, unless there is no memory.
+    ensures only { (request : Request) → IsRequestBody func body.now request → Gives (λ found. found) result (Ok request) }
+    // Which value it is, or which fault.
+    ensures exact { Gives (λ request. request) result (request_of func body.now) }
+    // A fault names the function, tells how many bytes there are and that more are needed, or names one of them.
+    ensures fault { IfErr result (λ fault. IsBodyFault func body.now fault) }
+{
+    whole_request(alloc, func, body)
 }

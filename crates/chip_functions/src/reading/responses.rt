@@ -1,9 +1,10 @@
 //! Responses, as the host reads them.
 
-ghost use Rattle.std.specs.Prelude.{◌≡◌, ℕ};
-ghost use Rattle.chip_functions.specs.Place.{Gives, start_of};
+ghost use Rattle.std.specs.Prelude.{◌≡◌, ℕ, IfOk, IfErr};
+ghost use Rattle.chip_functions.specs.Place.{Gives, IsBodyFault};
 ghost use Rattle.chip_functions.specs.Seen.{place_of};
-ghost use Rattle.chip_functions.specs.Response.{init_data_at, capabilities_at, version_at, memory_id_at, protocol_info_at, response_at, response_of};
+ghost use Rattle.chip_functions.specs.Response.{init_data_at, capabilities_at, version_at, memory_id_at, protocol_info_at, IsResponseBody, response_at, response_of};
+ghost use Rattle.chip_functions.specs.declared.response.Response.{Response};
 
 use crate::function::{
     GET_CAPABILITIES, GET_INIT_DATA, GET_NODE_PROTOCOL_INFO, GET_ROUTING_INFO, GET_VERSION,
@@ -119,15 +120,28 @@ fn response(func: u8, place: &mut Place) -> Result<Response, BodyFault>
     }
 }
 
-/// The response that the body of a function begins with.
+/// The front of the body of a function, read from left to right.
 #[tactic(auto, unfolding(crate::specs::Response::response_of))]
-pub fn read_response(_alloc: Global, func: u8, body: &[u8]) -> Result<Response, BodyFault>
-    // Which value it is, or which fault.
-    ensures exact { Gives (λ response. response) result (response_of func body.now) }
+fn first_response(func: u8, body: &[u8]) -> Result<Response, BodyFault>
+    ensures { Gives (λ response. response) result (response_of func body.now) }
 {
     let mut place = Place {
         before: 0,
         rest: body,
     };
     response(func, &mut place)
+}
+
+/// The response that the body of a function begins with.
+pub fn read_response(_alloc: Global, func: u8, body: &[u8]) -> Result<Response, BodyFault>
+    // What is read is spelled so.
+    ensures found { IfOk result (λ response. IsResponseBody func body.now response) }
+    // What is spelled so is read, unless there is no memory.
+    ensures only { (response : Response) → IsResponseBody func body.now response → Gives (λ found. found) result (Ok response) }
+    // Which value it is, or which fault.
+    ensures exact { Gives (λ response. response) result (response_of func body.now) }
+    // A fault names the function, tells how many bytes there are and that more are needed, or names one of them.
+    ensures fault { IfErr result (λ fault. IsBodyFault func body.now fault) }
+{
+    first_response(func, body)
 }

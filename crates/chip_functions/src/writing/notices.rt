@@ -2,7 +2,8 @@
 
 ghost use Rattle.std.specs.Prelude.{◌≡◌, ◌≤◌, length, IfOk};
 ghost use Rattle.serial_frame.specs.declared.frame.Kind.TheVariants.{Request as of_request};
-ghost use Rattle.chip_functions.specs.Notice.{handler, classes, update, notice_function, notice_body, HasNoticeRow};
+ghost use Rattle.chip_functions.specs.Notice.{handler, classes, update, notice_function, notice_body, HasNoticeRow, IsUpdate, IsNotice, IsNoticeBody};
+ghost use Rattle.chip_functions.specs.Field.{IsNode};
 
 use crate::function::{APPLICATION_COMMAND_HANDLER, APPLICATION_UPDATE, SEND_DATA};
 use crate::notice::{DEVICE_CLASSES, UPDATE_FAILED, UPDATE_RECEIVED};
@@ -23,7 +24,8 @@ fn function(value: &Notice) -> u8
 
 fn handler(alloc: Global, rx_status: u8, source: NodeId, payload: &Bytes) -> Result<Bytes, NoMemory>
     requires { length payload.now ≤ 255 }
-    ensures { IfOk result (λ body. body ≡ handler.spell (rx_status, (source, payload.now))) }
+    ensures body { IfOk result (λ body. body ≡ handler.spell (rx_status, (source, payload.now))) }
+    ensures node { IsNode source }
 {
     let mut body = Bytes::from_slice(alloc, &[rx_status, source.number(), payload.len() as u8])?;
     body.extend(payload.as_slice())?;
@@ -32,7 +34,8 @@ fn handler(alloc: Global, rx_status: u8, source: NodeId, payload: &Bytes) -> Res
 
 fn update(alloc: Global, value: &Update) -> Result<Bytes, NoMemory>
     requires { length (update.spell value.now) ≤ 252 }
-    ensures { IfOk result (λ body. body ≡ update.spell value.now) }
+    ensures body { IfOk result (λ body. body ≡ update.spell value.now) }
+    ensures row { IsUpdate value.now }
 {
     match value {
         Update::Received {
@@ -61,7 +64,8 @@ fn update(alloc: Global, value: &Update) -> Result<Bytes, NoMemory>
 
 fn body(alloc: Global, value: &Notice) -> Result<Bytes, NoMemory>
     requires { length (notice_body value.now) ≤ 252 }
-    ensures { IfOk result (λ body. body ≡ notice_body value.now) }
+    ensures body { IfOk result (λ body. body ≡ notice_body value.now) }
+    ensures row { HasNoticeRow value.now → IsNotice value.now }
 {
     match value {
         Notice::ApplicationCommandHandler {
@@ -81,7 +85,9 @@ fn body(alloc: Global, value: &Notice) -> Result<Bytes, NoMemory>
 pub fn write_notice(alloc: Global, value: &Notice) -> Result<Frame, NoMemory>
     requires row { HasNoticeRow value.now }
     requires fits { length (notice_body value.now) ≤ 252 }
-    ensures { IfOk result (λ frame. frame ≡ record { kind = of_request; func = notice_function value.now; body = notice_body value.now }) }
+    ensures frame { IfOk result (λ frame. frame ≡ record { kind = of_request; func = notice_function value.now; body = notice_body value.now }) }
+    // It is read as that value.
+    ensures body { IfOk result (λ frame. IsNoticeBody frame.func frame.body value.now) }
 {
     Ok(Frame {
         kind: Kind::Request,

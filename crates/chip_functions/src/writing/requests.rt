@@ -2,7 +2,8 @@
 
 ghost use Rattle.std.specs.Prelude.{◌≡◌, ◌≤◌, length, IfOk};
 ghost use Rattle.serial_frame.specs.declared.frame.Kind.TheVariants.{Request as of_request};
-ghost use Rattle.chip_functions.specs.Request.{send_data, request_function, request_body, HasRequestRow};
+ghost use Rattle.chip_functions.specs.Request.{send_data, request_function, request_body, HasRequestRow, IsRequest, IsRequestBody};
+ghost use Rattle.chip_functions.specs.Field.{IsNode};
 
 use crate::Request;
 use crate::function::{
@@ -38,7 +39,8 @@ fn send_data(
     callback_id: u8,
 ) -> Result<Bytes, NoMemory>
     requires { length payload.now ≤ 255 }
-    ensures { IfOk result (λ body. body ≡ send_data.spell (node, (payload.now, (options, callback_id)))) }
+    ensures body { IfOk result (λ body. body ≡ send_data.spell (node, (payload.now, (options, callback_id)))) }
+    ensures node { IsNode node }
 {
     let mut body = Bytes::from_slice(alloc, &[node.number(), payload.len() as u8])?;
     body.extend(payload.as_slice())?;
@@ -48,7 +50,8 @@ fn send_data(
 
 fn body(alloc: Global, value: &Request) -> Result<Bytes, NoMemory>
     requires { length (request_body value.now) ≤ 252 }
-    ensures { IfOk result (λ body. body ≡ request_body value.now) }
+    ensures body { IfOk result (λ body. body ≡ request_body value.now) }
+    ensures row { HasRequestRow value.now → IsRequest value.now }
 {
     match value {
         Request::GetInitData
@@ -86,7 +89,9 @@ fn body(alloc: Global, value: &Request) -> Result<Bytes, NoMemory>
 pub fn write_request(alloc: Global, value: &Request) -> Result<Frame, NoMemory>
     requires row { HasRequestRow value.now }
     requires fits { length (request_body value.now) ≤ 252 }
-    ensures { IfOk result (λ frame. frame ≡ record { kind = of_request; func = request_function value.now; body = request_body value.now }) }
+    ensures frame { IfOk result (λ frame. frame ≡ record { kind = of_request; func = request_function value.now; body = request_body value.now }) }
+    // It is read as that value.
+    ensures body { IfOk result (λ frame. IsRequestBody frame.func frame.body value.now) }
 {
     Ok(Frame {
         kind: Kind::Request,

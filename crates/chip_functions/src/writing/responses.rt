@@ -1,9 +1,11 @@
 //! Responses, as the chip writes them.
 
-ghost use Rattle.std.specs.Prelude.{◌≡◌, ◌≤◌, ◌++◌, length, IfOk};
+ghost use Rattle.std.specs.Prelude.{◌≡◌, ◌<◌, ◌≤◌, ◌^◌, ◌++◌, length, IfOk, OnOk};
 ghost use Rattle.std.specs.Int.{w16, to_be_bytes};
 ghost use Rattle.serial_frame.specs.declared.frame.Kind.TheVariants.{Response as of_response};
-ghost use Rattle.chip_functions.specs.Response.{init_data, capabilities, version, memory_id, failed_code, response_function, response_body};
+ghost use Rattle.chip_functions.specs.Response.{init_data, capabilities, version, memory_id, failed_code, response_function, response_body, IsResponse, IsResponseBody};
+ghost use Rattle.chip_functions.specs.Field.{IsNode};
+ghost use Rattle.chip_functions.specs.Mask.{AreNodes};
 
 use crate::function::{
     GET_CAPABILITIES, GET_INIT_DATA, GET_NODE_PROTOCOL_INFO, GET_ROUTING_INFO, GET_VERSION,
@@ -40,6 +42,7 @@ fn init_data(
     chip_version: u8,
 ) -> Result<Bytes, NoMemory>
     ensures body { IfOk result (λ body. body ≡ init_data.spell (version, (capabilities, (tt, (nodes.now, (chip_type, chip_version)))))) }
+    ensures nodes { OnOk result (AreNodes nodes.now) }
     ensures fits { IfOk result (λ body. length body ≤ 252) }
 {
     let mut body = Bytes::from_slice(alloc, &[version, capabilities, MASK_BYTES])?;
@@ -57,6 +60,7 @@ fn capabilities(
     functions: &[u8; 32],
 ) -> Result<Bytes, NoMemory>
     ensures body { IfOk result (λ body. body ≡ versions ++ (to_be_bytes w16 manufacturer ++ (to_be_bytes w16 product_type ++ (to_be_bytes w16 product ++ functions.now)))) }
+    ensures row { OnOk result ((manufacturer < 2 ^ 16) × (product_type < 2 ^ 16) × (product < 2 ^ 16) × (length functions.now ≡ 32)) }
     ensures fits { IfOk result (λ body. length body ≤ 252) }
 {
     let mut body = Bytes::from_slice(alloc, &versions)?;
@@ -70,6 +74,7 @@ fn capabilities(
 fn body(alloc: Global, value: &Response) -> Result<Bytes, NoMemory>
     ensures body { IfOk result (λ body. body ≡ response_body value.now) }
     ensures fits { IfOk result (λ body. length body ≤ 252) }
+    ensures row { OnOk result (IsResponse value.now) }
 {
     match value {
         Response::GetInitData {
@@ -131,6 +136,7 @@ fn body(alloc: Global, value: &Response) -> Result<Bytes, NoMemory>
 
 fn version(alloc: Global, text: &[u8; 12], library_type: u8) -> Result<Bytes, NoMemory>
     ensures body { IfOk result (λ body. body ≡ version.spell (text.now, library_type)) }
+    ensures row { OnOk result (length text.now ≡ 12) }
     ensures fits { IfOk result (λ body. length body ≤ 252) }
 {
     let mut body = Bytes::from_slice(alloc, text)?;
@@ -139,7 +145,8 @@ fn version(alloc: Global, text: &[u8; 12], library_type: u8) -> Result<Bytes, No
 }
 
 fn memory_id(alloc: Global, home_id: u32, node: NodeId) -> Result<Bytes, NoMemory>
-    ensures { IfOk result (λ body. body ≡ memory_id.spell (home_id, node)) }
+    ensures body { IfOk result (λ body. body ≡ memory_id.spell (home_id, node)) }
+    ensures node { IsNode node }
 {
     let mut body = Bytes::from_slice(alloc, &home_id.to_be_bytes())?;
     body.push(node.number())?;
@@ -154,7 +161,9 @@ fn failed_code(failed: bool) -> u8
 
 /// The frame of a response. Every value has a row, and fits a frame.
 pub fn write_response(alloc: Global, value: &Response) -> Result<Frame, NoMemory>
-    ensures { IfOk result (λ frame. frame ≡ record { kind = of_response; func = response_function value.now; body = response_body value.now }) }
+    ensures frame { IfOk result (λ frame. frame ≡ record { kind = of_response; func = response_function value.now; body = response_body value.now }) }
+    // It is read as that value.
+    ensures body { IfOk result (λ frame. IsResponseBody frame.func frame.body value.now) }
 {
     Ok(Frame {
         kind: Kind::Response,
