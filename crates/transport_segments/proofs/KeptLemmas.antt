@@ -1,8 +1,8 @@
 -- What an assembler's fields mean.
-use Rattle.std.proofs.Common.{◌≡◌, ℕ, ◌+◌, ◌<◌, ◌≤◌, List, [], ◌∷◌, length, take, refl, sym, ◌∙◌, ap, arith}
+use Rattle.std.proofs.Common.{◌≡◌, ℕ, ◌+◌, ◌≤◌, List, [], ◌∷◌, length, take, refl, sym, ◌∙◌, ap, arith}
 use Rattle.std.specs.Prelude.{Option}
 use Rattle.std.proofs.lemmas.List.{length-take-le}
-use Rattle.transport_segments.specs.Kept.{Reassembly, Empty, Partial, kept_of, kept_len, with_payload}
+use Rattle.transport_segments.specs.Kept.{Reassembly, Partial, kept_of, kept_len, with_payload}
 use Rattle.transport_segments.specs.Places.{written}
 use Rattle.transport_segments.proofs.WrittenLemmas.{length-written, take-written}
 

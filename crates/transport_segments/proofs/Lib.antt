@@ -1,3 +1,6 @@
 pub mod PlacesLemmas
 pub mod WrittenLemmas
 pub mod KeptLemmas
+pub mod PartLemmas
+pub mod RunLemmas
+pub mod AgreeLemmas

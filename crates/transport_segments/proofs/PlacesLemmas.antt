@@ -1,6 +1,6 @@
 -- Lists of places: what stands at one, and the bytes of a full one.
-use Rattle.std.proofs.Common.{◌≡◌, ℕ, zero, suc, ◌+◌, ◌-◌, ◌<◌, ◌≤◌, List, [], ◌∷◌, ◌++◌, length, take, drop, map, get_or, Some, None, Bool, true, false, refl, sym, ◌∙◌, ap, subst, inl, inr, ◌⊎◌, arith, length-append, append_assoc, add-one}
-use Rattle.std.specs.Prelude.{slice_get, Option, is_some, replicate}
+use Rattle.std.proofs.Common.{◌≡◌, ℕ, zero, suc, ◌+◌, ◌<◌, ◌≤◌, List, [], ◌∷◌, ◌++◌, length, take, drop, map, get_or, Some, None, true, false, refl, sym, ◌∙◌, ap, inl, inr, arith, append_assoc}
+use Rattle.std.specs.Prelude.{Option, is_some}
 use Rattle.std.proofs.lemmas.Option.{slice_get-get_or}
 use Rattle.std.proofs.lemmas.List.{map-append}
 use Rattle.std.proofs.Math.Nat.{eq-or-lt_of_le}
@@ -28,8 +28,9 @@ pub full_ends : (places : List (Option ℕ)) (n : ℕ) → n ≤ length places �
 unfolding IsFull
 full_ends places n within missing full =
     elim (eq-or-lt_of_le within) [
-        inl same ↦ same |
-        inr less ↦ (let here = full n less in let none = missing less in absurd (cc)) ]
+      | inl same ↦ same
+      | inr less ↦ (let here = full n less in let none = missing less in absurd (cc))
+    ]
 
 pub present-some : (places : List (Option ℕ)) (byte : ℕ) → present (places ++ Some byte ∷ []) ≡ present places ++ byte ∷ []
 present-some [] byte = refl
@@ -100,5 +101,6 @@ pub least_of : (places : List (Option ℕ)) (n : ℕ) → n ≤ length places �
 unfolding IsFull
 least_of places n within before missing some =
     elim (eq-or-lt_of_le within) [
-        inl same ↦ absurd (some (λ at less. before at (omega arith))) |
-        inr less ↦ record { missing = missing less; least = before } ]
+      | inl same ↦ absurd (some (λ at less. before at (omega arith)))
+      | inr less ↦ record { missing = missing less; least = before }
+    ]

@@ -1,10 +1,10 @@
 -- What stands at each place after a payload was written.
-use Rattle.std.proofs.Common.{◌≡◌, ℕ, zero, suc, ◌+◌, ◌-◌, ◌<◌, ◌≤◌, List, [], ◌∷◌, ◌++◌, length, take, drop, map, get_or, Some, None, refl, sym, ◌∙◌, ap, subst, inl, inr, ◌⊎◌, arith, length-append, min}
-use Rattle.std.specs.Prelude.{Option, replicate, slice_get}
+use Rattle.std.proofs.Common.{◌≡◌, ℕ, ◌+◌, ◌-◌, ◌<◌, ◌≤◌, List, ◌++◌, length, take, drop, map, get_or, Some, None, sym, ◌∙◌, ap, inl, inr, arith, length-append}
+use Rattle.std.specs.Prelude.{Option, replicate}
 use Rattle.std.proofs.lemmas.Bool.{cases_lt}
-use Rattle.std.proofs.lemmas.List.{length-take-le, length-take, length-drop, length-map, length-replicate, get_or_append_left, get_or-append_right, get_or-take, get_or-drop, get_or-map, get_or-replicate, take-replicate, ext_get_or, drop_all}
+use Rattle.std.proofs.lemmas.List.{length-take-le, length-drop, length-map, length-replicate, get_or_append_left, get_or-append_right, get_or-take, get_or-drop, get_or-map, get_or-replicate, ext_get_or}
 use Rattle.std.proofs.lemmas.Option.{get_or_from_slice_get}
-use Rattle.transport_segments.specs.Places.{written, IsThere, IsFull}
+use Rattle.transport_segments.specs.Places.{written, IsFull}
 
 -- before the payload nothing changes
 pub written-before : (places : List (Option ℕ)) (offset : ℕ) (payload : List ℕ) (at : ℕ)
@@ -65,13 +65,15 @@ take-written n places offset payload within fits =
     same : (at : ℕ) → at < n → length (take n places) ≡ n → get_or (written places offset payload) at None ≡ get_or (written (take n places) offset payload) at None
     same at less front =
         elim (cases_lt at offset) [
-            inl before ↦ written-before places offset payload at (omega arith) before
-                ∙ sym (get_or-take n places at None less) ∙ sym (written-before (take n places) offset payload at (omega arith) before) |
-            inr from ↦ elim (cases_lt at (offset + length payload)) [
-                inl inside ↦ written-inside places offset payload at (omega arith) from inside
-                    ∙ sym (written-inside (take n places) offset payload at (omega arith) from inside) |
-                inr after ↦ written-after places offset payload at (omega arith) after
-                    ∙ sym (get_or-take n places at None less) ∙ sym (written-after (take n places) offset payload at (omega arith) after) ] ]
+          | inl before ↦ written-before places offset payload at (omega arith) before
+              ∙ sym (get_or-take n places at None less) ∙ sym (written-before (take n places) offset payload at (omega arith) before)
+          | inr from ↦ elim (cases_lt at (offset + length payload)) [
+            | inl inside ↦ written-inside places offset payload at (omega arith) from inside
+                ∙ sym (written-inside (take n places) offset payload at (omega arith) from inside)
+            | inr after ↦ written-after places offset payload at (omega arith) after
+                ∙ sym (get_or-take n places at None less) ∙ sym (written-after (take n places) offset payload at (omega arith) after)
+          ]
+        ]
 
 -- a payload of the whole size leaves no place
 pub written_whole : (size offset : ℕ) (payload : List ℕ) → offset + length payload ≤ size → length payload ≡ size
@@ -83,9 +85,9 @@ written_whole size offset payload within all =
     let count : length (map Some payload) ≡ length payload = length-map payload Some in
     let whole : length (written blank offset payload) ≡ length blank = length-written blank offset payload (omega arith) in
     ext_get_or None _ _ (omega arith) (λ at less.
-        written-inside blank offset payload at (omega arith) (omega arith) (omega arith)
-        ∙ let same : at - offset ≡ at = omega arith in ap (λ (k : ℕ). Some (get_or payload k 0)) same
-        ∙ sym (get_or-map Some payload at 0 None (omega arith)))
+    written-inside blank offset payload at (omega arith) (omega arith) (omega arith)
+    ∙ let same : at - offset ≡ at = omega arith in ap (λ (k : ℕ). Some (get_or payload k 0)) same
+    ∙ sym (get_or-map Some payload at 0 None (omega arith)))
 
 -- a shorter one leaves one
 pub written_part : (size offset : ℕ) (payload : List ℕ) → offset + length payload ≤ size → length payload < size
@@ -97,9 +99,10 @@ written_part size offset payload within some full =
     let len : length blank ≡ size = length-replicate size none in
     let whole : length (written blank offset payload) ≡ length blank = length-written blank offset payload (omega arith) in
     elim (cases_lt 0 offset) [
-        inl from ↦ (let there = full 0 (omega arith) in
-            let item = get_or_from_slice_get _ 0 _ None there.1 in
-            let gone = written-before (replicate size None) offset payload 0 (omega arith) from ∙ get_or-replicate size 0 None None (omega arith) in absurd (cc)) |
-        inr start ↦ (let there = full (length payload) (omega arith) in
-            let item = get_or_from_slice_get _ (length payload) _ None there.1 in
-            let gone = written-after (replicate size None) offset payload (length payload) (omega arith) (omega arith) ∙ get_or-replicate size (length payload) None None (omega arith) in absurd (cc)) ]
+      | inl from ↦ (let there = full 0 (omega arith) in
+          let item = get_or_from_slice_get _ 0 _ None there.1 in
+          let gone = written-before (replicate size None) offset payload 0 (omega arith) from ∙ get_or-replicate size 0 None None (omega arith) in absurd (cc))
+      | inr start ↦ (let there = full (length payload) (omega arith) in
+          let item = get_or_from_slice_get _ (length payload) _ None there.1 in
+          let gone = written-after (replicate size None) offset payload (length payload) (omega arith) (omega arith) ∙ get_or-replicate size (length payload) None None (omega arith) in absurd (cc))
+    ]

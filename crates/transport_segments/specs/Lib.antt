@@ -4,3 +4,4 @@ pub mod Faults
 pub mod Places
 pub mod Kept
 pub mod Reassembly
+pub mod Runs

@@ -1,6 +1,6 @@
 -- The segments that a datagram is sent in (Transport Service Command Class; that each but the last carries 39 bytes is
 -- this project's own rule).
-use Rattle.std.specs.Prelude.{◌≡◌, ℕ, ◌+◌, ◌-◌, ◌*◌, ◌/◌, ◌<◌, List, length, take, drop, slice_get, Some}
+use Rattle.std.specs.Prelude.{◌≡◌, ℕ, ◌+◌, ◌*◌, ◌/◌, ◌<◌, List, length, take, drop, slice_get, Some}
 use Rattle.transport_segments.specs.Segment.{segment_text}
 
 -- the bytes of a datagram that its k-th segment carries: 39 from place 39 k on, or those that are left

@@ -1,6 +1,6 @@
 -- What is kept of a datagram while its segments come, and what each segment makes of it (Transport Service Command
 -- Class; that one datagram is kept at a time is this project's own rule).
-use Rattle.std.specs.Prelude.{◌≡◌, ℕ, zero, ◌+◌, ◌-◌, ◌<◌, ◌≤◌, ◌&&◌, List, [], ◌∷◌, ◌++◌, length, take, drop, map, replicate, slice_get, Option, Some, None, ◌==◌, if◌then◌else◌}
+use Rattle.std.specs.Prelude.{◌≡◌, ℕ, ◌-◌, ◌&&◌, List, length, map, replicate, Option, Some, None, ◌==◌, if◌then◌else◌}
 use Rattle.transport_segments.specs.Segment.{id_of, size_of, offset_of, payload_of}
 use Rattle.transport_segments.specs.declared.assembler.Taken.{Taken}
 use Rattle.transport_segments.specs.declared.assembler.Taken.TheVariants.{Kept, Need, Whole}

@@ -1,6 +1,6 @@
 -- The segments of a datagram (Transport Service Command Class: First Segment, Subsequent Segment). Places of bytes
 -- are counted from the class byte.
-use Rattle.std.specs.Prelude.{◌≡◌, ◌≢◌, ℕ, ◌+◌, ◌-◌, ◌*◌, ◌/◌, ◌%◌, ◌<◌, ◌≤◌, ◌⊎◌, List, [], ◌∷◌, ◌++◌, length, take, drop, slice_index, nat_lt, if◌then◌else◌, ◌==◌}
+use Rattle.std.specs.Prelude.{◌≡◌, ℕ, ◌+◌, ◌-◌, ◌*◌, ◌/◌, ◌%◌, ◌<◌, ◌≤◌, ◌⊎◌, List, [], ◌∷◌, ◌++◌, length, take, drop, slice_index, nat_lt, if◌then◌else◌, ◌==◌}
 use Rattle.zw_base.specs.Crc.{crc}
 
 -- the command of a First Segment, whose low three bits begin the size

@@ -1,6 +1,6 @@
 //! Datagrams put together from their segments.
 
-ghost use Rattle.std.specs.Prelude.{◌≡◌, ℕ, ◌+◌, ◌-◌, ◌<◌, ◌≤◌, ◌↔◌, length, take, drop, map, replicate, Some, None, IsTrue, IfOk, IfErr, MatchOption};
+ghost use Rattle.std.specs.Prelude.{◌≡◌, ℕ, ◌+◌, ◌-◌, ◌<◌, ◌≤◌, ◌↔◌, length, take, drop, map, replicate, Some, None, IsTrue, IfOk, IfErr, OnOk, MatchOption};
 ghost use Rattle.transport_segments.specs.Segment.{IsSegment};
 ghost use Rattle.transport_segments.specs.Faults.{IsSound, MayAnswer};
 ghost use Rattle.transport_segments.specs.Places.{written, IsFull};
@@ -72,6 +72,7 @@ impl Assembler {
         ensures taken { IfOk result (λ taken. Takes self.old bytes.now taken self.new) }
         ensures fault { IfErr result (λ fault. MayAnswer bytes.now fault) }
         ensures unchanged { IfErr result (λ fault. self.new ≡ self.old) }
+        ensures to_most { OnOk result (kept_len self.new ≤ 512) }
     {
         let segment = judge(bytes)?;
         if let Some(datagram) = self.joined_with(&segment)? {
@@ -91,9 +92,19 @@ impl Assembler {
     {
         let size = usize::from(segment.size);
         if self.id == segment.id && self.size == size {
-            joined(self.alloc, &self.places[..size], usize::from(segment.offset), segment.payload)
+            joined(
+                self.alloc,
+                &self.places[..size],
+                usize::from(segment.offset),
+                segment.payload,
+            )
         } else {
-            alone(self.alloc, size, usize::from(segment.offset), segment.payload)
+            alone(
+                self.alloc,
+                size,
+                usize::from(segment.offset),
+                segment.payload,
+            )
         }
     }
 
@@ -142,7 +153,12 @@ impl Assembler {
 }
 
 /// The payload, where it is a whole datagram of that size.
-fn alone(alloc: Global, size: usize, offset: usize, payload: &[u8]) -> Result<Option<Bytes>, NoMemory>
+fn alone(
+    alloc: Global,
+    size: usize,
+    offset: usize,
+    payload: &[u8],
+) -> Result<Option<Bytes>, NoMemory>
     requires from_one { 1 ≤ size }
     requires inside { offset + length payload.now ≤ size }
     ensures { let places = written (replicate size None) offset payload.now in
@@ -156,7 +172,12 @@ fn alone(alloc: Global, size: usize, offset: usize, payload: &[u8]) -> Result<Op
 }
 
 /// The bytes of these places with a payload in those from `offset` on, where none is missing then.
-fn joined(alloc: Global, places: &[Option<u8>], offset: usize, payload: &[u8]) -> Result<Option<Bytes>, NoMemory>
+fn joined(
+    alloc: Global,
+    places: &[Option<u8>],
+    offset: usize,
+    payload: &[u8],
+) -> Result<Option<Bytes>, NoMemory>
     requires { offset + length payload.now ≤ length places.now }
     ensures { IfOk result (λ joined. MatchOption joined (¬ IsFull (written places.now offset payload.now)) (λ datagram. written places.now offset payload.now ≡ map Some datagram)) }
 {

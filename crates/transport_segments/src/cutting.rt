@@ -70,11 +70,19 @@ fn front(alloc: Global, id: u8, size: u16, offset: u16, payload: &[u8]) -> Resul
     let size_high = (size / 256) as u8;
     let size_low = (size % 256) as u8;
     if offset == 0 {
-        headed(alloc, &[TRANSPORT, FIRST + size_high, size_low, id * 16], payload)
+        headed(
+            alloc,
+            &[TRANSPORT, FIRST + size_high, size_low, id * 16],
+            payload,
+        )
     } else {
         let tag = id * 16 + (offset / 256) as u8;
         let offset_low = (offset % 256) as u8;
-        headed(alloc, &[TRANSPORT, SUBSEQUENT + size_high, size_low, tag, offset_low], payload)
+        headed(
+            alloc,
+            &[TRANSPORT, SUBSEQUENT + size_high, size_low, tag, offset_low],
+            payload,
+        )
     }
 }
 

@@ -6,13 +6,17 @@
 //! The definitions stand in `specs/`: `Segment`, `Faults`, `Parts`, `Reassembly`, `Runs`.
 #![tactic(auto)]
 
-mod fault;
-mod segment;
-mod cutting;
-mod places;
 mod assembler;
+mod cutting;
+mod fault;
+mod laws;
+mod places;
+mod segment;
+#[cfg(test)]
+mod tests;
 
-pub use assembler::Taken;
+pub use assembler::{Assembler, Taken};
 pub use cutting::{SEGMENT_LEN, cut};
 pub use fault::SegmentFault;
+pub use laws::{segments_are_parts, segments_give_the_datagram, segments_keep_agreement};
 pub use segment::{ends_datagram, segment_id};

@@ -1,4 +1,4 @@
-use Rattle.std.proofs.Common.{◌≡◌, ℕ, ◌+◌, ◌<◌, length, ◌++◌, ◌∷◌, [], take, get_or, None, Some, suc, add-one, ap, sym, ◌∙◌, append_assoc, rules}
+use Rattle.std.proofs.Common.{◌≡◌, ℕ, ◌+◌, ◌<◌, length, ◌++◌, ◌∷◌, [], take, get_or, None, Some, add-one, ap, sym, ◌∙◌, append_assoc}
 use Rattle.std.specs.Prelude.{Option, List}
 use Rattle.std.proofs.Math.Seq.{take-suc}
 use Rattle.transport_segments.specs.Places.{present}
@@ -21,12 +21,13 @@ joined bytes before places i byte so longer =
 pub loop-place-preserved : goal.loop-place-preserved
 loop-place-preserved c =
     elim c.match-place.branch [
-        in-Some+in_ok-push-in-Some w ↦
-            w.bytes-is ∙ w.in_ok-push-in-Some.ensures.ok
-            ∙ joined c.loop-place.bytes c.args.bytes.now c.args.places.now c.loop-place.place-index w.in-Some.byte c.loop-place.invariant
-                (more c.args.places.now c.loop-place.place-index c.loop-place-test.true (Some w.in-Some.byte) w.in-Some.is) |
-        in-None w ↦
-            w.bytes-is ∙ c.loop-place.invariant
-            ∙ ap (λ (x : List ℕ). c.args.bytes.now ++ x)
-                (sym (ap present (more c.args.places.now c.loop-place.place-index c.loop-place-test.true None w.in-None.is)
-                    ∙ present-none (take c.loop-place.place-index c.args.places.now))) ]
+      | in-Some+in_ok-push-in-Some w ↦
+          w.bytes-is ∙ w.in_ok-push-in-Some.ensures.ok
+          ∙ joined c.loop-place.bytes c.args.bytes.now c.args.places.now c.loop-place.place-index w.in-Some.byte c.loop-place.invariant
+          (more c.args.places.now c.loop-place.place-index c.loop-place-test.true (Some w.in-Some.byte) w.in-Some.is)
+      | in-None w ↦
+          w.bytes-is ∙ c.loop-place.invariant
+          ∙ ap (λ (x : List ℕ). c.args.bytes.now ++ x)
+          (sym (ap present (more c.args.places.now c.loop-place.place-index c.loop-place-test.true None w.in-None.is)
+          ∙ present-none (take c.loop-place.place-index c.args.places.now)))
+    ]
