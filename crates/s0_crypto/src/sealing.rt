@@ -45,11 +45,12 @@ pub fn seal(
 {
     let vector = join(&sender_nonce, &receiver_nonce);
     let text = encipher(alloc, &keys.encrypt, &vector, plain)?;
-    let code = code(&keys.code, &vector, ends, text.as_slice());
+    let cipher_text = text.as_slice();
+    let code = code(&keys.code, &vector, ends, cipher_text);
     let mut bytes = Bytes::new(alloc);
     bytes.extend(&[CLASS, MESSAGE])?;
     bytes.extend(&sender_nonce)?;
-    bytes.extend(text.as_slice())?;
+    bytes.extend(cipher_text)?;
     bytes.push(receiver_nonce[0])?;
     bytes.extend(&code)?;
     Ok(bytes)

@@ -12,9 +12,9 @@ returns c = record {
   layout =
       layout_built c.args.sender_nonce c.in_ok-text.text c.code-code.result (slice_index c.args.receiver_nonce 0)
       c.new-bytes.ensures c.in_ok-extend.ensures.ok c.in_ok-extend-2.ensures.ok
-      (c.in_ok-extend-3.ensures.ok ∙ ap (λ t. c.extend-2.new.self ++ t) c.as_slice-2.ensures)
+      (c.in_ok-extend-3.ensures.ok ∙ ap (λ t. c.extend-2.new.self ++ t) c.as_slice-cipher_text.ensures)
       c.in_ok-push.ensures.ok c.in_ok-extend-4.ensures.ok
       ∙ ap (λ code. 0x98 ∷ 0x81 ∷ (c.args.sender_nonce ++ (c.in_ok-text.text ++ slice_index c.args.receiver_nonce 0 ∷ code)))
-      (c.code-code.ensures ∙ ap (λ v. take 8 (cbc_mac c.args.keys.now.code (covered v c.args.ends.now c.as_slice.result.now))) c.join-vector.ensures
-      ∙ ap (λ t. take 8 (cbc_mac c.args.keys.now.code (covered (c.args.sender_nonce ++ c.args.receiver_nonce) c.args.ends.now t))) c.as_slice.ensures);
+      (c.code-code.ensures ∙ ap (λ v. take 8 (cbc_mac c.args.keys.now.code (covered v c.args.ends.now c.as_slice-cipher_text.result.now))) c.join-vector.ensures
+      ∙ ap (λ t. take 8 (cbc_mac c.args.keys.now.code (covered (c.args.sender_nonce ++ c.args.receiver_nonce) c.args.ends.now t))) c.as_slice-cipher_text.ensures);
 }
