@@ -1,0 +1,4 @@
+pub mod ModesLemmas
+pub mod StreamLemmas
+pub mod MessageLemmas
+pub mod OpeningLemmas

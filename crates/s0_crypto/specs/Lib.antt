@@ -1,0 +1,3 @@
+pub mod Modes
+pub mod Seal
+pub mod Opening

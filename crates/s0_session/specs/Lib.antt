@@ -1,0 +1,3 @@
+pub mod Nonces
+pub mod Calls
+pub mod Sending

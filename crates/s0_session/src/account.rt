@@ -1,0 +1,60 @@
+//! What is kept of the nonces for one node.
+
+ghost use Rattle.std.specs.Prelude.{◌≡◌, ◌+◌, ◌^◌, ◌<◌};
+
+/// The nonces for one node: how many were given, and the one that is live.
+#[derive(Clone, Copy, Debug, PartialEq, Eq)]
+pub struct Account {
+    given: u64,
+    live: Option<[u8; 8]>,
+}
+
+impl Account {
+    ghost use Rattle.s0_session.specs.Nonces.{unused, nonce_given, after_give, nonce_spent, after_spend};
+
+    /// No nonce was given.
+    pub(crate) fn new() -> Account
+        ensures { result ≡ unused }
+    {
+        Account {
+            given: 0,
+            live: None,
+        }
+    }
+
+    /// How many nonces were given.
+    pub(crate) fn given(&self) -> u64
+        ensures { result ≡ self.now.given }
+    {
+        self.given
+    }
+
+    /// The live nonce, or a new one, which is live then.
+    pub(crate) fn give(&mut self, drawn: [u8; 8]) -> [u8; 8]
+        requires { self.old.given + 1 < 2 ^ 64 }
+        ensures answer { result ≡ nonce_given self.old drawn }
+        ensures after { self.new ≡ after_give self.old drawn }
+    {
+        if let Some(nonce) = self.live {
+            return nonce;
+        }
+        self.given += 1;
+        let mut nonce = drawn;
+        nonce[0] = (self.given % 256) as u8;
+        self.live = Some(nonce);
+        nonce
+    }
+
+    /// The live nonce, if it has that first byte; it is live no more.
+    pub(crate) fn spend(&mut self, first: u8) -> Option<[u8; 8]>
+        ensures answer { result ≡ nonce_spent self.old first }
+        ensures after { self.new ≡ after_spend self.old first }
+    {
+        let nonce = self.live?;
+        if nonce[0] != first {
+            return None;
+        }
+        self.live = None;
+        Some(nonce)
+    }
+}
