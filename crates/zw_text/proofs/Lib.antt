@@ -1,5 +1,7 @@
 pub mod Decimals
-pub mod Feeds
+pub mod Clean
+pub mod EntryWords
+pub mod SameEntry
 pub mod SameWords
 pub mod TranscriptLemmas
 pub mod Words

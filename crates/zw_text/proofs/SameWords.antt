@@ -27,7 +27,7 @@ same_value (Level m) Off good fine e = absurd (not_decimal (111 ∷ 102 ∷ 102 
 same_value (Level m) (Level n) good fine e = ap Level (decimal_injective m n (omega arith) (omega arith) e)
 
 -- a line is determined by its words
-same_line : (a b : Line) → IsWithinRanges a → IsWithinRanges b → words_of a ≡ words_of b → a ≡ b
+pub same_line : (a b : Line) → IsWithinRanges a → IsWithinRanges b → words_of a ≡ words_of b → a ≡ b
 same_line (Set n e v) (Set m f w) good fine same =
     let targets : target_word n e ≡ target_word m f = ap (λ ws. get_or ws 1 []) same in
     let nodes : decimal n ≡ decimal m = sym (target_alone n e good.2) ∙ targets ∙ target_alone m f fine.2 in

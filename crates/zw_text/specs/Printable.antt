@@ -7,14 +7,11 @@ use Rattle.zw_base.specs.declared.property.Property.{Property}
 use Rattle.zw_base.specs.declared.property.Setting.{Setting}
 use Rattle.zw_base.specs.declared.property.By.{By}
 use Rattle.zw_base.specs.declared.property.By.TheVariants.{Session}
+use Rattle.zw_text.specs.Line.{IsWithinRanges}
 use Rattle.zw_text.specs.declared.entry.Entry.{Entry}
 use Rattle.zw_text.specs.declared.entry.Entry.TheVariants.{Echo, Accepted, Refused, Begin, Written, Air, Heard, Unheard, Dev, Out, Store, Time, TableEnd, TableNode, TableValue, Device, BadLine}
 use Rattle.zw_text.specs.declared.entry.Refusal.{Refusal}
 use Rattle.zw_text.specs.declared.entry.Refusal.TheVariants.{MailboxFull}
-use Rattle.zw_text.specs.declared.line.Line.{Line}
-use Rattle.zw_text.specs.declared.line.Line.TheVariants.{Set, Tick}
-use Rattle.zw_text.specs.declared.line.Word.{Word}
-use Rattle.zw_text.specs.declared.line.Word.TheVariants.{Level}
 
 -- how many line feeds a text has
 abbrev pub feeds : List ℕ → ℕ
@@ -24,20 +21,16 @@ feeds text = count_by (λ b. b == 10) text
 abbrev pub Fits64 : ℕ → Type 0
 Fits64 n = n < 2 ^ 64
 
+-- the number is a byte
+abbrev pub IsByte : ℕ → Type 0
+IsByte b = b < 256
+
 -- a number that may be missing fits
 abbrev pub OptionFits : Option ℕ → Type 0
 OptionFits None = Unit {0}
 OptionFits (Some n) = Fits64 n
 
--- the numbers of a value, of a line, of a name, of a property, of a setting, of what made a change, and of a refusal fit
-abbrev pub WordFits : Word → Type 0
-WordFits (Level level) = Fits64 level
-WordFits _ = Unit {0}
-
-abbrev pub LineFits : Line → Type 0
-LineFits (Set node end word) = Fits64 node × Fits64 end × WordFits word
-LineFits (Tick count) = Fits64 count
-
+-- the numbers of a name, of a property, of a setting, of what made a change, and of a refusal fit
 abbrev pub NameFits : Name → Type 0
 NameFits (Setpoint kind) = Fits64 kind
 NameFits (Config parameter) = Fits64 parameter
@@ -58,15 +51,15 @@ abbrev pub RefusalFits : Refusal → Type 0
 RefusalFits (MailboxFull waiting) = Fits64 waiting
 RefusalFits _ = Unit {0}
 
--- each number of the entry fits
+-- each number of the entry fits, its bytes are bytes, and its line is one that is read
 abbrev pub EntryFits : Entry → Type 0
-EntryFits (Echo line) = LineFits line
+EntryFits (Echo line) = IsWithinRanges line
 EntryFits (Accepted command node) = Fits64 command × Fits64 node
 EntryFits (Refused refusal) = RefusalFits refusal
 EntryFits (Begin node session command) = Fits64 node × Fits64 session × Fits64 command
-EntryFits (Written side bytes) = Unit {0}
+EntryFits (Written side bytes) = AllByRecursion IsByte bytes
 EntryFits (Air frame sender receiver repeaters payload) =
-    Fits64 frame × Fits64 sender × Fits64 receiver × AllByRecursion Fits64 repeaters
+    Fits64 frame × Fits64 sender × Fits64 receiver × AllByRecursion Fits64 repeaters × AllByRecursion IsByte payload
 EntryFits (Heard frame) = Fits64 frame
 EntryFits (Unheard frame) = Fits64 frame
 EntryFits (Dev node by setting) = Fits64 node × ByFits by × SettingFits setting

@@ -1,9 +1,10 @@
 //! Laws on lines and transcripts. Each is the contract of a function without a body.
 
 ghost use Rattle.std.specs.Prelude.{◌≡◌, ℕ, List, [], ◌++◌, None};
-ghost use Rattle.zw_text.specs.Entry.{line_text};
-ghost use Rattle.zw_text.specs.Line.{LineText, spoken};
-ghost use Rattle.zw_text.specs.Printable.{EntryFits, LineFits, feeds};
+ghost use Rattle.std.specs.List.{AllByRecursion};
+ghost use Rattle.zw_text.specs.Entry.{line_text, text_of};
+ghost use Rattle.zw_text.specs.Line.{IsWithinRanges, LineText, spoken};
+ghost use Rattle.zw_text.specs.Printable.{EntryFits, feeds};
 ghost use Rattle.zw_text.specs.Transcript.{accepted, accepted_after, carried, endings, last_number, last_outcome, line_before, outcome, ticks, time_of};
 ghost use Rattle.zw_text.specs.declared.entry.Entry.{Entry as AnyEntry};
 ghost use Rattle.zw_text.specs.declared.line.Line.{Line as AnyLine};
@@ -15,12 +16,17 @@ pub fn one_line_each()
 
 /// No line's text has a line feed.
 pub fn lines_without_feed()
-    ensures { (line : AnyLine) → LineFits line → feeds (spoken line) ≡ 0 }
+    ensures { (line : AnyLine) → IsWithinRanges line → feeds (spoken line) ≡ 0 }
 {}
 
 /// The line of an entry has one line feed, which is its last byte.
 pub fn entries_with_one_feed()
     ensures { (entry : AnyEntry) → EntryFits entry → feeds (line_text entry) ≡ 1 }
+{}
+
+/// No text is that of two transcripts.
+pub fn one_transcript_each()
+    ensures { (first second : List AnyEntry) → AllByRecursion EntryFits first → AllByRecursion EntryFits second → text_of first ≡ text_of second → first ≡ second }
 {}
 
 /// Accepted commands, where entries are added to a transcript: those before, and those that the added ones show after

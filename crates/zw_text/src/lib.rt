@@ -13,10 +13,15 @@ mod laws;
 mod line;
 mod print;
 mod read;
+#[cfg(test)]
+mod tests;
 
 pub use entry::{Ended, Entry, Outcome, Refusal, Side};
 pub use fault::{LineFault, ReadLineFault};
-pub use laws::{accepted_grow, entries_with_one_feed, lines_without_feed, one_line_each, outcome_moves, time_moves};
+pub use laws::{
+    accepted_grow, entries_with_one_feed, lines_without_feed, one_line_each, one_transcript_each,
+    outcome_moves, time_moves,
+};
 pub use line::{Line, Word};
 pub use print::print_entry;
 pub use read::read_line;
