@@ -10,3 +10,4 @@ pub mod Confirmed
 pub mod Table
 pub mod Lines
 pub mod Headline
+pub mod Worked

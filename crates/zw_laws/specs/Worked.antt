@@ -1,0 +1,73 @@
+-- A worked transcript (that of `set 2 on`, `tick 2`), and the same with one thing changed.
+use Rattle.std.specs.Prelude.{ℕ, List, [], ◌∷◌, ◌++◌}
+use Rattle.zw_base.specs.declared.property.By.TheVariants.{Session}
+use Rattle.zw_base.specs.declared.property.Name.TheVariants.{Switch}
+use Rattle.zw_base.specs.declared.property.Setting.{Setting}
+use Rattle.zw_text.specs.declared.line.Line.{Line}
+use Rattle.zw_text.specs.declared.line.Line.TheVariants.{Set, Tick}
+use Rattle.zw_text.specs.declared.line.Word.TheVariants.{On}
+use Rattle.zw_text.specs.declared.entry.Ended.TheVariants.{Success}
+use Rattle.zw_text.specs.declared.entry.Entry.{Entry}
+use Rattle.zw_text.specs.declared.entry.Entry.TheVariants.{Echo, Accepted, Begin, Written, Air, Heard, Dev, Out, Store, Time}
+use Rattle.zw_text.specs.declared.entry.Side.TheVariants.{Host, Chip}
+use Rattle.device_sim.specs.declared.change.Change.{Change}
+
+-- the switch is on
+abbrev pub on : Setting
+on = record { property = record { end = 0; name = Switch }; value = 255 }
+
+-- the message of session 1: a Supervision Get around Switch Binary Set FF
+abbrev pub first_get : List ℕ
+first_get = 0x6C ∷ 1 ∷ 1 ∷ 3 ∷ 0x25 ∷ 1 ∷ 255 ∷ []
+
+-- the report of session 1: success
+abbrev pub first_report : List ℕ
+first_report = 0x6C ∷ 2 ∷ 1 ∷ 255 ∷ 0 ∷ []
+
+-- the SendData unit of session 1
+abbrev pub first_unit : List ℕ
+first_unit = 1 ∷ 14 ∷ 0 ∷ 0x13 ∷ 2 ∷ 7 ∷ 0x6C ∷ 1 ∷ 1 ∷ 3 ∷ 0x25 ∷ 1 ∷ 255 ∷ 0x25 ∷ 1 ∷ 0x77 ∷ []
+
+-- the order and its session
+abbrev pub beginning : List Entry
+beginning =
+    Echo (Set 2 0 On) ∷ Accepted 1 2 ∷ Begin 2 1 1 ∷ Written Host first_unit ∷ Written Chip (6 ∷ [])
+    ∷ Written Chip (1 ∷ 4 ∷ 1 ∷ 0x13 ∷ 1 ∷ 0xE8 ∷ []) ∷ Air 1 1 2 [] first_get ∷ Written Host (6 ∷ []) ∷ []
+
+-- the first tick up to the change
+abbrev pub hearing : List Entry
+hearing = Echo (Tick 2) ∷ Time 1 ∷ Heard 1 ∷ []
+
+-- the change
+abbrev pub changing : List Entry
+changing = Dev 2 (Session 1) on ∷ []
+
+-- the answer, and what comes of it
+abbrev pub answering : List Entry
+answering =
+    Air 2 2 1 [] first_report ∷ Written Chip (1 ∷ 5 ∷ 0 ∷ 0x13 ∷ 1 ∷ 0 ∷ 0xE8 ∷ []) ∷ Written Host (6 ∷ []) ∷ Time 2 ∷ Heard 2
+    ∷ Written Chip (1 ∷ 11 ∷ 0 ∷ 4 ∷ 0 ∷ 2 ∷ 5 ∷ 0x6C ∷ 2 ∷ 1 ∷ 255 ∷ 0 ∷ 0x67 ∷ []) ∷ Written Host (6 ∷ []) ∷ Out 1 Success ∷ Store 2 on ∷ []
+
+-- the whole transcript
+abbrev pub switched_on : List Entry
+switched_on = beginning ++ (hearing ++ (changing ++ answering))
+
+-- the lines that it shows
+abbrev pub worked_lines : List Line
+worked_lines = Set 2 0 On ∷ Tick 2 ∷ []
+
+-- the one change of the device
+abbrev pub one_change : List Change
+one_change = record { by = Session 1; settings = on ∷ [] } ∷ []
+
+-- a second `begin` of session 1
+abbrev pub begun_twice : List Entry
+begun_twice = beginning ++ Begin 2 1 1 ∷ []
+
+-- a frame of the controller that no unit carried
+abbrev pub uncarried : List Entry
+uncarried = beginning ++ Air 2 1 2 [] first_get ∷ []
+
+-- an order that has no answer before the next line
+abbrev pub unanswered : List Entry
+unanswered = Echo (Set 2 0 On) ∷ Echo (Tick 2) ∷ []

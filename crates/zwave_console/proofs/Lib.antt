@@ -1,0 +1,6 @@
+pub mod Cutting
+pub mod Writing
+pub mod Running
+pub mod Adding
+pub mod Ending
+pub mod Words

@@ -1,0 +1,11 @@
+pub mod Bodies
+pub mod Pipe
+pub mod Inbox
+pub mod Air
+pub mod Chip
+pub mod Host
+pub mod World
+pub mod Status
+pub mod Output
+pub mod RunLine
+pub mod Run

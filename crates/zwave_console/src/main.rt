@@ -1,0 +1,95 @@
+//! The console of the simulator: it reads a scenario and writes the transcript of all that it does.
+#![tactic(auto)]
+
+mod air;
+mod bodies;
+mod chacha;
+mod chip;
+#[cfg(test)]
+mod edge_tests;
+mod host;
+mod inbox;
+mod input;
+mod output;
+mod pipe;
+mod run;
+mod session_get;
+mod status;
+#[cfg(test)]
+mod tests;
+mod world;
+
+use crate::chacha::ChaChaDraw;
+use crate::run::run;
+use crate::status::Status;
+use device_sim::{Device, make_switch};
+use std::alloc::Global;
+use std::env;
+use std::process::ExitCode;
+use zw_base::{NoMemory, StdSink, StdSource, read_node};
+
+/// The network key of the simulated devices.
+const KEY: [u8; 16] = [
+    0x00, 0x01, 0x02, 0x03, 0x04, 0x05, 0x06, 0x07, 0x08, 0x09, 0x0A, 0x0B, 0x0C, 0x0D, 0x0E, 0x0F,
+];
+
+/// A node is a switch where its number leaves this when it is divided by the number of kinds.
+const SWITCHES: u8 = 2;
+
+/// How many kinds of devices there are.
+const KINDS: u8 = 8;
+
+/// The words that this stage takes.
+const USAGE: &str = "usage: zwave_console sim";
+
+fn main(rt: HostRuntime) -> ExitCode {
+    let status = start(&rt);
+    if status == Status::Usage {
+        let _ = eprintln!(rt; "{USAGE}");
+    }
+    ExitCode::from(status.code())
+}
+
+// Makes the devices and the real input and output, and runs the command.
+fn start(rt: &HostRuntime) -> Status {
+    let alloc = rt.alloc();
+    let mut words = Vec::new(alloc);
+    let Ok(args) = env::args(rt) else {
+        return Status::Usage;
+    };
+    for word in args.skip(1) {
+        if words.push(word).is_err() {
+            return Status::NoMemory;
+        }
+    }
+    let mut devices: Vec<Box<dyn Device>> = Vec::new(alloc);
+    for number in 2..=232u8 {
+        if number % KINDS != SWITCHES {
+            continue;
+        }
+        let Some(node) = read_node(number) else {
+            continue;
+        };
+        let Ok(switch) = make_switch(alloc, node, KEY) else {
+            return Status::NoMemory;
+        };
+        let Ok(device) = Box::new(alloc, switch) else {
+            return Status::NoMemory;
+        };
+        if devices.push(device).is_err() {
+            return Status::NoMemory;
+        }
+    }
+    let mut source = StdSource::new(rt.stdin());
+    let mut sink = StdSink::new(rt.stdout());
+    let mut draw = ChaChaDraw::new([0; 32]);
+    run(
+        alloc,
+        words.as_slice(),
+        &mut source,
+        &mut sink,
+        &mut devices,
+        KEY,
+        &mut draw,
+    )
+}

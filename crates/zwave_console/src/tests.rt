@@ -1,0 +1,229 @@
+//! The worked scenarios, run over memory.
+
+use crate::chacha::ChaChaDraw;
+use crate::run::run;
+use crate::status::Status;
+use device_sim::{Device, make_switch};
+use std::alloc::Global;
+use std::test::Fail;
+use zw_base::{Failed, FixedDraw, MemorySink, MemorySource, Sink, read_node};
+use zw_text::LineFault;
+
+const KEY: [u8; 16] = [7; 16];
+
+/// What `set 2 on`, `tick 2` writes.
+const SWITCHED_ON: &str = "> set 2 on
+accepted 1 node 2
+begin 2 1 1
+h 010E001302076C0101032501FF250177
+c 06
+c 0104011301E8
+air 1 1>2 via - 6C0101032501FF
+h 06
+> tick 2
+t 1
+heard 1
+dev 2 1 0/switch 255
+air 2 2>1 via - 6C0201FF00
+c 010500130100E8
+h 06
+t 2
+heard 2
+c 010B00040002056C0201FF0067
+h 06
+out 1 success
+store 2 0/switch 255
+end 2
+node 2 sessions 1
+value 2 0/switch confirmed 255 heard -
+device 2 0/switch 255
+";
+
+/// The first lines of it, as the third write is about to fail.
+const FIRST_TWO: &str = "> set 2 on
+accepted 1 node 2
+";
+
+/// An empty scenario.
+const NOTHING: &str = "end 0
+node 2 sessions -
+device 2 0/switch 0
+";
+
+/// A scenario with a line that is none after the first.
+const BAD_SECOND: &str = "> set 2 on
+accepted 1 node 2
+begin 2 1 1
+h 010E001302076C0101032501FF250177
+c 06
+c 0104011301E8
+air 1 1>2 via - 6C0101032501FF
+h 06
+badline 2 Unknown
+";
+
+/// A command for a node that is not joined.
+const NOT_JOINED: &str = "> set 3 on
+refused notjoined
+end 0
+node 2 sessions -
+device 2 0/switch 0
+";
+
+/// A level for a switch.
+const BAD_VALUE: &str = "> set 2 40
+refused badvalue
+end 0
+node 2 sessions -
+device 2 0/switch 0
+";
+
+// Runs `sim` on a scenario, with the writes of these numbers failing.
+fn sim(
+    alloc: Global,
+    word: &str,
+    scenario: &str,
+    failing_reads: &[u64],
+    failing_writes: &[u64],
+) -> Result<(Status, MemorySink), Fail> {
+    let mut words = Vec::new(alloc);
+    words.push(String::from_str(alloc, word)?)?;
+    let mut source = MemorySource::new(alloc, scenario.as_bytes(), failing_reads)?;
+    let mut sink = MemorySink::new(alloc, failing_writes)?;
+    let mut draw = FixedDraw::new(alloc, &[])?;
+    let mut devices: Vec<Box<dyn Device>> = Vec::new(alloc);
+    if let Some(node) = read_node(2) {
+        devices.push(Box::new(alloc, make_switch(alloc, node, KEY)?)?)?;
+    }
+    let status = run(
+        alloc,
+        words.as_slice(),
+        &mut source,
+        &mut sink,
+        &mut devices,
+        KEY,
+        &mut draw,
+    );
+    Ok((status, sink))
+}
+
+#[test]
+fn scenarios_write_their_transcripts(rt: HostRuntime) -> Result<(), Fail> {
+    let unknown = Status::BadLine {
+        line: 2,
+        fault: LineFault::Unknown,
+    };
+    for (word, scenario, status, transcript) in [
+        ("sim", "", Status::Ok, NOTHING),
+        ("sim", "set 2 on\ntick 2\n", Status::Ok, SWITCHED_ON),
+        ("sim", "set 2 on\nblink 2\n", unknown, BAD_SECOND),
+        ("sim", "set 3 on", Status::Ok, NOT_JOINED),
+        ("sim", "set 2 40", Status::Ok, BAD_VALUE),
+        ("simulate", "set 2 on", Status::Usage, ""),
+    ] {
+        let (ended, sink) = sim(rt.alloc(), word, scenario, &[], &[])?;
+        assert_eq!(rt; ended, status, "at {scenario:?}");
+        assert_eq!(rt; sink.bytes(), transcript.as_bytes(), "at {scenario:?}");
+    }
+    Ok(())
+}
+
+#[test]
+fn a_failing_write_leaves_a_front(rt: HostRuntime) -> Result<(), Fail> {
+    let (third, sink) = sim(rt.alloc(), "sim", "set 2 on\ntick 2\n", &[], &[3])?;
+    assert_eq!(rt; third, Status::WriteFault);
+    assert_eq!(rt; sink.bytes(), FIRST_TWO.as_bytes());
+    for write in 1..=25u64 {
+        let (ended, sink) = sim(rt.alloc(), "sim", "set 2 on\ntick 2\n", &[], &[write])?;
+        assert_eq!(rt; ended, Status::WriteFault, "at {write}");
+        assert!(rt;
+            SWITCHED_ON.as_bytes().starts_with(sink.bytes()),
+            "at {write}"
+        );
+    }
+    let (whole, _) = sim(rt.alloc(), "sim", "set 2 on\ntick 2\n", &[], &[26])?;
+    assert_eq!(rt; whole, Status::Ok);
+    Ok(())
+}
+
+#[test]
+fn a_failing_read_runs_nothing(rt: HostRuntime) -> Result<(), Fail> {
+    let (ended, sink) = sim(rt.alloc(), "sim", "set 2 on\n", &[2], &[])?;
+    assert_eq!(rt; ended, Status::ReadFault);
+    assert_eq!(rt; sink.bytes(), b"".as_slice());
+    Ok(())
+}
+
+#[test]
+fn commands_wait_for_their_turn(rt: HostRuntime) -> Result<(), Fail> {
+    let (ended, sink) = sim(rt.alloc(), "sim", "set 2 on\nset 2 off\ntick 4\n", &[], &[])?;
+    assert_eq!(rt; ended, Status::Ok);
+    let text = std::str::from_utf8(sink.bytes()).map_err(|_| Fail::from("not text"))?;
+    for part in [
+        "store 2 0/switch 255\nbegin 2 2 2\nh 010E001302076C010203250100250288\nc 06\nc 0104011301E8\n",
+        "air 3 1>2 via - 6C010203250100\nh 06\n",
+        "out 2 success\nstore 2 0/switch 0\n",
+        "node 2 sessions 1 2\n",
+        "device 2 0/switch 0\n",
+    ] {
+        assert!(rt; text.contains(part), "{part}");
+    }
+    let mut scenario = String::new(rt.alloc());
+    for _ in 0..18 {
+        scenario.push_str("set 2 on\n")?;
+    }
+    let (ended, sink) = sim(rt.alloc(), "sim", scenario.as_str(), &[], &[])?;
+    assert_eq!(rt; ended, Status::Ok);
+    let text = std::str::from_utf8(sink.bytes()).map_err(|_| Fail::from("not text"))?;
+    assert!(rt; text.contains("accepted 17 node 2\n> set 2 on\nrefused mailboxfull 16\n"));
+    Ok(())
+}
+
+// A sink that takes one byte at a time.
+#[derive(Drop)]
+struct Narrow {
+    inner: MemorySink,
+}
+
+impl Sink for Narrow {
+    ghost use Rattle.std.specs.Prelude.{Some};
+
+    ghost written = { λ s. Some s.inner.written };
+
+    ghost faults = { λ s. s.inner.faults };
+
+    fn write(&mut self, piece: &[u8]) -> Result<usize, Failed> {
+        match piece {
+            [] => self.inner.write(piece),
+            [first, ..] => self.inner.write(&[*first]),
+        }
+    }
+}
+
+#[test]
+fn a_narrow_sink_takes_all(rt: HostRuntime) -> Result<(), Fail> {
+    let alloc = rt.alloc();
+    let mut words = Vec::new(alloc);
+    words.push(String::from_str(alloc, "sim")?)?;
+    let mut source = MemorySource::new(alloc, b"set 2 on\ntick 2\n", &[])?;
+    let mut sink = Narrow {
+        inner: MemorySink::new(alloc, &[])?,
+    };
+    let mut draw = ChaChaDraw::new([0; 32]);
+    let mut devices: Vec<Box<dyn Device>> = Vec::new(alloc);
+    if let Some(node) = read_node(2) {
+        devices.push(Box::new(alloc, make_switch(alloc, node, KEY)?)?)?;
+    }
+    let status = run(
+        alloc,
+        words.as_slice(),
+        &mut source,
+        &mut sink,
+        &mut devices,
+        KEY,
+        &mut draw,
+    );
+    assert_eq!(rt; status, Status::Ok);
+    assert_eq!(rt; sink.inner.bytes(), SWITCHED_ON.as_bytes());
+    Ok(())
+}

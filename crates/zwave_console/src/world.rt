@@ -1,0 +1,781 @@
+//! The world: host, chip, pipes, air and time. A line changes one part, and the world settles.
+
+ghost use Rattle.std.specs.Prelude.{◌≡◌, ◌⊎◌, ◌+◌, ◌^◌, ◌≤◌, ◌<◌, ℕ, [], ◌∷◌, ◌++◌, length, drop, map, Option, Some, IfSome, IfOk, OnOk, OnErr};
+ghost use Rattle.std.specs.Option.{ForSome};
+ghost use Rattle.supervision.specs.Session.{IsStatus};
+ghost use Rattle.device_sim.specs.Hearing.{report_text};
+ghost use Rattle.device_sim.specs.State.{State, shown_of};
+ghost use Rattle.zw_laws.specs.Table.{switch, value_line, device_lines};
+ghost use Rattle.zwave_console.specs.Run.{AddsTable};
+ghost use Rattle.zwave_console.specs.Host.{opening_of};
+ghost use Rattle.zwave_console.specs.World.{ended_by, AddsLines};
+
+use crate::air::{Air, Flight};
+use crate::bodies::{
+    Message, TRANSMIT_NO_ACK, TRANSMIT_OK, answered, called_back, came, send_data,
+};
+use crate::chip::Chip;
+use crate::host::{Closing, FIRST_NODE, Host, Opening, Order, Refused};
+use crate::pipe::Pipe;
+use crate::session_get::session_get;
+use device_sim::{Device, SUPERVISION, SUPERVISION_REPORT};
+use serial_frame::{Unit, encode};
+use std::alloc::Global;
+use supervision::{FAIL, NO_SUPPORT, SUCCESS, WORKING};
+use zw_base::{
+    By, Bytes, Draw, EndPoint, List, Name, NoMemory, NodeId, Payload, Property, Replies, Sequence,
+    Setting, read_node,
+};
+use zw_text::{Ended, Entry, Line, Side};
+
+/// How often host and chip take what the other wrote, at most, while the world settles.
+const MAX_PASSES: u32 = 64;
+
+/// The node of the controller.
+const CONTROLLER: u8 = 1;
+
+/// The most payloads that a device gives in one call.
+const MAX_REPLIES: usize = 8;
+
+/// All parts of the simulator but the devices.
+#[derive(Drop)]
+pub struct World {
+    alloc: Global,
+    controller: NodeId,
+    clock: u64,
+    stamped: bool,
+    host: Host,
+    chip: Chip,
+    air: Air,
+    to_chip: Pipe,
+    to_host: Pipe,
+}
+
+// The node with that number.
+fn node(number: u8) -> NodeId
+    requires from_one { 1 ≤ number }
+    requires to_max { number ≤ 232 }
+    ensures { result ≡ number }
+{
+    match read_node(number) {
+        Some(node) => node,
+        None => unreachable!(),
+    }
+}
+
+// A copy of a payload.
+fn copy_of(payload: &Payload) -> Payload
+    ensures { result ≡ payload.now }
+{
+    match Payload::of(payload.bytes()) {
+        Some(copy) => copy,
+        None => unreachable!(),
+    }
+}
+
+// The id and the status of a Supervision Report, where the payload is one. A tail is ignored.
+fn report_of(payload: &[u8]) -> Option<(u8, u8)>
+    ensures read { (id status : ℕ) → payload.now ≡ report_text id status → id < 64 → IsStatus status →
+        result ≡ Some (id, status) }
+    ensures known { IfSome result (λ report. (report.0 < 64) × IsStatus report.1) }
+{
+    match payload {
+        [
+            SUPERVISION,
+            SUPERVISION_REPORT,
+            flags,
+            status @ (NO_SUPPORT | WORKING | FAIL | SUCCESS),
+            _,
+            ..
+        ] => { Some((*flags % 64, *status)) }
+        _ => None,
+    }
+}
+
+// The word for a final status.
+fn ended(status: u8) -> Ended
+    ensures { result ≡ ended_by status }
+{
+    match status {
+        SUCCESS => Ended::Success,
+        FAIL => Ended::Fail,
+        _ => Ended::NoSupport,
+    }
+}
+
+impl World {
+    /// A world in which nothing happened: the clock at 0, and one joined node, which is linked to the controller.
+    pub fn new(alloc: Global) -> Result<World, NoMemory> {
+        Ok(World {
+            alloc,
+            controller: node(CONTROLLER),
+            clock: 0,
+            stamped: true,
+            host: Host::new(alloc)?,
+            chip: Chip::new(alloc),
+            air: Air::new(alloc),
+            to_chip: Pipe::new(alloc),
+            to_host: Pipe::new(alloc),
+        })
+    }
+
+    /// Runs a line. What it does is entered at the end of `out`.
+    pub fn step<D: Draw>(
+        &mut self,
+        line: Line,
+        devices: &mut Vec<Box<dyn Device>>,
+        draw: &mut D,
+        out: &mut List<Entry>,
+    ) -> Result<(), NoMemory>
+        requires { length devices.old.items < 2 ^ 64 }
+        ensures line { OnOk result (AddsLines (line ∷ []) out.old.items out.new.items) }
+        ensures some { OnErr result (AddsLines [] out.old.items out.new.items ⊎ AddsLines (line ∷ []) out.old.items out.new.items) }
+        ensures kept { length devices.new.items ≡ length devices.old.items }
+    {
+        match line {
+            Line::Set { node, end, word } => {
+                self.order(line, &Order { node, end, word }, out)?;
+                self.settle(out)
+            }
+            Line::Tick { count } => {
+                out.push(Entry::Echo { line })?;
+                for _ in 0..count {
+                    self.tick(devices, draw, out)?;
+                }
+                Ok(())
+            }
+        }
+    }
+
+    // An order is echoed and answered.
+    fn order(&mut self, line: Line, order: &Order, out: &mut List<Entry>) -> Result<(), NoMemory>
+        ensures line { OnOk result (AddsLines (line ∷ []) out.old.items out.new.items) }
+        ensures none { OnErr result (out.new.items ≡ out.old.items) }
+    {
+        out.reserve(2)?;
+        let answer = match self.host.command(order) {
+            Ok(command) => Entry::Accepted {
+                command,
+                node: order.node,
+            },
+            Err(Refused::As(refusal)) => Entry::Refused { refusal },
+            Err(Refused::NoMemory) => return Err(NoMemory),
+        };
+        out.put(Entry::Echo { line });
+        out.put(answer);
+        Ok(())
+    }
+
+    // Before the first entry of a tick its number is entered.
+    fn stamp(&mut self, out: &mut List<Entry>) -> Result<(), NoMemory>
+        ensures quiet { AddsLines [] out.old.items out.new.items }
+        ensures others { self.new ≡ record self.old { stamped = self.new.stamped } }
+    {
+        if !self.stamped {
+            out.push(Entry::Time { tick: self.clock })?;
+            self.stamped = true;
+        }
+        Ok(())
+    }
+
+    // Chip and host take what the other wrote, until nothing moves.
+    fn settle(&mut self, out: &mut List<Entry>) -> Result<(), NoMemory>
+        ensures quiet { AddsLines [] out.old.items out.new.items }
+    {
+        self.pump(out)?;
+        for _ in 0..MAX_PASSES {
+            let chip_moved = self.chip_hears(out)?;
+            let host_moved = self.host_hears(out)?;
+            self.pump(out)?;
+            if !chip_moved && !host_moved {
+                break;
+            }
+        }
+        Ok(())
+    }
+
+    // The host begins a session, where it can.
+    fn pump(&mut self, out: &mut List<Entry>) -> Result<(), NoMemory>
+        ensures quiet { AddsLines [] out.old.items out.new.items }
+    {
+        let Some(opening) = self.host.opening() else {
+            return Ok(());
+        };
+        let Some(order) = self.host.order(opening.command) else {
+            return Ok(());
+        };
+        self.stamp(out)?;
+        self.begin(&opening, &order, out)
+    }
+
+    // A session begins, and its request is written.
+    fn begin(
+        &mut self,
+        opening: &Opening,
+        order: &Order,
+        out: &mut List<Entry>,
+    ) -> Result<(), NoMemory>
+        requires { opening_of self.old.host ≡ Some opening.now }
+        ensures quiet { AddsLines [] out.old.items out.new.items }
+    {
+        let command = opening.command;
+        let session = opening.session;
+        let callback = opening.callback;
+        let payload = session_get(session, order.value());
+        let node = order.node;
+        let frame = send_data(self.alloc, node, payload.bytes(), callback)?;
+        let unit = encode(self.alloc, &Unit::Framed(frame))?;
+        self.to_chip.reserve(unit.len())?;
+        out.reserve(2)?;
+        self.host.open(opening)?;
+        self.to_chip.write(unit.as_slice());
+        out.put(Entry::Begin {
+            node,
+            session,
+            command,
+        });
+        out.put(Entry::Written {
+            side: Side::Host,
+            unit,
+        });
+        Ok(())
+    }
+
+    // The chip takes all that the host wrote. Answers whether there was something.
+    fn chip_hears(&mut self, out: &mut List<Entry>) -> Result<bool, NoMemory>
+        ensures quiet { AddsLines [] out.old.items out.new.items }
+    {
+        if self.to_chip.bytes().is_empty() {
+            return Ok(false);
+        }
+        self.chip.feed(self.to_chip.bytes())?;
+        self.to_chip.clear();
+        while let Some(message) = self.chip.message() {
+            self.chip_judges(message, out)?;
+        }
+        Ok(true)
+    }
+
+    // The chip judges the first message of the host.
+    fn chip_judges(&mut self, message: Message, out: &mut List<Entry>) -> Result<(), NoMemory>
+        requires { 0 < length self.old.chip.heard.items }
+        ensures quiet { AddsLines [] out.old.items out.new.items }
+        ensures next { OnOk result (self.new.chip.heard.items ≡ drop 1 self.old.chip.heard.items) }
+    {
+        match message {
+            Message::SendData {
+                node,
+                payload,
+                callback,
+            } => {
+                self.stamp(out)?;
+                if self.chip.is_idle() && node.number() == FIRST_NODE {
+                    self.chip_takes(node, payload, callback, out)
+                } else {
+                    self.chip_refuses(out)
+                }
+            }
+            _ => {
+                self.chip.drop_message();
+                Ok(())
+            }
+        }
+    }
+
+    // The chip takes a SendData: it acknowledges and answers the request, and the payload goes on the air.
+    fn chip_takes(
+        &mut self,
+        receiver: NodeId,
+        payload: Payload,
+        callback: u8,
+        out: &mut List<Entry>,
+    ) -> Result<(), NoMemory>
+        requires { 0 < length self.old.chip.heard.items }
+        ensures quiet { AddsLines [] out.old.items out.new.items }
+        ensures next { OnOk result (self.new.chip.heard.items ≡ drop 1 self.old.chip.heard.items) }
+    {
+        let ack = encode(self.alloc, &Unit::Ack)?;
+        let answer = encode(self.alloc, &Unit::Framed(answered(self.alloc, 1)?))?;
+        self.to_host.reserve(ack.len() + answer.len())?;
+        self.air.reserve(1)?;
+        out.reserve(3)?;
+        self.chip.drop_message();
+        self.chip.take(callback);
+        self.to_host.write(ack.as_slice());
+        self.to_host.write(answer.as_slice());
+        let frame = self.air.send(self.controller, receiver, copy_of(&payload));
+        out.put(written(Side::Chip, ack));
+        out.put(written(Side::Chip, answer));
+        out.put(self.on_air(frame, self.controller, receiver, payload));
+        Ok(())
+    }
+
+    // The chip refuses a SendData: it acknowledges the request and answers 0.
+    fn chip_refuses(&mut self, out: &mut List<Entry>) -> Result<(), NoMemory>
+        requires { 0 < length self.old.chip.heard.items }
+        ensures quiet { AddsLines [] out.old.items out.new.items }
+        ensures next { OnOk result (self.new.chip.heard.items ≡ drop 1 self.old.chip.heard.items) }
+    {
+        let ack = encode(self.alloc, &Unit::Ack)?;
+        let answer = encode(self.alloc, &Unit::Framed(answered(self.alloc, 0)?))?;
+        self.to_host.reserve(ack.len() + answer.len())?;
+        out.reserve(2)?;
+        self.chip.drop_message();
+        self.to_host.write(ack.as_slice());
+        self.to_host.write(answer.as_slice());
+        out.put(written(Side::Chip, ack));
+        out.put(written(Side::Chip, answer));
+        Ok(())
+    }
+
+    // The host takes all that the chip wrote. Answers whether there was something.
+    fn host_hears(&mut self, out: &mut List<Entry>) -> Result<bool, NoMemory>
+        ensures quiet { AddsLines [] out.old.items out.new.items }
+    {
+        if self.to_host.bytes().is_empty() {
+            return Ok(false);
+        }
+        self.host.feed(self.to_host.bytes())?;
+        self.to_host.clear();
+        while let Some(message) = self.host.message() {
+            self.host_judges(message, out)?;
+        }
+        Ok(true)
+    }
+
+    // The host judges the first message of the chip. It acknowledges each data frame.
+    fn host_judges(&mut self, message: Message, out: &mut List<Entry>) -> Result<(), NoMemory>
+        requires { 0 < length self.old.host.heard.items }
+        ensures quiet { AddsLines [] out.old.items out.new.items }
+        ensures next { OnOk result (self.new.host.heard.items ≡ drop 1 self.old.host.heard.items) }
+    {
+        match message {
+            Message::Answered { .. } => self.host_acknowledges(out),
+            Message::CalledBack { callback, .. } => {
+                self.host_acknowledges(out)?;
+                self.host.called_back(callback);
+                Ok(())
+            }
+            Message::Came { node, payload } => match report_of(payload.bytes()) {
+                Some((id, status)) if node.number() == FIRST_NODE => {
+                    self.host_is_told(id, status, out)
+                }
+                _ => self.host_acknowledges(out),
+            },
+            _ => {
+                self.host.drop_message();
+                Ok(())
+            }
+        }
+    }
+
+    // The host acknowledges a frame.
+    fn host_acknowledges(&mut self, out: &mut List<Entry>) -> Result<(), NoMemory>
+        requires { 0 < length self.old.host.heard.items }
+        ensures quiet { AddsLines [] out.old.items out.new.items }
+        ensures next { OnOk result (self.new.host.heard.items ≡ drop 1 self.old.host.heard.items) }
+    {
+        self.stamp(out)?;
+        let ack = encode(self.alloc, &Unit::Ack)?;
+        self.to_chip.reserve(ack.len())?;
+        out.reserve(1)?;
+        self.host.drop_message();
+        self.to_chip.write(ack.as_slice());
+        out.put(written(Side::Host, ack));
+        Ok(())
+    }
+
+    // The host acknowledges a Supervision Report of the node and takes it.
+    fn host_is_told(&mut self, id: u8, status: u8, out: &mut List<Entry>) -> Result<(), NoMemory>
+        requires six_bits { id < 64 }
+        requires known { IsStatus status }
+        requires some { 0 < length self.old.host.heard.items }
+        ensures quiet { AddsLines [] out.old.items out.new.items }
+        ensures next { OnOk result (self.new.host.heard.items ≡ drop 1 self.old.host.heard.items) }
+    {
+        self.stamp(out)?;
+        let ack = encode(self.alloc, &Unit::Ack)?;
+        self.to_chip.reserve(ack.len())?;
+        out.reserve(3)?;
+        self.host.drop_message();
+        self.to_chip.write(ack.as_slice());
+        out.put(written(Side::Host, ack));
+        if let Some(closing) = self.host.report(id, status) {
+            self.enter_closing(closing, out);
+        }
+        Ok(())
+    }
+
+    // The outcome of a command is entered, and the value that it confirms.
+    fn enter_closing(&self, closing: Closing, out: &mut List<Entry>)
+        requires { 2 ≤ out.old.room }
+        ensures quiet { AddsLines [] out.old.items out.new.items }
+    {
+        out.put(Entry::Out {
+            command: closing.command,
+            ended: ended(closing.status),
+        });
+        if closing.status == SUCCESS {
+            if let Some(order) = self.host.order(closing.command) {
+                out.put(Entry::Store {
+                    node: order.node,
+                    setting: switch_setting(order.value()),
+                });
+            }
+        }
+    }
+
+    // A tick passes.
+    fn tick<D: Draw>(
+        &mut self,
+        devices: &mut Vec<Box<dyn Device>>,
+        draw: &mut D,
+        out: &mut List<Entry>,
+    ) -> Result<(), NoMemory>
+        requires { length devices.old.items < 2 ^ 64 }
+        ensures quiet { AddsLines [] out.old.items out.new.items }
+        ensures kept { length devices.new.items ≡ length devices.old.items }
+    {
+        if self.clock == u64::MAX {
+            return Err(NoMemory);
+        }
+        self.clock += 1;
+        self.stamped = false;
+        let arriving = self.air.flying();
+        for _ in 0..arriving {
+            self.arrive(devices, draw, out)?;
+        }
+        tick_all(self.alloc, devices, draw)?;
+        self.settle(out)?;
+        self.stamped = true;
+        Ok(())
+    }
+
+    // The next frame arrives.
+    fn arrive<D: Draw>(
+        &mut self,
+        devices: &mut Vec<Box<dyn Device>>,
+        draw: &mut D,
+        out: &mut List<Entry>,
+    ) -> Result<(), NoMemory>
+        requires { length devices.old.items < 2 ^ 64 }
+        ensures quiet { AddsLines [] out.old.items out.new.items }
+        ensures kept { length devices.new.items ≡ length devices.old.items }
+    {
+        let Some(flight) = self.air.land() else {
+            return Ok(());
+        };
+        self.stamp(out)?;
+        if flight.receiver == self.controller {
+            return self.arrive_at_controller(flight, out);
+        }
+        match place_of(devices, flight.receiver) {
+            Some(place) => {
+                let drawn = draw.next();
+                self.arrive_at_device(flight, &mut devices[place], drawn, out)
+            }
+            None => self.arrive_nowhere(flight, out),
+        }
+    }
+
+    // A frame arrives at the controller: the chip hands its payload to the host.
+    fn arrive_at_controller(
+        &mut self,
+        flight: Flight,
+        out: &mut List<Entry>,
+    ) -> Result<(), NoMemory>
+        ensures quiet { AddsLines [] out.old.items out.new.items }
+    {
+        let frame = came(self.alloc, flight.sender, flight.payload.bytes())?;
+        let unit = encode(self.alloc, &Unit::Framed(frame))?;
+        self.to_host.reserve(unit.len())?;
+        out.reserve(2)?;
+        self.to_host.write(unit.as_slice());
+        out.put(Entry::Heard {
+            frame: flight.number,
+        });
+        out.put(written(Side::Chip, unit));
+        Ok(())
+    }
+
+    // A frame arrives where no device hears it.
+    fn arrive_nowhere(&mut self, flight: Flight, out: &mut List<Entry>) -> Result<(), NoMemory>
+        ensures quiet { AddsLines [] out.old.items out.new.items }
+    {
+        let callback = self.callback(TRANSMIT_NO_ACK)?;
+        out.reserve(2)?;
+        out.put(Entry::Unheard {
+            frame: flight.number,
+        });
+        self.call_back(callback, out);
+        Ok(())
+    }
+
+    // A frame arrives at a device, which answers.
+    fn arrive_at_device(
+        &mut self,
+        flight: Flight,
+        device: &mut Box<dyn Device>,
+        drawn: [u8; 8],
+        out: &mut List<Entry>,
+    ) -> Result<(), NoMemory>
+        ensures quiet { AddsLines [] out.old.items out.new.items }
+    {
+        let mut replies = Replies::new(self.alloc)?;
+        let callback = self.callback(TRANSMIT_OK)?;
+        self.air.reserve(MAX_REPLIES)?;
+        let before = device.changes();
+        device.hear(flight.payload.bytes(), drawn, &mut replies)?;
+        let made = made_since(self.alloc, device, before)?;
+        out.reserve(made.len() + MAX_REPLIES + 2)?;
+        out.put(Entry::Heard {
+            frame: flight.number,
+        });
+        enter_made(flight.receiver, &made, out);
+        self.answer(flight.receiver, &replies, out);
+        self.call_back(callback, out);
+        Ok(())
+    }
+
+    // The replies of a device go on the air.
+    fn answer(&mut self, sender: NodeId, replies: &Replies, out: &mut List<Entry>)
+        requires air { 8 ≤ self.old.air.room }
+        requires numbers { self.old.air.sent + 8 < 2 ^ 64 }
+        requires room { 8 ≤ out.old.room }
+        ensures quiet { AddsLines [] out.old.items out.new.items }
+        ensures room { out.old.room ≤ out.new.room + 8 }
+        ensures others { self.new ≡ record self.old { air = self.new.air } }
+    {
+        for at in 0..replies.len() {
+            if let Some(reply) = replies.get(at) {
+                if let (Some(flying), Some(shown)) = (Payload::of(reply), Payload::of(reply)) {
+                    let frame = self.air.send(sender, self.controller, flying);
+                    out.put(self.on_air(frame, sender, self.controller, shown));
+                }
+            }
+        }
+    }
+
+    // The unit by which the chip calls back for the SendData that is under way, where one is, with room in the pipe.
+    fn callback(&mut self, status: u8) -> Result<Option<Bytes>, NoMemory>
+        ensures room { IfOk result (λ unit. IfSome unit (λ bytes. length bytes ≤ self.new.to_host.room)) }
+        ensures others { self.new ≡ record self.old { to_host = self.new.to_host } }
+    {
+        let Some(callback) = self.chip.callback() else {
+            return Ok(None);
+        };
+        let frame = called_back(self.alloc, callback, status)?;
+        let unit = encode(self.alloc, &Unit::Framed(frame))?;
+        self.to_host.reserve(unit.len())?;
+        Ok(Some(unit))
+    }
+
+    // The chip calls back.
+    fn call_back(&mut self, unit: Option<Bytes>, out: &mut List<Entry>)
+        requires pipe { ForSome unit (λ bytes. length bytes ≤ self.old.to_host.room) }
+        requires room { 0 < out.old.room }
+        ensures quiet { AddsLines [] out.old.items out.new.items }
+    {
+        if let Some(unit) = unit {
+            self.chip.done();
+            self.to_host.write(unit.as_slice());
+            out.put(written(Side::Chip, unit));
+        }
+    }
+
+    // The entry of a frame that goes on the air.
+    fn on_air(&self, frame: u64, sender: NodeId, receiver: NodeId, payload: Payload) -> Entry
+        ensures { result ≡ Entry.Air frame sender receiver [] payload }
+    {
+        Entry::Air {
+            frame,
+            sender,
+            receiver,
+            repeaters: Sequence::new(self.alloc),
+            payload,
+        }
+    }
+
+    /// Enters the final table at the end of `out`.
+    pub fn table(
+        &self,
+        devices: &Vec<Box<dyn Device>>,
+        out: &mut List<Entry>,
+    ) -> Result<(), NoMemory>
+        requires { length devices.now.items < 2 ^ 64 }
+        ensures { OnOk result (AddsTable out.old.items out.new.items) }
+    {
+        self.enter_sessions(out)?;
+        enter_device(self.alloc, devices, node(FIRST_NODE), out)
+    }
+
+    // Enters the clock, and what the host keeps of the node.
+    fn enter_sessions(&self, out: &mut List<Entry>) -> Result<(), NoMemory>
+        ensures { OnOk result (out.new.items ≡ out.old.items
+            ++ Entry.TableEnd self.now.clock ∷ Entry.TableNode 2 self.now.host.book.commands ∷ value_line 2 switch self.now.host.confirmed) }
+    {
+        let first = node(FIRST_NODE);
+        out.push(Entry::TableEnd { ticks: self.clock })?;
+        let sessions = self.host.sessions(self.alloc)?;
+        out.push(Entry::TableNode {
+            node: first,
+            sessions,
+        })?;
+        match self.host.confirmed() {
+            Some(value) => out.push(Entry::TableValue {
+                node: first,
+                property: switch_property(),
+                confirmed: Some(value),
+                heard: None,
+            }),
+            None => Ok(()),
+        }
+    }
+}
+
+// Enters what is shown of the first device of a node, where there is one.
+fn enter_device(
+    alloc: Global,
+    devices: &Vec<Box<dyn Device>>,
+    node: NodeId,
+    out: &mut List<Entry>,
+) -> Result<(), NoMemory>
+    requires { length devices.now.items < 2 ^ 64 }
+    ensures { OnOk result ((device : Option State) × (out.new.items ≡ out.old.items ++ device_lines node device)) }
+{
+    match place_of(devices, node) {
+        Some(place) => {
+            let shown = show_one(alloc, &devices[place])?;
+            enter_shown(node, &shown, out)
+        }
+        None => Ok(()),
+    }
+}
+
+// What is shown of a device.
+fn show_one(alloc: Global, device: &Box<dyn Device>) -> Result<List<Setting>, NoMemory>
+    ensures { IfOk result (λ shown. (device : State) × (shown.items ≡ shown_of device)) }
+{
+    device.show(alloc)
+}
+
+// Enters values of a device.
+fn enter_shown(node: NodeId, shown: &List<Setting>, out: &mut List<Entry>) -> Result<(), NoMemory>
+    ensures { OnOk result (out.new.items ≡ out.old.items ++ map (λ setting. Entry.Device node setting) shown.now.items) }
+{
+    for setting in shown.as_slice() {
+        out.push(Entry::Device {
+            node,
+            setting: *setting,
+        })?;
+    }
+    Ok(())
+}
+
+// The entry of a unit that a side wrote.
+fn written(side: Side, unit: Bytes) -> Entry
+    ensures { result ≡ Entry.Written side unit }
+{
+    Entry::Written { side, unit }
+}
+
+// The property of a switch.
+fn switch_property() -> Property
+    ensures { result ≡ switch }
+{
+    Property {
+        end: EndPoint::root(),
+        name: Name::Switch,
+    }
+}
+
+// The setting of a switch to a value.
+fn switch_setting(value: u8) -> Setting
+    ensures { result ≡ record { property = switch; value = value } }
+{
+    Setting {
+        property: switch_property(),
+        value: value as u32,
+    }
+}
+
+// Where the first device of that node stands in the list.
+fn place_of(devices: &Vec<Box<dyn Device>>, node: NodeId) -> Option<usize>
+    ensures { IfSome result (λ place. place < length devices.now.items) }
+{
+    for place in 0..devices.len() {
+        if devices[place].node() == node {
+            return Some(place);
+        }
+    }
+    None
+}
+
+// All devices tick, in their order.
+fn tick_all<D: Draw>(
+    alloc: Global,
+    devices: &mut Vec<Box<dyn Device>>,
+    draw: &mut D,
+) -> Result<(), NoMemory>
+    requires { length devices.old.items < 2 ^ 64 }
+    ensures kept { length devices.new.items ≡ length devices.old.items }
+{
+    for place in 0..devices.len() {
+        let mut replies = Replies::new(alloc)?;
+        let drawn = draw.next();
+        tick_one(&mut devices[place], drawn, &mut replies)?;
+    }
+    Ok(())
+}
+
+fn tick_one(
+    device: &mut Box<dyn Device>,
+    drawn: [u8; 8],
+    replies: &mut Replies,
+) -> Result<(), NoMemory>
+    requires { replies.old ≡ [] }
+{
+    device.tick(drawn, replies)
+}
+
+/// A setting that a device made, and what made it.
+#[derive(Clone, Copy)]
+struct MadeBy {
+    by: By,
+    setting: Setting,
+}
+
+// The settings of the changes that a device made since it had made so many.
+fn made_since(
+    alloc: Global,
+    device: &Box<dyn Device>,
+    before: u64,
+) -> Result<List<MadeBy>, NoMemory> {
+    let mut made = List::new(alloc);
+    for at in before..device.changes() {
+        if let Some(change) = device.change(alloc, at)? {
+            for setting in change.settings.as_slice() {
+                made.push(MadeBy {
+                    by: change.by,
+                    setting: *setting,
+                })?;
+            }
+        }
+    }
+    Ok(made)
+}
+
+// The settings that a device made are entered.
+fn enter_made(node: NodeId, made: &List<MadeBy>, out: &mut List<Entry>)
+    requires { length made.now.items ≤ out.old.room }
+    ensures quiet { AddsLines [] out.old.items out.new.items }
+    ensures room { out.new.room + length made.now.items ≡ out.old.room }
+{
+    for item in made.as_slice() {
+        out.put(Entry::Dev {
+            node,
+            by: item.by,
+            setting: item.setting,
+        });
+    }
+}
