@@ -1,9 +1,9 @@
 -- Histories that grow: what they count, and their answers.
-use Rattle.std.proofs.Common.{◌≡◌, ℕ, zero, suc, ◌+◌, ◌-◌, ◌<◌, ◌≤◌, Bool, true, false, List, [], ◌∷◌, ◌++◌, refl, ap, sym, ◌∙◌, subst, arith, append_assoc}
+use Rattle.std.proofs.Common.{◌≡◌, ℕ, zero, suc, ◌+◌, ◌-◌, Bool, true, false, List, [], ◌∷◌, ◌++◌, refl, ap, sym, ◌∙◌, subst, arith, append_assoc}
 use Rattle.std.proofs.lemmas.List.{append-nil}
 use Rattle.std.proofs.lemmas.List.Concat.{flat_map-append}
 use Rattle.std.proofs.lemmas.Bool.{le-ltb, lt-ltb}
-use Rattle.std.specs.Prelude.{nat_lt, ◌==◌, if◌then◌else◌, cond, flat_map}
+use Rattle.std.specs.Prelude.{nat_lt, ◌==◌, if◌then◌else◌}
 use Rattle.serial_frame.specs.Frame.{FrameParts}
 use Rattle.serial_frame.specs.Stream.{Signal, byte, mark, marks_of, piece_of}
 use Rattle.serial_frame.specs.declared.item.Item.{Item}
@@ -11,10 +11,9 @@ use Rattle.serial_frame.specs.declared.item.Item.TheVariants.{Good, Refused}
 use Rattle.serial_frame.specs.declared.item.Refusal.TheVariants.{Stray, BadLength, BadSum, BadKind, Aborted}
 use Rattle.serial_frame.specs.declared.unit.Unit.TheVariants.{Ack, Nak, Can, Framed}
 use Rattle.serial_link.specs.State.{Side, answer, collisions_after, outs_ended, outs_acknowledged, outs_refused, outs_heard, hear, hear_outs, hear_all, outs_ticked, pause_after}
-use Rattle.serial_link.specs.Rules.{Event, heard, ticked, Step, item_of, items_of, tick_count, ticks_of, answers_of, own_of, ask_count, asks_of, can_count, cans_of, collides, answer_due, Answers, outs_of}
+use Rattle.serial_link.specs.Rules.{heard, Step, items_of, ticks_of, answers_of, own_of, asks_of, can_count, cans_of, collides, answer_due, Answers, outs_of}
 use Rattle.serial_link.specs.Calls.{heard_steps}
-use Rattle.serial_link.specs.declared.out.LinkOut.{LinkOut}
-use Rattle.serial_link.specs.declared.out.LinkOut.TheVariants.{Write, Got, Sent, Failed, Bad}
+use Rattle.serial_link.specs.declared.out.LinkOut.TheVariants.{Write, Failed}
 use Rattle.serial_link.specs.declared.turn.Turn.{Turn}
 use Rattle.serial_link.specs.declared.turn.Turn.TheVariants.{Idle, Copied, Paused}
 

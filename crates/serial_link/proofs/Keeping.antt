@@ -1,18 +1,18 @@
 -- Each event keeps the rules.
-use Rattle.std.proofs.Common.{◌≡◌, ◌≢◌, ℕ, zero, suc, ◌+◌, ◌<◌, ◌≤◌, Bool, true, false, List, [], ◌∷◌, ◌++◌, refl, ap, sym, ◌∙◌, subst, inl, inr, arith, append_assoc, eq-eqb}
+use Rattle.std.proofs.Common.{◌≡◌, ℕ, ◌+◌, ◌<◌, Bool, true, false, List, [], ◌∷◌, ◌++◌, refl, ap, sym, ◌∙◌, subst, inl, inr, arith, append_assoc, eq-eqb}
 use Rattle.std.proofs.lemmas.List.{append-nil}
 use Rattle.std.proofs.lemmas.List.Concat.{flat_map-append}
 use Rattle.std.proofs.lemmas.Bool.{ne_eqb}
 use Rattle.std.proofs.lemmas.Bool.Decides.{eqb_tells}
-use Rattle.std.specs.Prelude.{IsTrue, ◌==◌, if◌then◌else◌, ◌⊎◌, nat_lt, flat_map}
+use Rattle.std.specs.Prelude.{IsTrue, ◌==◌, if◌then◌else◌, nat_lt}
 use Rattle.serial_frame.specs.Frame.{FrameParts}
 use Rattle.serial_frame.specs.Stream.{Rest, Signal, mark, marks_of, Splits, GoesOn, aborted_if}
 use Rattle.serial_frame.specs.declared.item.Item.{Item}
 use Rattle.serial_frame.specs.declared.item.Item.TheVariants.{Good, Refused}
 use Rattle.serial_frame.specs.declared.item.Refusal.TheVariants.{Aborted}
 use Rattle.serial_frame.specs.declared.unit.Unit.TheVariants.{Ack, Nak, Can, Framed}
-use Rattle.serial_link.specs.State.{Side, LinkState, IsBusy, pause_after, answer, turn_ended, outs_ended, turn_heard, outs_heard, turn_ticked, outs_ticked, collisions_after, hear, hear_outs, hear_all, tick_side, submitted_link}
-use Rattle.serial_link.specs.Rules.{Event, heard, ticked, submitted, asked, Step, item_of, items_of, tick_count, ticks_of, answers_of, own_of, ask_count, asks_of, can_count, cans_of, collides, answer_due, Answers, LeavesCopy, LeavesPause, Stands, Turns, SideObeys, Obeys, KeepsRules}
+use Rattle.serial_link.specs.State.{Side, LinkState, IsBusy, pause_after, turn_ended, outs_ended, turn_heard, outs_heard, turn_ticked, outs_ticked, hear, hear_outs, hear_all, tick_side, submitted_link}
+use Rattle.serial_link.specs.Rules.{heard, ticked, submitted, asked, Step, item_of, items_of, tick_count, ticks_of, answers_of, own_of, ask_count, asks_of, can_count, cans_of, answer_due, LeavesCopy, LeavesPause, Stands, Turns, SideObeys, KeepsRules}
 use Rattle.serial_link.specs.Calls.{heard_steps, tick_step, tick_steps, submit_step, aborted_at}
 use Rattle.serial_link.specs.declared.out.LinkOut.{LinkOut}
 use Rattle.serial_link.specs.declared.out.LinkOut.TheVariants.{Write}

@@ -1,17 +1,14 @@
 -- Lives of frames that go on or end at one more step.
-use Rattle.std.proofs.Common.{◌≡◌, ◌≢◌, ℕ, zero, suc, ◌+◌, ◌<◌, ◌≤◌, Bool, true, false, List, [], ◌∷◌, ◌++◌, refl, ap, sym, ◌∙◌, subst, inl, inr, arith, append_assoc, eq-eqb}
+use Rattle.std.proofs.Common.{◌≡◌, ◌≢◌, ℕ, zero, suc, ◌+◌, ◌<◌, Bool, true, false, List, [], ◌∷◌, ◌++◌, refl, ap, sym, ◌∙◌, subst, inl, inr, arith, append_assoc}
 use Rattle.std.proofs.lemmas.List.{append-nil}
 use Rattle.std.proofs.lemmas.List.Concat.{flat_map-append}
-use Rattle.std.proofs.lemmas.Bool.{ne_eqb}
 use Rattle.std.proofs.lemmas.Bool.Decides.{eqb_tells}
-use Rattle.std.specs.Prelude.{◌==◌, if◌then◌else◌, ◌⊎◌, flat_map}
+use Rattle.std.specs.Prelude.{◌==◌, if◌then◌else◌, flat_map}
 use Rattle.serial_frame.specs.Frame.{FrameParts}
-use Rattle.serial_frame.specs.declared.item.Item.{Item}
-use Rattle.serial_frame.specs.declared.item.Item.TheVariants.{Good, Refused}
-use Rattle.serial_frame.specs.declared.unit.Unit.TheVariants.{Ack, Nak, Can, Framed}
-use Rattle.serial_link.specs.State.{IsBusy, pause_after, turn_ended, outs_ended, turn_heard, outs_heard, turn_ticked, outs_ticked}
-use Rattle.serial_link.specs.Rules.{Event, heard, ticked, submitted, asked, Step, tick_count, ticks_of, own_of, Silent, LeavesCopy, EndsCopy, LeavesPause, LeavesIdle, Submits, Waits, Pauses, Copies, Stands, EndsSent, EndsFailed, IsLife, ArePast, Turns}
-use Rattle.serial_link.specs.declared.out.LinkOut.{LinkOut}
+use Rattle.serial_frame.specs.declared.item.Item.TheVariants.{Good}
+use Rattle.serial_frame.specs.declared.unit.Unit.TheVariants.{Ack, Framed}
+use Rattle.serial_link.specs.State.{IsBusy, pause_after, turn_ended, outs_ended}
+use Rattle.serial_link.specs.Rules.{Event, heard, ticked, submitted, Step, tick_count, ticks_of, own_of, Silent, LeavesCopy, EndsCopy, LeavesPause, LeavesIdle, Pauses, Copies, Stands, IsLife, ArePast, Turns}
 use Rattle.serial_link.specs.declared.out.LinkOut.TheVariants.{Write, Sent, Failed}
 use Rattle.serial_link.specs.declared.turn.Turn.{Turn}
 use Rattle.serial_link.specs.declared.turn.Turn.TheVariants.{Idle, Copied, Paused}

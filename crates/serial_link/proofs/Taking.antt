@@ -1,16 +1,16 @@
 -- Bytes that are taken one event after another.
-use Rattle.std.proofs.Common.{◌≡◌, ℕ, ◌+◌, ◌<◌, ◌≤◌, Bool, true, false, List, [], ◌∷◌, ◌++◌, length, refl, ap, sym, ◌∙◌, subst, arith, append_assoc}
+use Rattle.std.proofs.Common.{◌≡◌, ℕ, List, [], ◌∷◌, ◌++◌, refl, ap, sym, ◌∙◌, subst, append_assoc}
 use Rattle.std.proofs.lemmas.List.{append-nil}
-use Rattle.std.specs.Prelude.{nat_lt, Result, Ok, Err, OnErr}
-use Rattle.serial_frame.specs.Stream.{IsUnfinished, Reads, Rest, IsRest, Signal, Splits, piece_of, Feeds, GoesOn, ticks_after}
+use Rattle.std.specs.Prelude.{Result, Ok, Err, OnErr}
+use Rattle.serial_frame.specs.Stream.{Reads, Rest, IsRest, Signal, piece_of, Feeds, GoesOn, ticks_after}
 use Rattle.serial_frame.specs.declared.item.Item.{Item}
 use Rattle.serial_frame.proofs.First.{one_reading}
-use Rattle.serial_link.specs.State.{Side, LinkState, answer, turn_heard, outs_heard, collisions_after, hear, hear_outs, hear_all}
+use Rattle.serial_link.specs.State.{Side, LinkState, turn_heard, collisions_after, hear, hear_outs, hear_all}
 use Rattle.serial_link.specs.Rules.{Step, outs_of, SideObeys, Obeys, KeepsRules}
 use Rattle.serial_link.specs.Calls.{heard_steps, Takes, OnlyTakes}
 use Rattle.serial_link.specs.declared.out.LinkOut.{LinkOut}
 use Rattle.serial_link.specs.declared.turn.Turn.{Turn}
-use Rattle.serial_link.proofs.Counting.{marks_of-piece, piece_of-append, items_heard, no_ticks_heard, hear_all-append, heard_steps-append, outs_of-append}
+use Rattle.serial_link.proofs.Counting.{marks_of-piece, piece_of-append, hear_all-append, heard_steps-append, outs_of-append}
 use Rattle.serial_link.proofs.Keeping.{keeps, side_hears_all}
 
 -- bytes read on from where others ended

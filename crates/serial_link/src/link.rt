@@ -115,6 +115,7 @@ impl Link {
         ensures takes { IfOk result (TakesOne self.old piece.now self.new out.old.items out.new.items) }
         ensures err { OnErr result (Takes self.old [] self.new out.old.items out.new.items) }
     {
+        // The decoder is looked at first, so that its state is known where there is no memory.
         let _ = &self.decoder;
         out.reserve(MOST_OUTS)?;
         let (found, left) = self.decoder.next_item(piece)?;

@@ -57,23 +57,33 @@ fn expect(
     Ok(())
 }
 
-/// Bytes that are heard, and what is put out.
-struct Row {
-    heard: &'static [u8],
-    outs: &'static [Want],
+/// What a test does to a link.
+enum Act {
+    Submit,
+    Feed(&'static [u8]),
+    Tick(u8),
 }
 
-const ANSWERS: [Row; 6] = [
+/// What is done, and what is put out at it and stands after it.
+struct Row {
+    act: Act,
+    outs: &'static [Want],
+    busy: bool,
+}
+
+const ROWS: [Row; 27] = [
+    // answers
     Row {
-        heard: &[0x01, 0x03, 0x00, 0x15, 0xe9],
+        act: Act::Feed(&[0x01, 0x03, 0x00, 0x15, 0xe9]),
         outs: &[Want::Write(&[0x06]), Want::Got(0x15)],
+        busy: false,
     },
     // one byte of a request was changed on the way
     Row {
-        heard: &[
+        act: Act::Feed(&[
             0x01, 0x0e, 0x00, 0x13, 0x02, 0x06, 0x6c, 0x01, 0x01, 0x03, 0x25, 0x01, 0xff, 0x25,
             0x01, 0x77,
-        ],
+        ]),
         outs: &[
             Want::Write(&[0x15]),
             Want::Bad(Refusal::BadSum {
@@ -81,37 +91,180 @@ const ANSWERS: [Row; 6] = [
                 got: 0x77,
             }),
         ],
+        busy: false,
     },
     Row {
-        heard: &[0x01, 0x03, 0x02, 0x15, 0xeb],
+        act: Act::Feed(&[0x01, 0x03, 0x02, 0x15, 0xeb]),
         outs: &[Want::Write(&[0x15]), Want::Bad(Refusal::BadKind(2))],
+        busy: false,
     },
     Row {
-        heard: &[0x01, 0x02, 0x00],
+        act: Act::Feed(&[0x01, 0x02, 0x00]),
         outs: &[
             Want::Bad(Refusal::BadLength(2)),
             Want::Bad(Refusal::Stray(0)),
         ],
+        busy: false,
     },
     // nothing is outstanding
     Row {
-        heard: &[0x06, 0x15, 0x18],
+        act: Act::Feed(&[0x06, 0x15, 0x18]),
         outs: &[],
+        busy: false,
+    },
+    // the first copy ends by its fifteenth tick, the second by NAK, the third by CAN
+    Row {
+        act: Act::Submit,
+        outs: &[Want::Write(&REQUEST)],
+        busy: true,
     },
     Row {
-        heard: &[],
+        act: Act::Submit,
         outs: &[],
+        busy: true,
+    },
+    Row {
+        act: Act::Tick(15),
+        outs: &[],
+        busy: true,
+    },
+    Row {
+        act: Act::Tick(1),
+        outs: &[Want::Write(&REQUEST)],
+        busy: true,
+    },
+    Row {
+        act: Act::Feed(&[0x15]),
+        outs: &[],
+        busy: true,
+    },
+    Row {
+        act: Act::Tick(10),
+        outs: &[],
+        busy: true,
+    },
+    Row {
+        act: Act::Tick(1),
+        outs: &[Want::Write(&REQUEST)],
+        busy: true,
+    },
+    Row {
+        act: Act::Feed(&[0x18, 0x15]),
+        outs: &[],
+        busy: true,
+    },
+    Row {
+        act: Act::Tick(20),
+        outs: &[],
+        busy: true,
+    },
+    Row {
+        act: Act::Tick(1),
+        outs: &[Want::Write(&REQUEST)],
+        busy: true,
+    },
+    Row {
+        act: Act::Tick(14),
+        outs: &[],
+        busy: true,
+    },
+    Row {
+        act: Act::Tick(1),
+        outs: &[Want::Failed],
+        busy: false,
+    },
+    // ACK in a pause
+    Row {
+        act: Act::Submit,
+        outs: &[Want::Write(&REQUEST)],
+        busy: true,
+    },
+    Row {
+        act: Act::Feed(&[0x15, 0x06]),
+        outs: &[Want::Sent],
+        busy: false,
+    },
+    // a frame of the other side is answered while a copy waits
+    Row {
+        act: Act::Submit,
+        outs: &[Want::Write(&REQUEST)],
+        busy: true,
+    },
+    Row {
+        act: Act::Feed(&REQUEST),
+        outs: &[Want::Write(&[0x06]), Want::Got(0x15)],
+        busy: true,
+    },
+    Row {
+        act: Act::Feed(&[0x06]),
+        outs: &[Want::Sent],
+        busy: false,
+    },
+    // an unfinished frame is forgotten at its fifteenth tick
+    Row {
+        act: Act::Feed(&[0x01, 0x03]),
+        outs: &[],
+        busy: false,
+    },
+    Row {
+        act: Act::Tick(14),
+        outs: &[],
+        busy: false,
+    },
+    Row {
+        act: Act::Tick(1),
+        outs: &[Want::Bad(Refusal::Aborted)],
+        busy: false,
+    },
+    Row {
+        act: Act::Tick(40),
+        outs: &[],
+        busy: false,
+    },
+    Row {
+        act: Act::Feed(&[]),
+        outs: &[],
+        busy: false,
     },
 ];
 
+fn perform(
+    alloc: Global,
+    link: &mut Link,
+    out: &mut List<LinkOut>,
+    act: &Act,
+) -> Result<(), NoMemory> {
+    match act {
+        Act::Submit => {
+            if link.submit(request(alloc), out) == Err(SubmitFault::NoMemory) {
+                return Err(NoMemory);
+            }
+        }
+        Act::Feed(piece) => link.feed(piece, out)?,
+        Act::Tick(ticks) => {
+            for _ in 0..*ticks {
+                link.tick(out)?;
+            }
+        }
+    }
+    Ok(())
+}
+
 #[test]
-fn answers(rt: HostRuntime) -> Result<(), Fail> {
+fn exchange(rt: HostRuntime) -> Result<(), Fail> {
     let mut out = List::new(rt.alloc());
     let mut link = Link::new(rt.alloc())?;
-    for row in ANSWERS.iter() {
-        link.feed(row.heard, &mut out)?;
+    for row in ROWS.iter() {
+        perform(rt.alloc(), &mut link, &mut out, &row.act)?;
         expect(&rt, rt.alloc(), &mut out, row.outs)?;
+        assert_eq!(rt; link.is_busy(), row.busy);
     }
+    Ok(())
+}
+
+#[test]
+fn collision(rt: HostRuntime) -> Result<(), Fail> {
+    let mut out = List::new(rt.alloc());
     let mut link = Link::new(rt.alloc())?;
     link.collide();
     link.feed(&REQUEST, &mut out)?;
@@ -123,64 +276,5 @@ fn answers(rt: HostRuntime) -> Result<(), Fail> {
         &mut out,
         &[Want::Write(&[0x06]), Want::Got(0x15)],
     )?;
-    Ok(())
-}
-
-/// Ticks a link so often, and counts what is put out.
-fn tick_quietly(
-    rt: &impl Abort,
-    link: &mut Link,
-    out: &mut List<LinkOut>,
-    ticks: u8,
-) -> Result<(), NoMemory> {
-    for _ in 0..ticks {
-        link.tick(out)?;
-        assert!(rt; out.is_empty());
-    }
-    Ok(())
-}
-
-#[test]
-fn four_copies(rt: HostRuntime) -> Result<(), Fail> {
-    let alloc = rt.alloc();
-    let mut out = List::new(alloc);
-    let mut link = Link::new(alloc)?;
-    assert!(rt; link.submit(request(alloc), &mut out).is_ok());
-    expect(&rt, alloc, &mut out, &[Want::Write(&REQUEST)])?;
-    assert!(rt; link.is_busy());
-    let refused = link.submit(request(alloc), &mut out);
-    assert!(rt; refused == Err(SubmitFault::Busy) && out.is_empty());
-    // the first copy ends by its fifteenth tick, the second by NAK, the third by CAN
-    tick_quietly(&rt, &mut link, &mut out, 15)?;
-    link.tick(&mut out)?;
-    expect(&rt, alloc, &mut out, &[Want::Write(&REQUEST)])?;
-    link.feed(&[0x15], &mut out)?;
-    tick_quietly(&rt, &mut link, &mut out, 10)?;
-    link.tick(&mut out)?;
-    expect(&rt, alloc, &mut out, &[Want::Write(&REQUEST)])?;
-    link.feed(&[0x18], &mut out)?;
-    tick_quietly(&rt, &mut link, &mut out, 20)?;
-    link.tick(&mut out)?;
-    expect(&rt, alloc, &mut out, &[Want::Write(&REQUEST)])?;
-    assert!(rt; link.is_busy());
-    link.feed(&[0x15], &mut out)?;
-    expect(&rt, alloc, &mut out, &[Want::Failed])?;
-    assert!(rt; !link.is_busy());
-    Ok(())
-}
-
-#[test]
-fn sent_in_a_pause_and_aborted(rt: HostRuntime) -> Result<(), Fail> {
-    let alloc = rt.alloc();
-    let mut out = List::new(alloc);
-    let mut link = Link::new(alloc)?;
-    assert!(rt; link.submit(request(alloc), &mut out).is_ok());
-    expect(&rt, alloc, &mut out, &[Want::Write(&REQUEST)])?;
-    link.feed(&[0x15, 0x06, 0x01, 0x03], &mut out)?;
-    expect(&rt, alloc, &mut out, &[Want::Sent])?;
-    assert!(rt; !link.is_busy());
-    tick_quietly(&rt, &mut link, &mut out, 14)?;
-    link.tick(&mut out)?;
-    expect(&rt, alloc, &mut out, &[Want::Bad(Refusal::Aborted)])?;
     Ok(())
 }

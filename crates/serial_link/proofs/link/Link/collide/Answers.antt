@@ -1,4 +1,4 @@
-use Rattle.std.proofs.Common.{◌≡◌, ℕ, ◌+◌, List, [], ◌∷◌, refl, ap, sym, subst}
+use Rattle.std.proofs.Common.{◌≡◌, ◌+◌, [], ◌∷◌, refl, ap, sym, subst}
 use Rattle.serial_frame.specs.Stream.{Rest, GoesOn}
 use Rattle.serial_link.specs.State.{LinkState}
 use Rattle.serial_link.specs.Rules.{asked, KeepsRules}

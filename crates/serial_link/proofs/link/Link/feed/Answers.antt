@@ -1,7 +1,7 @@
-use Rattle.std.proofs.Common.{◌≡◌, ℕ, List, [], ◌++◌, refl, ap, sym, ◌∙◌, subst, append_assoc}
+use Rattle.std.proofs.Common.{ℕ, List, [], ◌++◌, refl, ap, sym, ◌∙◌, subst, append_assoc}
 use Rattle.std.proofs.lemmas.List.{append-nil}
 use Rattle.serial_link.specs.State.{LinkState}
-use Rattle.serial_link.specs.Calls.{Takes, TakesFront}
+use Rattle.serial_link.specs.Calls.{Takes}
 use Rattle.serial_link.specs.declared.out.LinkOut.{LinkOut}
 use Rattle.serial_link.proofs.Taking.{takes-append, only_takes, on_err}
 use Rattle.serial_link.proofs.link.Link.feed.Goals as goal

@@ -1,4 +1,4 @@
-use Rattle.std.proofs.Common.{◌≡◌, ℕ, ap, sym, ◌∙◌}
+use Rattle.std.proofs.Common.{ap, sym, ◌∙◌}
 use Rattle.serial_link.specs.State.{LinkState, submitted_link}
 use Rattle.serial_link.proofs.Keeping.{keeps_submitted, idle_if}
 use Rattle.serial_link.proofs.link.Link.submit.Goals as goal

@@ -1,6 +1,6 @@
-use Rattle.std.proofs.Common.{◌≡◌, ℕ, List, [], ◌∷◌, ◌++◌, refl, ap, sym, ◌∙◌, subst}
-use Rattle.serial_frame.specs.Stream.{Rest, IsRest, FeedsOne}
-use Rattle.serial_link.specs.State.{LinkState, Side, hear_outs}
+use Rattle.std.proofs.Common.{List, ◌++◌, refl, ap, ◌∙◌, subst}
+use Rattle.serial_frame.specs.Stream.{Rest, IsRest}
+use Rattle.serial_link.specs.State.{LinkState, hear_outs}
 use Rattle.serial_link.specs.Calls.{Takes}
 use Rattle.serial_link.specs.declared.out.LinkOut.{LinkOut}
 use Rattle.serial_link.proofs.Taking.{takes_nothing, takes_none, takes_item, on_err}

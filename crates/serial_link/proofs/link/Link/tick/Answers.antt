@@ -1,7 +1,7 @@
-use Rattle.std.proofs.Common.{◌≡◌, ℕ, List, [], ◌∷◌, ap, subst}
-use Rattle.serial_frame.specs.Stream.{Rest, mark, GoesOn}
+use Rattle.std.proofs.Common.{List, [], ◌∷◌, ap, subst}
+use Rattle.serial_frame.specs.Stream.{mark, GoesOn}
 use Rattle.serial_frame.specs.declared.item.Item.{Item}
-use Rattle.serial_link.specs.State.{LinkState, Side}
+use Rattle.serial_link.specs.State.{LinkState}
 use Rattle.serial_link.specs.Rules.{KeepsRules}
 use Rattle.serial_link.specs.Calls.{tick_steps, aborted_at}
 use Rattle.serial_link.proofs.Keeping.{keeps_ticked, aborted_same}
