@@ -1,6 +1,5 @@
 //! Association (Association Command Class).
 
-ghost use Rattle.std.specs.Prelude.{◌≡◌};
 ghost use Rattle.class_fields.specs.Reading.{Gives, in_class};
 ghost use Rattle.class_core.specs.MessageReading.{association_by, association_at};
 

@@ -26,3 +26,6 @@ pub use class_fields::{
 pub use message::CoreMessage;
 pub use reading::{one_message, read};
 pub use writing::{head, put_fields, write};
+
+#[cfg(test)]
+mod tests;

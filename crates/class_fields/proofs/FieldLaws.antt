@@ -1,10 +1,9 @@
 -- Each field both ways: what is read stands in the bytes, and what stands there is read.
-use Rattle.std.proofs.Common.{◌≡◌, ℕ, zero, suc, ◌+◌, ◌*◌, ◌/◌, ◌%◌, ◌^◌, ◌<◌, ◌≤◌, Bool, true, false, cond, eqb, Option, Some, None, Result, Ok, Err, List, [], ◌∷◌, ◌++◌, length, get_or, drop, refl, sym, ap, subst, ◌∙◌, inl, inr, arith, add-one}
-use Rattle.std.specs.Prelude.{slice_get, IsTrue}
+use Rattle.std.proofs.Common.{◌≡◌, ℕ, zero, suc, ◌+◌, ◌*◌, ◌/◌, ◌%◌, ◌^◌, ◌<◌, ◌≤◌, Bool, true, false, cond, eqb, Some, None, Ok, Err, List, [], ◌∷◌, ◌++◌, length, get_or, drop, refl, sym, ap, subst, ◌∙◌, inl, inr, arith, add-one}
+use Rattle.std.specs.Prelude.{slice_get}
 use Rattle.std.proofs.lemmas.Bool.{eqb-true}
-use Rattle.std.proofs.lemmas.Option.{slice_get-get_or, get_or_from_slice_get, slice_get_within, slice_get_past}
-use Rattle.class_fields.specs.declared.fault.ClassFault.{ClassFault}
-use Rattle.class_fields.specs.declared.fault.ClassFault.TheVariants.{Short, BadValue}
+use Rattle.std.proofs.lemmas.Option.{slice_get-get_or, get_or_from_slice_get, slice_get_within}
+use Rattle.class_fields.specs.declared.fault.ClassFault.TheVariants.{BadValue}
 use Rattle.class_fields.specs.declared.switch.Switch.{Switch}
 use Rattle.class_fields.specs.declared.switch.Switch.TheVariants.{Off, On}
 use Rattle.class_fields.specs.declared.switch.LockMode.{LockMode}
@@ -14,9 +13,9 @@ use Rattle.class_fields.specs.declared.number.Size.TheVariants.{One, Two, Four}
 use Rattle.class_fields.specs.declared.number.Number.{Number}
 use Rattle.class_fields.specs.declared.number.Number.TheVariants as numbers_v
 use Rattle.class_fields.specs.Ranges.{bytes_in, is_node, size_of, value_of, sized, Scaled, Numbers}
-use Rattle.class_fields.specs.Cell.{Cell, Whole, Limited, Divided, End, StandsAt, Stand, bits}
+use Rattle.class_fields.specs.Cell.{Cell, Whole, Limited, StandsAt, Stand, bits}
 use Rattle.class_fields.specs.Fields.{switch_byte, lock_byte, flag, word, three, number, numbers, scaled, nodes}
-use Rattle.class_fields.specs.Reading.{◌>>=◌, byte_at, limited_at, bits_at, switch_of, switch_at, lock_of, lock_at, word_in, three_in, four_in, word_at, three_at, number_in, number_at, numbers_in, numbers_at, size_of_bytes, size_at, size_byte_at, flag_at, scaled_at, nodes_of, nodes_at}
+use Rattle.class_fields.specs.Reading.{byte_at, limited_at, bits_at, switch_of, switch_at, lock_of, lock_at, word_in, three_in, word_at, three_at, number_in, number_at, numbers_in, numbers_at, size_of_bytes, size_at, size_byte_at, flag_at, scaled_at, nodes_of, nodes_at}
 use Rattle.class_fields.proofs.Steps.{bind_ok, chosen, ok_is, not_ok, some_is, ok_or_takes, made_of, whole_takes, whole_again}
 use Rattle.class_fields.proofs.ListSteps.{size_of-sized, value_of-sized}
 

@@ -1,15 +1,14 @@
 -- What is written stands in the bytes that are written.
-use Rattle.std.proofs.Common.{◌≡◌, ℕ, zero, suc, ◌+◌, ◌*◌, ◌/◌, ◌%◌, ◌<◌, ◌≤◌, Bool, true, false, Option, Some, None, List, [], ◌∷◌, ◌++◌, length, refl, sym, ap, subst, ◌∙◌, arith, append_assoc, length-append}
-use Rattle.std.specs.Prelude.{slice_get, IsTrue, ◌&&◌}
+use Rattle.std.proofs.Common.{◌≡◌, ℕ, ◌+◌, ◌<◌, Bool, true, false, Some, List, [], ◌∷◌, ◌++◌, length, refl, sym, subst, arith, append_assoc, length-append}
+use Rattle.std.specs.Prelude.{slice_get, ◌&&◌}
 use Rattle.std.specs.List.{list_all}
 use Rattle.std.proofs.lemmas.Option.{slice_get_past}
-use Rattle.std.proofs.lemmas.List.{append-nil}
 use Rattle.class_fields.specs.declared.number.Size.{Size}
 use Rattle.class_fields.specs.declared.number.Size.TheVariants.{One, Two, Four}
 use Rattle.class_fields.specs.declared.number.Number.{Number}
 use Rattle.class_fields.specs.declared.number.Number.TheVariants as number_of
-use Rattle.class_fields.specs.Ranges.{bytes_in, is_node, size_of, value_of, Scaled, IsScaled, AreNodes}
-use Rattle.class_fields.specs.Cell.{Cell, Whole, Limited, Divided, End, Part, HasParts, byte_of, StandsAt, Stand, written, Has, HasAll}
+use Rattle.class_fields.specs.Ranges.{bytes_in, is_node, size_of, value_of, Scaled, IsScaled}
+use Rattle.class_fields.specs.Cell.{Cell, Whole, Limited, Divided, End, HasParts, byte_of, Stand, written, HasAll}
 use Rattle.class_fields.specs.Fields.{part, flag, number, numbers, scaled, nodes}
 
 behind_all : (front : List ℕ) (v : ℕ) (rest : List ℕ) → slice_get (front ++ v ∷ rest) (length front) ≡ Some v

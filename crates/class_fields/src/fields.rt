@@ -2,7 +2,7 @@
 //! left is the fault of a message, so a row reads its fields in their order.
 
 ghost use Rattle.std.specs.Prelude.{◌≡◌, ◌+◌, ◌≤◌, ◌<◌, ◌*◌, length, MatchOption, true, false};
-ghost use Rattle.class_fields.specs.Ranges.{is_level, is_node, bytes_in, limit};
+ghost use Rattle.class_fields.specs.Ranges.{is_level, is_node, bytes_in};
 ghost use Rattle.class_fields.specs.Reading.{byte_at, switch_at, lock_at, limited_at, bits_at, size_at, size_byte_at, flag_at, word_at, three_at, number_at, number_in, scaled_at};
 
 use crate::decimal::Decimal;

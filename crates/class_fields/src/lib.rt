@@ -26,3 +26,6 @@ pub use number::{Number, Size};
 pub use number_list::NumberList;
 pub use small::{Mode, Seconds, SetpointKind};
 pub use switch::{LockMode, Switch};
+
+#[cfg(test)]
+mod tests;

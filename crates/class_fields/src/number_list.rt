@@ -1,6 +1,6 @@
 //! Lists of numbers of one size.
 
-ghost use Rattle.std.specs.Prelude.{◌≡◌, ℕ, ◌<◌, ◌≤◌, ◌+◌, ◌*◌, [], ◌∷◌, ◌++◌, length, All, OnOk, OnErr, IfOk};
+ghost use Rattle.std.specs.Prelude.{◌≡◌, ◌<◌, ◌≤◌, ◌+◌, ◌*◌, [], ◌∷◌, ◌++◌, length, All, OnOk, OnErr};
 ghost use Rattle.class_fields.specs.Ranges.{bytes_in, limit};
 ghost use Rattle.class_fields.specs.Reading.{Gives, numbers_at};
 

@@ -1,6 +1,6 @@
 -- The written form of a message spells it.
-use Rattle.std.proofs.Common.{◌≡◌, ℕ, ◌+◌, ◌*◌, ◌/◌, ◌%◌, ◌<◌, Bool, true, false, List, [], ◌∷◌, ◌++◌, refl, arith}
-use Rattle.class_fields.specs.Cell.{HasAll, HasParts, byte_of, written}
+use Rattle.std.proofs.Common.{ℕ, ◌<◌, Bool, true, false, [], ◌∷◌, arith}
+use Rattle.class_fields.specs.Cell.{HasAll, HasParts, byte_of}
 use Rattle.class_fields.specs.Fields.{part, flag}
 use Rattle.class_fields.proofs.WrittenLaws.{written_stand, has_nodes, has_scaled}
 use Rattle.class_core.proofs.FormLaws.{has_all as core_has_all}

@@ -1,14 +1,13 @@
 -- Each message both ways: what is read is spelled so, and what is spelled so is read.
-use Rattle.std.proofs.Common.{◌≡◌, ℕ, zero, suc, ◌+◌, ◌*◌, ◌/◌, ◌%◌, ◌<◌, ◌≤◌, Bool, true, false, cond, eqb, Option, Some, None, Result, Ok, Err, List, [], ◌∷◌, ◌++◌, length, get_or, take, drop, refl, sym, ap, subst, ◌∙◌, inl, inr, arith, add-one}
+use Rattle.std.proofs.Common.{◌≡◌, ℕ, ◌+◌, ◌*◌, ◌/◌, ◌%◌, ◌<◌, ◌≤◌, eqb, Some, Result, Ok, Err, List, length, refl, sym, ap, subst, ◌∙◌, inl, inr, arith}
 use Rattle.std.specs.Prelude.{slice_get, IfOk}
 use Rattle.std.proofs.lemmas.Bool.{eqb-true}
 use Rattle.std.proofs.lemmas.Option.{slice_get_within, get_or_from_slice_get}
 use Rattle.class_fields.specs.declared.fault.ClassFault.{ClassFault}
 use Rattle.class_fields.specs.declared.fault.ClassFault.TheVariants.{Empty, UnknownClass, UnknownCommand, Short, BadValue, NoMemory}
-use Rattle.class_fields.specs.Cell.{Cell, Whole, Limited, Divided, StandsAt, Stand, bits, written}
 use Rattle.class_fields.specs.Reading.{◌>>=◌, Gives, byte_at, limited_at, bits_at, switch_at, word_at, three_at, flag_at, scaled_at, nodes_at, in_class}
-use Rattle.class_fields.proofs.Steps.{bind_ok, chosen, ok_is, not_ok, some_is, made_of, whole_takes, whole_again}
-use Rattle.class_fields.proofs.FieldLaws.{IsBytes, byte_takes, byte_again, limited_takes, limited_again, switch_takes, switch_again, HasBits, bits_takes, bits_again, has_of, flag_takes, flag_again, word_takes, word_again, three_takes, three_again, scaled_takes, scaled_again, nodes_take, nodes_again}
+use Rattle.class_fields.proofs.Steps.{bind_ok, chosen, ok_is, not_ok, made_of}
+use Rattle.class_fields.proofs.FieldLaws.{IsBytes, byte_takes, byte_again, limited_takes, limited_again, switch_takes, switch_again, bits_takes, bits_again, has_of, flag_takes, flag_again, word_takes, word_again, three_takes, three_again, scaled_takes, scaled_again, nodes_take, nodes_again}
 use Rattle.class_fields.specs.Ranges.{is_node}
 use Rattle.class_fields.proofs.Heads.{Headed, narrowed, class_takes}
 use Rattle.class_core.specs.declared.message.CoreMessage.{CoreMessage}

@@ -1,6 +1,6 @@
 -- Reading a message of both tables from the left: its class, its command, then its fields in their order, each at
 -- its offset.
-use Rattle.std.specs.Prelude.{◌≡◌, ℕ, ◌+◌, ◌*◌, List, [], ◌∷◌, take, drop, Result, Ok, Err, ◌==◌, if◌then◌else◌}
+use Rattle.std.specs.Prelude.{ℕ, ◌+◌, ◌*◌, List, take, drop, Result, Ok, Err, ◌==◌, if◌then◌else◌}
 use Rattle.class_fields.specs.declared.fault.ClassFault.{ClassFault}
 use Rattle.class_fields.specs.declared.fault.ClassFault.TheVariants.{Empty, UnknownClass, UnknownCommand, Short, BadValue, NoMemory}
 use Rattle.class_fields.specs.Ranges.{is_node}

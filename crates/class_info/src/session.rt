@@ -1,6 +1,6 @@
 //! Numbers of sessions, and offsets of segments.
 
-ghost use Rattle.std.specs.Prelude.{◌≡◌, ℕ, ◌+◌, ◌*◌, ◌/◌, ◌<◌};
+ghost use Rattle.std.specs.Prelude.{◌≡◌, ℕ, ◌+◌, ◌*◌, ◌<◌};
 ghost use Rattle.std.specs.Option.{SomeIff};
 ghost use Rattle.class_fields.specs.Cell.{bits};
 
