@@ -1,21 +1,14 @@
 //! Bodies as the Host API guide lays them out, written by hand.
 
+ghost use Rattle.std.specs.Prelude.{◌≤◌, length};
+
 use super::*;
-use serial_frame::{Frame, Unit, encode};
+use serial_frame::{Unit, encode};
 use std::alloc::Global;
 use std::test::Fail;
-use zw_base::{Bytes, NoMemory, NodeId, read_node};
+use zw_base::{Bytes, read_node};
 
 const NONE: [u8; 29] = [0; 29];
-
-fn node(number: u8) -> Result<NodeId, Fail> {
-    Ok(read_node(number).ok_or("a node is 1 to 232")?)
-}
-
-// The unit of a frame, with its length and checksum.
-fn unit(alloc: Global, frame: Frame) -> Result<Bytes, NoMemory> {
-    encode(alloc, &Unit::Framed(frame))
-}
 
 #[test]
 fn request_faults(rt: HostRuntime) {
@@ -155,164 +148,174 @@ fn notice_faults(rt: HostRuntime) {
 }
 
 #[test]
-fn read_values(rt: HostRuntime) -> Result<(), Fail> {
-    let alloc = rt.alloc();
+fn read_send_data(rt: HostRuntime) -> Result<(), Fail> {
     let body = [2, 7, 0x6C, 1, 1, 3, 0x25, 1, 0xFF, 0x25, 1];
-    let Request::SendData {
-        node: to,
-        payload,
-        options,
-        callback_id,
-    } = read_request(alloc, SEND_DATA, &body)?
-    else {
-        return Err("the body is a SendData")?;
-    };
-    assert_eq!(rt; to, node(2)?);
-    assert_eq!(rt;
-        payload.as_slice(),
-        [0x6C, 1, 1, 3, 0x25, 1, 0xFF].as_slice()
-    );
-    assert_eq!(rt; (options, callback_id), (0x25, 1));
-    let mut body = NONE;
-    body[1] = 0x02;
-    let Response::GetRoutingInfo { nodes } = read_response(alloc, GET_ROUTING_INFO, &body)? else {
-        return Err("the body is a mask")?;
-    };
-    assert_eq!(rt; nodes.nodes(alloc)?.as_slice(), [node(10)?].as_slice());
-    let Notice::SendData {
-        callback_id,
-        status,
-    } = read_notice(alloc, SEND_DATA, &[1, 4])?
-    else {
-        return Err("the body is a callback")?;
-    };
-    assert_eq!(rt; callback_id, 1);
-    assert_eq!(rt; status, TransmitStatus::NoRoute);
+    match read_request(rt.alloc(), SEND_DATA, &body)? {
+        Request::SendData {
+            node,
+            payload,
+            options,
+            callback_id,
+        } => {
+            assert_eq!(rt;
+                (node.number(), options, callback_id),
+                (2, TRANSMIT_OPTIONS, 1)
+            );
+            assert_eq!(rt; payload.as_slice(), &body[2..9]);
+        }
+        _ => assert!(rt; false, "the body is a SendData"),
+    }
     Ok(())
 }
 
 #[test]
-fn written_requests(rt: HostRuntime) -> Result<(), Fail> {
-    let alloc = rt.alloc();
-    let send = Request::SendData {
-        node: node(2)?,
-        payload: Bytes::from_slice(alloc, &[0x6C, 1, 1, 3, 0x25, 1, 0xFF])?,
-        options: TRANSMIT_OPTIONS,
-        callback_id: 1,
-    };
-    let text = unit(alloc, write_request(alloc, &send)?)?;
-    let want = [
-        1, 0x0E, 0, 0x13, 2, 7, 0x6C, 1, 1, 3, 0x25, 1, 0xFF, 0x25, 1, 0x77,
+fn read_callback(rt: HostRuntime) -> Result<(), Fail> {
+    let notice = read_notice(rt.alloc(), SEND_DATA, &[1, 4])?;
+    let known = matches!(
+        &notice,
+        Notice::SendData {
+            callback_id: 1,
+            status: TransmitStatus::NoRoute
+        }
+    );
+    assert!(rt; known);
+    Ok(())
+}
+
+// The unit of the request that a body is.
+fn request_unit(alloc: Global, func: u8, body: &[u8]) -> Result<Bytes, BodyFault>
+    requires { length body.now ≤ 252 }
+{
+    let value = read_request(alloc, func, body)?;
+    Ok(encode(alloc, &Unit::Framed(write_request(alloc, &value)?))?)
+}
+
+// The unit of the response that a body begins with.
+fn response_unit(alloc: Global, func: u8, body: &[u8]) -> Result<Bytes, BodyFault> {
+    let value = read_response(alloc, func, body)?;
+    Ok(encode(alloc, &Unit::Framed(write_response(alloc, &value)?))?)
+}
+
+// The unit of the notice that a body begins with.
+fn notice_unit(alloc: Global, func: u8, body: &[u8]) -> Result<Bytes, BodyFault>
+    requires { length body.now ≤ 252 }
+{
+    let value = read_notice(alloc, func, body)?;
+    Ok(encode(alloc, &Unit::Framed(write_notice(alloc, &value)?))?)
+}
+
+#[test]
+fn requests_again(rt: HostRuntime) -> Result<(), Fail> {
+    let units: [&[u8]; 10] = [
+        &[1, 3, 0, 0x02, 0xFE],
+        &[1, 3, 0, 0x07, 0xFB],
+        &[
+            1, 0x0E, 0, 0x13, 2, 7, 0x6C, 1, 1, 3, 0x25, 1, 0xFF, 0x25, 1, 0x77,
+        ],
+        &[1, 3, 0, 0x15, 0xE9],
+        &[1, 3, 0, 0x16, 0xEA],
+        &[1, 3, 0, 0x20, 0xDC],
+        &[1, 4, 0, 0x41, 0x0A, 0xB0],
+        &[1, 4, 0, 0x60, 0x0A, 0x91],
+        &[1, 4, 0, 0x62, 0x0A, 0x93],
+        &[1, 7, 0, 0x80, 0x0A, 0, 0, 0, 0x72],
     ];
-    assert_eq!(rt; text.as_slice(), want.as_slice());
-    let routing = Request::GetRoutingInfo {
-        node: node(10)?,
-        remove_bad: 0,
-        remove_non_repeaters: 0,
-        function_id: 0,
-    };
-    let text = unit(alloc, write_request(alloc, &routing)?)?;
-    assert_eq!(rt;
-        text.as_slice(),
-        [1, 7, 0, 0x80, 0x0A, 0, 0, 0, 0x72].as_slice()
-    );
-    let failed = Request::IsFailedNode { node: node(10)? };
-    let text = unit(alloc, write_request(alloc, &failed)?)?;
-    assert_eq!(rt; text.as_slice(), [1, 4, 0, 0x62, 0x0A, 0x93].as_slice());
-    let text = unit(alloc, write_request(alloc, &Request::GetInitData)?)?;
-    assert_eq!(rt; text.as_slice(), [1, 3, 0, 2, 0xFE].as_slice());
-    let text = unit(alloc, write_request(alloc, &Request::GetVersion)?)?;
-    assert_eq!(rt; text.as_slice(), [1, 3, 0, 0x15, 0xE9].as_slice());
+    for unit in units {
+        if let [1, _, 0, func, body @ .., _] = unit {
+            assert!(rt; body.len() <= 252);
+            let text = request_unit(rt.alloc(), *func, body)?;
+            assert_eq!(rt; text.as_slice(), unit);
+        }
+    }
     Ok(())
 }
 
 #[test]
-fn written_responses(rt: HostRuntime) -> Result<(), Fail> {
-    let alloc = rt.alloc();
-    let mut nodes = NodeMask::new();
-    nodes.insert(node(10)?);
-    nodes.insert(node(1)?);
-    nodes.insert(node(2)?);
-    let data = Response::GetInitData {
-        version: 5,
-        capabilities: 0,
-        nodes,
-        chip_type: 7,
-        chip_version: 0,
-    };
-    let text = unit(alloc, write_response(alloc, &data)?)?;
-    let mut want = [0; 39];
-    want[..9].copy_from_slice(&[1, 0x25, 1, 2, 5, 0, 0x1D, 3, 2]);
-    want[36..].copy_from_slice(&[7, 0, 0xC7]);
-    assert_eq!(rt; text.as_slice(), want.as_slice());
-    let text = unit(
-        alloc,
-        write_response(alloc, &Response::IsFailedNode { failed: false })?,
-    )?;
-    assert_eq!(rt; text.as_slice(), [1, 4, 1, 0x62, 0, 0x98].as_slice());
-    let text = unit(
-        alloc,
-        write_response(alloc, &Response::SendData { answer: 1 })?,
-    )?;
-    assert_eq!(rt; text.as_slice(), [1, 4, 1, 0x13, 1, 0xE8].as_slice());
-    let id = Response::MemoryGetId {
-        home_id: 0xC0FF_EE01,
-        node: node(1)?,
-    };
-    let frame = write_response(alloc, &id)?;
-    assert_eq!(rt; frame.body.as_slice(), [0xC0, 0xFF, 0xEE, 1, 1].as_slice());
+fn responses_again(rt: HostRuntime) -> Result<(), Fail> {
+    let units: [&[u8]; 8] = [
+        &[1, 4, 1, 0x13, 1, 0xE8],
+        b"\x01\x10\x01\x15Z-Wave 0.00\x00\x01\x96",
+        &[1, 8, 1, 0x20, 0, 0, 0, 1, 1, 0xD6],
+        &[1, 9, 1, 0x41, 0x80, 0, 0, 4, 0, 0, 0x32],
+        &[1, 4, 1, 0x60, 1, 0x9B],
+        &[1, 4, 1, 0x62, 0, 0x98],
+        &[
+            1, 0x25, 1, 2, 5, 0, 0x1D, 3, 2, 0, 0, 0, 0, 0, 0, 0, 0, 0, 0, 0, 0, 0, 0, 0, 0, 0, 0,
+            0, 0, 0, 0, 0, 0, 0, 0, 0, 7, 0, 0xC7,
+        ],
+        &[
+            1, 0x20, 1, 0x80, 2, 0, 0, 0, 0, 0, 0, 0, 0, 0, 0, 0, 0, 0, 0, 0, 0, 0, 0, 0, 0, 0, 0,
+            0, 0, 0, 0, 0, 0, 0x5C,
+        ],
+    ];
+    for unit in units {
+        if let [1, _, 1, func, body @ .., _] = unit {
+            let text = response_unit(rt.alloc(), *func, body)?;
+            assert_eq!(rt; text.as_slice(), unit);
+        }
+    }
     Ok(())
 }
 
 #[test]
-fn written_notices(rt: HostRuntime) -> Result<(), Fail> {
-    let alloc = rt.alloc();
-    let frame = Notice::ApplicationCommandHandler {
-        rx_status: 0,
-        source: node(2)?,
-        payload: Bytes::from_slice(alloc, &[0x6C, 2, 1, 0xFF, 0])?,
-    };
-    let text = unit(alloc, write_notice(alloc, &frame)?)?;
-    let want = [1, 0x0B, 0, 4, 0, 2, 5, 0x6C, 2, 1, 0xFF, 0, 0x67];
-    assert_eq!(rt; text.as_slice(), want.as_slice());
-    let callback = Notice::SendData {
-        callback_id: 1,
-        status: TransmitStatus::NoAck,
-    };
-    let text = unit(alloc, write_notice(alloc, &callback)?)?;
-    assert_eq!(rt; text.as_slice(), [1, 5, 0, 0x13, 1, 1, 0xE9].as_slice());
-    let update = Notice::ApplicationUpdate {
-        update: Update::Received {
-            node: node(2)?,
-            basic: 4,
-            generic: 0,
-            specific: 0,
-            classes: Bytes::from_slice(alloc, &[0x25, 0x85, 0x6C])?,
-        },
-    };
-    let frame = write_notice(alloc, &update)?;
-    let want = [0x84, 2, 6, 4, 0, 0, 0x25, 0x85, 0x6C];
-    assert_eq!(rt; frame.body.as_slice(), want.as_slice());
+fn notices_again(rt: HostRuntime) -> Result<(), Fail> {
+    let units: [&[u8]; 5] = [
+        &[1, 0x0B, 0, 4, 0, 2, 5, 0x6C, 2, 1, 0xFF, 0, 0x67],
+        &[1, 5, 0, 0x13, 1, 0, 0xE8],
+        &[1, 5, 0, 0x13, 1, 1, 0xE9],
+        &[
+            1, 0x0C, 0, 0x49, 0x84, 2, 6, 4, 0, 0, 0x25, 0x85, 0x6C, 0xF2,
+        ],
+        &[1, 6, 0, 0x49, 0x81, 0, 0, 0x31],
+    ];
+    for unit in units {
+        if let [1, _, 0, func, body @ .., _] = unit {
+            assert!(rt; body.len() <= 252);
+            let text = notice_unit(rt.alloc(), *func, body)?;
+            assert_eq!(rt; text.as_slice(), unit);
+        }
+    }
     Ok(())
+}
+
+// The nodes among these numbers.
+fn mask(numbers: &[u8]) -> NodeMask {
+    let mut mask = NodeMask::new();
+    for number in numbers {
+        if let Some(node) = read_node(*number) {
+            mask.insert(node);
+        }
+    }
+    mask
 }
 
 #[test]
 fn masks(rt: HostRuntime) -> Result<(), Fail> {
-    let alloc = rt.alloc();
-    let mut nodes = NodeMask::new();
-    assert_eq!(rt; nodes.nodes(alloc)?.len(), 0);
-    nodes.insert(node(232)?);
-    nodes.insert(node(1)?);
-    nodes.insert(node(232)?);
-    assert!(rt; nodes.contains(node(232)?));
-    assert!(rt; !nodes.contains(node(231)?));
-    let listed = nodes.nodes(alloc)?;
-    assert_eq!(rt; listed.as_slice(), [node(1)?, node(232)?].as_slice());
-    let frame = write_response(alloc, &Response::GetRoutingInfo { nodes })?;
-    let mut want = NONE;
-    want[0] = 0x01;
-    want[28] = 0x80;
-    assert_eq!(rt; frame.body.as_slice(), want.as_slice());
+    let table: [(&[u8], u8, u8); 3] = [
+        (&[], 0, 0),
+        (&[232, 1, 232], 0x01, 0x80),
+        (&[8, 225], 0x80, 0x01),
+    ];
+    for (numbers, first, last) in table {
+        let nodes = mask(numbers);
+        let frame = write_response(rt.alloc(), &Response::GetRoutingInfo { nodes })?;
+        let mut want = NONE;
+        want[0] = first;
+        want[28] = last;
+        assert_eq!(rt; frame.body.as_slice(), want.as_slice());
+    }
+    Ok(())
+}
+
+#[test]
+fn listed_nodes(rt: HostRuntime) -> Result<(), Fail> {
+    let mask = mask(&[232, 1, 10]);
+    let listed = mask.nodes(rt.alloc())?;
+    assert_eq!(rt; listed.len(), 3);
+    for (node, number) in listed.as_slice().iter().zip(&[1, 10, 232]) {
+        assert_eq!(rt; node.number(), *number);
+        assert!(rt; mask.contains(*node));
+    }
     Ok(())
 }
 
