@@ -14,7 +14,7 @@ use Rattle.chip_functions.specs.declared.notice.TheConstants.{DEVICE_CLASSES, UP
 use Rattle.chip_functions.specs.Mask.{IsBytes}
 use Rattle.chip_functions.specs.Place.{Place, Reading, IsFaultFrom, IsBodyFault, ◌>>=◌, start_of, byte_from, piece_from}
 use Rattle.chip_functions.specs.Field.{Field, IsNode, coded, read_as}
-use Rattle.chip_functions.specs.Notice.{handler, status_code, status_of, callback, classes_of, classes, received, request_failed, update_spelling, received_at, request_failed_at, update, notice_function, notice_body, IsUpdate, IsNotice, IsNoticeBody, handler_at, callback_at, update_at, notice_at, notice_of}
+use Rattle.chip_functions.specs.Notice.{handler, status_code, status_of, callback, classes_of, classes, received, request_failed, update_spelling, received_at, request_failed_at, update, notice_function, notice_body, HasNoticeRow, IsUpdate, IsNotice, IsNoticeBody, handler_at, callback_at, update_at, notice_at, notice_of}
 use Rattle.chip_functions.proofs.FieldLaws.{Takes, Takes-then, Reads, Lawful, bind_ok, bind_err, guard_ok, guard_err, no_fault, err_is, fault_back, bad_here, ok_is, as_faults, byte_takes, byte_again, byte_faults, byte_step, byte_lawful, piece_lawful, then_lawful, node_lawful, mark_lawful, counted_lawful, coded_lawful}
 use Rattle.chip_functions.proofs.RowLaws.{reads_to, no_row, some_is, none_is, row_cases, row_takes, ReadsOn, row_again, IsFaultOf, row_faults, unknown, body_fault}
 
@@ -169,3 +169,9 @@ notice_fault func body fault fits e =
     bind_err (notice_at func (start_of body)) (λ x. Ok x.0) fault e
     (λ h. body_fault func body fault (notice_faults func (start_of body) fault fits h))
     (λ x h f. no_fault {A = Notice} x.0 fault f)
+
+-- a notice of a row can be written
+pub row_of_notice : (v : Notice) → IsNotice v → HasNoticeRow v
+row_of_notice (ApplicationCommandHandler status source payload) h = h.1
+row_of_notice (SendData id status) h = tt
+row_of_notice (ApplicationUpdate u) h = tt

@@ -10,7 +10,7 @@ use Rattle.chip_functions.specs.declared.request.Request.TheVariants.{GetInitDat
 use Rattle.chip_functions.specs.Mask.{IsBytes}
 use Rattle.chip_functions.specs.Place.{Place, Reading, IsBodyFault, ◌>>=◌, start_of, ended_from}
 use Rattle.chip_functions.specs.Field.{Field, node, IsNode, read_as}
-use Rattle.chip_functions.specs.Request.{send_data, get_routing_info, request_function, request_body, IsRequest, IsRequestBody, send_data_at, get_routing_info_at, request_at, request_of}
+use Rattle.chip_functions.specs.Request.{send_data, get_routing_info, request_function, request_body, HasRequestRow, IsRequest, IsRequestBody, send_data_at, get_routing_info_at, request_at, request_of}
 use Rattle.chip_functions.proofs.FieldLaws.{Takes, Lawful, bind_ok, bind_err, no_fault, ok_is, byte_lawful, then_lawful, within_lawful, node_lawful, counted_lawful}
 use Rattle.chip_functions.proofs.RowLaws.{reads_to, no_row, row_cases, row_takes, ReadsOn, row_again, ended_ok, IsFaultOf, row_faults, unknown, body_fault, ended_err}
 
@@ -101,3 +101,16 @@ request_fault func body fault fits e =
     (λ x h f.
     let t = request_takes func (start_of body) x.1 x.0 fits h in
     ended_err func body x.0 x.1 fault (t.takes.sum ∙ zero-add (length body)) f)
+
+-- a request of a row can be written
+pub row_of_request : (v : Request) → IsRequest v → HasRequestRow v
+row_of_request GetInitData h = tt
+row_of_request GetCapabilities h = tt
+row_of_request (SendData n payload options id) h = (h.1, h.2)
+row_of_request GetVersion h = tt
+row_of_request SendDataAbort h = tt
+row_of_request MemoryGetId h = tt
+row_of_request (GetNodeProtocolInfo n) h = tt
+row_of_request (RequestNodeInfo n) h = tt
+row_of_request (IsFailedNode n) h = tt
+row_of_request (GetRoutingInfo n x y z) h = tt

@@ -8,6 +8,7 @@
 
 mod fault;
 mod function;
+mod laws;
 mod mask;
 mod notice;
 mod place;
@@ -22,9 +23,13 @@ pub use function::{
     GET_NODE_PROTOCOL_INFO, GET_ROUTING_INFO, GET_VERSION, IS_FAILED_NODE, MEMORY_GET_ID,
     REQUEST_NODE_INFO, SEND_DATA, SEND_DATA_ABORT,
 };
+pub use laws::{one_notice, one_request, one_response};
 pub use mask::NodeMask;
 pub use notice::{Notice, TransmitStatus, UPDATE_FAILED, UPDATE_RECEIVED, Update};
 pub use reading::{read_notice, read_request, read_response};
 pub use request::{Request, TRANSMIT_OPTIONS};
 pub use response::{REFUSED, Response};
 pub use writing::{write_notice, write_request, write_response};
+
+#[cfg(test)]
+mod tests;
