@@ -1,0 +1,4 @@
+pub mod BatchLemmas
+pub mod OpenLemmas
+pub mod WrapLemmas
+pub mod ExactLemmas

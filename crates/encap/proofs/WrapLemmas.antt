@@ -1,0 +1,51 @@
+-- Lists of commands as they are measured and written.
+use Rattle.std.proofs.Common.{◌≡◌, ℕ, zero, suc, ◌+◌, ◌*◌, ◌<◌, ◌≤◌, List, [], ◌∷◌, ◌++◌, length, take, drop, get_or, Bool, true, false, Some, None, refl, sym, ◌∙◌, ap, subst, arith, length-append, append_assoc, append-nil, add-one, cond}
+use Rattle.std.specs.Prelude.{Option, nat_lt}
+use Rattle.std.proofs.Math.Seq.{take-suc, drop-cons}
+use Rattle.std.proofs.lemmas.Bool.{ltb-false, lt-ltb, le-ltb}
+use Rattle.encap.specs.Wraps.{listed}
+use Rattle.encap.specs.Written.{first_long}
+use Rattle.encap.proofs.BatchLemmas.{listed-push}
+
+long_cases : (b : Bool) (len : ℕ) (more : Option ℕ) → cond b (Some len) more ≡ None → (b ≡ false) × (more ≡ None)
+long_cases true len more e = absurd (cc)
+long_cases false len more e = (refl, e)
+
+-- where none is long, each fits its length
+pub fit_at : (commands : List (List ℕ)) (at : ℕ) → first_long commands ≡ None → at < length commands → length (get_or commands at []) ≤ 255
+fit_at [] at none within = absurd (omega arith)
+fit_at (command ∷ commands) zero none within = ltb-false 255 (length command) (long_cases (nat_lt 255 (length command)) (length command) (first_long commands) none).0
+fit_at (command ∷ commands) (suc at) none within =
+    fit_at commands at (long_cases (nat_lt 255 (length command)) (length command) (first_long commands) none).1 (omega arith)
+
+-- one that fits is passed over
+pub passed : (commands : List (List ℕ)) (at : ℕ) → at < length commands → length (get_or commands at []) ≤ 255
+    → first_long (drop at commands) ≡ first_long (drop (at + 1) commands)
+passed commands at within fits =
+    ap first_long (drop-cons commands at [] within)
+    ∙ ap (λ b. cond b (Some (length (get_or commands at []))) (first_long (drop (suc at) commands))) (le-ltb 255 (length (get_or commands at [])) fits)
+    ∙ rw add-one refl
+
+-- the first that does not is found
+pub found : (commands : List (List ℕ)) (at : ℕ) → at < length commands → 255 < length (get_or commands at [])
+    → first_long (drop at commands) ≡ Some (length (get_or commands at []))
+found commands at within long =
+    ap first_long (drop-cons commands at [] within)
+    ∙ ap (λ b. cond b (Some (length (get_or commands at []))) (first_long (drop (suc at) commands))) (lt-ltb 255 (length (get_or commands at [])) long)
+
+-- one more is listed after the others
+pub listed-take : (commands : List (List ℕ)) (at : ℕ) → at < length commands
+    → listed (take (at + 1) commands) ≡ listed (take at commands) ++ (length (get_or commands at []) ∷ get_or commands at [])
+listed-take commands at within =
+    let command : List ℕ = get_or commands at [] in
+    let more : take (at + 1) commands ≡ take at commands ++ get_or commands at [] ∷ [] = rw add-one (take-suc commands at [] within) in
+    ap listed more
+    ∙ sym (append-nil (listed (take at commands ++ command ∷ [])))
+    ∙ listed-push (take at commands) command []
+    ∙ ap (λ (x : List ℕ). listed (take at commands) ++ (length command ∷ x)) (append-nil command)
+
+-- an item of a list, whatever is read past its end
+pub same_item : (commands : List (List ℕ)) (at : ℕ) (item : List ℕ) → at < length commands → item ≡ get_or commands at item → item ≡ get_or commands at []
+same_item [] at item within e = absurd (omega arith)
+same_item (command ∷ commands) zero item within e = e
+same_item (command ∷ commands) (suc at) item within e = same_item commands at item (omega arith) e

@@ -1,0 +1,10 @@
+use Rattle.encap.proofs.ExactLemmas.{opened_only, opened_all}
+use Rattle.encap.proofs.opening.unpack.Goals as goal
+
+pub returns-clause-only : goal.returns-clause-only
+returns-clause-only c = λ plan commands related.
+    opened_only c.take_apart.result c.args.bytes.now c.take_apart.ensures.wraps c.take_apart.ensures.seen plan commands related
+
+pub returns-clause-always : goal.returns-clause-always
+returns-clause-always c = λ plan commands related.
+    opened_all c.take_apart.result c.args.bytes.now c.take_apart.ensures.fault plan commands related

@@ -1,0 +1,19 @@
+//! Messages in their wraps (Transport-Encapsulation Command Class Specification), in this order only, from the inside
+//! out: Multi Command, Supervision Get, Multi Channel, CRC-16.
+//!
+//! `wrap` writes what a plan says, and `unpack` gives the plan and the commands back.
+//! The definitions stand in `specs/`: `Begins`, `Wraps`, `Faults`.
+#![tactic(auto)]
+
+mod plan;
+mod fault;
+mod begins;
+mod layers;
+mod batch;
+mod opening;
+mod wrapping;
+
+pub use fault::WrapFault;
+pub use opening::unpack;
+pub use wrapping::wrap;
+pub use plan::{Ends, Opened, Outer, Plan, Supervised};
