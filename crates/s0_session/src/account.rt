@@ -1,6 +1,6 @@
 //! What is kept of the nonces for one node.
 
-ghost use Rattle.std.specs.Prelude.{◌≡◌, ◌+◌, ◌^◌, ◌<◌};
+ghost use Rattle.std.specs.Prelude.{◌≡◌, ◌+◌, ◌^◌, ◌<◌, slice_index, IfSome};
 
 /// The nonces for one node: how many were given, and the one that is live.
 #[derive(Clone, Copy, Debug, PartialEq, Eq)]
@@ -48,6 +48,7 @@ impl Account {
     /// The live nonce, if it has that first byte; it is live no more.
     pub(crate) fn spend(&mut self, first: u8) -> Option<[u8; 8]>
         ensures answer { result ≡ nonce_spent self.old first }
+        ensures named { IfSome result (λ nonce. slice_index nonce 0 ≡ first) }
         ensures after { self.new ≡ after_spend self.old first }
     {
         let nonce = self.live?;

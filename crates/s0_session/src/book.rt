@@ -1,6 +1,6 @@
 //! The nonces that one side gives, by node.
 
-ghost use Rattle.std.specs.Prelude.{◌≡◌, ◌+◌, ◌^◌, ◌<◌, replicate, slice_set, IfOk};
+ghost use Rattle.std.specs.Prelude.{◌≡◌, ◌+◌, ◌^◌, ◌<◌, replicate, slice_index, slice_set, IfOk, IfSome};
 ghost use Rattle.s0_session.specs.Nonces.{unused, account_of, given_of, nonce_given, after_give, nonce_spent, after_spend};
 
 use crate::Account;
@@ -54,6 +54,7 @@ impl NonceBook {
     /// The live nonce of a node, if it has the first byte that a message names; it is live no more.
     pub fn spend(&mut self, peer: NodeId, first: u8) -> Option<[u8; 8]>
         ensures answer { result ≡ nonce_spent (account_of self.old peer) first }
+        ensures named { IfSome result (λ nonce. slice_index nonce 0 ≡ first) }
         ensures after { self.new ≡ slice_set self.old peer (after_spend (account_of self.old peer) first) }
     {
         let peer = peer.number() as usize;
