@@ -1,5 +1,6 @@
 //! The edge of the program: readers and writers of std, and values of the base crate with ample memory.
 
+use crate::chacha::ChaChaDraw;
 use std::io;
 use std::io::{ErrorKind, Read, Write};
 use std::test::Fail;
@@ -111,4 +112,17 @@ fn values_with_ample_memory(rt: HostRuntime) -> Result<(), Fail> {
     assert_eq!(rt; draw.next(), [3; 8]);
     assert_eq!(rt; draw.next(), [0; 8]);
     Ok(())
+}
+
+#[test]
+fn chacha_draws_the_published_stream(rt: HostRuntime) {
+    let mut draw = ChaChaDraw::new([0; 32]);
+    assert_eq!(rt;
+        draw.draw(),
+        [0x76, 0xB8, 0xE0, 0xAD, 0xA0, 0xF1, 0x3D, 0x90]
+    );
+    assert_eq!(rt;
+        draw.draw(),
+        [0x40, 0x5D, 0x6A, 0xE5, 0x53, 0x86, 0xBD, 0x28]
+    );
 }
