@@ -46,9 +46,9 @@ pub listed-push : (commands : List (List ℕ)) (command after : List ℕ)
 listed-push [] command after = ap (λ (x : List ℕ). length command ∷ x) (ap (λ (x : List ℕ). x ++ after) (append-nil command))
 listed-push (first ∷ commands) command after =
     ap (λ (x : List ℕ). length first ∷ x)
-        (append_assoc first (listed (commands ++ command ∷ [])) after
-        ∙ ap (λ (x : List ℕ). first ++ x) (listed-push commands command after)
-        ∙ sym (append_assoc first (listed commands) (length command ∷ (command ++ after))))
+    (append_assoc first (listed (commands ++ command ∷ [])) after
+    ∙ ap (λ (x : List ℕ). first ++ x) (listed-push commands command after)
+    ∙ sym (append_assoc first (listed commands) (length command ∷ (command ++ after))))
 
 -- one more command read: the rest is a list of those that are left
 pub one_read : (left : List (List ℕ)) (rest command after : List ℕ) (commands done : List (List ℕ))
@@ -66,10 +66,12 @@ pub one_judged : (left : List (List ℕ)) (rest command after : List ℕ) (comma
     → (more : List (List ℕ)) × IsListOf more after × (AllCommands true more → AllCommands true commands)
     × ((fault : WrapFault) → IsFirstFault true more fault → IsFirstFault true commands fault)
 one_judged left rest command after commands is e good all first =
-    let head = list_head left rest command after is e in
-    (head.0, head.2,
-        (λ rest_all. all (subst (λ (x : List (List ℕ)). AllCommands true x) (sym head.1) (good, rest_all))),
-        (λ fault later. first fault (subst (λ (x : List (List ℕ)). IsFirstFault true x fault) (sym head.1) (inr (good, later)))))
+    let head = list_head left rest command after is e in (
+      head.0,
+      head.2,
+      (λ rest_all. all (subst (λ (x : List (List ℕ)). AllCommands true x) (sym head.1) (good, rest_all))),
+      (λ fault later. first fault (subst (λ (x : List (List ℕ)). IsFirstFault true x fault) (sym head.1) (inr (good, later)))),
+    )
 
 -- one that is not
 pub one_refused : (left : List (List ℕ)) (rest command after : List ℕ) (fault : WrapFault)

@@ -36,16 +36,16 @@ command_of within commands inner one all =
 batched_clear : (batch within : Bool) (commands : List (List ℕ)) (batched : List ℕ) → AllCommands within commands
     → Batches batch commands batched → Clear batched
 batched_clear true within commands batched all batch = record {
-    supervision = not_begins batched 143 1 _ 108 1 batch.text (λ e. omega arith);
-    channel = not_begins batched 143 1 _ 96 13 batch.text (λ e. omega arith);
-    crc16 = not_begins batched 143 1 _ 86 1 batch.text (λ e. omega arith)
+  supervision = not_begins batched 143 1 _ 108 1 batch.text (λ e. omega arith);
+  channel = not_begins batched 143 1 _ 96 13 batch.text (λ e. omega arith);
+  crc16 = not_begins batched 143 1 _ 86 1 batch.text (λ e. omega arith);
 }
 batched_clear false within commands batched all one =
     let placed : ¬ IsMisplaced within batched = (command_of within commands batched one all).placed in
     record {
-        supervision = λ is. placed (inl (inr (inl is)));
-        channel = λ is. placed (inl (inr (inr (inl is))));
-        crc16 = λ is. placed (inl (inr (inr (inr is))))
+      supervision = λ is. placed (inl (inr (inl is)));
+      channel = λ is. placed (inl (inr (inr (inl is))));
+      crc16 = λ is. placed (inl (inr (inr (inr is))));
     }
 
 record Clear' (bytes : List ℕ) : Type 0 where
@@ -54,12 +54,12 @@ record Clear' (bytes : List ℕ) : Type 0 where
 
 supervised_clear : (session : Option Supervised) (batched supervised : List ℕ) → Supervises session batched supervised → Clear batched → Clear' supervised
 supervised_clear None batched supervised same clear = record {
-    channel = subst (λ (x : List ℕ). ¬ IsMultiChannel x) (sym same) clear.channel;
-    crc16 = subst (λ (x : List ℕ). ¬ IsCrc16 x) (sym same) clear.crc16
+  channel = subst (λ (x : List ℕ). ¬ IsMultiChannel x) (sym same) clear.channel;
+  crc16 = subst (λ (x : List ℕ). ¬ IsCrc16 x) (sym same) clear.crc16;
 }
 supervised_clear (Some session) batched supervised is clear = record {
-    channel = not_begins supervised 108 1 _ 96 13 is.text (λ e. omega arith);
-    crc16 = not_begins supervised 108 1 _ 86 1 is.text (λ e. omega arith)
+  channel = not_begins supervised 108 1 _ 96 13 is.text (λ e. omega arith);
+  crc16 = not_begins supervised 108 1 _ 86 1 is.text (λ e. omega arith);
 }
 
 addressed_clear : (channel : Option Ends) (supervised addressed : List ℕ) → Addresses channel supervised addressed → Clear' supervised → ¬ IsCrc16 addressed
@@ -87,11 +87,11 @@ peels_of plan commands bytes wraps =
     let clear' : Clear' wraps.supervised = supervised_clear plan.session wraps.batched wraps.supervised wraps.supervises clear in
     let clear'' : ¬ IsCrc16 wraps.addressed = addressed_clear plan.channel wraps.supervised wraps.addressed wraps.addresses clear' in
     record {
-        checked = wraps.addressed;
-        addressed = wraps.supervised;
-        crc16_off = crc16_off_of plan.outer wraps.addressed bytes wraps.checks clear'';
-        channel_off = channel_off_of plan.channel wraps.supervised wraps.addressed wraps.addresses clear'.channel;
-        supervision_off = supervision_off_of plan.session wraps.batched wraps.supervised wraps.supervises clear.supervision
+      checked = wraps.addressed;
+      addressed = wraps.supervised;
+      crc16_off = crc16_off_of plan.outer wraps.addressed bytes wraps.checks clear'';
+      channel_off = channel_off_of plan.channel wraps.supervised wraps.addressed wraps.addresses clear'.channel;
+      supervision_off = supervision_off_of plan.session wraps.batched wraps.supervised wraps.supervises clear.supervision;
     }
 
 -- ---- each wrap is taken off in one way
@@ -114,15 +114,15 @@ said-with_check front =
     let zeroth : length (with_check front) - 2 - length front ≡ 0 = omega arith in
     let first : length (with_check front) - 1 - length front ≡ 1 = omega arith in
     let high : get_or (with_check front) (length (with_check front) - 2) 0 ≡ crc front / 256 =
-        get_or-append_right front pair (length front) (length (with_check front) - 2) 0 refl (omega arith) ∙ ap (λ (n : ℕ). get_or pair n 0) zeroth in
+    get_or-append_right front pair (length front) (length (with_check front) - 2) 0 refl (omega arith) ∙ ap (λ (n : ℕ). get_or pair n 0) zeroth in
     let low : get_or (with_check front) (length (with_check front) - 1) 0 ≡ crc front % 256 =
-        get_or-append_right front pair (length front) (length (with_check front) - 1) 0 refl (omega arith) ∙ ap (λ (n : ℕ). get_or pair n 0) first in
+    get_or-append_right front pair (length front) (length (with_check front) - 1) 0 refl (omega arith) ∙ ap (λ (n : ℕ). get_or pair n 0) first in
     omega arith
 
 crc16_same : (inner inner' : List ℕ) → crc16_text inner ≡ crc16_text inner' → inner ≡ inner'
 crc16_same inner inner' e =
     let fronts : 86 ∷ 1 ∷ inner ≡ 86 ∷ 1 ∷ inner' =
-        sym (front-with_check (86 ∷ 1 ∷ inner)) ∙ ap (λ (x : List ℕ). take (length x - 2) x) e ∙ front-with_check (86 ∷ 1 ∷ inner') in
+    sym (front-with_check (86 ∷ 1 ∷ inner)) ∙ ap (λ (x : List ℕ). take (length x - 2) x) e ∙ front-with_check (86 ∷ 1 ∷ inner') in
     ap (drop 2) fronts
 
 crc16_begins : (inner bytes : List ℕ) → bytes ≡ crc16_text inner → IsCrc16 bytes
@@ -178,8 +178,8 @@ same_supervision (Some session) (Some session') inner inner' bytes off off' =
     let flags : off.flags ≡ off'.flags = ap (λ (x : List ℕ). get_or x 2 0) texts in
     let id : session.id ≡ session'.id = sym off.id ∙ ap (λ (n : ℕ). n % 64) flags ∙ off'.id in
     let updates : session.updates ≡ session'.updates = same_bit session.updates session'.updates
-        (λ is. off'.updates.1 (subst (λ (n : ℕ). 128 ≤ n) flags (off.updates.0 is)))
-        (λ is. off.updates.1 (subst (λ (n : ℕ). 128 ≤ n) (sym flags) (off'.updates.0 is))) in
+    (λ is. off'.updates.1 (subst (λ (n : ℕ). 128 ≤ n) flags (off.updates.0 is)))
+    (λ is. off.updates.1 (subst (λ (n : ℕ). 128 ≤ n) (sym flags) (off'.updates.0 is))) in
     (ap Some (same_sessions session session' updates id), ap (drop 4) texts)
 same_supervision (Some session) None inner inner' bytes off off' = absurd (off'.0 (supervision_begins session inner bytes off))
 same_supervision None (Some session') inner inner' bytes off off' = absurd (off.0 (supervision_begins session' inner' bytes off'))
@@ -403,14 +403,15 @@ pub one_plan : (plan plan' : Plan) (commands commands' : List (List ℕ)) (bytes
     → (seen_of plan ≡ seen_of plan') × (commands ≡ commands')
 one_plan plan plan' commands commands' bytes wraps wraps' =
     let same = same_core (is_crc16 plan.outer) (is_crc16 plan'.outer) plan.channel plan'.channel plan.session plan'.session wraps.batched wraps'.batched bytes
-        (peels_of plan commands bytes wraps) (peels_of plan' commands' bytes wraps') in
+    (peels_of plan commands bytes wraps) (peels_of plan' commands' bytes wraps') in
     let batches' : Batches plan'.batch commands' wraps.batched = subst (λ (x : List ℕ). Batches plan'.batch commands' x) (sym same.same_in) wraps'.batches in
-    let inner = same_inner plan.batch plan'.batch (is_within plan) (is_within plan') commands commands' wraps.batched wraps.batches batches' wraps.plain wraps'.plain in
-    (ap (λ (b : Bool). record { batch = b; session = plan.session; channel = plan.channel; outer = outer_of (is_crc16 plan.outer) }) inner.0
-        ∙ ap (λ (s : Option Supervised). record { batch = plan'.batch; session = s; channel = plan.channel; outer = outer_of (is_crc16 plan.outer) }) same.same_su
-        ∙ ap (λ (o : Option Ends). record { batch = plan'.batch; session = plan'.session; channel = o; outer = outer_of (is_crc16 plan.outer) }) same.same_ch
-        ∙ ap (λ (c : Bool). record { batch = plan'.batch; session = plan'.session; channel = plan'.channel; outer = outer_of c }) same.same_crc,
-        inner.1)
+    let inner = same_inner plan.batch plan'.batch (is_within plan) (is_within plan') commands commands' wraps.batched wraps.batches batches' wraps.plain wraps'.plain in (
+      ap (λ (b : Bool). record { batch = b; session = plan.session; channel = plan.channel; outer = outer_of (is_crc16 plan.outer) }) inner.0
+          ∙ ap (λ (s : Option Supervised). record { batch = plan'.batch; session = s; channel = plan.channel; outer = outer_of (is_crc16 plan.outer) }) same.same_su
+          ∙ ap (λ (o : Option Ends). record { batch = plan'.batch; session = plan'.session; channel = o; outer = outer_of (is_crc16 plan.outer) }) same.same_ch
+          ∙ ap (λ (c : Bool). record { batch = plan'.batch; session = plan'.session; channel = plan'.channel; outer = outer_of c }) same.same_crc,
+      inner.1,
+    )
 
 -- what was opened is what a plan relates
 pub opened_only : (result : Result Opened WrapFault) (bytes : List ℕ) → IfOk result (λ opened. Wraps opened.plan opened.commands.items bytes)

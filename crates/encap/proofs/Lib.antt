@@ -2,3 +2,5 @@ pub mod BatchLemmas
 pub mod OpenLemmas
 pub mod WrapLemmas
 pub mod ExactLemmas
+pub mod FormLemmas
+pub mod CommandLemmas

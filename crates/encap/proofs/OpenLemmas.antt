@@ -34,14 +34,14 @@ pub opens_batch : (crc : Bool) (channel : Option Ends) (session : Option Supervi
     → Peels crc channel session inner bytes → IsBatchOf commands inner → AllCommands true commands
     → Wraps (record { batch = true; session = session; channel = channel; outer = outer_of crc }) commands bytes
 opens_batch crc channel session inner bytes commands peels batch all = record {
-    batched = inner;
-    supervised = peels.addressed;
-    addressed = peels.checked;
-    plain = all;
-    batches = batch;
-    supervises = supervises_of session inner peels.addressed peels.supervision_off;
-    addresses = addresses_of channel peels.addressed peels.checked peels.channel_off;
-    checks = checks_of crc peels.checked bytes peels.crc16_off
+  batched = inner;
+  supervised = peels.addressed;
+  addressed = peels.checked;
+  plain = all;
+  batches = batch;
+  supervises = supervises_of session inner peels.addressed peels.supervision_off;
+  addresses = addresses_of channel peels.addressed peels.checked peels.channel_off;
+  checks = checks_of crc peels.checked bytes peels.crc16_off;
 }
 
 -- a command alone
@@ -49,15 +49,15 @@ pub opens_alone : (crc : Bool) (channel : Option Ends) (session : Option Supervi
     → Peels crc channel session inner bytes → commands ≡ inner ∷ [] → IsCommand (has_outer_wrap crc channel session) inner
     → Wraps (record { batch = false; session = session; channel = channel; outer = outer_of crc }) commands bytes
 opens_alone crc channel session inner bytes commands peels one good = record {
-    batched = inner;
-    supervised = peels.addressed;
-    addressed = peels.checked;
-    plain = subst (λ (x : List (List ℕ)). AllCommands (has_outer_wrap (is_crc16 (outer_of crc)) channel session) x) (sym one)
-        (subst (λ (b : Bool). IsCommand (has_outer_wrap b channel session) inner) (sym (crc16_of crc)) good, tt);
-    batches = one;
-    supervises = supervises_of session inner peels.addressed peels.supervision_off;
-    addresses = addresses_of channel peels.addressed peels.checked peels.channel_off;
-    checks = checks_of crc peels.checked bytes peels.crc16_off
+  batched = inner;
+  supervised = peels.addressed;
+  addressed = peels.checked;
+  plain = subst (λ (x : List (List ℕ)). AllCommands (has_outer_wrap (is_crc16 (outer_of crc)) channel session) x) (sym one)
+      (subst (λ (b : Bool). IsCommand (has_outer_wrap b channel session) inner) (sym (crc16_of crc)) good, tt);
+  batches = one;
+  supervises = supervises_of session inner peels.addressed peels.supervision_off;
+  addresses = addresses_of channel peels.addressed peels.checked peels.channel_off;
+  checks = checks_of crc peels.checked bytes peels.crc16_off;
 }
 
 -- either, by what the bytes begin with
@@ -70,11 +70,11 @@ pub opens : (batch crc within : Bool) (channel : Option Ends) (session : Option 
 opens true crc within channel session outer inner bytes commands peels begins w o batch alone =
     let all = batch (begins.0 refl) in
     subst (λ (x : Outer). Wraps (record { batch = true; session = session; channel = channel; outer = x }) commands bytes) (sym o)
-        (opens_batch crc channel session inner bytes commands peels all.0 all.1)
+    (opens_batch crc channel session inner bytes commands peels all.0 all.1)
 opens false crc within channel session outer inner bytes commands peels begins w o batch alone =
     let one = alone (λ is. let bad : false ≡ true = begins.1 is in absurd (cc)) in
     subst (λ (x : Outer). Wraps (record { batch = false; session = session; channel = channel; outer = x }) commands bytes) (sym o)
-        (opens_alone crc channel session inner bytes commands peels one.0 (subst (λ (x : Bool). IsCommand x inner) w one.1))
+    (opens_alone crc channel session inner bytes commands peels one.0 (subst (λ (x : Bool). IsCommand x inner) w one.1))
 
 never_memory : (commands : List (List ℕ)) → IsFirstFault true commands NoMemory → ⊥
 never_memory [] bad = bad
@@ -94,6 +94,6 @@ batch_answer inner commands (TooLong len) is bad = inr (commands, is, bad)
 -- the commands of a batch are listed after its count
 pub list_of_batch : (commands : List (List ℕ)) (inner : List ℕ) → IsBatchOf commands inner → IsListOf commands (take (length inner - 3) (drop 3 inner))
 list_of_batch commands inner is = record {
-    fit = is.fit;
-    text = take_all (length inner - 3) (drop 3 inner) (omega (arith, length-drop 3 inner)) ∙ ap (drop 3) is.text
+  fit = is.fit;
+  text = take_all (length inner - 3) (drop 3 inner) (omega (arith, length-drop 3 inner)) ∙ ap (drop 3) is.text;
 }

@@ -62,9 +62,9 @@ pub record BatchEnds (bytes : List ℕ) (said got : ℕ) : Type 0 where
   pub fit : AllFit commands
   pub text : bytes ≡ 143 ∷ 1 ∷ slice_index bytes 2 ∷ (listed commands ++ rest)
   pub ends :
-    ((length commands < slice_index bytes 2) × (rest ≡ []) × (said ≡ length bytes + 1) × (got ≡ length bytes))
-    ⊎ (((length commands < slice_index bytes 2) × (more : List ℕ) × (rest ≡ said ∷ more) × (got ≡ length more) × (got < said))
-    ⊎ ((length commands ≡ slice_index bytes 2) × (1 ≤ length rest) × (said + length rest ≡ length bytes) × (got ≡ length bytes)))
+      ((length commands < slice_index bytes 2) × (rest ≡ []) × (said ≡ length bytes + 1) × (got ≡ length bytes))
+      ⊎ (((length commands < slice_index bytes 2) × (more : List ℕ) × (rest ≡ said ∷ more) × (got ≡ length more) × (got < said))
+      ⊎ ((length commands ≡ slice_index bytes 2) × (1 ≤ length rest) × (said + length rest ≡ length bytes) × (got ≡ length bytes)))
 
 -- Multi Command is too short for its count, or its count and lengths are not those of what follows
 abbrev pub IsBatchFault : List ℕ → WrapFault → Type 0
@@ -96,8 +96,8 @@ IsOuterFault bytes fault =
     (IsCrc16 bytes × IsCrc16Fault bytes fault)
     ⊎ (((crc : Bool) × (checked : List ℕ) × TakesCrc16Off crc checked bytes × (IsMultiChannel checked × IsChannelFault checked fault))
     ⊎ ((crc : Bool) × (checked : List ℕ) × TakesCrc16Off crc checked bytes
-        × (channel : Option Ends) × (addressed : List ℕ) × TakesChannelOff channel addressed checked
-        × (IsSupervision addressed × IsSupervisionFault addressed fault)))
+    × (channel : Option Ends) × (addressed : List ℕ) × TakesChannelOff channel addressed checked
+    × (IsSupervision addressed × IsSupervisionFault addressed fault)))
 
 -- what may be answered of a command alone: its fault, or where it has none that there was no memory
 abbrev pub MayAnswerAlone : Bool → List ℕ → WrapFault → Type 0
@@ -120,4 +120,4 @@ abbrev pub MayAnswer : List ℕ → WrapFault → Type 0
 MayAnswer bytes fault =
     IsOuterFault bytes fault
     ⊎ ((crc : Bool) × (channel : Option Ends) × (session : Option Supervised) × (inner : List ℕ)
-        × Peels crc channel session inner bytes × MayAnswerInner (has_outer_wrap crc channel session) inner fault)
+    × Peels crc channel session inner bytes × MayAnswerInner (has_outer_wrap crc channel session) inner fault)

@@ -96,3 +96,8 @@ IsWrapFault plan commands BitAddress = ⊥
 -- no command has more bytes than a fault can say
 abbrev pub AreShort : List (List ℕ) → Type 0
 AreShort commands = (k : ℕ) (command : List ℕ) → slice_get commands k ≡ Some command → length command < 2 ^ 16
+
+-- end points are at most 127
+abbrev pub AreEnds : Option Ends → Type 0
+AreEnds None = Unit {0}
+AreEnds (Some ends) = (ends.source ≤ 127) × (ends.target ≤ 127)

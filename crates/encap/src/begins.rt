@@ -62,7 +62,10 @@ fn is_transport(bytes: &[u8]) -> bool
 fn is_wrap(bytes: &[u8]) -> bool
     ensures { IsTrue result ↔ IsWrap bytes.now }
 {
-    begins(bytes, MULTI_COMMAND) || begins(bytes, SUPERVISION_GET) || begins(bytes, MULTI_CHANNEL) || begins(bytes, CRC16)
+    begins(bytes, MULTI_COMMAND)
+        || begins(bytes, SUPERVISION_GET)
+        || begins(bytes, MULTI_CHANNEL)
+        || begins(bytes, CRC16)
 }
 
 /// Whether they begin with a wrap that other crates open.

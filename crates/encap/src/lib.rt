@@ -5,15 +5,17 @@
 //! The definitions stand in `specs/`: `Begins`, `Wraps`, `Faults`.
 #![tactic(auto)]
 
-mod plan;
-mod fault;
-mod begins;
-mod layers;
 mod batch;
+mod begins;
+mod fault;
+mod layers;
 mod opening;
+mod plan;
+#[cfg(test)]
+mod tests;
 mod wrapping;
 
 pub use fault::WrapFault;
 pub use opening::unpack;
-pub use wrapping::wrap;
 pub use plan::{Ends, Opened, Outer, Plan, Supervised};
+pub use wrapping::wrap;

@@ -2,7 +2,7 @@
 
 ghost use Rattle.std.specs.Prelude.{◌≡◌, ℕ, ◌+◌, ◌^◌, ◌<◌, ◌≤◌, ◌∷◌, ◌++◌, length, None, IfOk, IfErr};
 ghost use Rattle.encap.specs.Wraps.{Wraps, listed, crc16_text};
-ghost use Rattle.encap.specs.Written.{AreShort, IsSession, IsWrapFault, IsWrappable, addressed_form, batch_text, checked_form, first_long, flags_of, only_of, supervised_form, too_long, too_long_by, batched_form, written_form, long_inside};
+ghost use Rattle.encap.specs.Written.{AreEnds, AreShort, IsSession, IsWrapFault, IsWrappable, addressed_form, batch_text, checked_form, first_long, flags_of, only_of, supervised_form, too_long, too_long_by, batched_form, written_form, long_inside};
 
 use crate::WrapFault;
 use crate::plan::{Ends, Outer, Plan, Supervised};
@@ -20,6 +20,7 @@ pub fn wrap(alloc: Global, plan: &Plan, commands: &List<Bytes>) -> Result<Bytes,
     requires wrappable { IsWrappable plan.now commands.now.items }
     requires short { AreShort commands.now.items }
     ensures form { IfOk result (λ bytes. bytes ≡ written_form plan.now commands.now.items) }
+    ensures wraps { IfOk result (λ bytes. Wraps plan.now commands.now.items bytes) }
     ensures fits { IfOk result (λ bytes. too_long plan.now commands.now.items ≡ None) }
     ensures fault { IfErr result (λ fault. IsWrapFault plan.now commands.now.items fault) }
 {
@@ -27,7 +28,11 @@ pub fn wrap(alloc: Global, plan: &Plan, commands: &List<Bytes>) -> Result<Bytes,
     if let Some(len) = unfit(plan.batch, plan.session, commands) {
         return Err(WrapFault::TooLong(len));
     }
-    let batched = if plan.batch { batch(alloc, commands)? } else { alone(alloc, commands)? };
+    let batched = if plan.batch {
+        batch(alloc, commands)?
+    } else {
+        alone(alloc, commands)?
+    };
     let supervised = supervised(alloc, plan.session, batched)?;
     let addressed = addressed(alloc, plan.channel, supervised)?;
     Ok(checked(alloc, plan.outer, addressed)?)
@@ -54,7 +59,11 @@ fn unfit_inside(session: Option<Supervised>, len: usize) -> Option<u16>
     requires { len < 2 ^ 16 }
     ensures { result ≡ long_inside session len }
 {
-    if session.is_some() && len > MAX_LEN { Some(len as u16) } else { None }
+    if session.is_some() && len > MAX_LEN {
+        Some(len as u16)
+    } else {
+        None
+    }
 }
 
 /// The length of the first command that does not fit its byte.
@@ -130,18 +139,27 @@ fn supervised(alloc: Global, session: Option<Supervised>, inner: Bytes) -> Resul
         None => Ok(inner),
         Some(session) => {
             let updates = if session.updates { 0x80 } else { 0 };
-            headed(alloc, &[0x6C, 0x01, updates + session.id, inner.len() as u8], inner.as_slice())
+            headed(
+                alloc,
+                &[0x6C, 0x01, updates + session.id, inner.len() as u8],
+                inner.as_slice(),
+            )
         }
     }
 }
 
 /// What is sent, in Multi Channel where there are end points.
 fn addressed(alloc: Global, channel: Option<Ends>, inner: Bytes) -> Result<Bytes, NoMemory>
-    ensures { IfOk result (λ bytes. bytes ≡ addressed_form channel inner) }
+    ensures form { IfOk result (λ bytes. bytes ≡ addressed_form channel inner) }
+    ensures ends { AreEnds channel }
 {
     match channel {
         None => Ok(inner),
-        Some(ends) => headed(alloc, &[0x60, 0x0D, ends.source.number(), ends.target.number()], inner.as_slice()),
+        Some(ends) => headed(
+            alloc,
+            &[0x60, 0x0D, ends.source.number(), ends.target.number()],
+            inner.as_slice(),
+        ),
     }
 }
 

@@ -12,11 +12,12 @@ loop-count-preserved c =
     let split = c.in-Some.ensures.split in
     let count : length (kept.0 ++ c.in-Some.field-0-0.now ∷ []) ≡ c.loop-count._count + 1 = length-append kept.0 (c.in-Some.field-0-0.now ∷ []) ∙ ap (λ (n : ℕ). n + 1) kept.2 in
     let shorter : length c.in-Some.after.now ≤ length c.loop-count.rest.now =
-        omega (arith, ap length split, length-append c.in-Some.field-0-0.now c.in-Some.after.now) in
-    let within : length c.loop-count.rest.now ≤ length c.args.bytes.now = kept.4 in
-    (kept.0 ++ c.in-Some.field-0-0.now ∷ [],
-        fit-push kept.0 c.in-Some.field-0-0.now kept.1 c.in-Some.ensures.fits,
-        count,
-        kept.3 ∙ ap (λ (x : List ℕ). 143 ∷ 1 ∷ slice_index c.args.bytes.now 2 ∷ x)
-            (ap (λ (x : List ℕ). listed kept.0 ++ x) split ∙ sym (listed-push kept.0 c.in-Some.field-0-0.now c.in-Some.after.now)),
-        omega arith)
+    omega (arith, ap length split, length-append c.in-Some.field-0-0.now c.in-Some.after.now) in
+    let within : length c.loop-count.rest.now ≤ length c.args.bytes.now = kept.4 in (
+      kept.0 ++ c.in-Some.field-0-0.now ∷ [],
+      fit-push kept.0 c.in-Some.field-0-0.now kept.1 c.in-Some.ensures.fits,
+      count,
+      kept.3 ∙ ap (λ (x : List ℕ). 143 ∷ 1 ∷ slice_index c.args.bytes.now 2 ∷ x)
+          (ap (λ (x : List ℕ). listed kept.0 ++ x) split ∙ sym (listed-push kept.0 c.in-Some.field-0-0.now c.in-Some.after.now)),
+      omega arith,
+    )
