@@ -3,4 +3,3 @@ pub mod OpenLemmas
 pub mod WrapLemmas
 pub mod ExactLemmas
 pub mod FormLemmas
-pub mod CommandLemmas
