@@ -1,5 +1,5 @@
 -- Lists of commands, each after its length.
-use Rattle.std.proofs.Common.{◌≡◌, ℕ, zero, suc, ◌+◌, ◌<◌, ◌≤◌, List, [], ◌∷◌, ◌++◌, length, true, refl, sym, ◌∙◌, ap, subst, inl, inr, ◌⊎◌, arith, length-append, append_assoc, append-nil}
+use Rattle.std.proofs.Common.{◌≡◌, ℕ, ◌≤◌, List, [], ◌∷◌, ◌++◌, length, true, refl, sym, ◌∙◌, ap, subst, inl, inr, arith, length-append, append_assoc, append-nil}
 use Rattle.encap.specs.Wraps.{listed, AllFit, IsListOf, IsCommand, AllCommands}
 use Rattle.encap.specs.Faults.{IsCutShort, IsCommandFault, IsFirstFault}
 use Rattle.encap.specs.declared.fault.WrapFault.{WrapFault}

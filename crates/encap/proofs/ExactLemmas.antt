@@ -1,10 +1,10 @@
 -- Bytes that a plan relates are opened to that plan and its commands, and have no fault.
-use Rattle.std.proofs.Common.{◌≡◌, ◌≢◌, ℕ, zero, suc, ◌+◌, ◌-◌, ◌*◌, ◌/◌, ◌%◌, ◌<◌, ◌≤◌, ◌⊎◌, inl, inr, List, [], ◌∷◌, ◌++◌, length, take, drop, get_or, Bool, true, false, Some, None, refl, sym, ◌∙◌, ap, subst, arith, length-append, append_assoc, append-nil}
-use Rattle.std.specs.Prelude.{Result, Ok, Err, IfOk, IfErr, Option, IsTrue, slice_index, is_some, ◌||◌}
+use Rattle.std.proofs.Common.{◌≡◌, ℕ, ◌+◌, ◌-◌, ◌/◌, ◌%◌, ◌<◌, ◌≤◌, ◌⊎◌, inl, inr, List, [], ◌∷◌, ◌++◌, length, take, drop, get_or, Bool, true, false, Some, None, refl, sym, ◌∙◌, ap, subst, arith, length-append, append_assoc}
+use Rattle.std.specs.Prelude.{Result, Ok, Err, IfOk, IfErr, Option, IsTrue, slice_index, ◌||◌}
 use Rattle.std.proofs.lemmas.List.{take_all, take-append-le, get_or-append_right}
 use Rattle.zw_base.specs.Crc.{crc}
 use Rattle.encap.specs.Begins.{Begins, IsMultiCommand, IsSupervision, IsMultiChannel, IsCrc16, IsMisplaced}
-use Rattle.encap.specs.Wraps.{Wraps, listed, AllFit, IsListOf, IsBatchOf, IsSupervisionOf, IsChannelOf, IsCommand, AllCommands, Batches, Supervises, Addresses, Checks, has_outer_wrap, is_within, is_crc16, with_check, crc16_text}
+use Rattle.encap.specs.Wraps.{Wraps, listed, IsBatchOf, IsSupervisionOf, IsChannelOf, IsCommand, AllCommands, Batches, Supervises, Addresses, Checks, has_outer_wrap, is_within, is_crc16, with_check, crc16_text}
 use Rattle.encap.specs.Layers.{TakesCrc16Off, TakesChannelOff, TakesSupervisionOff, Peels, outer_of, seen_of}
 use Rattle.encap.specs.Faults.{IsCrc16Fault, IsChannelFault, IsSupervisionFault, BatchEnds, IsBatchFault, IsCommandFault, IsFirstFault, IsOuterFault, MayAnswer, MayAnswerInner, MayAnswerBatch, MayAnswerAlone, said_check, true_check}
 use Rattle.encap.specs.declared.plan.Plan.{Plan}

@@ -1,9 +1,9 @@
 -- What is written is what the plan relates.
-use Rattle.std.proofs.Common.{◌≡◌, ℕ, zero, suc, ◌+◌, ◌%◌, ◌<◌, ◌≤◌, List, [], ◌∷◌, length, Bool, true, false, Some, None, refl, sym, ◌∙◌, ap, subst, arith, cond}
-use Rattle.std.specs.Prelude.{Option, IsTrue, nat_lt, ◌↔◌}
+use Rattle.std.proofs.Common.{◌≡◌, ℕ, ◌+◌, ◌%◌, ◌<◌, ◌≤◌, List, [], ◌∷◌, length, Bool, true, false, Some, None, refl, sym, subst, arith, cond}
+use Rattle.std.specs.Prelude.{Option, IsTrue, nat_lt}
 use Rattle.std.proofs.lemmas.Bool.{ltb-false}
-use Rattle.encap.specs.Wraps.{Wraps, AllFit, IsBatchOf, IsSupervisionOf, IsChannelOf, Batches, Supervises, Addresses, Checks}
-use Rattle.encap.specs.Written.{batch_text, only_of, batched_form, flags_of, supervised_form, addressed_form, checked_form, written_form, IsCount, IsSession, IsWrappable, AreEnds, first_long, long_inside, or_inside, too_long_by, too_long}
+use Rattle.encap.specs.Wraps.{Wraps, AllFit, Batches, Supervises, Addresses, Checks}
+use Rattle.encap.specs.Written.{batch_text, batched_form, flags_of, supervised_form, addressed_form, checked_form, written_form, IsCount, IsSession, IsWrappable, AreEnds, first_long, long_inside, or_inside, too_long_by, too_long}
 use Rattle.encap.specs.declared.plan.Plan.{Plan}
 use Rattle.encap.specs.declared.plan.Supervised.{Supervised}
 use Rattle.encap.specs.declared.plan.Ends.{Ends}

@@ -1,11 +1,10 @@
 -- What is taken off is what the plan relates.
-use Rattle.std.proofs.Common.{◌≡◌, ℕ, ◌-◌, ◌≤◌, List, [], ◌∷◌, length, take, drop, Bool, true, false, Some, None, refl, sym, ◌∙◌, ap, subst, inl, inr, arith, length-drop}
+use Rattle.std.proofs.Common.{◌≡◌, ℕ, ◌-◌, List, [], ◌∷◌, length, take, drop, Bool, true, false, Some, None, refl, sym, ◌∙◌, ap, subst, inl, inr, arith, length-drop}
 use Rattle.std.proofs.lemmas.List.{take_all}
 use Rattle.std.specs.Prelude.{Option, IsTrue}
 use Rattle.encap.specs.Begins.{IsMultiCommand}
-use Rattle.encap.specs.Wraps.{Wraps, IsListOf, IsBatchOf, IsCommand, AllCommands, Supervises, Addresses, Checks, has_outer_wrap, is_within, is_crc16}
+use Rattle.encap.specs.Wraps.{Wraps, IsListOf, IsBatchOf, IsCommand, AllCommands, Supervises, Addresses, Checks, has_outer_wrap, is_crc16}
 use Rattle.encap.specs.Layers.{TakesCrc16Off, TakesChannelOff, TakesSupervisionOff, Peels, outer_of}
-use Rattle.encap.specs.declared.plan.Plan.{Plan}
 use Rattle.encap.specs.declared.plan.Supervised.{Supervised}
 use Rattle.encap.specs.Faults.{IsFirstFault, MayAnswerBatch}
 use Rattle.encap.specs.declared.plan.Ends.{Ends}

@@ -1,12 +1,11 @@
 -- What is wrong with wrapped bytes, from the outside in (this project's own rule).
-use Rattle.std.specs.Prelude.{◌≡◌, ◌≢◌, ℕ, ◌+◌, ◌-◌, ◌*◌, ◌<◌, ◌≤◌, ◌⊎◌, List, [], ◌∷◌, ◌++◌, length, take, slice_index, Bool, true, false, Option, Some, None}
+use Rattle.std.specs.Prelude.{◌≡◌, ◌≢◌, ℕ, ◌+◌, ◌-◌, ◌*◌, ◌<◌, ◌≤◌, ◌⊎◌, List, [], ◌∷◌, ◌++◌, length, take, slice_index, Bool, true, Option}
 use Rattle.zw_base.specs.Crc.{crc}
 use Rattle.encap.specs.Begins.{IsMultiCommand, IsSupervision, IsMultiChannel, IsCrc16, IsMisplaced}
 use Rattle.encap.specs.Wraps.{listed, AllFit, IsBatchOf, IsCommand, AllCommands, has_outer_wrap}
-use Rattle.encap.specs.Layers.{TakesCrc16Off, TakesChannelOff, TakesSupervisionOff, Peels}
+use Rattle.encap.specs.Layers.{TakesCrc16Off, TakesChannelOff, Peels}
 use Rattle.encap.specs.declared.plan.Supervised.{Supervised}
 use Rattle.encap.specs.declared.plan.Ends.{Ends}
-use Rattle.encap.specs.declared.plan.Outer.{Outer}
 use Rattle.encap.specs.declared.fault.WrapFault.{WrapFault}
 use Rattle.encap.specs.declared.fault.WrapFault.TheVariants.{OutOfOrder, Length, BadCrc, TooLong, BitAddress, NoMemory}
 

@@ -1,6 +1,6 @@
 -- One wrap taken off, where the bytes begin with it; else nothing is taken off.
 use Rattle.std.specs.Prelude.{◌≡◌, ℕ, List, Bool, true, false, Option, Some, None}
-use Rattle.encap.specs.Begins.{IsMultiCommand, IsSupervision, IsMultiChannel, IsCrc16}
+use Rattle.encap.specs.Begins.{IsSupervision, IsMultiChannel, IsCrc16}
 use Rattle.encap.specs.Wraps.{IsSupervisionOf, IsChannelOf, crc16_text, is_crc16}
 use Rattle.encap.specs.declared.plan.Plan.{Plan}
 use Rattle.encap.specs.declared.plan.Supervised.{Supervised}

@@ -1,6 +1,6 @@
 -- How a message is wrapped (Z-Wave Transport-Encapsulation Command Class Specification): four relations, composed in
 -- this order only.
-use Rattle.std.specs.Prelude.{◌≡◌, ℕ, ◌+◌, ◌*◌, ◌/◌, ◌%◌, ◌<◌, ◌≤◌, ◌↔◌, List, [], ◌∷◌, ◌++◌, length, Bool, true, false, IsTrue, Option, Some, None, is_some, ◌||◌}
+use Rattle.std.specs.Prelude.{◌≡◌, ℕ, ◌/◌, ◌%◌, ◌<◌, ◌≤◌, ◌↔◌, List, [], ◌∷◌, ◌++◌, length, Bool, true, false, IsTrue, Option, Some, None, is_some, ◌||◌}
 use Rattle.zw_base.specs.Crc.{crc}
 use Rattle.encap.specs.Begins.{IsMisplaced}
 use Rattle.encap.specs.declared.plan.Plan.{Plan}

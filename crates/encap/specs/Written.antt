@@ -1,5 +1,5 @@
 -- How `wrap` writes a message, and what does not fit (Z-Wave Transport-Encapsulation Command Class Specification).
-use Rattle.std.specs.Prelude.{◌≡◌, ℕ, ◌+◌, ◌^◌, ◌<◌, ◌≤◌, List, [], ◌∷◌, ◌++◌, length, slice_get, Bool, true, false, Option, Some, None, nat_lt, if◌then◌else◌}
+use Rattle.std.specs.Prelude.{◌≡◌, ℕ, ◌+◌, ◌^◌, ◌<◌, ◌≤◌, List, [], ◌∷◌, length, slice_get, Bool, true, false, Option, Some, None, nat_lt, if◌then◌else◌}
 use Rattle.encap.specs.Wraps.{listed, crc16_text, is_within, AllCommands}
 use Rattle.encap.specs.declared.plan.Plan.{Plan}
 use Rattle.encap.specs.declared.plan.Supervised.{Supervised}

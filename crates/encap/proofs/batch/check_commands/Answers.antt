@@ -1,4 +1,4 @@
-use Rattle.std.proofs.Common.{◌≡◌, List, ℕ, ◌++◌, ◌∷◌, length, true, subst, rules, sym}
+use Rattle.std.proofs.Common.{List, ℕ, true, subst, sym}
 use Rattle.std.proofs.lemmas.Result.{err_from_is_err_and}
 use Rattle.encap.specs.Wraps.{AllCommands}
 use Rattle.encap.proofs.BatchLemmas.{list_end, one_judged, one_refused}

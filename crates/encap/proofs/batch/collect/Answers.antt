@@ -1,5 +1,4 @@
-use Rattle.std.proofs.Common.{◌≡◌, List, ℕ, [], ◌++◌, ◌∷◌, length, ap, sym, ◌∙◌, append-nil, subst}
-use Rattle.encap.specs.Wraps.{IsListOf}
+use Rattle.std.proofs.Common.{◌≡◌, List, ℕ, [], ◌++◌, ◌∷◌, ap, sym, ◌∙◌, append-nil}
 use Rattle.encap.proofs.BatchLemmas.{list_end, one_read}
 use Rattle.encap.proofs.batch.collect.Goals as goal
 

@@ -1,4 +1,4 @@
-use Rattle.std.proofs.Common.{◌≡◌, ℕ, ◌+◌, ◌<◌, ◌≤◌, List, [], ◌∷◌, ◌++◌, length, take, get_or, ap, sym, ◌∙◌, arith, append_assoc}
+use Rattle.std.proofs.Common.{◌≡◌, ℕ, List, [], ◌∷◌, ◌++◌, length, take, get_or, ap, sym, ◌∙◌, arith, append_assoc}
 use Rattle.encap.specs.Wraps.{listed}
 use Rattle.encap.proofs.WrapLemmas.{fit_at, listed-take, same_item}
 use Rattle.encap.proofs.wrapping.batch.Goals as goal

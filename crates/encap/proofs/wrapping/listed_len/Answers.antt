@@ -1,4 +1,4 @@
-use Rattle.std.proofs.Common.{◌≡◌, ℕ, ◌+◌, ◌*◌, ◌<◌, ◌≤◌, [], ◌∷◌, length, take, get_or, ap, sym, ◌∙◌, arith, length-append}
+use Rattle.std.proofs.Common.{◌≡◌, [], ◌∷◌, length, take, get_or, ap, ◌∙◌, arith, length-append}
 use Rattle.encap.specs.Wraps.{listed}
 use Rattle.encap.proofs.WrapLemmas.{fit_at, listed-take, same_item}
 use Rattle.encap.proofs.wrapping.listed_len.Goals as goal

@@ -1,5 +1,4 @@
-use Rattle.std.proofs.Common.{◌≡◌, ℕ, List, Bool, None, ap, sym, ◌∙◌, subst}
-use Rattle.encap.specs.Wraps.{Wraps}
+use Rattle.std.proofs.Common.{◌≡◌, ℕ, List, Bool, None, ap, sym, ◌∙◌}
 use Rattle.encap.specs.Written.{batch_text, only_of, batched_form, supervised_form, addressed_form, checked_form, written_form, too_long, too_long_by}
 use Rattle.encap.proofs.FormLemmas.{form_wraps}
 use Rattle.encap.proofs.wrapping.wrap.Goals as goal
