@@ -4,3 +4,4 @@ pub mod Running
 pub mod Adding
 pub mod Ending
 pub mod Words
+pub mod FirstDevice

@@ -12,6 +12,7 @@ use Rattle.zw_text.specs.Entry.{text_of}
 use Rattle.zw_text.specs.Transcript.{lines_run}
 use Rattle.device_sim.specs.State.{State}
 use Rattle.zw_laws.specs.Answers.{first_node}
+use Rattle.zw_laws.specs.Devices.{device_of}
 use Rattle.zw_laws.specs.Table.{switch, value_line, device_lines}
 use Rattle.zw_laws.specs.Lines.{lines_of, AreLines, AreFirstLines, AreLinesBefore}
 use Rattle.zwave_console.specs.Output.{AppendsFront}
@@ -69,18 +70,19 @@ IsOfRun InputTooLong = ⊥
 IsOfRun (BadHex place) = ⊥
 
 -- the last lines of the form of the final table: the clock, the sessions of the first node, its confirmed value where
--- it has one, and what is shown of a device of it, where there is one
-abbrev pub IsTable : List Entry → Type 0
-IsTable entries = (clock : ℕ) × (sessions : List ℕ) × (confirmed : Option ℕ) × (device : Option State)
-    × (entries ≡ TableEnd clock ∷ TableNode first_node sessions ∷ (value_line first_node switch confirmed ++ device_lines first_node device))
+-- it has one, and what is shown of its device, where there is one
+abbrev pub IsTable : List State → List Entry → Type 0
+IsTable devices entries = (clock : ℕ) × (sessions : List ℕ) × (confirmed : Option ℕ)
+    × (entries ≡ TableEnd clock ∷ TableNode first_node sessions
+    ∷ (value_line first_node switch confirmed ++ device_lines first_node (device_of first_node devices)))
 
 -- the new entries are the old ones and a table
-abbrev pub AddsTable : List Entry → List Entry → Type 0
-AddsTable old new = (table : List Entry) × IsTable table × (new ≡ old ++ table)
+abbrev pub AddsTable : List State → List Entry → List Entry → Type 0
+AddsTable devices old new = (table : List Entry) × IsTable devices table × (new ≡ old ++ table)
 
 -- the last lines of a run
-abbrev pub AreLast : List Entry → Type 0
-AreLast last = (last ≡ []) ⊎ (IsTable last ⊎ ((number : ℕ) × (last ≡ bad_line number Unknown ∷ [])))
+abbrev pub AreLast : List State → List Entry → Type 0
+AreLast devices last = (last ≡ []) ⊎ (IsTable devices last ⊎ ((number : ℕ) × (last ≡ bad_line number Unknown ∷ [])))
 
 -- which lines were run, of the texts of an input
 abbrev pub RunsLines : Status → List (List ℕ) → List Line → Type 0
@@ -94,34 +96,34 @@ RunsLines InputTooLong texts lines = lines ≡ []
 RunsLines (BadHex place) texts lines = lines ≡ []
 
 -- what was written: the transcript's text and the last lines that the status adds, or a front of it
-abbrev pub Writes : Status → Option (List ℕ) → Option (List ℕ) → List Entry → Type 0
-Writes Ok old new transcript = (table : List Entry) × IsTable table × Appends old new (text_of transcript ++ text_of table)
-Writes (BadLine number fault) old new transcript = Appends old new (text_of transcript ++ text_of (bad_line number fault ∷ []))
-Writes WriteFault old new transcript = (last : List Entry) × AreLast last × AppendsFront old new (text_of transcript ++ text_of last)
-Writes NoMemory old new transcript = AppendsFront old new (text_of transcript)
-Writes Usage old new transcript = Keeps old new
-Writes ReadFault old new transcript = Keeps old new
-Writes InputTooLong old new transcript = Keeps old new
-Writes (BadHex place) old new transcript = Keeps old new
+abbrev pub Writes : Status → List State → Option (List ℕ) → Option (List ℕ) → List Entry → Type 0
+Writes Ok devices old new transcript = (table : List Entry) × IsTable devices table × Appends old new (text_of transcript ++ text_of table)
+Writes (BadLine number fault) devices old new transcript = Appends old new (text_of transcript ++ text_of (bad_line number fault ∷ []))
+Writes WriteFault devices old new transcript = (last : List Entry) × AreLast devices last × AppendsFront old new (text_of transcript ++ text_of last)
+Writes NoMemory devices old new transcript = AppendsFront old new (text_of transcript)
+Writes Usage devices old new transcript = Keeps old new
+Writes ReadFault devices old new transcript = Keeps old new
+Writes InputTooLong devices old new transcript = Keeps old new
+Writes (BadHex place) devices old new transcript = Keeps old new
 
 -- lines of the input were run with a transcript that was written, as the status says
-pub record HasRun (status : Status) (input : List ℕ) (old new : Option (List ℕ)) : Type 0 where
+pub record HasRun (status : Status) (devices : List State) (input : List ℕ) (old new : Option (List ℕ)) : Type 0 where
   pub transcript : List Entry
   pub lines : List Line
   pub shown : lines_run transcript ≡ lines
   pub run : RunsLines status (lines_of input) lines
-  pub written : Writes status old new transcript
+  pub written : Writes status devices old new transcript
 
 -- how the final table was written
-abbrev pub EndsWell : Status → Option (List ℕ) → Option (List ℕ) → Type 0
-EndsWell Ok old new = (table : List Entry) × IsTable table × Appends old new (text_of table)
-EndsWell WriteFault old new = (table : List Entry) × IsTable table × AppendsFront old new (text_of table)
-EndsWell NoMemory old new = Keeps old new
-EndsWell Usage old new = ⊥
-EndsWell (BadLine line fault) old new = ⊥
-EndsWell ReadFault old new = ⊥
-EndsWell InputTooLong old new = ⊥
-EndsWell (BadHex place) old new = ⊥
+abbrev pub EndsWell : List State → Status → Option (List ℕ) → Option (List ℕ) → Type 0
+EndsWell devices Ok old new = (table : List Entry) × IsTable devices table × Appends old new (text_of table)
+EndsWell devices WriteFault old new = (table : List Entry) × IsTable devices table × AppendsFront old new (text_of table)
+EndsWell devices NoMemory old new = Keeps old new
+EndsWell devices Usage old new = ⊥
+EndsWell devices (BadLine line fault) old new = ⊥
+EndsWell devices ReadFault old new = ⊥
+EndsWell devices InputTooLong old new = ⊥
+EndsWell devices (BadHex place) old new = ⊥
 
 -- how the line that names a text that is none was written
 abbrev pub EndsBadly : ℕ → LineFault → Status → Option (List ℕ) → Option (List ℕ) → Type 0

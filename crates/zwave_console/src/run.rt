@@ -1,6 +1,6 @@
 //! The top call: a command, from its words to its status.
 
-ghost use Rattle.std.specs.Prelude.{◌≡◌, ◌≢◌, ◌⊎◌, ◌^◌, ◌<◌, ◌≤◌, ◌↔◌, ℕ, [], ◌∷◌, length, IfSome, IsTrue, slice_index, OnOk, OnErr, IsErrOf};
+ghost use Rattle.std.specs.Prelude.{◌≡◌, ◌≢◌, ◌⊎◌, ◌^◌, ◌<◌, ◌≤◌, ◌↔◌, ℕ, [], ◌∷◌, length, map, IfSome, IsTrue, slice_index, OnOk, OnErr, IsErrOf};
 ghost use Rattle.std.specs.Io.KnownBytes.{Appends, Keeps, IsAtEnd};
 ghost use Rattle.zw_base.specs.Faults.{Rose};
 ghost use Rattle.zw_laws.specs.Lines.{lines_of};
@@ -41,7 +41,8 @@ pub fn run<S: Source, K: Sink, D: Draw>(
     ensures never_bad_hex { (place : ℕ) → result ≡ Status.BadHex place → ⊥ }
 
     // The lines of the input were run and their transcript was written, as far as the status says.
-    ensures ran { IfSome (S.left source.old) (λ input. HasRun result input (K.written sink.old) (K.written sink.new)) }
+    ensures ran { IfSome (S.left source.old) (λ input. HasRun result (map (λ d. state d) devices.new.items) input
+        (K.written sink.old) (K.written sink.new)) }
     ensures sink_never_falls { K.faults sink.old ≤ K.faults sink.new }
     ensures source_never_falls { S.faults source.old ≤ S.faults source.new }
     ensures kept { length devices.new.items ≡ length devices.old.items }
@@ -86,7 +87,7 @@ fn simulate<K: Sink, D: Draw>(
 ) -> Status
     requires few { length devices.old.items < 2 ^ 64 }
     requires short { length input.now ≤ MAX_INPUT }
-    ensures ran { HasRun result input.now (K.written sink.old) (K.written sink.new) }
+    ensures ran { HasRun result (map (λ d. state d) devices.new.items) input.now (K.written sink.old) (K.written sink.new) }
     ensures of_run { IsOfRun result }
     ensures never_falls { K.faults sink.old ≤ K.faults sink.new }
     ensures failed { result ≡ Status.WriteFault → Rose (K.faults sink.old) (K.faults sink.new) }
@@ -203,7 +204,7 @@ fn end_well<K: Sink>(
     devices: &Vec<Box<dyn Device>>,
 ) -> Status
     requires { length devices.now.items < 2 ^ 64 }
-    ensures ended { EndsWell result (K.written sink.old) (K.written sink.new) }
+    ensures ended { EndsWell (map (λ d. state d) devices.now.items) result (K.written sink.old) (K.written sink.new) }
     ensures never_falls { K.faults sink.old ≤ K.faults sink.new }
     ensures failed { result ≡ Status.WriteFault → Rose (K.faults sink.old) (K.faults sink.new) }
 {

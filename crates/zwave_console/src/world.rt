@@ -1,10 +1,11 @@
 //! The world: host, chip, pipes, air and time. A line changes one part, and the world settles.
 
-ghost use Rattle.std.specs.Prelude.{◌≡◌, ◌⊎◌, ◌+◌, ◌^◌, ◌≤◌, ◌<◌, ℕ, [], ◌∷◌, ◌++◌, length, drop, map, Option, Some, IfSome, IfOk, OnOk, OnErr};
+ghost use Rattle.std.specs.Prelude.{◌≡◌, ◌⊎◌, ◌+◌, ◌^◌, ◌≤◌, ◌<◌, ℕ, [], ◌∷◌, ◌++◌, length, drop, map, slice_get, Option, Some, None, IsNone, IfSome, IfOk, OnOk, OnErr};
 ghost use Rattle.std.specs.Option.{ForSome};
 ghost use Rattle.supervision.specs.Session.{IsStatus};
 ghost use Rattle.device_sim.specs.Hearing.{report_text};
-ghost use Rattle.device_sim.specs.State.{State, shown_of};
+ghost use Rattle.device_sim.specs.State.{shown_of};
+ghost use Rattle.zw_laws.specs.Devices.{device_of};
 ghost use Rattle.zw_laws.specs.Table.{switch, value_line, device_lines};
 ghost use Rattle.zwave_console.specs.Run.{AddsTable};
 ghost use Rattle.zwave_console.specs.Host.{opening_of};
@@ -603,7 +604,7 @@ impl World {
         out: &mut List<Entry>,
     ) -> Result<(), NoMemory>
         requires { length devices.now.items < 2 ^ 64 }
-        ensures { OnOk result (AddsTable out.old.items out.new.items) }
+        ensures { OnOk result (AddsTable (map (λ d. state d) devices.now.items) out.old.items out.new.items) }
     {
         self.enter_sessions(out)?;
         enter_device(self.alloc, devices, node(FIRST_NODE), out)
@@ -641,7 +642,7 @@ fn enter_device(
     out: &mut List<Entry>,
 ) -> Result<(), NoMemory>
     requires { length devices.now.items < 2 ^ 64 }
-    ensures { OnOk result ((device : Option State) × (out.new.items ≡ out.old.items ++ device_lines node device)) }
+    ensures { OnOk result (out.new.items ≡ out.old.items ++ device_lines node (device_of node (map (λ d. state d) devices.now.items))) }
 {
     match place_of(devices, node) {
         Some(place) => {
@@ -654,7 +655,7 @@ fn enter_device(
 
 // What is shown of a device.
 fn show_one(alloc: Global, device: &Box<dyn Device>) -> Result<List<Setting>, NoMemory>
-    ensures { IfOk result (λ shown. (device : State) × (shown.items ≡ shown_of device)) }
+    ensures { IfOk result (λ shown. shown.items ≡ shown_of (state device.now)) }
 {
     device.show(alloc)
 }
@@ -701,14 +702,23 @@ fn switch_setting(value: u8) -> Setting
 
 // Where the first device of that node stands in the list.
 fn place_of(devices: &Vec<Box<dyn Device>>, node: NodeId) -> Option<usize>
-    ensures { IfSome result (λ place. place < length devices.now.items) }
+    ensures within { IfSome result (λ place. place < length devices.now.items) }
+    ensures found { IfSome result (λ place. slice_get (map (λ d. state d) devices.now.items) place ≡ device_of node (map (λ d. state d) devices.now.items)) }
+    ensures none { IsNone result → device_of node (map (λ d. state d) devices.now.items) ≡ None }
 {
     for place in 0..devices.len() {
-        if devices[place].node() == node {
+        if node_of(&devices[place]) == node {
             return Some(place);
         }
     }
     None
+}
+
+// The node of a device.
+fn node_of(device: &Box<dyn Device>) -> NodeId
+    ensures { result ≡ (state device.now).node }
+{
+    device.node()
 }
 
 // All devices tick, in their order.
