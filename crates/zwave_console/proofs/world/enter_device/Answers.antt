@@ -1,4 +1,4 @@
-use Rattle.std.proofs.Common.{◌≡◌, sym, ◌∙◌, length, map}
+use Rattle.std.proofs.Common.{sym, ◌∙◌}
 use Rattle.zwave_console.proofs.Ending.{shown_device}
 use Rattle.zwave_console.proofs.FirstDevice.{seen_at}
 use Rattle.zwave_console.proofs.world.enter_device.Goals as goal

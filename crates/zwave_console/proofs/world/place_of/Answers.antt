@@ -1,6 +1,5 @@
-use Rattle.std.proofs.Common.{◌≡◌, ◌≢◌, ◌<◌, ◌≤◌, ◌+◌, length, map, drop, refl, ◌∙◌, sym, subst, add-one, eqb-true, arith}
+use Rattle.std.proofs.Common.{◌<◌, length, refl, ◌∙◌, sym, add-one, eqb-true, arith}
 use Rattle.std.proofs.lemmas.Bool.{eqb-false}
-use Rattle.zw_laws.specs.Devices.{device_of}
 use Rattle.zwave_console.proofs.FirstDevice.{device_of-here, device_of-skip, device_of-past}
 use Rattle.zwave_console.proofs.world.place_of.Goals as goal
 
