@@ -99,12 +99,12 @@ pub record Held (before devices : List State) (transcript : List Entry) : Type 0
 -- the machine goes on while the devices do nothing, and the facts hold again
 pub record GoesOn (old new : Machine) (entries entries' : List Entry) : Type 0 where
   pub same_clock : new.clock ≡ old.clock
-  pub goes : (before devices : List State) (lived : ℕ) → Goes (Knows before old lived devices) (Knows before new lived devices) entries entries'
+  pub goes : (before devices : List State) (lived : ℕ) → Goes [] (Knows before old lived devices) (Knows before new lived devices) entries entries'
 
 -- the machine goes on up to an event that finds no memory
 abbrev pub Stops : Machine → List Entry → List Entry → Type 0
 Stops old entries entries' =
-    (before devices : List State) (lived : ℕ) → Goes (Knows before old lived devices) (Held before devices) entries entries'
+    (before devices : List State) (lived : ℕ) → Goes [] (Knows before old lived devices) (Held before devices) entries entries'
 
 -- what is known between lines and ticks: the last tick is over, and the host has begun all that it can
 pub record AtEase (before : List State) (m : Machine) (devices : List State) (transcript : List Entry) : Type 0 where

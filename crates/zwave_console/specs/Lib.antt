@@ -5,6 +5,7 @@ pub mod Air
 pub mod Chip
 pub mod Host
 pub mod World
+pub mod Knows
 pub mod Status
 pub mod Output
 pub mod RunLine

@@ -1,5 +1,13 @@
 -- Words for what the world does (this project's own model).
-use Rattle.std.specs.Prelude.{◌≡◌, ℕ, ◌==◌, if◌then◌else◌, List, ◌++◌}
+use Rattle.std.specs.Prelude.{◌≡◌, ℕ, ◌==◌, if◌then◌else◌, List, [], ◌∷◌, ◌++◌, Option, Some, None}
+use Rattle.device_sim.specs.State.{State}
+use Rattle.zw_text.specs.declared.entry.Entry.TheVariants.{Out, Store}
+use Rattle.zw_laws.specs.Table.{switch}
+use Rattle.world_facts.specs.Machine.{Machine, Knows}
+use Rattle.world_facts.specs.Work.{IsPumped}
+use Rattle.zwave_console.specs.Host.{order_at, value_of}
+use Rattle.zwave_console.specs.declared.host.Order.{Order}
+use Rattle.zwave_console.specs.declared.host.Closing.{Closing}
 use Rattle.supervision.specs.declared.session.TheConstants.{SUCCESS, FAIL}
 use Rattle.zw_text.specs.declared.line.Line.{Line}
 use Rattle.zw_text.specs.declared.entry.Entry.{Entry}
@@ -10,6 +18,24 @@ use Rattle.zw_text.specs.declared.entry.Ended.TheVariants.{Success, Fail, NoSupp
 -- how a command ended whose session has this final status
 abbrev pub ended_by : ℕ → Ended
 ended_by status = if status == SUCCESS then Success else (if status == FAIL then Fail else NoSupport)
+
+-- the entry of the value that an order confirms
+abbrev pub store_entries : Option Order → List Entry
+store_entries None = []
+store_entries (Some order) = Store order.node (record { property = switch; value = value_of order.word }) ∷ []
+
+-- the entries of a session that was closed: the outcome of its command, and at success the value that it confirms
+abbrev pub closing_entries : List Order → Option Closing → List Entry
+closing_entries orders None = []
+closing_entries orders (Some closing) =
+    Out closing.command (ended_by closing.status)
+    ∷ (if closing.status == SUCCESS then store_entries (order_at orders closing.command) else [])
+
+-- where the facts held before, the host has begun all that it can
+abbrev pub IsPumpedIfKnown : Machine → Machine → Type 0
+IsPumpedIfKnown old new =
+    (before devices : List State) (lived : ℕ) (transcript : List Entry) → Knows before old lived devices transcript →
+    IsPumped new.request new.book new.waiting
 
 -- the new entries are the old ones and some more, which show these lines
 abbrev pub AddsLines : List Line → List Entry → List Entry → Type 0

@@ -1,15 +1,24 @@
 //! The world: host, chip, pipes, air and time. A line changes one part, and the world settles.
 
-ghost use Rattle.std.specs.Prelude.{◌≡◌, ◌⊎◌, ◌+◌, ◌^◌, ◌≤◌, ◌<◌, ℕ, [], ◌∷◌, ◌++◌, length, drop, map, slice_get, Option, Some, None, IsNone, IfSome, IfOk, OnOk, OnErr};
+ghost use Rattle.std.specs.Prelude.{true, false, ◌≡◌, ◌⊎◌, ◌+◌, ◌^◌, ◌≤◌, ◌<◌, ℕ, [], ◌∷◌, ◌++◌, length, take, drop, map, slice_get, Option, Some, None, IsNone, IfSome, IfOk, OnOk, OnErr};
 ghost use Rattle.std.specs.Option.{ForSome};
 ghost use Rattle.supervision.specs.Session.{IsStatus};
-ghost use Rattle.device_sim.specs.Hearing.{report_text};
-ghost use Rattle.device_sim.specs.State.{shown_of};
+ghost use Rattle.device_sim.specs.Hearing.{report_text, takes};
+ghost use Rattle.device_sim.specs.State.{shown_of, ticked};
 ghost use Rattle.zw_laws.specs.Devices.{device_of};
 ghost use Rattle.zw_laws.specs.Table.{switch, value_line, device_lines};
 ghost use Rattle.zwave_console.specs.Run.{AddsTable};
-ghost use Rattle.zwave_console.specs.Host.{opening_of};
-ghost use Rattle.zwave_console.specs.World.{ended_by, AddsLines};
+ghost use Rattle.zwave_console.specs.Host.{opening_of, order_at, closing_of, told};
+ghost use Rattle.zwave_console.specs.World.{ended_by, closing_entries, IsPumpedIfKnown, AddsLines};
+ghost use Rattle.zwave_console.specs.Knows.{States, line_of, frame_of, machine_of, FirstSays, HearsNew, KnowsStamped, GoesUpTo};
+ghost use Rattle.world_facts.specs.Goes.{Goes};
+ghost use Rattle.world_facts.specs.Machine.{first_machine, GoesOn, Stops, Knows, AtEase};
+ghost use Rattle.world_facts.specs.Work.{IsPumped};
+ghost use Rattle.world_facts.specs.Units.{ack_unit, callback_unit, came_frame};
+ghost use Rattle.world_facts.specs.Facts.{Holds};
+ghost use Rattle.serial_frame.specs.Items.{unit_text};
+ghost use Rattle.supervision.specs.Session.{wire_id};
+ghost use Rattle.zw_text.specs.Line.{IsWithinRanges};
 
 use crate::air::{Air, Flight};
 use crate::bodies::{
@@ -106,7 +115,9 @@ fn ended(status: u8) -> Ended
 
 impl World {
     /// A world in which nothing happened: the clock at 0, and one joined node, which is linked to the controller.
-    pub fn new(alloc: Global) -> Result<World, NoMemory> {
+    pub fn new(alloc: Global) -> Result<World, NoMemory>
+        ensures { IfOk result (λ world. machine_of world ≡ first_machine) }
+    {
         Ok(World {
             alloc,
             controller: node(CONTROLLER),
@@ -128,9 +139,12 @@ impl World {
         draw: &mut D,
         out: &mut List<Entry>,
     ) -> Result<(), NoMemory>
-        requires { length devices.old.items < 2 ^ 64 }
-        ensures line { OnOk result (AddsLines (line ∷ []) out.old.items out.new.items) }
-        ensures some { OnErr result (AddsLines [] out.old.items out.new.items ⊎ AddsLines (line ∷ []) out.old.items out.new.items) }
+        requires few { length devices.old.items < 2 ^ 64 }
+        requires in_range { IsWithinRanges line }
+        ensures goes { OnOk result ((before : States) → Goes (line ∷ []) (AtEase before (machine_of self.old) (map (λ d. state d) devices.old.items))
+            (AtEase before (machine_of self.new) (map (λ d. state d) devices.new.items)) out.old.items out.new.items) }
+        ensures stops { OnErr result ((before : States) → GoesUpTo line (AtEase before (machine_of self.old) (map (λ d. state d) devices.old.items))
+            (Holds false before (map (λ d. state d) devices.new.items)) out.old.items out.new.items) }
         ensures kept { length devices.new.items ≡ length devices.old.items }
     {
         match line {
@@ -150,7 +164,10 @@ impl World {
 
     // An order is echoed and answered.
     fn order(&mut self, line: Line, order: &Order, out: &mut List<Entry>) -> Result<(), NoMemory>
-        ensures line { OnOk result (AddsLines (line ∷ []) out.old.items out.new.items) }
+        requires line { line ≡ line_of order.now }
+        requires in_range { IsWithinRanges line }
+        ensures goes { OnOk result ((before devices : States) → Goes (line ∷ []) (AtEase before (machine_of self.old) devices)
+            (KnowsStamped before (machine_of self.new) devices) out.old.items out.new.items) }
         ensures none { OnErr result (out.new.items ≡ out.old.items) }
     {
         out.reserve(2)?;
@@ -169,7 +186,9 @@ impl World {
 
     // Before the first entry of a tick its number is entered.
     fn stamp(&mut self, out: &mut List<Entry>) -> Result<(), NoMemory>
-        ensures quiet { AddsLines [] out.old.items out.new.items }
+        ensures goes { OnOk result (GoesOn (machine_of self.old) (machine_of self.new) out.old.items out.new.items) }
+        ensures none { OnErr result (out.new.items ≡ out.old.items) }
+        ensures stamped { OnOk result (self.new.stamped ≡ true) }
         ensures others { self.new ≡ record self.old { stamped = self.new.stamped } }
     {
         if !self.stamped {
@@ -181,7 +200,9 @@ impl World {
 
     // Chip and host take what the other wrote, until nothing moves.
     fn settle(&mut self, out: &mut List<Entry>) -> Result<(), NoMemory>
-        ensures quiet { AddsLines [] out.old.items out.new.items }
+        ensures goes { OnOk result (GoesOn (machine_of self.old) (machine_of self.new) out.old.items out.new.items) }
+        ensures stops { OnErr result (Stops (machine_of self.old) out.old.items out.new.items) }
+        ensures pumped { OnOk result (IsPumpedIfKnown (machine_of self.old) (machine_of self.new)) }
     {
         self.pump(out)?;
         for _ in 0..MAX_PASSES {
@@ -197,7 +218,9 @@ impl World {
 
     // The host begins a session, where it can.
     fn pump(&mut self, out: &mut List<Entry>) -> Result<(), NoMemory>
-        ensures quiet { AddsLines [] out.old.items out.new.items }
+        ensures goes { OnOk result (GoesOn (machine_of self.old) (machine_of self.new) out.old.items out.new.items) }
+        ensures stops { OnErr result (Stops (machine_of self.old) out.old.items out.new.items) }
+        ensures pumped { OnOk result (IsPumpedIfKnown (machine_of self.old) (machine_of self.new)) }
     {
         let Some(opening) = self.host.opening() else {
             return Ok(());
@@ -216,8 +239,12 @@ impl World {
         order: &Order,
         out: &mut List<Entry>,
     ) -> Result<(), NoMemory>
-        requires { opening_of self.old.host ≡ Some opening.now }
-        ensures quiet { AddsLines [] out.old.items out.new.items }
+        requires opening { opening_of self.old.host ≡ Some opening.now }
+        requires order { order_at self.old.host.orders opening.now.command ≡ Some order.now }
+        requires stamped { self.old.stamped ≡ true }
+        ensures goes { OnOk result (GoesOn (machine_of self.old) (machine_of self.new) out.old.items out.new.items) }
+        ensures none { OnErr result (out.new.items ≡ out.old.items) }
+        ensures under_way { OnOk result (self.new.host.request ≡ Some opening.now.callback) }
     {
         let command = opening.command;
         let session = opening.session;
@@ -244,7 +271,8 @@ impl World {
 
     // The chip takes all that the host wrote. Answers whether there was something.
     fn chip_hears(&mut self, out: &mut List<Entry>) -> Result<bool, NoMemory>
-        ensures quiet { AddsLines [] out.old.items out.new.items }
+        ensures goes { OnOk result (GoesOn (machine_of self.old) (machine_of self.new) out.old.items out.new.items) }
+        ensures stops { OnErr result (Stops (machine_of self.old) out.old.items out.new.items) }
     {
         if self.to_chip.bytes().is_empty() {
             return Ok(false);
@@ -259,8 +287,10 @@ impl World {
 
     // The chip judges the first message of the host.
     fn chip_judges(&mut self, message: Message, out: &mut List<Entry>) -> Result<(), NoMemory>
-        requires { 0 < length self.old.chip.heard.items }
-        ensures quiet { AddsLines [] out.old.items out.new.items }
+        requires some { 0 < length self.old.chip.heard.items }
+        requires says { FirstSays self.old.chip.heard.items message }
+        ensures goes { OnOk result (GoesOn (machine_of self.old) (machine_of self.new) out.old.items out.new.items) }
+        ensures stops { OnErr result (Stops (machine_of self.old) out.old.items out.new.items) }
         ensures next { OnOk result (self.new.chip.heard.items ≡ drop 1 self.old.chip.heard.items) }
     {
         match message {
@@ -291,8 +321,11 @@ impl World {
         callback: u8,
         out: &mut List<Entry>,
     ) -> Result<(), NoMemory>
-        requires { 0 < length self.old.chip.heard.items }
-        ensures quiet { AddsLines [] out.old.items out.new.items }
+        requires some { 0 < length self.old.chip.heard.items }
+        requires says { FirstSays self.old.chip.heard.items (Message.SendData receiver payload callback) }
+        requires stamped { self.old.stamped ≡ true }
+        ensures goes { OnOk result (GoesOn (machine_of self.old) (machine_of self.new) out.old.items out.new.items) }
+        ensures none { OnErr result (out.new.items ≡ out.old.items) }
         ensures next { OnOk result (self.new.chip.heard.items ≡ drop 1 self.old.chip.heard.items) }
     {
         let ack = encode(self.alloc, &Unit::Ack)?;
@@ -315,6 +348,8 @@ impl World {
     fn chip_refuses(&mut self, out: &mut List<Entry>) -> Result<(), NoMemory>
         requires { 0 < length self.old.chip.heard.items }
         ensures quiet { AddsLines [] out.old.items out.new.items }
+        ensures none { OnErr result (out.new.items ≡ out.old.items) }
+        ensures same_clock { OnOk result (self.new.clock ≡ self.old.clock) }
         ensures next { OnOk result (self.new.chip.heard.items ≡ drop 1 self.old.chip.heard.items) }
     {
         let ack = encode(self.alloc, &Unit::Ack)?;
@@ -331,7 +366,8 @@ impl World {
 
     // The host takes all that the chip wrote. Answers whether there was something.
     fn host_hears(&mut self, out: &mut List<Entry>) -> Result<bool, NoMemory>
-        ensures quiet { AddsLines [] out.old.items out.new.items }
+        ensures goes { OnOk result (GoesOn (machine_of self.old) (machine_of self.new) out.old.items out.new.items) }
+        ensures stops { OnErr result (Stops (machine_of self.old) out.old.items out.new.items) }
     {
         if self.to_host.bytes().is_empty() {
             return Ok(false);
@@ -346,23 +382,32 @@ impl World {
 
     // The host judges the first message of the chip. It acknowledges each data frame.
     fn host_judges(&mut self, message: Message, out: &mut List<Entry>) -> Result<(), NoMemory>
-        requires { 0 < length self.old.host.heard.items }
-        ensures quiet { AddsLines [] out.old.items out.new.items }
+        requires some { 0 < length self.old.host.heard.items }
+        requires says { FirstSays self.old.host.heard.items message }
+        ensures goes { OnOk result (GoesOn (machine_of self.old) (machine_of self.new) out.old.items out.new.items) }
+        ensures stops { OnErr result (Stops (machine_of self.old) out.old.items out.new.items) }
         ensures next { OnOk result (self.new.host.heard.items ≡ drop 1 self.old.host.heard.items) }
     {
         match message {
-            Message::Answered { .. } => self.host_acknowledges(out),
+            Message::Answered { .. } => {
+                self.stamp(out)?;
+                self.host_acknowledges(out)
+            }
             Message::CalledBack { callback, .. } => {
+                self.stamp(out)?;
                 self.host_acknowledges(out)?;
                 self.host.called_back(callback);
                 Ok(())
             }
-            Message::Came { node, payload } => match report_of(payload.bytes()) {
-                Some((id, status)) if node.number() == FIRST_NODE => {
-                    self.host_is_told(id, status, out)
+            Message::Came { node, payload } => {
+                self.stamp(out)?;
+                match report_of(payload.bytes()) {
+                    Some((id, status)) if node.number() == FIRST_NODE => {
+                        self.host_is_told(id, status, out)
+                    }
+                    _ => self.host_acknowledges(out),
                 }
-                _ => self.host_acknowledges(out),
-            },
+            }
             _ => {
                 self.host.drop_message();
                 Ok(())
@@ -373,10 +418,13 @@ impl World {
     // The host acknowledges a frame.
     fn host_acknowledges(&mut self, out: &mut List<Entry>) -> Result<(), NoMemory>
         requires { 0 < length self.old.host.heard.items }
-        ensures quiet { AddsLines [] out.old.items out.new.items }
-        ensures next { OnOk result (self.new.host.heard.items ≡ drop 1 self.old.host.heard.items) }
+        ensures machine { OnOk result (machine_of self.new ≡ record (machine_of self.old) {
+          host_items = drop 1 self.old.host.heard.items;
+          to_chip = self.old.to_chip.bytes ++ ack_unit;
+        }) }
+        ensures entries { OnOk result (out.new.items ≡ out.old.items ++ Entry.Written Side.Host ack_unit ∷ []) }
+        ensures none { OnErr result (out.new.items ≡ out.old.items) }
     {
-        self.stamp(out)?;
         let ack = encode(self.alloc, &Unit::Ack)?;
         self.to_chip.reserve(ack.len())?;
         out.reserve(1)?;
@@ -391,10 +439,16 @@ impl World {
         requires six_bits { id < 64 }
         requires known { IsStatus status }
         requires some { 0 < length self.old.host.heard.items }
-        ensures quiet { AddsLines [] out.old.items out.new.items }
-        ensures next { OnOk result (self.new.host.heard.items ≡ drop 1 self.old.host.heard.items) }
+        ensures machine { OnOk result (machine_of self.new ≡ record (machine_of self.old) {
+          host_items = drop 1 self.old.host.heard.items;
+          to_chip = self.old.to_chip.bytes ++ ack_unit;
+          book = (told self.old.host id status).book;
+          confirmed = (told self.old.host id status).confirmed;
+        }) }
+        ensures entries { OnOk result (out.new.items ≡ out.old.items ++ Entry.Written Side.Host ack_unit
+            ∷ closing_entries self.old.host.orders (closing_of self.old.host id status)) }
+        ensures none { OnErr result (out.new.items ≡ out.old.items) }
     {
-        self.stamp(out)?;
         let ack = encode(self.alloc, &Unit::Ack)?;
         self.to_chip.reserve(ack.len())?;
         out.reserve(3)?;
@@ -410,7 +464,7 @@ impl World {
     // The outcome of a command is entered, and the value that it confirms.
     fn enter_closing(&self, closing: Closing, out: &mut List<Entry>)
         requires { 2 ≤ out.old.room }
-        ensures quiet { AddsLines [] out.old.items out.new.items }
+        ensures { out.new.items ≡ out.old.items ++ closing_entries self.now.host.orders (Some closing) }
     {
         out.put(Entry::Out {
             command: closing.command,
@@ -434,7 +488,10 @@ impl World {
         out: &mut List<Entry>,
     ) -> Result<(), NoMemory>
         requires { length devices.old.items < 2 ^ 64 }
-        ensures quiet { AddsLines [] out.old.items out.new.items }
+        ensures goes { OnOk result ((before : States) → Goes [] (AtEase before (machine_of self.old) (map (λ d. state d) devices.old.items))
+            (AtEase before (machine_of self.new) (map (λ d. state d) devices.new.items)) out.old.items out.new.items) }
+        ensures stops { OnErr result ((before : States) → Goes [] (AtEase before (machine_of self.old) (map (λ d. state d) devices.old.items))
+            (Holds false before (map (λ d. state d) devices.new.items)) out.old.items out.new.items) }
         ensures kept { length devices.new.items ≡ length devices.old.items }
     {
         if self.clock == u64::MAX {
@@ -452,7 +509,7 @@ impl World {
         Ok(())
     }
 
-    // The next frame arrives.
+    // The next frame arrives, in a tick that the devices have not lived yet.
     fn arrive<D: Draw>(
         &mut self,
         devices: &mut Vec<Box<dyn Device>>,
@@ -460,7 +517,13 @@ impl World {
         out: &mut List<Entry>,
     ) -> Result<(), NoMemory>
         requires { length devices.old.items < 2 ^ 64 }
-        ensures quiet { AddsLines [] out.old.items out.new.items }
+        ensures goes { OnOk result ((before : States) (lived : ℕ) → lived + 1 ≡ self.old.clock →
+            Goes [] (Knows before (machine_of self.old) lived (map (λ d. state d) devices.old.items))
+            (Knows before (machine_of self.new) lived (map (λ d. state d) devices.new.items)) out.old.items out.new.items) }
+        ensures stops { OnErr result ((before : States) (lived : ℕ) → lived + 1 ≡ self.old.clock →
+            Goes [] (Knows before (machine_of self.old) lived (map (λ d. state d) devices.old.items))
+            (Holds false before (map (λ d. state d) devices.new.items)) out.old.items out.new.items) }
+        ensures same_clock { OnOk result (self.new.clock ≡ self.old.clock) }
         ensures kept { length devices.new.items ≡ length devices.old.items }
     {
         let Some(flight) = self.air.land() else {
@@ -485,7 +548,12 @@ impl World {
         flight: Flight,
         out: &mut List<Entry>,
     ) -> Result<(), NoMemory>
-        ensures quiet { AddsLines [] out.old.items out.new.items }
+        ensures machine { OnOk result (machine_of self.new ≡ record (machine_of self.old) {
+          to_host = self.old.to_host.bytes ++ unit_text (Unit.Framed (came_frame flight.sender flight.payload));
+        }) }
+        ensures entries { OnOk result (out.new.items ≡ out.old.items ++ Entry.Heard flight.number
+            ∷ Entry.Written Side.Chip (unit_text (Unit.Framed (came_frame flight.sender flight.payload))) ∷ []) }
+        ensures none { OnErr result (out.new.items ≡ out.old.items) }
     {
         let frame = came(self.alloc, flight.sender, flight.payload.bytes())?;
         let unit = encode(self.alloc, &Unit::Framed(frame))?;
@@ -501,7 +569,13 @@ impl World {
 
     // A frame arrives where no device hears it.
     fn arrive_nowhere(&mut self, flight: Flight, out: &mut List<Entry>) -> Result<(), NoMemory>
-        ensures quiet { AddsLines [] out.old.items out.new.items }
+        ensures machine { OnOk result ((callback : ℕ) → self.old.chip.busy ≡ Some callback → machine_of self.new ≡ record (machine_of self.old) {
+          busy = None;
+          to_host = self.old.to_host.bytes ++ callback_unit callback 1;
+        }) }
+        ensures entries { OnOk result ((callback : ℕ) → self.old.chip.busy ≡ Some callback →
+            out.new.items ≡ out.old.items ++ Entry.Unheard flight.number ∷ Entry.Written Side.Chip (callback_unit callback 1) ∷ []) }
+        ensures none { OnErr result (out.new.items ≡ out.old.items) }
     {
         let callback = self.callback(TRANSMIT_NO_ACK)?;
         out.reserve(2)?;
@@ -520,7 +594,29 @@ impl World {
         drawn: [u8; 8],
         out: &mut List<Entry>,
     ) -> Result<(), NoMemory>
-        ensures quiet { AddsLines [] out.old.items out.new.items }
+        ensures taken { OnOk result ((session value : ℕ) → HearsNew flight.payload (state device.old) session value →
+            state device.new ≡ takes (state device.old) session value) }
+        ensures machine { OnOk result ((callback session value : ℕ) → self.old.chip.busy ≡ Some callback →
+            HearsNew flight.payload (state device.old) session value → machine_of self.new ≡ record (machine_of self.old) {
+          flying = map frame_of self.old.air.flying ++ record {
+            number = self.old.air.sent + 1;
+            sender = flight.receiver;
+            receiver = self.old.controller;
+            repeaters = [];
+            payload = report_text (wire_id session) SUCCESS;
+          } ∷ [];
+          sent = self.old.air.sent + 1;
+          busy = None;
+          to_host = self.old.to_host.bytes ++ callback_unit callback 0;
+        }) }
+        ensures entries { OnOk result ((callback session value : ℕ) → self.old.chip.busy ≡ Some callback →
+            HearsNew flight.payload (state device.old) session value → out.new.items ≡ out.old.items ++ Entry.Heard flight.number
+            ∷ Entry.Dev flight.receiver (By.Session session) (record { property = switch; value = value })
+            ∷ Entry.Air (self.old.air.sent + 1) flight.receiver self.old.controller [] (report_text (wire_id session) SUCCESS)
+            ∷ Entry.Written Side.Chip (callback_unit callback 0) ∷ []) }
+        ensures none { OnErr result (out.new.items ≡ out.old.items) }
+        ensures cut { OnErr result ((session value : ℕ) → HearsNew flight.payload (state device.old) session value →
+            (state device.new ≡ state device.old) ⊎ (state device.new ≡ takes (state device.old) session value)) }
     {
         let mut replies = Replies::new(self.alloc)?;
         let callback = self.callback(TRANSMIT_OK)?;
@@ -704,6 +800,7 @@ fn switch_setting(value: u8) -> Setting
 fn place_of(devices: &Vec<Box<dyn Device>>, node: NodeId) -> Option<usize>
     ensures within { IfSome result (λ place. place < length devices.now.items) }
     ensures found { IfSome result (λ place. slice_get (map (λ d. state d) devices.now.items) place ≡ device_of node (map (λ d. state d) devices.now.items)) }
+    ensures first { IfSome result (λ place. device_of node (take place (map (λ d. state d) devices.now.items)) ≡ None) }
     ensures none { IsNone result → device_of node (map (λ d. state d) devices.now.items) ≡ None }
 {
     for place in 0..devices.len() {
@@ -728,6 +825,9 @@ fn tick_all<D: Draw>(
     draw: &mut D,
 ) -> Result<(), NoMemory>
     requires { length devices.old.items < 2 ^ 64 }
+    ensures all { OnOk result (map (λ d. state d) devices.new.items ≡ map ticked (map (λ d. state d) devices.old.items)) }
+    ensures some { OnErr result ((count : ℕ) × (map (λ d. state d) devices.new.items
+        ≡ map ticked (take count (map (λ d. state d) devices.old.items)) ++ drop count (map (λ d. state d) devices.old.items))) }
     ensures kept { length devices.new.items ≡ length devices.old.items }
 {
     for place in 0..devices.len() {
@@ -744,6 +844,8 @@ fn tick_one(
     replies: &mut Replies,
 ) -> Result<(), NoMemory>
     requires { replies.old ≡ [] }
+    ensures ok { OnOk result (state device.new ≡ ticked (state device.old)) }
+    ensures err { OnErr result (state device.new ≡ state device.old) }
 {
     device.tick(drawn, replies)
 }
