@@ -5,3 +5,5 @@ pub mod Adding
 pub mod Ending
 pub mod Words
 pub mod FirstDevice
+pub mod Beginning
+pub mod Entering

@@ -1,6 +1,10 @@
-use Rattle.std.proofs.Common.{[]}
-use Rattle.zwave_console.specs.World.{AddsLines}
+use Rattle.world_facts.specs.Machine.{GoesOn}
+use Rattle.zwave_console.specs.Knows.{machine_of}
+use Rattle.zwave_console.specs.World.{IsPumpedIfKnown}
 use Rattle.zwave_console.proofs.world.World.settle.Given as goal
 
 abbrev pub invariant-loop : goal.invariant-loop
-invariant-loop l = AddsLines [] l.fn.out.items l.out.items
+invariant-loop l = record {
+  goes : GoesOn (machine_of l.fn.self) (machine_of l.self) l.fn.out.items l.out.items;
+  pumped : IsPumpedIfKnown (machine_of l.fn.self) (machine_of l.self);
+}
