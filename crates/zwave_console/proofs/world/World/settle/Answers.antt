@@ -1,4 +1,5 @@
 use Rattle.world_facts.proofs.GoesLemmas.{GoesOn-then, Stops-after}
+use Rattle.zwave_console.specs.Knows.{machine_of}
 use Rattle.zwave_console.proofs.Writing.{OnErr-always}
 use Rattle.zwave_console.proofs.Beginning.{pumped_after}
 use Rattle.zwave_console.proofs.world.World.settle.Goals as goal
@@ -28,7 +29,7 @@ loop-preserved c =
     let before = GoesOn-then _ _ _ _ _ _ (GoesOn-then _ _ _ _ _ _ c.loop.invariant.goes c.in_ok-chip_moved.ensures.goes) c.in_ok-host_moved.ensures.goes in
     record {
       goes = GoesOn-then _ _ _ _ _ _ before c.in_ok-pump-2.ensures.goes;
-      pumped = pumped_after _ _ _ _ _ before c.in_ok-pump-2.ensures.pumped;
+      pumped = pumped_after _ _ (machine_of c.pump-in-loop.new.self) _ _ before c.in_ok-pump-2.ensures.pumped;
     }
 
 pub returns-after-loop-clause-goes : goal.returns-after-loop-clause-goes
@@ -44,5 +45,5 @@ returns-then-not-host_moved-clause-goes c =
 
 pub returns-then-not-host_moved-clause-pumped : goal.returns-then-not-host_moved-clause-pumped
 returns-then-not-host_moved-clause-pumped c =
-    pumped_after _ _ _ _ _ (GoesOn-then _ _ _ _ _ _ (GoesOn-then _ _ _ _ _ _ c.loop.invariant.goes c.in_ok-chip_moved.ensures.goes) c.in_ok-host_moved.ensures.goes)
+    pumped_after _ _ (machine_of c.pump-in-loop.new.self) _ _ (GoesOn-then _ _ _ _ _ _ (GoesOn-then _ _ _ _ _ _ c.loop.invariant.goes c.in_ok-chip_moved.ensures.goes) c.in_ok-host_moved.ensures.goes)
     c.in_ok-pump-2.ensures.pumped
