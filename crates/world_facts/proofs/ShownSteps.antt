@@ -24,7 +24,8 @@ use Rattle.zw_laws.specs.Table.{switch}
 use Rattle.world_facts.specs.Kept.{Kept, IsTaken}
 use Rattle.world_facts.specs.Units.{value_asked, value_at}
 use Rattle.world_facts.specs.Tables.{commands_from, carried_in, closed_of, endings_in, confirmed_in}
-use Rattle.world_facts.proofs.Appends.{EachAfter-append, accepted_after-append}
+use Rattle.zw_text.proofs.TranscriptLemmas.{accepted_after-append}
+use Rattle.world_facts.proofs.Appends.{EachAfter-append}
 use Rattle.world_facts.proofs.KeptLemmas.{numbers_from, ByRecursion-row, numbers_from-last, commands_from-append, order_of-commands, commands_are, begun_waiting, next_is}
 use Rattle.world_facts.proofs.Shown.{Shown, Marked, marked_by, marked-success, marked-begun, closed-none, closed-open}
 

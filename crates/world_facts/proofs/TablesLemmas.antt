@@ -23,7 +23,8 @@ use Rattle.zw_laws.specs.Table.{switch}
 use Rattle.world_facts.specs.Kept.{Kept, IsOnOff}
 use Rattle.world_facts.specs.Units.{value_at}
 use Rattle.world_facts.specs.Tables.{Tables, AsksNothing, closed_of}
-use Rattle.world_facts.proofs.Appends.{EachAfter-append, line_before-append}
+use Rattle.zw_text.proofs.TranscriptLemmas.{line_before-append}
+use Rattle.world_facts.proofs.Appends.{EachAfter-append}
 use Rattle.world_facts.proofs.Shown.{Shown, shown, marked_by, marked-success, marked-begun, marked-waiting, waiting-shown, waiting-elsewhere, final-shown}
 use Rattle.world_facts.proofs.ShownSteps.{IsSilent, Shown-silent, Shown-accepts, Shown-begins, Shown-closes}
 
