@@ -1,8 +1,8 @@
 -- Devices that tick one after another, the first device of a node, and what an arriving frame adds.
-use Rattle.std.proofs.Common.{◌≡◌, ℕ, zero, suc, ◌+◌, ◌<◌, ◌≤◌, List, [], ◌∷◌, ◌++◌, length, get_or, slice_get, map, take, drop, Some, None, refl, sym, ap, ◌∙◌, add-one, append_assoc, append-nil, subst, arith}
+use Rattle.std.proofs.Common.{◌≡◌, ℕ, zero, suc, ◌+◌, ◌<◌, ◌≤◌, List, [], ◌∷◌, ◌++◌, length, get_or, slice_get, map, take, drop, Some, None, Result, OnOk, sym, ap, ◌∙◌, add-one, append_assoc, append-nil, subst, arith}
 use Rattle.std.specs.List.{flat_map}
 use Rattle.std.proofs.Math.ListN.{set}
-use Rattle.std.proofs.Math.Seq.{map-set, map-set_same}
+use Rattle.std.proofs.Math.Seq.{map-set, map-set_same, drop-append_seam}
 use Rattle.std.proofs.lemmas.List.{take_all, drop_all, length-map, map-append}
 use Rattle.zw_base.specs.declared.property.By.TheVariants.{Session}
 use Rattle.supervision.specs.Session.{wire_id}
@@ -120,14 +120,24 @@ pub enters_two : (old kept first new : List Entry) (a b : Entry) → kept ≡ ol
 enters_two old kept first new a b same one two =
     two ∙ ap (λ (es : List Entry). es ++ b ∷ []) (one ∙ ap (λ (es : List Entry). es ++ a ∷ []) same) ∙ append_assoc old (a ∷ []) (b ∷ [])
 
+-- the replies of a device are those of the same state
+pub replies_of-same : {T E : Type 0} (r : Result T E) (replies : List (List ℕ)) (payload : List ℕ) (device given : State) → device ≡ given
+    → OnOk r ((flags value : ℕ) → IsSupervisedSet payload flags value → replies ≡ replies_of device flags)
+    → OnOk r ((flags value : ℕ) → IsSupervisedSet payload flags value → replies ≡ replies_of given flags)
+replies_of-same r replies payload device given same =
+    subst (λ (s : State). OnOk r ((flags value : ℕ) → IsSupervisedSet payload flags value → replies ≡ replies_of s flags)) same
+
 -- a device that hears a new session's Get takes it
 module _ (payload : List ℕ) (device : State) (session value : ℕ) (new : HearsNew payload device session value) where
-  pub heard_takes : (after : State) → ((flags v : ℕ) → IsSupervisedSet payload flags v → after ≡ hears device flags v) → after ≡ takes device session value
-  heard_takes after heard = heard (wire_id session) value new.is_set ∙ new.new
+  pub heard_takes : (text : List ℕ) (after : State) → text ≡ payload → ((flags v : ℕ) → IsSupervisedSet text flags v → after ≡ hears device flags v)
+      → after ≡ takes device session value
+  heard_takes text after same heard =
+      heard (wire_id session) value (subst (λ (p : List ℕ). IsSupervisedSet p (wire_id session) value) (sym same) new.is_set) ∙ new.new
 
-  pub heard_replies : (replies : List (List ℕ)) → ((flags v : ℕ) → IsSupervisedSet payload flags v → replies ≡ replies_of device flags)
+  pub heard_replies : (text : List ℕ) (replies : List (List ℕ)) → text ≡ payload → ((flags v : ℕ) → IsSupervisedSet text flags v → replies ≡ replies_of device flags)
       → replies ≡ report_text (wire_id session) SUCCESS ∷ []
-  heard_replies replies answered = answered (wire_id session) value new.is_set ∙ new.replies
+  heard_replies text replies same answered =
+      answered (wire_id session) value (subst (λ (p : List ℕ). IsSupervisedSet p (wire_id session) value) (sym same) new.is_set) ∙ new.replies
 
   -- it makes one setting
   pub heard_makes : (after : State) (before : ℕ) (made : List MadeBy) → after ≡ takes device session value → before ≡ length device.journal
@@ -139,7 +149,7 @@ module _ (payload : List ℕ) (device : State) (session value : ℕ) (new : Hear
       ∙ ap (λ (n : ℕ). flat_map settings_by (drop n (takes device session value).journal)) counted
       ∙ ap (λ (cs : List Change). flat_map settings_by (drop (length device.journal) cs)) new.changes
       ∙ ap (λ (cs : List Change). flat_map settings_by cs)
-      (drop_append_all device.journal (record { by = Session session; settings = record { property = switch; value = value } ∷ [] } ∷ []))
+      (drop-append_seam device.journal (record { by = Session session; settings = record { property = switch; value = value } ∷ [] } ∷ []))
 
 -- its one reply fits a radio frame
 pub report_fits : (id status : ℕ) → AllFit (report_text id status ∷ [])

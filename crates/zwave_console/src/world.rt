@@ -4,7 +4,7 @@ ghost use Rattle.std.specs.Prelude.{true, false, ◌≡◌, ◌⊎◌, ◌+◌, 
 ghost use Rattle.std.specs.Option.{ForSome};
 ghost use Rattle.std.specs.List.{flat_map};
 ghost use Rattle.supervision.specs.Session.{IsStatus};
-ghost use Rattle.device_sim.specs.Hearing.{report_text, takes};
+ghost use Rattle.device_sim.specs.Hearing.{IsSupervisedSet, hears, replies_of, report_text, takes};
 ghost use Rattle.device_sim.specs.State.{shown_of, ticked};
 ghost use Rattle.zw_laws.specs.Devices.{device_of};
 ghost use Rattle.zw_laws.specs.Table.{switch, value_line, device_lines};
@@ -600,17 +600,17 @@ impl World {
             state device.new ≡ takes (state device.old) session value) }
         ensures machine { OnOk result ((callback session value : ℕ) → self.old.chip.busy ≡ Some callback →
             HearsNew flight.payload (state device.old) session value → machine_of self.new ≡ record (machine_of self.old) {
-          flying = map frame_of self.old.air.flying ++ record {
-            number = self.old.air.sent + 1;
-            sender = flight.receiver;
-            receiver = self.old.controller;
-            repeaters = [];
-            payload = report_text (wire_id session) SUCCESS;
-          } ∷ [];
-          sent = self.old.air.sent + 1;
-          busy = None;
-          to_host = self.old.to_host.bytes ++ callback_unit callback 0;
-        }) }
+              flying = map frame_of self.old.air.flying ++ record {
+                number = self.old.air.sent + 1;
+                sender = flight.receiver;
+                receiver = self.old.controller;
+                repeaters = [];
+                payload = report_text (wire_id session) SUCCESS;
+              } ∷ [];
+              sent = self.old.air.sent + 1;
+              busy = None;
+              to_host = self.old.to_host.bytes ++ callback_unit callback 0;
+            }) }
         ensures entries { OnOk result ((callback session value : ℕ) → self.old.chip.busy ≡ Some callback →
             HearsNew flight.payload (state device.old) session value → out.new.items ≡ out.old.items ++ Entry.Heard flight.number
             ∷ Entry.Dev flight.receiver (By.Session session) (record { property = switch; value = value })
@@ -623,8 +623,8 @@ impl World {
         let mut replies = Replies::new(self.alloc)?;
         let callback = self.callback(TRANSMIT_OK)?;
         self.air.reserve(MAX_REPLIES)?;
-        let before = device.changes();
-        device.hear(flight.payload.bytes(), drawn, &mut replies)?;
+        let before = changes_of(device);
+        hear_one(device, flight.payload.bytes(), drawn, &mut replies)?;
         let made = made_since(self.alloc, device, before)?;
         out.reserve(made.len() + MAX_REPLIES + 2)?;
         out.put(Entry::Heard {
@@ -888,6 +888,37 @@ fn tick_one(
     device.tick(drawn, replies)
 }
 
+// A device hears a payload.
+fn hear_one(
+    device: &mut Box<dyn Device>,
+    payload: &[u8],
+    drawn: [u8; 8],
+    replies: &mut Replies,
+) -> Result<(), NoMemory>
+    requires { replies.old ≡ [] }
+    ensures heard { OnOk result ((flags value : ℕ) → IsSupervisedSet payload.now flags value →
+        state device.new ≡ hears (state device.old) flags value) }
+    ensures replies { OnOk result ((flags value : ℕ) → IsSupervisedSet payload.now flags value →
+        replies.new ≡ replies_of (state device.old) flags) }
+    ensures err { OnErr result (state device.new ≡ state device.old) }
+{
+    device.hear(payload, drawn, replies)
+}
+
+// How many changes a device made.
+fn changes_of(device: &Box<dyn Device>) -> u64
+    ensures { result ≡ length (state device.now).journal }
+{
+    device.changes()
+}
+
+// The change at that place of a device's journal, counted from 0.
+fn change_of(alloc: Global, device: &Box<dyn Device>, at: u64) -> Result<Option<Change>, NoMemory>
+    ensures { IfOk result (λ change. change ≡ slice_get (state device.now).journal at) }
+{
+    device.change(alloc, at)
+}
+
 /// A setting that a device made, and what made it.
 #[derive(Clone, Copy)]
 struct MadeBy {
@@ -904,8 +935,8 @@ fn made_since(
     ensures { IfOk result (λ made. made.items ≡ flat_map settings_by (drop before (state device.now).journal)) }
 {
     let mut made = List::new(alloc);
-    for at in before..device.changes() {
-        let Some(change) = device.change(alloc, at)? else {
+    for at in before..changes_of(device) {
+        let Some(change) = change_of(alloc, device, at)? else {
             unreachable!()
         };
         add_settings(&change, &mut made)?;

@@ -1,4 +1,4 @@
-use Rattle.std.proofs.Common.{◌≡◌, ◌≤◌, ◌+◌, ◌++◌, length, drop}
+use Rattle.std.proofs.Common.{◌≡◌, ◌≤◌, ◌+◌, ◌++◌, drop}
 use Rattle.zwave_console.specs.Arriving.{AllFit, air_entries, flights}
 use Rattle.zwave_console.proofs.world.World.answer.Given as goal
 
