@@ -7,3 +7,4 @@ pub mod Words
 pub mod FirstDevice
 pub mod Beginning
 pub mod Entering
+pub mod Arriving

@@ -6,6 +6,7 @@ pub mod Chip
 pub mod Host
 pub mod World
 pub mod Knows
+pub mod Arriving
 pub mod Status
 pub mod Output
 pub mod RunLine

@@ -1,15 +1,17 @@
 //! The world: host, chip, pipes, air and time. A line changes one part, and the world settles.
 
-ghost use Rattle.std.specs.Prelude.{true, false, ◌≡◌, ◌⊎◌, ◌+◌, ◌^◌, ◌≤◌, ◌<◌, ℕ, [], ◌∷◌, ◌++◌, length, take, drop, map, slice_get, Option, Some, None, IsNone, IfSome, IfOk, OnOk, OnErr};
+ghost use Rattle.std.specs.Prelude.{true, false, ◌≡◌, ◌⊎◌, ◌+◌, ◌^◌, ◌≤◌, ◌<◌, ℕ, List as Items, [], ◌∷◌, ◌++◌, length, take, drop, map, slice_get, Option, Some, None, IsNone, IfSome, IfOk, OnOk, OnErr};
 ghost use Rattle.std.specs.Option.{ForSome};
+ghost use Rattle.std.specs.List.{flat_map};
 ghost use Rattle.supervision.specs.Session.{IsStatus};
-ghost use Rattle.device_sim.specs.Hearing.{report_text, takes};
+ghost use Rattle.device_sim.specs.Hearing.{IsSupervisedSet, hears, replies_of, report_text, takes};
 ghost use Rattle.device_sim.specs.State.{shown_of, ticked};
 ghost use Rattle.zw_laws.specs.Devices.{device_of};
 ghost use Rattle.zw_laws.specs.Table.{switch, value_line, device_lines};
 ghost use Rattle.zwave_console.specs.Run.{AddsTable};
 ghost use Rattle.zwave_console.specs.Host.{opening_of, order_at, closing_of, told};
 ghost use Rattle.zwave_console.specs.World.{ended_by, closing_entries, IsPumpedIfKnown, AddsLines};
+ghost use Rattle.zwave_console.specs.Arriving.{AllFit, air_entries, flights, settings_by};
 ghost use Rattle.zwave_console.specs.Knows.{States, line_of, frame_of, machine_of, FirstSays, HearsNew, KnowsStamped, GoesUpTo};
 ghost use Rattle.world_facts.specs.Goes.{Goes};
 ghost use Rattle.world_facts.specs.Machine.{first_machine, GoesOn, Stops, Knows, AtEase};
@@ -28,7 +30,7 @@ use crate::chip::Chip;
 use crate::host::{Closing, FIRST_NODE, Host, Opening, Order, Refused};
 use crate::pipe::Pipe;
 use crate::session_get::session_get;
-use device_sim::{Device, SUPERVISION, SUPERVISION_REPORT};
+use device_sim::{Change, Device, SUPERVISION, SUPERVISION_REPORT};
 use serial_frame::{Unit, encode};
 use std::alloc::Global;
 use supervision::{FAIL, NO_SUPPORT, SUCCESS, WORKING};
@@ -598,17 +600,17 @@ impl World {
             state device.new ≡ takes (state device.old) session value) }
         ensures machine { OnOk result ((callback session value : ℕ) → self.old.chip.busy ≡ Some callback →
             HearsNew flight.payload (state device.old) session value → machine_of self.new ≡ record (machine_of self.old) {
-          flying = map frame_of self.old.air.flying ++ record {
-            number = self.old.air.sent + 1;
-            sender = flight.receiver;
-            receiver = self.old.controller;
-            repeaters = [];
-            payload = report_text (wire_id session) SUCCESS;
-          } ∷ [];
-          sent = self.old.air.sent + 1;
-          busy = None;
-          to_host = self.old.to_host.bytes ++ callback_unit callback 0;
-        }) }
+              flying = map frame_of self.old.air.flying ++ record {
+                number = self.old.air.sent + 1;
+                sender = flight.receiver;
+                receiver = self.old.controller;
+                repeaters = [];
+                payload = report_text (wire_id session) SUCCESS;
+              } ∷ [];
+              sent = self.old.air.sent + 1;
+              busy = None;
+              to_host = self.old.to_host.bytes ++ callback_unit callback 0;
+            }) }
         ensures entries { OnOk result ((callback session value : ℕ) → self.old.chip.busy ≡ Some callback →
             HearsNew flight.payload (state device.old) session value → out.new.items ≡ out.old.items ++ Entry.Heard flight.number
             ∷ Entry.Dev flight.receiver (By.Session session) (record { property = switch; value = value })
@@ -621,8 +623,8 @@ impl World {
         let mut replies = Replies::new(self.alloc)?;
         let callback = self.callback(TRANSMIT_OK)?;
         self.air.reserve(MAX_REPLIES)?;
-        let before = device.changes();
-        device.hear(flight.payload.bytes(), drawn, &mut replies)?;
+        let before = changes_of(device);
+        hear_one(device, flight.payload.bytes(), drawn, &mut replies)?;
         let made = made_since(self.alloc, device, before)?;
         out.reserve(made.len() + MAX_REPLIES + 2)?;
         out.put(Entry::Heard {
@@ -639,23 +641,54 @@ impl World {
         requires air { 8 ≤ self.old.air.room }
         requires numbers { self.old.air.sent + 8 < 2 ^ 64 }
         requires room { 8 ≤ out.old.room }
-        ensures quiet { AddsLines [] out.old.items out.new.items }
+        ensures entries { AllFit replies.now → out.new.items ≡ out.old.items
+            ++ air_entries self.old.air.sent sender self.old.controller replies.now }
+        ensures sent { AllFit replies.now → self.new.air.sent ≡ self.old.air.sent + length replies.now }
+        ensures flying { AllFit replies.now → self.new.air.flying ≡ self.old.air.flying
+            ++ flights self.old.air.sent sender self.old.controller replies.now }
         ensures room { out.old.room ≤ out.new.room + 8 }
         ensures others { self.new ≡ record self.old { air = self.new.air } }
     {
         for at in 0..replies.len() {
-            if let Some(reply) = replies.get(at) {
-                if let (Some(flying), Some(shown)) = (Payload::of(reply), Payload::of(reply)) {
-                    let frame = self.air.send(sender, self.controller, flying);
-                    out.put(self.on_air(frame, sender, self.controller, shown));
-                }
-            }
+            let Some(reply) = replies.get(at) else {
+                unreachable!()
+            };
+            self.answer_one(sender, reply, out);
         }
+    }
+
+    // A reply of a device goes on the air.
+    fn answer_one(&mut self, sender: NodeId, reply: &[u8], out: &mut List<Entry>)
+        requires air { 0 < self.old.air.room }
+        requires numbers { self.old.air.sent + 1 < 2 ^ 64 }
+        requires room { 0 < out.old.room }
+        ensures entries { length reply.now ≤ 46 → out.new.items ≡ out.old.items
+            ++ Entry.Air (self.old.air.sent + 1) sender self.old.controller [] reply.now ∷ [] }
+        ensures sent { length reply.now ≤ 46 → self.new.air.sent ≡ self.old.air.sent + 1 }
+        ensures flying { length reply.now ≤ 46 → self.new.air.flying ≡ self.old.air.flying ++ record {
+          number = self.old.air.sent + 1;
+          sender = sender;
+          receiver = self.old.controller;
+          payload = reply.now;
+        } ∷ [] }
+        ensures numbers { self.new.air.sent ≤ self.old.air.sent + 1 }
+        ensures air_room { self.old.air.room ≤ self.new.air.room + 1 }
+        ensures room { out.old.room ≤ out.new.room + 1 }
+        ensures others { self.new ≡ record self.old { air = self.new.air } }
+    {
+        let (Some(flying), Some(shown)) = (Payload::of(reply), Payload::of(reply)) else {
+            return;
+        };
+        let frame = self.air.send(sender, self.controller, flying);
+        out.put(self.on_air(frame, sender, self.controller, shown));
     }
 
     // The unit by which the chip calls back for the SendData that is under way, where one is, with room in the pipe.
     fn callback(&mut self, status: u8) -> Result<Option<Bytes>, NoMemory>
+        ensures unit { IfOk result (λ unit. (callback : ℕ) → self.old.chip.busy ≡ Some callback →
+            unit ≡ Some (callback_unit callback status)) }
         ensures room { IfOk result (λ unit. IfSome unit (λ bytes. length bytes ≤ self.new.to_host.room)) }
+        ensures bytes { self.new.to_host.bytes ≡ self.old.to_host.bytes }
         ensures others { self.new ≡ record self.old { to_host = self.new.to_host } }
     {
         let Some(callback) = self.chip.callback() else {
@@ -671,7 +704,12 @@ impl World {
     fn call_back(&mut self, unit: Option<Bytes>, out: &mut List<Entry>)
         requires pipe { ForSome unit (λ bytes. length bytes ≤ self.old.to_host.room) }
         requires room { 0 < out.old.room }
-        ensures quiet { AddsLines [] out.old.items out.new.items }
+        ensures idle { (bytes : Items ℕ) → unit ≡ Some bytes → self.new ≡ record self.old {
+          chip = record self.old.chip { busy = None };
+          to_host = self.new.to_host;
+        } }
+        ensures bytes { (bytes : Items ℕ) → unit ≡ Some bytes → self.new.to_host.bytes ≡ self.old.to_host.bytes ++ bytes }
+        ensures entries { (bytes : Items ℕ) → unit ≡ Some bytes → out.new.items ≡ out.old.items ++ Entry.Written Side.Chip bytes ∷ [] }
     {
         if let Some(unit) = unit {
             self.chip.done();
@@ -850,6 +888,37 @@ fn tick_one(
     device.tick(drawn, replies)
 }
 
+// A device hears a payload.
+fn hear_one(
+    device: &mut Box<dyn Device>,
+    payload: &[u8],
+    drawn: [u8; 8],
+    replies: &mut Replies,
+) -> Result<(), NoMemory>
+    requires { replies.old ≡ [] }
+    ensures heard { OnOk result ((flags value : ℕ) → IsSupervisedSet payload.now flags value →
+        state device.new ≡ hears (state device.old) flags value) }
+    ensures replies { OnOk result ((flags value : ℕ) → IsSupervisedSet payload.now flags value →
+        replies.new ≡ replies_of (state device.old) flags) }
+    ensures err { OnErr result (state device.new ≡ state device.old) }
+{
+    device.hear(payload, drawn, replies)
+}
+
+// How many changes a device made.
+fn changes_of(device: &Box<dyn Device>) -> u64
+    ensures { result ≡ length (state device.now).journal }
+{
+    device.changes()
+}
+
+// The change at that place of a device's journal, counted from 0.
+fn change_of(alloc: Global, device: &Box<dyn Device>, at: u64) -> Result<Option<Change>, NoMemory>
+    ensures { IfOk result (λ change. change ≡ slice_get (state device.now).journal at) }
+{
+    device.change(alloc, at)
+}
+
 /// A setting that a device made, and what made it.
 #[derive(Clone, Copy)]
 struct MadeBy {
@@ -862,25 +931,36 @@ fn made_since(
     alloc: Global,
     device: &Box<dyn Device>,
     before: u64,
-) -> Result<List<MadeBy>, NoMemory> {
+) -> Result<List<MadeBy>, NoMemory>
+    ensures { IfOk result (λ made. made.items ≡ flat_map settings_by (drop before (state device.now).journal)) }
+{
     let mut made = List::new(alloc);
-    for at in before..device.changes() {
-        if let Some(change) = device.change(alloc, at)? {
-            for setting in change.settings.as_slice() {
-                made.push(MadeBy {
-                    by: change.by,
-                    setting: *setting,
-                })?;
-            }
-        }
+    for at in before..changes_of(device) {
+        let Some(change) = change_of(alloc, device, at)? else {
+            unreachable!()
+        };
+        add_settings(&change, &mut made)?;
     }
     Ok(made)
+}
+
+// The settings of a change are added.
+fn add_settings(change: &Change, made: &mut List<MadeBy>) -> Result<(), NoMemory>
+    ensures { OnOk result (made.new.items ≡ made.old.items ++ settings_by change.now) }
+{
+    for setting in change.settings.as_slice() {
+        made.push(MadeBy {
+            by: change.by,
+            setting: *setting,
+        })?;
+    }
+    Ok(())
 }
 
 // The settings that a device made are entered.
 fn enter_made(node: NodeId, made: &List<MadeBy>, out: &mut List<Entry>)
     requires { length made.now.items ≤ out.old.room }
-    ensures quiet { AddsLines [] out.old.items out.new.items }
+    ensures entries { out.new.items ≡ out.old.items ++ map (λ item. Entry.Dev node item.by item.setting) made.now.items }
     ensures room { out.new.room + length made.now.items ≡ out.old.room }
 {
     for item in made.as_slice() {

@@ -1,6 +1,8 @@
-use Rattle.std.proofs.Common.{◌<◌, length, refl, ◌∙◌, sym, add-one, eqb-true, arith}
+use Rattle.std.proofs.Common.{◌<◌, length, refl, ◌∙◌, sym, eqb-true, arith}
 use Rattle.std.proofs.lemmas.Bool.{eqb-false}
-use Rattle.zwave_console.proofs.FirstDevice.{device_of-here, device_of-skip, device_of-past}
+use Rattle.world_facts.proofs.DevicesLemmas.{device_of-found, device_of-passed}
+use Rattle.zwave_console.proofs.FirstDevice.{seen_at}
+use Rattle.zwave_console.proofs.Arriving.{none_of}
 use Rattle.zwave_console.proofs.world.place_of.Goals as goal
 
 pub loop-place-init : goal.loop-place-init
@@ -9,17 +11,15 @@ loop-place-init g c = refl
 pub returns-then-eq-clause-found : goal.returns-then-eq-clause-found
 returns-then-eq-clause-found g c =
     let within : c.loop-place.place < length c.args.devices.now.items = omega arith in
-    device_of-here _ c.args.node c.args.devices.now.items c.loop-place.place c.index.result.now within c.index.ensures
-    (sym c.node_of.ensures ∙ eqb-true _ _ (sym c.if-eq.ensures))
-    ∙ sym c.loop-place.invariant
+    let at = seen_at _ c.args.devices.now.items c.loop-place.place c.index.result.now within c.index.ensures in
+    at ∙ sym (device_of-found c.args.node _ c.loop-place.place _ c.loop-place.invariant at (sym c.node_of.ensures ∙ eqb-true _ _ (sym c.if-eq.ensures)))
 
 pub loop-place-preserved : goal.loop-place-preserved
 loop-place-preserved g c =
     let within : c.loop-place.place < length c.args.devices.now.items = omega arith in
-    rw add-one
-    (c.loop-place.invariant
-    ∙ device_of-skip _ c.args.node c.args.devices.now.items c.loop-place.place c.index.result.now within c.index.ensures
-    (λ same. eqb-false _ _ (sym c.if-eq.ensures) (c.node_of.ensures ∙ same)))
+    device_of-passed c.args.node _ c.loop-place.place _ c.loop-place.invariant
+    (seen_at _ c.args.devices.now.items c.loop-place.place c.index.result.now within c.index.ensures)
+    (λ same. eqb-false _ _ (sym c.if-eq.ensures) (c.node_of.ensures ∙ same))
 
 pub returns-clause-none : goal.returns-clause-none
-returns-clause-none g c never = c.loop-place.invariant ∙ device_of-past _ _ c.args.devices.now.items c.loop-place.place (omega arith)
+returns-clause-none g c never = none_of _ c.args.node c.args.devices.now.items c.loop-place.place (omega arith) c.loop-place.invariant

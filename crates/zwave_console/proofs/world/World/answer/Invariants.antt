@@ -1,5 +1,5 @@
-use Rattle.std.proofs.Common.{◌≡◌, ◌≤◌, ◌+◌, []}
-use Rattle.zwave_console.specs.World.{AddsLines}
+use Rattle.std.proofs.Common.{◌≡◌, ◌≤◌, ◌+◌, ◌++◌, drop}
+use Rattle.zwave_console.specs.Arriving.{AllFit, air_entries, flights}
 use Rattle.zwave_console.proofs.world.World.answer.Given as goal
 
 abbrev pub invariant-loop-at : goal.invariant-loop-at
@@ -7,6 +7,10 @@ invariant-loop-at l = record {
   air : 8 ≤ l.self.air.room + l.at;
   numbers : l.self.air.sent ≤ l.fn.self.air.sent + l.at;
   room : l.fn.out.room ≤ l.out.room + l.at;
-  quiet : AddsLines [] l.fn.out.items l.out.items;
+  entries : AllFit l.replies → l.out.items ++ air_entries l.self.air.sent l.sender l.fn.self.controller (drop l.at l.replies)
+      ≡ l.fn.out.items ++ air_entries l.fn.self.air.sent l.sender l.fn.self.controller l.replies;
+  sent : AllFit l.replies → l.self.air.sent ≡ l.fn.self.air.sent + l.at;
+  flying : AllFit l.replies → l.self.air.flying ++ flights l.self.air.sent l.sender l.fn.self.controller (drop l.at l.replies)
+      ≡ l.fn.self.air.flying ++ flights l.fn.self.air.sent l.sender l.fn.self.controller l.replies;
   others : l.self ≡ record l.fn.self { air = l.self.air };
 }
