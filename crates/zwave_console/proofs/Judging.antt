@@ -1,6 +1,6 @@
 -- What chip and host judge keeps what is known of the world.
 use Rattle.std.proofs.Common.{◌≡◌, ◌⊎◌, ℕ, ◌+◌, ◌-◌, ◌<◌, ◌≤◌, true, false, Bool, List, [], ◌∷◌, ◌++◌, length, map, drop, Option, Some, None, Result, Ok, Err, OnOk, OnErr, refl, sym, ap, subst, ◌∙◌, inl, inr, append_assoc, arith}
-use Rattle.std.specs.Prelude.{slice_get, option_map, ◌==◌, if◌then◌else◌}
+use Rattle.std.specs.Prelude.{IsTrue, slice_get, option_map, ◌==◌, if◌then◌else◌}
 use Rattle.std.proofs.lemmas.List.{map-append}
 use Rattle.std.proofs.lemmas.Option.{slice_get-map}
 use Rattle.serial_frame.specs.declared.item.Item.{Item}
@@ -523,3 +523,7 @@ pub judges-taken : {T E : Type 0} (r : Result T E) (self w new : World) (x y z :
 judges-taken r self w new x y z first more =
     OnOk-from r (GoesOn (machine_of w) (machine_of new) y z) (GoesOn (machine_of w) (machine_of new) y z) (GoesOn (machine_of self) (machine_of new) x z)
     (λ goes same. GoesOn-then (machine_of self) (machine_of w) (machine_of new) x y z first goes) more more
+
+-- no test is both true and false
+pub not_both : (test : Bool) → IsTrue test → test ≡ false → ⊥
+not_both test holds fails = cc
