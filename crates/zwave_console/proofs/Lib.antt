@@ -8,3 +8,4 @@ pub mod FirstDevice
 pub mod Beginning
 pub mod Entering
 pub mod Arriving
+pub mod Judging
