@@ -1,0 +1,8 @@
+use Rattle.std.proofs.Common.{ap, ◌∙◌, refl}
+use Rattle.std.specs.FinMap as map
+use Rattle.value_store.specs.Values.{key_cmp}
+use Rattle.value_store.proofs.Seen.{seen-none}
+use Rattle.value_store.proofs.store.Store.new.Goals as goal
+
+pub returns : goal.returns
+returns c = rw c.new.ensures.items seen-none
