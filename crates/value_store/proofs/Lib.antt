@@ -5,3 +5,4 @@ mod Kept
 mod Reserved
 mod Seen
 mod Floats
+mod Listed

@@ -112,7 +112,7 @@ apart : (b s : Bool) (o : Ordering) → o ≡ Less → is_eq o ≡ (b && s) → 
 apart true s o less both one = sym both ∙ ap is_eq less
 apart false s o less both one = absurd (true≢false (sym one))
 
-is_less : (o : Ordering) → is_lt o ≡ true → o ≡ Less
+pub is_less : (o : Ordering) → is_lt o ≡ true → o ≡ Less
 is_less Less h = refl
 is_less Equal h = absurd (true≢false (sym h))
 is_less Greater h = absurd (true≢false (sym h))

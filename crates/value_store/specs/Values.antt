@@ -88,6 +88,15 @@ held_at node entry =
 abbrev pub held_of : Values → ℕ → List Held
 held_of values node = filter_map (held_at node) (map.entries values)
 
+-- what these say of the property, and None where they do not name it
+abbrev pub listed_of : List Held → Property → Option Stored
+listed_of [] property = None
+listed_of (held ∷ more) property = if same_property property held.property then Some held.stored else listed_of more property
+
+-- the order of properties
+abbrev pub property_cmp : Property → Property → Ordering
+property_cmp first second = slice_cmp nat_cmp (rank_of first) (rank_of second)
+
 -- a number of a list, by its place
 abbrev pub number_at : List ℕ → ℕ → ℕ
 number_at numbers at = unwrap_or (slice_get numbers at) 0

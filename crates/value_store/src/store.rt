@@ -1,10 +1,11 @@
 //! The values of all nodes.
 
-ghost use Rattle.std.specs.Prelude.{◌≡◌, ℕ, ◌<◌, ◌≤◌, ◌↔◌, length, [], ◌∷◌, Some, None, Err, IfOk, OnOk, OnErr};
+ghost use Rattle.std.specs.Prelude.{◌≡◌, ℕ, ◌<◌, ◌≤◌, ◌↔◌, length, [], ◌∷◌, Some, Err, map, IfOk, OnOk, OnErr};
 ghost use Rattle.std.specs.List.{AllByRecursion};
-ghost use Rattle.std.specs.FinMap as map;
+ghost use Rattle.std.specs.List.Sorted.{IsStrictlySortedBy};
+ghost use Rattle.std.specs.FinMap as finmap;
 ghost use Rattle.zw_base.specs.declared.property.Property.{Property as PropertyValue};
-ghost use Rattle.value_store.specs.Values.{IsReserved, Reserves, count_with, held_of, known_of, stored_of};
+ghost use Rattle.value_store.specs.Values.{IsReserved, Reserves, count_with, held_of, known_of, listed_of, property_cmp, stored_of};
 ghost use Rattle.value_store.specs.ValueText.{values_text};
 
 use crate::entries::{Key, count_missing, count_of, held_of, keep_all, stored_at, write};
@@ -41,7 +42,7 @@ impl Model for Store {
 impl Store {
     /// Nothing is kept. It takes no memory.
     pub fn new(alloc: Global) -> Store
-        ensures { result ≡ map.empty }
+        ensures { result ≡ finmap.empty }
     {
         Store {
             entries: Vec::new(alloc),
@@ -68,7 +69,7 @@ impl Store {
     /// Sets the confirmed value of a property that is kept. It takes no memory.
     pub fn confirm(&mut self, node: NodeId, property: Property, value: u32)
         requires { IsReserved self.old node property }
-        ensures { self.new ≡ map.insert self.old (node, property) (record (stored_of self.old node property) { confirmed = Some value }) }
+        ensures { self.new ≡ finmap.insert self.old (node, property) (record (stored_of self.old node property) { confirmed = Some value }) }
     {
         let key = (node, property);
         let stored = self.stored(&key);
@@ -83,7 +84,7 @@ impl Store {
 
     /// Sets the value last heard of a property, which is kept from then on.
     pub fn hear_report(&mut self, node: NodeId, property: Property, value: u32) -> Result<(), StoreFault>
-        ensures ok { OnOk result (self.new ≡ map.insert self.old (node, property) (record (stored_of self.old node property) { heard = Some value })) }
+        ensures ok { OnOk result (self.new ≡ finmap.insert self.old (node, property) (record (stored_of self.old node property) { heard = Some value })) }
         ensures full { (result ≡ Err StoreFault.StoreFull) ↔ (512 < count_with self.old node (property ∷ [])) }
         ensures err { OnErr result (self.new ≡ self.old) }
     {
@@ -111,6 +112,8 @@ impl Store {
     /// The properties of the node that have a value, in the order of properties, each with what `get` gives.
     pub fn list(&self, alloc: Global, node: NodeId) -> Result<List<Held>, NoMemory>
         ensures ok { IfOk result (λ held. held.items ≡ held_of self.now node) }
+        ensures each { IfOk result (λ held. (property : PropertyValue) → listed_of held.items property ≡ known_of self.now node property) }
+        ensures order { IfOk result (λ held. IsStrictlySortedBy property_cmp (map (λ one. one.property) held.items)) }
         ensures bound { IfOk result (λ held. length held.items ≤ 512) }
     {
         held_of(alloc, &self.entries, node)
@@ -127,7 +130,7 @@ impl Store {
     // Sets the values of a key that is kept.
     fn set(&mut self, key: &Key, stored: Stored)
         requires { IsReserved self.old key.now.0 key.now.1 }
-        ensures { self.new ≡ map.insert self.old key.now stored }
+        ensures { self.new ≡ finmap.insert self.old key.now stored }
     {
         write(&mut self.entries, key, stored);
     }
