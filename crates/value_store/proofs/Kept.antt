@@ -1,6 +1,5 @@
 -- What is found at a place or in a gap among entries in order, and what an edit there makes.
-use Rattle.std.proofs.Common.{◌≡◌, ℕ, ◌<◌, ◌≤◌, true, false, length, get_or, set, insert, is_some, Some, None, if◌then◌else◌, inl, inr, refl, sym, ap, subst, ◌∙◌, arith}
-use Rattle.std.specs.declared.cmp.Ordering.TheVariants.{Less, Equal, Greater}
+use Rattle.std.proofs.Common.{◌≡◌, ℕ, get_or, set, insert, is_some, Some, None, if◌then◌else◌, inl, inr, sym, ap, ◌∙◌, arith}
 use Rattle.std.specs.Ordering.{is_eq, ordering_reverse}
 use Rattle.std.specs.FinMap.{find, put}
 use Rattle.value_store.specs.declared.stored.Stored.{Stored}

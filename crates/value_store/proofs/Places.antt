@@ -1,5 +1,5 @@
 -- What a binary search finds among entries in order.
-use Rattle.std.proofs.Common.{◌≡◌, ℕ, length, Result, Ok, Err, IfOk, IfErr, arith}
+use Rattle.std.proofs.Common.{ℕ, length, Result, Ok, Err, IfOk, IfErr, arith}
 use Rattle.std.specs.List.Sorted.{IsSearchInRange, IsBinarySearchResult}
 use Rattle.value_store.specs.Values.{Key, key_cmp}
 use Rattle.value_store.specs.Entries.{Entries, IsGapFor, IsInOrder, IsPlaceOf}

@@ -1,10 +1,10 @@
 -- What is found, and how much is kept, when properties of a node are kept besides.
-use Rattle.std.proofs.Common.{◌≡◌, ℕ, suc, ◌+◌, ◌≤◌, Bool, true, false, not, cond, ◌&&◌, ◌||◌, T, eqb, List, [], ◌∷◌, ◌++◌, length, Option, Some, None, is_some, unwrap_or, refl, sym, ap, subst, ◌∙◌, arith, true≢false, rules}
+use Rattle.std.proofs.Common.{◌≡◌, ℕ, suc, ◌+◌, ◌≤◌, Bool, true, false, not, cond, ◌&&◌, ◌||◌, T, eqb, List, [], ◌∷◌, ◌++◌, length, Option, Some, None, is_some, unwrap_or, refl, sym, ap, subst, ◌∙◌, arith, true≢false}
 use Rattle.std.specs.declared.cmp.Ordering.{Ordering}
 use Rattle.std.specs.declared.cmp.Ordering.TheVariants.{Less, Equal, Greater}
-use Rattle.std.specs.Ordering.{is_eq, is_lt, nat_cmp, ordering_then, eq_by_cmp}
+use Rattle.std.specs.Ordering.{is_eq, is_lt, nat_cmp, ordering_then}
 use Rattle.std.specs.Cmp.Lexicographic.{slice_cmp}
-use Rattle.std.specs.List.{AllByRecursion, IsDistinct, filter_map, list_any, cons_option}
+use Rattle.std.specs.List.{AllByRecursion, IsDistinct, cons_option}
 use Rattle.std.proofs.lemmas.Bool.{eqb-true, eq-eqb}
 use Rattle.std.specs.Set.{distinct_count, is_member, unique_keys}
 use Rattle.std.specs.FinMap.{find, put, is_sorted}
@@ -14,7 +14,7 @@ use Rattle.std.proofs.lemmas.Map.Made.{length-from_keys, length-from_same_keys, 
 use Rattle.zw_base.specs.PropertyOrder.{rank_of, same_property}
 use Rattle.zw_base.specs.declared.property.Property.{Property}
 use Rattle.value_store.specs.declared.stored.Stored.{Stored}
-use Rattle.value_store.specs.Values.{Key, key_cmp, no_value, is_among, property_at}
+use Rattle.value_store.specs.Values.{Key, key_cmp, no_value, is_among}
 use Rattle.value_store.specs.Entries.{Entries, IsInOrder, IsWithinLimit, keeping, keeping_all, properties_among}
 use Rattle.value_store.proofs.Keys.{key_total, same_property_laws}
 use Rattle.value_store.proofs.Sorted.{and_left, and_right}
@@ -90,7 +90,7 @@ pub find-keeping_all : (n : ℕ) (q : Property) (es : Entries) (node : ℕ) (ps 
 find-keeping_all n q es node [] = nothing_more (eqb n node) _
 find-keeping_all n q es node (p ∷ ps) =
     let here : find key_cmp (n, q) (keeping es (node, p)) ≡ cond (eqb n node && same_property q p) (some_of (find key_cmp (n, q) es)) (find key_cmp (n, q) es)
-          = find-keeping (n, q) (node, p) es ∙ ap (λ b. cond b (some_of (find key_cmp (n, q) es)) (find key_cmp (n, q) es)) (same_key n node q p) in
+    = find-keeping (n, q) (node, p) es ∙ ap (λ b. cond b (some_of (find key_cmp (n, q) es)) (find key_cmp (n, q) es)) (same_key n node q p) in
     find-keeping_all n q (keeping es (node, p)) node ps
     ∙ ap (λ f. cond (eqb n node && is_among ps q) (some_of f) f) here
     ∙ merged (eqb n node) (same_property q p) (is_among ps q) (find key_cmp (n, q) es)

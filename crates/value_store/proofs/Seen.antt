@@ -1,6 +1,5 @@
 -- What the entries in order are as a map.
-use Rattle.std.proofs.Common.{◌≡◌, ℕ, zero, suc, ◌+◌, ◌<◌, ◌≤◌, Bool, true, false, cond, ◌&&◌, ◌||◌, T, eqb, List, [], ◌∷◌, ◌++◌, length, Option, Some, None, is_some, unwrap_or, refl, sym, ap, subst, ◌∙◌, arith, true≢false}
-use Rattle.std.specs.declared.cmp.Ordering.TheVariants.{Equal}
+use Rattle.std.proofs.Common.{◌≡◌, ℕ, ◌≤◌, Bool, true, false, cond, ◌&&◌, ◌||◌, T, eqb, List, [], ◌∷◌, ◌++◌, length, Option, Some, None, is_some, unwrap_or, refl, sym, ap, subst, ◌∙◌, arith, true≢false}
 use Rattle.std.specs.Ordering.{is_eq}
 use Rattle.std.specs.List.{AllByRecursion, filter_map, cons_option}
 use Rattle.std.specs.Set.{distinct_count}
@@ -12,7 +11,6 @@ use Rattle.std.proofs.lemmas.Map.Made.{length-from_same_keys}
 use Rattle.zw_base.specs.PropertyOrder.{same_property}
 use Rattle.zw_base.specs.declared.property.Property.{Property}
 use Rattle.value_store.specs.declared.stored.Stored.{Stored}
-use Rattle.value_store.specs.declared.stored.Held.{Held}
 use Rattle.value_store.specs.Values.{Key, Values, IsReserved, Reserves, count_with, has_value, held_at, held_of, is_among, key_cmp, no_value, properties_of, property_at, stored_of}
 use Rattle.value_store.specs.Entries.{Entries, IsInOrder, IsWithinLimit, keeping_all, properties_among}
 use Rattle.value_store.proofs.Keys.{key_exact, key_total, same_property_laws}
@@ -65,8 +63,8 @@ module _ (es : Entries) (order : IsInOrder es) where
     pub limit-put : is_some (find key_cmp key es) ≡ true → IsWithinLimit es → IsWithinLimit (put key_cmp key v es)
     limit-put kept limit n =
         let same : length (properties_among (put key_cmp key v es) n) ≡ length (properties_among es n) =
-          length-from_same_keys same_property_laws _ _ (distinct-among _ n order-put) (distinct-among es n order)
-          (λ q. member-find (put key_cmp key v es) n q ∙ as_found (n, q) kept ∙ sym (member-find es n q)) in
+        length-from_same_keys same_property_laws _ _ (distinct-among _ n order-put) (distinct-among es n order)
+        (λ q. member-find (put key_cmp key v es) n q ∙ as_found (n, q) kept ∙ sym (member-find es n q)) in
         rw same (limit n)
 
   module _ (node : ℕ) (ps : List Property) where

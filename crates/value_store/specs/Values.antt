@@ -1,6 +1,6 @@
 -- What is known of the properties of nodes: the value that a final report confirmed, and the value last heard (all of
 -- it this project's own rule).
-use Rattle.std.specs.Prelude.{◌≡◌, ℕ, suc, Bool, ◌||◌, ◌&&◌, ◌==◌, if◌then◌else◌, List, [], ◌∷◌, ◌++◌, Option, Some, None, IsTrue, is_some, unwrap_or, slice_get, refl}
+use Rattle.std.specs.Prelude.{◌≡◌, ℕ, Bool, ◌||◌, ◌&&◌, ◌==◌, if◌then◌else◌, List, [], ◌∷◌, ◌++◌, Option, Some, None, IsTrue, is_some, unwrap_or, slice_get, refl}
 use Rattle.std.proofs.Common.{ap}
 use Rattle.std.specs.List.{filter_map, list_any}
 use Rattle.std.specs.declared.cmp.Ordering.{Ordering}

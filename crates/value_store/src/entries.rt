@@ -106,7 +106,11 @@ pub(crate) fn count_of(entries: &[(Key, Stored)], node: NodeId) -> usize
 }
 
 /// How many properties of the node these add to those that are kept.
-pub(crate) fn count_missing(entries: &[(Key, Stored)], node: NodeId, properties: &[Property]) -> usize
+pub(crate) fn count_missing(
+    entries: &[(Key, Stored)],
+    node: NodeId,
+    properties: &[Property],
+) -> usize
     requires { IsInOrder entries.now }
     ensures count { result + length (properties_among entries.now node)
         ≡ distinct_count same_property (properties.now ++ properties_among entries.now node) }
@@ -124,7 +128,12 @@ pub(crate) fn count_missing(entries: &[(Key, Stored)], node: NodeId, properties:
 }
 
 // Whether the property is neither one of these nor kept.
-fn is_missing(entries: &[(Key, Stored)], node: NodeId, property: &Property, others: &[Property]) -> bool
+fn is_missing(
+    entries: &[(Key, Stored)],
+    node: NodeId,
+    property: &Property,
+    others: &[Property],
+) -> bool
     requires { IsInOrder entries.now }
     ensures { result ≡ not (is_member same_property (others.now ++ properties_among entries.now node) property.now) }
 {
@@ -144,7 +153,11 @@ fn is_one_of(property: &Property, properties: &[Property]) -> bool
 }
 
 /// The properties of the node that have a value, in their order.
-pub(crate) fn held_of(alloc: Global, entries: &[(Key, Stored)], node: NodeId) -> Result<List<Held>, NoMemory>
+pub(crate) fn held_of(
+    alloc: Global,
+    entries: &[(Key, Stored)],
+    node: NodeId,
+) -> Result<List<Held>, NoMemory>
     ensures { IfOk result (λ held. held.items ≡ filter_map (held_at node) entries.now) }
 {
     let mut held = List::new(alloc);

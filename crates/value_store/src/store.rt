@@ -83,7 +83,12 @@ impl Store {
     }
 
     /// Sets the value last heard of a property, which is kept from then on.
-    pub fn hear_report(&mut self, node: NodeId, property: Property, value: u32) -> Result<(), StoreFault>
+    pub fn hear_report(
+        &mut self,
+        node: NodeId,
+        property: Property,
+        value: u32,
+    ) -> Result<(), StoreFault>
         ensures ok { OnOk result (self.new ≡ finmap.insert self.old (node, property) (record (stored_of self.old node property) { heard = Some value })) }
         ensures full { (result ≡ Err StoreFault.StoreFull) ↔ (512 < count_with self.old node (property ∷ [])) }
         ensures err { OnErr result (self.new ≡ self.old) }
@@ -106,7 +111,11 @@ impl Store {
         ensures { result ≡ known_of self.now node property }
     {
         let stored = self.stored(&(node, property));
-        if stored.has_value() { Some(stored) } else { None }
+        if stored.has_value() {
+            Some(stored)
+        } else {
+            None
+        }
     }
 
     /// The properties of the node that have a value, in the order of properties, each with what `get` gives.

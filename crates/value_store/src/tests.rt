@@ -96,7 +96,10 @@ fn a_node_has_at_most_512_properties(rt: HostRuntime) -> Result<(), Fail> {
     }
     let switch = of_root(Name::Switch);
     assert_eq!(rt; store.reserve(two, &[switch]), Err(StoreFault::StoreFull));
-    assert_eq!(rt; store.hear_report(two, switch, 1), Err(StoreFault::StoreFull));
+    assert_eq!(rt;
+        store.hear_report(two, switch, 1),
+        Err(StoreFault::StoreFull)
+    );
     assert_eq!(rt; store.hear_report(two, of_root(Name::Config(9)), 1), Ok(()));
     assert_eq!(rt; store.hear_report(node(3)?, switch, 1), Ok(()));
     assert_eq!(rt; MAX_PROPERTIES, 512);

@@ -1,4 +1,4 @@
-use Rattle.std.proofs.Common.{◌∙◌, arith}
+use Rattle.std.proofs.Common.{arith}
 use Rattle.value_store.proofs.Reserved.{count-kept, count-more, count-same}
 use Rattle.value_store.proofs.entries.count_missing.Goals as goal
 

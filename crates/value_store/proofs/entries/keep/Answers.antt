@@ -1,4 +1,4 @@
-use Rattle.std.proofs.Common.{sym, ap, ◌∙◌, subst}
+use Rattle.std.proofs.Common.{sym, ◌∙◌, subst}
 use Rattle.value_store.proofs.Kept.{keeping_at, keeping_gap}
 use Rattle.value_store.proofs.Reserved.{order-keeping}
 use Rattle.value_store.specs.Values.{no_value}

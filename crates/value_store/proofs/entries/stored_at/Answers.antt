@@ -1,4 +1,4 @@
-use Rattle.std.proofs.Common.{sym, arith}
+use Rattle.std.proofs.Common.{sym}
 use Rattle.value_store.proofs.Kept.{find_at, find_gap}
 use Rattle.value_store.proofs.entries.stored_at.Goals as goal
 

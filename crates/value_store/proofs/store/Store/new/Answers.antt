@@ -1,6 +1,3 @@
-use Rattle.std.proofs.Common.{ap, ◌∙◌, refl}
-use Rattle.std.specs.FinMap as map
-use Rattle.value_store.specs.Values.{key_cmp}
 use Rattle.value_store.proofs.Seen.{seen-none}
 use Rattle.value_store.proofs.store.Store.new.Goals as goal
 

@@ -1,4 +1,4 @@
-use Rattle.std.proofs.Common.{◌≡◌, ◌∙◌, ap, sym, subst, is_some}
+use Rattle.std.proofs.Common.{◌∙◌, ap, sym, subst, is_some}
 use Rattle.std.specs.FinMap as map
 use Rattle.value_store.specs.Values.{Values}
 use Rattle.value_store.specs.Entries.{Entries, IsInOrder, IsWithinLimit}

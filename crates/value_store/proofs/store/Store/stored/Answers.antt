@@ -1,5 +1,3 @@
-use Rattle.std.proofs.Common.{sym, ap, ◌∙◌, unwrap_or}
-use Rattle.value_store.specs.Values.{stored_of}
 use Rattle.value_store.proofs.Seen.{stored-seen}
 use Rattle.value_store.proofs.store.Store.stored.Goals as goal
 
