@@ -6,17 +6,14 @@ use std::process::Abort;
 use std::test::Fail;
 use zw_base::{Bytes, List, NoMemory, read_end};
 
-fn plan(batch: bool, session: Option<Supervised>, channel: Option<Ends>, outer: Outer) -> Plan {
+/// A plan of a session with its bit for updates, and of the end points of source and target.
+fn plan(batch: bool, session: Option<(bool, u8)>, channel: Option<(u8, u8)>, outer: Outer) -> Plan {
     Plan {
         batch,
-        session,
-        channel,
+        session: session.map(|(updates, id)| Supervised { updates, id }),
+        channel: channel.and_then(|(source, target)| ends(source, target)),
         outer,
     }
-}
-
-fn session(updates: bool, id: u8) -> Option<Supervised> {
-    Some(Supervised { updates, id })
 }
 
 fn ends(source: u8, target: u8) -> Option<Ends> {
@@ -55,7 +52,7 @@ const COMFORT: &[&[u8]] = &[b"\x40\x01\x01", b"\x43\x01\x01\x22\x00\xD7"];
 /// A message: whether it is a batch, its session, its end points, its outermost wrap, its commands, and its bytes.
 type Row = (
     bool,
-    Option<Supervised>,
+    Option<(bool, u8)>,
     Option<(u8, u8)>,
     Outer,
     &'static [&'static [u8]],
@@ -67,10 +64,7 @@ static IN_ORDER: [Row; 12] = [
     (false, None, None, Outer::None, &[ON], ON),
     (
         false,
-        Some(Supervised {
-            updates: false,
-            id: 1,
-        }),
+        Some((false, 1)),
         None,
         Outer::None,
         &[ON],
@@ -78,10 +72,7 @@ static IN_ORDER: [Row; 12] = [
     ),
     (
         false,
-        Some(Supervised {
-            updates: false,
-            id: 1,
-        }),
+        Some((false, 1)),
         Some((0, 3)),
         Outer::None,
         &[ON],
@@ -89,10 +80,7 @@ static IN_ORDER: [Row; 12] = [
     ),
     (
         false,
-        Some(Supervised {
-            updates: false,
-            id: 2,
-        }),
+        Some((false, 2)),
         Some((0, 9)),
         Outer::None,
         &[ON],
@@ -124,10 +112,7 @@ static IN_ORDER: [Row; 12] = [
     ),
     (
         true,
-        Some(Supervised {
-            updates: false,
-            id: 1,
-        }),
+        Some((false, 1)),
         None,
         Outer::None,
         COMFORT,
@@ -135,10 +120,7 @@ static IN_ORDER: [Row; 12] = [
     ),
     (
         true,
-        Some(Supervised {
-            updates: true,
-            id: 1,
-        }),
+        Some((true, 1)),
         Some((0, 3)),
         Outer::Crc16,
         COMFORT,
@@ -146,10 +128,7 @@ static IN_ORDER: [Row; 12] = [
     ),
     (
         false,
-        Some(Supervised {
-            updates: false,
-            id: 1,
-        }),
+        Some((false, 1)),
         None,
         Outer::None,
         &[b"\x70\x04\x07\x04\x00\x00\x05\xDC"],
@@ -176,8 +155,7 @@ static IN_ORDER: [Row; 12] = [
 #[test]
 fn writes_and_opens_what_is_in_order(rt: HostRuntime) -> Result<(), Fail> {
     for (batch, session, channel, outer, texts, bytes) in &IN_ORDER {
-        let channel = channel.and_then(|(source, target)| ends(source, target));
-        let plan = plan(*batch, *session, channel, *outer);
+        let plan = plan(*batch, *session, *channel, *outer);
         let got = wrapped(&rt, rt.alloc(), &plan, texts)?;
         assert_eq!(rt; got.as_slice(), *bytes);
         assert!(rt; bytes.len() <= 65534);
@@ -196,7 +174,7 @@ fn writes_and_opens_what_is_in_order(rt: HostRuntime) -> Result<(), Fail> {
 fn supervises_206_bytes(rt: HostRuntime) -> Result<(), Fail> {
     let mut command = [1; 206];
     command[..6].copy_from_slice(b"\x70\x07\x00\x00\xC8\x01");
-    let supervised = plan(false, session(false, 1), None, Outer::Transport);
+    let supervised = plan(false, Some((false, 1)), None, Outer::Transport);
     let got = wrapped(&rt, rt.alloc(), &supervised, &[&command])?;
     assert_eq!(rt; got.len(), 210);
     assert!(rt;
@@ -213,35 +191,11 @@ const LONG: &[u8] = &[7; 256];
 const ALMOST_LONG: &[u8] = &[7; 250];
 
 /// Whether it is a batch, its session, its commands, and the length that does not fit.
-static TOO_LONG: [(bool, Option<Supervised>, &[&[u8]], u16); 4] = [
-    (
-        false,
-        Some(Supervised {
-            updates: false,
-            id: 63,
-        }),
-        &[LONG],
-        256,
-    ),
+static TOO_LONG: [(bool, Option<(bool, u8)>, &[&[u8]], u16); 4] = [
+    (false, Some((false, 63)), &[LONG], 256),
     (true, None, &[ON, LONG], 256),
-    (
-        true,
-        Some(Supervised {
-            updates: false,
-            id: 0,
-        }),
-        &[LONG, ALMOST_LONG],
-        256,
-    ),
-    (
-        true,
-        Some(Supervised {
-            updates: false,
-            id: 0,
-        }),
-        &[ALMOST_LONG, ON],
-        258,
-    ),
+    (true, Some((false, 0)), &[LONG, ALMOST_LONG], 256),
+    (true, Some((false, 0)), &[ALMOST_LONG, ON], 258),
 ];
 
 #[test]
@@ -262,7 +216,7 @@ fn opens_what_is_written_otherwise(rt: HostRuntime) -> Result<(), Fail> {
     let table: [(&[u8], Plan, usize); 2] = [
         (
             b"\x60\x0D\x85\x02\x6C\x01\xC5\x03\x25\x01\xFF",
-            plan(false, session(true, 5), ends(5, 2), Outer::None),
+            plan(false, Some((true, 5)), Some((5, 2)), Outer::None),
             1,
         ),
         (b"\x8F\x01\x00", plan(true, None, None, Outer::None), 0),
