@@ -46,9 +46,9 @@ abbrev pub made_by : Change → List Made
 made_by change = map (λ setting. record { by = change.by; setting = setting }) change.settings
 
 -- the first state of the list with that node
-abbrev pub first_of : ℕ → List State → Option State
-first_of node [] = None
-first_of node (state ∷ states) = if state.node == node then Some state else first_of node states
+abbrev pub device_of : ℕ → List State → Option State
+device_of node [] = None
+device_of node (state ∷ states) = if state.node == node then Some state else device_of node states
 
 -- the device of a node went from its state at entry to that at exit as the transcript shows: by the payloads heard and
 -- the ticks, in order; its changes are the `dev` entries, and its answers its frames to the controller. Where the run

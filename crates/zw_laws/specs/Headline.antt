@@ -18,7 +18,7 @@ use Rattle.zw_laws.specs.Lists.{IsFrontOf}
 use Rattle.zw_laws.specs.Once.{KeepsSessions, Once}
 use Rattle.zw_laws.specs.Answers.{AnswersOrders}
 use Rattle.zw_laws.specs.Frames.{CarriesUnits}
-use Rattle.zw_laws.specs.Devices.{RunsAsShown, first_of}
+use Rattle.zw_laws.specs.Devices.{RunsAsShown, device_of}
 use Rattle.zw_laws.specs.Prompt.{IsPrompt}
 use Rattle.zw_laws.specs.Confirmed.{confirmed}
 
@@ -30,8 +30,8 @@ pub record IsAsMade (key : List ℕ) (device : State) : Type 0 where
 
 -- the device of that node at entry is one state of the list and at exit another
 pub record IsDevice (node : ℕ) (before after : List State) (old new : State) : Type 0 where
-  pub at_entry : first_of node before ≡ Some old
-  pub at_exit : first_of node after ≡ Some new
+  pub at_entry : device_of node before ≡ Some old
+  pub at_exit : device_of node after ≡ Some new
 
 -- a legal transcript of these lines: its lines, their answers, its devices and its frames
 pub record IsLegal (whole : Bool) (lines : List Line) (before after : List State) (transcript : List Entry) : Type 0 where

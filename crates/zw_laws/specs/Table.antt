@@ -9,7 +9,7 @@ use Rattle.zw_text.specs.Transcript.{sessions}
 use Rattle.device_sim.specs.State.{State, shown_of}
 use Rattle.zw_laws.specs.Answers.{first_node}
 use Rattle.zw_laws.specs.Confirmed.{confirmed}
-use Rattle.zw_laws.specs.Devices.{first_of}
+use Rattle.zw_laws.specs.Devices.{device_of}
 
 -- the property that the orders of this stage set
 abbrev pub switch : Property
@@ -29,7 +29,7 @@ device_lines node (Some state) = map (λ setting. Device node setting) (shown_of
 abbrev pub node_lines : List Entry → List State → ℕ → List Entry
 node_lines transcript devices node =
     TableNode node (sessions node transcript)
-    ∷ (value_line node switch (confirmed transcript node switch) ++ device_lines node (first_of node devices))
+    ∷ (value_line node switch (confirmed transcript node switch) ++ device_lines node (device_of node devices))
 
 -- the table after this transcript, of devices in these states
 abbrev pub table_of : ℕ → List Entry → List State → List Entry

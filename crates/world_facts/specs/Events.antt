@@ -1,0 +1,144 @@
+-- What happens in the world: for each event the entries that it makes, and the world after it.
+use Rattle.std.specs.Prelude.{ℕ, ◌+◌, true, false, List, [], ◌∷◌, ◌++◌, length, map, Some, None}
+use Rattle.zw_base.specs.declared.property.By.TheVariants.{Session}
+use Rattle.supervision.specs.Host.{begins, begun_of}
+use Rattle.supervision.specs.Ends.{Get, Report}
+use Rattle.supervision.specs.declared.session.TheConstants.{SUCCESS}
+use Rattle.device_sim.specs.State.{State, ticked}
+use Rattle.zw_text.specs.declared.line.Line.{Line}
+use Rattle.zw_text.specs.declared.entry.Ended.TheVariants.{Success}
+use Rattle.zw_text.specs.declared.entry.Entry.{Entry}
+use Rattle.zw_text.specs.declared.entry.Entry.TheVariants.{Begin, Written, Air, Heard, Unheard, Dev, Out, Store, Time}
+use Rattle.zw_text.specs.declared.entry.Side.TheVariants.{Host, Chip}
+use Rattle.zw_laws.specs.Answers.{first_node}
+use Rattle.zw_laws.specs.Frames.{controller}
+use Rattle.zw_laws.specs.Table.{switch}
+use Rattle.world_facts.specs.World.{World, ToChip, ToHost, Flight}
+use Rattle.world_facts.specs.World.ToChip.{Asks, Acknowledges}
+use Rattle.world_facts.specs.World.ToHost.{Confirms, Takes, Calls_back, Brings}
+use Rattle.world_facts.specs.World.Carried.{Carries_get, Carries_report}
+use Rattle.world_facts.specs.Units.{value_at, get_payload, report_payload, ack_unit, ask_unit, take_unit, callback_unit, bring_unit}
+
+-- a command is accepted
+abbrev pub accepts : World → Line → World
+accepts w line = record w { orders = w.orders ++ line ∷ []; waiting = w.waiting ++ (length w.orders + 1) ∷ [] }
+
+-- the tick is entered
+abbrev pub stamp_entries : World → List Entry
+stamp_entries w = Time w.clock ∷ []
+
+abbrev pub stamps : World → World
+stamps w = record w { stamped = true }
+
+-- the Get of a session that begins now for this command
+abbrev pub next_get : World → ℕ → Get
+next_get w command = record { session = begun_of w.book + 1; command = command; begun = begun_of w.book + 1 }
+
+-- the host begins a session for the first command that waits
+abbrev pub begin_entries : World → ℕ → ℕ → List Entry
+begin_entries w command callback =
+    Begin first_node (begun_of w.book + 1) command ∷ Written Host (ask_unit w.orders (next_get w command) callback) ∷ []
+
+abbrev pub begins_session : World → ℕ → List ℕ → ℕ → World
+begins_session w command waiting callback = record w {
+  waiting = waiting;
+  book = begins w.book command;
+  request = Some callback;
+  to_chip = w.to_chip ++ Asks (next_get w command) callback ∷ [];
+}
+
+-- the chip takes the first request, and puts its Get on the air
+abbrev pub take_entries : World → Get → List Entry
+take_entries w get =
+    Written Chip ack_unit ∷ Written Chip take_unit
+    ∷ Air (w.sent + 1) controller first_node [] (get_payload w.orders get) ∷ []
+
+abbrev pub takes_request : World → Get → ℕ → List ToChip → World
+takes_request w get callback rest = record w {
+  to_chip = rest;
+  to_host = w.to_host ++ Confirms ∷ Takes ∷ [];
+  busy = Some callback;
+  sent = w.sent + 1;
+  flying = w.flying ++ record { number = w.sent + 1; carried = Carries_get get } ∷ [];
+}
+
+-- the chip drops an acknowledgement
+abbrev pub chip_drops : World → List ToChip → World
+chip_drops w rest = record w { to_chip = rest }
+
+-- the host drops an acknowledgement
+abbrev pub host_drops : World → List ToHost → World
+host_drops w rest = record w { to_host = rest }
+
+-- the host acknowledges a frame
+abbrev pub ack_entries : List Entry
+ack_entries = Written Host ack_unit ∷ []
+
+-- the host acknowledges the response
+abbrev pub answered : World → List ToHost → World
+answered w rest = record w { to_host = rest; to_chip = w.to_chip ++ Acknowledges ∷ [] }
+
+-- the host acknowledges the callback, with which its request ends
+abbrev pub called : World → List ToHost → World
+called w rest = record w { to_host = rest; to_chip = w.to_chip ++ Acknowledges ∷ []; request = None }
+
+-- the host acknowledges a report, which closes its last session, and confirms the value
+abbrev pub close_entries : World → List Entry
+close_entries w =
+    Written Host ack_unit ∷ Out (begun_of w.book) Success
+    ∷ Store first_node (record { property = switch; value = value_at w.orders (begun_of w.book) }) ∷ []
+
+abbrev pub closes : World → List ToHost → World
+closes w rest = record w {
+  to_host = rest;
+  to_chip = w.to_chip ++ Acknowledges ∷ [];
+  book = record w.book { outcome = Some SUCCESS };
+  confirmed = Some (value_at w.orders (begun_of w.book));
+}
+
+-- a tick begins
+abbrev pub tick_begins : World → World
+tick_begins w = record w { clock = w.clock + 1; stamped = false }
+
+-- a report comes to the chip, which hands it to the host
+abbrev pub bring_entries : ℕ → Report → List Entry
+bring_entries number report = Heard number ∷ Written Chip (bring_unit report) ∷ []
+
+abbrev pub brought : World → Report → List Flight → World
+brought w report rest = record w { flying = rest; to_host = w.to_host ++ Brings report ∷ [] }
+
+-- a Get comes where no device is: the chip calls back that nobody acknowledged it
+abbrev pub unheard_entries : ℕ → ℕ → List Entry
+unheard_entries number callback = Unheard number ∷ Written Chip (callback_unit callback 1) ∷ []
+
+abbrev pub unheard : World → ℕ → List Flight → World
+unheard w callback rest = record w { flying = rest; busy = None; to_host = w.to_host ++ Calls_back callback 1 ∷ [] }
+
+-- the report of the session that the device takes now
+abbrev pub next_report : World → Report
+next_report w = record { session = begun_of w.book; status = SUCCESS; begun = begun_of w.book }
+
+-- a Get comes to the device, which takes the session, changes, and answers; the chip calls back
+abbrev pub hear_entries : World → ℕ → ℕ → List Entry
+hear_entries w number callback =
+    Heard number
+    ∷ Dev first_node (Session (begun_of w.book)) (record { property = switch; value = value_at w.orders (begun_of w.book) })
+    ∷ Air (w.sent + 1) first_node controller [] (report_payload (next_report w))
+    ∷ Written Chip (callback_unit callback 0) ∷ []
+
+abbrev pub heard : World → ℕ → List Flight → List State → World
+heard w callback rest devices = record w {
+  flying = rest ++ record { number = w.sent + 1; carried = Carries_report (next_report w) } ∷ [];
+  sent = w.sent + 1;
+  busy = None;
+  to_host = w.to_host ++ Calls_back callback 0 ∷ [];
+  devices = devices;
+}
+
+-- the devices live a tick
+abbrev pub devices_tick : World → World
+devices_tick w = record w { lived = w.lived + 1; devices = map ticked w.devices }
+
+-- a tick ends
+abbrev pub tick_ends : World → World
+tick_ends w = record w { stamped = true }

@@ -1,0 +1,14 @@
+pub mod World
+pub mod Units
+pub mod Kept
+pub mod OnTheWay
+pub mod Ends
+pub mod Tables
+pub mod Frames
+pub mod Lives
+pub mod Work
+pub mod Events
+pub mod Facts
+pub mod Line
+pub mod Goes
+pub mod Machine
