@@ -13,9 +13,11 @@ mod opening;
 mod plan;
 #[cfg(test)]
 mod tests;
+mod wrappable;
 mod wrapping;
 
 pub use fault::WrapFault;
 pub use opening::unpack;
 pub use plan::{Ends, Opened, Outer, Plan, Supervised};
+pub use wrappable::is_wrappable;
 pub use wrapping::wrap;

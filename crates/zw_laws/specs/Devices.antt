@@ -1,14 +1,11 @@
 -- What a device did, by the transcript (this project's own model of devices, in the crate device_sim).
-use Rattle.std.specs.Prelude.{◌≡◌, ℕ, ◌==◌, Bool, true, false, if◌then◌else◌, suc, List, [], ◌∷◌, ◌++◌, map, Option, Some, None, ⊤}
+use Rattle.std.specs.Prelude.{◌≡◌, ℕ, ◌==◌, Bool, true, if◌then◌else◌, suc, List, [], ◌∷◌, ◌++◌, map, Option, Some, None}
 use Rattle.std.specs.List.{flat_map}
-use Rattle.zw_base.specs.declared.property.Setting.{Setting}
 use Rattle.device_sim.specs.declared.change.Change.{Change}
 use Rattle.device_sim.specs.State.{State, ticked}
 use Rattle.device_sim.specs.Hearing.{IsSupervisedSet, hears, replies_of}
 use Rattle.zw_text.specs.declared.entry.Entry.{Entry}
 use Rattle.zw_text.specs.Transcript.{Made, made}
-use Rattle.zw_laws.specs.Lists.{IsFrontOf}
-use Rattle.zw_laws.specs.Units.{Sending}
 use Rattle.zw_laws.specs.Frames.{HeardAt, heard_by, sent_from, controller}
 
 -- what happens to a device: a payload comes, or a tick passes

@@ -1,9 +1,8 @@
 -- The headline: what holds of a run's transcript and of its devices (this project's own theorem).
-use Rattle.std.specs.Prelude.{◌≡◌, ◌≤◌, ℕ, Bool, true, false, List, [], ◌∷◌, ◌++◌, Option, Some, None}
+use Rattle.std.specs.Prelude.{◌≡◌, ◌≤◌, ℕ, Bool, true, false, List, ◌∷◌, ◌++◌, Some}
 use Rattle.std.specs.List.{AllByRecursion, list_any}
 use Rattle.zw_base.specs.PropertyOrder.{same_property}
 use Rattle.zw_base.specs.declared.property.Property.{Property}
-use Rattle.zw_base.specs.declared.property.Setting.{Setting}
 use Rattle.zw_base.specs.declared.property.By.TheVariants.{Session}
 use Rattle.supervision.specs.Host.{command_at}
 use Rattle.device_sim.specs.declared.change.Change.{Change}
@@ -14,7 +13,6 @@ use Rattle.zw_text.specs.declared.line.Line.{Line}
 use Rattle.zw_text.specs.declared.entry.Entry.{Entry}
 use Rattle.zw_text.specs.declared.entry.Outcome.TheVariants.{Success}
 use Rattle.zw_text.specs.Transcript.{lines_run, sessions, outcome}
-use Rattle.zw_laws.specs.Lists.{IsFrontOf}
 use Rattle.zw_laws.specs.Once.{KeepsSessions, Once}
 use Rattle.zw_laws.specs.Answers.{AnswersOrders}
 use Rattle.zw_laws.specs.Frames.{CarriesUnits}

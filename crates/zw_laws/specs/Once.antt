@@ -1,6 +1,6 @@
 -- Sessions and once-only, of the transcript and a device's journal alone: no queue, timer, attempt or six-bit id
 -- occurs here (this project's own rules over the Supervision Command Class).
-use Rattle.std.specs.Prelude.{◌≡◌, ◌≤◌, ℕ, ◌+◌, List, [], ◌∷◌, ◌++◌, length, map, Option, Some, ⊤}
+use Rattle.std.specs.Prelude.{◌≡◌, ◌≤◌, ℕ, ◌+◌, List, [], ◌∷◌, length, map, Some, ⊤}
 use Rattle.std.specs.List.{flat_map, AllByRecursion}
 use Rattle.zw_base.specs.declared.property.Setting.{Setting}
 use Rattle.zw_base.specs.declared.property.By.{By}

@@ -1,13 +1,13 @@
 -- Promptness: what is owed at a rest (this project's own rule).
-use Rattle.std.specs.Prelude.{◌≡◌, ℕ, ◌==◌, Bool, true, if◌then◌else◌, List, [], ◌∷◌, ◌++◌, length, ⊤}
-use Rattle.std.specs.List.{flat_map, AllByRecursion, list_any}
+use Rattle.std.specs.Prelude.{◌≡◌, ℕ, ◌==◌, Bool, true, List, [], ◌∷◌, length, ⊤}
+use Rattle.std.specs.List.{AllByRecursion, list_any}
 use Rattle.zw_text.specs.declared.entry.Entry.{Entry}
 use Rattle.zw_text.specs.declared.entry.Entry.TheVariants.{Echo, Time, Begin}
 use Rattle.zw_text.specs.Transcript.{sessions, outcome}
 use Rattle.zw_laws.specs.Lists.{EachAfter}
 use Rattle.zw_laws.specs.Once.{IsFinal}
 use Rattle.zw_laws.specs.Answers.{waiting}
-use Rattle.zw_laws.specs.Units.{Sending, sendings, callbacks, chip_frames, host_acks}
+use Rattle.zw_laws.specs.Units.{sendings, callbacks, chip_frames, host_acks}
 
 -- no request of the host is under way: the chip has called back for each SendData, and the host has acknowledged each
 -- frame of the chip

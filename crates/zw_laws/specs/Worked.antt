@@ -1,4 +1,4 @@
--- A worked transcript (that of `set 2 on`, `tick 2`), and the same with one thing changed.
+-- A worked transcript (that of `set 2 on`, `tick 2`) with its device, and others like it with one thing wrong.
 use Rattle.std.specs.Prelude.{ℕ, List, [], ◌∷◌, ◌++◌}
 use Rattle.zw_base.specs.declared.property.By.TheVariants.{Session}
 use Rattle.zw_base.specs.declared.property.Name.TheVariants.{Switch}
@@ -10,7 +10,10 @@ use Rattle.zw_text.specs.declared.entry.Ended.TheVariants.{Success}
 use Rattle.zw_text.specs.declared.entry.Entry.{Entry}
 use Rattle.zw_text.specs.declared.entry.Entry.TheVariants.{Echo, Accepted, Begin, Written, Air, Heard, Dev, Out, Store, Time}
 use Rattle.zw_text.specs.declared.entry.Side.TheVariants.{Host, Chip}
+use Rattle.supervision.specs.declared.session.TheConstants.{SUCCESS}
 use Rattle.device_sim.specs.declared.change.Change.{Change}
+use Rattle.device_sim.specs.declared.kind.Kind.TheVariants.{Switch as a_switch}
+use Rattle.device_sim.specs.State.{State, fresh}
 
 -- the switch is on
 abbrev pub on : Setting
@@ -60,6 +63,15 @@ worked_lines = Set 2 0 On ∷ Tick 2 ∷ []
 abbrev pub one_change : List Change
 one_change = record { by = Session 1; settings = on ∷ [] } ∷ []
 
+-- the switch at node 2 as its maker leaves it, with any key
+abbrev pub switch_before : List ℕ → State
+switch_before key = fresh 2 a_switch key
+
+-- the same switch once it has heard session 1, before its first tick, and two ticks have passed
+abbrev pub switch_after : List ℕ → State
+switch_after key =
+    record (switch_before key) { sessions = record { taken = 1; status = SUCCESS }; clock = 2; journal = one_change }
+
 -- a second `begin` of session 1
 abbrev pub begun_twice : List Entry
 begun_twice = beginning ++ Begin 2 1 1 ∷ []
@@ -71,3 +83,22 @@ uncarried = beginning ++ Air 2 1 2 [] first_get ∷ []
 -- an order that has no answer before the next line
 abbrev pub unanswered : List Entry
 unanswered = Echo (Set 2 0 On) ∷ Echo (Tick 2) ∷ []
+
+-- an accepted command that is not begun, though nothing is under way
+abbrev pub unbegun : List Entry
+unbegun = Echo (Set 2 0 On) ∷ Accepted 1 2 ∷ []
+
+-- the whole transcript without the entry of the change that the device made
+abbrev pub unshown : List Entry
+unshown = beginning ++ (hearing ++ answering)
+
+-- success before the device has heard the command, and so before it has changed
+abbrev pub too_soon : List Entry
+too_soon = beginning ++ Out 1 Success ∷ []
+
+-- the switch after it, but that session 1, which asks for on, has set it to off
+abbrev pub switch_left_off : List ℕ → State
+switch_left_off key =
+    record (switch_after key) {
+      journal = record { by = Session 1; settings = record { property = record { end = 0; name = Switch }; value = 0 } ∷ [] } ∷ [];
+    }

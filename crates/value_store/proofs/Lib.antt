@@ -1,0 +1,8 @@
+pub mod Keys
+mod Sorted
+mod Places
+mod Kept
+mod Reserved
+mod Seen
+mod Floats
+mod Listed

@@ -1,0 +1,170 @@
+//! The entries of the store: for each node and property that is kept its values, in the order of nodes, then of
+//! properties.
+
+ghost use Rattle.std.specs.Prelude.{◌≡◌, ◌+◌, ◌<◌, ◌≤◌, ◌++◌, length, IsTrue, is_some, not, insert, IfOk, IfErr, OnOk, OnErr, vec_len, vec_capacity};
+ghost use Rattle.std.specs.List.{filter_map};
+ghost use Rattle.std.specs.Set.{distinct_count, is_member};
+ghost use Rattle.std.specs.FinMap.{find, put};
+ghost use Rattle.zw_base.specs.PropertyOrder.{same_property};
+ghost use Rattle.value_store.specs.Values.{held_at, is_among, key_cmp};
+ghost use Rattle.value_store.specs.Entries.{IsGapFor, IsInOrder, IsPlaceOf, keeping, keeping_all, properties_among};
+
+use crate::stored::{Held, Stored};
+use std::alloc::Global;
+use std::cmp::Ordering;
+use zw_base::{List, NoMemory, NodeId, Property};
+
+/// A node and one of its properties.
+pub(crate) type Key = (NodeId, Property);
+
+// By node, then in the order of properties.
+#[tactic(auto, unfolding(crate::specs::Values::key_cmp))]
+fn compare(first: &Key, second: &Key) -> Ordering
+    ensures { result ≡ key_cmp first.now second.now }
+{
+    first.cmp(second)
+}
+
+// Where the entry of the key is, or where it would go.
+fn place_of(entries: &[(Key, Stored)], key: &Key) -> Result<usize, usize>
+    requires { IsInOrder entries.now }
+    ensures found { IfOk result (IsPlaceOf entries.now key.now) }
+    ensures absent { IfErr result (IsGapFor entries.now key.now) }
+{
+    entries.binary_search_by(|entry| compare(&entry.0, key))
+}
+
+/// What is kept at the key, where something is.
+pub(crate) fn stored_at(entries: &[(Key, Stored)], key: &Key) -> Option<Stored>
+    requires { IsInOrder entries.now }
+    ensures { result ≡ find key_cmp key.now entries.now }
+{
+    match place_of(entries, key) {
+        Ok(at) => Some(entries[at].1),
+        Err(_) => None,
+    }
+}
+
+/// Writes over what is kept at the key.
+pub(crate) fn write(entries: &mut Vec<(Key, Stored)>, key: &Key, stored: Stored)
+    requires order { IsInOrder entries.old.items }
+    requires kept { IsTrue (is_some (find key_cmp key.now entries.old.items)) }
+    ensures { entries.new.items ≡ put key_cmp key.now stored entries.old.items }
+{
+    if let Ok(at) = place_of(entries, key) {
+        entries[at].1 = stored;
+    }
+}
+
+/// Keeps the key, with no value where it was not kept. There is room for one entry more.
+pub(crate) fn keep(entries: &mut Vec<(Key, Stored)>, key: Key)
+    requires order { IsInOrder entries.old.items }
+    requires room { vec_len entries.old < vec_capacity entries.old }
+    ensures items { entries.new.items ≡ keeping entries.old.items key }
+    ensures order { IsInOrder entries.new.items }
+    ensures len { vec_len entries.new ≤ vec_len entries.old + 1 }
+    ensures capacity { vec_capacity entries.new ≡ vec_capacity entries.old }
+{
+    if let Err(at) = place_of(entries, &key) {
+        insert_reserved(entries, at, (key, Stored::none()));
+    }
+}
+
+// Inserts an item, for which there is room.
+fn insert_reserved<T: Drop>(items: &mut Vec<T>, at: usize, item: T)
+    requires place { at ≤ vec_len items.old }
+    requires room { vec_len items.old < vec_capacity items.old }
+    ensures items { items.new.items ≡ insert items.old.items at item }
+    ensures len { vec_len items.new ≡ vec_len items.old + 1 }
+    ensures capacity { vec_capacity items.new ≡ vec_capacity items.old }
+{
+    if let Err(_refused) = items.insert(at, item) {}
+}
+
+/// Keeps these properties of the node. There is room for as many entries more.
+pub(crate) fn keep_all(entries: &mut Vec<(Key, Stored)>, node: NodeId, properties: &[Property])
+    requires order { IsInOrder entries.old.items }
+    requires room { vec_len entries.old + length properties.now ≤ vec_capacity entries.old }
+    ensures { entries.new.items ≡ keeping_all entries.old.items node properties.now }
+{
+    for property in properties {
+        keep(entries, (node, *property));
+    }
+}
+
+/// How many properties of the node are kept.
+pub(crate) fn count_of(entries: &[(Key, Stored)], node: NodeId) -> usize
+    ensures { result ≡ length (properties_among entries.now node) }
+{
+    let mut count = 0;
+    for &(key, _) in entries {
+        if key.0 == node {
+            count += 1;
+        }
+    }
+    count
+}
+
+/// How many properties of the node these add to those that are kept.
+pub(crate) fn count_missing(
+    entries: &[(Key, Stored)],
+    node: NodeId,
+    properties: &[Property],
+) -> usize
+    requires { IsInOrder entries.now }
+    ensures count { result + length (properties_among entries.now node)
+        ≡ distinct_count same_property (properties.now ++ properties_among entries.now node) }
+    ensures bound { result ≤ length properties.now }
+{
+    let mut missing = 0;
+    let mut rest = properties;
+    while let Some((property, later)) = rest.split_first() {
+        if is_missing(entries, node, property, later) {
+            missing += 1;
+        }
+        rest = later;
+    }
+    missing
+}
+
+// Whether the property is neither one of these nor kept.
+fn is_missing(
+    entries: &[(Key, Stored)],
+    node: NodeId,
+    property: &Property,
+    others: &[Property],
+) -> bool
+    requires { IsInOrder entries.now }
+    ensures { result ≡ not (is_member same_property (others.now ++ properties_among entries.now node) property.now) }
+{
+    !is_one_of(property, others) && stored_at(entries, &(node, *property)).is_none()
+}
+
+// Whether the property is one of these.
+fn is_one_of(property: &Property, properties: &[Property]) -> bool
+    ensures { result ≡ is_among properties.now property.now }
+{
+    for other in properties {
+        if property.cmp(other).is_eq() {
+            return true;
+        }
+    }
+    false
+}
+
+/// The properties of the node that have a value, in their order.
+pub(crate) fn held_of(
+    alloc: Global,
+    entries: &[(Key, Stored)],
+    node: NodeId,
+) -> Result<List<Held>, NoMemory>
+    ensures { IfOk result (λ held. held.items ≡ filter_map (held_at node) entries.now) }
+{
+    let mut held = List::new(alloc);
+    for &((owner, property), stored) in entries {
+        if owner == node && stored.has_value() {
+            held.push(Held { property, stored })?;
+        }
+    }
+    Ok(held)
+}

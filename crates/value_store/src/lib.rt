@@ -1,0 +1,17 @@
+//! What the host knows of the properties of its nodes: the value that a final report confirmed, and the value last
+//! heard in a report. The two never mix.
+//!
+//! It promises that what is kept is a finite map from node and property to these values, that a node has at most 512
+//! properties, and that a property that was reserved is confirmed without memory and without a refusal.
+//! The definitions stand in `specs/`: `Values` for the map, `ValueText` for its JSON, `Entries` for how it is kept.
+#![tactic(auto)]
+
+mod entries;
+mod json;
+mod store;
+mod stored;
+#[cfg(test)]
+mod tests;
+
+pub use store::{MAX_PROPERTIES, Store};
+pub use stored::{Held, StoreFault, Stored};
