@@ -5,3 +5,4 @@ pub mod Adding
 pub mod Ending
 pub mod Words
 pub mod FirstDevice
+pub mod Passing
