@@ -1,47 +1,34 @@
-use Rattle.std.proofs.Common.{rules, true, false, ◌≡◌, ◌⊎◌, ◌+◌, ◌^◌, ◌≤◌, ◌<◌, ℕ, [], ◌∷◌, ◌++◌, length, take, drop, map, slice_get, Option, Some, None, IsNone, IfSome, IfOk, OnOk, OnErr, ◌-◌, ◌*◌, ◌/◌, ◌%◌, Bool, nat_eq, nat_lt, List, slice_index_or, slice_set, bit_and, bit_or, Fits, w8, w32, w64, Bor, MutBor}
-use Rattle.std.specs.Option.{ForSome}
-use Rattle.supervision.specs.Session.{IsStatus, wire_id}
-use Rattle.device_sim.specs.Hearing.{report_text, takes}
-use Rattle.device_sim.specs.State.{shown_of, ticked}
-use Rattle.zw_laws.specs.Devices.{device_of}
-use Rattle.zw_laws.specs.Table.{switch, value_line, device_lines}
-use Rattle.zwave_console.specs.Run.{AddsTable}
-use Rattle.zwave_console.specs.Host.{opening_of, order_at, closing_of, told}
-use Rattle.zwave_console.specs.World.{ended_by, closing_entries, IsPumpedIfKnown, AddsLines}
-use Rattle.zwave_console.specs.Knows.{States, line_of, frame_of, machine_of, FirstSays, HearsNew, KnowsStamped, GoesUpTo}
-use Rattle.world_facts.specs.Goes.{Goes}
-use Rattle.world_facts.specs.Machine.{first_machine, GoesOn, Stops, Knows, AtEase}
-use Rattle.world_facts.specs.Work.{IsPumped}
-use Rattle.world_facts.specs.Units.{ack_unit, callback_unit, came_frame}
-use Rattle.world_facts.specs.Facts.{Holds}
-use Rattle.serial_frame.specs.Items.{unit_text}
-use Rattle.zw_text.specs.Line.{IsWithinRanges}
+use Rattle.std.proofs.Common.{[], ◌∷◌, refl, ◌∙◌}
+use Rattle.world_facts.proofs.GoesLemmas.{Goes-then}
+use Rattle.zwave_console.proofs.Passing.{ticks_echo, step_none, step_stops, set_rests, set_ends}
 use Rattle.zwave_console.proofs.world.World.step.Goals as goal
 
--- src/world.rt:152:17
 pub returns-in_err-order-in-Set-clause-stops : goal.returns-in_err-order-in-Set-clause-stops
-returns-in_err-order-in-Set-clause-stops g c = ?
+returns-in_err-order-in-Set-clause-stops g c = step_none _ c.args.line _ _ _ _ c.in_err-order-in-Set.ensures.none
 
--- src/world.rt:156:17
 pub returns-in_err-push-in-Tick-clause-stops : goal.returns-in_err-push-in-Tick-clause-stops
-returns-in_err-push-in-Tick-clause-stops g c = ?
+returns-in_err-push-in-Tick-clause-stops g c = step_none _ c.args.line _ _ _ _ c.in_err-push-in-Tick.ensures.err
 
--- src/world.rt:157:17
 pub loop-init : goal.loop-init
-loop-init g c = ?
+loop-init g c = record {
+  goes = λ before. ticks_echo before _ c.args.line c.in-Tick.count _ _ _ c.in-Tick.is c.in_ok-push-in-Tick.ensures.ok;
+  kept = refl;
+}
 
--- src/world.rt:158:21
 pub returns-in_err-tick-in-Tick-clause-stops : goal.returns-in_err-tick-in-Tick-clause-stops
-returns-in_err-tick-in-Tick-clause-stops g c = ?
+returns-in_err-tick-in-Tick-clause-stops g c =
+    step_stops _ c.args.line _ _ _ _ _ _ _ _ c.loop.invariant.goes c.in_err-tick-in-Tick.ensures.stops
 
--- src/world.rt:157:17
 pub loop-preserved : goal.loop-preserved
-loop-preserved g c = ?
+loop-preserved g c = record {
+  goes = λ before. Goes-then (c.args.line ∷ []) [] _ _ _ _ _ _ (c.loop.invariant.goes before) (c.in_ok-tick-in-Tick.ensures.goes before);
+  kept = c.in_ok-tick-in-Tick.ensures.kept ∙ c.loop.invariant.kept;
+}
 
--- src/world.rt:135:5
 pub returns-in_ok-order-in-Set-clause-goes : goal.returns-in_ok-order-in-Set-clause-goes
-returns-in_ok-order-in-Set-clause-goes g c = ?
+returns-in_ok-order-in-Set-clause-goes g c =
+    set_rests _ c.args.line _ _ _ _ _ _ _ _ c.in-Set.is c.in_ok-order-in-Set.ensures.goes c.come_to_rest.ensures.goes
 
--- src/world.rt:135:5
 pub returns-in_ok-order-in-Set-clause-stops : goal.returns-in_ok-order-in-Set-clause-stops
-returns-in_ok-order-in-Set-clause-stops g c = ?
+returns-in_ok-order-in-Set-clause-stops g c =
+    set_ends _ c.args.line _ _ _ _ _ _ _ c.in-Set.is c.in_ok-order-in-Set.ensures.goes c.come_to_rest.ensures.stops
