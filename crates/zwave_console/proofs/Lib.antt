@@ -9,3 +9,4 @@ pub mod Beginning
 pub mod Entering
 pub mod Arriving
 pub mod Judging
+pub mod Passing

@@ -152,7 +152,7 @@ impl World {
         match line {
             Line::Set { node, end, word } => {
                 self.order(line, &Order { node, end, word }, out)?;
-                self.settle(out)
+                self.come_to_rest(out)
             }
             Line::Tick { count } => {
                 out.push(Entry::Echo { line })?;
@@ -506,6 +506,15 @@ impl World {
             self.arrive(devices, draw, out)?;
         }
         tick_all(self.alloc, devices, draw)?;
+        self.come_to_rest(out)
+    }
+
+    // The world settles, with which the tick that is on is over.
+    fn come_to_rest(&mut self, out: &mut List<Entry>) -> Result<(), NoMemory>
+        ensures goes { OnOk result ((before devices : States) → Goes [] (Knows before (machine_of self.old) self.old.clock devices)
+            (AtEase before (machine_of self.new) devices) out.old.items out.new.items) }
+        ensures stops { OnErr result (Stops (machine_of self.old) out.old.items out.new.items) }
+    {
         self.settle(out)?;
         self.stamped = true;
         Ok(())
@@ -528,10 +537,13 @@ impl World {
         ensures same_clock { OnOk result (self.new.clock ≡ self.old.clock) }
         ensures kept { length devices.new.items ≡ length devices.old.items }
     {
-        let Some(flight) = self.air.land() else {
+        if self.air.flying() == 0 {
             return Ok(());
-        };
+        }
         self.stamp(out)?;
+        let Some(flight) = self.air.land() else {
+            unreachable!();
+        };
         if flight.receiver == self.controller {
             return self.arrive_at_controller(flight, out);
         }
@@ -577,6 +589,7 @@ impl World {
         }) }
         ensures entries { OnOk result ((callback : ℕ) → self.old.chip.busy ≡ Some callback →
             out.new.items ≡ out.old.items ++ Entry.Unheard flight.number ∷ Entry.Written Side.Chip (callback_unit callback 1) ∷ []) }
+        ensures quiet { OnOk result (AddsLines [] out.old.items out.new.items) }
         ensures none { OnErr result (out.new.items ≡ out.old.items) }
     {
         let callback = self.callback(TRANSMIT_NO_ACK)?;
@@ -616,6 +629,7 @@ impl World {
             ∷ Entry.Dev flight.receiver (By.Session session) (record { property = switch; value = value })
             ∷ Entry.Air (self.old.air.sent + 1) flight.receiver self.old.controller [] (report_text (wire_id session) SUCCESS)
             ∷ Entry.Written Side.Chip (callback_unit callback 0) ∷ []) }
+        ensures quiet { OnOk result (AddsLines [] out.old.items out.new.items) }
         ensures none { OnErr result (out.new.items ≡ out.old.items) }
         ensures cut { OnErr result ((session value : ℕ) → HearsNew flight.payload (state device.old) session value →
             (state device.new ≡ state device.old) ⊎ (state device.new ≡ takes (state device.old) session value)) }

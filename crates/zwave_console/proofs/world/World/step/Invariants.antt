@@ -1,6 +1,14 @@
-use Rattle.std.proofs.Common.{◌≡◌, [], ◌∷◌, length}
-use Rattle.zwave_console.specs.World.{AddsLines}
+use Rattle.std.proofs.Common.{◌≡◌, List, [], ◌∷◌, length, map}
+use Rattle.device_sim.specs.State.{State}
+use Rattle.world_facts.specs.Goes.{Goes}
+use Rattle.world_facts.specs.Machine.{AtEase}
+use Rattle.zwave_console.specs.Knows.{machine_of}
 use Rattle.zwave_console.proofs.world.World.step.Given as goal
 
 abbrev pub invariant-loop : goal.invariant-loop
-invariant-loop g l = AddsLines (l.fn.line ∷ []) l.fn.out.items l.out.items × (length l.devices.items ≡ length l.fn.devices.items)
+invariant-loop g l = record {
+  goes : (before : List State) →
+      Goes (l.fn.line ∷ []) (AtEase before (machine_of l.fn.self) (map (λ d. (goal.Device-dyn g (d.vtable, d.value)).state d.value) l.fn.devices.items))
+      (AtEase before (machine_of l.self) (map (λ d. (goal.Device-dyn g (d.vtable, d.value)).state d.value) l.devices.items)) l.fn.out.items l.out.items;
+  kept : length l.devices.items ≡ length l.fn.devices.items;
+}
