@@ -1,5 +1,5 @@
 -- Devices that tick one after another, the first device of a node, and what an arriving frame adds.
-use Rattle.std.proofs.Common.{◌≡◌, ℕ, zero, suc, ◌+◌, ◌<◌, ◌≤◌, List, [], ◌∷◌, ◌++◌, length, get_or, slice_get, map, take, drop, Some, None, Result, OnOk, sym, ap, ◌∙◌, add-one, append_assoc, append-nil, subst, arith}
+use Rattle.std.proofs.Common.{◌≡◌, ℕ, zero, suc, ◌+◌, ◌<◌, ◌≤◌, List, [], ◌∷◌, ◌++◌, length, get_or, slice_get, map, take, drop, Some, None, Result, OnOk, refl, sym, ap, ◌∙◌, add-one, append_assoc, append-nil, subst, arith}
 use Rattle.std.specs.List.{flat_map}
 use Rattle.std.proofs.Math.ListN.{set}
 use Rattle.std.proofs.Math.Seq.{map-set, map-set_same, drop-append_seam}
@@ -12,14 +12,16 @@ use Rattle.device_sim.specs.Hearing.{IsSupervisedSet, hears, takes, replies_of, 
 use Rattle.device_sim.specs.declared.change.Change.{Change}
 use Rattle.zw_laws.specs.Devices.{device_of}
 use Rattle.zw_text.specs.declared.entry.Entry.{Entry}
-use Rattle.zw_text.specs.declared.entry.Entry.TheVariants.{Air, Heard, Dev, Written}
+use Rattle.zw_text.specs.declared.entry.Entry.TheVariants.{Air, Heard, Unheard, Dev, Written}
 use Rattle.zw_text.specs.declared.entry.Side.TheVariants.{Chip}
+use Rattle.zw_text.specs.Transcript.{lines_run}
 use Rattle.zw_laws.specs.Table.{switch}
 use Rattle.zwave_console.specs.declared.air.Flight.{Flight}
 use Rattle.zwave_console.specs.declared.world.MadeBy.{MadeBy}
 use Rattle.zwave_console.specs.declared.world.World.{World}
 use Rattle.zwave_console.specs.Air.{Sky}
 use Rattle.zwave_console.specs.Knows.{HearsNew, frame_of, machine_of}
+use Rattle.zwave_console.specs.World.{AddsLines}
 use Rattle.zwave_console.specs.Arriving.{AllFit, air_entries, flights, settings_by}
 use Rattle.zwave_console.proofs.FirstDevice.{seen_at}
 
@@ -226,3 +228,20 @@ machine_heard self called answered new reserved replies node report unit called_
     ap (map frame_of) flying ∙ map-append frame_of self.air.flying (flight self.air.sent self.controller ∷ []) in
     ap machine_of whole
     ∙ (λ i. record (machine_of self) { busy = None; to_host = bytes i; sent = sent i; flying = frames i })
+
+-- the entries of changes show no line
+shows_no_line : (node : ℕ) (made : List MadeBy) → lines_run (map (λ (item : MadeBy). Dev node item.by item.setting) made) ≡ []
+shows_no_line node [] = refl
+shows_no_line node (item ∷ made) = shows_no_line node made
+
+pub hears_quietly : (old kept first settings : List Entry) (made : List MadeBy) (number node : ℕ) → kept ≡ old → first ≡ kept ++ Heard number ∷ []
+    → settings ≡ first ++ map (λ (item : MadeBy). Dev node item.by item.setting) made → AddsLines [] old settings
+hears_quietly old kept first settings made number node same one two = (
+  Heard number ∷ map (λ (item : MadeBy). Dev node item.by item.setting) made,
+  two ∙ (ap (λ (es : List Entry). es ++ map (λ (item : MadeBy). Dev node item.by item.setting) made) (one ∙ ap (λ (es : List Entry). es ++ Heard number ∷ []) same)
+      ∙ append_assoc old (Heard number ∷ []) (map (λ (item : MadeBy). Dev node item.by item.setting) made)),
+  shows_no_line node made,
+)
+
+pub unheard_quietly : (old kept first : List Entry) (number : ℕ) → kept ≡ old → first ≡ kept ++ Unheard number ∷ [] → AddsLines [] old first
+unheard_quietly old kept first number same one = (Unheard number ∷ [], one ∙ ap (λ (es : List Entry). es ++ Unheard number ∷ []) same, refl)

@@ -660,6 +660,7 @@ impl World {
         ensures sent { AllFit replies.now → self.new.air.sent ≡ self.old.air.sent + length replies.now }
         ensures flying { AllFit replies.now → self.new.air.flying ≡ self.old.air.flying
             ++ flights self.old.air.sent sender self.old.controller replies.now }
+        ensures quiet { AddsLines [] out.old.items out.new.items }
         ensures room { out.old.room ≤ out.new.room + 8 }
         ensures others { self.new ≡ record self.old { air = self.new.air } }
     {
@@ -686,6 +687,7 @@ impl World {
           payload = reply.now;
         } ∷ [] }
         ensures numbers { self.new.air.sent ≤ self.old.air.sent + 1 }
+        ensures quiet { AddsLines [] out.old.items out.new.items }
         ensures air_room { self.old.air.room ≤ self.new.air.room + 1 }
         ensures room { out.old.room ≤ out.new.room + 1 }
         ensures others { self.new ≡ record self.old { air = self.new.air } }
@@ -724,6 +726,7 @@ impl World {
         } }
         ensures bytes { (bytes : Items ℕ) → unit ≡ Some bytes → self.new.to_host.bytes ≡ self.old.to_host.bytes ++ bytes }
         ensures entries { (bytes : Items ℕ) → unit ≡ Some bytes → out.new.items ≡ out.old.items ++ Entry.Written Side.Chip bytes ∷ [] }
+        ensures quiet { AddsLines [] out.old.items out.new.items }
     {
         if let Some(unit) = unit {
             self.chip.done();

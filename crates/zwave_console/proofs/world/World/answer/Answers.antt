@@ -1,7 +1,8 @@
-use Rattle.std.proofs.Common.{◌≡◌, ◌≤◌, length, slice_get, Some, sym, ap, ◌∙◌, arith}
+use Rattle.std.proofs.Common.{◌≡◌, ◌≤◌, [], length, slice_get, Some, sym, ap, ◌∙◌, arith}
 use Rattle.std.specs.Option.{option_copied}
 use Rattle.zwave_console.specs.declared.world.World.{World}
 use Rattle.zwave_console.specs.Arriving.{AllFit}
+use Rattle.zwave_console.proofs.Adding.{AddsLines-append}
 use Rattle.zwave_console.proofs.Arriving.{enters_more, flies_more}
 use Rattle.zwave_console.proofs.world.World.answer.Goals as goal
 
@@ -22,5 +23,6 @@ loop-at-preserved c =
           omega (arith, one, so_far);
       flying = λ all. flies_more c.loop-at.self.air.sent c.args.sender c.args.self.now.controller c.loop-at.self.controller c.args.replies.now c.loop-at.at
           c.in-Some.reply.now at to _ _ _ _ (c.answer_one.ensures.sent (fits all)) (c.answer_one.ensures.flying (fits all)) (c.loop-at.invariant.flying all);
+      quiet = AddsLines-append [] [] _ _ _ c.loop-at.invariant.quiet c.answer_one.ensures.quiet;
       others = c.answer_one.ensures.others ∙ ap (λ (w : World). record w { air = c.answer_one.new.self.air }) c.loop-at.invariant.others;
     }

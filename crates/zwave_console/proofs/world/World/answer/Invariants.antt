@@ -1,4 +1,5 @@
-use Rattle.std.proofs.Common.{◌≡◌, ◌≤◌, ◌+◌, ◌++◌, drop}
+use Rattle.std.proofs.Common.{◌≡◌, ◌≤◌, ◌+◌, [], ◌++◌, drop}
+use Rattle.zwave_console.specs.World.{AddsLines}
 use Rattle.zwave_console.specs.Arriving.{AllFit, air_entries, flights}
 use Rattle.zwave_console.proofs.world.World.answer.Given as goal
 
@@ -12,5 +13,6 @@ invariant-loop-at l = record {
   sent : AllFit l.replies → l.self.air.sent ≡ l.fn.self.air.sent + l.at;
   flying : AllFit l.replies → l.self.air.flying ++ flights l.self.air.sent l.sender l.fn.self.controller (drop l.at l.replies)
       ≡ l.fn.self.air.flying ++ flights l.fn.self.air.sent l.sender l.fn.self.controller l.replies;
+  quiet : AddsLines [] l.fn.out.items l.out.items;
   others : l.self ≡ record l.fn.self { air = l.self.air };
 }

@@ -1,6 +1,7 @@
-use Rattle.std.proofs.Common.{ap, ◌∙◌}
+use Rattle.std.proofs.Common.{[], ap, ◌∙◌}
 use Rattle.zwave_console.specs.declared.world.World.{World}
-use Rattle.zwave_console.proofs.Arriving.{heard_takes, heard_replies, heard_makes, all_fit, enters_heard, machine_heard}
+use Rattle.zwave_console.proofs.Adding.{AddsLines-append}
+use Rattle.zwave_console.proofs.Arriving.{heard_takes, heard_replies, heard_makes, all_fit, enters_heard, machine_heard, hears_quietly}
 use Rattle.zwave_console.proofs.world.World.arrive_at_device.Goals as goal
 
 pub returns-clause-machine : goal.returns-clause-machine
@@ -27,3 +28,11 @@ returns-clause-entries g c callback session value busy new =
     made_is replies_are
     (c.reserve.ensures.sent ∙ ap (λ (w : World). w.air.sent) c.callback.ensures.others)
     (ap (λ (w : World). w.controller) c.callback.ensures.others)
+
+pub returns-clause-quiet : goal.returns-clause-quiet
+returns-clause-quiet g c =
+    AddsLines-append [] [] _ _ _
+    (AddsLines-append [] [] _ _ _
+        (hears_quietly _ _ _ _ c.in_ok-made.made.items c.args.flight.number c.args.flight.receiver c.reserve-2.ensures.items c.put.ensures.items c.enter_made.ensures.entries)
+        c.answer.ensures.quiet)
+    c.call_back.ensures.quiet
