@@ -1,9 +1,9 @@
 -- What chip and host judge keeps what is known of the world.
-use Rattle.std.proofs.Common.{◌≡◌, ◌⊎◌, ℕ, ◌+◌, ◌-◌, ◌<◌, ◌≤◌, true, false, Bool, List, [], ◌∷◌, ◌++◌, length, map, drop, Option, Some, None, Result, Ok, Err, OnOk, OnErr, refl, sym, ap, subst, ◌∙◌, inl, inr, append_assoc, arith}
+use Rattle.std.proofs.Common.{◌≡◌, ◌⊎◌, ℕ, ◌+◌, ◌-◌, ◌<◌, true, false, Bool, List, [], ◌∷◌, ◌++◌, length, map, drop, Option, Some, None, Result, Ok, Err, OnOk, OnErr, refl, sym, ap, subst, ◌∙◌, inl, inr, append_assoc, arith}
 use Rattle.std.specs.Prelude.{IsTrue, slice_get, option_map, ◌==◌, if◌then◌else◌}
 use Rattle.std.proofs.lemmas.List.{map-append}
 use Rattle.std.proofs.lemmas.Option.{slice_get-map}
-use Rattle.serial_frame.specs.declared.item.Item.{Item}
+use Rattle.serial_frame.specs.Stream.{Adds, Feeds}
 use Rattle.serial_frame.specs.declared.item.Item.TheVariants.{Good}
 use Rattle.serial_frame.specs.declared.unit.Unit.TheVariants.{Ack, Framed}
 use Rattle.supervision.specs.Session.{wire_id, IsStatus}
@@ -27,8 +27,8 @@ use Rattle.zw_laws.specs.Table.{switch}
 use Rattle.world_facts.specs.Units.{value_asked, ack_unit, take_unit, send_frame, response_frame, callback_frame, came_frame}
 use Rattle.world_facts.specs.Kept.{IsTaken}
 use Rattle.world_facts.specs.Machine.{Machine, Knows, GoesOn, Stops}
-use Rattle.world_facts.proofs.KnowsChip.{AsksFirst, ThanksFirst, chip_front}
-use Rattle.world_facts.proofs.KnowsHost.{ConfirmsFirst, TakesFirst, CallsFirst, BringsFirst, host_front}
+use Rattle.world_facts.proofs.KnowsChip.{Knows-chip_fed, AsksFirst, ThanksFirst, chip_front}
+use Rattle.world_facts.proofs.KnowsHost.{Knows-host_fed, ConfirmsFirst, TakesFirst, CallsFirst, BringsFirst, host_front}
 use Rattle.world_facts.proofs.GoesLemmas.{GoesOn-by, GoesOn-quietly, GoesOn-then, Stops-none, Stops-after}
 use Rattle.zwave_console.specs.Air.{Sky}
 use Rattle.zwave_console.specs.Chip.{ChipParts}
@@ -62,12 +62,6 @@ pub sent_as : (old before new : List Flight) (number number' sender receiver : �
 sent_as old before new number number' sender receiver payload payload' is same numbered copied =
     is ∙ (ap (λ (fs : List Flight). fs ++ record { number = number; sender = sender; receiver = receiver; payload = payload } ∷ []) same
     ∙ (λ i. old ++ record { number = numbered i; sender = sender; receiver = receiver; payload = copied i } ∷ []))
-
--- what is known of a machine and a transcript is known where they are told otherwise
-pub Knows-same : (before : List State) (m m' : Machine) (lived : ℕ) (devices : List State) (T T' : List Entry) → m ≡ m' → T ≡ T' → Knows before m lived devices T → Knows before m' lived devices T'
-Knows-same before m m' lived devices T T' same same' knows =
-    subst (λ (transcript : List Entry). Knows before m' lived devices transcript) same'
-    (subst (λ (machine : Machine). Knows before machine lived devices T) same knows)
 
 -- the machine once the chip has taken a SendData
 abbrev taken : World → ℕ → List ℕ → ℕ → Machine
@@ -144,7 +138,6 @@ takes-goes self chip pipe air receiver payload callback entries entries' some sa
     (takes-known self receiver payload callback some says stamped before devices lived T knows))
 
 -- facts of an answer Ok, and of an answer Err
-
 pub OnOk-from : {T E : Type 0} (r : Result T E) (P Q R : Type 0) → (P → Q → R) → OnOk r P → OnOk r Q → OnOk r R
 OnOk-from (Ok x) P Q R give p q = give p q
 OnOk-from (Err e) P Q R give p q = tt
@@ -154,7 +147,6 @@ OnErr-from (Ok x) P Q give p = tt
 OnErr-from (Err e) P Q give p = give p
 
 -- the chip wrote one thing and not another
-
 answered_is : (taken : ℕ) → Answered taken ≡ Acknowledged → ⊥
 answered_is taken same = cc
 
@@ -380,10 +372,12 @@ dropped-goes self host message entries some says no_answer no_callback no_report
   where
     dropped : Machine
     dropped = record (machine_of self) { host_items = drop 1 self.host.heard.items }
+
     is : machine_of (record self { host = host }) ≡ dropped
     is =
         ap (λ (h : HostParts). machine_of (record self { host = h })) others
         ∙ (λ i. record (machine_of self) { host_items = items i; host_rest = rest i })
+
     front : (before devices : List State) (lived : ℕ) (T : List Entry) → HostFront before devices (machine_of self) lived T → Knows before dropped lived devices T
     front before devices lived T (inl confirms) = confirms.then
     front before devices lived T (inr (inl takes)) = absurd (no_answer 1 (says (Good (Framed (response_frame 1))) (Answered 1) takes.is refl))
@@ -480,8 +474,10 @@ chip_dropped-goes self chip message entries some says no_request items rest busy
   where
     dropped : Machine
     dropped = record (machine_of self) { chip_items = drop 1 self.chip.heard.items }
+
     is : machine_of (record self { chip = chip }) ≡ dropped
     is = λ i. record (machine_of self) { chip_items = items i; chip_rest = rest i; busy = busy i }
+
     front : (before devices : List State) (lived : ℕ) (T : List Entry) → AsksFirst before devices (machine_of self) lived T ⊎ ThanksFirst before devices (machine_of self) lived T →
         Knows before dropped lived devices T
     front before devices lived T (inl asks) =
@@ -527,3 +523,28 @@ judges-taken r self w new x y z first more =
 -- no test is both true and false
 pub not_both : (test : Bool) → IsTrue test → test ≡ false → ⊥
 not_both test holds fails = cc
+
+-- the chip hears all that lies in its pipe
+pub chip_fed-goes : (self : World) (chip : ChipParts) (pipe : Flow) (piece : List ℕ) (entries : List Entry) →
+    Adds self.chip.heard.items chip.heard.items (Feeds self.chip.heard.rest piece chip.heard.rest) → piece ≡ self.to_chip.bytes → chip.busy ≡ self.chip.busy → pipe.bytes ≡ [] →
+    GoesOn (machine_of self) (machine_of (record self { chip = chip; to_chip = pipe })) entries entries
+chip_fed-goes self chip pipe piece entries heard whole busy none =
+    let after : Machine = record (machine_of self) { chip_items = chip.heard.items; chip_rest = chip.heard.rest; to_chip = [] } in
+    let is : machine_of (record self { chip = chip; to_chip = pipe }) ≡ after = λ i. record after { busy = busy i; to_chip = none i } in
+    subst (λ (m : Machine). GoesOn (machine_of self) m entries entries) (sym is)
+    (GoesOn-quietly (machine_of self) after entries refl
+    (λ before devices lived T knows. Knows-chip_fed before devices (machine_of self) lived T chip.heard.items chip.heard.rest knows
+    (subst (λ (bytes : List ℕ). Adds self.chip.heard.items chip.heard.items (Feeds self.chip.heard.rest bytes chip.heard.rest)) whole heard)))
+
+-- the host hears all that lies in its pipe
+pub host_fed-goes : (self : World) (host : HostParts) (pipe : Flow) (piece : List ℕ) (entries : List Entry) →
+    Adds self.host.heard.items host.heard.items (Feeds self.host.heard.rest piece host.heard.rest) → piece ≡ self.to_host.bytes → host ≡ record self.host { heard = host.heard } →
+    pipe.bytes ≡ [] → GoesOn (machine_of self) (machine_of (record self { host = host; to_host = pipe })) entries entries
+host_fed-goes self host pipe piece entries heard whole others none =
+    let after : Machine = record (machine_of self) { host_items = host.heard.items; host_rest = host.heard.rest; to_host = [] } in
+    let is : machine_of (record self { host = host; to_host = pipe }) ≡ after =
+    ap (λ (h : HostParts). machine_of (record self { host = h; to_host = pipe })) others ∙ (λ i. record after { to_host = none i }) in
+    subst (λ (m : Machine). GoesOn (machine_of self) m entries entries) (sym is)
+    (GoesOn-quietly (machine_of self) after entries refl
+    (λ before devices lived T knows. Knows-host_fed before devices (machine_of self) lived T host.heard.items host.heard.rest knows
+    (subst (λ (bytes : List ℕ). Adds self.host.heard.items host.heard.items (Feeds self.host.heard.rest bytes host.heard.rest)) whole heard)))

@@ -1,4 +1,4 @@
-use Rattle.std.proofs.Common.{◌∙◌, sym}
+use Rattle.std.proofs.Common.{◌∙◌}
 use Rattle.world_facts.proofs.GoesLemmas.{Stops-none}
 use Rattle.zwave_console.specs.Knows.{machine_of}
 use Rattle.zwave_console.proofs.Writing.{OnErr-always}
@@ -23,8 +23,8 @@ returns-else-is_idle-clause-goes c =
     judges-refused _ c.args.self.now c.stamp.new.self c.chip_refuses.new.self c.args.message c.in-SendData.node c.in-SendData.payload c.in-SendData.callback
     _ c.stamp.new.out.items _ c.requires.some c.requires.says c.in-SendData.is ok.others ok.goes
     (elim c.else-is_idle.branch [
-      else-is_idle-via-then-is_idle+else-number-eq-FIRST_NODE w ↦ λ idle of_node. w.if-number-eq-FIRST_NODE.false (w.number.ensures.value ∙ of_node)
-    | else-is_idle-via-else-is_idle w ↦ λ idle of_node. not_both _ (c.is_idle.ensures.1 idle) w.if-is_idle.false
+      | else-is_idle-via-then-is_idle+else-number-eq-FIRST_NODE w ↦ λ idle of_node. w.if-number-eq-FIRST_NODE.false (w.number.ensures.value ∙ of_node)
+      | else-is_idle-via-else-is_idle w ↦ λ idle of_node. not_both _ (c.is_idle.ensures.1 idle) w.if-is_idle.false
     ])
     c.chip_refuses.ensures.same_clock c.chip_refuses.ensures.quiet
 

@@ -1,12 +1,10 @@
-use Rattle.std.proofs.Common.{◌≡◌, ℕ, ◌+◌, List, [], ◌∷◌, ◌++◌, ap, refl, sym, append-nil, ◌∙◌}
-use Rattle.zw_text.specs.declared.entry.Entry.{Entry}
+use Rattle.std.proofs.Common.{ℕ, ◌+◌, List, [], ◌∷◌, ap, ◌∙◌}
 use Rattle.zw_text.specs.declared.entry.Entry.TheVariants.{Written, Air}
 use Rattle.zw_text.specs.declared.entry.Side.TheVariants.{Chip}
 use Rattle.serial_frame.specs.Items.{unit_text}
 use Rattle.serial_frame.specs.Frame.{FrameParts}
 use Rattle.serial_frame.specs.declared.unit.Unit.TheVariants.{Framed}
 use Rattle.world_facts.specs.Units.{ack_unit, take_unit}
-use Rattle.zwave_console.specs.declared.air.Flight.{Flight}
 use Rattle.zwave_console.specs.Chip.{ChipParts}
 use Rattle.zwave_console.proofs.Judging.{written_after, put_first, put_after, sent_as, takes-goes}
 use Rattle.zwave_console.proofs.world.World.chip_takes.Goals as goal
@@ -21,7 +19,7 @@ returns-clause-goes c =
     let first = put_first c.args.out.now.items _ _ _ (Written Chip ack_unit) c.put.ensures.items c.reserve-3.ensures.items (c.written.ensures ∙ ap (λ (unit : List ℕ). Written Chip unit) ack) in
     let second = put_after c.args.out.now.items _ _ (Written Chip ack_unit ∷ []) _ (Written Chip take_unit) c.put-2.ensures.items first (c.written-2.ensures ∙ ap (λ (unit : List ℕ). Written Chip unit) answer) in
     let third = put_after c.args.out.now.items _ _ (Written Chip ack_unit ∷ Written Chip take_unit ∷ []) _ (Air (c.args.self.now.air.sent + 1) c.args.self.now.controller c.args.receiver [] c.args.payload) c.put-3.ensures.items second
-        (c.on_air.ensures ∙ ap (λ (n : ℕ). Air n c.args.self.now.controller c.args.receiver [] c.args.payload) number) in
+    (c.on_air.ensures ∙ ap (λ (n : ℕ). Air n c.args.self.now.controller c.args.receiver [] c.args.payload) number) in
     takes-goes c.args.self.now c.take.new.self c.write-2.new.self c.send-frame.new.self c.args.receiver c.args.payload c.args.callback
     c.args.out.now.items c.put-3.new.self.items c.requires.some c.requires.says c.requires.stamped
     (ap (λ (chip : ChipParts). chip.heard.items) c.take.ensures ∙ c.drop_message.ensures.items)
