@@ -138,3 +138,11 @@ module _ (old new : Values) (node : ℕ) (p : Property) (reserved : Reserves old
       at_other false true true both x y z is = absurd (true≢false (sym both))
       at_other false true false both x y z is = is
       at_other false false s both x y z is = is
+
+-- setting a value keeps what was kept
+pub stay_set : (old : Values) (key : Key) (v : Stored) (n : ℕ) (p : Property) → IsReserved old n p → IsReserved (map.insert old key v) n p
+stay_set old key v n p kept = ap is_some (get-insert key_total old key v (n, p)) ∙ either (is_eq (key_cmp (n, p) key))
+  where
+    either : (b : Bool) → is_some (cond b (Some v) (map.get old (n, p))) ≡ true
+    either true = refl
+    either false = kept

@@ -69,7 +69,8 @@ impl Store {
     /// Sets the confirmed value of a property that is kept. It takes no memory.
     pub fn confirm(&mut self, node: NodeId, property: Property, value: u32)
         requires { IsReserved self.old node property }
-        ensures { self.new ≡ finmap.insert self.old (node, property) (record (stored_of self.old node property) { confirmed = Some value }) }
+        ensures set { self.new ≡ finmap.insert self.old (node, property) (record (stored_of self.old node property) { confirmed = Some value }) }
+        ensures stay { (n : ℕ) (p : PropertyValue) → IsReserved self.old n p → IsReserved self.new n p }
     {
         let key = (node, property);
         let stored = self.stored(&key);
@@ -90,6 +91,7 @@ impl Store {
         value: u32,
     ) -> Result<(), StoreFault>
         ensures ok { OnOk result (self.new ≡ finmap.insert self.old (node, property) (record (stored_of self.old node property) { heard = Some value })) }
+        ensures stay { OnOk result ((n : ℕ) (p : PropertyValue) → IsReserved self.old n p → IsReserved self.new n p) }
         ensures full { (result ≡ Err StoreFault.StoreFull) ↔ (512 < count_with self.old node (property ∷ [])) }
         ensures err { OnErr result (self.new ≡ self.old) }
     {

@@ -38,10 +38,11 @@ fn values_are_kept_apart(rt: HostRuntime) -> Result<(), Fail> {
     assert_eq!(rt; store.get(two, switch), None);
     assert!(rt; store.list(alloc, two)?.is_empty());
     store.confirm(two, switch, 255);
+    store.confirm(two, level, 50);
     assert_eq!(rt; store.hear_report(two, level, 99), Ok(()));
     let rows = [
         (2, switch, Some(values(Some(255), None))),
-        (2, level, Some(values(None, Some(99)))),
+        (2, level, Some(values(Some(50), Some(99)))),
         (2, of_root(Name::Lock), None),
         (3, switch, None),
     ];
@@ -56,7 +57,7 @@ fn values_are_kept_apart(rt: HostRuntime) -> Result<(), Fail> {
         },
         Held {
             property: level,
-            stored: values(None, Some(99)),
+            stored: values(Some(50), Some(99)),
         },
     ];
     assert_eq!(rt; store.list(alloc, two)?.as_slice(), held.as_slice());
