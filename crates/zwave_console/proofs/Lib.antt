@@ -6,3 +6,4 @@ pub mod Ending
 pub mod Words
 pub mod FirstDevice
 pub mod Passing
+pub mod Landing

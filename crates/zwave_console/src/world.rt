@@ -588,6 +588,7 @@ impl World {
         ensures entries { OnOk result ((callback : ℕ) → self.old.chip.busy ≡ Some callback →
             out.new.items ≡ out.old.items ++ Entry.Unheard flight.number ∷ Entry.Written Side.Chip (callback_unit callback 1) ∷ []) }
         ensures quiet { OnOk result (AddsLines [] out.old.items out.new.items) }
+        ensures same_clock { OnOk result (self.new.clock ≡ self.old.clock) }
         ensures none { OnErr result (out.new.items ≡ out.old.items) }
     {
         let callback = self.callback(TRANSMIT_NO_ACK)?;
@@ -611,23 +612,24 @@ impl World {
             state device.new ≡ takes (state device.old) session value) }
         ensures machine { OnOk result ((callback session value : ℕ) → self.old.chip.busy ≡ Some callback →
             HearsNew flight.payload (state device.old) session value → machine_of self.new ≡ record (machine_of self.old) {
-          flying = map frame_of self.old.air.flying ++ record {
-            number = self.old.air.sent + 1;
-            sender = flight.receiver;
-            receiver = self.old.controller;
-            repeaters = [];
-            payload = report_text (wire_id session) SUCCESS;
-          } ∷ [];
-          sent = self.old.air.sent + 1;
-          busy = None;
-          to_host = self.old.to_host.bytes ++ callback_unit callback 0;
-        }) }
+              flying = map frame_of self.old.air.flying ++ record {
+                number = self.old.air.sent + 1;
+                sender = flight.receiver;
+                receiver = self.old.controller;
+                repeaters = [];
+                payload = report_text (wire_id session) SUCCESS;
+              } ∷ [];
+              sent = self.old.air.sent + 1;
+              busy = None;
+              to_host = self.old.to_host.bytes ++ callback_unit callback 0;
+            }) }
         ensures entries { OnOk result ((callback session value : ℕ) → self.old.chip.busy ≡ Some callback →
             HearsNew flight.payload (state device.old) session value → out.new.items ≡ out.old.items ++ Entry.Heard flight.number
             ∷ Entry.Dev flight.receiver (By.Session session) (record { property = switch; value = value })
             ∷ Entry.Air (self.old.air.sent + 1) flight.receiver self.old.controller [] (report_text (wire_id session) SUCCESS)
             ∷ Entry.Written Side.Chip (callback_unit callback 0) ∷ []) }
         ensures quiet { OnOk result (AddsLines [] out.old.items out.new.items) }
+        ensures same_clock { OnOk result (self.new.clock ≡ self.old.clock) }
         ensures none { OnErr result (out.new.items ≡ out.old.items) }
         ensures cut { OnErr result ((session value : ℕ) → HearsNew flight.payload (state device.old) session value →
             (state device.new ≡ state device.old) ⊎ (state device.new ≡ takes (state device.old) session value)) }
