@@ -10,3 +10,4 @@ pub mod Entering
 pub mod Arriving
 pub mod Judging
 pub mod Passing
+pub mod Landing

@@ -1,8 +1,8 @@
 -- Orders, ticks and what arrives, as events of which the facts speak: over plain variables.
-use Rattle.std.proofs.Common.{◌≡◌, ◌≢◌, ◌⊎◌, ◌↔◌, ℕ, ◌+◌, true, false, List, [], ◌∷◌, ◌++◌, length, map, take, drop, set, slice_get, option_map, Option, Some, None, Result, Ok, Err, IsErrOf, OnOk, OnErr, refl, sym, ap, subst, ◌∙◌, inl, inr, arith, append_assoc}
+use Rattle.std.proofs.Common.{◌≡◌, ◌≢◌, ℕ, ◌+◌, true, false, List, [], ◌∷◌, ◌++◌, length, map, take, drop, Result, Ok, Err, IsErrOf, OnOk, OnErr, refl, sym, ap, subst, ◌∙◌, inl, inr, append_assoc}
 use Rattle.std.proofs.lemmas.Bool.Decides.{eqb_tells}
 use Rattle.std.proofs.lemmas.List.{length-map, map-append}
-use Rattle.device_sim.specs.State.{State, ticked}
+use Rattle.device_sim.specs.State.{ticked}
 use Rattle.zw_text.specs.declared.line.Line.{Line}
 use Rattle.zw_text.specs.declared.line.Line.TheVariants.{Set, Tick}
 use Rattle.zw_text.specs.declared.line.Word.{Word}
@@ -162,7 +162,7 @@ OnErr-map (Err e) P Q f p = f p
 
 module _ (before devices : States) where
   -- what is known holds where want of memory ends the run
-  knows_holds : (m : Machine) (lived : ℕ) (T : List Entry) → Knows before m lived devices T → Holds false before devices T
+  pub knows_holds : (m : Machine) (lived : ℕ) (T : List Entry) → Knows before m lived devices T → Holds false before devices T
   knows_holds m lived T knows = Holds-held before devices T (Held-knows before devices m lived T knows)
 
   -- an event that leaves the entries as they were

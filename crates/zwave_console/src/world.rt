@@ -590,6 +590,7 @@ impl World {
         ensures entries { OnOk result ((callback : ℕ) → self.old.chip.busy ≡ Some callback →
             out.new.items ≡ out.old.items ++ Entry.Unheard flight.number ∷ Entry.Written Side.Chip (callback_unit callback 1) ∷ []) }
         ensures quiet { OnOk result (AddsLines [] out.old.items out.new.items) }
+        ensures same_clock { OnOk result (self.new.clock ≡ self.old.clock) }
         ensures none { OnErr result (out.new.items ≡ out.old.items) }
     {
         let callback = self.callback(TRANSMIT_NO_ACK)?;
@@ -630,6 +631,7 @@ impl World {
             ∷ Entry.Air (self.old.air.sent + 1) flight.receiver self.old.controller [] (report_text (wire_id session) SUCCESS)
             ∷ Entry.Written Side.Chip (callback_unit callback 0) ∷ []) }
         ensures quiet { OnOk result (AddsLines [] out.old.items out.new.items) }
+        ensures same_clock { OnOk result (self.new.clock ≡ self.old.clock) }
         ensures none { OnErr result (out.new.items ≡ out.old.items) }
         ensures cut { OnErr result ((session value : ℕ) → HearsNew flight.payload (state device.old) session value →
             (state device.new ≡ state device.old) ⊎ (state device.new ≡ takes (state device.old) session value)) }

@@ -1,4 +1,4 @@
-use Rattle.std.proofs.Common.{refl, ap, ◌∙◌, Err}
+use Rattle.std.proofs.Common.{ap, ◌∙◌, Err}
 use Rattle.zwave_console.proofs.Passing.{order_accepted, order_refused, two_entries, ok_no_err}
 use Rattle.zwave_console.proofs.world.World.order.Goals as goal
 use Rattle.zwave_console.proofs.world.World.order.Goals.{in-Ok, in-Err-As}

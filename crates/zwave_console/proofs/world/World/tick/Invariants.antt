@@ -1,4 +1,4 @@
-use Rattle.std.proofs.Common.{◌≡◌, ◌+◌, ℕ, List, [], ◌∷◌, length, map}
+use Rattle.std.proofs.Common.{◌≡◌, ◌+◌, List, [], length, map}
 use Rattle.device_sim.specs.State.{State}
 use Rattle.world_facts.specs.Goes.{Goes}
 use Rattle.world_facts.specs.Machine.{Knows, AtEase}
