@@ -1,9 +1,13 @@
 -- The lines of an input that were run so far, and how they go on.
-use Rattle.std.proofs.Common.{◌≡◌, inl, inr, ℕ, ◌+◌, List, [], ◌∷◌, ◌++◌, length, length-append, Option, Some, None, refl, ap, sym, subst, ◌∙◌, append_assoc, append-nil, arith}
+use Rattle.std.proofs.Common.{◌≡◌, ◌⊎◌, inl, inr, ℕ, ◌+◌, ◌==◌, true, List, [], ◌∷◌, ◌++◌, length, length-append, Option, Some, None, refl, ap, sym, subst, ◌∙◌, append_assoc, append-nil, arith}
 use Rattle.std.specs.Io.KnownBytes.{Appends}
+use Rattle.std.proofs.lemmas.Bool.Decides.{nat_tests}
 use Rattle.std.proofs.lemmas.Grind.{flat_map-append}
 use Rattle.zw_text.specs.declared.line.Line.{Line}
+use Rattle.zw_text.specs.declared.fault.LineFault.{LineFault}
 use Rattle.zw_text.specs.declared.fault.LineFault.TheVariants.{Unknown}
+use Rattle.zw_text.specs.declared.fault.ReadLineFault.{ReadLineFault}
+use Rattle.zw_text.specs.declared.fault.ReadLineFault.TheVariants.{Bad as ReadBad, NoMemory as ReadNoMemory}
 use Rattle.zw_text.specs.declared.entry.Entry.{Entry}
 use Rattle.zw_text.specs.Entry.{text_of, line_text}
 use Rattle.zw_text.specs.Line.{LineText}
@@ -63,9 +67,9 @@ Appends-same None = tt
 Appends-same (Some x) = sym (append-nil x)
 
 -- all lines were run
-pub LinesRan-all : {number : ℕ} {input : List ℕ} {old new : Machine} {devices devices' : States} {sink sink' : Option (List ℕ)} →
-    RunsOn number input [] old new devices devices' sink sink' → LinesRan All input old new devices devices' sink sink'
-LinesRan-all {input = input} so_far = record {
+pub LinesRan-all : {number : ℕ} {input rest : List ℕ} {old new : Machine} {devices devices' : States} {sink sink' : Option (List ℕ)} →
+    RunsOn number input rest old new devices devices' sink sink' → true ≡ (length rest == 0) → LinesRan All input old new devices devices' sink sink'
+LinesRan-all {rest = []} so_far none = record {
   transcript = so_far.transcript;
   lines = so_far.lines;
   shown = so_far.shown;
@@ -73,6 +77,18 @@ LinesRan-all {input = input} so_far = record {
   known = so_far.known;
   written = so_far.written;
 }
+LinesRan-all {rest = byte ∷ rest} so_far none = absurd (grind (arith, nat_tests))
+
+abbrev fault_of : ReadLineFault → LineFault
+fault_of (ReadBad fault) = fault
+fault_of ReadNoMemory = Unknown
+
+-- where a text is no line, it is of an unknown word
+unknown_word : (fault : LineFault) (found : ReadLineFault) → found ≡ ReadBad fault → (found ≡ ReadNoMemory) ⊎ (found ≡ ReadBad Unknown) → fault ≡ Unknown
+unknown_word fault found is either = sym (ap fault_of is) ∙ elim either [
+  | inl no_memory ↦ ap fault_of no_memory
+  | inr unknown ↦ ap fault_of unknown
+]
 
 -- some lines were run, and a line follows or a text that is none
 module _ {number : ℕ} {input rest : List ℕ} {old mid : Machine} {devices devices' : States} {sink sink' : Option (List ℕ)}
@@ -104,8 +120,10 @@ module _ {number : ℕ} {input rest : List ℕ} {old mid : Machine} {devices dev
   }
 
   -- a text is no line
-  pub LinesRan-bad : ((line : Line) → LineText text line → ⊥) → LinesRan (Bad (number + 1) Unknown) input old mid devices devices' sink sink'
-  LinesRan-bad none = record {
+  pub LinesRan-bad : (named fault : LineFault) (found : ReadLineFault) → named ≡ fault → found ≡ ReadBad fault →
+      (found ≡ ReadNoMemory) ⊎ (found ≡ ReadBad Unknown) → (found ≡ ReadBad Unknown → (line : Line) → LineText text line → ⊥) →
+      LinesRan (Bad (number + 1) named) input old mid devices devices' sink sink'
+  LinesRan-bad named fault found same is either none = record {
     transcript = so_far.transcript;
     lines = so_far.lines;
     shown = so_far.shown;
@@ -117,9 +135,9 @@ module _ {number : ℕ} {input rest : List ℕ} {old mid : Machine} {devices dev
         parts = so_far.parts ∙ ap (λ (ls : List (List ℕ)). so_far.front ++ ls) cut;
         read = so_far.read;
         place = let n : number ≡ length so_far.front = so_far.count in omega arith;
-        unread = none;
+        unread = none (is ∙ ap (λ (f : LineFault). ReadBad f) (unknown_word fault found is either));
       },
-      refl,
+      same ∙ unknown_word fault found is either,
     );
     known = so_far.known;
     written = so_far.written;
