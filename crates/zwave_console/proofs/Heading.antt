@@ -6,7 +6,6 @@ use Rattle.zw_text.specs.declared.entry.Entry.{Entry}
 use Rattle.zw_text.specs.Entry.{text_of}
 use Rattle.zw_text.specs.Transcript.{lines_run}
 use Rattle.zw_laws.specs.Headline.{Headline}
-use Rattle.zw_laws.specs.Table.{table_of}
 use Rattle.world_facts.specs.Facts.{Holds}
 use Rattle.world_facts.specs.Goes.{Goes}
 use Rattle.world_facts.specs.Machine.{Machine, AtEase, first_machine}

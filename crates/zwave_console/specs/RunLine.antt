@@ -9,8 +9,8 @@ use Rattle.world_facts.specs.Machine.{Machine, AtEase}
 use Rattle.zwave_console.specs.Knows.{States}
 use Rattle.zwave_console.specs.Output.{AppendsFront}
 
--- the line was run, and what was known of every transcript before it is known of that transcript with its entries. Their
--- text was written so
+-- the line was run, with entries whose text was written so: what was known of every transcript before them is known of it
+-- with them
 pub record LineRan (line : Line) (old new : Machine) (devices devices' : States) (IsWritten : List ℕ → Type 0) : Type 0 where
   pub entries : List Entry
   pub shown : lines_run entries ≡ line ∷ []
@@ -18,7 +18,8 @@ pub record LineRan (line : Line) (old new : Machine) (devices devices' : States)
       AtEase before new devices' (transcript ++ entries)
   pub written : IsWritten (text_of entries)
 
--- the line was run in part or not at all, and a front of its entries was written
+-- the line was run in part or not at all, and a front of its entries' text was written: of every transcript before them of
+-- which the facts were known, what the headline says holds with them, as of a run that was cut short
 pub record LineStopped (line : Line) (old : Machine) (devices devices' : States) (sink sink' : Option (List ℕ)) : Type 0 where
   pub entries : List Entry
   pub shown : (lines_run entries ≡ []) ⊎ (lines_run entries ≡ line ∷ [])

@@ -1,6 +1,6 @@
 //! The top call: a command, from its words to its status.
 
-ghost use Rattle.std.specs.Prelude.{◌≡◌, ◌≢◌, ◌⊎◌, ◌^◌, ◌<◌, ◌≤◌, ◌↔◌, ℕ, [], ◌∷◌, length, map, IfSome, IsTrue, slice_index, OnOk, OnErr, IsErrOf};
+ghost use Rattle.std.specs.Prelude.{◌≡◌, ◌≢◌, ◌^◌, ◌<◌, ◌≤◌, ◌↔◌, ℕ, [], ◌∷◌, length, map, IfSome, IsTrue, slice_index, OnOk, OnErr, IsErrOf};
 ghost use Rattle.std.specs.Io.KnownBytes.{Appends, Keeps, IsAtEnd};
 ghost use Rattle.zw_base.specs.Faults.{Rose};
 ghost use Rattle.zw_laws.specs.Lines.{lines_of};
@@ -178,7 +178,8 @@ fn line_end(bytes: &[u8]) -> usize
     bytes.len()
 }
 
-// Runs a line, and writes what it did. Where there was no memory to run it whole, it is of no account that the write failed.
+// Runs a line, and writes what it did. Want of memory is told even where the write failed too: a write that failed speaks
+// of a line that was run whole.
 fn run_line<K: Sink, D: Draw>(
     alloc: Global,
     line: Line,
