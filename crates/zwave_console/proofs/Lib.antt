@@ -1,5 +1,6 @@
 pub mod Cutting
 pub mod Writing
+pub mod Heading
 pub mod Running
 pub mod Adding
 pub mod Ending

@@ -1,22 +1,29 @@
 -- The lines of an input that were run so far, and how they go on.
-use Rattle.std.proofs.Common.{◌≡◌, inl, inr, ℕ, ◌+◌, List, [], ◌∷◌, ◌++◌, length, length-append, Option, Some, None, refl, ap, sym, subst, ◌∙◌, append_assoc, append-nil, arith}
+use Rattle.std.proofs.Common.{◌≡◌, ◌⊎◌, inl, inr, ℕ, ◌+◌, ◌==◌, true, List, [], ◌∷◌, ◌++◌, length, length-append, Option, Some, None, refl, ap, sym, subst, ◌∙◌, append_assoc, append-nil, arith}
 use Rattle.std.specs.Io.KnownBytes.{Appends}
+use Rattle.std.proofs.lemmas.Bool.Decides.{nat_tests}
 use Rattle.std.proofs.lemmas.Grind.{flat_map-append}
 use Rattle.zw_text.specs.declared.line.Line.{Line}
+use Rattle.zw_text.specs.declared.fault.LineFault.{LineFault}
 use Rattle.zw_text.specs.declared.fault.LineFault.TheVariants.{Unknown}
+use Rattle.zw_text.specs.declared.fault.ReadLineFault.{ReadLineFault}
+use Rattle.zw_text.specs.declared.fault.ReadLineFault.TheVariants.{Bad as ReadBad, NoMemory as ReadNoMemory}
 use Rattle.zw_text.specs.declared.entry.Entry.{Entry}
 use Rattle.zw_text.specs.Entry.{text_of, line_text}
 use Rattle.zw_text.specs.Line.{LineText}
 use Rattle.zw_text.specs.Transcript.{lines_run, line_of}
 use Rattle.zw_laws.specs.Lines.{lines_of, AreLines, AreFirstLines}
+use Rattle.world_facts.specs.Machine.{Machine, AtEase}
+use Rattle.zwave_console.specs.Knows.{States}
 use Rattle.zwave_console.specs.Output.{AppendsFront}
 use Rattle.zwave_console.specs.Run.{LinesRan}
 use Rattle.zwave_console.specs.RunLine.{LineRan, LineStopped}
 use Rattle.zwave_console.specs.declared.run.LinesEnd.TheVariants.{All, Bad, Failed, NoMemory}
-use Rattle.zwave_console.proofs.Writing.{Appends-append, AppendsFront-append}
+use Rattle.zwave_console.proofs.Heading.{Holds-cut}
+use Rattle.zwave_console.proofs.Writing.{Appends-append, AppendsFront-append, AppendsFront-whole}
 
 -- these many lines were run of the input, of which this rest is left
-pub record RunsOn (number : ℕ) (input rest : List ℕ) (old new : Option (List ℕ)) : Type 0 where
+pub record RunsOn (number : ℕ) (input rest : List ℕ) (old new : Machine) (devices devices' : States) (sink sink' : Option (List ℕ)) : Type 0 where
   pub transcript : List Entry
   pub lines : List Line
   pub front : List (List ℕ)
@@ -24,7 +31,8 @@ pub record RunsOn (number : ℕ) (input rest : List ℕ) (old new : Option (List
   pub read : AreLines front lines
   pub count : number ≡ length front
   pub shown : lines_run transcript ≡ lines
-  pub written : Appends old new (text_of transcript)
+  pub known : (before : States) → AtEase before old devices [] → AtEase before new devices' transcript
+  pub written : Appends sink sink' (text_of transcript)
 
 pub AreLines-append : (front : List (List ℕ)) (lines : List Line) (text : List ℕ) (line : Line) → AreLines front lines → LineText text line
     → AreLines (front ++ text ∷ []) (lines ++ line ∷ [])
@@ -40,8 +48,9 @@ text_of-append : (xs ys : List Entry) → text_of (xs ++ ys) ≡ text_of xs ++ t
 text_of-append xs ys = flat_map-append line_text xs ys
 
 -- nothing was run yet
-pub RunsOn-start : (input : List ℕ) (old : Option (List ℕ)) → Appends old old [] → RunsOn 0 input input old old
-RunsOn-start input old same = record {
+pub RunsOn-start : (input : List ℕ) (machine : Machine) (devices : States) (sink : Option (List ℕ)) → Appends sink sink [] →
+    RunsOn 0 input input machine machine devices devices sink sink
+RunsOn-start input machine devices sink same = record {
   transcript = [];
   lines = [];
   front = [];
@@ -49,116 +58,149 @@ RunsOn-start input old same = record {
   read = tt;
   count = refl;
   shown = refl;
+  known = λ before ease. ease;
   written = same;
-}
-
--- one more line was run
-pub RunsOn-more : (number : ℕ) (input rest : List ℕ) (old mid : Option (List ℕ)) (text after : List ℕ) (line : Line) (new : Option (List ℕ))
-    → RunsOn number input rest old mid → lines_of rest ≡ text ∷ lines_of after → LineText text line → LineRan line mid new
-    → RunsOn (number + 1) input after old new
-RunsOn-more number input rest old mid text after line new so_far cut is_line ran = record {
-  transcript = so_far.transcript ++ ran.entries;
-  lines = so_far.lines ++ line ∷ [];
-  front = so_far.front ++ text ∷ [];
-  parts = so_far.parts ∙ ap (λ (ls : List (List ℕ)). so_far.front ++ ls) cut ∙ sym (append_assoc so_far.front (text ∷ []) (lines_of after));
-  read = AreLines-append so_far.front so_far.lines text line so_far.read is_line;
-  count = let n : number ≡ length so_far.front = so_far.count in omega (arith, length-append so_far.front (text ∷ []));
-  shown = lines_run-append so_far.transcript ran.entries ∙ ap (λ (ls : List Line). ls ++ lines_run ran.entries) so_far.shown
-      ∙ ap (λ (ls : List Line). so_far.lines ++ ls) ran.shown;
-  written = subst (λ (bytes : List ℕ). Appends old new bytes) (sym (text_of-append so_far.transcript ran.entries))
-      (Appends-append old mid new (text_of so_far.transcript) (text_of ran.entries) so_far.written ran.written);
-}
-
--- all lines were run
-pub LinesRan-all : (number : ℕ) (input : List ℕ) (old new : Option (List ℕ)) → RunsOn number input [] old new → LinesRan All input old new
-LinesRan-all number input old new so_far = record {
-  transcript = so_far.transcript;
-  lines = so_far.lines;
-  shown = so_far.shown;
-  ended = subst (λ (texts : List (List ℕ)). AreLines texts so_far.lines) (sym (so_far.parts ∙ append-nil so_far.front)) so_far.read;
-  written = so_far.written;
-}
-
--- a text is no line
-pub LinesRan-bad : (number : ℕ) (input rest : List ℕ) (old new : Option (List ℕ)) (text after : List ℕ)
-    → RunsOn number input rest old new → lines_of rest ≡ text ∷ lines_of after → ((line : Line) → LineText text line → ⊥)
-    → LinesRan (Bad (number + 1) Unknown) input old new
-LinesRan-bad number input rest old new text after so_far cut none = record {
-  transcript = so_far.transcript;
-  lines = so_far.lines;
-  shown = so_far.shown;
-  ended = (
-    record {
-      front = so_far.front;
-      bad = text;
-      rest = lines_of after;
-      parts = so_far.parts ∙ ap (λ (ls : List (List ℕ)). so_far.front ++ ls) cut;
-      read = so_far.read;
-      place = let n : number ≡ length so_far.front = so_far.count in omega arith;
-      unread = none;
-    },
-    refl,
-  );
-  written = so_far.written;
 }
 
 pub Appends-same : (a : Option (List ℕ)) → Appends a a []
 Appends-same None = tt
 Appends-same (Some x) = sym (append-nil x)
 
--- a run that stops in a line, with what was written of it
-pub record StopsIn (input : List ℕ) (old new : Option (List ℕ)) : Type 0 where
-  pub transcript : List Entry
-  pub lines : List Line
-  pub shown : lines_run transcript ≡ lines
-  pub first : AreFirstLines (lines_of input) lines
-  pub written : AppendsFront old new (text_of transcript)
+-- all lines were run
+pub LinesRan-all : {number : ℕ} {input rest : List ℕ} {old new : Machine} {devices devices' : States} {sink sink' : Option (List ℕ)} →
+    RunsOn number input rest old new devices devices' sink sink' → true ≡ (length rest == 0) → LinesRan All input old new devices devices' sink sink'
+LinesRan-all {rest = []} so_far none = record {
+  transcript = so_far.transcript;
+  lines = so_far.lines;
+  shown = so_far.shown;
+  ended = subst (λ (texts : List (List ℕ)). AreLines texts so_far.lines) (sym (so_far.parts ∙ append-nil so_far.front)) so_far.read;
+  known = so_far.known;
+  written = so_far.written;
+}
+LinesRan-all {rest = byte ∷ rest} so_far none = absurd (grind (arith, nat_tests))
 
-pub StopsIn-line : (number : ℕ) (input rest : List ℕ) (old mid new : Option (List ℕ)) (text after : List ℕ) (line : Line)
-    → RunsOn number input rest old mid → lines_of rest ≡ text ∷ lines_of after → LineText text line → LineStopped line mid new
-    → StopsIn input old new
-StopsIn-line number input rest old mid new text after line so_far cut is_line stopped =
-    let written : AppendsFront old new (text_of (so_far.transcript ++ stopped.entries)) =
-    subst (λ (bytes : List ℕ). AppendsFront old new bytes) (sym (text_of-append so_far.transcript stopped.entries))
-    (AppendsFront-append old mid new (text_of so_far.transcript) (text_of stopped.entries) so_far.written stopped.written) in
-    elim stopped.shown [
+abbrev fault_of : ReadLineFault → LineFault
+fault_of (ReadBad fault) = fault
+fault_of ReadNoMemory = Unknown
+
+-- where a text is no line, it is of an unknown word
+unknown_word : (fault : LineFault) (found : ReadLineFault) → found ≡ ReadBad fault → (found ≡ ReadNoMemory) ⊎ (found ≡ ReadBad Unknown) → fault ≡ Unknown
+unknown_word fault found is either = sym (ap fault_of is) ∙ elim either [
+  | inl no_memory ↦ ap fault_of no_memory
+  | inr unknown ↦ ap fault_of unknown
+]
+
+-- some lines were run, and a line follows or a text that is none
+module _ {number : ℕ} {input rest : List ℕ} {old mid : Machine} {devices devices' : States} {sink sink' : Option (List ℕ)}
+    (so_far : RunsOn number input rest old mid devices devices' sink sink') (text after : List ℕ) (cut : lines_of rest ≡ text ∷ lines_of after) where
+  parts_more : lines_of input ≡ (so_far.front ++ text ∷ []) ++ lines_of after
+  parts_more =
+      so_far.parts ∙ ap (λ (ls : List (List ℕ)). so_far.front ++ ls) cut ∙ sym (append_assoc so_far.front (text ∷ []) (lines_of after))
+
+  shown_more : (entries : List Entry) (lines : List Line) → lines_run entries ≡ lines → lines_run (so_far.transcript ++ entries) ≡ so_far.lines ++ lines
+  shown_more entries lines shown =
+      lines_run-append so_far.transcript entries ∙ ap (λ (ls : List Line). ls ++ lines_run entries) so_far.shown
+      ∙ ap (λ (ls : List Line). so_far.lines ++ ls) shown
+
+  front_more : (sink'' : Option (List ℕ)) (entries : List Entry) → AppendsFront sink' sink'' (text_of entries) →
+      AppendsFront sink sink'' (text_of (so_far.transcript ++ entries))
+  front_more sink'' entries written =
+      subst (λ (bytes : List ℕ). AppendsFront sink sink'' bytes) (sym (text_of-append so_far.transcript entries))
+      (AppendsFront-append sink sink' sink'' (text_of so_far.transcript) (text_of entries) so_far.written written)
+
+  first_so_far : AreFirstLines (lines_of input) so_far.lines
+  first_so_far = record { front = so_far.front; rest = lines_of rest; parts = so_far.parts; read = so_far.read }
+
+  first_more : (line : Line) → LineText text line → AreFirstLines (lines_of input) (so_far.lines ++ line ∷ [])
+  first_more line is_line = record {
+    front = so_far.front ++ text ∷ [];
+    rest = lines_of after;
+    parts = parts_more;
+    read = AreLines-append so_far.front so_far.lines text line so_far.read is_line;
+  }
+
+  -- a text is no line
+  pub LinesRan-bad : (named fault : LineFault) (found : ReadLineFault) → named ≡ fault → found ≡ ReadBad fault →
+      (found ≡ ReadNoMemory) ⊎ (found ≡ ReadBad Unknown) → (found ≡ ReadBad Unknown → (line : Line) → LineText text line → ⊥) →
+      LinesRan (Bad (number + 1) named) input old mid devices devices' sink sink'
+  LinesRan-bad named fault found same is either none = record {
+    transcript = so_far.transcript;
+    lines = so_far.lines;
+    shown = so_far.shown;
+    ended = (
+      record {
+        front = so_far.front;
+        bad = text;
+        rest = lines_of after;
+        parts = so_far.parts ∙ ap (λ (ls : List (List ℕ)). so_far.front ++ ls) cut;
+        read = so_far.read;
+        place = let n : number ≡ length so_far.front = so_far.count in omega arith;
+        unread = none (is ∙ ap (λ (f : LineFault). ReadBad f) (unknown_word fault found is either));
+      },
+      same ∙ unknown_word fault found is either,
+    );
+    known = so_far.known;
+    written = so_far.written;
+  }
+
+  -- there is no memory to read the text
+  pub LinesRan-unread : LinesRan NoMemory input old mid devices devices' sink sink'
+  LinesRan-unread = record {
+    transcript = so_far.transcript;
+    lines = so_far.lines;
+    shown = so_far.shown;
+    ended = first_so_far;
+    known = λ before ease. Holds-cut before mid devices' so_far.transcript (so_far.known before ease);
+    written = subst (λ (bytes : List ℕ). AppendsFront sink sink' bytes) (append-nil (text_of so_far.transcript))
+        (AppendsFront-whole sink sink' (text_of so_far.transcript) [] so_far.written);
+  }
+
+  module _ {line : Line} (is_line : LineText text line) {new : Machine} {devices'' : States} {sink'' : Option (List ℕ)} where
+    -- one more line was run
+    pub RunsOn-more : LineRan line mid new devices' devices'' (Appends sink' sink'') →
+        RunsOn (number + 1) input after old new devices devices'' sink sink''
+    RunsOn-more ran = record {
+      transcript = so_far.transcript ++ ran.entries;
+      lines = so_far.lines ++ line ∷ [];
+      front = so_far.front ++ text ∷ [];
+      parts = parts_more;
+      read = AreLines-append so_far.front so_far.lines text line so_far.read is_line;
+      count = let n : number ≡ length so_far.front = so_far.count in omega (arith, length-append so_far.front (text ∷ []));
+      shown = shown_more ran.entries (line ∷ []) ran.shown;
+      known = λ before ease. ran.known before so_far.transcript (so_far.known before ease);
+      written = subst (λ (bytes : List ℕ). Appends sink sink'' bytes) (sym (text_of-append so_far.transcript ran.entries))
+          (Appends-append sink sink' sink'' (text_of so_far.transcript) (text_of ran.entries) so_far.written ran.written);
+    }
+
+    -- one more line was run, and its text was not written whole
+    pub LinesRan-failed : LineRan line mid new devices' devices'' (AppendsFront sink' sink'') →
+        LinesRan Failed input old new devices devices'' sink sink''
+    LinesRan-failed ran = record {
+      transcript = so_far.transcript ++ ran.entries;
+      lines = so_far.lines ++ line ∷ [];
+      shown = shown_more ran.entries (line ∷ []) ran.shown;
+      ended = first_more line is_line;
+      known = λ before ease. ran.known before so_far.transcript (so_far.known before ease);
+      written = front_more sink'' ran.entries ran.written;
+    }
+
+    -- a line stopped for want of memory
+    pub LinesRan-stopped : LineStopped line mid devices' devices'' sink' sink'' → LinesRan NoMemory input old new devices devices'' sink sink''
+    LinesRan-stopped stopped = elim stopped.shown [
       | inl none ↦ record {
         transcript = so_far.transcript ++ stopped.entries;
         lines = so_far.lines;
-        shown = lines_run-append so_far.transcript stopped.entries ∙ ap (λ (ls : List Line). ls ++ lines_run stopped.entries) so_far.shown
-            ∙ ap (λ (ls : List Line). so_far.lines ++ ls) none ∙ append-nil so_far.lines;
-        first = record { front = so_far.front; rest = lines_of rest; parts = so_far.parts; read = so_far.read };
-        written = written;
+        shown = shown_more stopped.entries [] none ∙ append-nil so_far.lines;
+        ended = first_so_far;
+        known = λ before ease. stopped.holds before so_far.transcript (so_far.known before ease);
+        written = front_more sink'' stopped.entries stopped.written;
       }
       | inr one ↦ record {
         transcript = so_far.transcript ++ stopped.entries;
         lines = so_far.lines ++ line ∷ [];
-        shown = lines_run-append so_far.transcript stopped.entries ∙ ap (λ (ls : List Line). ls ++ lines_run stopped.entries) so_far.shown
-            ∙ ap (λ (ls : List Line). so_far.lines ++ ls) one;
-        first = record {
-          front = so_far.front ++ text ∷ [];
-          rest = lines_of after;
-          parts = so_far.parts ∙ ap (λ (ls : List (List ℕ)). so_far.front ++ ls) cut ∙ sym (append_assoc so_far.front (text ∷ []) (lines_of after));
-          read = AreLines-append so_far.front so_far.lines text line so_far.read is_line;
-        };
-        written = written;
+        shown = shown_more stopped.entries (line ∷ []) one;
+        ended = first_more line is_line;
+        known = λ before ease. stopped.holds before so_far.transcript (so_far.known before ease);
+        written = front_more sink'' stopped.entries stopped.written;
       }
     ]
-
-pub LinesRan-failed : (input : List ℕ) (old new : Option (List ℕ)) → StopsIn input old new → LinesRan Failed input old new
-LinesRan-failed input old new stops = record {
-  transcript = stops.transcript;
-  lines = stops.lines;
-  shown = stops.shown;
-  ended = stops.first;
-  written = stops.written;
-}
-
-pub LinesRan-no_memory : (input : List ℕ) (old new : Option (List ℕ)) → StopsIn input old new → LinesRan NoMemory input old new
-LinesRan-no_memory input old new stops = record {
-  transcript = stops.transcript;
-  lines = stops.lines;
-  shown = stops.shown;
-  ended = stops.first;
-  written = stops.written;
-}

@@ -1,5 +1,6 @@
 -- What a run reads, runs and writes, by its status (this project's own).
-use Rattle.std.specs.Prelude.{◌≡◌, ◌⊎◌, ℕ, List, [], ◌∷◌, ◌++◌, Option, codes, string_bytes, ⊤}
+use Rattle.std.specs.Prelude.{◌≡◌, ◌⊎◌, ℕ, Bool, true, false, List, [], ◌∷◌, ◌++◌, Option, codes, string_bytes, ⊤}
+use Rattle.std.specs.List.{AllByRecursion}
 use Rattle.std.specs.Io.KnownBytes.{Appends, Keeps}
 use Rattle.std.specs.declared.string.String.{String}
 use Rattle.std.specs.declared.alloc.Global.{Global}
@@ -10,11 +11,14 @@ use Rattle.zw_text.specs.declared.entry.Entry.{Entry}
 use Rattle.zw_text.specs.declared.entry.Entry.TheVariants.{BadLine as bad_line, TableEnd, TableNode}
 use Rattle.zw_text.specs.Entry.{text_of}
 use Rattle.zw_text.specs.Transcript.{lines_run}
-use Rattle.device_sim.specs.State.{State}
 use Rattle.zw_laws.specs.Answers.{first_node}
 use Rattle.zw_laws.specs.Devices.{device_of}
-use Rattle.zw_laws.specs.Table.{switch, value_line, device_lines}
+use Rattle.zw_laws.specs.Headline.{IsAsMade, Headline}
+use Rattle.zw_laws.specs.Table.{switch, value_line, device_lines, table_of}
 use Rattle.zw_laws.specs.Lines.{lines_of, AreLines, AreFirstLines, AreLinesBefore}
+use Rattle.world_facts.specs.Facts.{Holds}
+use Rattle.world_facts.specs.Machine.{Machine, AtEase}
+use Rattle.zwave_console.specs.Knows.{States}
 use Rattle.zwave_console.specs.Output.{AppendsFront}
 use Rattle.zwave_console.specs.declared.status.Status.{Status}
 use Rattle.zwave_console.specs.declared.status.Status.TheVariants.{Ok, Usage, BadLine, ReadFault, WriteFault, NoMemory, InputTooLong, BadHex}
@@ -35,13 +39,22 @@ EndsText (bad_met number fault) old new text = Appends old new text
 EndsText write_failed old new text = AppendsFront old new text
 EndsText no_memory old new text = AppendsFront old new text
 
--- the lines of an input were run up to this end, with a transcript that was written
-pub record LinesRan (end : LinesEnd) (input : List ℕ) (old new : Option (List ℕ)) : Type 0 where
+-- what is known of the transcript at this end, of the devices at entry and now, and of the machine
+abbrev pub EndsKnown : LinesEnd → States → Machine → States → List Entry → Type 0
+EndsKnown all_run before machine devices transcript = AtEase before machine devices transcript
+EndsKnown (bad_met number fault) before machine devices transcript = AtEase before machine devices transcript
+EndsKnown write_failed before machine devices transcript = AtEase before machine devices transcript
+EndsKnown no_memory before machine devices transcript = Holds false before devices transcript
+
+-- the lines of an input were run up to this end, with a transcript that was written. Where the facts held before them,
+-- what is known at the end is
+pub record LinesRan (end : LinesEnd) (input : List ℕ) (old new : Machine) (devices devices' : States) (sink sink' : Option (List ℕ)) : Type 0 where
   pub transcript : List Entry
   pub lines : List Line
   pub shown : lines_run transcript ≡ lines
   pub ended : EndsLines end (lines_of input) lines
-  pub written : EndsText end old new (text_of transcript)
+  pub known : (before : States) → AtEase before old devices [] → EndsKnown end before new devices' transcript
+  pub written : EndsText end sink sink' (text_of transcript)
 
 -- the words are the one word `sim`
 abbrev pub IsSim : List (String Global) → Type 0
@@ -69,20 +82,41 @@ IsOfRun ReadFault = ⊥
 IsOfRun InputTooLong = ⊥
 IsOfRun (BadHex place) = ⊥
 
--- the last lines of the form of the final table: the clock, the sessions of the first node, its confirmed value where
--- it has one, and what is shown of its device, where there is one
-abbrev pub IsTable : List State → List Entry → Type 0
-IsTable devices entries = (clock : ℕ) × (sessions : List ℕ) × (confirmed : Option ℕ)
-    × (entries ≡ TableEnd clock ∷ TableNode first_node sessions
-    ∷ (value_line first_node switch confirmed ++ device_lines first_node (device_of first_node devices)))
+-- whether all is shown that was done: no want of memory cut it short
+abbrev pub is_whole : Status → Bool
+is_whole Ok = true
+is_whole (BadLine line fault) = true
+is_whole WriteFault = true
+is_whole NoMemory = false
+is_whole Usage = true
+is_whole ReadFault = true
+is_whole InputTooLong = true
+is_whole (BadHex place) = true
 
--- the new entries are the old ones and a table
-abbrev pub AddsTable : List State → List Entry → List Entry → Type 0
-AddsTable devices old new = (table : List Entry) × IsTable devices table × (new ≡ old ++ table)
+-- the devices are as their maker leaves them, with one network key
+abbrev pub AreAsMade : States → Type 0
+AreAsMade devices = (key : List ℕ) × AllByRecursion (IsAsMade key) devices
+
+-- the lines of the final table: the clock, the sessions of the first node, its confirmed value where it has one, and what
+-- is shown of its device, where there is one
+abbrev pub table_lines : ℕ → List ℕ → Option ℕ → States → List Entry
+table_lines clock sessions confirmed devices =
+    TableEnd clock ∷ TableNode first_node sessions
+    ∷ (value_line first_node switch confirmed ++ device_lines first_node (device_of first_node devices))
+
+-- the last lines have the form of the final table of the devices at exit, and where the devices at entry were as made, they
+-- are the table after this transcript
+pub record IsTable (before after : States) (transcript table : List Entry) : Type 0 where
+  pub clock : ℕ
+  pub sessions : List ℕ
+  pub confirmed : Option ℕ
+  pub form : table ≡ table_lines clock sessions confirmed after
+  pub is : AreAsMade before → table ≡ table_of clock transcript after
 
 -- the last lines of a run
-abbrev pub AreLast : List State → List Entry → Type 0
-AreLast devices last = (last ≡ []) ⊎ (IsTable devices last ⊎ ((number : ℕ) × (last ≡ bad_line number Unknown ∷ [])))
+abbrev pub AreLast : States → States → List Entry → List Entry → Type 0
+AreLast before after transcript last =
+    (last ≡ []) ⊎ (IsTable before after transcript last ⊎ ((number : ℕ) × (last ≡ bad_line number Unknown ∷ [])))
 
 -- which lines were run, of the texts of an input
 abbrev pub RunsLines : Status → List (List ℕ) → List Line → Type 0
@@ -96,34 +130,39 @@ RunsLines InputTooLong texts lines = lines ≡ []
 RunsLines (BadHex place) texts lines = lines ≡ []
 
 -- what was written: the transcript's text and the last lines that the status adds, or a front of it
-abbrev pub Writes : Status → List State → Option (List ℕ) → Option (List ℕ) → List Entry → Type 0
-Writes Ok devices old new transcript = (table : List Entry) × IsTable devices table × Appends old new (text_of transcript ++ text_of table)
-Writes (BadLine number fault) devices old new transcript = Appends old new (text_of transcript ++ text_of (bad_line number fault ∷ []))
-Writes WriteFault devices old new transcript = (last : List Entry) × AreLast devices last × AppendsFront old new (text_of transcript ++ text_of last)
-Writes NoMemory devices old new transcript = AppendsFront old new (text_of transcript)
-Writes Usage devices old new transcript = Keeps old new
-Writes ReadFault devices old new transcript = Keeps old new
-Writes InputTooLong devices old new transcript = Keeps old new
-Writes (BadHex place) devices old new transcript = Keeps old new
+abbrev pub Writes : Status → States → States → Option (List ℕ) → Option (List ℕ) → List Entry → Type 0
+Writes Ok before after old new transcript =
+    (table : List Entry) × IsTable before after transcript table × Appends old new (text_of transcript ++ text_of table)
+Writes (BadLine number fault) before after old new transcript =
+    Appends old new (text_of transcript ++ text_of (bad_line number fault ∷ []))
+Writes WriteFault before after old new transcript =
+    (last : List Entry) × AreLast before after transcript last × AppendsFront old new (text_of transcript ++ text_of last)
+Writes NoMemory before after old new transcript = AppendsFront old new (text_of transcript)
+Writes Usage before after old new transcript = Keeps old new
+Writes ReadFault before after old new transcript = Keeps old new
+Writes InputTooLong before after old new transcript = Keeps old new
+Writes (BadHex place) before after old new transcript = Keeps old new
 
--- lines of the input were run with a transcript that was written, as the status says
-pub record HasRun (status : Status) (devices : List State) (input : List ℕ) (old new : Option (List ℕ)) : Type 0 where
+-- lines of the input were run with a transcript that was written, as the status says. Where the devices at entry were as
+-- their maker leaves them, the headline holds of these lines, of the devices and of this transcript
+pub record HasRun (status : Status) (before after : States) (input : List ℕ) (old new : Option (List ℕ)) : Type 0 where
   pub transcript : List Entry
   pub lines : List Line
   pub shown : lines_run transcript ≡ lines
   pub run : RunsLines status (lines_of input) lines
-  pub written : Writes status devices old new transcript
+  pub written : Writes status before after old new transcript
+  pub headline : AreAsMade before → Headline (is_whole status) lines before after transcript
 
 -- how the final table was written
-abbrev pub EndsWell : List State → Status → Option (List ℕ) → Option (List ℕ) → Type 0
-EndsWell devices Ok old new = (table : List Entry) × IsTable devices table × Appends old new (text_of table)
-EndsWell devices WriteFault old new = (table : List Entry) × IsTable devices table × AppendsFront old new (text_of table)
-EndsWell devices NoMemory old new = Keeps old new
-EndsWell devices Usage old new = ⊥
-EndsWell devices (BadLine line fault) old new = ⊥
-EndsWell devices ReadFault old new = ⊥
-EndsWell devices InputTooLong old new = ⊥
-EndsWell devices (BadHex place) old new = ⊥
+abbrev pub EndsWell : List Entry → Status → Option (List ℕ) → Option (List ℕ) → Type 0
+EndsWell table Ok old new = Appends old new (text_of table)
+EndsWell table WriteFault old new = AppendsFront old new (text_of table)
+EndsWell table NoMemory old new = Keeps old new
+EndsWell table Usage old new = ⊥
+EndsWell table (BadLine line fault) old new = ⊥
+EndsWell table ReadFault old new = ⊥
+EndsWell table InputTooLong old new = ⊥
+EndsWell table (BadHex place) old new = ⊥
 
 -- how the line that names a text that is none was written
 abbrev pub EndsBadly : ℕ → LineFault → Status → Option (List ℕ) → Option (List ℕ) → Type 0

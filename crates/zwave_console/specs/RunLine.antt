@@ -1,20 +1,28 @@
--- What running one line writes (this project's own).
-use Rattle.std.specs.Prelude.{◌≡◌, ◌⊎◌, ℕ, List, [], ◌∷◌, Option}
-use Rattle.std.specs.Io.KnownBytes.{Appends}
+-- What running one line does and writes (this project's own).
+use Rattle.std.specs.Prelude.{◌≡◌, ◌⊎◌, ℕ, false, List, [], ◌∷◌, ◌++◌, Option}
 use Rattle.zw_text.specs.declared.line.Line.{Line}
 use Rattle.zw_text.specs.declared.entry.Entry.{Entry}
 use Rattle.zw_text.specs.Entry.{text_of}
 use Rattle.zw_text.specs.Transcript.{lines_run}
+use Rattle.world_facts.specs.Facts.{Holds}
+use Rattle.world_facts.specs.Machine.{Machine, AtEase}
+use Rattle.zwave_console.specs.Knows.{States}
 use Rattle.zwave_console.specs.Output.{AppendsFront}
 
--- the line was run, and its entries were written
-pub record LineRan (line : Line) (old new : Option (List ℕ)) : Type 0 where
+-- the line was run, with entries whose text was written so: what was known of every transcript before them is known of it
+-- with them
+pub record LineRan (line : Line) (old new : Machine) (devices devices' : States) (IsWritten : List ℕ → Type 0) : Type 0 where
   pub entries : List Entry
   pub shown : lines_run entries ≡ line ∷ []
-  pub written : Appends old new (text_of entries)
+  pub known : (before : States) (transcript : List Entry) → AtEase before old devices transcript →
+      AtEase before new devices' (transcript ++ entries)
+  pub written : IsWritten (text_of entries)
 
--- the line was run in part or not at all, and a front of its entries was written
-pub record LineStopped (line : Line) (old new : Option (List ℕ)) : Type 0 where
+-- the line was run in part or not at all, and a front of its entries' text was written: of every transcript before them of
+-- which the facts were known, what the headline says holds with them, as of a run that was cut short
+pub record LineStopped (line : Line) (old : Machine) (devices devices' : States) (sink sink' : Option (List ℕ)) : Type 0 where
   pub entries : List Entry
   pub shown : (lines_run entries ≡ []) ⊎ (lines_run entries ≡ line ∷ [])
-  pub written : AppendsFront old new (text_of entries)
+  pub holds : (before : States) (transcript : List Entry) → AtEase before old devices transcript →
+      Holds false before devices' (transcript ++ entries)
+  pub written : AppendsFront sink sink' (text_of entries)

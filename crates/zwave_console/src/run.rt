@@ -1,12 +1,14 @@
 //! The top call: a command, from its words to its status.
 
-ghost use Rattle.std.specs.Prelude.{◌≡◌, ◌≢◌, ◌⊎◌, ◌^◌, ◌<◌, ◌≤◌, ◌↔◌, ℕ, [], ◌∷◌, length, map, IfSome, IsTrue, slice_index, OnOk, OnErr, IsErrOf};
+ghost use Rattle.std.specs.Prelude.{◌≡◌, ◌≢◌, ◌^◌, ◌<◌, ◌≤◌, ◌↔◌, ℕ, [], ◌∷◌, length, map, IfSome, IsTrue, slice_index, OnOk, OnErr, IsErrOf};
 ghost use Rattle.std.specs.Io.KnownBytes.{Appends, Keeps, IsAtEnd};
 ghost use Rattle.zw_base.specs.Faults.{Rose};
 ghost use Rattle.zw_laws.specs.Lines.{lines_of};
 ghost use Rattle.zwave_console.specs.Output.{AppendsFront};
 ghost use Rattle.zw_text.specs.Entry.{text_of};
-ghost use Rattle.zwave_console.specs.Run.{LinesRan, EndsWell, EndsBadly, IsOfRun, IsSim, ReadsWhole, HasRun};
+ghost use Rattle.zw_text.specs.Line.{IsWithinRanges};
+ghost use Rattle.zwave_console.specs.Knows.{machine_of};
+ghost use Rattle.zwave_console.specs.Run.{LinesRan, EndsWell, EndsBadly, IsOfRun, IsSim, ReadsWhole, HasRun, table_lines};
 ghost use Rattle.zwave_console.specs.RunLine.{LineRan, LineStopped};
 
 use crate::input::{InputFault, MAX_INPUT, read_input};
@@ -40,9 +42,10 @@ pub fn run<S: Source, K: Sink, D: Draw>(
     ensures read_whole { ReadsWhole result → IsAtEnd (S.left source.new) }
     ensures never_bad_hex { (place : ℕ) → result ≡ Status.BadHex place → ⊥ }
 
-    // The lines of the input were run and their transcript was written, as far as the status says.
-    ensures ran { IfSome (S.left source.old) (λ input. HasRun result (map (λ d. state d) devices.new.items) input
-        (K.written sink.old) (K.written sink.new)) }
+    // The lines of the input were run and their transcript was written, as far as the status says; and where the devices
+    // were as their maker leaves them, the headline holds of it.
+    ensures headline { IfSome (S.left source.old) (λ input. HasRun result (map (λ d. state d) devices.old.items)
+        (map (λ d. state d) devices.new.items) input (K.written sink.old) (K.written sink.new)) }
     ensures sink_never_falls { K.faults sink.old ≤ K.faults sink.new }
     ensures source_never_falls { S.faults source.old ≤ S.faults source.new }
     ensures kept { length devices.new.items ≡ length devices.old.items }
@@ -87,7 +90,8 @@ fn simulate<K: Sink, D: Draw>(
 ) -> Status
     requires few { length devices.old.items < 2 ^ 64 }
     requires short { length input.now ≤ MAX_INPUT }
-    ensures ran { HasRun result (map (λ d. state d) devices.new.items) input.now (K.written sink.old) (K.written sink.new) }
+    ensures headline { HasRun result (map (λ d. state d) devices.old.items) (map (λ d. state d) devices.new.items) input.now
+        (K.written sink.old) (K.written sink.new) }
     ensures of_run { IsOfRun result }
     ensures never_falls { K.faults sink.old ≤ K.faults sink.new }
     ensures failed { result ≡ Status.WriteFault → Rose (K.faults sink.old) (K.faults sink.new) }
@@ -115,7 +119,8 @@ fn run_lines<K: Sink, D: Draw>(
 ) -> LinesEnd
     requires few { length devices.old.items < 2 ^ 64 }
     requires short { length input.now ≤ MAX_INPUT }
-    ensures ran { LinesRan result input.now (K.written sink.old) (K.written sink.new) }
+    ensures ran { LinesRan result input.now (machine_of world.old) (machine_of world.new) (map (λ d. state d) devices.old.items)
+        (map (λ d. state d) devices.new.items) (K.written sink.old) (K.written sink.new) }
     ensures never_falls { K.faults sink.old ≤ K.faults sink.new }
     ensures failed { result ≡ LinesEnd.Failed → Rose (K.faults sink.old) (K.faults sink.new) }
     ensures kept { length devices.new.items ≡ length devices.old.items }
@@ -173,7 +178,8 @@ fn line_end(bytes: &[u8]) -> usize
     bytes.len()
 }
 
-// Runs a line, and writes what it did.
+// Runs a line, and writes what it did. Want of memory is told even where the write failed too: a write that failed speaks
+// of a line that was run whole.
 fn run_line<K: Sink, D: Draw>(
     alloc: Global,
     line: Line,
@@ -182,18 +188,23 @@ fn run_line<K: Sink, D: Draw>(
     devices: &mut Vec<Box<dyn Device>>,
     draw: &mut D,
 ) -> Result<(), OutputFault>
-    requires { length devices.old.items < 2 ^ 64 }
-    ensures ran { OnOk result (LineRan line (K.written sink.old) (K.written sink.new)) }
-    ensures stopped { OnErr result (LineStopped line (K.written sink.old) (K.written sink.new)) }
+    requires few { length devices.old.items < 2 ^ 64 }
+    requires in_range { IsWithinRanges line }
+    ensures ran { OnOk result (LineRan line (machine_of world.old) (machine_of world.new) (map (λ d. state d) devices.old.items)
+        (map (λ d. state d) devices.new.items) (Appends (K.written sink.old) (K.written sink.new))) }
+    ensures unwritten { IsErrOf result OutputFault.Failed → LineRan line (machine_of world.old) (machine_of world.new)
+        (map (λ d. state d) devices.old.items) (map (λ d. state d) devices.new.items) (AppendsFront (K.written sink.old) (K.written sink.new)) }
+    ensures stopped { IsErrOf result OutputFault.NoMemory → LineStopped line (machine_of world.old)
+        (map (λ d. state d) devices.old.items) (map (λ d. state d) devices.new.items) (K.written sink.old) (K.written sink.new) }
     ensures never_falls { K.faults sink.old ≤ K.faults sink.new }
     ensures failed { IsErrOf result OutputFault.Failed → Rose (K.faults sink.old) (K.faults sink.new) }
     ensures kept { length devices.new.items ≡ length devices.old.items }
 {
     let mut entries = List::new(alloc);
     let stepped = world.step(line, devices, draw, &mut entries);
-    write_entries(alloc, sink, entries.as_slice())?;
+    let written = write_entries(alloc, sink, entries.as_slice());
     stepped?;
-    Ok(())
+    written
 }
 
 // Writes the final table.
@@ -204,7 +215,8 @@ fn end_well<K: Sink>(
     devices: &Vec<Box<dyn Device>>,
 ) -> Status
     requires { length devices.now.items < 2 ^ 64 }
-    ensures ended { EndsWell (map (λ d. state d) devices.now.items) result (K.written sink.old) (K.written sink.new) }
+    ensures ended { EndsWell (table_lines world.now.clock world.now.host.book.commands world.now.host.confirmed
+        (map (λ d. state d) devices.now.items)) result (K.written sink.old) (K.written sink.new) }
     ensures never_falls { K.faults sink.old ≤ K.faults sink.new }
     ensures failed { result ≡ Status.WriteFault → Rose (K.faults sink.old) (K.faults sink.new) }
 {

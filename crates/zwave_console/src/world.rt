@@ -8,7 +8,7 @@ ghost use Rattle.device_sim.specs.Hearing.{IsSupervisedSet, hears, replies_of, r
 ghost use Rattle.device_sim.specs.State.{shown_of, ticked};
 ghost use Rattle.zw_laws.specs.Devices.{device_of};
 ghost use Rattle.zw_laws.specs.Table.{switch, value_line, device_lines};
-ghost use Rattle.zwave_console.specs.Run.{AddsTable};
+ghost use Rattle.zwave_console.specs.Run.{table_lines};
 ghost use Rattle.zwave_console.specs.Host.{opening_of, order_at, closing_of, told};
 ghost use Rattle.zwave_console.specs.World.{ended_by, closing_entries, IsPumpedIfKnown, AddsLines};
 ghost use Rattle.zwave_console.specs.Arriving.{AllFit, air_entries, flights, settings_by};
@@ -757,7 +757,8 @@ impl World {
         out: &mut List<Entry>,
     ) -> Result<(), NoMemory>
         requires { length devices.now.items < 2 ^ 64 }
-        ensures { OnOk result (AddsTable (map (λ d. state d) devices.now.items) out.old.items out.new.items) }
+        ensures { OnOk result (out.new.items ≡ out.old.items ++ table_lines self.now.clock self.now.host.book.commands
+            self.now.host.confirmed (map (λ d. state d) devices.now.items)) }
     {
         self.enter_sessions(out)?;
         enter_device(self.alloc, devices, node(FIRST_NODE), out)

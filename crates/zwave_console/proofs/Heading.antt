@@ -1,0 +1,129 @@
+-- The headline, from what a line does up to the end of a run.
+use Rattle.std.proofs.Common.{◌≡◌, inl, inr, ℕ, Bool, true, false, List, [], ◌∷◌, ◌++◌, Option, Result, Ok, Err, OnOk, OnErr, refl, ap, sym, subst, ◌∙◌, append-nil}
+use Rattle.std.specs.Io.KnownBytes.{Appends}
+use Rattle.zw_text.specs.declared.line.Line.{Line}
+use Rattle.zw_text.specs.declared.entry.Entry.{Entry}
+use Rattle.zw_text.specs.Entry.{text_of}
+use Rattle.zw_text.specs.Transcript.{lines_run}
+use Rattle.zw_laws.specs.Headline.{Headline}
+use Rattle.world_facts.specs.Facts.{Holds}
+use Rattle.world_facts.specs.Goes.{Goes}
+use Rattle.world_facts.specs.Machine.{Machine, AtEase, first_machine}
+use Rattle.world_facts.proofs.KnowsLemmas.{Knows-first, Knows-tables, Holds-at_ease, Holds-held, Held-knows}
+use Rattle.zwave_console.specs.Knows.{States, GoesUpTo}
+use Rattle.zwave_console.specs.Output.{AppendsFront}
+use Rattle.zwave_console.specs.Run.{AreAsMade, IsTable, table_lines}
+use Rattle.zwave_console.specs.RunLine.{LineRan, LineStopped}
+use Rattle.zwave_console.proofs.Writing.{AppendsFront-whole}
+
+-- the headline is what holds, and the lines
+pub Headline-holds : (whole : Bool) (lines : List Line) (before after : States) (transcript : List Entry) → lines_run transcript ≡ lines →
+    Holds whole before after transcript → Headline whole lines before after transcript
+Headline-holds whole lines before after transcript shown holds = record {
+  legal = record { lines_are = shown; answers = holds.answers; devices = holds.devices; frames = holds.frames };
+  prompt = holds.prompt;
+  sessions_keep = holds.sessions_keep;
+  once = holds.once;
+  confirms = holds.confirms;
+}
+
+-- between lines a run may also be cut short
+pub Holds-cut : (before : States) (machine : Machine) (devices : States) (transcript : List Entry) → AtEase before machine devices transcript →
+    Holds false before devices transcript
+Holds-cut before machine devices transcript ease =
+    Holds-held before devices transcript (Held-knows before devices machine machine.clock transcript ease.knows)
+
+pub Holds-either : (whole : Bool) (before : States) (machine : Machine) (devices : States) (transcript : List Entry) → AtEase before machine devices transcript →
+    Holds whole before devices transcript
+Holds-either true before machine devices transcript ease = Holds-at_ease before devices machine transcript ease
+Holds-either false before machine devices transcript ease = Holds-cut before machine devices transcript ease
+
+-- of devices as they were made all is known at first
+pub AtEase-first : (before : States) (machine : Machine) → machine ≡ first_machine → AreAsMade before → AtEase before machine before []
+AtEase-first before machine first (key, made) =
+    subst (λ (m : Machine). AtEase before m before []) (sym first) (Knows-first key before made)
+
+-- between lines the final table is that of the transcript
+pub IsTable-at_ease : (before after : States) (machine : Machine) (transcript : List Entry) → (AreAsMade before → AtEase before machine after transcript) →
+    IsTable before after transcript (table_lines machine.clock machine.book.commands machine.confirmed after)
+IsTable-at_ease before after machine transcript known = record {
+  clock = machine.clock;
+  sessions = machine.book.commands;
+  confirmed = machine.confirmed;
+  form = refl;
+  is = λ made. Knows-tables before after machine transcript (known made);
+}
+
+-- what holds where a call succeeds, by what it ensures there
+OnOk-by : {T E : Type 0} (r : Result T E) {P Q : Type 0} → OnOk r P → (P → Q) → OnOk r Q
+OnOk-by (Ok x) p by = by p
+OnOk-by (Err e) p by = p
+
+-- what was entered is what was added
+module _ {first out : List Entry} (none : first ≡ []) {lines : List Line} {Before After : List Entry → Type 0}
+    (goes : Goes lines Before After first out) where
+  added_is : out ≡ goes.added
+  added_is = subst (λ (es : List Entry). out ≡ es ++ goes.added) none goes.is
+
+  added_shows : lines_run out ≡ lines
+  added_shows = ap lines_run added_is ∙ goes.shows
+
+  added_known : (transcript : List Entry) → Before transcript → After (transcript ++ out)
+  added_known transcript known =
+      subst (λ (es : List Entry). After (transcript ++ es)) (sym added_is) (goes.goes transcript known)
+
+-- a front of the text of entries was written at any rate
+front_written : (shown out : List Entry) (sink sink' : Option (List ℕ)) {T E : Type 0} (written : Result T E) → shown ≡ out →
+    OnOk written (Appends sink sink' (text_of shown)) → OnErr written (AppendsFront sink sink' (text_of shown)) →
+    AppendsFront sink sink' (text_of out)
+front_written shown out sink sink' (Ok x) seen whole front =
+    subst (λ (es : List Entry). AppendsFront sink sink' (text_of es)) seen
+    (subst (λ (bytes : List ℕ). AppendsFront sink sink' bytes) (append-nil (text_of shown)) (AppendsFront-whole sink sink' (text_of shown) [] whole))
+front_written shown out sink sink' (Err e) seen whole front = subst (λ (es : List Entry). AppendsFront sink sink' (text_of es)) seen front
+
+-- the entries of a line were written, or a front of them
+module _ {first out : List Entry} (none : first ≡ []) (shown : List Entry) (seen : shown ≡ out) (sink sink' : Option (List ℕ))
+    {T E : Type 0} (written : Result T E) (whole : OnOk written (Appends sink sink' (text_of shown)))
+    (front : OnErr written (AppendsFront sink sink' (text_of shown))) {line : Line} {old : Machine} {devices devices' : States} where
+  module _ {new : Machine} (goes : (before : States) → Goes (line ∷ []) (AtEase before old devices) (AtEase before new devices') first out) where
+    -- the line went to its end
+    runs : (IsWritten : List ℕ → Type 0) → IsWritten (text_of out) → LineRan line old new devices devices' IsWritten
+    runs IsWritten is_written = record {
+      entries = out;
+      shown = added_shows none (goes []);
+      known = λ before transcript ease. added_known none (goes before) transcript ease;
+      written = is_written;
+    }
+
+    pub line_ran : OnOk written (LineRan line old new devices devices' (Appends sink sink'))
+    line_ran = OnOk-by written whole (λ (is : Appends sink sink' (text_of shown)).
+        runs (Appends sink sink') (subst (λ (es : List Entry). Appends sink sink' (text_of es)) seen is))
+
+    pub line_unwritten : LineRan line old new devices devices' (AppendsFront sink sink')
+    line_unwritten = runs (AppendsFront sink sink') (front_written shown out sink sink' written seen whole front)
+
+    -- there was no memory to write what it did
+    pub line_unprinted : LineStopped line old devices devices' sink sink'
+    line_unprinted = record {
+      entries = out;
+      shown = inr (added_shows none (goes []));
+      holds = λ before transcript ease.
+          Holds-cut before new devices' (transcript ++ out) (added_known none (goes before) transcript ease);
+      written = front_written shown out sink sink' written seen whole front;
+    }
+
+  -- the line stopped for want of memory
+  pub line_stopped : ((before : States) → GoesUpTo line (AtEase before old devices) (Holds false before devices') first out) →
+      LineStopped line old devices devices' sink sink'
+  line_stopped stops = record {
+    entries = out;
+    shown = elim (stops []) [
+      | inl goes ↦ inl (added_shows none goes)
+      | inr goes ↦ inr (added_shows none goes)
+    ];
+    holds = λ before transcript ease. elim (stops before) [
+      | inl goes ↦ added_known none goes transcript ease
+      | inr goes ↦ added_known none goes transcript ease
+    ];
+    written = front_written shown out sink sink' written seen whole front;
+  }
