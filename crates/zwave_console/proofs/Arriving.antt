@@ -17,7 +17,7 @@ use Rattle.zw_text.specs.declared.entry.Side.TheVariants.{Chip}
 use Rattle.zw_text.specs.Transcript.{lines_run}
 use Rattle.zw_laws.specs.Table.{switch}
 use Rattle.zwave_console.specs.declared.air.Flight.{Flight}
-use Rattle.zwave_console.specs.declared.world.MadeBy.{MadeBy}
+use Rattle.zwave_console.specs.declared.world.devices.MadeBy.{MadeBy}
 use Rattle.zwave_console.specs.declared.world.World.{World}
 use Rattle.zwave_console.specs.Air.{Sky}
 use Rattle.zwave_console.specs.Knows.{HearsNew, frame_of, machine_of}

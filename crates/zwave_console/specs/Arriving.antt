@@ -5,7 +5,7 @@ use Rattle.zw_base.specs.declared.property.Setting.{Setting}
 use Rattle.zw_text.specs.declared.entry.Entry.{Entry}
 use Rattle.zw_text.specs.declared.entry.Entry.TheVariants.{Air}
 use Rattle.zwave_console.specs.declared.air.Flight.{Flight}
-use Rattle.zwave_console.specs.declared.world.MadeBy.{MadeBy}
+use Rattle.zwave_console.specs.declared.world.devices.MadeBy.{MadeBy}
 
 -- the settings of a change, each with what made it
 abbrev pub settings_by : Change → List MadeBy

@@ -1,6 +1,9 @@
 //! The edge of the program: readers and writers of std, and values of the base crate with ample memory.
 
 use crate::chacha::ChaChaDraw;
+use crate::run::run;
+use crate::status::Status;
+use device_sim::Device;
 use std::io;
 use std::io::{ErrorKind, Read, Write};
 use std::test::Fail;
@@ -56,6 +59,53 @@ fn std_source_counts_failed_reads(rt: HostRuntime) {
     assert_eq!(rt; into[0], 9);
     assert_eq!(rt; source.read(&mut into), Err(Failed));
     assert_eq!(rt; source.read(&mut into), Ok(1));
+}
+
+/// A reader that never ends, and a writer that takes nothing.
+#[derive(Drop)]
+struct Endless;
+
+impl Read for Endless {
+    fn read(&mut self, buf: &mut [u8]) -> io::Result<usize> {
+        Ok(buf.len())
+    }
+}
+
+impl Write for Endless {
+    fn write(&mut self, _buf: &[u8]) -> io::Result<usize> {
+        Ok(0)
+    }
+
+    fn flush(&mut self) -> io::Result<()> {
+        Ok(())
+    }
+}
+
+#[test]
+fn an_endless_input_is_too_long(rt: HostRuntime) -> Result<(), Fail> {
+    let mut words = Vec::new(rt.alloc());
+    words.push(String::from_str(rt.alloc(), "sim")?)?;
+    let mut sink = MemorySink::new(rt.alloc(), &[])?;
+    let mut devices: Vec<Box<dyn Device>> = Vec::new(rt.alloc());
+    let status = run(
+        rt.alloc(),
+        words.as_slice(),
+        &mut StdSource::new(Endless),
+        &mut sink,
+        &mut devices,
+        [0; 16],
+        &mut ChaChaDraw::new([0; 32]),
+    );
+    assert_eq!(rt; status, Status::InputTooLong);
+    assert_eq!(rt; sink.bytes(), b"".as_slice());
+    Ok(())
+}
+
+#[test]
+fn a_sink_that_takes_nothing_fails(rt: HostRuntime) {
+    let mut sink = StdSink::new(Endless);
+    assert_eq!(rt; sink.write(b"a"), Err(Failed));
+    assert_eq!(rt; sink.write(b""), Ok(0));
 }
 
 #[test]

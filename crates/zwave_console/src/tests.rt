@@ -78,16 +78,24 @@ node 2 sessions -
 device 2 0/switch 0
 ";
 
-// Runs `sim` on a scenario, with the writes of these numbers failing.
+// The words of a text, with one space between two.
+fn owned(alloc: Global, text: &str) -> Result<Vec<String>, Fail> {
+    let mut words = Vec::new(alloc);
+    for word in text.split_whitespace() {
+        words.push(String::from_str(alloc, word)?)?;
+    }
+    Ok(words)
+}
+
+// Runs words on a scenario, with the reads and writes of these numbers failing.
 fn sim(
     alloc: Global,
-    word: &str,
+    words: &str,
     scenario: &str,
     failing_reads: &[u64],
     failing_writes: &[u64],
 ) -> Result<(Status, MemorySink), Fail> {
-    let mut words = Vec::new(alloc);
-    words.push(String::from_str(alloc, word)?)?;
+    let words = owned(alloc, words)?;
     let mut source = MemorySource::new(alloc, scenario.as_bytes(), failing_reads)?;
     let mut sink = MemorySink::new(alloc, failing_writes)?;
     let mut draw = FixedDraw::new(alloc, &[])?;
@@ -113,17 +121,19 @@ fn scenarios_write_their_transcripts(rt: HostRuntime) -> Result<(), Fail> {
         line: 2,
         fault: LineFault::Unknown,
     };
-    for (word, scenario, status, transcript) in [
+    for (words, scenario, status, transcript) in [
         ("sim", "", Status::Ok, NOTHING),
         ("sim", "set 2 on\ntick 2\n", Status::Ok, SWITCHED_ON),
         ("sim", "set 2 on\nblink 2\n", unknown, BAD_SECOND),
         ("sim", "set 3 on", Status::Ok, NOT_JOINED),
         ("sim", "set 2 40", Status::Ok, BAD_VALUE),
+        ("", "set 2 on", Status::Usage, ""),
         ("simulate", "set 2 on", Status::Usage, ""),
+        ("sim now", "set 2 on", Status::Usage, ""),
     ] {
-        let (ended, sink) = sim(rt.alloc(), word, scenario, &[], &[])?;
-        assert_eq!(rt; ended, status, "at {scenario:?}");
-        assert_eq!(rt; sink.bytes(), transcript.as_bytes(), "at {scenario:?}");
+        let (ended, sink) = sim(rt.alloc(), words, scenario, &[], &[])?;
+        assert_eq!(rt; ended, status, "{words:?} at {scenario:?}");
+        assert_eq!(rt; sink.bytes(), transcript.as_bytes(), "{words:?} at {scenario:?}");
     }
     Ok(())
 }
@@ -162,9 +172,8 @@ fn commands_wait_for_their_turn(rt: HostRuntime) -> Result<(), Fail> {
     for part in [
         "store 2 0/switch 255\nbegin 2 2 2\nh 010E001302076C010203250100250288\nc 06\nc 0104011301E8\n",
         "air 3 1>2 via - 6C010203250100\nh 06\n",
-        "out 2 success\nstore 2 0/switch 0\n",
-        "node 2 sessions 1 2\n",
-        "device 2 0/switch 0\n",
+        "t 4\nheard 4\nc 010B00040002056C0202FF0064\nh 06\nout 2 success\nstore 2 0/switch 0\nend 4\n",
+        "node 2 sessions 1 2\nvalue 2 0/switch confirmed 0 heard -\ndevice 2 0/switch 0\n",
     ] {
         assert!(rt; text.contains(part), "{part}");
     }
@@ -175,7 +184,7 @@ fn commands_wait_for_their_turn(rt: HostRuntime) -> Result<(), Fail> {
     let (ended, sink) = sim(rt.alloc(), "sim", scenario.as_str(), &[], &[])?;
     assert_eq!(rt; ended, Status::Ok);
     let text = std::str::from_utf8(sink.bytes()).map_err(|_| Fail::from("not text"))?;
-    assert!(rt; text.contains("accepted 17 node 2\n> set 2 on\nrefused mailboxfull 16\n"));
+    assert!(rt; text.contains("accepted 17 node 2\n> set 2 on\nrefused mailboxfull 16\nend 0\n"));
     Ok(())
 }
 

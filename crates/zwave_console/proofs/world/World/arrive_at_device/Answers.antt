@@ -36,3 +36,8 @@ returns-clause-quiet g c =
         (hears_quietly _ _ _ _ c.in_ok-made.made.items c.args.flight.number c.args.flight.receiver c.reserve-2.ensures.items c.put.ensures.items c.enter_made.ensures.entries)
         c.answer.ensures.quiet)
     c.call_back.ensures.quiet
+
+pub returns-clause-same_clock : goal.returns-clause-same_clock
+returns-clause-same_clock g c =
+    ap (λ (w : World). w.clock) c.call_back.ensures.others
+    ∙ (ap (λ (w : World). w.clock) c.answer.ensures.others ∙ ap (λ (w : World). w.clock) c.callback.ensures.others)

@@ -1,4 +1,5 @@
-use Rattle.std.proofs.Common.{[]}
+use Rattle.std.proofs.Common.{[], ap, ◌∙◌}
+use Rattle.zwave_console.specs.declared.world.World.{World}
 use Rattle.zwave_console.proofs.Adding.{AddsLines-append}
 use Rattle.zwave_console.proofs.Arriving.{enters_two, unheard_quietly}
 use Rattle.zwave_console.proofs.world.World.arrive_nowhere.Goals as goal
@@ -10,3 +11,6 @@ returns-clause-entries c callback busy =
 pub returns-clause-quiet : goal.returns-clause-quiet
 returns-clause-quiet c =
     AddsLines-append [] [] _ _ _ (unheard_quietly _ _ _ c.args.flight.number c.in_ok-reserve.ensures.items c.put.ensures.items) c.call_back.ensures.quiet
+
+pub returns-clause-same_clock : goal.returns-clause-same_clock
+returns-clause-same_clock c = ap (λ (w : World). w.clock) c.call_back.ensures.others ∙ ap (λ (w : World). w.clock) c.callback.ensures.others

@@ -1,7 +1,7 @@
 use Rattle.std.proofs.Common.{◌<◌, length, ◌∙◌, length-set, arith}
 use Rattle.zwave_console.proofs.Writing.{OnErr-always}
 use Rattle.zwave_console.proofs.Arriving.{ticks_place, stops_place}
-use Rattle.zwave_console.proofs.world.tick_all.Goals as goal
+use Rattle.zwave_console.proofs.world.devices.tick_all.Goals as goal
 
 pub returns-in_err-tick_one-clause-some : goal.returns-in_err-tick_one-clause-some
 returns-in_err-tick_one-clause-some g c =

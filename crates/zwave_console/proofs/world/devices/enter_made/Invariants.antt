@@ -1,6 +1,6 @@
 use Rattle.std.proofs.Common.{◌≡◌, ◌+◌, ◌++◌, map, take}
 use Rattle.zw_text.specs.declared.entry.Entry.TheVariants.{Dev}
-use Rattle.zwave_console.proofs.world.enter_made.Given as goal
+use Rattle.zwave_console.proofs.world.devices.enter_made.Given as goal
 
 abbrev pub invariant-loop-item : goal.invariant-loop-item
 invariant-loop-item l = (l.out.room + l.item-index ≡ l.fn.out.room)

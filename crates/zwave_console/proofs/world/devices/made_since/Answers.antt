@@ -1,6 +1,6 @@
 use Rattle.std.proofs.Common.{sym, ◌∙◌}
 use Rattle.zwave_console.proofs.Arriving.{never_past, made_more, made_all}
-use Rattle.zwave_console.proofs.world.made_since.Goals as goal
+use Rattle.zwave_console.proofs.world.devices.made_since.Goals as goal
 
 pub loop-at-preserved : goal.loop-at-preserved
 loop-at-preserved g c = record {

@@ -1,5 +1,5 @@
 use Rattle.zwave_console.proofs.Arriving.{replies_of-same}
-use Rattle.zwave_console.proofs.world.hear_one.Goals as goal
+use Rattle.zwave_console.proofs.world.devices.hear_one.Goals as goal
 
 -- the device in the box is the one that was given
 pub returns-clause-replies : goal.returns-clause-replies

@@ -1,6 +1,6 @@
 use Rattle.std.proofs.Common.{◌≡◌, map, take, None}
 use Rattle.zw_laws.specs.Devices.{device_of}
-use Rattle.zwave_console.proofs.world.place_of.Given as goal
+use Rattle.zwave_console.proofs.world.devices.place_of.Given as goal
 
 abbrev pub invariant-loop-place : goal.invariant-loop-place
 invariant-loop-place g l =

@@ -1,6 +1,6 @@
 use Rattle.std.proofs.Common.{◌≡◌, ◌++◌, length, map, take, drop}
 use Rattle.device_sim.specs.State.{ticked}
-use Rattle.zwave_console.proofs.world.tick_all.Given as goal
+use Rattle.zwave_console.proofs.world.devices.tick_all.Given as goal
 
 abbrev pub invariant-loop-place : goal.invariant-loop-place
 invariant-loop-place g l = record {

@@ -3,7 +3,7 @@ use Rattle.std.proofs.lemmas.Bool.{eqb-false}
 use Rattle.world_facts.proofs.DevicesLemmas.{device_of-found, device_of-passed}
 use Rattle.zwave_console.proofs.FirstDevice.{seen_at}
 use Rattle.zwave_console.proofs.Arriving.{none_of}
-use Rattle.zwave_console.proofs.world.place_of.Goals as goal
+use Rattle.zwave_console.proofs.world.devices.place_of.Goals as goal
 
 pub loop-place-init : goal.loop-place-init
 loop-place-init g c = refl

@@ -1,7 +1,7 @@
 use Rattle.std.proofs.Common.{sym, ◌∙◌}
 use Rattle.zwave_console.proofs.Ending.{shown_device}
 use Rattle.zwave_console.proofs.FirstDevice.{seen_at}
-use Rattle.zwave_console.proofs.world.enter_device.Goals as goal
+use Rattle.zwave_console.proofs.world.devices.enter_device.Goals as goal
 
 pub returns-in_ok-shown-in-Some : goal.returns-in_ok-shown-in-Some
 returns-in_ok-shown-in-Some g c =

@@ -1,7 +1,7 @@
 use Rattle.std.proofs.Common.{◌≡◌, ◌++◌, drop}
 use Rattle.std.specs.List.{flat_map}
 use Rattle.zwave_console.specs.Arriving.{settings_by}
-use Rattle.zwave_console.proofs.world.made_since.Given as goal
+use Rattle.zwave_console.proofs.world.devices.made_since.Given as goal
 
 abbrev pub invariant-loop-at : goal.invariant-loop-at
 invariant-loop-at g l = record {
