@@ -1,5 +1,5 @@
 -- Each event keeps the facts on both ends and on what is on its way between them.
-use Rattle.std.proofs.Common.{◌≡◌, ◌≢◌, ℕ, ◌+◌, ◌<◌, ◌≤◌, List, [], ◌∷◌, ◌++◌, length, Option, Some, None, refl, sym, ap, subst, ◌∙◌, arith, length-append}
+use Rattle.std.proofs.Common.{◌≡◌, ℕ, ◌+◌, ◌<◌, List, [], ◌∷◌, ◌++◌, length, Option, Some, None, refl, sym, ap, subst, ◌∙◌, arith, length-append}
 use Rattle.std.specs.List.{AllByRecursion}
 use Rattle.supervision.specs.Host.{HostBook, no_sessions, begun_of, open_session, command_at, begins}
 use Rattle.supervision.specs.Device.{Taken, none_taken}
@@ -63,9 +63,11 @@ EndsMeet-begins book command device meet none carries =
         succeeds = was.succeeds;
       };
       absent = meet.absent;
-      gets_fit =
-          (subst (λ (n : ℕ). GetFits (book.commands ++ command ∷ []) (record { session = begun_of book + 1; command = command; begun = n })) longer
-              (GetFits-sent (book.commands ++ command ∷ []) (begun_of book + 1) command carries (omega arith)), tt);
+      gets_fit = (
+        subst (λ (n : ℕ). GetFits (book.commands ++ command ∷ []) (record { session = begun_of book + 1; command = command; begun = n })) longer
+            (GetFits-sent (book.commands ++ command ∷ []) (begun_of book + 1) command carries (omega arith)),
+        tt,
+      );
       gets_young = ((sym longer, sym longer), tt);
       reports_young = tt;
       reports_succeed = tt;

@@ -1,9 +1,9 @@
 -- Each event keeps the facts on the request under way, and moves what is on its way.
-use Rattle.std.proofs.Common.{◌≡◌, ℕ, ◌+◌, ◌≤◌, List, [], ◌∷◌, ◌++◌, length, Option, Some, None, refl, sym, ap, subst, ◌∙◌, arith, length-append, append-nil, append_assoc}
+use Rattle.std.proofs.Common.{◌≡◌, ℕ, ◌+◌, ◌≤◌, List, [], ◌∷◌, ◌++◌, length, Option, Some, None, refl, sym, ap, ◌∙◌, arith, length-append, append-nil}
 use Rattle.std.specs.List.{flat_map}
 use Rattle.std.proofs.lemmas.List.Concat.{flat_map-append}
 use Rattle.supervision.specs.Ends.{Get, Report}
-use Rattle.world_facts.specs.World.{World, ToChip, ToHost, Carried, Flight, listed, get_asked, callback_asked, callback_told, report_told, get_carried, report_carried, gets_flying, reports_flying, gets, reports}
+use Rattle.world_facts.specs.World.{ToChip, ToHost, Carried, Flight, listed, callback_asked, callback_told, get_carried, gets_flying}
 use Rattle.world_facts.specs.World.ToChip.{Asks, Acknowledges}
 use Rattle.world_facts.specs.World.ToHost.{Confirms, Takes, Calls_back, Brings}
 use Rattle.world_facts.specs.World.Carried.{Carries_get, Carries_report}
@@ -113,7 +113,7 @@ pub OnTheWay-acks : (request : Option ℕ) (to_chip : List ToChip) (busy : Optio
 OnTheWay-acks request to_chip busy message to_host flying none way = record {
   request_is = way.request_is
       ∙ (ap (λ xs. flat_map callback_asked to_chip ++ (listed busy ++ (xs ++ flat_map callback_told to_host))) none
-          ∙ ap (λ xs. xs ++ (listed busy ++ flat_map callback_told to_host)) (sym (asks_no_more to_chip)));
+      ∙ ap (λ xs. xs ++ (listed busy ++ flat_map callback_told to_host)) (sym (asks_no_more to_chip)));
   carried_out = way.carried_out;
 }
 

@@ -6,8 +6,6 @@ use Rattle.supervision.specs.Host.{HostBook, begun_of, open_session}
 use Rattle.supervision.specs.Ends.{Get, Report, EndsAgree, GetFits, ReportFits}
 use Rattle.supervision.specs.declared.session.TheConstants.{SUCCESS}
 use Rattle.device_sim.specs.State.{State}
-use Rattle.zw_laws.specs.Answers.{first_node}
-use Rattle.zw_laws.specs.Devices.{device_of}
 
 -- nothing on its way is old: a Get is of the last session begun, and was first sent when it was the last one
 abbrev pub IsYoungGet : ℕ → Get → Type 0

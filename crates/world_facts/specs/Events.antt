@@ -1,5 +1,5 @@
 -- What happens in the world: for each event the entries that it makes, and the world after it.
-use Rattle.std.specs.Prelude.{ℕ, ◌+◌, true, false, List, [], ◌∷◌, ◌++◌, length, map, Option, Some, None}
+use Rattle.std.specs.Prelude.{ℕ, ◌+◌, true, false, List, [], ◌∷◌, ◌++◌, length, map, Some, None}
 use Rattle.zw_base.specs.declared.property.By.TheVariants.{Session}
 use Rattle.supervision.specs.Host.{begins, begun_of}
 use Rattle.supervision.specs.Ends.{Get, Report}
@@ -8,7 +8,7 @@ use Rattle.device_sim.specs.State.{State, ticked}
 use Rattle.zw_text.specs.declared.line.Line.{Line}
 use Rattle.zw_text.specs.declared.entry.Ended.TheVariants.{Success}
 use Rattle.zw_text.specs.declared.entry.Entry.{Entry}
-use Rattle.zw_text.specs.declared.entry.Entry.TheVariants.{Echo, Begin, Written, Air, Heard, Unheard, Dev, Out, Store, Time}
+use Rattle.zw_text.specs.declared.entry.Entry.TheVariants.{Begin, Written, Air, Heard, Unheard, Dev, Out, Store, Time}
 use Rattle.zw_text.specs.declared.entry.Side.TheVariants.{Host, Chip}
 use Rattle.zw_laws.specs.Answers.{first_node}
 use Rattle.zw_laws.specs.Frames.{controller}

@@ -1,5 +1,5 @@
 -- Units on one way of the serial line, as bytes and as what was heard (Serial API: data frames and acknowledgements).
-use Rattle.std.specs.Prelude.{◌≡◌, ℕ, List, [], ◌∷◌, ◌++◌, map}
+use Rattle.std.specs.Prelude.{◌≡◌, ℕ, List, ◌++◌, map}
 use Rattle.std.specs.List.{flat_map}
 use Rattle.serial_frame.specs.Items.{unit_text}
 use Rattle.serial_frame.specs.Stream.{Rest, no_rest}

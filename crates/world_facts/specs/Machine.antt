@@ -1,6 +1,6 @@
 -- What the parts of a program keep, with the bytes of the line and what was heard of it; and what is known of it when the
 -- facts hold (this project's own model).
-use Rattle.std.specs.Prelude.{◌≡◌, ℕ, Bool, true, List, [], ◌∷◌, ◌++◌, map, Option, Some, None}
+use Rattle.std.specs.Prelude.{◌≡◌, ℕ, Bool, true, List, [], map, Option, None}
 use Rattle.serial_frame.specs.Stream.{Rest, no_rest}
 use Rattle.serial_frame.specs.declared.item.Item.{Item}
 use Rattle.supervision.specs.Host.{HostBook, no_sessions}
@@ -13,7 +13,7 @@ use Rattle.world_facts.specs.World.{World, ToChip, ToHost, Flight}
 use Rattle.world_facts.specs.Frames.{air_frame}
 use Rattle.world_facts.specs.Work.{IsPumped}
 use Rattle.world_facts.specs.Line.{unit_to_chip, unit_to_host, AreOnLine}
-use Rattle.world_facts.specs.Facts.{Facts, Holds}
+use Rattle.world_facts.specs.Facts.{Facts}
 use Rattle.world_facts.specs.Goes.{Goes}
 
 -- the node of the controller; the host: its orders, those that wait, the sessions, the confirmed value, the callback id

@@ -8,24 +8,20 @@ use Rattle.supervision.specs.Host.{begun_of, open_session, begins}
 use Rattle.supervision.specs.Session.{wire_id}
 use Rattle.device_sim.specs.State.{State}
 use Rattle.device_sim.specs.Hearing.{get_text, set_text}
-use Rattle.zw_text.specs.declared.line.Line.TheVariants.{Set}
-use Rattle.zw_text.specs.declared.line.Word.{Word}
-use Rattle.zw_text.specs.declared.line.Word.TheVariants.{On, Off, Level}
 use Rattle.zw_text.specs.declared.entry.Entry.{Entry}
 use Rattle.zw_text.specs.declared.entry.Entry.TheVariants.{Begin, Written}
 use Rattle.zw_text.specs.declared.entry.Side.TheVariants.{Host}
 use Rattle.zw_laws.specs.Answers.{first_node}
 use Rattle.zw_laws.specs.Orders.{switch_value}
-use Rattle.world_facts.specs.Units.{value_asked, ask_unit}
+use Rattle.world_facts.specs.Units.{value_asked, send_frame, ask_unit}
 use Rattle.world_facts.specs.Kept.{Kept}
 use Rattle.world_facts.specs.Work.{IsPumped}
 use Rattle.world_facts.proofs.KeptLemmas.{next_is, begun_waiting}
 use Rattle.world_facts.specs.Machine.{Machine, Knows, GoesOn}
 use Rattle.world_facts.proofs.KnowsHost.{Knows-begins, order_is}
 use Rattle.world_facts.proofs.GoesLemmas.{GoesOn-by}
-use Rattle.zwave_console.specs.Bodies.{send_data}
 use Rattle.zwave_console.specs.Pipe.{Flow}
-use Rattle.zwave_console.specs.Host.{HostParts, opening_by, opening_of, opens, order_at, value_of}
+use Rattle.zwave_console.specs.Host.{HostParts, opening_by, opening_of, opens, order_at}
 use Rattle.zwave_console.specs.Knows.{line_of, machine_of}
 use Rattle.zwave_console.specs.World.{IsPumpedIfKnown}
 use Rattle.zwave_console.specs.declared.host.Order.{Order}
@@ -83,15 +79,9 @@ slice_get-map f [] i x e = absurd (grind arith)
 slice_get-map f (y ∷ ys) zero x e = cc
 slice_get-map f (y ∷ ys) (suc i) x e = slice_get-map f ys i x e
 
--- the host and the laws mean the same value
-pub same_value : (word : Word) → switch_value word ≡ value_of word
-same_value On = refl
-same_value Off = refl
-same_value (Level level) = refl
-
 pub begins-goes : (self : World) (opening : Opening) (order : Order) (host : HostParts) (pipe : Flow) (unit : List ℕ) (entries entries' : List Entry) →
     opening_of self.host ≡ Some opening → order_at self.host.orders opening.command ≡ Some order → self.stamped ≡ true → host ≡ opens self.host opening →
-    unit ≡ unit_text (Framed (send_data order.node (get_text (wire_id opening.session) (set_text (value_of order.word))) opening.callback)) →
+    unit ≡ unit_text (Framed (send_frame order.node (get_text (wire_id opening.session) (set_text (switch_value order.word))) opening.callback)) →
     pipe.bytes ≡ self.to_chip.bytes ++ unit → entries' ≡ entries ++ Begin order.node opening.session opening.command ∷ Written Host unit ∷ [] →
     GoesOn (machine_of self) (machine_of (record self { host = host; to_chip = pipe })) entries entries'
 begins-goes self opening order host pipe unit entries entries' opens_is ordered stamped host_is unit_is written entered =
@@ -99,21 +89,21 @@ begins-goes self opening order host pipe unit entries entries' opens_is ordered 
     let m : Machine = machine_of self in
     let line : slice_get m.orders (opening.command - 1) ≡ Some (line_of order) = slice_get-map line_of self.host.orders (opening.command - 1) order ordered in
     let ask : List ℕ = ask_unit m.orders (record { session = begun_of m.book + 1; command = opening.command; begun = begun_of m.book + 1 }) opening.callback in
-    let value : value_of order.word ≡ value_asked (slice_get m.orders (opening.command - 1)) = sym (same_value order.word) ∙ sym (ap value_asked line) in
+    let value : switch_value order.word ≡ value_asked (slice_get m.orders (opening.command - 1)) = sym (ap value_asked line) in
     GoesOn-by (machine_of self) (machine_of (record self { host = host; to_chip = pipe })) entries entries' (Begin order.node opening.session opening.command ∷ Written Host unit ∷ []) refl entered refl
     (λ before devices lived T knows.
-        let node : order.node ≡ first_node = order_is before devices m lived T order.node order.end order.word opening.command parts.rest knows parts.waits line in
-        let same_unit : unit ≡ ask =
-        unit_is ∙ (λ i. unit_text (Framed (send_data (node i) (get_text (wire_id (parts.session_is i)) (set_text (value i))) opening.callback))) in
-        let base = Knows-begins before devices m lived T opening.command parts.rest opening.callback knows stamped parts.none parts.closed parts.waits in
-        let pipe_is : m.to_chip ++ ask ≡ pipe.bytes = ap (λ bs. m.to_chip ++ bs) (sym same_unit) ∙ sym written in
-        let waiting_is : parts.rest ≡ drop 1 m.waiting = ap (λ cs. drop 1 cs) (sym parts.waits) in
-        subst (λ (mm : Machine). Knows before mm lived devices (T ++ Begin order.node opening.session opening.command ∷ Written Host unit ∷ []))
-        (ap (λ (h : HostParts). machine_of (record self { host = h; to_chip = pipe })) (sym host_is))
-        (subst (λ (mm : Machine). Knows before mm lived devices (T ++ Begin order.node opening.session opening.command ∷ Written Host unit ∷ []))
-            (λ i. record m { waiting = waiting_is i; book = begins m.book opening.command; request = Some opening.callback; to_chip = pipe_is i })
-            (subst (λ (es : List Entry). Knows before (record m { waiting = parts.rest; book = begins m.book opening.command; request = Some opening.callback; to_chip = m.to_chip ++ ask }) lived devices (T ++ es))
-                (λ i. Begin (sym node i) (sym parts.session_is i) opening.command ∷ Written Host (sym same_unit i) ∷ []) base)))
+    let node : order.node ≡ first_node = order_is before devices m lived T order.node order.end order.word opening.command parts.rest knows parts.waits line in
+    let same_unit : unit ≡ ask =
+    unit_is ∙ (λ i. unit_text (Framed (send_frame (node i) (get_text (wire_id (parts.session_is i)) (set_text (value i))) opening.callback))) in
+    let base = Knows-begins before devices m lived T opening.command parts.rest opening.callback knows stamped parts.none parts.closed parts.waits in
+    let pipe_is : m.to_chip ++ ask ≡ pipe.bytes = ap (λ bs. m.to_chip ++ bs) (sym same_unit) ∙ sym written in
+    let waiting_is : parts.rest ≡ drop 1 m.waiting = ap (λ cs. drop 1 cs) (sym parts.waits) in
+    subst (λ (mm : Machine). Knows before mm lived devices (T ++ Begin order.node opening.session opening.command ∷ Written Host unit ∷ []))
+    (ap (λ (h : HostParts). machine_of (record self { host = h; to_chip = pipe })) (sym host_is))
+    (subst (λ (mm : Machine). Knows before mm lived devices (T ++ Begin order.node opening.session opening.command ∷ Written Host unit ∷ []))
+    (λ i. record m { waiting = waiting_is i; book = begins m.book opening.command; request = Some opening.callback; to_chip = pipe_is i })
+    (subst (λ (es : List Entry). Knows before (record m { waiting = parts.rest; book = begins m.book opening.command; request = Some opening.callback; to_chip = m.to_chip ++ ask }) lived devices (T ++ es))
+    (λ i. Begin (sym node i) (sym parts.session_is i) opening.command ∷ Written Host (sym same_unit i) ∷ []) base)))
 
 within-Some : {A : Type 0} (xs : List A) (i : ℕ) → slice_get xs i ≡ None → i < length xs → ⊥
 within-Some [] i none below = omega arith

@@ -14,8 +14,6 @@ use Rattle.supervision.specs.declared.host_node.Told.TheVariants.{Final}
 use Rattle.device_sim.specs.State.{State}
 use Rattle.device_sim.specs.Hearing.{report_text}
 use Rattle.zw_text.specs.declared.line.Line.{Line}
-use Rattle.zw_text.specs.declared.line.Word.{Word}
-use Rattle.zw_text.specs.declared.line.Word.TheVariants.{On, Off, Level}
 use Rattle.zw_text.specs.declared.entry.Ended.TheVariants.{Success}
 use Rattle.zw_text.specs.declared.entry.Entry.{Entry}
 use Rattle.zw_text.specs.declared.entry.Entry.TheVariants.{Written, Air, Out, Store}
@@ -32,7 +30,7 @@ use Rattle.world_facts.proofs.KnowsHost.{Knows-host_fed, ConfirmsFirst, TakesFir
 use Rattle.world_facts.proofs.GoesLemmas.{GoesOn-by, GoesOn-quietly, GoesOn-then, Stops-none, Stops-after}
 use Rattle.zwave_console.specs.Air.{Sky}
 use Rattle.zwave_console.specs.Chip.{ChipParts}
-use Rattle.zwave_console.specs.Host.{HostParts, request_after, value_of, value_by, order_at, closing_with, closing_by, closing_of, confirmed_after, told}
+use Rattle.zwave_console.specs.Host.{HostParts, request_after, value_by, order_at, closing_with, closing_by, closing_of, confirmed_after, told}
 use Rattle.zwave_console.specs.Pipe.{Flow}
 use Rattle.zwave_console.specs.Knows.{line_of, frame_of, machine_of, FirstSays}
 use Rattle.zwave_console.specs.World.{store_entries, closing_entries, AddsLines}
@@ -267,12 +265,7 @@ record IsOrder (found : Option Order) (asked : Line) : Type 0 where
   order : Order
   is : found ≡ Some order
   of_node : order.node ≡ first_node
-  value : value_of order.word ≡ value_asked (Some asked)
-
-same_value : (word : Word) → value_of word ≡ switch_value word
-same_value On = refl
-same_value Off = refl
-same_value (Level level) = refl
+  value : switch_value order.word ≡ value_asked (Some asked)
 
 found_order : (found : Option Order) (asked : Line) → option_map line_of found ≡ Some asked → IsTaken asked → IsOrder found asked
 found_order None asked is taken = cc
@@ -282,7 +275,7 @@ found_order (Some order) asked is taken =
       order = order;
       is = refl;
       of_node = (subst IsTaken (sym same) taken).0;
-      value = same_value order.word ∙ ap (λ (line : Line). value_asked (Some line)) same;
+      value = ap (λ (line : Line). value_asked (Some line)) same;
     }
 
 -- what a success of the open session does

@@ -1,6 +1,7 @@
 -- What the host is to its callers, and what it does (sessions and their numbers as in the crate supervision; callback
 -- ids from 1 to 255 in turn are this project's own choice).
 use Rattle.std.specs.Prelude.{ℕ, ◌+◌, ◌-◌, ◌^◌, ◌<◌, ◌≤◌, ◌==◌, if◌then◌else◌, List, [], ◌∷◌, length, drop, slice_get, Option, Some, None}
+use Rattle.zw_laws.specs.Orders.{switch_value}
 use Rattle.zw_text.specs.declared.line.Word.{Word}
 use Rattle.zw_text.specs.declared.line.Word.TheVariants.{On, Off, Level}
 use Rattle.supervision.specs.Host.{HostBook, begun_of, open_session, command_at, begins, told_of, after_report}
@@ -38,12 +39,6 @@ IsLevel On = ⊥
 IsLevel Off = ⊥
 IsLevel (Level level) = Unit {0}
 
--- the value that a word asks of a switch
-abbrev pub value_of : Word → ℕ
-value_of On = 255
-value_of Off = 0
-value_of (Level level) = level
-
 -- the session that begins next, where no request is under way, none is open, and a command waits
 abbrev pub opening_by : Option ℕ → Option ℕ → List ℕ → HostParts → Option Opening
 opening_by (Some callback) session waiting host = None
@@ -76,7 +71,7 @@ order_at orders command = slice_get orders (command - 1)
 -- the value that an order confirms, else the one before
 abbrev pub value_by : Option Order → Option ℕ → Option ℕ
 value_by None before = before
-value_by (Some order) before = Some (value_of order.word)
+value_by (Some order) before = Some (switch_value order.word)
 
 -- what a report closes: a final one of the open session, with its command
 abbrev pub closing_with : Option ℕ → ℕ → Option Closing

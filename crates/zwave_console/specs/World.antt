@@ -5,7 +5,8 @@ use Rattle.zw_text.specs.declared.entry.Entry.TheVariants.{Out, Store}
 use Rattle.zw_laws.specs.Table.{switch}
 use Rattle.world_facts.specs.Machine.{Machine, Knows}
 use Rattle.world_facts.specs.Work.{IsPumped}
-use Rattle.zwave_console.specs.Host.{order_at, value_of}
+use Rattle.zw_laws.specs.Orders.{switch_value}
+use Rattle.zwave_console.specs.Host.{order_at}
 use Rattle.zwave_console.specs.declared.host.Order.{Order}
 use Rattle.zwave_console.specs.declared.host.Closing.{Closing}
 use Rattle.supervision.specs.declared.session.TheConstants.{SUCCESS, FAIL}
@@ -22,7 +23,7 @@ ended_by status = if status == SUCCESS then Success else (if status == FAIL then
 -- the entry of the value that an order confirms
 abbrev pub store_entries : Option Order → List Entry
 store_entries None = []
-store_entries (Some order) = Store order.node (record { property = switch; value = value_of order.word }) ∷ []
+store_entries (Some order) = Store order.node (record { property = switch; value = switch_value order.word }) ∷ []
 
 -- the entries of a session that was closed: the outcome of its command, and at success the value that it confirms
 abbrev pub closing_entries : List Order → Option Closing → List Entry

@@ -1,7 +1,8 @@
 //! The data frames between host and chip that the first path needs.
 
 ghost use Rattle.std.specs.Prelude.{◌≡◌, ◌≤◌, ℕ, List as Items, [], ◌∷◌, ◌++◌, length, IfOk};
-ghost use Rattle.zwave_console.specs.Bodies.{IsSendable, send_data, answered, called_back, came, Spells};
+ghost use Rattle.world_facts.specs.Units.{send_frame, response_frame, callback_frame, came_frame};
+ghost use Rattle.zwave_console.specs.Bodies.{IsSendable, Spells};
 
 use serial_frame::{Frame, Item, Kind, Unit};
 use std::alloc::Global;
@@ -59,7 +60,7 @@ pub fn send_data(
     callback: u8,
 ) -> Result<Frame, NoMemory>
     requires { length payload.now ≤ 46 }
-    ensures { IfOk result (λ frame. frame ≡ send_data node payload.now callback) }
+    ensures { IfOk result (λ frame. frame ≡ send_frame node payload.now callback) }
 {
     let mut body = Bytes::from_slice(alloc, &[node.number(), payload.len() as u8])?;
     body.extend(payload)?;
@@ -73,7 +74,7 @@ pub fn send_data(
 
 /// The response to a SendData.
 pub fn answered(alloc: Global, taken: u8) -> Result<Frame, NoMemory>
-    ensures { IfOk result (λ frame. frame ≡ answered taken) }
+    ensures { IfOk result (λ frame. frame ≡ response_frame taken) }
 {
     Ok(Frame {
         kind: Kind::Response,
@@ -84,7 +85,7 @@ pub fn answered(alloc: Global, taken: u8) -> Result<Frame, NoMemory>
 
 /// The callback of a SendData.
 pub fn called_back(alloc: Global, callback: u8, status: u8) -> Result<Frame, NoMemory>
-    ensures { IfOk result (λ frame. frame ≡ called_back callback status) }
+    ensures { IfOk result (λ frame. frame ≡ callback_frame callback status) }
 {
     Ok(Frame {
         kind: Kind::Request,
@@ -96,7 +97,7 @@ pub fn called_back(alloc: Global, callback: u8, status: u8) -> Result<Frame, NoM
 /// The notice of a payload that came from a node.
 pub fn came(alloc: Global, node: NodeId, payload: &[u8]) -> Result<Frame, NoMemory>
     requires { length payload.now ≤ 46 }
-    ensures { IfOk result (λ frame. frame ≡ came node payload.now) }
+    ensures { IfOk result (λ frame. frame ≡ came_frame node payload.now) }
 {
     let mut body = Bytes::from_slice(alloc, &[0, node.number(), payload.len() as u8])?;
     body.extend(payload)?;

@@ -7,7 +7,8 @@ ghost use Rattle.supervision.specs.Session.{IsStatus};
 ghost use Rattle.supervision.specs.Host.{no_sessions};
 ghost use Rattle.zw_text.specs.declared.line.Word.TheVariants.{On, Off, Level};
 ghost use Rattle.zwave_console.specs.Bodies.{Spells};
-ghost use Rattle.zwave_console.specs.Host.{IsLevel, value_of, value_by, opening_of, opens, request_after, order_at, closing_of, told};
+ghost use Rattle.zw_laws.specs.Orders.{switch_value};
+ghost use Rattle.zwave_console.specs.Host.{IsLevel, value_by, opening_of, opens, request_after, order_at, closing_of, told};
 
 use crate::bodies::Message;
 use crate::inbox::Inbox;
@@ -35,7 +36,7 @@ pub struct Order {
 impl Order {
     /// The value that it asks of a switch.
     pub fn value(&self) -> u8
-        ensures { result ≡ value_of self.now.word }
+        ensures { result ≡ switch_value self.now.word }
     {
         match self.word {
             Word::On => 255,

@@ -133,7 +133,11 @@ fn scenarios_write_their_transcripts(rt: HostRuntime) -> Result<(), Fail> {
     ] {
         let (ended, sink) = sim(rt.alloc(), words, scenario, &[], &[])?;
         assert_eq!(rt; ended, status, "{words:?} at {scenario:?}");
-        assert_eq!(rt; sink.bytes(), transcript.as_bytes(), "{words:?} at {scenario:?}");
+        assert_eq!(rt;
+            sink.bytes(),
+            transcript.as_bytes(),
+            "{words:?} at {scenario:?}"
+        );
     }
     Ok(())
 }

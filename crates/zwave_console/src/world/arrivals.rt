@@ -91,7 +91,11 @@ impl World {
     }
 
     // A frame arrives where no device hears it.
-    pub(super) fn arrive_nowhere(&mut self, flight: Flight, out: &mut List<Entry>) -> Result<(), NoMemory>
+    pub(super) fn arrive_nowhere(
+        &mut self,
+        flight: Flight,
+        out: &mut List<Entry>,
+    ) -> Result<(), NoMemory>
         ensures machine { OnOk result ((callback : ℕ) → self.old.chip.busy ≡ Some callback → machine_of self.new ≡ record (machine_of self.old) {
           busy = None;
           to_host = self.old.to_host.bytes ++ callback_unit callback 1;

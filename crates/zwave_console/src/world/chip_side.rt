@@ -45,7 +45,11 @@ impl World {
     }
 
     // The chip judges the first message of the host.
-    pub(super) fn chip_judges(&mut self, message: Message, out: &mut List<Entry>) -> Result<(), NoMemory>
+    pub(super) fn chip_judges(
+        &mut self,
+        message: Message,
+        out: &mut List<Entry>,
+    ) -> Result<(), NoMemory>
         requires some { 0 < length self.old.chip.heard.items }
         requires says { FirstSays self.old.chip.heard.items message }
         ensures goes { OnOk result (GoesOn (machine_of self.old) (machine_of self.new) out.old.items out.new.items) }
@@ -161,7 +165,13 @@ impl World {
     }
 
     // The entry of a frame that goes on the air.
-    pub(super) fn on_air(&self, frame: u64, sender: NodeId, receiver: NodeId, payload: Payload) -> Entry
+    pub(super) fn on_air(
+        &self,
+        frame: u64,
+        sender: NodeId,
+        receiver: NodeId,
+        payload: Payload,
+    ) -> Entry
         ensures { result ≡ Entry.Air frame sender receiver [] payload }
     {
         Entry::Air {

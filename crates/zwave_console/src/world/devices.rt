@@ -40,7 +40,11 @@ pub(super) fn show_one(alloc: Global, device: &Box<dyn Device>) -> Result<List<S
 }
 
 // Enters values of a device.
-pub(super) fn enter_shown(node: NodeId, shown: &List<Setting>, out: &mut List<Entry>) -> Result<(), NoMemory>
+pub(super) fn enter_shown(
+    node: NodeId,
+    shown: &List<Setting>,
+    out: &mut List<Entry>,
+) -> Result<(), NoMemory>
     ensures { OnOk result (out.new.items ≡ out.old.items ++ map (λ setting. Entry.Device node setting) shown.now.items) }
 {
     for setting in shown.as_slice() {
@@ -131,7 +135,11 @@ pub(super) fn changes_of(device: &Box<dyn Device>) -> u64
 }
 
 // The change at that place of a device's journal, counted from 0.
-pub(super) fn change_of(alloc: Global, device: &Box<dyn Device>, at: u64) -> Result<Option<Change>, NoMemory>
+pub(super) fn change_of(
+    alloc: Global,
+    device: &Box<dyn Device>,
+    at: u64,
+) -> Result<Option<Change>, NoMemory>
     ensures { IfOk result (λ change. change ≡ slice_get (state device.now).journal at) }
 {
     device.change(alloc, at)

@@ -121,7 +121,11 @@ impl World {
     }
 
     // The host judges the first message of the chip. It acknowledges each data frame.
-    pub(super) fn host_judges(&mut self, message: Message, out: &mut List<Entry>) -> Result<(), NoMemory>
+    pub(super) fn host_judges(
+        &mut self,
+        message: Message,
+        out: &mut List<Entry>,
+    ) -> Result<(), NoMemory>
         requires some { 0 < length self.old.host.heard.items }
         requires says { FirstSays self.old.host.heard.items message }
         ensures goes { OnOk result (GoesOn (machine_of self.old) (machine_of self.new) out.old.items out.new.items) }
@@ -175,7 +179,12 @@ impl World {
     }
 
     // The host acknowledges a Supervision Report of the node and takes it.
-    pub(super) fn host_is_told(&mut self, id: u8, status: u8, out: &mut List<Entry>) -> Result<(), NoMemory>
+    pub(super) fn host_is_told(
+        &mut self,
+        id: u8,
+        status: u8,
+        out: &mut List<Entry>,
+    ) -> Result<(), NoMemory>
         requires six_bits { id < 64 }
         requires known { IsStatus status }
         requires some { 0 < length self.old.host.heard.items }

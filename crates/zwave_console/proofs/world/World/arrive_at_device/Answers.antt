@@ -33,8 +33,8 @@ pub returns-clause-quiet : goal.returns-clause-quiet
 returns-clause-quiet g c =
     AddsLines-append [] [] _ _ _
     (AddsLines-append [] [] _ _ _
-        (hears_quietly _ _ _ _ c.in_ok-made.made.items c.args.flight.number c.args.flight.receiver c.reserve-2.ensures.items c.put.ensures.items c.enter_made.ensures.entries)
-        c.answer.ensures.quiet)
+    (hears_quietly _ _ _ _ c.in_ok-made.made.items c.args.flight.number c.args.flight.receiver c.reserve-2.ensures.items c.put.ensures.items c.enter_made.ensures.entries)
+    c.answer.ensures.quiet)
     c.call_back.ensures.quiet
 
 pub returns-clause-same_clock : goal.returns-clause-same_clock

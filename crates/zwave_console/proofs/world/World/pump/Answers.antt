@@ -1,4 +1,4 @@
-use Rattle.std.proofs.Common.{refl, sym, ap, ◌∙◌, rules}
+use Rattle.std.proofs.Common.{rules}
 use Rattle.std.proofs.lemmas.Result.{on_ok_weaker, on_err_weaker}
 use Rattle.world_facts.proofs.GoesLemmas.{GoesOn-none, GoesOn-then, Stops-none, Stops-after}
 use Rattle.zwave_console.specs.Knows.{machine_of}
@@ -26,14 +26,14 @@ pub returns-clause-goes : goal.returns-clause-goes
 returns-clause-goes c =
     on_ok_weaker c.begin.result
     (λ goes. GoesOn-then (machine_of c.args.self.now) (machine_of c.stamp.new.self) (machine_of c.begin.new.self) c.args.out.now.items c.stamp.new.out.items c.begin.new.out.items
-        c.in_ok-stamp.ensures.goes goes)
+    c.in_ok-stamp.ensures.goes goes)
     c.begin.ensures.goes
 
 pub returns-clause-stops : goal.returns-clause-stops
 returns-clause-stops c =
     on_err_weaker c.begin.result
     (λ same. Stops-after (machine_of c.args.self.now) (machine_of c.stamp.new.self) c.args.out.now.items c.stamp.new.out.items c.begin.new.out.items
-        c.in_ok-stamp.ensures.goes (Stops-none (machine_of c.stamp.new.self) c.stamp.new.out.items c.begin.new.out.items same))
+    c.in_ok-stamp.ensures.goes (Stops-none (machine_of c.stamp.new.self) c.stamp.new.out.items c.begin.new.out.items same))
     c.begin.ensures.none
 
 pub returns-clause-pumped : goal.returns-clause-pumped

@@ -21,8 +21,8 @@ returns-in_err-host_moved-clause-stops c =
 pub returns-in_err-pump-2-clause-stops : goal.returns-in_err-pump-2-clause-stops
 returns-in_err-pump-2-clause-stops c =
     OnErr-always _ _ (Stops-after _ _ _ _ _
-        (GoesOn-then _ _ _ _ _ _ (GoesOn-then _ _ _ _ _ _ c.loop.invariant.goes c.in_ok-chip_moved.ensures.goes) c.in_ok-host_moved.ensures.goes)
-        c.in_err-pump-2.ensures.stops)
+    (GoesOn-then _ _ _ _ _ _ (GoesOn-then _ _ _ _ _ _ c.loop.invariant.goes c.in_ok-chip_moved.ensures.goes) c.in_ok-host_moved.ensures.goes)
+    c.in_err-pump-2.ensures.stops)
 
 pub loop-preserved : goal.loop-preserved
 loop-preserved c =
