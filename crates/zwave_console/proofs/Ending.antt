@@ -1,5 +1,5 @@
 -- How a run comes to its end: the lines that were run, and the last lines that the status adds.
-use Rattle.std.proofs.Common.{◌≡◌, inl, inr, ℕ, Bool, true, false, List, [], ◌∷◌, ◌++◌, map, Option, Some, None, Result, Ok, Err, OnOk, IfSome, refl, ap, sym, subst, ◌∙◌, append_assoc, append-nil}
+use Rattle.std.proofs.Common.{◌≡◌, inl, inr, ℕ, ◌+◌, Bool, true, false, List, [], ◌∷◌, ◌++◌, map, Option, Some, None, Result, Ok, Err, OnOk, IfSome, refl, ap, sym, subst, ◌∙◌, append_assoc, append-nil, arith}
 use Rattle.std.specs.Io.KnownBytes.{Appends, Keeps}
 use Rattle.zw_base.specs.declared.property.Setting.{Setting}
 use Rattle.zw_text.specs.declared.line.Line.{Line}
@@ -10,7 +10,7 @@ use Rattle.zw_text.specs.declared.entry.Entry.TheVariants.{Device, TableEnd, Tab
 use Rattle.zw_text.specs.Entry.{text_of}
 use Rattle.device_sim.specs.State.{State, shown_of}
 use Rattle.zw_laws.specs.Headline.{Headline}
-use Rattle.zw_laws.specs.Lines.{lines_of, AreLines, AreFirstLines, AreLinesBefore}
+use Rattle.zw_laws.specs.Lines.{lines_of, AreLines, AreFirstLines, AreLinesBefore, ticks_asked}
 use Rattle.zw_laws.specs.Devices.{device_of}
 use Rattle.zw_laws.specs.Answers.{first_node}
 use Rattle.zw_laws.specs.Table.{switch, value_line, device_lines}
@@ -76,10 +76,12 @@ module _ (before : States) (first : Machine) (is_first : first ≡ first_machine
         Headline-holds whole lines before after transcript shown
         (Holds-either whole before machine after transcript (known (AtEase-first before first is_first made)))
 
-    tables : (transcript : List Entry) → (AtEase before first before [] → AtEase before machine after transcript) →
-        IsTable before after transcript (table_lines machine.clock machine.book.commands machine.confirmed after)
-    tables transcript known =
-        IsTable-at_ease before after machine transcript (λ made. known (AtEase-first before first is_first made))
+    tables : (lines : List Line) (transcript : List Entry) → machine.clock ≡ first.clock + ticks_asked lines →
+        (AtEase before first before [] → AtEase before machine after transcript) →
+        IsTable before after lines transcript (table_lines machine.clock machine.book.commands machine.confirmed after)
+    tables lines transcript clock known =
+        let none : first.clock ≡ 0 = ap (λ (m : Machine). m.clock) is_first in
+        IsTable-at_ease before after machine lines transcript (omega (arith, clock, none)) (λ made. known (AtEase-first before first is_first made))
 
     pub ends_well : (status : Status) (input : List ℕ) (a b c : Option (List ℕ)) → LinesRan All input first machine before after a b →
         EndsWell (table_lines machine.clock machine.book.commands machine.confirmed after) status b c → HasRun status before after input a c
@@ -90,7 +92,7 @@ module _ (before : States) (first : Machine) (is_first : first ≡ first_machine
       run = ran.ended;
       written = (
         table_lines machine.clock machine.book.commands machine.confirmed after,
-        tables ran.transcript (ran.known before),
+        tables ran.lines ran.transcript ran.clock (ran.known before),
         Appends-append a b c (text_of ran.transcript) (text_of (table_lines machine.clock machine.book.commands machine.confirmed after)) ran.written written,
       );
       headline = heads true ran.lines ran.transcript ran.shown (ran.known before);
@@ -102,7 +104,7 @@ module _ (before : States) (first : Machine) (is_first : first ≡ first_machine
       run = lines_all input ran.lines ran.ended;
       written = (
         table_lines machine.clock machine.book.commands machine.confirmed after,
-        inr (inl (tables ran.transcript (ran.known before))),
+        inr (inl (tables ran.lines ran.transcript ran.clock (ran.known before))),
         AppendsFront-append a b c (text_of ran.transcript) (text_of (table_lines machine.clock machine.book.commands machine.confirmed after)) ran.written written,
       );
       headline = heads true ran.lines ran.transcript ran.shown (ran.known before);

@@ -1,11 +1,13 @@
 -- The headline, from what a line does up to the end of a run.
-use Rattle.std.proofs.Common.{◌≡◌, inl, inr, ℕ, Bool, true, false, List, [], ◌∷◌, ◌++◌, Option, Result, Ok, Err, OnOk, OnErr, refl, ap, sym, subst, ◌∙◌, append-nil}
+use Rattle.std.proofs.Common.{◌≡◌, inl, inr, ℕ, ◌+◌, Bool, true, false, List, [], ◌∷◌, ◌++◌, Option, Result, Ok, Err, OnOk, OnErr, ap, sym, subst, ◌∙◌, append-nil}
 use Rattle.std.specs.Io.KnownBytes.{Appends}
 use Rattle.zw_text.specs.declared.line.Line.{Line}
 use Rattle.zw_text.specs.declared.entry.Entry.{Entry}
 use Rattle.zw_text.specs.Entry.{text_of}
 use Rattle.zw_text.specs.Transcript.{lines_run}
 use Rattle.zw_laws.specs.Headline.{Headline}
+use Rattle.zw_laws.specs.Lines.{ticks_asked}
+use Rattle.zw_laws.specs.Table.{table_of}
 use Rattle.world_facts.specs.Facts.{Holds}
 use Rattle.world_facts.specs.Goes.{Goes}
 use Rattle.world_facts.specs.Machine.{Machine, AtEase, first_machine}
@@ -44,14 +46,15 @@ AtEase-first before machine first (key, made) =
     subst (λ (m : Machine). AtEase before m before []) (sym first) (Knows-first key before made)
 
 -- between lines the final table is that of the transcript
-pub IsTable-at_ease : (before after : States) (machine : Machine) (transcript : List Entry) → (AreAsMade before → AtEase before machine after transcript) →
-    IsTable before after transcript (table_lines machine.clock machine.book.commands machine.confirmed after)
-IsTable-at_ease before after machine transcript known = record {
-  clock = machine.clock;
+pub IsTable-at_ease : (before after : States) (machine : Machine) (lines : List Line) (transcript : List Entry) → machine.clock ≡ ticks_asked lines →
+    (AreAsMade before → AtEase before machine after transcript) →
+    IsTable before after lines transcript (table_lines machine.clock machine.book.commands machine.confirmed after)
+IsTable-at_ease before after machine lines transcript clock known = record {
   sessions = machine.book.commands;
   confirmed = machine.confirmed;
-  form = refl;
-  is = λ made. Knows-tables before after machine transcript (known made);
+  form = ap (λ (ticks : ℕ). table_lines ticks machine.book.commands machine.confirmed after) clock;
+  is = λ made.
+      Knows-tables before after machine transcript (known made) ∙ ap (λ (ticks : ℕ). table_of ticks transcript after) clock;
 }
 
 -- what holds where a call succeeds, by what it ensures there
@@ -85,12 +88,14 @@ front_written shown out sink sink' (Err e) seen whole front = subst (λ (es : Li
 module _ {first out : List Entry} (none : first ≡ []) (shown : List Entry) (seen : shown ≡ out) (sink sink' : Option (List ℕ))
     {T E : Type 0} (written : Result T E) (whole : OnOk written (Appends sink sink' (text_of shown)))
     (front : OnErr written (AppendsFront sink sink' (text_of shown))) {line : Line} {old : Machine} {devices devices' : States} where
-  module _ {new : Machine} (goes : (before : States) → Goes (line ∷ []) (AtEase before old devices) (AtEase before new devices') first out) where
+  module _ {new : Machine} (goes : (before : States) → Goes (line ∷ []) (AtEase before old devices) (AtEase before new devices') first out)
+      (clock : new.clock ≡ old.clock + ticks_asked (line ∷ [])) where
     -- the line went to its end
     runs : (IsWritten : List ℕ → Type 0) → IsWritten (text_of out) → LineRan line old new devices devices' IsWritten
     runs IsWritten is_written = record {
       entries = out;
       shown = added_shows none (goes []);
+      clock = clock;
       known = λ before transcript ease. added_known none (goes before) transcript ease;
       written = is_written;
     }

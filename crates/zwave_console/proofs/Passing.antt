@@ -1,5 +1,5 @@
 -- Orders, ticks and what arrives, as events of which the facts speak: over plain variables.
-use Rattle.std.proofs.Common.{◌≡◌, ◌≢◌, ℕ, ◌+◌, true, false, List, [], ◌∷◌, ◌++◌, length, map, take, drop, Result, Ok, Err, IsErrOf, OnOk, OnErr, refl, sym, ap, subst, ◌∙◌, inl, inr, append_assoc}
+use Rattle.std.proofs.Common.{◌≡◌, ◌≢◌, ℕ, ◌+◌, true, false, List, [], ◌∷◌, ◌++◌, length, map, take, drop, Result, Ok, Err, IsErrOf, OnOk, OnErr, refl, sym, ap, subst, ◌∙◌, inl, inr, append_assoc, arith}
 use Rattle.std.proofs.lemmas.Bool.Decides.{eqb_tells}
 use Rattle.std.proofs.lemmas.List.{length-map, map-append}
 use Rattle.device_sim.specs.State.{ticked}
@@ -14,6 +14,7 @@ use Rattle.zw_text.specs.declared.entry.Refusal.{Refusal}
 use Rattle.zw_text.specs.declared.entry.Refusal.TheVariants.{NotJoined, BadValue, MailboxFull}
 use Rattle.zw_laws.specs.Answers.{first_node}
 use Rattle.world_facts.specs.Kept.{IsOnOff}
+use Rattle.zw_laws.specs.Lines.{ticks_asked}
 use Rattle.world_facts.specs.Goes.{Goes}
 use Rattle.world_facts.specs.Facts.{Holds}
 use Rattle.world_facts.specs.Machine.{Machine, Knows, Held, GoesOn, Stops, AtEase}
@@ -323,3 +324,12 @@ module _ {T E : Type 0} (r : Result T E) where
       OnErr-map r _ _ (λ stops before.
       after_ticked before next [] (AtEase before old now) (Holds false before later) mid lived later x y z (sym clock) all (first before)
       (stops_holds before later mid mid.clock y z stops))
+
+-- the clock after a line: a set takes no tick, a tick line as many as it says
+pub set_clock : (line : Line) (node end : ℕ) (word : Word) (old new : ℕ) → line ≡ Set node end word → new ≡ old → new ≡ old + ticks_asked (line ∷ [])
+set_clock line node end word old new is same =
+    let none : ticks_asked (line ∷ []) ≡ 0 = ap (λ (l : Line). ticks_asked (l ∷ [])) is in omega arith
+
+pub tick_clock : (line : Line) (count old new : ℕ) → line ≡ Tick count → new ≡ old + count → new ≡ old + ticks_asked (line ∷ [])
+tick_clock line count old new is same =
+    let all : ticks_asked (line ∷ []) ≡ count + 0 = ap (λ (l : Line). ticks_asked (l ∷ [])) is in omega arith

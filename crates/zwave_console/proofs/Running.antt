@@ -4,6 +4,7 @@ use Rattle.std.specs.Io.KnownBytes.{Appends}
 use Rattle.std.proofs.lemmas.Bool.Decides.{nat_tests}
 use Rattle.std.proofs.lemmas.Grind.{flat_map-append}
 use Rattle.zw_text.specs.declared.line.Line.{Line}
+use Rattle.zw_text.specs.declared.line.Line.TheVariants.{Set, Tick}
 use Rattle.zw_text.specs.declared.fault.LineFault.{LineFault}
 use Rattle.zw_text.specs.declared.fault.LineFault.TheVariants.{Unknown}
 use Rattle.zw_text.specs.declared.fault.ReadLineFault.{ReadLineFault}
@@ -12,7 +13,7 @@ use Rattle.zw_text.specs.declared.entry.Entry.{Entry}
 use Rattle.zw_text.specs.Entry.{text_of, line_text}
 use Rattle.zw_text.specs.Line.{LineText}
 use Rattle.zw_text.specs.Transcript.{lines_run, line_of}
-use Rattle.zw_laws.specs.Lines.{lines_of, AreLines, AreFirstLines}
+use Rattle.zw_laws.specs.Lines.{lines_of, AreLines, AreFirstLines, ticks_asked}
 use Rattle.world_facts.specs.Machine.{Machine, AtEase}
 use Rattle.zwave_console.specs.Knows.{States}
 use Rattle.zwave_console.specs.Output.{AppendsFront}
@@ -31,6 +32,7 @@ pub record RunsOn (number : ℕ) (input rest : List ℕ) (old new : Machine) (de
   pub read : AreLines front lines
   pub count : number ≡ length front
   pub shown : lines_run transcript ≡ lines
+  pub clock : new.clock ≡ old.clock + ticks_asked lines
   pub known : (before : States) → AtEase before old devices [] → AtEase before new devices' transcript
   pub written : Appends sink sink' (text_of transcript)
 
@@ -40,6 +42,12 @@ AreLines-append [] [] text line read last = (last, tt)
 AreLines-append [] (l ∷ lines) text line read last = absurd read
 AreLines-append (t ∷ front) [] text line read last = absurd read
 AreLines-append (t ∷ front) (l ∷ lines) text line read last = (read.0, AreLines-append front lines text line read.1 last)
+
+-- the ticks of one more line
+ticks_asked-more : (lines : List Line) (line : Line) → ticks_asked (lines ++ line ∷ []) ≡ ticks_asked lines + ticks_asked (line ∷ [])
+ticks_asked-more [] line = omega arith
+ticks_asked-more (Set node end word ∷ lines) line = ticks_asked-more lines line
+ticks_asked-more (Tick count ∷ lines) line = let rest = ticks_asked-more lines line in omega (arith, rest)
 
 lines_run-append : (xs ys : List Entry) → lines_run (xs ++ ys) ≡ lines_run xs ++ lines_run ys
 lines_run-append xs ys = flat_map-append line_of xs ys
@@ -58,6 +66,7 @@ RunsOn-start input machine devices sink same = record {
   read = tt;
   count = refl;
   shown = refl;
+  clock = omega arith;
   known = λ before ease. ease;
   written = same;
 }
@@ -74,6 +83,7 @@ LinesRan-all {rest = []} so_far none = record {
   lines = so_far.lines;
   shown = so_far.shown;
   ended = subst (λ (texts : List (List ℕ)). AreLines texts so_far.lines) (sym (so_far.parts ∙ append-nil so_far.front)) so_far.read;
+  clock = so_far.clock;
   known = so_far.known;
   written = so_far.written;
 }
@@ -139,6 +149,7 @@ module _ {number : ℕ} {input rest : List ℕ} {old mid : Machine} {devices dev
       },
       same ∙ unknown_word fault found is either,
     );
+    clock = tt;
     known = so_far.known;
     written = so_far.written;
   }
@@ -150,6 +161,7 @@ module _ {number : ℕ} {input rest : List ℕ} {old mid : Machine} {devices dev
     lines = so_far.lines;
     shown = so_far.shown;
     ended = first_so_far;
+    clock = tt;
     known = λ before ease. Holds-cut before mid devices' so_far.transcript (so_far.known before ease);
     written = subst (λ (bytes : List ℕ). AppendsFront sink sink' bytes) (append-nil (text_of so_far.transcript))
         (AppendsFront-whole sink sink' (text_of so_far.transcript) [] so_far.written);
@@ -167,6 +179,10 @@ module _ {number : ℕ} {input rest : List ℕ} {old mid : Machine} {devices dev
       read = AreLines-append so_far.front so_far.lines text line so_far.read is_line;
       count = let n : number ≡ length so_far.front = so_far.count in omega (arith, length-append so_far.front (text ∷ []));
       shown = shown_more ran.entries (line ∷ []) ran.shown;
+      clock =
+          let so_long = so_far.clock in
+          let more = ran.clock in
+          omega (arith, so_long, more, ticks_asked-more so_far.lines line);
       known = λ before ease. ran.known before so_far.transcript (so_far.known before ease);
       written = subst (λ (bytes : List ℕ). Appends sink sink'' bytes) (sym (text_of-append so_far.transcript ran.entries))
           (Appends-append sink sink' sink'' (text_of so_far.transcript) (text_of ran.entries) so_far.written ran.written);
@@ -180,6 +196,7 @@ module _ {number : ℕ} {input rest : List ℕ} {old mid : Machine} {devices dev
       lines = so_far.lines ++ line ∷ [];
       shown = shown_more ran.entries (line ∷ []) ran.shown;
       ended = first_more line is_line;
+      clock = tt;
       known = λ before ease. ran.known before so_far.transcript (so_far.known before ease);
       written = front_more sink'' ran.entries ran.written;
     }
@@ -192,6 +209,7 @@ module _ {number : ℕ} {input rest : List ℕ} {old mid : Machine} {devices dev
         lines = so_far.lines;
         shown = shown_more stopped.entries [] none ∙ append-nil so_far.lines;
         ended = first_so_far;
+        clock = tt;
         known = λ before ease. stopped.holds before so_far.transcript (so_far.known before ease);
         written = front_more sink'' stopped.entries stopped.written;
       }
@@ -200,6 +218,7 @@ module _ {number : ℕ} {input rest : List ℕ} {old mid : Machine} {devices dev
         lines = so_far.lines ++ line ∷ [];
         shown = shown_more stopped.entries (line ∷ []) one;
         ended = first_more line is_line;
+        clock = tt;
         known = λ before ease. stopped.holds before so_far.transcript (so_far.known before ease);
         written = front_more sink'' stopped.entries stopped.written;
       }

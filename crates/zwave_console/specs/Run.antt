@@ -1,5 +1,5 @@
 -- What a run reads, runs and writes, by its status (this project's own).
-use Rattle.std.specs.Prelude.{◌≡◌, ◌⊎◌, ℕ, Bool, true, false, List, [], ◌∷◌, ◌++◌, Option, codes, string_bytes, ⊤}
+use Rattle.std.specs.Prelude.{◌≡◌, ◌⊎◌, ℕ, ◌+◌, Bool, true, false, List, [], ◌∷◌, ◌++◌, Option, codes, string_bytes, ⊤}
 use Rattle.std.specs.List.{AllByRecursion}
 use Rattle.std.specs.Io.KnownBytes.{Appends, Keeps}
 use Rattle.std.specs.declared.string.String.{String}
@@ -15,7 +15,7 @@ use Rattle.zw_laws.specs.Answers.{first_node}
 use Rattle.zw_laws.specs.Devices.{device_of}
 use Rattle.zw_laws.specs.Headline.{IsAsMade, Headline}
 use Rattle.zw_laws.specs.Table.{switch, value_line, device_lines, table_of}
-use Rattle.zw_laws.specs.Lines.{lines_of, AreLines, AreFirstLines, AreLinesBefore}
+use Rattle.zw_laws.specs.Lines.{lines_of, AreLines, AreFirstLines, AreLinesBefore, ticks_asked}
 use Rattle.world_facts.specs.Facts.{Holds}
 use Rattle.world_facts.specs.Machine.{Machine, AtEase}
 use Rattle.zwave_console.specs.Knows.{States}
@@ -46,6 +46,13 @@ EndsKnown (bad_met number fault) before machine devices transcript = AtEase befo
 EndsKnown write_failed before machine devices transcript = AtEase before machine devices transcript
 EndsKnown no_memory before machine devices transcript = Holds false before devices transcript
 
+-- at the end of all lines the clock has gone on by the ticks that they ask for
+abbrev pub EndsClock : LinesEnd → ℕ → ℕ → List Line → Type 0
+EndsClock all_run old new lines = new ≡ old + ticks_asked lines
+EndsClock (bad_met number fault) old new lines = ⊤
+EndsClock write_failed old new lines = ⊤
+EndsClock no_memory old new lines = ⊤
+
 -- the lines of an input were run up to this end, with a transcript that was written. Where the facts held before them,
 -- what is known at the end is
 pub record LinesRan (end : LinesEnd) (input : List ℕ) (old new : Machine) (devices devices' : States) (sink sink' : Option (List ℕ)) : Type 0 where
@@ -53,6 +60,7 @@ pub record LinesRan (end : LinesEnd) (input : List ℕ) (old new : Machine) (dev
   pub lines : List Line
   pub shown : lines_run transcript ≡ lines
   pub ended : EndsLines end (lines_of input) lines
+  pub clock : EndsClock end old.clock new.clock lines
   pub known : (before : States) → AtEase before old devices [] → EndsKnown end before new devices' transcript
   pub written : EndsText end sink sink' (text_of transcript)
 
@@ -104,19 +112,18 @@ table_lines clock sessions confirmed devices =
     TableEnd clock ∷ TableNode first_node sessions
     ∷ (value_line first_node switch confirmed ++ device_lines first_node (device_of first_node devices))
 
--- the last lines have the form of the final table of the devices at exit, and where the devices at entry were as made, they
--- are the table after this transcript
-pub record IsTable (before after : States) (transcript table : List Entry) : Type 0 where
-  pub clock : ℕ
+-- the last lines have the form of the final table of the devices at exit, with the ticks that the lines ask for, and where
+-- the devices at entry were as made, they are the table after this transcript
+pub record IsTable (before after : States) (lines : List Line) (transcript table : List Entry) : Type 0 where
   pub sessions : List ℕ
   pub confirmed : Option ℕ
-  pub form : table ≡ table_lines clock sessions confirmed after
-  pub is : AreAsMade before → table ≡ table_of clock transcript after
+  pub form : table ≡ table_lines (ticks_asked lines) sessions confirmed after
+  pub is : AreAsMade before → table ≡ table_of (ticks_asked lines) transcript after
 
 -- the last lines of a run
-abbrev pub AreLast : States → States → List Entry → List Entry → Type 0
-AreLast before after transcript last =
-    (last ≡ []) ⊎ (IsTable before after transcript last ⊎ ((number : ℕ) × (last ≡ bad_line number Unknown ∷ [])))
+abbrev pub AreLast : States → States → List Line → List Entry → List Entry → Type 0
+AreLast before after lines transcript last =
+    (last ≡ []) ⊎ (IsTable before after lines transcript last ⊎ ((number : ℕ) × (last ≡ bad_line number Unknown ∷ [])))
 
 -- which lines were run, of the texts of an input
 abbrev pub RunsLines : Status → List (List ℕ) → List Line → Type 0
@@ -130,18 +137,18 @@ RunsLines InputTooLong texts lines = lines ≡ []
 RunsLines (BadHex place) texts lines = lines ≡ []
 
 -- what was written: the transcript's text and the last lines that the status adds, or a front of it
-abbrev pub Writes : Status → States → States → Option (List ℕ) → Option (List ℕ) → List Entry → Type 0
-Writes Ok before after old new transcript =
-    (table : List Entry) × IsTable before after transcript table × Appends old new (text_of transcript ++ text_of table)
-Writes (BadLine number fault) before after old new transcript =
+abbrev pub Writes : Status → States → States → List Line → Option (List ℕ) → Option (List ℕ) → List Entry → Type 0
+Writes Ok before after lines old new transcript =
+    (table : List Entry) × IsTable before after lines transcript table × Appends old new (text_of transcript ++ text_of table)
+Writes (BadLine number fault) before after lines old new transcript =
     Appends old new (text_of transcript ++ text_of (bad_line number fault ∷ []))
-Writes WriteFault before after old new transcript =
-    (last : List Entry) × AreLast before after transcript last × AppendsFront old new (text_of transcript ++ text_of last)
-Writes NoMemory before after old new transcript = AppendsFront old new (text_of transcript)
-Writes Usage before after old new transcript = Keeps old new
-Writes ReadFault before after old new transcript = Keeps old new
-Writes InputTooLong before after old new transcript = Keeps old new
-Writes (BadHex place) before after old new transcript = Keeps old new
+Writes WriteFault before after lines old new transcript =
+    (last : List Entry) × AreLast before after lines transcript last × AppendsFront old new (text_of transcript ++ text_of last)
+Writes NoMemory before after lines old new transcript = AppendsFront old new (text_of transcript)
+Writes Usage before after lines old new transcript = Keeps old new
+Writes ReadFault before after lines old new transcript = Keeps old new
+Writes InputTooLong before after lines old new transcript = Keeps old new
+Writes (BadHex place) before after lines old new transcript = Keeps old new
 
 -- lines of the input were run with a transcript that was written, as the status says. Where the devices at entry were as
 -- their maker leaves them, the headline holds of these lines, of the devices and of this transcript
@@ -150,7 +157,7 @@ pub record HasRun (status : Status) (before after : States) (input : List ℕ) (
   pub lines : List Line
   pub shown : lines_run transcript ≡ lines
   pub run : RunsLines status (lines_of input) lines
-  pub written : Writes status before after old new transcript
+  pub written : Writes status before after lines old new transcript
   pub headline : AreAsMade before → Headline (is_whole status) lines before after transcript
 
 -- how the final table was written

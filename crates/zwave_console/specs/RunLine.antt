@@ -1,19 +1,21 @@
 -- What running one line does and writes (this project's own).
-use Rattle.std.specs.Prelude.{◌≡◌, ◌⊎◌, ℕ, false, List, [], ◌∷◌, ◌++◌, Option}
+use Rattle.std.specs.Prelude.{◌≡◌, ◌⊎◌, ℕ, ◌+◌, false, List, [], ◌∷◌, ◌++◌, Option}
 use Rattle.zw_text.specs.declared.line.Line.{Line}
 use Rattle.zw_text.specs.declared.entry.Entry.{Entry}
 use Rattle.zw_text.specs.Entry.{text_of}
 use Rattle.zw_text.specs.Transcript.{lines_run}
+use Rattle.zw_laws.specs.Lines.{ticks_asked}
 use Rattle.world_facts.specs.Facts.{Holds}
 use Rattle.world_facts.specs.Machine.{Machine, AtEase}
 use Rattle.zwave_console.specs.Knows.{States}
 use Rattle.zwave_console.specs.Output.{AppendsFront}
 
--- the line was run, with entries whose text was written so: what was known of every transcript before them is known of it
--- with them
+-- the line was run, with entries whose text was written so: the clock went on by the ticks that it asks for, and what was
+-- known of every transcript before the entries is known of it with them
 pub record LineRan (line : Line) (old new : Machine) (devices devices' : States) (IsWritten : List ℕ → Type 0) : Type 0 where
   pub entries : List Entry
   pub shown : lines_run entries ≡ line ∷ []
+  pub clock : new.clock ≡ old.clock + ticks_asked (line ∷ [])
   pub known : (before : States) (transcript : List Entry) → AtEase before old devices transcript →
       AtEase before new devices' (transcript ++ entries)
   pub written : IsWritten (text_of entries)

@@ -8,6 +8,7 @@ ghost use Rattle.zwave_console.specs.Knows.{States, line_of, machine_of, KnowsSt
 ghost use Rattle.world_facts.specs.Goes.{Goes};
 ghost use Rattle.world_facts.specs.Machine.{first_machine, GoesOn, Stops, Knows, AtEase};
 ghost use Rattle.world_facts.specs.Facts.{Holds};
+ghost use Rattle.zw_laws.specs.Lines.{ticks_asked};
 ghost use Rattle.zw_text.specs.Line.{IsWithinRanges};
 
 mod arrivals;
@@ -91,6 +92,7 @@ impl World {
             (AtEase before (machine_of self.new) (map (λ d. state d) devices.new.items)) out.old.items out.new.items) }
         ensures stops { OnErr result ((before : States) → GoesUpTo line (AtEase before (machine_of self.old) (map (λ d. state d) devices.old.items))
             (Holds false before (map (λ d. state d) devices.new.items)) out.old.items out.new.items) }
+        ensures clock { OnOk result (self.new.clock ≡ self.old.clock + ticks_asked (line ∷ [])) }
         ensures kept { length devices.new.items ≡ length devices.old.items }
     {
         match line {
@@ -100,7 +102,7 @@ impl World {
             }
             Line::Tick { count } => {
                 out.push(Entry::Echo { line })?;
-                for _ in 0..count {
+                for _passed in 0..count {
                     self.tick(devices, draw, out)?;
                 }
                 Ok(())
@@ -114,6 +116,7 @@ impl World {
         requires in_range { IsWithinRanges line }
         ensures goes { OnOk result ((before devices : States) → Goes (line ∷ []) (AtEase before (machine_of self.old) devices)
             (KnowsStamped before (machine_of self.new) devices) out.old.items out.new.items) }
+        ensures clock { self.new.clock ≡ self.old.clock }
         ensures none { OnErr result (out.new.items ≡ out.old.items) }
     {
         out.reserve(2)?;
@@ -174,6 +177,7 @@ impl World {
             (AtEase before (machine_of self.new) (map (λ d. state d) devices.new.items)) out.old.items out.new.items) }
         ensures stops { OnErr result ((before : States) → Goes [] (AtEase before (machine_of self.old) (map (λ d. state d) devices.old.items))
             (Holds false before (map (λ d. state d) devices.new.items)) out.old.items out.new.items) }
+        ensures clock { OnOk result (self.new.clock ≡ self.old.clock + 1) }
         ensures kept { length devices.new.items ≡ length devices.old.items }
     {
         if self.clock == u64::MAX {
@@ -193,6 +197,7 @@ impl World {
     fn come_to_rest(&mut self, out: &mut List<Entry>) -> Result<(), NoMemory>
         ensures goes { OnOk result ((before devices : States) → Goes [] (Knows before (machine_of self.old) self.old.clock devices)
             (AtEase before (machine_of self.new) devices) out.old.items out.new.items) }
+        ensures clock { OnOk result (self.new.clock ≡ self.old.clock) }
         ensures stops { OnErr result (Stops (machine_of self.old) out.old.items out.new.items) }
     {
         self.settle(out)?;

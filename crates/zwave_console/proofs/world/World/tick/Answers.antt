@@ -1,4 +1,5 @@
 use Rattle.std.proofs.Common.{[], refl, sym, ◌∙◌}
+use Rattle.std.proofs.lemmas.Result.{on_ok_weaker}
 use Rattle.world_facts.proofs.GoesLemmas.{Goes-then}
 use Rattle.zwave_console.proofs.Passing.{ease_holds, tick_begins, tick_stops, tick_cut, tick_rests, tick_ends}
 use Rattle.zwave_console.proofs.world.World.tick.Goals as goal
@@ -32,3 +33,6 @@ returns-clause-goes g c =
 pub returns-clause-stops : goal.returns-clause-stops
 returns-clause-stops g c =
     tick_ends _ _ _ c.args.self.now.clock _ _ _ _ _ _ c.loop.invariant.clock c.in_ok-tick_all.ensures.all c.loop.invariant.goes c.come_to_rest.ensures.stops
+
+pub returns-clause-clock : goal.returns-clause-clock
+returns-clause-clock g c = on_ok_weaker c.come_to_rest.result (λ same. same ∙ c.loop.invariant.clock) c.come_to_rest.ensures.clock
