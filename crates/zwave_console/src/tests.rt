@@ -11,6 +11,12 @@ use zw_text::LineFault;
 
 const KEY: [u8; 16] = [7; 16];
 
+/// No read or write fails.
+const NONE: &[u64] = &[];
+
+/// The third one fails.
+const THIRD: &[u64] = &[3];
+
 /// What `set 2 on`, `tick 2` writes.
 const SWITCHED_ON: &str = "> set 2 on
 accepted 1 node 2
@@ -78,6 +84,123 @@ node 2 sessions -
 device 2 0/switch 0
 ";
 
+/// What `set 2 on`, `set 2 off`, `tick 4` writes: the second command waits for the first.
+const OFF_AFTER_ON: &str = "> set 2 on
+accepted 1 node 2
+begin 2 1 1
+h 010E001302076C0101032501FF250177
+c 06
+c 0104011301E8
+air 1 1>2 via - 6C0101032501FF
+h 06
+> set 2 off
+accepted 2 node 2
+> tick 4
+t 1
+heard 1
+dev 2 1 0/switch 255
+air 2 2>1 via - 6C0201FF00
+c 010500130100E8
+h 06
+t 2
+heard 2
+c 010B00040002056C0201FF0067
+h 06
+out 1 success
+store 2 0/switch 255
+begin 2 2 2
+h 010E001302076C010203250100250288
+c 06
+c 0104011301E8
+air 3 1>2 via - 6C010203250100
+h 06
+t 3
+heard 3
+dev 2 2 0/switch 0
+air 4 2>1 via - 6C0202FF00
+c 010500130200EB
+h 06
+t 4
+heard 4
+c 010B00040002056C0202FF0064
+h 06
+out 2 success
+store 2 0/switch 0
+end 4
+node 2 sessions 1 2
+value 2 0/switch confirmed 0 heard -
+device 2 0/switch 0
+";
+
+/// The same command eighteen times.
+const EIGHTEEN: &str = "set 2 on
+set 2 on
+set 2 on
+set 2 on
+set 2 on
+set 2 on
+set 2 on
+set 2 on
+set 2 on
+set 2 on
+set 2 on
+set 2 on
+set 2 on
+set 2 on
+set 2 on
+set 2 on
+set 2 on
+set 2 on
+";
+
+/// What they write: the first begins, sixteen wait and the last is refused.
+const MAILBOX_FULL: &str = "> set 2 on
+accepted 1 node 2
+begin 2 1 1
+h 010E001302076C0101032501FF250177
+c 06
+c 0104011301E8
+air 1 1>2 via - 6C0101032501FF
+h 06
+> set 2 on
+accepted 2 node 2
+> set 2 on
+accepted 3 node 2
+> set 2 on
+accepted 4 node 2
+> set 2 on
+accepted 5 node 2
+> set 2 on
+accepted 6 node 2
+> set 2 on
+accepted 7 node 2
+> set 2 on
+accepted 8 node 2
+> set 2 on
+accepted 9 node 2
+> set 2 on
+accepted 10 node 2
+> set 2 on
+accepted 11 node 2
+> set 2 on
+accepted 12 node 2
+> set 2 on
+accepted 13 node 2
+> set 2 on
+accepted 14 node 2
+> set 2 on
+accepted 15 node 2
+> set 2 on
+accepted 16 node 2
+> set 2 on
+accepted 17 node 2
+> set 2 on
+refused mailboxfull 16
+end 0
+node 2 sessions 1
+device 2 0/switch 0
+";
+
 // The words of a text, with one space between two.
 fn owned(alloc: Global, text: &str) -> Result<Vec<String>, Fail> {
     let mut words = Vec::new(alloc);
@@ -87,7 +210,7 @@ fn owned(alloc: Global, text: &str) -> Result<Vec<String>, Fail> {
     Ok(words)
 }
 
-// Runs words on a scenario, with the reads and writes of these numbers failing.
+// Runs words on a scenario, with the reads and writes of these numbers failing, counted from 1.
 fn sim(
     alloc: Global,
     words: &str,
@@ -121,17 +244,32 @@ fn scenarios_write_their_transcripts(rt: HostRuntime) -> Result<(), Fail> {
         line: 2,
         fault: LineFault::Unknown,
     };
-    for (words, scenario, status, transcript) in [
-        ("sim", "", Status::Ok, NOTHING),
-        ("sim", "set 2 on\ntick 2\n", Status::Ok, SWITCHED_ON),
-        ("sim", "set 2 on\nblink 2\n", unknown, BAD_SECOND),
-        ("sim", "set 3 on", Status::Ok, NOT_JOINED),
-        ("sim", "set 2 40", Status::Ok, BAD_VALUE),
-        ("", "set 2 on", Status::Usage, ""),
-        ("simulate", "set 2 on", Status::Usage, ""),
-        ("sim now", "set 2 on", Status::Usage, ""),
+    for (words, scenario, failing_writes, status, transcript) in [
+        ("sim", "", NONE, Status::Ok, NOTHING),
+        ("sim", "set 2 on\ntick 2\n", NONE, Status::Ok, SWITCHED_ON),
+        (
+            "sim",
+            "set 2 on\ntick 2\n",
+            THIRD,
+            Status::WriteFault,
+            FIRST_TWO,
+        ),
+        ("sim", "set 2 on\nblink 2\n", NONE, unknown, BAD_SECOND),
+        ("sim", "set 3 on", NONE, Status::Ok, NOT_JOINED),
+        ("sim", "set 2 40", NONE, Status::Ok, BAD_VALUE),
+        (
+            "sim",
+            "set 2 on\nset 2 off\ntick 4\n",
+            NONE,
+            Status::Ok,
+            OFF_AFTER_ON,
+        ),
+        ("sim", EIGHTEEN, NONE, Status::Ok, MAILBOX_FULL),
+        ("", "set 2 on", NONE, Status::Usage, ""),
+        ("simulate", "set 2 on", NONE, Status::Usage, ""),
+        ("sim now", "set 2 on", NONE, Status::Usage, ""),
     ] {
-        let (ended, sink) = sim(rt.alloc(), words, scenario, &[], &[])?;
+        let (ended, sink) = sim(rt.alloc(), words, scenario, NONE, failing_writes)?;
         assert_eq!(rt; ended, status, "{words:?} at {scenario:?}");
         assert_eq!(rt;
             sink.bytes(),
@@ -144,51 +282,24 @@ fn scenarios_write_their_transcripts(rt: HostRuntime) -> Result<(), Fail> {
 
 #[test]
 fn a_failing_write_leaves_a_front(rt: HostRuntime) -> Result<(), Fail> {
-    let (third, sink) = sim(rt.alloc(), "sim", "set 2 on\ntick 2\n", &[], &[3])?;
-    assert_eq!(rt; third, Status::WriteFault);
-    assert_eq!(rt; sink.bytes(), FIRST_TWO.as_bytes());
     for write in 1..=25u64 {
-        let (ended, sink) = sim(rt.alloc(), "sim", "set 2 on\ntick 2\n", &[], &[write])?;
+        let (ended, sink) = sim(rt.alloc(), "sim", "set 2 on\ntick 2\n", NONE, &[write])?;
         assert_eq!(rt; ended, Status::WriteFault, "at {write}");
         assert!(rt;
             SWITCHED_ON.as_bytes().starts_with(sink.bytes()),
             "at {write}"
         );
     }
-    let (whole, _) = sim(rt.alloc(), "sim", "set 2 on\ntick 2\n", &[], &[26])?;
+    let (whole, _) = sim(rt.alloc(), "sim", "set 2 on\ntick 2\n", NONE, &[26])?;
     assert_eq!(rt; whole, Status::Ok);
     Ok(())
 }
 
 #[test]
 fn a_failing_read_runs_nothing(rt: HostRuntime) -> Result<(), Fail> {
-    let (ended, sink) = sim(rt.alloc(), "sim", "set 2 on\n", &[2], &[])?;
+    let (ended, sink) = sim(rt.alloc(), "sim", "set 2 on\n", &[2], NONE)?;
     assert_eq!(rt; ended, Status::ReadFault);
     assert_eq!(rt; sink.bytes(), b"".as_slice());
-    Ok(())
-}
-
-#[test]
-fn commands_wait_for_their_turn(rt: HostRuntime) -> Result<(), Fail> {
-    let (ended, sink) = sim(rt.alloc(), "sim", "set 2 on\nset 2 off\ntick 4\n", &[], &[])?;
-    assert_eq!(rt; ended, Status::Ok);
-    let text = std::str::from_utf8(sink.bytes()).map_err(|_| Fail::from("not text"))?;
-    for part in [
-        "store 2 0/switch 255\nbegin 2 2 2\nh 010E001302076C010203250100250288\nc 06\nc 0104011301E8\n",
-        "air 3 1>2 via - 6C010203250100\nh 06\n",
-        "t 4\nheard 4\nc 010B00040002056C0202FF0064\nh 06\nout 2 success\nstore 2 0/switch 0\nend 4\n",
-        "node 2 sessions 1 2\nvalue 2 0/switch confirmed 0 heard -\ndevice 2 0/switch 0\n",
-    ] {
-        assert!(rt; text.contains(part), "{part}");
-    }
-    let mut scenario = String::new(rt.alloc());
-    for _ in 0..18 {
-        scenario.push_str("set 2 on\n")?;
-    }
-    let (ended, sink) = sim(rt.alloc(), "sim", scenario.as_str(), &[], &[])?;
-    assert_eq!(rt; ended, Status::Ok);
-    let text = std::str::from_utf8(sink.bytes()).map_err(|_| Fail::from("not text"))?;
-    assert!(rt; text.contains("accepted 17 node 2\n> set 2 on\nrefused mailboxfull 16\nend 0\n"));
     Ok(())
 }
 
