@@ -1,4 +1,8 @@
 //! The console of the simulator: it reads a scenario and writes the transcript of all that it does.
+//!
+//! `run` is the whole of it, and its clause `headline` is the theorem of docs/THEOREM.md. Host, chip, line, air and devices
+//! stand in `world` and in the modules that it uses; the definitions that the clauses cite are those of `zw_laws`,
+//! `world_facts` and this crate's `specs/`. `main` makes the devices, the input and the output.
 #![tactic(auto)]
 
 mod air;
@@ -50,18 +54,27 @@ fn main(rt: HostRuntime) -> ExitCode {
     ExitCode::from(status.code())
 }
 
-// Makes the devices and the real input and output, and runs the command.
-fn start(rt: &HostRuntime) -> Status {
-    let alloc = rt.alloc();
-    let mut words = Vec::new(alloc);
+// The words after the program's name.
+fn words_of(rt: &HostRuntime) -> Result<Vec<String>, Status> {
+    let mut words = Vec::new(rt.alloc());
     let Ok(args) = env::args(rt) else {
-        return Status::Usage;
+        return Err(Status::Usage);
     };
     for word in args.skip(1) {
         if words.push(word).is_err() {
-            return Status::NoMemory;
+            return Err(Status::NoMemory);
         }
     }
+    Ok(words)
+}
+
+// Makes the devices and the real input and output, and runs the command.
+fn start(rt: &HostRuntime) -> Status {
+    let alloc = rt.alloc();
+    let words = match words_of(rt) {
+        Ok(words) => words,
+        Err(status) => return status,
+    };
     let mut devices: Vec<Box<dyn Device>> = Vec::new(alloc);
     for number in 2..=232u8 {
         if number % KINDS != SWITCHES {
