@@ -1,13 +1,18 @@
--- Several entries at once that show no frame and no work, and entries that follow others.
+-- Several entries at once that show no frame, no work and nothing of commands, and entries that follow others.
 use Rattle.std.proofs.Common.{◌≡◌, ℕ, Bool, true, false, true≢false, List, [], ◌∷◌, ◌++◌, Option, sym, subst, ◌∙◌, append_assoc, append-nil}
 use Rattle.std.specs.List.{AllByRecursion}
+use Rattle.device_sim.specs.State.{State}
 use Rattle.zw_text.specs.declared.line.Line.{Line}
 use Rattle.zw_text.specs.declared.entry.Entry.{Entry}
+use Rattle.zw_laws.specs.Nodes.{first_node}
 use Rattle.world_facts.specs.World.{ToChip, ToHost, Flight}
 use Rattle.world_facts.specs.Frames.{FramesShown}
+use Rattle.world_facts.specs.Lives.{Journals}
 use Rattle.world_facts.specs.Work.{Works}
 use Rattle.world_facts.proofs.FramesLemmas.{IsNoFrame, FramesShown-aside}
 use Rattle.world_facts.proofs.WorkLemmas.{IsNoWork, Works-aside}
+use Rattle.world_facts.proofs.QuietLemmas.{IsAside, Stays-asides}
+use Rattle.world_facts.proofs.JournalsLemmas.{Journals-stays}
 
 -- what holds after more entries and others after them holds after all of them
 pub after_all : (P : List Entry → Type 0) (T xs ys : List Entry) → P ((T ++ xs) ++ ys) → P (T ++ (xs ++ ys))
@@ -30,3 +35,6 @@ Works-asides to_chip busy to_host T [] asides works = subst (Works to_chip busy 
 Works-asides to_chip busy to_host T (entry ∷ more) asides works =
     after_all (Works to_chip busy to_host) T (entry ∷ []) more
     (Works-asides to_chip busy to_host (T ++ entry ∷ []) more asides.1 (Works-aside to_chip busy to_host T entry asides.0 works))
+
+pub Journals-asides : (T more : List Entry) (now : List State) → AllByRecursion IsAside more → Journals T now → Journals (T ++ more) now
+Journals-asides T more now aside journals = Journals-stays T (T ++ more) now (Stays-asides first_node T more aside) journals

@@ -1,210 +1,253 @@
 -- Each event keeps the facts on both ends and on what is on its way between them.
-use Rattle.std.proofs.Common.{◌≡◌, ℕ, ◌+◌, ◌<◌, List, [], ◌∷◌, ◌++◌, length, Option, Some, None, refl, sym, ap, subst, ◌∙◌, arith, length-append}
+use Rattle.std.proofs.Common.{◌≡◌, ◌≢◌, ℕ, ◌+◌, ◌≤◌, List, [], ◌∷◌, ◌++◌, length, Option, Some, None, IsTrue, nat_le, refl, sym, ap, subst, ◌∙◌, arith, length-append}
 use Rattle.std.specs.List.{AllByRecursion}
-use Rattle.supervision.specs.Host.{HostBook, no_sessions, begun_of, open_session, command_at, begins}
-use Rattle.supervision.specs.Device.{Taken, none_taken}
+use Rattle.std.proofs.lemmas.Bool.Decides.{nat_tests}
+use Rattle.supervision.specs.Host.{HostBook, no_sessions, begun_of, open_session, command_at, begins, told_of}
+use Rattle.supervision.specs.Device.{Taken, none_taken, heard_of}
 use Rattle.supervision.specs.Session.{wire_id}
-use Rattle.supervision.specs.Device.{heard_of}
 use Rattle.supervision.specs.declared.device_book.Heard.TheVariants.{New}
-use Rattle.supervision.specs.Ends.{Get, Report, EndsAgree, GetFits, ReportFits}
+use Rattle.supervision.specs.declared.host_node.Told.TheVariants.{Final}
+use Rattle.supervision.specs.Ends.{Get, Report, EndsAgree, GetFits, ReportFits, is_fresh_on_line}
 use Rattle.supervision.specs.declared.session.TheConstants.{SUCCESS, WORKING}
-use Rattle.supervision.proofs.EndsLemmas.{all_taken, open_session-Some, EndsAgree-start, EndsAgree-begins, EndsAgree-taken, EndsAgree-finished, EndsAgree-told, GetFits-sent, ReportFits-sent}
+use Rattle.supervision.proofs.EndsLemmas.{GetNames, ReportNames, get_in_time, report_in_time, report_near, all_taken, after_report-Final, EndsAgree-start, EndsAgree-begins, EndsAgree-taken, EndsAgree-finished, EndsAgree-reported, GetFits-sent, ReportFits-sent, open_session-Some}
 use Rattle.device_sim.specs.State.{State}
-use Rattle.world_facts.specs.Ends.{DeviceAgrees, EndsMeet}
+use Rattle.world_facts.specs.Ends.{DeviceAgrees, EndsMeet, InTurn}
 
-some_is : (a b : State) → Some b ≡ Some a → a ≡ b
-some_is a b e = cc
+-- an age is told by a test: the test, and the fact that it tells
 
-some_number : (a b : ℕ) → Some a ≡ Some b → a ≡ b
-some_number a b e = cc
+from_test : (a b : ℕ) → IsTrue (nat_le a b) → a ≤ b
+from_test a b holds = grind (arith, nat_tests)
 
--- nothing is on its way where no session is open
-pub none_on_way : (book : HostBook) (gets : List Get) (reports : List Report) (device : Option State) → EndsMeet book gets reports device → open_session book ≡ None → (gets ≡ []) × (reports ≡ [])
-none_on_way book [] [] device meet none = (refl, refl)
-none_on_way book (get ∷ gets) reports device meet none =
-    let is : open_session book ≡ Some (begun_of book) = meet.of_open (omega arith) in absurd (grind arith)
-none_on_way book [] (report ∷ reports) device meet none =
-    let is : open_session book ≡ Some (begun_of book) = meet.of_open (omega arith) in absurd (grind arith)
+to_test : (a b : ℕ) → a ≤ b → IsTrue (nat_le a b)
+to_test a b within = grind (arith, nat_tests)
 
-pub EndsMeet-start : (device : Option State) → ((state : State) → device ≡ Some state → state.sessions ≡ none_taken) → EndsMeet no_sessions [] [] device
-EndsMeet-start device fresh = record {
-  agrees = λ state is. record {
-    agree = subst (λ (t : Taken). EndsAgree no_sessions t) (sym (fresh state is)) EndsAgree-start;
-    reports_fit = tt;
-    succeeds = ap (λ (t : Taken). t.status) (fresh state is);
+-- both ends meet, and what is on its way comes in turn
+pub record Meets (book : HostBook) (gets : List Get) (reports : List Report) (device : Option State) : Type 0 where
+  pub ends : EndsMeet book gets reports device
+  pub in_turn : InTurn book gets reports device
+
+-- where nothing is on its way, the device need only agree with the host and be at rest
+nothing_away : (book : HostBook) (device : Option State) → ((state : State) → device ≡ Some state → EndsAgree book state.sessions) → ((state : State) → device ≡ Some state → state.sessions.status ≢ WORKING) → Meets book [] [] device
+nothing_away book device agree idle = record {
+  ends = record {
+    agrees = λ state is. record { agree = agree state is; reports_fit = tt };
+    absent = λ none. refl;
+    gets_fit = tt;
+    gets_fresh = tt;
+    reports_fresh = tt;
+    reports_known = tt;
   };
-  absent = λ none. refl;
-  gets_fit = tt;
-  gets_young = tt;
-  reports_young = tt;
-  reports_succeed = tt;
-  one = omega arith;
-  of_open = λ some. absurd (omega arith);
-  unheard = λ state is some. absurd (omega arith);
-  closed = λ status e. absurd (grind arith);
+  in_turn = record {
+    one = omega arith;
+    gets_open = tt;
+    reports_open = tt;
+    unheard = λ state is. tt;
+    reports_final = tt;
+    idle = idle;
+  };
 }
 
+-- nothing has happened
+pub Meets-start : (device : Option State) → ((state : State) → device ≡ Some state → state.sessions ≡ none_taken) → Meets no_sessions [] [] device
+Meets-start device fresh =
+    nothing_away no_sessions device
+    (λ state is. subst (λ (t : Taken). EndsAgree no_sessions t) (sym (fresh state is)) EndsAgree-start)
+    (λ state is working. absurd (omega (arith, ap (λ (t : Taken). t.status) (fresh state is), working)))
+
+-- a session is not open where none is
+not_open : (book : HostBook) (session : ℕ) → open_session book ≡ None → open_session book ≡ Some session → ⊥
+not_open book session none is_open = cc
+
+-- nothing is on its way where no session is open
+pub none_on_way : (book : HostBook) (gets : List Get) (reports : List Report) (device : Option State) → InTurn book gets reports device → open_session book ≡ None → (gets ≡ []) × (reports ≡ [])
+none_on_way book [] [] device turn none = (refl, refl)
+none_on_way book (get ∷ gets) reports device turn none = absurd (not_open book get.session none turn.gets_open.0)
+none_on_way book [] (report ∷ reports) device turn none = absurd (not_open book report.session none turn.reports_open.0)
+
+-- the session that begins is open
 opened-more : (outcome : Option ℕ) (commands : List ℕ) (attempts command : ℕ) → open_session (begins (record { commands = commands; outcome = outcome; attempts = attempts }) command) ≡ Some (length (commands ++ command ∷ []))
 opened-more outcome [] attempts command = refl
 opened-more outcome (first ∷ commands) attempts command = refl
 
--- the session that begins is open
-pub opened : (book : HostBook) (command : ℕ) → open_session (begins book command) ≡ Some (begun_of (begins book command))
+opened : (book : HostBook) (command : ℕ) → open_session (begins book command) ≡ Some (begun_of (begins book command))
 opened book command = opened-more book.outcome book.commands book.attempts command
 
 -- where a session begins: its Get is on its way alone
-pub EndsMeet-begins : (book : HostBook) (command : ℕ) (device : Option State) → EndsMeet book [] [] device → open_session book ≡ None → command_at (book.commands ++ command ∷ []) (begun_of book + 1) ≡ Some command → EndsMeet (begins book command) (record { session = begun_of book + 1; command = command; begun = begun_of book + 1 } ∷ []) [] device
-EndsMeet-begins book command device meet none carries =
+pub Meets-begins : (book : HostBook) (command : ℕ) (device : Option State) → Meets book [] [] device → open_session book ≡ None → command_at (book.commands ++ command ∷ []) (begun_of book + 1) ≡ Some command → Meets (begins book command) (record { session = begun_of book + 1; command = command; begun = begun_of book + 1 } ∷ []) [] device
+Meets-begins book command device meets none carries =
     let longer : length (book.commands ++ command ∷ []) ≡ begun_of book + 1 = length-append book.commands (command ∷ []) in
     record {
-      agrees = λ state is. let was : DeviceAgrees book [] state = meet.agrees state is in record {
-        agree = EndsAgree-begins book state.sessions command was.agree none;
-        reports_fit = tt;
-        succeeds = was.succeeds;
+      ends = record {
+        agrees = λ state is. let was : DeviceAgrees book [] state = meets.ends.agrees state is in record {
+          agree = EndsAgree-begins book state.sessions command was.agree none;
+          reports_fit = tt;
+        };
+        absent = meets.ends.absent;
+        gets_fit = (
+          subst (λ (n : ℕ). GetFits (book.commands ++ command ∷ []) (record { session = begun_of book + 1; command = command; begun = n })) longer
+              (GetFits-sent (book.commands ++ command ∷ []) (begun_of book + 1) command carries (omega arith)),
+          tt,
+        );
+        gets_fresh = (to_test (length (book.commands ++ command ∷ [])) (begun_of book + 1 + 61) (omega arith), tt);
+        reports_fresh = tt;
+        reports_known = tt;
       };
-      absent = meet.absent;
-      gets_fit = (
-        subst (λ (n : ℕ). GetFits (book.commands ++ command ∷ []) (record { session = begun_of book + 1; command = command; begun = n })) longer
-            (GetFits-sent (book.commands ++ command ∷ []) (begun_of book + 1) command carries (omega arith)),
-        tt,
-      );
-      gets_young = ((sym longer, sym longer), tt);
-      reports_young = tt;
-      reports_succeed = tt;
-      one = omega arith;
-      of_open = λ some. opened book command;
-      unheard = λ state is some.
-          let was : DeviceAgrees book [] state = meet.agrees state is in
-          ap (λ n. n + 1) (all_taken book state.sessions was.agree none) ∙ sym longer;
-      closed = λ status e. absurd (grind arith);
+      in_turn = record {
+        one = omega arith;
+        gets_open = (opened book command ∙ ap Some longer, tt);
+        reports_open = tt;
+        unheard = λ state is.
+            let was : DeviceAgrees book [] state = meets.ends.agrees state is in
+            (ap (λ n. n + 1) (sym (all_taken book state.sessions was.agree none)), tt);
+        reports_final = tt;
+        idle = meets.in_turn.idle;
+      };
     }
 
--- a Get on its way is the only message on its way
-pub alone_get : (book : HostBook) (get : Get) (gets : List Get) (reports : List Report) (device : Option State) → EndsMeet book (get ∷ gets) reports device → (gets ≡ []) × (reports ≡ [])
-alone_get book get [] [] device meet = (refl, refl)
-alone_get book get (g ∷ gets) reports device meet = absurd (omega (arith, meet.one))
-alone_get book get [] (r ∷ reports) device meet = absurd (omega (arith, meet.one))
-
--- so is a report
-pub alone_report : (book : HostBook) (gets : List Get) (report : Report) (reports : List Report) (device : Option State) → EndsMeet book gets (report ∷ reports) device → (gets ≡ []) × (reports ≡ [])
-alone_report book [] report [] device meet = (refl, refl)
-alone_report book (g ∷ gets) report reports device meet = absurd (omega (arith, meet.one))
-alone_report book [] report (r ∷ reports) device meet = absurd (omega (arith, meet.one))
-
--- the Get on its way is of the last session, which is open
-pub get_is : (book : HostBook) (get : Get) (gets : List Get) (reports : List Report) (device : Option State) → EndsMeet book (get ∷ gets) reports device → (get.session ≡ begun_of book) × (0 < begun_of book) × (book.outcome ≡ None) × (command_at book.commands (begun_of book) ≡ Some get.command)
-get_is book get gets reports device meet =
-    let is_open = open_session-Some book (begun_of book) (meet.of_open (omega arith)) in
-    let own : get.session ≡ begun_of book = meet.gets_young.0.0 in
-    (own, is_open.1, is_open.2, subst (λ (s : ℕ). command_at book.commands s ≡ Some get.command) own meet.gets_fit.0.carries)
-
-new_to-by : (id next : ℕ) (taken : ℕ) → id ≡ wire_id (taken + 1) → heard_of (record { taken = taken; status = SUCCESS }) id ≡ New (taken + 1)
-new_to-by id next taken e = grind arith
-
--- the device hears it as the next session
-pub heard_new : (book : HostBook) (get : Get) (gets : List Get) (reports : List Report) (device : State) → EndsMeet book (get ∷ gets) reports (Some device) → heard_of device.sessions (wire_id get.session) ≡ New (begun_of book)
-heard_new book get gets reports device meet =
-    let is = get_is book get gets reports (Some device) meet in
-    let behind : device.sessions.taken + 1 ≡ begun_of book = meet.unheard device refl (omega arith) in
+-- an id names one session: that of a Get at the device, and that of a report at the host
+pub get_names_one : (book : HostBook) (get : Get) (gets : List Get) (reports : List Report) (device : State) → EndsMeet book (get ∷ gets) reports (Some device) → GetNames device.sessions get
+get_names_one book get gets reports device meet =
     let agrees : DeviceAgrees book reports device = meet.agrees device refl in
-    let sessions : device.sessions ≡ record { taken = device.sessions.taken; status = SUCCESS } =
-    ap (λ (s : ℕ). record { taken = device.sessions.taken; status = s }) agrees.succeeds in
-    ap (λ (t : Taken). heard_of t (wire_id get.session)) sessions
-    ∙ (new_to-by (wire_id get.session) 0 device.sessions.taken (ap wire_id (is.0 ∙ sym behind)) ∙ ap New behind)
+    get_in_time book device.sessions get agrees.agree meet.gets_fit.0 (from_test (begun_of book) (get.begun + 61) meet.gets_fresh.0)
+
+pub report_names_one : (book : HostBook) (gets : List Get) (report : Report) (reports : List Report) (device : State) → EndsMeet book gets (report ∷ reports) (Some device) → ReportNames book device.sessions report
+report_names_one book gets report reports device meet =
+    let agrees : DeviceAgrees book (report ∷ reports) device = meet.agrees device refl in
+    report_in_time book device.sessions report agrees.agree agrees.reports_fit.0 (from_test (begun_of book) (report.begun + 62) meet.reports_fresh.0)
+
+-- a device at rest takes the next session as new
+next_heard : (device : Taken) (session : ℕ) → session ≡ device.taken + 1 → device.status ≢ WORKING → heard_of device (wire_id session) ≡ New session
+next_heard device session next idle =
+    let named : wire_id session ≡ wire_id (device.taken + 1) = ap wire_id next in grind (arith, nat_tests)
+
+-- the host takes a final report of the open session
+final_told : (book : HostBook) (session status : ℕ) → open_session book ≡ Some session → status ≢ WORKING → told_of book (wire_id session) status ≡ Final session
+final_told book session status is_open final = grind (arith, nat_tests)
+
+-- a Get that comes is new to the device, and a report is final
+pub heard_new : (book : HostBook) (get : Get) (gets : List Get) (reports : List Report) (device : State) → InTurn book (get ∷ gets) reports (Some device) → heard_of device.sessions (wire_id get.session) ≡ New get.session
+heard_new book get gets reports device turn =
+    next_heard device.sessions get.session (turn.unheard device refl).0 (turn.idle device refl)
+
+pub told_final : (book : HostBook) (gets : List Get) (report : Report) (reports : List Report) (device : Option State) → InTurn book gets (report ∷ reports) device → told_of book (wire_id report.session) report.status ≡ Final report.session
+told_final book gets report reports device turn =
+    final_told book report.session report.status turn.reports_open.0 turn.reports_final.0
+
+-- the state that there is
+some_is : (a b : State) → Some b ≡ Some a → a ≡ b
+some_is a b e = cc
 
 -- the device took the session, and its report is on its way
-pub EndsMeet-heard : (book : HostBook) (get : Get) (old new : State) → EndsMeet book (get ∷ []) [] (Some old) → new.sessions ≡ record { taken = begun_of book; status = SUCCESS } → EndsMeet book [] (record { session = begun_of book; status = SUCCESS; begun = begun_of book } ∷ []) (Some new)
-EndsMeet-heard book get old new meet takes =
-    let is = get_is book get [] [] (Some old) meet in
-    let behind : old.sessions.taken + 1 ≡ begun_of book = meet.unheard old refl (omega arith) in
-    let was : DeviceAgrees book [] old = meet.agrees old refl in
+pub Meets-heard : (book : HostBook) (get : Get) (session : ℕ) (old new : State) → Meets book (get ∷ []) [] (Some old) → heard_of old.sessions (wire_id get.session) ≡ New session → new.sessions ≡ record { taken = session; status = SUCCESS } → Meets book [] (record { session = session; status = SUCCESS; begun = begun_of book } ∷ []) (Some new)
+Meets-heard book get session old new meets new_session takes =
+    let was : DeviceAgrees book [] old = meets.ends.agrees old refl in
+    let names : GetNames old.sessions get = get_names_one book get [] [] old meets.ends in
+    let own : session ≡ get.session = (names.fresh session new_session).0 in
+    let next : get.session ≡ old.sessions.taken + 1 = (names.fresh session new_session).1 in
+    let fits : GetFits book.commands get = meets.ends.gets_fit.0 in
+    let after : get.session ≤ get.begun = fits.after_begin in
+    let already : get.begun ≤ begun_of book = fits.already in
     let taken : EndsAgree book (record { taken = old.sessions.taken + 1; status = SUCCESS }) =
     EndsAgree-finished book (record { taken = old.sessions.taken + 1; status = WORKING }) SUCCESS
     (EndsAgree-taken book old.sessions was.agree (omega arith)) refl in
-    let agree : EndsAgree book (record { taken = begun_of book; status = SUCCESS }) =
-    subst (λ (n : ℕ). EndsAgree book (record { taken = n; status = SUCCESS })) behind taken in
-    let fits : ReportFits (begun_of book) (record { taken = begun_of book; status = SUCCESS }) (record { session = begun_of book; status = SUCCESS; begun = begun_of book }) =
-    ReportFits-sent book (record { taken = begun_of book; status = SUCCESS }) agree is.1 in
+    let agree : EndsAgree book (record { taken = session; status = SUCCESS }) =
+    subst (λ (n : ℕ). EndsAgree book (record { taken = n; status = SUCCESS })) (sym (own ∙ next)) taken in
+    let report_fits : ReportFits (begun_of book) (record { taken = session; status = SUCCESS }) (record { session = session; status = SUCCESS; begun = begun_of book }) =
+    ReportFits-sent book (record { taken = session; status = SUCCESS }) agree (omega arith) in
+    let same : (state : State) → Some new ≡ Some state → state.sessions ≡ record { taken = session; status = SUCCESS } =
+    λ state e. ap (λ (d : State). d.sessions) (some_is state new e) ∙ takes in
     record {
-      agrees = λ state e. let same : state.sessions ≡ record { taken = begun_of book; status = SUCCESS } = ap (λ (d : State). d.sessions) (some_is state new e) ∙ takes in record {
-        agree = subst (λ (t : Taken). EndsAgree book t) (sym same) agree;
-        reports_fit = (subst (λ (t : Taken). ReportFits (begun_of book) t (record { session = begun_of book; status = SUCCESS; begun = begun_of book })) (sym same) fits, tt);
-        succeeds = ap (λ (t : Taken). t.status) same;
+      ends = record {
+        agrees = λ state e. record {
+          agree = subst (λ (t : Taken). EndsAgree book t) (sym (same state e)) agree;
+          reports_fit = (subst (λ (t : Taken). ReportFits (begun_of book) t (record { session = session; status = SUCCESS; begun = begun_of book })) (sym (same state e)) report_fits, tt);
+        };
+        absent = λ none. absurd (grind arith);
+        gets_fit = tt;
+        gets_fresh = tt;
+        reports_fresh = (to_test (begun_of book) (begun_of book + 62) (omega arith), tt);
+        reports_known = (refl, tt);
       };
-      absent = λ none. absurd (grind arith);
-      gets_fit = tt;
-      gets_young = tt;
-      reports_young = ((refl, refl), tt);
-      reports_succeed = (refl, tt);
-      one = omega arith;
-      of_open = λ _. meet.of_open (omega arith);
-      unheard = λ state e some. absurd (omega arith);
-      closed = meet.closed;
+      in_turn = record {
+        one = omega arith;
+        gets_open = tt;
+        reports_open = (meets.in_turn.gets_open.0 ∙ ap Some (sym own), tt);
+        unheard = λ state e. tt;
+        reports_final = (λ working. absurd (omega (arith, working)), tt);
+        idle = λ state e working. absurd (omega (arith, ap (λ (t : Taken). t.status) (same state e), working));
+      };
     }
 
 -- nobody heard the Get
-pub EndsMeet-unheard : (book : HostBook) (get : Get) → EndsMeet book (get ∷ []) [] None → EndsMeet book [] [] None
-EndsMeet-unheard book get meet = record {
-  agrees = λ state e. absurd (grind arith);
-  absent = λ _. refl;
-  gets_fit = tt;
-  gets_young = tt;
-  reports_young = tt;
-  reports_succeed = tt;
-  one = omega arith;
-  of_open = λ some. absurd (omega arith);
-  unheard = λ state e some. absurd (omega arith);
-  closed = meet.closed;
-}
+pub Meets-unheard : (book : HostBook) (get : Get) → Meets book (get ∷ []) [] None → Meets book [] [] None
+Meets-unheard book get meets = nothing_away book None (λ state is. absurd (grind arith)) (λ state is. absurd (grind arith))
 
--- a report on its way is of the last session, which is open
-pub report_is : (book : HostBook) (gets : List Get) (report : Report) (reports : List Report) (device : Option State) → EndsMeet book gets (report ∷ reports) device → (report.session ≡ begun_of book) × (0 < begun_of book) × (book.outcome ≡ None) × (report.status ≡ SUCCESS) × (open_session book ≡ Some (begun_of book))
-report_is book gets report reports device meet =
-    let open_is : open_session book ≡ Some (begun_of book) = meet.of_open (omega arith) in
-    let is_open = open_session-Some book (begun_of book) open_is in
-    (meet.reports_young.0.0, is_open.1, is_open.2, meet.reports_succeed.0, open_is)
+-- the report is not sent
+pub Meets-unsent : (book : HostBook) (report : Report) (device : Option State) → Meets book [] (report ∷ []) device → Meets book [] [] device
+Meets-unsent book report device meets =
+    nothing_away book device (λ state is. (meets.ends.agrees state is).agree) meets.in_turn.idle
 
--- the host takes the report
-pub EndsMeet-closed : (book : HostBook) (report : Report) (device : Option State) → EndsMeet book [] (report ∷ []) device → EndsMeet (record book { outcome = Some SUCCESS }) [] [] device
-EndsMeet-closed book report device meet =
-    let is = report_is book [] report [] device meet in
-    let open_own : open_session book ≡ Some report.session = is.4 ∙ ap Some (sym is.0) in
+-- both ends agree once the host has taken a final report that is not old
+agree_closed : (book : HostBook) (report : Report) (session : ℕ) (device : Taken) → EndsAgree book device → ReportFits (begun_of book) device report → IsTrue (is_fresh_on_line (begun_of book) report.begun) → told_of book (wire_id report.session) report.status ≡ Final session → EndsAgree (record book { outcome = Some report.status }) device
+agree_closed book report session device agree fits fresh final =
+    let near : begun_of book ≤ report.session + 63 = report_near book device report fits (from_test (begun_of book) (report.begun + 62) fresh) in
+    subst (λ (b : HostBook). EndsAgree b device) (after_report-Final book (wire_id report.session) report.status session final)
+    (EndsAgree-reported book device report agree fits near)
+
+-- the host takes the report, which closes the last session
+pub Meets-closed : (book : HostBook) (report : Report) (session : ℕ) (device : Option State) → Meets book [] (report ∷ []) device → told_of book (wire_id report.session) report.status ≡ Final session → Meets (record book { outcome = Some report.status }) [] [] device
+Meets-closed book report session device meets final =
+    nothing_away (record book { outcome = Some report.status }) device
+    (λ state is. agree_closed book report session state.sessions (meets.ends.agrees state is).agree (meets.ends.agrees state is).reports_fit.0 meets.ends.reports_fresh.0 final)
+    meets.in_turn.idle
+
+-- the session that a report closes is the last one, which its device took, and ended with that status
+pub record ClosesLast (book : HostBook) (report : Report) (session : ℕ) (device : State) : Type 0 where
+  pub own : session ≡ report.session
+  pub last : session ≡ begun_of book
+  pub is_open : book.outcome ≡ None
+  pub taken : device.sessions.taken ≡ begun_of book
+  pub kept : device.sessions.status ≡ report.status
+
+pub closes_last : (book : HostBook) (gets : List Get) (report : Report) (reports : List Report) (session : ℕ) (device : State) → EndsMeet book gets (report ∷ reports) (Some device) → told_of book (wire_id report.session) report.status ≡ Final session → ClosesLast book report session device
+closes_last book gets report reports session device meet final =
+    let names : ReportNames book device.sessions report = report_names_one book gets report reports device meet in
+    let is = names.final session final in
+    let last = open_session-Some book report.session is.1 in
     record {
-      agrees = λ state e. let was : DeviceAgrees book (report ∷ []) state = meet.agrees state e in record {
-        agree = subst (λ (n : ℕ). EndsAgree (record book { outcome = Some n }) state.sessions) is.3
-            (EndsAgree-told book state.sessions report was.agree was.reports_fit.0 open_own (λ working. absurd (omega (arith, is.3, working))));
-        reports_fit = tt;
-        succeeds = was.succeeds;
-      };
-      absent = λ _. refl;
-      gets_fit = tt;
-      gets_young = tt;
-      reports_young = tt;
-      reports_succeed = tt;
-      one = omega arith;
-      of_open = λ some. absurd (omega arith);
-      unheard = λ state e some. absurd (omega arith);
-      closed = λ status e. sym (some_number SUCCESS status e);
+      own = is.0;
+      last = is.0 ∙ last.0;
+      is_open = last.2;
+      taken = sym is.2 ∙ last.0;
+      kept = is.4;
     }
 
 -- the device has the same sessions
-pub EndsMeet-same : (book : HostBook) (gets : List Get) (reports : List Report) (old new : Option State) → EndsMeet book gets reports old → ((state : State) → new ≡ Some state → (was : State) × (old ≡ Some was) × (state.sessions ≡ was.sessions)) → (new ≡ None → old ≡ None) → EndsMeet book gets reports new
-EndsMeet-same book gets reports old new meet same none = record {
-  agrees = λ state e.
-      let was = same state e in
-      let before : DeviceAgrees book reports was.0 = meet.agrees was.0 was.1 in record {
-        agree = subst (λ (t : Taken). EndsAgree book t) (sym was.2) before.agree;
-        reports_fit = subst (λ (t : Taken). AllByRecursion (ReportFits (begun_of book) t) reports) (sym was.2) before.reports_fit;
-        succeeds = ap (λ (t : Taken). t.status) was.2 ∙ before.succeeds;
-      };
-  absent = λ e. meet.absent (none e);
-  gets_fit = meet.gets_fit;
-  gets_young = meet.gets_young;
-  reports_young = meet.reports_young;
-  reports_succeed = meet.reports_succeed;
-  one = meet.one;
-  of_open = meet.of_open;
-  unheard = λ state e some.
-      let was = same state e in ap (λ (t : Taken). t.taken + 1) was.2 ∙ meet.unheard was.0 was.1 some;
-  closed = meet.closed;
+pub Meets-same : (book : HostBook) (gets : List Get) (reports : List Report) (old new : Option State) → Meets book gets reports old → ((state : State) → new ≡ Some state → (was : State) × (old ≡ Some was) × (state.sessions ≡ was.sessions)) → (new ≡ None → old ≡ None) → Meets book gets reports new
+Meets-same book gets reports old new meets same none = record {
+  ends = record {
+    agrees = λ state e.
+        let was = same state e in
+        let before : DeviceAgrees book reports was.0 = meets.ends.agrees was.0 was.1 in record {
+          agree = subst (λ (t : Taken). EndsAgree book t) (sym was.2) before.agree;
+          reports_fit = subst (λ (t : Taken). AllByRecursion (ReportFits (begun_of book) t) reports) (sym was.2) before.reports_fit;
+        };
+    absent = λ e. meets.ends.absent (none e);
+    gets_fit = meets.ends.gets_fit;
+    gets_fresh = meets.ends.gets_fresh;
+    reports_fresh = meets.ends.reports_fresh;
+    reports_known = meets.ends.reports_known;
+  };
+  in_turn = record {
+    one = meets.in_turn.one;
+    gets_open = meets.in_turn.gets_open;
+    reports_open = meets.in_turn.reports_open;
+    unheard = λ state e.
+        let was = same state e in
+        subst (λ (t : Taken). AllByRecursion (λ (get : Get). get.session ≡ t.taken + 1) gets) (sym was.2) (meets.in_turn.unheard was.0 was.1);
+    reports_final = meets.in_turn.reports_final;
+    idle = λ state e working.
+        let was = same state e in
+        meets.in_turn.idle was.0 was.1 (sym (ap (λ (t : Taken). t.status) was.2) ∙ working);
+  };
 }

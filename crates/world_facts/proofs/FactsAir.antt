@@ -5,7 +5,7 @@ use Rattle.device_sim.specs.State.{State, ticked}
 use Rattle.zw_text.specs.declared.entry.Entry.{Entry}
 use Rattle.zw_text.specs.declared.entry.Entry.TheVariants.{Written, Air, Heard, Unheard}
 use Rattle.zw_text.specs.declared.entry.Side.TheVariants.{Chip}
-use Rattle.zw_laws.specs.Answers.{first_node}
+use Rattle.zw_laws.specs.Nodes.{first_node}
 use Rattle.zw_laws.specs.Devices.{device_of}
 use Rattle.zw_laws.specs.Frames.{controller}
 use Rattle.world_facts.specs.World.{World, ToChip, Flight, gets, reports}
@@ -13,40 +13,42 @@ use Rattle.world_facts.specs.World.ToChip.{Asks}
 use Rattle.world_facts.specs.World.ToHost.{Confirms, Takes, Calls_back, Brings}
 use Rattle.world_facts.specs.World.Carried.{Carries_get, Carries_report}
 use Rattle.world_facts.specs.Units.{get_payload, ack_unit, take_unit, callback_unit, bring_unit}
-use Rattle.world_facts.specs.Ends.{EndsMeet}
-use Rattle.world_facts.specs.Frames.{air_frame, FramesShown}
+use Rattle.world_facts.specs.Frames.{air_frame}
 use Rattle.world_facts.specs.Lives.{Lives}
 use Rattle.world_facts.specs.Work.{Works}
 use Rattle.world_facts.specs.Events.{take_entries, takes_request, bring_entries, brought, unheard_entries, unheard, devices_tick}
 use Rattle.world_facts.specs.Facts.{FactsButLives, Facts}
-use Rattle.world_facts.proofs.WayLemmas.{takes_idle, OnTheWay-takes, OnTheWay-brings, OnTheWay-calls_back, lands_busy}
-use Rattle.world_facts.proofs.EndsFacts.{EndsMeet-same}
-use Rattle.world_facts.proofs.WaysLemmas.{Ends-takes, Ends-brings, Ends-unheard}
+use Rattle.world_facts.proofs.RequestLemmas.{takes_idle, OnTheWay-takes, OnTheWay-brings, OnTheWay-calls_back, lands_busy}
+use Rattle.world_facts.proofs.EndsFacts.{Meets, Meets-same}
+use Rattle.world_facts.proofs.MessagesLemmas.{Meets-takes, Meets-brings, Meets-lands}
 use Rattle.world_facts.proofs.TablesLemmas.{Tables-asides}
 use Rattle.world_facts.proofs.FramesLemmas.{FramesShown-takes, FramesShown-lands, heard_frame}
 use Rattle.world_facts.proofs.DevicesLemmas.{device_of-ticked, before_tick, none_before_tick}
 use Rattle.world_facts.proofs.JournalsLemmas.{Journals-ticks}
 use Rattle.world_facts.proofs.WorkLemmas.{Works-takes, Works-brings, Works-calls_back}
 use Rattle.world_facts.proofs.LivesLemmas.{Lives-asides, Lives-brings, Lives-ticks, IsInTime-lived, IsInTime-asides}
-use Rattle.world_facts.proofs.AsidesLemmas.{after_all, is_stamped, FramesShown-asides, Works-asides}
+use Rattle.world_facts.proofs.AsidesLemmas.{after_all, is_stamped, FramesShown-asides, Works-asides, Journals-asides}
 
 -- the devices live a tick
 
 pub Facts-devices_tick : (before : List State) (T : List Entry) (w : World) → Facts before T w → w.lived + 1 ≡ w.clock → Facts before T (devices_tick w)
 Facts-devices_tick before T w facts in_tick =
     let most : FactsButLives T w = facts.most in
+    let meets : Meets w.book (gets w.to_chip w.flying) (reports w.flying w.to_host) (device_of first_node (map ticked w.devices)) =
+    Meets-same w.book (gets w.to_chip w.flying) (reports w.flying w.to_host) (device_of first_node w.devices) (device_of first_node (map ticked w.devices))
+    (record { ends = most.ends; in_turn = most.in_turn })
+    (λ state is.
+    let was = before_tick (device_of first_node w.devices) state (sym (device_of-ticked first_node w.devices) ∙ is) in
+    (was.0, was.1, ap (λ (s : State). s.sessions) was.2))
+    (λ none. none_before_tick (device_of first_node w.devices) (sym (device_of-ticked first_node w.devices) ∙ none)) in
     record {
       most = record {
         kept = most.kept;
-        ends = EndsMeet-same w.book (gets w.to_chip w.flying) (reports w.flying w.to_host) (device_of first_node w.devices) (device_of first_node (map ticked w.devices)) most.ends
-            (λ state is.
-            let was = before_tick (device_of first_node w.devices) state (sym (device_of-ticked first_node w.devices) ∙ is) in
-            (was.0, was.1, ap (λ (s : State). s.sessions) was.2))
-            (λ none. none_before_tick (device_of first_node w.devices) (sym (device_of-ticked first_node w.devices) ∙ none));
+        ends = meets.ends;
+        in_turn = meets.in_turn;
         tables = most.tables;
-        confirmed = most.confirmed;
         frames = most.frames;
-        journals = Journals-ticks w.orders w.devices most.journals;
+        journals = Journals-ticks T w.devices most.journals;
         works = most.works;
       };
       on_the_way = facts.on_the_way;
@@ -72,14 +74,11 @@ pub Facts-takes : (before : List State) (T : List Entry) (w : World) (get : Get)
 Facts-takes before T w get callback rest facts stamped is = record {
   most = record {
     kept = most.kept;
-    ends = Ends-takes w.book get (w.sent + 1) rest w.flying w.to_host (device_of first_node w.devices) most.ends;
+    ends = meets.ends;
+    in_turn = meets.in_turn;
     tables = Tables-asides (take_entries w get) (tt, (tt, (tt, tt))) most.tables;
-    confirmed = most.confirmed;
-    frames =
-        after_all (FramesShown w.orders rest (w.sent + 1) (w.flying ++ record { number = w.sent + 1; carried = Carries_get get } ∷ [])) T written (air ∷ [])
-        (FramesShown-takes get callback w.orders rest w.sent w.flying (T ++ written)
-        (FramesShown-asides w.orders (Asks get callback ∷ rest) w.sent w.flying T written (tt, (tt, tt)) most.frames));
-    journals = most.journals;
+    frames = FramesShown-takes get callback w.orders rest w.sent w.flying T most.frames;
+    journals = Journals-asides T (take_entries w get) w.devices (tt, (tt, (tt, tt))) most.journals;
     works =
         after_all (Works rest (Some callback) (w.to_host ++ Confirms ∷ Takes ∷ [])) T written (air ∷ [])
         (Works-asides rest (Some callback) (w.to_host ++ Confirms ∷ Takes ∷ []) (T ++ written) (air ∷ []) (tt, tt)
@@ -99,6 +98,11 @@ Facts-takes before T w get callback rest facts stamped is = record {
     most : FactsButLives T (record w { to_chip = Asks get callback ∷ rest })
     most = at.most
 
+    meets : Meets w.book (gets rest (w.flying ++ record { number = w.sent + 1; carried = Carries_get get } ∷ []))
+        (reports (w.flying ++ record { number = w.sent + 1; carried = Carries_get get } ∷ []) (w.to_host ++ Confirms ∷ Takes ∷ [])) (device_of first_node w.devices)
+    meets =
+        Meets-takes w.book get (w.sent + 1) rest w.flying w.to_host (device_of first_node w.devices) (record { ends = most.ends; in_turn = most.in_turn })
+
     written : List Entry
     written = Written Chip ack_unit ∷ Written Chip take_unit ∷ []
 
@@ -115,13 +119,13 @@ pub Facts-brings : (before : List State) (T : List Entry) (w : World) (number : 
 Facts-brings before T w number report rest facts stamped is = record {
   most = record {
     kept = most.kept;
-    ends = Ends-brings w.book report w.to_chip rest w.to_host (device_of first_node w.devices) most.ends;
+    ends = meets.ends;
+    in_turn = meets.in_turn;
     tables = Tables-asides (bring_entries number report) (tt, (tt, tt)) most.tables;
-    confirmed = most.confirmed;
     frames =
-        FramesShown-asides w.orders w.to_chip w.sent rest T (bring_entries number report) (tt, (tt, tt))
+        FramesShown-asides w.orders w.to_chip w.sent rest T (bring_entries number report) (tt, (refl, tt))
         (FramesShown-lands w.orders w.to_chip w.sent flight rest T most.frames);
-    journals = most.journals;
+    journals = Journals-asides T (bring_entries number report) w.devices (tt, (tt, tt)) most.journals;
     works =
         after_all (Works w.to_chip w.busy (w.to_host ++ Brings report ∷ [])) T (Heard number ∷ []) (Written Chip (bring_unit report) ∷ [])
         (Works-brings report w.to_chip w.busy w.to_host (T ++ Heard number ∷ [])
@@ -148,6 +152,9 @@ Facts-brings before T w number report rest facts stamped is = record {
     most : FactsButLives T (record w { flying = flight ∷ rest })
     most = at.most
 
+    meets : Meets w.book (gets w.to_chip rest) (reports rest (w.to_host ++ Brings report ∷ [])) (device_of first_node w.devices)
+    meets = Meets-brings w.book report w.to_chip rest w.to_host (device_of first_node w.devices) (record { ends = most.ends; in_turn = most.in_turn })
+
 -- the chip carries out the request of a Get on the air
 pub lands_when_busy : (before : List State) (T : List Entry) (w : World) (number : ℕ) (get : Get) (rest : List Flight) → Facts before T w →
     w.flying ≡ record { number = number; carried = Carries_get get } ∷ rest → (callback : ℕ) × (w.busy ≡ Some callback)
@@ -168,16 +175,13 @@ pub Facts-unheard : (before : List State) (T : List Entry) (w : World) (number :
 Facts-unheard before T w number get rest callback facts stamped is busy none = record {
   most = record {
     kept = most.kept;
-    ends =
-        subst (λ (d : Option State). EndsMeet w.book (gets w.to_chip rest) (reports rest (w.to_host ++ Calls_back callback 1 ∷ [])) d) (sym none)
-        (Ends-unheard w.book number callback 1 get w.to_chip rest w.to_host
-        (subst (λ (d : Option State). EndsMeet w.book (gets w.to_chip (flight ∷ rest)) (reports rest w.to_host) d) none most.ends));
+    ends = meets.ends;
+    in_turn = meets.in_turn;
     tables = Tables-asides (unheard_entries number callback) (tt, (tt, tt)) most.tables;
-    confirmed = most.confirmed;
     frames =
-        FramesShown-asides w.orders w.to_chip w.sent rest T (unheard_entries number callback) (tt, (tt, tt))
+        FramesShown-asides w.orders w.to_chip w.sent rest T (unheard_entries number callback) (tt, (refl, tt))
         (FramesShown-lands w.orders w.to_chip w.sent flight rest T most.frames);
-    journals = most.journals;
+    journals = Journals-asides T (unheard_entries number callback) w.devices (tt, (tt, tt)) most.journals;
     works =
         after_all (Works w.to_chip None (w.to_host ++ Calls_back callback 1 ∷ [])) T (Unheard number ∷ []) (Written Chip (callback_unit callback 1) ∷ [])
         (Works-calls_back callback 1 w.to_chip w.to_host (T ++ Unheard number ∷ [])
@@ -198,3 +202,9 @@ Facts-unheard before T w number get rest callback facts stamped is busy none = r
 
     most : FactsButLives T (record w { flying = flight ∷ rest; busy = Some callback })
     most = at.most
+
+    meets : Meets w.book (gets w.to_chip rest) (reports rest (w.to_host ++ Calls_back callback 1 ∷ [])) (device_of first_node w.devices)
+    meets =
+        subst (λ (d : Option State). Meets w.book (gets w.to_chip rest) (reports rest (w.to_host ++ Calls_back callback 1 ∷ [])) d) (sym none)
+        (Meets-lands w.book number callback 1 get w.to_chip rest w.to_host
+        (subst (λ (d : Option State). Meets w.book (gets w.to_chip (flight ∷ rest)) (reports rest w.to_host) d) none (record { ends = most.ends; in_turn = most.in_turn })))

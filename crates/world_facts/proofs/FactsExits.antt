@@ -1,26 +1,27 @@
 -- What holds where a run ends: whole, or cut short by want of memory with the devices as they were, or after some of them
 -- ticked, or after the device heard a Get.
-use Rattle.std.proofs.Common.{◌≡◌, ℕ, zero, suc, true, false, List, [], ◌∷◌, ◌++◌, map, take, drop, Option, Some, None, inl, inr, refl, sym, ap, subst, ◌∙◌, arith}
-use Rattle.supervision.specs.Host.{HostBook, begun_of}
-use Rattle.supervision.specs.Device.{Taken}
-use Rattle.supervision.specs.Ends.{Get, Report}
+use Rattle.std.proofs.Common.{◌≡◌, ℕ, zero, suc, true, false, List, [], ◌∷◌, ◌++◌, map, take, drop, Option, Some, None, inl, inr, refl, sym, ap, subst, ◌∙◌}
+use Rattle.supervision.specs.Session.{wire_id}
+use Rattle.supervision.specs.Host.{begun_of}
+use Rattle.supervision.specs.Device.{heard_of}
+use Rattle.supervision.specs.declared.device_book.Heard.TheVariants.{New}
+use Rattle.supervision.specs.Ends.{Get}
 use Rattle.supervision.specs.declared.session.TheConstants.{SUCCESS}
 use Rattle.device_sim.specs.State.{State, ticked}
 use Rattle.device_sim.specs.Hearing.{takes}
-use Rattle.zw_text.specs.declared.line.Line.{Line}
 use Rattle.zw_text.specs.declared.entry.Entry.{Entry}
-use Rattle.zw_laws.specs.Answers.{first_node}
+use Rattle.zw_laws.specs.Nodes.{first_node}
 use Rattle.zw_laws.specs.Devices.{device_of, RunsAsShown}
 use Rattle.zw_laws.specs.Headline.{IsDevice}
 use Rattle.world_facts.specs.World.{World, Flight, gets, reports}
 use Rattle.world_facts.specs.World.Carried.{Carries_get}
 use Rattle.world_facts.specs.Units.{value_at}
-use Rattle.world_facts.specs.Ends.{EndsMeet, DeviceAgrees}
-use Rattle.world_facts.specs.Lives.{GoOn, Journals, changes_to, Replaced}
+use Rattle.world_facts.specs.Lives.{GoOn, Replaced}
 use Rattle.world_facts.specs.Facts.{FactsButLives, Facts, IsAtEase, Holds}
-use Rattle.world_facts.proofs.EndsFacts.{EndsMeet-heard, EndsMeet-same}
-use Rattle.world_facts.proofs.WaysLemmas.{Ends-at, alone_flying}
+use Rattle.world_facts.proofs.EndsFacts.{Meets, Meets-heard, Meets-unsent, Meets-same}
+use Rattle.world_facts.proofs.MessagesLemmas.{Meets-at, alone_flying}
 use Rattle.world_facts.proofs.FramesLemmas.{FramesShown-lands}
+use Rattle.world_facts.proofs.JournalsLemmas.{IsFrom, Journals-from}
 use Rattle.world_facts.proofs.DevicesLemmas.{same_or_other, device_of-here, device_of-past}
 use Rattle.world_facts.proofs.LivesLemmas.{shown-cut, GoOn-same, GoOn-ticked}
 use Rattle.world_facts.proofs.HoldsFacts.{Holds-whole, Holds-cut}
@@ -40,13 +41,6 @@ Facts-cut before T w facts =
 
 abbrev some_ticked : ℕ → List State → List State
 some_ticked count now = map ticked (take count now) ++ drop count now
-
--- a device is one that was, with its sessions and its journal
-record IsFrom (node : ℕ) (now : List State) (new : State) : Type 0 where
-  old : State
-  was : device_of node now ≡ Some old
-  sessions : new.sessions ≡ old.sessions
-  journal : new.journal ≡ old.journal
 
 from_ticked : (node count : ℕ) (now : List State) (new : State) → device_of node (some_ticked count now) ≡ Some new → IsFrom node now new
 from_ticked node zero now new is = record { old = new; was = is; sessions = refl; journal = refl }
@@ -74,33 +68,26 @@ none_from node (suc count) (first ∷ rest) none = elim (same_or_other first.nod
   | inr past ↦ device_of-past node first rest past ∙ none_from node count rest (sym (device_of-past node (ticked first) (some_ticked count rest) past) ∙ none)
 ]
 
-journals_from : (orders : List Line) (now later : List State) → ((node : ℕ) (new : State) → device_of node later ≡ Some new → IsFrom node now new) → Journals orders now → Journals orders later
-journals_from orders now later each journals = record {
-  taken = λ state is.
-      let from : IsFrom first_node now state = each first_node state is in
-      from.journal ∙ journals.taken from.old from.was ∙ ap (λ (t : Taken). changes_to orders t.taken) (sym from.sessions);
-  others = λ node state other is.
-      let from : IsFrom node now state = each node state is in
-      from.journal ∙ journals.others node from.old other from.was;
-}
-
 pub Facts-cut_ticks : (before : List State) (T : List Entry) (w : World) → Facts before T w → (k : ℕ) → Holds false before (map ticked (take k w.devices) ++ drop k w.devices) T
 Facts-cut_ticks before T w facts k = Holds-cut {w = record w { devices = some_ticked k w.devices }} most runs
   where
     most : FactsButLives T (record w { devices = some_ticked k w.devices })
     most =
         let were : FactsButLives T w = facts.most in
+        let meets : Meets w.book (gets w.to_chip w.flying) (reports w.flying w.to_host) (device_of first_node (some_ticked k w.devices)) =
+        Meets-same w.book (gets w.to_chip w.flying) (reports w.flying w.to_host) (device_of first_node w.devices) (device_of first_node (some_ticked k w.devices))
+        (record { ends = were.ends; in_turn = were.in_turn })
+        (λ state is.
+        let from : IsFrom first_node w.devices state = from_ticked first_node k w.devices state is in
+        (from.old, from.was, from.sessions))
+        (none_from first_node k w.devices) in
         record {
           kept = were.kept;
-          ends = EndsMeet-same w.book (gets w.to_chip w.flying) (reports w.flying w.to_host) (device_of first_node w.devices) (device_of first_node (some_ticked k w.devices)) were.ends
-              (λ state is.
-              let from : IsFrom first_node w.devices state = from_ticked first_node k w.devices state is in
-              (from.old, from.was, from.sessions))
-              (none_from first_node k w.devices);
+          ends = meets.ends;
+          in_turn = meets.in_turn;
           tables = were.tables;
-          confirmed = were.confirmed;
           frames = were.frames;
-          journals = journals_from w.orders w.devices (some_ticked k w.devices) (λ node new is. from_ticked node k w.devices new is) were.journals;
+          journals = Journals-from T w.devices (some_ticked k w.devices) (λ node new is. from_ticked node k w.devices new is) were.journals;
           works = were.works;
         }
 
@@ -109,53 +96,38 @@ Facts-cut_ticks before T w facts k = Holds-cut {w = record w { devices = some_ti
 
 -- the device heard the Get and changed, which the transcript does not show
 
--- the report is not sent
-EndsMeet-unsent : (book : HostBook) (report : Report) (device : Option State) → EndsMeet book [] (report ∷ []) device → EndsMeet book [] [] device
-EndsMeet-unsent book report device meet = record {
-  agrees = λ state is.
-      let was : DeviceAgrees book (report ∷ []) state = meet.agrees state is in
-      record { agree = was.agree; reports_fit = tt; succeeds = was.succeeds };
-  absent = λ none. refl;
-  gets_fit = tt;
-  gets_young = tt;
-  reports_young = tt;
-  reports_succeed = tt;
-  one = omega arith;
-  of_open = λ some. absurd (omega arith);
-  unheard = λ state is some. absurd (omega arith);
-  closed = meet.closed;
-}
-
 pub Facts-cut_hears : (before : List State) (T : List Entry) (w : World) (number : ℕ) (get : Get) (rest : List Flight) (device : State) (later : List State) → Facts before T w →
-    w.flying ≡ record { number = number; carried = Carries_get get } ∷ rest → device_of first_node w.devices ≡ Some device →
-    Replaced first_node w.devices later (takes device (begun_of w.book) (value_at w.orders (begun_of w.book))) → GoOn w.devices later → Holds false before later T
-Facts-cut_hears before T w number get rest device later facts is here replaced on = Holds-cut {w = record w { flying = rest; devices = later }} most runs
+    w.flying ≡ record { number = number; carried = Carries_get get } ∷ rest → device_of first_node w.devices ≡ Some device → heard_of device.sessions (wire_id get.session) ≡ New get.session →
+    Replaced first_node w.devices later (takes device get.session (value_at w.orders get.command)) → GoOn w.devices later → Holds false before later T
+Facts-cut_hears before T w number get rest device later facts is here new_session replaced on = Holds-cut {w = record w { flying = rest; devices = later }} most runs
   where
     flight : Flight
     flight = record { number = number; carried = Carries_get get }
 
     new : State
-    new = takes device (begun_of w.book) (value_at w.orders (begun_of w.book))
+    new = takes device get.session (value_at w.orders get.command)
 
     at : Facts before T (record w { flying = flight ∷ rest })
     at = at_air before T w (flight ∷ rest) facts is
 
-    meet : EndsMeet w.book [] [] (Some new)
-    meet =
-        EndsMeet-unsent w.book (record { session = begun_of w.book; status = SUCCESS; begun = begun_of w.book }) (Some new)
-        (EndsMeet-heard w.book get device new (meet_one before T w number get rest device facts is here) (succeeds device (begun_of w.book) (value_at w.orders (begun_of w.book))))
+    meets : Meets w.book [] [] (Some new)
+    meets =
+        Meets-unsent w.book (record { session = get.session; status = SUCCESS; begun = begun_of w.book }) (Some new)
+        (Meets-heard w.book get get.session device new (meet_one before T w number get rest device facts is here) new_session (succeeds device get.session (value_at w.orders get.command)))
 
     most : FactsButLives T (record w { flying = rest; devices = later })
     most =
         let were : FactsButLives T (record w { flying = flight ∷ rest }) = at.most in
-        let alone = alone_flying w.book number get w.to_chip rest w.to_host (device_of first_node w.devices) were.ends in
+        let alone = alone_flying w.book number get w.to_chip rest w.to_host (device_of first_node w.devices) (record { ends = were.ends; in_turn = were.in_turn }) in
+        let meets_later : Meets w.book (gets w.to_chip rest) (reports rest w.to_host) (device_of first_node later) =
+        subst (λ (d : Option State). Meets w.book (gets w.to_chip rest) (reports rest w.to_host) d) (sym replaced.placed) (Meets-at alone.0 alone.1 meets) in
         record {
           kept = were.kept;
-          ends = subst (λ (d : Option State). EndsMeet w.book (gets w.to_chip rest) (reports rest w.to_host) d) (sym replaced.placed) (Ends-at alone.0 alone.1 meet);
+          ends = meets_later.ends;
+          in_turn = meets_later.in_turn;
           tables = were.tables;
-          confirmed = were.confirmed;
           frames = FramesShown-lands w.orders w.to_chip w.sent flight rest T were.frames;
-          journals = journals_taken before T w number get rest device later facts is here replaced;
+          journals = journals_taken before T w number get rest device later facts is here new_session replaced;
           works = were.works;
         }
 

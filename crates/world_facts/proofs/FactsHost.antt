@@ -1,40 +1,46 @@
 -- What the host does keeps the facts: it begins sessions, acknowledges frames, and closes sessions.
-use Rattle.std.proofs.Common.{◌≡◌, ℕ, ◌+◌, ◌<◌, ◌≤◌, true, false, List, [], ◌∷◌, ◌++◌, length, Option, Some, None, refl, sym, ap, subst, inl, inr, arith}
-use Rattle.std.specs.List.{flat_map}
-use Rattle.supervision.specs.Host.{HostBook, begins, begun_of, open_session, command_at}
+use Rattle.std.proofs.Common.{◌≡◌, ℕ, ◌+◌, ◌<◌, ◌==◌, Bool, true, false, List, [], ◌∷◌, ◌++◌, length, Option, Some, None, refl, sym, ap, subst, ◌∙◌, inl, inr}
+use Rattle.std.specs.List.{flat_map, AllByRecursion}
+use Rattle.supervision.specs.Session.{IsStatus, wire_id}
+use Rattle.supervision.specs.Host.{HostBook, begins, begun_of, open_session, command_at, told_of}
+use Rattle.supervision.specs.declared.host_node.Told.TheVariants.{Final}
 use Rattle.supervision.specs.Ends.{Report}
 use Rattle.supervision.specs.declared.session.TheConstants.{SUCCESS}
-use Rattle.supervision.proofs.EndsLemmas.{open_session-Some}
+use Rattle.supervision.proofs.EndsLemmas.{open_session-Some, told_of-Final}
 use Rattle.device_sim.specs.State.{State}
 use Rattle.zw_text.specs.declared.entry.Entry.{Entry}
-use Rattle.zw_text.specs.declared.entry.Ended.TheVariants.{Success}
 use Rattle.zw_text.specs.declared.entry.Entry.TheVariants.{Begin, Written, Out, Store, Time}
 use Rattle.zw_text.specs.declared.entry.Side.TheVariants.{Host}
-use Rattle.zw_laws.specs.Answers.{first_node}
+use Rattle.zw_text.specs.Transcript.{sessions}
+use Rattle.zw_laws.specs.Nodes.{first_node}
+use Rattle.zw_laws.specs.Lists.{Rises}
 use Rattle.zw_laws.specs.Devices.{device_of}
-use Rattle.zw_laws.specs.Table.{switch}
-use Rattle.world_facts.specs.World.{World, ToChip, ToHost, reports, reports_flying, report_told}
+use Rattle.zw_laws.specs.Orders.{switch}
+use Rattle.world_facts.specs.World.{World, ToChip, ToHost, gets, reports, reports_flying, report_told}
 use Rattle.world_facts.specs.World.ToChip.{Asks, Acknowledges}
 use Rattle.world_facts.specs.World.ToHost.{Confirms, Takes, Calls_back, Brings}
 use Rattle.world_facts.specs.Units.{value_at, ask_unit, ack_unit}
 use Rattle.world_facts.specs.OnTheWay.{OnTheWay}
-use Rattle.world_facts.specs.Tables.{Tables}
+use Rattle.world_facts.specs.Tables.{Tables, ended_by}
+use Rattle.world_facts.specs.Ends.{EndsMeet}
+use Rattle.world_facts.specs.Lives.{Journals}
 use Rattle.world_facts.specs.Frames.{FramesShown}
 use Rattle.world_facts.specs.Work.{Works}
-use Rattle.world_facts.specs.Events.{stamp_entries, stamps, next_get, begin_entries, begins_session, chip_drops, host_drops, ack_entries, answered, called, close_entries, closes, tick_begins, tick_ends}
+use Rattle.world_facts.specs.Events.{stamp_entries, stamps, next_get, begin_entries, begins_session, chip_drops, host_drops, ack_entries, answered, called, store_where, confirmed_where, close_entries, closes, tick_begins, tick_ends}
 use Rattle.world_facts.specs.Facts.{FactsButLives, Facts, IsAtEase}
-use Rattle.world_facts.proofs.WayLemmas.{OnTheWay-begins, OnTheWay-chip_drops, OnTheWay-host_drops, OnTheWay-acks, OnTheWay-called, called_is}
-use Rattle.world_facts.proofs.EndsFacts.{report_is}
-use Rattle.world_facts.proofs.KeptLemmas.{begun_waiting, command_is}
-use Rattle.world_facts.proofs.WaysLemmas.{Ends-at, Ends-begins, Ends-acks, Ends-closes, alone_told}
-use Rattle.world_facts.proofs.OrdersLemmas.{Kept-begins, Kept-closes, carries_command}
-use Rattle.world_facts.proofs.TablesLemmas.{Tables-aside, Tables-asides, Tables-begins, Tables-closes}
-use Rattle.world_facts.proofs.ConfirmsFacts.{IsConfirmed-begins, IsConfirmed-closes}
-use Rattle.world_facts.proofs.FramesLemmas.{FramesShown-asks, FramesShown-acks, FramesShown-drops}
-use Rattle.world_facts.proofs.WorkLemmas.{IsFrame, Works-time, Works-begins, Works-acks, Works-chip_drops, Works-host_drops}
-use Rattle.world_facts.proofs.LivesLemmas.{Lives-asides, IsInTime-lived, IsInTime-stamps, IsInTime-tick_begins, IsInTime-asides}
+use Rattle.world_facts.proofs.RequestLemmas.{OnTheWay-begins, OnTheWay-chip_drops, OnTheWay-host_drops, OnTheWay-acks, OnTheWay-called, called_is}
+use Rattle.world_facts.proofs.EndsFacts.{Meets, told_final, ClosesLast, closes_last}
+use Rattle.world_facts.proofs.KeptLemmas.{last_at, sessions_rise}
+use Rattle.world_facts.proofs.MessagesLemmas.{Meets-at, Meets-asks, Meets-acks, Meets-closes, alone_told}
+use Rattle.world_facts.proofs.OrdersLemmas.{Kept-begins, Kept-closes, carries_command, IsOrdered, ordered}
+use Rattle.world_facts.proofs.QuietLemmas.{IsAside}
+use Rattle.world_facts.proofs.TablesLemmas.{Tables-aside, Tables-asides, Tables-begins, Begins-shown, Tables-closes, Closes-shown}
+use Rattle.world_facts.proofs.JournalsLemmas.{Journals-begins, Journals-closes}
+use Rattle.world_facts.proofs.FramesLemmas.{IsNoFrame, FramesShown-asks, FramesShown-acks, FramesShown-drops}
+use Rattle.world_facts.proofs.WorkLemmas.{IsNoWork, IsFrame, Works-time, Works-begins, Works-acks, Works-chip_drops, Works-host_drops}
+use Rattle.world_facts.proofs.LivesLemmas.{IsAside as IsPassing, ShowsNoTick, Lives-asides, IsInTime-lived, IsInTime-stamps, IsInTime-tick_begins, IsInTime-asides}
 use Rattle.world_facts.proofs.HoldsFacts.{Facts-owe_nothing}
-use Rattle.world_facts.proofs.AsidesLemmas.{after_all, is_stamped, FramesShown-asides, Works-asides}
+use Rattle.world_facts.proofs.AsidesLemmas.{after_all, is_stamped, FramesShown-asides, Works-asides, Journals-asides}
 
 -- ticks begin, are entered, and end
 
@@ -45,10 +51,10 @@ Facts-stamps before T w facts unstamped =
       most = record {
         kept = most.kept;
         ends = most.ends;
+        in_turn = most.in_turn;
         tables = Tables-aside (Time w.clock) tt most.tables;
-        confirmed = most.confirmed;
         frames = FramesShown-asides w.orders w.to_chip w.sent w.flying T (stamp_entries w) (tt, tt) most.frames;
-        journals = most.journals;
+        journals = Journals-asides T (stamp_entries w) w.devices (tt, tt) most.journals;
         works = Works-time w.to_chip w.busy w.to_host T w.clock (Facts-owe_nothing facts (facts.unstamped unstamped)) most.works;
       };
       on_the_way = facts.on_the_way;
@@ -62,7 +68,7 @@ pub Facts-tick_begins : (before : List State) (T : List Entry) (w : World) → F
 Facts-tick_begins before T w facts ease =
     let most : FactsButLives T w = facts.most in
     record {
-      most = record { kept = most.kept; ends = most.ends; tables = most.tables; confirmed = most.confirmed; frames = most.frames; journals = most.journals; works = most.works };
+      most = record { kept = most.kept; ends = most.ends; in_turn = most.in_turn; tables = most.tables; frames = most.frames; journals = most.journals; works = most.works };
       on_the_way = facts.on_the_way;
       lives = facts.lives;
       in_time = IsInTime-tick_begins (w.clock + 1) w.lived T;
@@ -74,7 +80,7 @@ pub Facts-tick_ends : (before : List State) (T : List Entry) (w : World) → Fac
 Facts-tick_ends before T w facts lived =
     let most : FactsButLives T w = facts.most in
     record {
-      most = record { kept = most.kept; ends = most.ends; tables = most.tables; confirmed = most.confirmed; frames = most.frames; journals = most.journals; works = most.works };
+      most = record { kept = most.kept; ends = most.ends; in_turn = most.in_turn; tables = most.tables; frames = most.frames; journals = most.journals; works = most.works };
       on_the_way = facts.on_the_way;
       lives = facts.lives;
       in_time = IsInTime-lived w.clock w.lived true T lived;
@@ -89,16 +95,19 @@ begins_at : (before : List State) (T : List Entry) (w : World) (command : ℕ) (
 begins_at before T w command rest callback facts stamped closed = record {
   most = record {
     kept = Kept-begins w.orders command rest w.book most.kept;
-    ends = Ends-begins w.book command callback w.to_chip w.flying w.to_host (device_of first_node w.devices) most.ends closed (carries_command w.book command);
+    ends = meets.ends;
+    in_turn = meets.in_turn;
     tables =
-        after_all (λ (t : List Entry). Tables w.orders (begins w.book command) w.confirmed t) T (first ∷ []) (second ∷ [])
+        after_all (λ (t : List Entry). Tables w.orders rest (begins w.book command) w.confirmed t) T (first ∷ []) (second ∷ [])
         (Tables-aside second tt (Tables-begins most.kept closed most.tables));
-    confirmed = IsConfirmed-begins w.orders w.book w.confirmed command closed most.confirmed;
     frames =
         after_all (λ (t : List Entry). FramesShown w.orders (w.to_chip ++ Asks (next_get w command) callback ∷ []) w.sent w.flying t) T (first ∷ []) (second ∷ [])
         (FramesShown-asks (next_get w command) callback w.orders w.to_chip w.sent w.flying (T ++ first ∷ [])
         (FramesShown-asides w.orders w.to_chip w.sent w.flying T (first ∷ []) (tt, tt) most.frames));
-    journals = most.journals;
+    journals =
+        after_all (λ (t : List Entry). Journals t w.devices) T (first ∷ []) (second ∷ [])
+        (Journals-asides (T ++ first ∷ []) (second ∷ []) w.devices (tt, tt)
+        (Journals-begins command T (T ++ first ∷ []) w.devices (Begins-shown most.kept most.tables) most.journals));
     works = Works-begins w.orders (next_get w command) callback (begun_of w.book + 1) command w.to_chip w.busy w.to_host T most.works;
   };
   on_the_way = OnTheWay-begins w.to_chip w.busy w.to_host w.flying (next_get w command) callback facts.on_the_way;
@@ -110,6 +119,11 @@ begins_at before T w command rest callback facts stamped closed = record {
   where
     most : FactsButLives T (record w { request = None; waiting = command ∷ rest })
     most = facts.most
+
+    meets : Meets (begins w.book command) (gets (w.to_chip ++ Asks (next_get w command) callback ∷ []) w.flying) (reports w.flying w.to_host) (device_of first_node w.devices)
+    meets =
+        Meets-asks w.book command callback w.to_chip w.flying w.to_host (device_of first_node w.devices) (record { ends = most.ends; in_turn = most.in_turn })
+        closed (carries_command w.book command)
 
     first : Entry
     first = Begin first_node (begun_of w.book + 1) command
@@ -135,8 +149,8 @@ chip_drops_at before T w rest facts =
       most = record {
         kept = most.kept;
         ends = most.ends;
+        in_turn = most.in_turn;
         tables = most.tables;
-        confirmed = most.confirmed;
         frames = FramesShown-drops w.orders rest w.sent w.flying T most.frames;
         journals = most.journals;
         works = Works-chip_drops rest w.busy w.to_host T most.works;
@@ -159,8 +173,8 @@ host_drops_at before T w rest facts =
       most = record {
         kept = most.kept;
         ends = most.ends;
+        in_turn = most.in_turn;
         tables = most.tables;
-        confirmed = most.confirmed;
         frames = most.frames;
         journals = most.journals;
         works = Works-host_drops w.to_chip w.busy rest T most.works;
@@ -184,14 +198,16 @@ acks_at before T w request frame rest facts stamped is none way =
     let most : FactsButLives T (record w { to_host = frame ∷ rest }) = facts.most in
     let told : reports w.flying rest ≡ reports w.flying (frame ∷ rest) =
     ap (λ (rs : List Report). reports_flying w.flying ++ (rs ++ flat_map report_told rest)) (sym none) in
+    let meets : Meets w.book (gets (w.to_chip ++ Acknowledges ∷ []) w.flying) (reports w.flying rest) (device_of first_node w.devices) =
+    Meets-acks w.book w.to_chip w.flying rest (device_of first_node w.devices) (Meets-at refl told (record { ends = most.ends; in_turn = most.in_turn })) in
     record {
       most = record {
         kept = most.kept;
-        ends = Ends-acks w.book w.to_chip w.flying rest (device_of first_node w.devices) (Ends-at refl told most.ends);
+        ends = meets.ends;
+        in_turn = meets.in_turn;
         tables = Tables-asides ack_entries (tt, tt) most.tables;
-        confirmed = most.confirmed;
         frames = FramesShown-acks w.orders w.to_chip w.sent w.flying T most.frames;
-        journals = most.journals;
+        journals = Journals-asides T ack_entries w.devices (tt, tt) most.journals;
         works = Works-acks w.to_chip w.busy frame rest T is most.works;
       };
       on_the_way = way;
@@ -221,55 +237,85 @@ Facts-called before T w callback status rest facts stamped is =
     let at : Facts before T (record w { to_host = Calls_back callback status ∷ rest }) = at_host before T w (Calls_back callback status ∷ rest) facts is in
     acks_at before T w None (Calls_back callback status) rest at stamped tt refl (OnTheWay-called w.request w.to_chip w.busy callback status rest w.flying at.on_the_way)
 
--- what a report that comes to the host closes: the last session begun, which carries the command of its number
-pub record Closes (w : World) (report : Report) : Type 0 where
-  pub own : report.session ≡ begun_of w.book
-  pub success : report.status ≡ 255
-  pub is_open : open_session w.book ≡ Some (begun_of w.book)
-  pub carries : command_at w.book.commands (begun_of w.book) ≡ Some (begun_of w.book)
-  pub from_one : 0 < begun_of w.book
-  pub within : begun_of w.book ≤ length w.orders
+-- what a report that comes to the host does: it closes its own session, which is open, with a final status
+pub record Comes (w : World) (report : Report) : Type 0 where
+  pub final : told_of w.book (wire_id report.session) report.status ≡ Final report.session
+  pub known : IsStatus report.status
+  pub command : ℕ
+  pub carries : command_at w.book.commands report.session ≡ Some command
+  pub order_is : IsOrdered w.orders command
 
-pub closes_what : (before : List State) (T : List Entry) (w : World) (report : Report) (rest : List ToHost) → Facts before T w → w.to_host ≡ Brings report ∷ rest → Closes w report
-closes_what before T w report rest facts is =
-    let at : Facts before T (record w { to_host = Brings report ∷ rest }) = at_host before T w (Brings report ∷ rest) facts is in
-    let alone = alone_told w.book report w.to_chip w.flying rest (device_of first_node w.devices) at.most.ends in
-    let report_own = report_is w.book [] report [] (device_of first_node w.devices) alone.2 in
-    let all : begun_of w.book + length w.waiting ≡ length w.orders = begun_waiting facts.most.kept in
+pub comes_what : (before : List State) (T : List Entry) (w : World) (report : Report) (rest : List ToHost) → Facts before T w → w.to_host ≡ Brings report ∷ rest → Comes w report
+comes_what before T w report rest facts is =
+    let most : FactsButLives T (record w { to_host = Brings report ∷ rest }) = (at_host before T w (Brings report ∷ rest) facts is).most in
+    let alone = alone_told w.book report w.to_chip w.flying rest (device_of first_node w.devices) (record { ends = most.ends; in_turn = most.in_turn }) in
+    let meets : Meets w.book [] (report ∷ []) (device_of first_node w.devices) = alone.2 in
+    let final : told_of w.book (wire_id report.session) report.status ≡ Final report.session = told_final w.book [] report [] (device_of first_node w.devices) meets.in_turn in
+    let own = open_session-Some w.book report.session (told_of-Final w.book (wire_id report.session) report.status report.session final).0 in
+    let some = last_at w.book.commands (subst (λ (n : ℕ). 0 < n) own.0 own.1) in
+    let carries : command_at w.book.commands report.session ≡ Some some.0 = ap (λ (n : ℕ). command_at w.book.commands n) own.0 ∙ some.1 in
     record {
-      own = report_own.0;
-      success = report_own.3;
-      is_open = report_own.4;
-      carries = command_is facts.most.kept (begun_of w.book) report_own.1 (omega arith);
-      from_one = report_own.1;
-      within = omega arith;
+      final = final;
+      known = meets.ends.reports_known.0;
+      command = some.0;
+      carries = carries;
+      order_is = ordered w.orders w.waiting w.book report.session some.0 facts.most.kept carries;
     }
 
-pub Facts-closes : (before : List State) (T : List Entry) (w : World) (report : Report) (rest : List ToHost) → Facts before T w → w.stamped ≡ true → w.to_host ≡ Brings report ∷ rest →
-    Facts before (T ++ close_entries w) (closes w rest)
-Facts-closes before T w report rest facts stamped is = record {
+-- the session that it closes is the last one, which its device took, and ended with this status
+closes_by : (before : List State) (T : List Entry) (w : World) (report : Report) (rest : List ToHost) (session : ℕ) → Facts before T (record w { to_host = Brings report ∷ rest }) →
+    told_of w.book (wire_id report.session) report.status ≡ Final session → (device : State) → device_of first_node w.devices ≡ Some device → ClosesLast w.book report session device
+closes_by before T w report rest session at final device here =
+    let most : FactsButLives T (record w { to_host = Brings report ∷ rest }) = at.most in
+    let alone = alone_told w.book report w.to_chip w.flying rest (device_of first_node w.devices) (record { ends = most.ends; in_turn = most.in_turn }) in
+    closes_last w.book [] report [] session device (subst (λ (d : Option State). EndsMeet w.book [] (report ∷ []) d) here alone.2.ends) final
+
+-- the session that a report closes is its own
+pub own_report : (before : List State) (T : List Entry) (w : World) (report : Report) (rest : List ToHost) (device : State) (session : ℕ) → Facts before T w → w.to_host ≡ Brings report ∷ rest →
+    device_of first_node w.devices ≡ Some device → told_of w.book (wire_id report.session) report.status ≡ Final session → session ≡ report.session
+own_report before T w report rest device session facts is here final =
+    let by : ClosesLast w.book report session device =
+    closes_by before T w report rest session (at_host before T w (Brings report ∷ rest) facts is) final device here in
+    by.own
+
+-- entries of a confirmed value
+store_aside : (success : Bool) (value : ℕ) (P : Entry → Type 0) → P (Store first_node (record { property = switch; value = value })) → AllByRecursion P (store_where success value)
+store_aside true value P holds = (holds, tt)
+store_aside false value P holds = tt
+
+pub Facts-closes : (before : List State) (T : List Entry) (w : World) (report : Report) (rest : List ToHost) (session command : ℕ) → Facts before T w → w.stamped ≡ true → w.to_host ≡ Brings report ∷ rest →
+    told_of w.book (wire_id report.session) report.status ≡ Final session → command_at w.book.commands session ≡ Some command →
+    Facts before (T ++ close_entries w command report.status) (closes w command report.status rest)
+Facts-closes before T w report rest session command facts stamped is final carries = record {
   most = record {
-    kept = Kept-closes w.orders w.waiting w.book SUCCESS most.kept;
-    ends = Ends-closes w.book report w.to_chip w.flying rest (device_of first_node w.devices) most.ends;
+    kept = Kept-closes w.orders w.waiting w.book report.status most.kept;
+    ends = meets.ends;
+    in_turn = meets.in_turn;
     tables =
-        after_all (Tables w.orders closed value) T (ack ∷ out ∷ []) (store ∷ [])
-        (Tables-aside store tt
-        (after_all (Tables w.orders closed value) T (ack ∷ []) (out ∷ [])
-        (Tables-closes most.kept outcome_none what.from_one (Tables-aside ack tt most.tables))));
-    confirmed = IsConfirmed-closes w.orders w.book what.is_open;
+        after_all (Tables w.orders w.waiting closed value) T (ack ∷ out ∷ []) stores
+        (Tables-asides stores (store_aside success stored IsAside tt)
+        (after_all (Tables w.orders w.waiting closed value) T (ack ∷ []) (out ∷ [])
+        (Tables-closes command report.status most.kept is_open.2 last after_ack)));
     frames =
-        after_all (FramesShown w.orders (w.to_chip ++ Acknowledges ∷ []) w.sent w.flying) T (ack ∷ []) (out ∷ store ∷ [])
-        (FramesShown-asides w.orders (w.to_chip ++ Acknowledges ∷ []) w.sent w.flying (T ++ ack ∷ []) (out ∷ store ∷ []) (tt, (tt, tt))
+        after_all (FramesShown w.orders (w.to_chip ++ Acknowledges ∷ []) w.sent w.flying) T (ack ∷ []) (out ∷ stores)
+        (FramesShown-asides w.orders (w.to_chip ++ Acknowledges ∷ []) w.sent w.flying (T ++ ack ∷ []) (out ∷ stores) (tt, store_aside success stored IsNoFrame tt)
         (FramesShown-acks w.orders w.to_chip w.sent w.flying T most.frames));
-    journals = most.journals;
+    journals =
+        after_all (λ (t : List Entry). Journals t w.devices) T (ack ∷ out ∷ []) stores
+        (Journals-asides (T ++ ack ∷ out ∷ []) stores w.devices (store_aside success stored IsAside tt)
+        (after_all (λ (t : List Entry). Journals t w.devices) T (ack ∷ []) (out ∷ [])
+        (Journals-closes command report.status (T ++ ack ∷ []) ((T ++ ack ∷ []) ++ out ∷ []) w.devices (Closes-shown command report.status most.kept is_open.2 last after_ack)
+        (subst Rises (sym after_ack.sessions_are) (sessions_rise most.kept))
+        (subst (λ (commands : List ℕ). command_at commands (length commands) ≡ Some command) (sym after_ack.sessions_are) last)
+        taken (Journals-asides T (ack ∷ []) w.devices (tt, tt) most.journals))));
     works =
-        after_all (Works (w.to_chip ++ Acknowledges ∷ []) w.busy rest) T (ack ∷ []) (out ∷ store ∷ [])
-        (Works-asides (w.to_chip ++ Acknowledges ∷ []) w.busy rest (T ++ ack ∷ []) (out ∷ store ∷ []) (tt, (tt, tt))
+        after_all (Works (w.to_chip ++ Acknowledges ∷ []) w.busy rest) T (ack ∷ []) (out ∷ stores)
+        (Works-asides (w.to_chip ++ Acknowledges ∷ []) w.busy rest (T ++ ack ∷ []) (out ∷ stores) (tt, store_aside success stored IsNoWork tt)
         (Works-acks w.to_chip w.busy (Brings report) rest T tt most.works));
   };
   on_the_way = OnTheWay-acks w.request w.to_chip w.busy (Brings report) rest w.flying refl at.on_the_way;
-  lives = Lives-asides before w.lived w.devices T (close_entries w) facts.lives (tt, (tt, (tt, tt)));
-  in_time = IsInTime-asides w.clock w.lived w.stamped T (close_entries w) (tt, (tt, (tt, tt))) facts.in_time;
+  lives = Lives-asides before w.lived w.devices T (close_entries w command report.status) facts.lives (tt, (tt, store_aside success stored IsPassing tt));
+  in_time = IsInTime-asides w.clock w.lived w.stamped T (close_entries w command report.status) (tt, (tt, store_aside success stored ShowsNoTick tt)) facts.in_time;
   unstamped = λ off. is_stamped w.stamped stamped off;
   ticks = facts.ticks;
 }
@@ -280,23 +326,42 @@ Facts-closes before T w report rest facts stamped is = record {
     most : FactsButLives T (record w { to_host = Brings report ∷ rest })
     most = at.most
 
-    what : Closes w report
-    what = closes_what before T w report rest facts is
+    success : Bool
+    success = report.status == SUCCESS
 
-    outcome_none : w.book.outcome ≡ None
-    outcome_none = (open_session-Some w.book (begun_of w.book) what.is_open).2
+    stored : ℕ
+    stored = value_at w.orders command
 
     closed : HostBook
-    closed = record w.book { outcome = Some SUCCESS }
+    closed = record w.book { outcome = Some report.status }
 
     value : Option ℕ
-    value = Some (value_at w.orders (begun_of w.book))
+    value = confirmed_where success stored w.confirmed
 
     ack : Entry
     ack = Written Host ack_unit
 
     out : Entry
-    out = Out (begun_of w.book) Success
+    out = Out command (ended_by report.status)
 
-    store : Entry
-    store = Store first_node (record { property = switch; value = value_at w.orders (begun_of w.book) })
+    stores : List Entry
+    stores = store_where success stored
+
+    after_ack : Tables w.orders w.waiting w.book w.confirmed (T ++ ack ∷ [])
+    after_ack = Tables-aside ack tt most.tables
+
+    is_open : (session ≡ begun_of w.book) × (0 < session) × (w.book.outcome ≡ None)
+    is_open = open_session-Some w.book session (told_of-Final w.book (wire_id report.session) report.status session final).0
+
+    last : command_at w.book.commands (begun_of w.book) ≡ Some command
+    last = subst (λ (n : ℕ). command_at w.book.commands n ≡ Some command) is_open.0 carries
+
+    meets : Meets closed (gets (w.to_chip ++ Acknowledges ∷ []) w.flying) (reports w.flying rest) (device_of first_node w.devices)
+    meets =
+        Meets-closes w.book report session w.to_chip w.flying rest (device_of first_node w.devices) (record { ends = most.ends; in_turn = most.in_turn }) final
+
+    taken : (state : State) → device_of first_node w.devices ≡ Some state →
+        (state.sessions.taken ≡ length (sessions first_node (T ++ ack ∷ []))) × (state.sessions.status ≡ report.status)
+    taken state here =
+        let by : ClosesLast w.book report session state = closes_by before T w report rest session at final state here in
+        (by.taken ∙ ap length (sym after_ack.sessions_are), by.kept)

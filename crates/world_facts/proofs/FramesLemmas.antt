@@ -1,27 +1,29 @@
 -- What each event makes of the facts on frames.
-use Rattle.std.proofs.Common.{◌≡◌, ◌≤◌, ◌<◌, ℕ, zero, suc, ◌+◌, ◌-◌, List, [], ◌∷◌, ◌++◌, length, Some, refl, sym, ap, ◌∙◌, arith, append_assoc, append-nil, length-append}
+use Rattle.std.proofs.Common.{◌≡◌, ◌≤◌, ℕ, zero, suc, ◌+◌, ◌-◌, List, [], ◌∷◌, ◌++◌, length, Some, refl, sym, ap, ◌∙◌, arith, append_assoc, append-nil, length-append}
 use Rattle.std.specs.Prelude.{⊤, slice_get}
 use Rattle.std.specs.List.{flat_map, AllByRecursion}
 use Rattle.std.proofs.lemmas.Grind.{flat_map-append}
+use Rattle.std.proofs.lemmas.List.{map-append}
 use Rattle.supervision.specs.Session.{wire_id}
 use Rattle.supervision.specs.Ends.{Get, Report}
 use Rattle.device_sim.specs.Hearing.{get_text, set_text}
 use Rattle.zw_text.specs.declared.line.Line.{Line}
 use Rattle.zw_text.specs.declared.entry.Entry.{Entry}
 use Rattle.zw_text.specs.declared.entry.Entry.TheVariants.{Written, Air}
-use Rattle.zw_text.specs.declared.entry.Side.TheVariants.{Host}
+use Rattle.zw_text.specs.declared.entry.Side.TheVariants.{Host, Chip}
 use Rattle.zw_text.specs.Transcript.{frame_at, frames}
 use Rattle.zw_laws.specs.Lists.{EachAfter}
-use Rattle.zw_laws.specs.Answers.{first_node}
-use Rattle.zw_laws.specs.Units.{sendings}
+use Rattle.zw_laws.specs.Nodes.{first_node}
+use Rattle.zw_laws.specs.Units.{Sending, sendings, response_of, responses, taken_by}
 use Rattle.zw_laws.specs.Frames.{controller, sent_by, sent_from, MayAir}
 use Rattle.world_facts.specs.World.{ToChip, Carried, Flight, get_asked, get_carried, gets_flying}
 use Rattle.world_facts.specs.World.ToChip.{Asks, Acknowledges}
 use Rattle.world_facts.specs.World.Carried.{Carries_get, Carries_report}
-use Rattle.world_facts.specs.Units.{value_asked, get_payload, report_payload, ask_unit, ack_unit}
-use Rattle.world_facts.specs.Frames.{sending_asked, air_frame, IsShown, FramesShown}
+use Rattle.world_facts.specs.Units.{value_asked, get_payload, report_payload, ask_unit, ack_unit, take_unit}
+use Rattle.world_facts.specs.Frames.{sending_asked, air_frame, IsShown, all_taken, FramesShown}
+use Rattle.world_facts.proofs.ListLemmas.{slice_get-front}
 use Rattle.world_facts.proofs.Appends.{EachAfter-append, ByRecursion-append, ByRecursion-weaker}
-use Rattle.world_facts.proofs.UnitsLemmas.{sendings-append}
+use Rattle.world_facts.proofs.UnitsLemmas.{sendings-append, responses-append}
 
 -- an item of a list stands where it stood where more items follow
 slice_get-append : {X : Type 0} (xs ys : List X) (i : ℕ) (x : X) → slice_get xs i ≡ Some x → slice_get (xs ++ ys) i ≡ Some x
@@ -51,13 +53,20 @@ shown_more orders T es flying all =
     ))
     flying all
 
--- the facts after more entries, where the requests that go off their way are put on the air
+-- where the chip took all requests before, and takes the next one, that is the next of those taken
+taken_next : (before : List Sending) (next : Sending) (rest : List Sending) →
+    slice_get (taken_by (before ++ next ∷ rest) (all_taken before ++ 1 ∷ [])) (length before) ≡ Some next
+taken_next [] next rest = refl
+taken_next (first ∷ before) next rest = taken_next before next rest
+
+-- the facts after more entries, where the requests that go off their way are taken and put on the air
 FramesShown-append : (orders : List Line) (to_chip to_chip' : List ToChip) (sent sent' : ℕ) (flying flying' : List Flight) (T es : List Entry) →
     sent' ≡ sent + length (frames es) →
     flat_map (sending_asked orders) to_chip ++ sendings es ≡ sent_from controller es ++ flat_map (sending_asked orders) to_chip' →
+    responses es ≡ all_taken (sent_from controller es) →
     EachAfter MayAir T es → AllByRecursion (IsShown orders (T ++ es)) flying' →
     FramesShown orders to_chip sent flying T → FramesShown orders to_chip' sent' flying' (T ++ es)
-FramesShown-append orders to_chip to_chip' sent sent' flying flying' T es more asked may shown facts = record {
+FramesShown-append orders to_chip to_chip' sent sent' flying flying' T es more asked taken may shown facts = record {
   counted =
       ap length (flat_map-append frame_at T es)
       ∙ (length-append (frames T) (frames es) ∙ (ap (λ n. n + length (frames es)) facts.counted ∙ sym more));
@@ -68,17 +77,24 @@ FramesShown-append orders to_chip to_chip' sent sent' flying flying' T es more a
       ∙ (ap (λ s. sent_from controller T ++ s) asked
       ∙ (sym (append_assoc (sent_from controller T) (sent_from controller es) (flat_map (sending_asked orders) to_chip'))
       ∙ ap (λ s. s ++ flat_map (sending_asked orders) to_chip') (sym (sent_from-append controller T es))))));
+  taken =
+      responses-append T es
+      ∙ (ap (λ r. r ++ responses es) facts.taken
+      ∙ (ap (λ r. all_taken (sent_from controller T) ++ r) taken
+      ∙ (sym (map-append (λ sending. 1) (sent_from controller T) (sent_from controller es))
+      ∙ ap all_taken (sym (sent_from-append controller T es)))));
   carries = EachAfter-append MayAir [] T es facts.carries may;
   flying_shown = shown;
 }
 
 -- at the start nothing was sent
 pub FramesShown-start : FramesShown [] [] 0 [] []
-FramesShown-start = record { counted = refl; asked = refl; carries = tt; flying_shown = tt }
+FramesShown-start = record { counted = refl; asked = refl; taken = refl; carries = tt; flying_shown = tt }
 
--- an entry that is no frame, and no unit of the host
+-- an entry that is no frame, no unit of the host, and no response of the chip
 abbrev pub IsNoFrame : Entry → Type 0
 IsNoFrame (Written Host unit) = ⊥
+IsNoFrame (Written Chip unit) = response_of unit ≡ []
 IsNoFrame (Air frame sender receiver repeaters payload) = ⊥
 IsNoFrame entry = ⊤
 
@@ -86,9 +102,13 @@ pub FramesShown-aside : (orders : List Line) (to_chip : List ToChip) (sent : ℕ
     FramesShown orders to_chip sent flying T → FramesShown orders to_chip sent flying (T ++ entry ∷ [])
 FramesShown-aside orders to_chip sent flying T (Written Host unit) aside facts = absurd aside
 FramesShown-aside orders to_chip sent flying T (Air frame sender receiver repeaters payload) aside facts = absurd aside
+FramesShown-aside orders to_chip sent flying T (Written Chip unit) aside facts =
+    FramesShown-append orders to_chip to_chip sent sent flying flying T (Written Chip unit ∷ [])
+    (omega arith) (append-nil (flat_map (sending_asked orders) to_chip)) (append-nil (response_of unit) ∙ aside) (tt, tt)
+    (shown_more orders T (Written Chip unit ∷ []) flying facts.flying_shown) facts
 FramesShown-aside orders to_chip sent flying T entry aside facts =
     FramesShown-append orders to_chip to_chip sent sent flying flying T (entry ∷ [])
-    (omega arith) (append-nil (flat_map (sending_asked orders) to_chip)) (tt, tt) (shown_more orders T (entry ∷ []) flying facts.flying_shown) facts
+    (omega arith) (append-nil (flat_map (sending_asked orders) to_chip)) refl (tt, tt) (shown_more orders T (entry ∷ []) flying facts.flying_shown) facts
 
 -- the host asks to send a Get
 pub FramesShown-asks : (get : Get) (callback : ℕ) (orders : List Line) (to_chip : List ToChip) (sent : ℕ) (flying : List Flight) (T : List Entry) →
@@ -96,7 +116,7 @@ pub FramesShown-asks : (get : Get) (callback : ℕ) (orders : List Line) (to_chi
     FramesShown orders (to_chip ++ Asks get callback ∷ []) sent flying (T ++ Written Host (ask_unit orders get callback) ∷ [])
 FramesShown-asks get callback orders to_chip sent flying T facts =
     FramesShown-append orders to_chip (to_chip ++ Asks get callback ∷ []) sent sent flying flying T (Written Host (ask_unit orders get callback) ∷ [])
-    (omega arith) (sym (flat_map-append (sending_asked orders) to_chip (Asks get callback ∷ []))) (tt, tt)
+    (omega arith) (sym (flat_map-append (sending_asked orders) to_chip (Asks get callback ∷ []))) refl (tt, tt)
     (shown_more orders T (Written Host (ask_unit orders get callback) ∷ []) flying facts.flying_shown) facts
 
 -- the host acknowledges
@@ -105,20 +125,20 @@ pub FramesShown-acks : (orders : List Line) (to_chip : List ToChip) (sent : ℕ)
     FramesShown orders (to_chip ++ Acknowledges ∷ []) sent flying (T ++ Written Host ack_unit ∷ [])
 FramesShown-acks orders to_chip sent flying T facts =
     FramesShown-append orders to_chip (to_chip ++ Acknowledges ∷ []) sent sent flying flying T (Written Host ack_unit ∷ [])
-    (omega arith) (sym (flat_map-append (sending_asked orders) to_chip (Acknowledges ∷ []))) (tt, tt)
+    (omega arith) (sym (flat_map-append (sending_asked orders) to_chip (Acknowledges ∷ []))) refl (tt, tt)
     (shown_more orders T (Written Host ack_unit ∷ []) flying facts.flying_shown) facts
 
 -- the chip drops an acknowledgement
 pub FramesShown-drops : (orders : List Line) (rest : List ToChip) (sent : ℕ) (flying : List Flight) (T : List Entry) →
     FramesShown orders (Acknowledges ∷ rest) sent flying T → FramesShown orders rest sent flying T
 FramesShown-drops orders rest sent flying T facts =
-    record { counted = facts.counted; asked = facts.asked; carries = facts.carries; flying_shown = facts.flying_shown }
+    record { counted = facts.counted; asked = facts.asked; taken = facts.taken; carries = facts.carries; flying_shown = facts.flying_shown }
 
 -- a frame comes to its receiver, and is off the air
 pub FramesShown-lands : (orders : List Line) (to_chip : List ToChip) (sent : ℕ) (flight : Flight) (rest : List Flight) (T : List Entry) →
     FramesShown orders to_chip sent (flight ∷ rest) T → FramesShown orders to_chip sent rest T
 FramesShown-lands orders to_chip sent flight rest T facts =
-    record { counted = facts.counted; asked = facts.asked; carries = facts.carries; flying_shown = facts.flying_shown.1 }
+    record { counted = facts.counted; asked = facts.asked; taken = facts.taken; carries = facts.carries; flying_shown = facts.flying_shown.1 }
 
 -- the frame that comes first is one that the transcript shows
 pub heard_frame : (orders : List Line) (to_chip : List ToChip) (sent : ℕ) (flight : Flight) (rest : List Flight) (T : List Entry) →
@@ -138,25 +158,42 @@ flight_shown orders sent carried T es counted is =
           ∙ slice_get-next (frames T) (air_frame orders (sent + 1) carried) []),
     )
 
--- the chip puts the Get of a request on the air
+-- the acknowledgement and the response by which the chip takes a request
+abbrev taking : List Entry
+taking = Written Chip ack_unit ∷ Written Chip take_unit ∷ []
+
+-- once the chip has taken a request, its frame may go on the air
+may_air_taken : (get : Get) (callback : ℕ) (orders : List Line) (rest : List ToChip) (sent : ℕ) (flying : List Flight) (T : List Entry) →
+    FramesShown orders (Asks get callback ∷ rest) sent flying T →
+    MayAir (T ++ taking) (Air (sent + 1) controller first_node [] (get_payload orders get))
+may_air_taken get callback orders rest sent flying T facts =
+    let asked : Sending = record { node = first_node; payload = get_payload orders get } in
+    let counted : length (frames (T ++ taking)) ≡ sent =
+    ap length (flat_map-append frame_at T taking ∙ append-nil (frames T)) ∙ facts.counted in
+    let asked_are : sendings (T ++ taking) ≡ sent_from controller T ++ asked ∷ flat_map (sending_asked orders) rest =
+    sendings-append T taking ∙ (append-nil (sendings T) ∙ facts.asked) in
+    let taken_are : responses (T ++ taking) ≡ all_taken (sent_from controller T) ++ 1 ∷ [] =
+    responses-append T taking ∙ ap (λ r. r ++ 1 ∷ []) facts.taken in
+    let sent_are : sent_from controller (T ++ taking) ≡ sent_from controller T =
+    sent_from-append controller T taking ∙ append-nil (sent_from controller T) in (
+      ap (λ n. n + 1) (sym counted),
+      rw (asked_are, taken_are, sent_are) (taken_next (sent_from controller T) asked (flat_map (sending_asked orders) rest)),
+    )
+
+-- the chip takes a request, and puts its Get on the air
 pub FramesShown-takes : (get : Get) (callback : ℕ) (orders : List Line) (rest : List ToChip) (sent : ℕ) (flying : List Flight) (T : List Entry) →
     FramesShown orders (Asks get callback ∷ rest) sent flying T →
     FramesShown orders rest (sent + 1) (flying ++ record { number = sent + 1; carried = Carries_get get } ∷ [])
-    (T ++ Air (sent + 1) controller first_node [] (get_payload orders get) ∷ [])
+    (T ++ Written Chip ack_unit ∷ Written Chip take_unit ∷ Air (sent + 1) controller first_node [] (get_payload orders get) ∷ [])
 FramesShown-takes get callback orders rest sent flying T facts =
     let air : Entry = Air (sent + 1) controller first_node [] (get_payload orders get) in
+    let es : List Entry = taking ++ air ∷ [] in
     let flight : Flight = record { number = sent + 1; carried = Carries_get get } in
-    FramesShown-append orders (Asks get callback ∷ rest) rest sent (sent + 1) flying (flying ++ flight ∷ []) T (air ∷ []) refl
-    (append-nil _) (
-      (
-        ap (λ n. n + 1) (sym facts.counted),
-        ap (λ s. slice_get s (length (sent_from controller T))) facts.asked
-            ∙ slice_get-next (sent_from controller T) (record { node = first_node; payload = get_payload orders get }) (flat_map (sending_asked orders) rest),
-      ),
-      tt,
-    )
-    (ByRecursion-append (IsShown orders (T ++ air ∷ [])) flying (flight ∷ []) (shown_more orders T (air ∷ []) flying facts.flying_shown)
-    (flight_shown orders sent (Carries_get get) T (air ∷ []) facts.counted refl, tt))
+    FramesShown-append orders (Asks get callback ∷ rest) rest sent (sent + 1) flying (flying ++ flight ∷ []) T es refl
+    (append-nil _) refl
+    (EachAfter-append MayAir T taking (air ∷ []) (tt, (tt, tt)) (may_air_taken get callback orders rest sent flying T facts, tt))
+    (ByRecursion-append (IsShown orders (T ++ es)) flying (flight ∷ []) (shown_more orders T es flying facts.flying_shown)
+    (flight_shown orders sent (Carries_get get) T es facts.counted refl, tt))
     facts
 
 -- the device answers
@@ -168,7 +205,7 @@ FramesShown-answers report orders to_chip sent flying T facts =
     let air : Entry = Air (sent + 1) first_node controller [] (report_payload report) in
     let flight : Flight = record { number = sent + 1; carried = Carries_report report } in
     FramesShown-append orders to_chip to_chip sent (sent + 1) flying (flying ++ flight ∷ []) T (air ∷ []) refl
-    (append-nil (flat_map (sending_asked orders) to_chip))
+    (append-nil (flat_map (sending_asked orders) to_chip)) refl
     ((ap (λ n. n + 1) (sym facts.counted), tt), tt)
     (ByRecursion-append (IsShown orders (T ++ air ∷ [])) flying (flight ∷ []) (shown_more orders T (air ∷ []) flying facts.flying_shown)
     (flight_shown orders sent (Carries_report report) T (air ∷ []) facts.counted refl, tt))
@@ -184,11 +221,6 @@ ByRecursion-split P [] ys all = (tt, all)
 ByRecursion-split P (x ∷ xs) ys all = let rest = ByRecursion-split P xs ys all.1 in ((all.0, rest.0), rest.1)
 
 -- one more order leaves those before it
-slice_get-front : {X : Type 0} (xs ys : List X) (i : ℕ) → i < length xs → slice_get (xs ++ ys) i ≡ slice_get xs i
-slice_get-front [] ys i below = absurd (omega arith)
-slice_get-front (x ∷ xs) ys zero below = refl
-slice_get-front (x ∷ xs) ys (suc i) below = slice_get-front xs ys i (omega arith)
-
 pub same_payload : (orders : List Line) (order : Line) (get : Get) → IsOfOrder orders get → get_payload (orders ++ order ∷ []) get ≡ get_payload orders get
 same_payload orders order get is =
     let from = is.0 in
@@ -225,6 +257,7 @@ pub FramesShown-accepts : (order : Line) (orders : List Line) (to_chip : List To
 FramesShown-accepts order orders to_chip sent flying T asked gets facts = record {
   counted = facts.counted;
   asked = facts.asked ∙ ap (λ s. sent_from controller T ++ s) (sym (same_sendings orders order to_chip asked));
+  taken = facts.taken;
   carries = facts.carries;
   flying_shown = same_flights orders order T flying gets facts.flying_shown;
 }

@@ -3,7 +3,7 @@ use Rattle.std.proofs.Common.{◌≡◌, ℕ, Bool, true, false, List, Some, sub
 use Rattle.std.proofs.lemmas.Bool.Decides.{eqb_tells}
 use Rattle.device_sim.specs.State.{State}
 use Rattle.zw_text.specs.declared.entry.Entry.{Entry}
-use Rattle.zw_laws.specs.Answers.{first_node}
+use Rattle.zw_laws.specs.Nodes.{first_node}
 use Rattle.zw_laws.specs.Devices.{RunsAsShown, device_of}
 use Rattle.zw_laws.specs.Headline.{IsDevice, ConfirmsLast}
 use Rattle.zw_laws.specs.Once.{Once}
@@ -14,8 +14,7 @@ use Rattle.world_facts.proofs.LivesLemmas.{shown-whole}
 use Rattle.world_facts.specs.Work.{IsPumped}
 use Rattle.world_facts.proofs.TablesLemmas.{all_final, waiting_is, waiting_none}
 use Rattle.world_facts.proofs.WorkLemmas.{owes_nothing}
-use Rattle.world_facts.proofs.OnceFacts.{Once-first, Once-other}
-use Rattle.world_facts.proofs.ConfirmsFacts.{Confirms-first, Confirms-other}
+use Rattle.world_facts.proofs.OnceFacts.{Once-first, Once-other, Confirms-first, Confirms-other}
 
 -- a device is at the first node or at another
 
@@ -45,6 +44,7 @@ holds : (whole : Bool) (before : List State) {transcript : List Entry} {w : Worl
     (whole ≡ true → IsRest transcript → OwesNothing transcript) → Holds whole before w.devices transcript
 holds whole before facts runs owes = record {
   answers = facts.tables.answers;
+  answered = facts.tables.answered;
   devices = runs;
   frames = facts.frames.carries;
   prompt = record { between = facts.works.between; in_the_end = owes };
@@ -59,7 +59,7 @@ pub Facts-owe_nothing : {before : List State} {transcript : List Entry} {w : Wor
 Facts-owe_nothing {transcript = transcript} {w = w} facts pumped =
     let most : FactsButLives transcript w = facts.most in
     owes_nothing w.request w.to_chip w.busy w.to_host w.flying w.book w.waiting transcript most.works facts.on_the_way pumped
-    (all_final most.tables most.kept) (waiting_is most.tables most.kept) (waiting_none most.tables)
+    (all_final most.kept most.tables) (waiting_is most.kept most.tables) (waiting_none most.kept most.tables)
 
 -- a run that came to its end
 pub Holds-whole : {before : List State} {transcript : List Entry} {w : World} → Facts before transcript w → IsAtEase w → Holds true before w.devices transcript

@@ -1,130 +1,217 @@
--- What the numbers of commands are: those of the commands accepted, of which some have a session and the rest wait.
-use Rattle.std.proofs.Common.{◌≡◌, ℕ, zero, suc, ◌+◌, ◌-◌, ◌<◌, ◌≤◌, true, false, ◌==◌, List, [], ◌∷◌, ◌++◌, length, slice_get, Some, refl, sym, ap, subst, ◌∙◌, arith, length-append, add-zero}
+-- What is known of the commands that the host keeps: their numbers rise, and each is of an order that was accepted.
+use Rattle.std.proofs.Common.{◌≡◌, ◌⊎◌, inl, inr, ℕ, zero, suc, ◌+◌, ◌-◌, ◌<◌, ◌≤◌, ◌==◌, true, false, List, [], ◌∷◌, ◌++◌, length, slice_get, Some, refl, sym, ap, subst, ◌∙◌, arith, append_assoc, add-zero}
 use Rattle.std.specs.List.{AllByRecursion}
-use Rattle.std.proofs.lemmas.Bool.Decides.{nat_tests}
-use Rattle.supervision.specs.Host.{HostBook, begun_of, command_at}
+use Rattle.std.proofs.lemmas.Bool.Decides.{eqb_tells, nat_tests}
+use Rattle.supervision.specs.Host.{HostBook, command_at}
 use Rattle.zw_text.specs.declared.line.Line.{Line}
+use Rattle.zw_text.specs.declared.line.Line.TheVariants.{Set, Tick}
+use Rattle.zw_text.specs.Transcript.{Command, order_for, numbered}
+use Rattle.zw_laws.specs.Lists.{Has, Rises}
+use Rattle.zw_laws.specs.Nodes.{first_node}
 use Rattle.zw_laws.specs.Once.{numbers_of}
 use Rattle.zw_laws.specs.Orders.{order_of}
-use Rattle.world_facts.specs.Kept.{Kept, numbers_to}
-use Rattle.world_facts.specs.Tables.{commands_from}
+use Rattle.world_facts.specs.Kept.{Kept, IsTaken, commands_for}
+use Rattle.world_facts.proofs.ListLemmas.{Has-all, Has-left, Has-right}
+use Rattle.world_facts.proofs.Appends.{ByRecursion-weaker}
+use Rattle.world_facts.proofs.FramesLemmas.{ByRecursion-split}
 
--- so many numbers from this one on
-abbrev pub numbers_from : ℕ → ℕ → List ℕ
-numbers_from first zero = []
-numbers_from first (suc n) = first ∷ numbers_from (first + 1) n
+-- the front of a rising list rises, and has nothing of what follows it
+Rises-front : (front rest : List ℕ) → Rises (front ++ rest) → Rises front
+Rises-front [] rest rise = tt
+Rises-front (first ∷ front) rest rise =
+    ((ByRecursion-split (λ (later : ℕ). first < later) front rest rise.0).0, Rises-front front rest rise.1)
 
--- the numbers from 1 on, with the last one apart, and how many they are
-pub numbers_from-last : (first n : ℕ) → numbers_from first n ++ (first + n) ∷ [] ≡ numbers_from first (suc n)
-numbers_from-last first zero = ap (λ (k : ℕ). k ∷ []) (add-zero first)
-numbers_from-last first (suc n) =
-    let moved : first + suc n ≡ (first + 1) + n = omega arith in
-    ap (λ (k : ℕ). first ∷ (numbers_from (first + 1) n ++ k ∷ [])) moved
-    ∙ ap (λ (ks : List ℕ). first ∷ ks) (numbers_from-last (first + 1) n)
+Rises-apart : (front rest : List ℕ) (number : ℕ) → Rises (front ++ rest) → Has front number → Has rest number → ⊥
+Rises-apart [] rest number rise early late = early
+Rises-apart (first ∷ front) rest number rise (inl same) late =
+    let above : first < number =
+    Has-all (λ (later : ℕ). first < later) (front ++ rest) number rise.0 (Has-right front rest number late) in
+    absurd (omega arith)
+Rises-apart (first ∷ front) rest number rise (inr early) late = Rises-apart front rest number rise.1 early late
 
-pub numbers_to-from : (n : ℕ) → numbers_to n ≡ numbers_from 1 n
-numbers_to-from zero = refl
-numbers_to-from (suc n) =
-    let next : suc n ≡ 1 + n = omega arith in
-    ap (λ (ks : List ℕ). ks ++ suc n ∷ []) (numbers_to-from n)
-    ∙ (ap (λ (k : ℕ). numbers_from 1 n ++ k ∷ []) next ∙ numbers_from-last 1 n)
+-- a line is an order of the node, or is none
+order_for-cases : (node : ℕ) (order : Line) → (order_for node order ≡ []) ⊎ (order_for node order ≡ order ∷ [])
+order_for-cases node (Tick count) = inl refl
+order_for-cases node (Set to end word) = elim (eqb_tells to node) [
+  | inl same ↦ inr (rw same.0 refl)
+  | inr other ↦ inl (rw other.0 refl)
+]
 
-length-numbers_from : (first n : ℕ) → length (numbers_from first n) ≡ n
-length-numbers_from first zero = refl
-length-numbers_from first (suc n) = ap suc (length-numbers_from (first + 1) n)
+-- so the commands accepted are those of the later orders, or it comes before them
+commands_for-cases : (node first : ℕ) (order : Line) (orders : List Line) →
+    (commands_for node first (order ∷ orders) ≡ commands_for node (first + 1) orders)
+    ⊎ (commands_for node first (order ∷ orders) ≡ record { number = first; order = order } ∷ commands_for node (first + 1) orders)
+commands_for-cases node first order orders = elim (order_for-cases node order) [
+  | inl none ↦ inl (ap (λ (lines : List Line). numbered first lines ++ commands_for node (first + 1) orders) none)
+  | inr one ↦ inr (ap (λ (lines : List Line). numbered first lines ++ commands_for node (first + 1) orders) one)
+]
 
--- the parts of a list of numbers in a row
-pub numbers_from-front : (xs ys : List ℕ) (first n : ℕ) → xs ++ ys ≡ numbers_from first n → xs ≡ numbers_from first (length xs)
-numbers_from-front [] ys first n e = refl
-numbers_from-front (x ∷ xs) ys first zero e = absurd (cc)
-numbers_from-front (x ∷ xs) ys first (suc n) e =
-    let here : x ≡ first = cc in
-    let rest : xs ++ ys ≡ numbers_from (first + 1) n = cc in
-    let more : xs ≡ numbers_from (first + 1) (length xs) = numbers_from-front xs ys (first + 1) n rest in
-    cc
-
-pub numbers_from-back : (xs ys : List ℕ) (first n : ℕ) → xs ++ ys ≡ numbers_from first n → ys ≡ numbers_from (first + length xs) (length ys)
-numbers_from-back [] ys first n e =
-    let m : length ys ≡ n = ap length e ∙ length-numbers_from first n in
-    rw (add-zero, m) e
-numbers_from-back (x ∷ xs) ys first zero e = absurd (cc)
-numbers_from-back (x ∷ xs) ys first (suc n) e =
-    let rest : xs ++ ys ≡ numbers_from (first + 1) n = cc in
+-- the commands of more orders follow those of the first ones
+pub commands_for-append : (node first : ℕ) (xs ys : List Line) → commands_for node first (xs ++ ys) ≡ commands_for node first xs ++ commands_for node (first + length xs) ys
+commands_for-append node first [] ys = ap (λ (k : ℕ). commands_for node k ys) (sym (add-zero first))
+commands_for-append node first (x ∷ xs) ys =
     let moved : (first + 1) + length xs ≡ first + suc (length xs) = omega arith in
-    subst (λ (k : ℕ). ys ≡ numbers_from k (length ys)) moved (numbers_from-back xs ys (first + 1) n rest)
+    ap (λ (cs : List Command). numbered first (order_for node x) ++ cs)
+    (commands_for-append node (first + 1) xs ys
+    ∙ ap (λ (k : ℕ). commands_for node (first + 1) xs ++ commands_for node k ys) moved)
+    ∙ sym (append_assoc (numbered first (order_for node x)) (commands_for node (first + 1) xs) (commands_for node (first + length (x ∷ xs)) ys))
 
--- what holds of each number of that row
-pub ByRecursion-row : (P : ℕ → Type 0) (first n : ℕ) → ((k : ℕ) → first ≤ k → k < first + n → P k) → AllByRecursion P (numbers_from first n)
-ByRecursion-row P first zero every = tt
-ByRecursion-row P first (suc n) every =
-    (every first (omega arith) (omega arith), ByRecursion-row P (first + 1) n (λ k low high. every k (omega arith) (omega arith)))
+-- what is accepted for a node: its numbers begin at the first number or later, and rise
+commands_for-from : (node first : ℕ) (orders : List Line) → AllByRecursion (λ (number : ℕ). first ≤ number) (numbers_of (commands_for node first orders))
+commands_for-from node first [] = tt
+commands_for-from node first (order ∷ orders) =
+    let later : AllByRecursion (λ (number : ℕ). first ≤ number) (numbers_of (commands_for node (first + 1) orders)) =
+    ByRecursion-weaker (λ (number : ℕ). first + 1 ≤ number) (λ (number : ℕ). first ≤ number) (λ number from. omega arith)
+    (numbers_of (commands_for node (first + 1) orders)) (commands_for-from node (first + 1) orders) in
+    elim (commands_for-cases node first order orders) [
+      | inl none ↦ subst (λ (cs : List Command). AllByRecursion (λ (number : ℕ). first ≤ number) (numbers_of cs)) (sym none) later
+      | inr one ↦ subst (λ (cs : List Command). AllByRecursion (λ (number : ℕ). first ≤ number) (numbers_of cs)) (sym one) (omega arith, later)
+    ]
 
--- the number at a place
-slice_get-numbers_from : (first n k : ℕ) → k < n → slice_get (numbers_from first n) k ≡ Some (first + k)
-slice_get-numbers_from first zero k below = absurd (omega arith)
-slice_get-numbers_from first (suc n) zero below = ap Some (sym (add-zero first))
-slice_get-numbers_from first (suc n) (suc k) below =
-    let less : k < n = omega arith in
-    let moved : (first + 1) + k ≡ first + suc k = omega arith in
-    slice_get-numbers_from (first + 1) n k less ∙ ap Some moved
+pub commands_for-rise : (node first : ℕ) (orders : List Line) → Rises (numbers_of (commands_for node first orders))
+commands_for-rise node first [] = tt
+commands_for-rise node first (order ∷ orders) =
+    let above : AllByRecursion (λ (number : ℕ). first < number) (numbers_of (commands_for node (first + 1) orders)) =
+    ByRecursion-weaker (λ (number : ℕ). first + 1 ≤ number) (λ (number : ℕ). first < number) (λ number from. omega arith)
+    (numbers_of (commands_for node (first + 1) orders)) (commands_for-from node (first + 1) orders) in
+    elim (commands_for-cases node first order orders) [
+      | inl none ↦ subst (λ (cs : List Command). Rises (numbers_of cs)) (sym none) (commands_for-rise node (first + 1) orders)
+      | inr one ↦ subst (λ (cs : List Command). Rises (numbers_of cs)) (sym one) (above, commands_for-rise node (first + 1) orders)
+    ]
 
--- the commands accepted, numbered from this number on
-pub numbers_of-commands_from : (first : ℕ) (orders : List Line) → numbers_of (commands_from first orders) ≡ numbers_from first (length orders)
-numbers_of-commands_from first [] = refl
-numbers_of-commands_from first (order ∷ orders) = ap (λ (ks : List ℕ). first ∷ ks) (numbers_of-commands_from (first + 1) orders)
+-- each of them is the place of an order among all, counted from the first number, and that order is the command's
+pub record IsPlaced (node first number : ℕ) (orders : List Line) : Type 0 where
+  pub from : first ≤ number
+  pub to : number < first + length orders
+  pub order : Line
+  pub at_place : slice_get orders (number - first) ≡ Some order
+  pub found : order_of number (commands_for node first orders) ≡ Some order
 
-pub numbers_of-commands : (orders : List Line) → numbers_of (commands_from 1 orders) ≡ numbers_to (length orders)
-numbers_of-commands orders = numbers_of-commands_from 1 orders ∙ sym (numbers_to-from (length orders))
+-- the first order of all is that of the first number
+placed_here : (node first : ℕ) (order : Line) (orders : List Line) →
+    commands_for node first (order ∷ orders) ≡ record { number = first; order = order } ∷ commands_for node (first + 1) orders →
+    IsPlaced node first first (order ∷ orders)
+placed_here node first order orders one =
+    let place : first - first ≡ 0 = omega arith in
+    let same : (first == first) ≡ true = grind (arith, nat_tests) in
+    record {
+      from = omega arith;
+      to = omega arith;
+      order = order;
+      at_place = ap (slice_get (order ∷ orders)) place;
+      found = ap (order_of first) one ∙ rw same refl;
+    }
 
--- the order of a command
-order_of-commands_from : (first k : ℕ) (orders : List Line) → order_of (first + k) (commands_from first orders) ≡ slice_get orders k
-order_of-commands_from first k [] = refl
-order_of-commands_from first zero (order ∷ orders) =
-    let same : (first == first + 0) ≡ true = grind (arith, nat_tests) in
-    rw same refl
-order_of-commands_from first (suc k) (order ∷ orders) =
-    let other : (first == first + suc k) ≡ false = grind (arith, nat_tests) in
-    let moved : (first + 1) + k ≡ first + suc k = omega arith in
-    rw other (subst (λ (i : ℕ). order_of i (commands_from (first + 1) orders) ≡ slice_get orders k) moved (order_of-commands_from (first + 1) k orders))
+-- what is placed among the later orders is placed among all
+placed_later : (node first number : ℕ) (order : Line) (orders : List Line) → IsPlaced node (first + 1) number orders → IsPlaced node first number (order ∷ orders)
+placed_later node first number order orders later =
+    let from : first + 1 ≤ number = later.from in
+    let to : number < (first + 1) + length orders = later.to in
+    let place : number - first ≡ suc (number - (first + 1)) = omega arith in
+    let other : (first == number) ≡ false = grind (arith, nat_tests) in
+    record {
+      from = omega arith;
+      to = omega arith;
+      order = later.order;
+      at_place = ap (slice_get (order ∷ orders)) place ∙ later.at_place;
+      found = elim (commands_for-cases node first order orders) [
+        | inl none ↦ ap (order_of number) none ∙ later.found
+        | inr one ↦ ap (order_of number) one ∙ rw other later.found
+      ];
+    }
 
-pub order_of-commands : (i : ℕ) (orders : List Line) → 0 < i → order_of i (commands_from 1 orders) ≡ slice_get orders (i - 1)
-order_of-commands i orders positive =
-    let number : 1 + (i - 1) ≡ i = omega arith in
-    subst (λ (k : ℕ). order_of k (commands_from 1 orders) ≡ slice_get orders (i - 1)) number (order_of-commands_from 1 (i - 1) orders)
+-- each number of a command that was accepted is so placed
+pub placed : (node first number : ℕ) (orders : List Line) → Has (numbers_of (commands_for node first orders)) number → IsPlaced node first number orders
+placed node first number [] has = absurd has
+placed node first number (order ∷ orders) has = elim (commands_for-cases node first order orders) [
+  | inl none ↦
+      placed_later node first number order orders
+      (placed node (first + 1) number orders (subst (λ (cs : List Command). Has (numbers_of cs) number) none has))
+  | inr one ↦ elim (subst (λ (cs : List Command). Has (numbers_of cs) number) one has) [
+    | inl here ↦ subst (λ (k : ℕ). IsPlaced node first k (order ∷ orders)) here (placed_here node first order orders one)
+    | inr later ↦ placed_later node first number order orders (placed node (first + 1) number orders later)
+  ]
+]
 
-pub commands_from-append : (first : ℕ) (xs ys : List Line) → commands_from first (xs ++ ys) ≡ commands_from first xs ++ commands_from (first + length xs) ys
-commands_from-append first [] ys = ap (λ (k : ℕ). commands_from k ys) (sym (add-zero first))
-commands_from-append first (x ∷ xs) ys =
-    let moved : (first + 1) + length xs ≡ first + suc (length xs) = omega arith in
-    ap (λ cs. record { number = first; order = x } ∷ cs)
-    (commands_from-append (first + 1) xs ys
-    ∙ ap (λ (k : ℕ). commands_from (first + 1) xs ++ commands_from k ys) moved)
+-- what stands at a place of a list, the list has
+slice_get-has : (commands : List ℕ) (place command : ℕ) → slice_get commands place ≡ Some command → Has commands command
+slice_get-has [] place command is = cc
+slice_get-has (first ∷ commands) zero command is = inl (cc)
+slice_get-has (first ∷ commands) (suc place) command is = inr (slice_get-has commands place command is)
 
--- what is kept of the commands with a session, and of those that wait
+pub Has-at : (commands : List ℕ) (session command : ℕ) → command_at commands session ≡ Some command → Has commands command
+Has-at commands zero command is = cc
+Has-at commands (suc before) command is = slice_get-has commands before command is
+
+-- a list that is not empty has a last one
+pub last_at : (commands : List ℕ) → 0 < length commands → (command : ℕ) × (command_at commands (length commands) ≡ Some command)
+last_at [] some = absurd (omega arith)
+last_at (command ∷ []) some = (command, refl)
+last_at (command ∷ next ∷ commands) some = last_at (next ∷ commands) (omega arith)
+
+-- a command that the list has is at a place
+pub record IsAt (commands : List ℕ) (command : ℕ) : Type 0 where
+  pub session : ℕ
+  pub at_place : command_at commands session ≡ Some command
+
+At-later : (commands : List ℕ) (first session command : ℕ) → command_at commands session ≡ Some command → IsAt (first ∷ commands) command
+At-later commands first zero command is = cc
+At-later commands first (suc before) command is = record { session = suc (suc before); at_place = is }
+
+pub At-has : (commands : List ℕ) (command : ℕ) → Has commands command → IsAt commands command
+At-has [] command has = absurd has
+At-has (first ∷ commands) command (inl here) = record { session = 1; at_place = ap Some here }
+At-has (first ∷ commands) command (inr later) =
+    let at : IsAt commands command = At-has commands command later in
+    At-later commands first at.session command at.at_place
+
+-- in a list that rises a command is at one place
+one_index : (commands : List ℕ) (i j command : ℕ) → Rises commands → slice_get commands i ≡ Some command → slice_get commands j ≡ Some command → i ≡ j
+one_index [] i j command rises first second = cc
+one_index (x ∷ commands) zero zero command rises first second = refl
+one_index (x ∷ commands) zero (suc j) command rises first second =
+    let same : x ≡ command = cc in
+    let above : x < command = Has-all (λ (later : ℕ). x < later) commands command rises.0 (slice_get-has commands j command second) in
+    absurd (omega arith)
+one_index (x ∷ commands) (suc i) zero command rises first second =
+    let same : x ≡ command = cc in
+    let above : x < command = Has-all (λ (later : ℕ). x < later) commands command rises.0 (slice_get-has commands i command first) in
+    absurd (omega arith)
+one_index (x ∷ commands) (suc i) (suc j) command rises first second = ap suc (one_index commands i j command rises.1 first second)
+
+pub one_place : (commands : List ℕ) (s t command : ℕ) → Rises commands → command_at commands s ≡ Some command → command_at commands t ≡ Some command → s ≡ t
+one_place commands zero t command rises first second = cc
+one_place commands (suc i) zero command rises first second = cc
+one_place commands (suc i) (suc j) command rises first second = ap suc (one_index commands i j command rises first second)
+
 module _ {orders : List Line} {waiting : List ℕ} {book : HostBook} (kept : Kept orders waiting book) where
-  numbered_from : book.commands ++ waiting ≡ numbers_from 1 (length orders)
-  numbered_from = kept.numbered ∙ numbers_to-from (length orders)
+  -- the commands of sessions rise, and none of them waits
+  all_rise : Rises (book.commands ++ waiting)
+  all_rise = subst Rises (sym kept.numbered) (commands_for-rise first_node 1 orders)
 
-  pub commands_are : book.commands ≡ numbers_from 1 (begun_of book)
-  commands_are = numbers_from-front book.commands waiting 1 (length orders) numbered_from
+  pub sessions_rise : Rises book.commands
+  sessions_rise = Rises-front book.commands waiting all_rise
 
-  pub waiting_are : waiting ≡ numbers_from (1 + begun_of book) (length waiting)
-  waiting_are = numbers_from-back book.commands waiting 1 (length orders) numbered_from
+  pub not_both : (command : ℕ) → Has book.commands command → Has waiting command → ⊥
+  not_both command begun waits = Rises-apart book.commands waiting command all_rise begun waits
 
-  pub begun_waiting : begun_of book + length waiting ≡ length orders
-  begun_waiting =
-      sym (length-append book.commands waiting) ∙ (ap length numbered_from ∙ length-numbers_from 1 (length orders))
+  -- each of them was accepted
+  pub begun_accepted : (command : ℕ) → Has book.commands command → Has (numbers_of (commands_for first_node 1 orders)) command
+  begun_accepted command begun =
+      subst (λ (numbers : List ℕ). Has numbers command) kept.numbered (Has-left book.commands waiting command begun)
 
-  pub command_is : (session : ℕ) → 0 < session → session ≤ begun_of book → command_at book.commands session ≡ Some session
-  command_is zero positive within = absurd (omega arith)
-  command_is (suc before) positive within =
-      let number : 1 + before ≡ suc before = omega arith in
-      ap (λ (ks : List ℕ). slice_get ks before) commands_are
-      ∙ (slice_get-numbers_from 1 (begun_of book) before (omega arith) ∙ ap Some number)
+  pub waits_accepted : (command : ℕ) → Has waiting command → Has (numbers_of (commands_for first_node 1 orders)) command
+  waits_accepted command waits =
+      subst (λ (numbers : List ℕ). Has numbers command) kept.numbered (Has-right book.commands waiting command waits)
 
--- the first command that waits is the next
-pub next_is : {orders : List Line} {command : ℕ} {rest : List ℕ} {book : HostBook} → Kept orders (command ∷ rest) book → command ≡ begun_of book + 1
-next_is {command = command} {rest = rest} {book = book} kept =
-    let row : command ∷ rest ≡ numbers_from (1 + begun_of book) (length (command ∷ rest)) = waiting_are kept in
-    let first : command ≡ 1 + begun_of book = cc in
-    omega arith
+  -- and each command that was accepted is carried by a session or waits
+  pub accepted_kept : (command : ℕ) → Has (numbers_of (commands_for first_node 1 orders)) command → Has (book.commands ++ waiting) command
+  accepted_kept command has = subst (λ (numbers : List ℕ). Has numbers command) (sym kept.numbered) has
+
+-- the order of a command that was accepted is one that its node takes
+pub taken_at : (orders : List Line) (place : ℕ) (order : Line) → AllByRecursion IsTaken orders → slice_get orders place ≡ Some order → IsTaken order
+taken_at [] place order taken e = cc
+taken_at (first ∷ orders) zero order taken e =
+    let same : first ≡ order = cc in
+    subst IsTaken same taken.0
+taken_at (first ∷ orders) (suc place) order taken e = taken_at orders place order taken.1 e

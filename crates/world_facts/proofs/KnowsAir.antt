@@ -1,18 +1,16 @@
 -- What time brings, and what comes over the air, keeps what is known of a machine.
 use Rattle.std.proofs.Common.{◌≡◌, ◌⊎◌, ℕ, ◌+◌, ◌%◌, ◌≤◌, true, false, List, [], ◌∷◌, ◌++◌, length, map, drop, Some, None, refl, sym, ap, subst, ◌∙◌, inl, inr, arith}
 use Rattle.std.specs.Prelude.{slice_get}
-use Rattle.std.specs.List.{flat_map, AllByRecursion}
 use Rattle.std.proofs.lemmas.List.{map-append}
 use Rattle.zw_base.specs.declared.property.Setting.{Setting}
 use Rattle.zw_base.specs.declared.property.By.TheVariants.{Session}
 use Rattle.serial_frame.specs.Items.{unit_text}
 use Rattle.serial_frame.specs.declared.unit.Unit.TheVariants.{Framed}
 use Rattle.supervision.specs.Session.{wire_id}
-use Rattle.supervision.specs.Host.{begun_of}
 use Rattle.supervision.specs.Device.{heard_of}
 use Rattle.supervision.specs.declared.device_book.Heard.{Heard as HeardAs}
 use Rattle.supervision.specs.declared.device_book.Heard.TheVariants.{New}
-use Rattle.supervision.specs.Ends.{Get, Report, GetFits}
+use Rattle.supervision.specs.Ends.{Get, Report}
 use Rattle.supervision.specs.declared.session.TheConstants.{SUCCESS}
 use Rattle.device_sim.specs.declared.kind.Kind.{Kind}
 use Rattle.device_sim.specs.declared.kind.Kind.TheVariants.{Switch}
@@ -22,12 +20,11 @@ use Rattle.zw_text.specs.declared.entry.Entry.{Entry}
 use Rattle.zw_text.specs.declared.entry.Entry.TheVariants.{Written, Air, Heard, Unheard, Dev}
 use Rattle.zw_text.specs.declared.entry.Side.TheVariants.{Chip}
 use Rattle.zw_text.specs.Transcript.{AirFrame}
-use Rattle.zw_laws.specs.Answers.{first_node}
+use Rattle.zw_laws.specs.Nodes.{first_node}
 use Rattle.zw_laws.specs.Frames.{controller}
-use Rattle.zw_laws.specs.Table.{switch}
+use Rattle.zw_laws.specs.Orders.{switch}
 use Rattle.zw_laws.specs.Devices.{device_of}
-use Rattle.world_facts.specs.World.{World, ToHost, Carried, Flight, get_asked, gets_flying, gets}
-use Rattle.world_facts.specs.Ends.{IsYoungGet}
+use Rattle.world_facts.specs.World.{World, ToHost, Carried, Flight}
 use Rattle.world_facts.specs.World.ToHost.{Calls_back, Brings}
 use Rattle.world_facts.specs.World.Carried.{Carries_get, Carries_report}
 use Rattle.world_facts.specs.Units.{value_at, get_payload, came_frame, callback_unit}
@@ -39,8 +36,7 @@ use Rattle.world_facts.specs.Facts.{Facts, Holds}
 use Rattle.world_facts.specs.Line.{unit_to_host, AreOnLine}
 use Rattle.world_facts.specs.Machine.{Machine, parts_of, Knows, AtEase}
 use Rattle.world_facts.specs.Lives.{Replaced}
-use Rattle.world_facts.proofs.FramesLemmas.{ByRecursion-split}
-use Rattle.world_facts.proofs.OrdersLemmas.{own_command, supervised_set}
+use Rattle.world_facts.proofs.OrdersLemmas.{supervised_set}
 use Rattle.world_facts.proofs.LineLemmas.{AreOnLine-one}
 use Rattle.world_facts.proofs.FactsHost.{Facts-tick_begins, Facts-tick_ends}
 use Rattle.world_facts.proofs.FactsAir.{Facts-devices_tick, Facts-brings, lands_when_busy, Facts-unheard}
@@ -152,48 +148,35 @@ module _ (before devices : List State) (m : Machine) (lived : ℕ) (T : List Ent
   }
 
   module _ (number : ℕ) (get : Get) (rest : List Flight) (is : knows.flying ≡ record { number = number; carried = Carries_get get } ∷ rest) where
-    -- what holds of each Get on its way holds of this one
-    on_way : (P : Get → Type 0) → AllByRecursion P (gets knows.to_chip knows.flying) → P get
-    on_way P all =
-        (ByRecursion-split P (flat_map get_asked knows.to_chip) (get ∷ gets_flying rest)
-        (subst (λ (fs : List Flight). AllByRecursion P (gets knows.to_chip fs)) is all)).1.0
+    abbrev value : ℕ
+    value = value_at m.orders get.command
 
-    -- the Get is of the last session begun, which carries the command of its number
-    of_last : get.session ≡ begun_of m.book
-    of_last = (on_way (IsYoungGet (begun_of m.book)) knows.facts.most.ends.gets_young).0
-
-    of_command : get.command ≡ begun_of m.book
-    of_command =
-        own_command m.orders m.waiting m.book get knows.facts.most.kept (on_way (GetFits m.book.commands) knows.facts.most.ends.gets_fit) ∙ of_last
-
-    sets : IsSupervisedSet (get_payload m.orders get) (wire_id (begun_of m.book)) (value_at m.orders (begun_of m.book))
-    sets =
-        subst (λ (session : ℕ). IsSupervisedSet (get_payload m.orders get) (wire_id session) (value_at m.orders (begun_of m.book))) of_last
-        (subst (λ (command : ℕ). IsSupervisedSet (get_payload m.orders get) (wire_id get.session) (value_at m.orders command)) of_command
-        (supervised_set m.orders m.waiting m.book get knows.facts.most.kept))
+    sets : IsSupervisedSet (get_payload m.orders get) (wire_id get.session) value
+    sets = supervised_set m.orders m.waiting m.book get knows.facts.most.kept
 
     -- it is new to the device
-    is_new : (device : State) → device_of first_node devices ≡ Some device → heard_of device.sessions (wire_id (begun_of m.book) % 64) ≡ New (begun_of m.book)
-    is_new device here =
-        ap (λ (id : ℕ). heard_of device.sessions id) (same_id (begun_of m.book) ∙ ap wire_id (sym of_last))
-        ∙ (hears_what before T parts number get rest device knows.facts is here).new
+    new_to : (device : State) → device_of first_node devices ≡ Some device → heard_of device.sessions (wire_id get.session) ≡ New get.session
+    new_to device here = (hears_what before T parts number get rest device knows.facts is here).new
+
+    is_new : (device : State) → device_of first_node devices ≡ Some device → heard_of device.sessions (wire_id get.session % 64) ≡ New get.session
+    is_new device here = ap (λ (id : ℕ). heard_of device.sessions id) (same_id get.session) ∙ new_to device here
 
     answers : (device : State) → device_of first_node devices ≡ Some device →
-        replies_of device (wire_id (begun_of m.book)) ≡ report_text (wire_id (begun_of m.book)) SUCCESS ∷ []
+        replies_of device (wire_id get.session) ≡ report_text (wire_id get.session) SUCCESS ∷ []
     answers device here =
-        ap (λ (heard_as : HeardAs). replies_as device heard_as (wire_id (begun_of m.book) % 64)) (is_new device here)
-        ∙ ap (λ (id : ℕ). report_text id (status_of device.kind) ∷ []) (same_id (begun_of m.book))
-        ∙ ap (λ (status : ℕ). report_text (wire_id (begun_of m.book)) status ∷ []) (does_all device.kind)
+        ap (λ (heard_as : HeardAs). replies_as device heard_as (wire_id get.session % 64)) (is_new device here)
+        ∙ ap (λ (id : ℕ). report_text id (status_of device.kind) ∷ []) (same_id get.session)
+        ∙ ap (λ (status : ℕ). report_text (wire_id get.session) status ∷ []) (does_all device.kind)
 
     -- the report that the device sends flies last
-    answer_flies : drop 1 m.flying ++ record { number = m.sent + 1; sender = first_node; receiver = m.own_node; repeaters = []; payload = report_text (wire_id (begun_of m.book)) SUCCESS } ∷ []
-        ≡ frames_of m (rest ++ record { number = m.sent + 1; carried = Carries_report (next_report parts) } ∷ [])
+    answer_flies : drop 1 m.flying ++ record { number = m.sent + 1; sender = first_node; receiver = m.own_node; repeaters = []; payload = report_text (wire_id get.session) SUCCESS } ∷ []
+        ≡ frames_of m (rest ++ record { number = m.sent + 1; carried = Carries_report (next_report parts get.session) } ∷ [])
     answer_flies =
-        ap (λ (fs : List AirFrame). fs ++ record { number = m.sent + 1; sender = first_node; receiver = m.own_node; repeaters = []; payload = report_text (wire_id (begun_of m.book)) SUCCESS } ∷ [])
+        ap (λ (fs : List AirFrame). fs ++ record { number = m.sent + 1; sender = first_node; receiver = m.own_node; repeaters = []; payload = report_text (wire_id get.session) SUCCESS } ∷ [])
         (left (record { number = number; carried = Carries_get get }) rest is)
         ∙ ap (λ (own : ℕ). frames_of m rest
-        ++ record { number = m.sent + 1; sender = first_node; receiver = own; repeaters = []; payload = report_text (wire_id (begun_of m.book)) SUCCESS } ∷ []) knows.own_node_is
-        ∙ sym (map-append (λ (flight : Flight). air_frame m.orders flight.number flight.carried) rest (record { number = m.sent + 1; carried = Carries_report (next_report parts) } ∷ []))
+        ++ record { number = m.sent + 1; sender = first_node; receiver = own; repeaters = []; payload = report_text (wire_id get.session) SUCCESS } ∷ []) knows.own_node_is
+        ∙ sym (map-append (λ (flight : Flight). air_frame m.orders flight.number flight.carried) rest (record { number = m.sent + 1; carried = Carries_report (next_report parts get.session) } ∷ []))
 
     get_comes : GetArrives before devices m lived T (air_frame m.orders number (Carries_get get))
     get_comes =
@@ -215,31 +198,31 @@ module _ (before devices : List State) (m : Machine) (lived : ℕ) (T : List Ent
             own_node_is = knows.own_node_is;
             facts = Facts-unheard before T parts number get rest callback knows.facts stamped is carries.1 none;
           };
-          session = begun_of m.book;
-          value = value_at m.orders (begun_of m.book);
+          session = get.session;
+          value = value;
           payload = sets;
-          new = λ device here. ap (λ (heard_as : HeardAs). hears_as device heard_as (value_at m.orders (begun_of m.book))) (is_new device here);
+          new = λ device here. ap (λ (heard_as : HeardAs). hears_as device heard_as value) (is_new device here);
           replies = answers;
           changes = λ device here.
-              ap (λ (settings : List Setting). device.journal ++ record { by = Session (begun_of m.book); settings = settings } ∷ [])
-              (sets_switch device.kind (value_at m.orders (begun_of m.book)));
+              ap (λ (settings : List Setting). device.journal ++ record { by = Session get.session; settings = settings } ∷ [])
+              (sets_switch device.kind value);
           heard = λ stamped in_tick device later here replaced. record {
             to_chip = knows.to_chip;
             to_host = knows.to_host ++ Calls_back callback 0 ∷ [];
-            flying = rest ++ record { number = m.sent + 1; carried = Carries_report (next_report parts) } ∷ [];
+            flying = rest ++ record { number = m.sent + 1; carried = Carries_report (next_report parts get.session) } ∷ [];
             chip_line = knows.chip_line;
             host_line = told (Calls_back callback 0);
             air = answer_flies;
             own_node_is = knows.own_node_is;
             facts =
                 subst (λ (node : ℕ). Facts before
-                (T ++ Heard number ∷ Dev first_node (Session (begun_of m.book)) (record { property = switch; value = value_at m.orders (begun_of m.book) })
-                ∷ Air (m.sent + 1) first_node node [] (report_text (wire_id (begun_of m.book)) SUCCESS) ∷ Written Chip (callback_unit callback 0) ∷ [])
-                (heard parts callback rest later))
+                (T ++ Heard number ∷ Dev first_node (Session get.session) (record { property = switch; value = value })
+                ∷ Air (m.sent + 1) first_node node [] (report_text (wire_id get.session) SUCCESS) ∷ Written Chip (callback_unit callback 0) ∷ [])
+                (heard parts get.session callback rest later))
                 (sym knows.own_node_is)
-                (Facts-hears before T parts number get rest callback device later knows.facts stamped in_tick is carries.1 here replaced);
+                (Facts-hears before T parts number get rest callback device later get.session knows.facts stamped in_tick is carries.1 here (new_to device here) replaced);
           };
-          cut = λ device later here replaced on. Facts-cut_hears before T parts number get rest device later knows.facts is here replaced on;
+          cut = λ device later here replaced on. Facts-cut_hears before T parts number get rest device later knows.facts is here (new_to device here) replaced on;
         }
 
   arrives : (number : ℕ) (carried : Carried) (rest : List Flight) → knows.flying ≡ record { number = number; carried = carried } ∷ rest →

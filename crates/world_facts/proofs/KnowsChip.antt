@@ -12,7 +12,7 @@ use Rattle.zw_text.specs.declared.entry.Entry.{Entry}
 use Rattle.zw_text.specs.declared.entry.Entry.TheVariants.{Written, Air}
 use Rattle.zw_text.specs.declared.entry.Side.TheVariants.{Chip}
 use Rattle.zw_text.specs.Transcript.{AirFrame}
-use Rattle.zw_laws.specs.Answers.{first_node}
+use Rattle.zw_laws.specs.Nodes.{first_node}
 use Rattle.world_facts.specs.World.{World, ToChip, ToHost, Flight}
 use Rattle.world_facts.specs.World.ToChip.{Asks, Acknowledges}
 use Rattle.world_facts.specs.World.ToHost.{Confirms, Takes}

@@ -1,13 +1,14 @@
 -- What the host begins, hears and judges keeps what is known of a machine.
-use Rattle.std.proofs.Common.{◌≡◌, ◌⊎◌, ℕ, zero, suc, ◌+◌, ◌-◌, ◌<◌, ◌≤◌, true, false, List, [], ◌∷◌, ◌++◌, length, map, drop, Option, Some, None, refl, ap, subst, ◌∙◌, inl, inr, arith}
+use Rattle.std.proofs.Common.{◌≡◌, ◌⊎◌, ℕ, zero, suc, ◌+◌, ◌-◌, ◌<◌, ◌==◌, true, false, List, [], ◌∷◌, ◌++◌, length, map, drop, Option, Some, None, refl, ap, subst, inl, inr, arith}
 use Rattle.std.specs.Prelude.{slice_get}
 use Rattle.std.specs.List.{AllByRecursion}
 use Rattle.serial_frame.specs.Stream.{Rest, Adds, Feeds}
 use Rattle.serial_frame.specs.declared.item.Item.{Item}
 use Rattle.serial_frame.specs.declared.item.Item.TheVariants.{Good}
 use Rattle.serial_frame.specs.declared.unit.Unit.TheVariants.{Ack, Framed}
-use Rattle.supervision.specs.Session.{wire_id}
-use Rattle.supervision.specs.Host.{begun_of, open_session, command_at, begins}
+use Rattle.supervision.specs.Session.{IsStatus, wire_id}
+use Rattle.supervision.specs.Host.{begun_of, open_session, command_at, begins, told_of}
+use Rattle.supervision.specs.declared.host_node.Told.TheVariants.{Final}
 use Rattle.supervision.specs.Ends.{Report}
 use Rattle.supervision.specs.declared.session.TheConstants.{SUCCESS}
 use Rattle.device_sim.specs.State.{State}
@@ -15,23 +16,23 @@ use Rattle.device_sim.specs.Hearing.{report_text}
 use Rattle.zw_text.specs.declared.line.Line.{Line}
 use Rattle.zw_text.specs.declared.line.Line.TheVariants.{Set}
 use Rattle.zw_text.specs.declared.line.Word.{Word}
-use Rattle.zw_text.specs.declared.entry.Ended.TheVariants.{Success}
 use Rattle.zw_text.specs.declared.entry.Entry.{Entry}
-use Rattle.zw_text.specs.declared.entry.Entry.TheVariants.{Begin, Written, Out, Store, Time}
+use Rattle.zw_text.specs.declared.entry.Entry.TheVariants.{Begin, Written, Out, Time}
 use Rattle.zw_text.specs.declared.entry.Side.TheVariants.{Host}
-use Rattle.zw_laws.specs.Answers.{first_node}
-use Rattle.zw_laws.specs.Table.{switch}
+use Rattle.zw_laws.specs.Nodes.{first_node}
 use Rattle.world_facts.specs.World.{World, ToHost}
 use Rattle.world_facts.specs.World.ToChip.{Asks, Acknowledges}
 use Rattle.world_facts.specs.World.ToHost.{Confirms, Takes, Calls_back, Brings}
 use Rattle.world_facts.specs.Units.{value_asked, response_frame, callback_frame, came_frame, ack_unit, ask_unit}
 use Rattle.world_facts.specs.Kept.{IsTaken}
-use Rattle.world_facts.specs.Events.{next_get, closes}
+use Rattle.world_facts.specs.Tables.{ended_by}
+use Rattle.world_facts.specs.Events.{next_get, store_where, confirmed_where, closes}
 use Rattle.world_facts.specs.Facts.{Facts}
 use Rattle.world_facts.specs.Line.{unit_to_chip, unit_to_host, AreOnLine}
 use Rattle.world_facts.specs.Machine.{Machine, parts_of, Knows}
 use Rattle.world_facts.proofs.LineLemmas.{AreOnLine-one, AreOnLine-fed, IsFront, front_is, none_heard, host_units_fit}
-use Rattle.world_facts.proofs.FactsHost.{Facts-stamps, Facts-begins, Facts-host_drops, Facts-answered, request_is, Facts-called, Closes, closes_what, Facts-closes}
+use Rattle.world_facts.proofs.FactsHost.{Facts-stamps, Facts-begins, Facts-host_drops, Facts-answered, request_is, Facts-called, Comes, comes_what, Facts-closes}
+use Rattle.world_facts.proofs.OrdersLemmas.{IsOrdered}
 
 pub Knows-stamps : (before devices : List State) (m : Machine) (lived : ℕ) (T : List Entry) → Knows before m lived devices T → m.stamped ≡ false →
     Knows before (record m { stamped = true }) lived devices (T ++ Time m.clock ∷ [])
@@ -53,12 +54,6 @@ holds_at P (first ∷ items) zero item all is =
     let same : first ≡ item = cc in
     subst P same all.0
 holds_at P (first ∷ items) (suc place) item all is = holds_at P items place item all.1 is
-
--- there is an item at each place of a list
-some_at : {A : Type 0} (items : List A) (place : ℕ) → place < length items → (item : A) × (slice_get items place ≡ Some item)
-some_at [] place within = absurd (omega arith)
-some_at (first ∷ items) zero within = (first, refl)
-some_at (first ∷ items) (suc place) within = some_at items place (omega arith)
 
 -- an order that the host keeps is of the joined node
 pub order_is : (before devices : List State) (m : Machine) (lived : ℕ) (T : List Entry) (node end : ℕ) (word : Word) (command : ℕ) (rest : List ℕ) → Knows before m lived devices T →
@@ -127,24 +122,27 @@ pub record CallsFirst (before devices : List State) (m : Machine) (lived : ℕ) 
   pub then : m.stamped ≡ true →
       Knows before (record m { host_items = drop 1 m.host_items; to_chip = m.to_chip ++ ack_unit; request = None }) lived devices (T ++ Written Host ack_unit ∷ [])
 
--- or a report, which closes the open session with success
+-- or a report, which closes the session that is open with a final status, and confirms its value at success
 pub record BringsFirst (before devices : List State) (m : Machine) (lived : ℕ) (T : List Entry) : Type 0 where
   pub session : ℕ
-  pub is : slice_get m.host_items 0 ≡ Some (Good (Framed (came_frame first_node (report_text (wire_id session) SUCCESS))))
-  pub is_open : open_session m.book ≡ Some session
-  pub carries : command_at m.book.commands session ≡ Some session
+  pub status : ℕ
+  pub is : slice_get m.host_items 0 ≡ Some (Good (Framed (came_frame first_node (report_text (wire_id session) status))))
+  pub known : IsStatus status
+  pub final : told_of m.book (wire_id session) status ≡ Final session
+  pub command : ℕ
+  pub carries : command_at m.book.commands session ≡ Some command
   pub order : Line
-  pub ordered : slice_get m.orders (session - 1) ≡ Some order
+  pub ordered : slice_get m.orders (command - 1) ≡ Some order
   pub of_node : IsTaken order
   pub then : m.stamped ≡ true →
       Knows before
       (record m {
         host_items = drop 1 m.host_items;
         to_chip = m.to_chip ++ ack_unit;
-        book = record m.book { outcome = Some SUCCESS };
-        confirmed = Some (value_asked (Some order));
+        book = record m.book { outcome = Some status };
+        confirmed = confirmed_where (status == SUCCESS) (value_asked (Some order)) m.confirmed;
       }) lived devices
-      (T ++ Written Host ack_unit ∷ Out session Success ∷ Store first_node (record { property = switch; value = value_asked (Some order) }) ∷ [])
+      (T ++ Written Host ack_unit ∷ Out command (ended_by status) ∷ store_where (status == SUCCESS) (value_asked (Some order)))
 
 module _ (before devices : List State) (m : Machine) (lived : ℕ) (T : List Entry) (knows : Knows before m lived devices T) (some : 0 < length m.host_items) where
   abbrev parts : World
@@ -207,34 +205,34 @@ module _ (before devices : List State) (m : Machine) (lived : ℕ) (T : List Ent
     };
   }
 
-  -- the facts once the last session is closed, with the order that its command is
-  closed : (report : Report) (rest : List ToHost) (order : Line) → knows.to_host ≡ Brings report ∷ rest → m.stamped ≡ true → slice_get m.orders (begun_of m.book - 1) ≡ Some order →
+  -- the facts once the session is closed, with the order that its command is
+  closed : (report : Report) (rest : List ToHost) (command : ℕ) (order : Line) → knows.to_host ≡ Brings report ∷ rest → m.stamped ≡ true →
+      told_of m.book (wire_id report.session) report.status ≡ Final report.session → command_at m.book.commands report.session ≡ Some command → slice_get m.orders (command - 1) ≡ Some order →
       Facts before
-      (T ++ Written Host ack_unit ∷ Out (begun_of m.book) Success ∷ Store first_node (record { property = switch; value = value_asked (Some order) }) ∷ [])
-      (record (closes parts rest) { confirmed = Some (value_asked (Some order)) })
-  closed report rest order is stamped ordered =
+      (T ++ Written Host ack_unit ∷ Out command (ended_by report.status) ∷ store_where (report.status == SUCCESS) (value_asked (Some order)))
+      (record (closes parts command report.status rest) { confirmed = confirmed_where (report.status == SUCCESS) (value_asked (Some order)) m.confirmed })
+  closed report rest command order is stamped final carries ordered =
       subst
       (λ (line : Option Line). Facts before
-      (T ++ Written Host ack_unit ∷ Out (begun_of m.book) Success ∷ Store first_node (record { property = switch; value = value_asked line }) ∷ [])
-      (record (closes parts rest) { confirmed = Some (value_asked line) }))
-      ordered (Facts-closes before T parts report rest knows.facts stamped is)
+      (T ++ Written Host ack_unit ∷ Out command (ended_by report.status) ∷ store_where (report.status == SUCCESS) (value_asked line))
+      (record (closes parts command report.status rest) { confirmed = confirmed_where (report.status == SUCCESS) (value_asked line) m.confirmed }))
+      ordered (Facts-closes before T parts report rest report.session command knows.facts stamped is final carries)
 
   brings : (report : Report) (rest : List ToHost) → knows.to_host ≡ Brings report ∷ rest → BringsFirst before devices m lived T
   brings report rest is =
-      let what : Closes parts report = closes_what before T parts report rest knows.facts is in
-      let from : 0 < begun_of m.book = what.from_one in
-      let to : begun_of m.book ≤ length m.orders = what.within in
-      let here = some_at m.orders (begun_of m.book - 1) (omega arith) in
+      let what : Comes parts report = comes_what before T parts report rest knows.facts is in
+      let order_is : IsOrdered m.orders what.command = what.order_is in
       record {
-        session = begun_of m.book;
-        is = (front (Brings report) rest is).first
-            ∙ ap (λ (session : ℕ). Some (Good (Framed (came_frame first_node (report_text (wire_id session) report.status))))) what.own
-            ∙ ap (λ (status : ℕ). Some (Good (Framed (came_frame first_node (report_text (wire_id (begun_of m.book)) status))))) what.success;
-        is_open = what.is_open;
+        session = report.session;
+        status = report.status;
+        is = (front (Brings report) rest is).first;
+        known = what.known;
+        final = what.final;
+        command = what.command;
         carries = what.carries;
-        order = here.0;
-        ordered = here.1;
-        of_node = holds_at IsTaken m.orders (begun_of m.book - 1) here.0 knows.facts.most.kept.taken here.1;
+        order = order_is.order;
+        ordered = order_is.at_place;
+        of_node = order_is.takes;
         then = λ stamped. record {
           to_chip = knows.to_chip ++ Acknowledges ∷ [];
           to_host = rest;
@@ -243,7 +241,7 @@ module _ (before devices : List State) (m : Machine) (lived : ℕ) (T : List Ent
           host_line = (front (Brings report) rest is).others;
           air = knows.air;
           own_node_is = knows.own_node_is;
-          facts = closed report rest here.0 is stamped here.1;
+          facts = closed report rest what.command order_is.order is stamped what.final what.carries order_is.at_place;
         };
       }
 

@@ -1,6 +1,5 @@
 -- The start, the lines of a script and the end of a run: what is known of a machine there.
 use Rattle.std.proofs.Common.{◌≡◌, ℕ, ◌+◌, true, false, List, [], ◌∷◌, ◌++◌, length, map, drop, take, refl, sym, ap, subst, ◌∙◌}
-use Rattle.std.specs.Prelude.{Option}
 use Rattle.std.specs.List.{flat_map, AllByRecursion}
 use Rattle.serial_frame.specs.declared.unit.Unit.{Unit as LineUnit}
 use Rattle.serial_frame.specs.declared.unit.Unit.TheVariants.{Framed}
@@ -12,11 +11,12 @@ use Rattle.zw_text.specs.declared.line.Word.TheVariants.{Level}
 use Rattle.zw_text.specs.declared.entry.Entry.{Entry}
 use Rattle.zw_text.specs.declared.entry.Entry.TheVariants.{Echo, Accepted, Refused, TableEnd, TableNode}
 use Rattle.zw_text.specs.declared.entry.Refusal.TheVariants.{NotJoined, BadValue, MailboxFull}
-use Rattle.zw_text.specs.Transcript.{AirFrame, sessions}
-use Rattle.zw_laws.specs.Answers.{first_node}
+use Rattle.zw_text.specs.Transcript.{AirFrame}
+use Rattle.zw_laws.specs.Nodes.{first_node}
 use Rattle.zw_laws.specs.Devices.{device_of}
 use Rattle.zw_laws.specs.Headline.{IsAsMade}
-use Rattle.zw_laws.specs.Table.{switch, table_of, value_line, device_lines}
+use Rattle.zw_laws.specs.Orders.{switch}
+use Rattle.zw_laws.specs.Table.{table_of, value_line, device_lines}
 use Rattle.world_facts.specs.World.{World, ToChip, Flight, get_asked, gets_flying, get_carried, gets}
 use Rattle.world_facts.specs.World.ToChip.{Asks, Acknowledges}
 use Rattle.world_facts.specs.Kept.{IsOnOff}
@@ -30,11 +30,12 @@ use Rattle.world_facts.proofs.LineLemmas.{AreOnLine-none}
 use Rattle.world_facts.proofs.FramesLemmas.{IsOfOrder, ByRecursion-split, same_payload, same_frame}
 use Rattle.world_facts.proofs.OrdersLemmas.{all_of_order}
 use Rattle.world_facts.proofs.FactsLines.{IsNew, Facts-start, Facts-accepts, Facts-not_joined, Facts-bad_value, Facts-full, Facts-ticks}
+use Rattle.world_facts.proofs.TableLemmas.{table_is}
 use Rattle.world_facts.proofs.FactsExits.{Facts-whole, Facts-cut, Facts-cut_ticks}
 
 -- a device as it was made has taken nothing and changed nothing
 made_new : (key : List ℕ) (device : State) → IsAsMade key device → IsNew device
-made_new key device made = (made.from_two, ap (λ (s : State). s.sessions) made.made, ap (λ (s : State). s.journal) made.made)
+made_new key device made = (made.from_two, (ap (λ (s : State). s.sessions) made.made, ap (λ (s : State). s.journal) made.made))
 
 -- at first
 pub Knows-first : (key : List ℕ) (before : List State) → AllByRecursion (IsAsMade key) before → AtEase before first_machine before []
@@ -164,8 +165,4 @@ Holds-ticking before devices m lived T count knows = Facts-cut_ticks before T (p
 pub Knows-tables : (before devices : List State) (m : Machine) (T : List Entry) → AtEase before m devices T →
     TableEnd m.clock ∷ TableNode first_node m.book.commands ∷ (value_line first_node switch m.confirmed ++ device_lines first_node (device_of first_node devices))
     ≡ table_of m.clock T devices
-Knows-tables before devices m T ease =
-    ap (λ (commands : List ℕ). TableEnd m.clock ∷ TableNode first_node commands ∷ (value_line first_node switch m.confirmed ++ device_lines first_node (device_of first_node devices)))
-    (sym ease.knows.facts.most.tables.sessions_are)
-    ∙ ap (λ (value : Option ℕ). TableEnd m.clock ∷ TableNode first_node (sessions first_node T) ∷ (value_line first_node switch value ++ device_lines first_node (device_of first_node devices)))
-    (sym (ease.knows.facts.most.tables.confirmed_is switch))
+Knows-tables before devices m T ease = table_is ease.knows.facts.most m.clock

@@ -16,7 +16,7 @@ use Rattle.zw_text.specs.declared.entry.Entry.{Entry}
 use Rattle.zw_text.specs.declared.entry.Entry.TheVariants.{Heard, Dev, Air, Time}
 use Rattle.zw_text.specs.Transcript.{AirFrame, Made, made, made_at, frames, frame_at, time_of, ticks, tick_at, last_number, where_same}
 use Rattle.zw_text.proofs.TranscriptLemmas.{time_of-append}
-use Rattle.zw_laws.specs.Answers.{first_node}
+use Rattle.zw_laws.specs.Nodes.{first_node}
 use Rattle.zw_laws.specs.Units.{Sending}
 use Rattle.zw_laws.specs.Frames.{HeardAt, controller, heard_as, heard_from, sent_by, sent_from}
 use Rattle.zw_laws.specs.Devices.{Event, Steps, Runs, comings, passings, made_by, device_of, RunsAsShown}

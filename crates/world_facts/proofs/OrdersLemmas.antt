@@ -1,6 +1,7 @@
 -- The orders and their numbers after an event, and what holds of each order that was accepted.
-use Rattle.std.proofs.Common.{◌≡◌, ◌⊎◌, ℕ, zero, suc, ◌+◌, ◌-◌, ◌≤◌, ◌<◌, List, [], ◌∷◌, ◌++◌, length, slice_get, Some, refl, sym, ap, ◌∙◌, inl, inr, arith, append_assoc, length-append, add-one}
+use Rattle.std.proofs.Common.{◌≡◌, ◌⊎◌, ℕ, zero, suc, ◌+◌, ◌-◌, ◌≤◌, ◌<◌, List, [], ◌∷◌, ◌++◌, length, slice_get, Some, refl, sym, ap, ◌∙◌, inl, inr, arith, append_assoc, add-one}
 use Rattle.std.specs.List.{AllByRecursion}
+use Rattle.std.proofs.lemmas.List.{map-append}
 use Rattle.supervision.specs.Host.{HostBook, no_sessions, begun_of, command_at, begins}
 use Rattle.supervision.specs.Session.{wire_id}
 use Rattle.supervision.specs.Ends.{Get, GetFits}
@@ -9,11 +10,14 @@ use Rattle.zw_text.specs.declared.line.Line.{Line}
 use Rattle.zw_text.specs.declared.line.Line.TheVariants.{Set, Tick}
 use Rattle.zw_text.specs.declared.line.Word.{Word}
 use Rattle.zw_text.specs.declared.line.Word.TheVariants.{On, Off, Level}
-use Rattle.zw_laws.specs.Answers.{first_node}
-use Rattle.world_facts.specs.Kept.{Kept, IsTaken, IsOnOff, numbers_to}
+use Rattle.zw_text.specs.Transcript.{Command}
+use Rattle.zw_laws.specs.Lists.{Has}
+use Rattle.zw_laws.specs.Nodes.{first_node}
+use Rattle.zw_laws.specs.Once.{numbers_of}
+use Rattle.world_facts.specs.Kept.{Kept, IsTaken, IsOnOff, commands_for}
 use Rattle.world_facts.specs.Units.{value_at, value_asked, get_payload}
 use Rattle.world_facts.proofs.Appends.{ByRecursion-append, ByRecursion-weaker}
-use Rattle.world_facts.proofs.KeptLemmas.{begun_waiting, command_is}
+use Rattle.world_facts.proofs.KeptLemmas.{IsPlaced, commands_for-append, placed, Has-at, begun_accepted, taken_at}
 use Rattle.world_facts.proofs.FramesLemmas.{IsOfOrder}
 
 -- nothing was accepted at the start
@@ -27,10 +31,14 @@ Kept-accepts orders waiting book word takes kept = record {
   numbered =
       sym (append_assoc book.commands waiting ((length orders + 1) ∷ []))
       ∙ ap (λ (ns : List ℕ). ns ++ (length orders + 1) ∷ []) kept.numbered
-      ∙ ap (λ (n : ℕ). numbers_to (length orders) ++ n ∷ []) (add-one (length orders))
-      ∙ ap numbers_to (sym (length-append orders (Set first_node 0 word ∷ []) ∙ add-one (length orders)));
+      ∙ ap (λ (n : ℕ). numbers_of (commands_for first_node 1 orders) ++ n ∷ []) next
+      ∙ sym (map-append (λ (command : Command). command.number) (commands_for first_node 1 orders) (commands_for first_node (1 + length orders) (Set first_node 0 word ∷ [])))
+      ∙ ap numbers_of (sym (commands_for-append first_node 1 orders (Set first_node 0 word ∷ [])));
   taken = ByRecursion-append IsTaken orders (Set first_node 0 word ∷ []) kept.taken ((refl, refl, takes), tt);
 }
+  where
+    next : length orders + 1 ≡ 1 + length orders
+    next = omega arith
 
 -- the first command that waits begins
 pub Kept-begins : (orders : List Line) (command : ℕ) (rest : List ℕ) (book : HostBook) → Kept orders (command ∷ rest) book → Kept orders rest (begins book command)
@@ -50,31 +58,32 @@ pub carries_command : (book : HostBook) (command : ℕ) → command_at (book.com
 carries_command book command =
     ap (command_at (book.commands ++ command ∷ [])) (add-one (begun_of book)) ∙ slice_get-last book.commands command
 
--- a Get of a session that was begun is of a command that was accepted, which is the session's own
-command_at-bounds : (commands : List ℕ) (session command : ℕ) → command_at commands session ≡ Some command → (0 < session) × (session ≤ length commands)
-command_at-bounds commands zero command is = cc
-command_at-bounds [] (suc before) command is = cc
-command_at-bounds (first ∷ commands) (suc zero) command is = (omega arith, omega arith)
-command_at-bounds (first ∷ commands) (suc (suc before)) command is =
-    let rest = command_at-bounds commands (suc before) command is in
-    let to = rest.1 in
-    (omega arith, omega arith)
+-- the command of a session that was begun is of an order that was accepted, which its node takes
+pub record IsOrdered (orders : List Line) (command : ℕ) : Type 0 where
+  pub order : Line
+  pub at_place : slice_get orders (command - 1) ≡ Some order
+  pub takes : IsTaken order
+  pub from_one : 0 < command
+  pub within : command ≤ length orders
 
-pub own_command : (orders : List Line) (waiting : List ℕ) (book : HostBook) (get : Get) → Kept orders waiting book → GetFits book.commands get → get.command ≡ get.session
-own_command orders waiting book get kept fits =
-    let within = command_at-bounds book.commands get.session get.command fits.carries in
-    let own : command_at book.commands get.session ≡ Some get.session = command_is kept get.session within.0 within.1 in
-    let same : Some get.command ≡ Some get.session = sym fits.carries ∙ own in
-    cc
+pub ordered : (orders : List Line) (waiting : List ℕ) (book : HostBook) (session command : ℕ) → Kept orders waiting book → command_at book.commands session ≡ Some command → IsOrdered orders command
+ordered orders waiting book session command kept carries =
+    let has : Has (numbers_of (commands_for first_node 1 orders)) command = begun_accepted kept command (Has-at book.commands session command carries) in
+    let place : IsPlaced first_node 1 command orders = placed first_node 1 command orders has in
+    let from : 1 ≤ command = place.from in
+    let to : command < 1 + length orders = place.to in
+    record {
+      order = place.order;
+      at_place = place.at_place;
+      takes = taken_at orders (command - 1) place.order kept.taken place.at_place;
+      from_one = omega arith;
+      within = omega arith;
+    }
 
 pub of_order : (orders : List Line) (waiting : List ℕ) (book : HostBook) (get : Get) → Kept orders waiting book → GetFits book.commands get → IsOfOrder orders get
 of_order orders waiting book get kept fits =
-    let within = command_at-bounds book.commands get.session get.command fits.carries in
-    let same = own_command orders waiting book get kept fits in
-    let some = begun_waiting kept in
-    let from = within.0 in
-    let to = within.1 in
-    (omega arith, omega arith)
+    let of : IsOrdered orders get.command = ordered orders waiting book get.session get.command kept fits.carries in
+    (of.from_one, of.within)
 
 pub all_of_order : (orders : List Line) (waiting : List ℕ) (book : HostBook) (gets : List Get) → Kept orders waiting book → AllByRecursion (GetFits book.commands) gets → AllByRecursion (IsOfOrder orders) gets
 all_of_order orders waiting book gets kept fits =

@@ -14,8 +14,9 @@ use Rattle.zw_text.specs.declared.entry.Side.TheVariants.{Host, Chip}
 use Rattle.zw_text.specs.Transcript.{sessions, outcome}
 use Rattle.zw_laws.specs.Lists.{EachAfter}
 use Rattle.zw_laws.specs.Once.{IsFinal}
-use Rattle.zw_laws.specs.Answers.{first_node, waiting}
-use Rattle.zw_laws.specs.Units.{Sending, sendings, callbacks, chip_frames, host_acks}
+use Rattle.zw_laws.specs.Nodes.{first_node}
+use Rattle.zw_laws.specs.Answers.{waiting}
+use Rattle.zw_laws.specs.Units.{Sending, sendings, refused_count, callbacks, chip_frames, host_acks}
 use Rattle.zw_laws.specs.Prompt.{IsRest, sends_to, BeginsWithUnit, OwesNothing, MayGoOn}
 use Rattle.world_facts.specs.World.{ToChip, ToHost, Flight, listed, callback_asked, callback_told}
 use Rattle.world_facts.specs.World.ToChip.{Asks, Acknowledges}
@@ -24,7 +25,7 @@ use Rattle.world_facts.specs.Units.{ask_unit, ack_unit, take_unit, callback_unit
 use Rattle.world_facts.specs.OnTheWay.{OnTheWay}
 use Rattle.world_facts.specs.Work.{frame_told, Works, IsPumped}
 use Rattle.world_facts.proofs.Appends.{EachAfter-append}
-use Rattle.world_facts.proofs.UnitsLemmas.{sendings-append, callbacks-append, chip_frames-append, host_acks-append}
+use Rattle.world_facts.proofs.UnitsLemmas.{sendings-append, refused_count-append, callbacks-append, chip_frames-append, host_acks-append}
 
 -- a callback on its way is a frame on its way
 callbacks_are_frames : (to_host : List ToHost) → length (flat_map callback_told to_host) ≤ length (flat_map frame_told to_host)
@@ -61,7 +62,7 @@ pub owes_nothing : (request : Option ℕ) (to_chip : List ToChip) (busy : Option
     waiting first_node T ≡ waiting' → ((node : ℕ) → (node ≡ first_node → ⊥) → waiting node T ≡ []) →
     IsRest T → OwesNothing T
 owes_nothing request to_chip busy to_host flying book waiting' T works way pumped closed same others rest = record {
-  begun = λ node final. elim (eqb_tells node first_node) [
+  begun = λ node awake final. elim (eqb_tells node first_node) [
     | inl is ↦
         let none : request ≡ None = no_request request to_chip busy to_host flying T works way rest in
         subst (λ n. AllByRecursion (λ number. IsFinal (outcome number T)) (sessions n T) → waiting n T ≡ []) (sym is.1)
@@ -89,15 +90,17 @@ BeginsWithUnit-append (entry ∷ xs) ys first second = BeginsWithUnit-append xs 
 abbrev open_requests : List ToChip → Option ℕ → ℕ
 open_requests to_chip busy = length (flat_map callback_asked to_chip) + length (listed busy)
 
--- the facts after more entries, where requests and frames that go off their ways are those called back and acknowledged
+-- the facts after more entries, where requests that go off their way are those called back or refused, and frames those
+-- acknowledged
 Works-append : (to_chip to_chip' : List ToChip) (busy busy' : Option ℕ) (to_host to_host' : List ToHost) (T es : List Entry) →
-    length (callbacks es) + open_requests to_chip' busy' ≡ open_requests to_chip busy + length (sendings es) →
+    length (callbacks es) + refused_count es + open_requests to_chip' busy' ≡ open_requests to_chip busy + length (sendings es) →
     length (host_acks es) + length (flat_map frame_told to_host') ≡ length (flat_map frame_told to_host) + length (chip_frames es) →
     BeginsWithUnit es → EachAfter MayGoOn T es → Works to_chip busy to_host T → Works to_chip' busy' to_host' (T ++ es)
 Works-append to_chip to_chip' busy busy' to_host to_host' T es called acknowledged begun between works =
     let old_called = works.called_back in
     let old_acknowledged = works.acknowledged in
     let calls : length (callbacks (T ++ es)) ≡ length (callbacks T) + length (callbacks es) = ap length (callbacks-append T es) ∙ length-append (callbacks T) (callbacks es) in
+    let refused = refused_count-append T es in
     let sends : length (sendings (T ++ es)) ≡ length (sendings T) + length (sendings es) = ap length (sendings-append T es) ∙ length-append (sendings T) (sendings es) in
     let acks : length (host_acks (T ++ es)) ≡ length (host_acks T) + length (host_acks es) = ap length (host_acks-append T es) ∙ length-append (host_acks T) (host_acks es) in
     let frames : length (chip_frames (T ++ es)) ≡ length (chip_frames T) + length (chip_frames es) = ap length (chip_frames-append T es) ∙ length-append (chip_frames T) (chip_frames es) in

@@ -1,22 +1,22 @@
 -- What happens in the world: for each event the entries that it makes, and the world after it.
-use Rattle.std.specs.Prelude.{ℕ, ◌+◌, true, false, List, [], ◌∷◌, ◌++◌, length, map, Some, None}
+use Rattle.std.specs.Prelude.{ℕ, ◌+◌, ◌==◌, Bool, true, false, List, [], ◌∷◌, ◌++◌, length, map, Option, Some, None}
 use Rattle.zw_base.specs.declared.property.By.TheVariants.{Session}
 use Rattle.supervision.specs.Host.{begins, begun_of}
 use Rattle.supervision.specs.Ends.{Get, Report}
 use Rattle.supervision.specs.declared.session.TheConstants.{SUCCESS}
 use Rattle.device_sim.specs.State.{State, ticked}
 use Rattle.zw_text.specs.declared.line.Line.{Line}
-use Rattle.zw_text.specs.declared.entry.Ended.TheVariants.{Success}
 use Rattle.zw_text.specs.declared.entry.Entry.{Entry}
 use Rattle.zw_text.specs.declared.entry.Entry.TheVariants.{Begin, Written, Air, Heard, Unheard, Dev, Out, Store, Time}
 use Rattle.zw_text.specs.declared.entry.Side.TheVariants.{Host, Chip}
-use Rattle.zw_laws.specs.Answers.{first_node}
+use Rattle.zw_laws.specs.Nodes.{first_node}
 use Rattle.zw_laws.specs.Frames.{controller}
-use Rattle.zw_laws.specs.Table.{switch}
+use Rattle.zw_laws.specs.Orders.{switch}
 use Rattle.world_facts.specs.World.{World, ToChip, ToHost, Flight}
 use Rattle.world_facts.specs.World.ToChip.{Asks, Acknowledges}
 use Rattle.world_facts.specs.World.ToHost.{Confirms, Takes, Calls_back, Brings}
 use Rattle.world_facts.specs.World.Carried.{Carries_get, Carries_report}
+use Rattle.world_facts.specs.Tables.{ended_by}
 use Rattle.world_facts.specs.Units.{value_at, get_payload, report_payload, ack_unit, ask_unit, take_unit, callback_unit, bring_unit}
 
 -- a command is accepted
@@ -82,18 +82,28 @@ answered w rest = record w { to_host = rest; to_chip = w.to_chip ++ Acknowledges
 abbrev pub called : World → List ToHost → World
 called w rest = record w { to_host = rest; to_chip = w.to_chip ++ Acknowledges ∷ []; request = None }
 
--- the host acknowledges a report, which closes its last session, and confirms the value
-abbrev pub close_entries : World → List Entry
-close_entries w =
-    Written Host ack_unit ∷ Out (begun_of w.book) Success
-    ∷ Store first_node (record { property = switch; value = value_at w.orders (begun_of w.book) }) ∷ []
+-- the entry of a value that is confirmed, where it is
+abbrev pub store_where : Bool → ℕ → List Entry
+store_where true value = Store first_node (record { property = switch; value = value }) ∷ []
+store_where false value = []
 
-abbrev pub closes : World → List ToHost → World
-closes w rest = record w {
+-- the confirmed value, which is this one where it is confirmed
+abbrev pub confirmed_where : Bool → ℕ → Option ℕ → Option ℕ
+confirmed_where true value before = Some value
+confirmed_where false value before = before
+
+-- the host acknowledges a report with a final status, which closes the session of a command; at success its value is
+-- confirmed
+abbrev pub close_entries : World → ℕ → ℕ → List Entry
+close_entries w command status =
+    Written Host ack_unit ∷ Out command (ended_by status) ∷ store_where (status == SUCCESS) (value_at w.orders command)
+
+abbrev pub closes : World → ℕ → ℕ → List ToHost → World
+closes w command status rest = record w {
   to_host = rest;
   to_chip = w.to_chip ++ Acknowledges ∷ [];
-  book = record w.book { outcome = Some SUCCESS };
-  confirmed = Some (value_at w.orders (begun_of w.book));
+  book = record w.book { outcome = Some status };
+  confirmed = confirmed_where (status == SUCCESS) (value_at w.orders command) w.confirmed;
 }
 
 -- a tick begins
@@ -114,21 +124,21 @@ unheard_entries number callback = Unheard number ∷ Written Chip (callback_unit
 abbrev pub unheard : World → ℕ → List Flight → World
 unheard w callback rest = record w { flying = rest; busy = None; to_host = w.to_host ++ Calls_back callback 1 ∷ [] }
 
--- the report of the session that the device takes now
-abbrev pub next_report : World → Report
-next_report w = record { session = begun_of w.book; status = SUCCESS; begun = begun_of w.book }
+-- the report of a session that the device takes now, and does
+abbrev pub next_report : World → ℕ → Report
+next_report w session = record { session = session; status = SUCCESS; begun = begun_of w.book }
 
--- a Get comes to the device, which takes the session, changes, and answers; the chip calls back
-abbrev pub hear_entries : World → ℕ → ℕ → List Entry
-hear_entries w number callback =
+-- a Get comes to the device, which takes the session, changes to this value, and answers; the chip calls back
+abbrev pub hear_entries : World → ℕ → ℕ → ℕ → ℕ → List Entry
+hear_entries w number session value callback =
     Heard number
-    ∷ Dev first_node (Session (begun_of w.book)) (record { property = switch; value = value_at w.orders (begun_of w.book) })
-    ∷ Air (w.sent + 1) first_node controller [] (report_payload (next_report w))
+    ∷ Dev first_node (Session session) (record { property = switch; value = value })
+    ∷ Air (w.sent + 1) first_node controller [] (report_payload (next_report w session))
     ∷ Written Chip (callback_unit callback 0) ∷ []
 
-abbrev pub heard : World → ℕ → List Flight → List State → World
-heard w callback rest devices = record w {
-  flying = rest ++ record { number = w.sent + 1; carried = Carries_report (next_report w) } ∷ [];
+abbrev pub heard : World → ℕ → ℕ → List Flight → List State → World
+heard w session callback rest devices = record w {
+  flying = rest ++ record { number = w.sent + 1; carried = Carries_report (next_report w session) } ∷ [];
   sent = w.sent + 1;
   busy = None;
   to_host = w.to_host ++ Calls_back callback 0 ∷ [];

@@ -1,8 +1,10 @@
 -- The facts: what holds of a transcript, of the devices at entry, and of a world, at every moment of a run.
-use Rattle.std.specs.Prelude.{◌≡◌, ◌⊎◌, ℕ, ◌+◌, Bool, true, false, List}
+use Rattle.std.specs.Prelude.{◌≡◌, ◌⊎◌, ℕ, ◌+◌, Bool, true, false, List, None}
 use Rattle.device_sim.specs.State.{State}
 use Rattle.zw_text.specs.declared.entry.Entry.{Entry}
-use Rattle.zw_laws.specs.Answers.{first_node, AnswersOrders}
+use Rattle.zw_text.specs.Transcript.{line_before}
+use Rattle.zw_laws.specs.Nodes.{first_node}
+use Rattle.zw_laws.specs.Answers.{AsksNothing, AnswersOrders}
 use Rattle.zw_laws.specs.Frames.{CarriesUnits}
 use Rattle.zw_laws.specs.Devices.{RunsAsShown, device_of}
 use Rattle.zw_laws.specs.Once.{KeepsSessions, Once}
@@ -11,8 +13,8 @@ use Rattle.zw_laws.specs.Headline.{IsDevice, ConfirmsLast, is_supervised}
 use Rattle.world_facts.specs.World.{World, gets, reports}
 use Rattle.world_facts.specs.Kept.{Kept}
 use Rattle.world_facts.specs.OnTheWay.{OnTheWay}
-use Rattle.world_facts.specs.Ends.{EndsMeet}
-use Rattle.world_facts.specs.Tables.{Tables, IsConfirmed}
+use Rattle.world_facts.specs.Ends.{EndsMeet, InTurn}
+use Rattle.world_facts.specs.Tables.{Tables}
 use Rattle.world_facts.specs.Frames.{FramesShown}
 use Rattle.world_facts.specs.Lives.{Lives, IsInTime, Journals}
 use Rattle.world_facts.specs.Work.{Works, IsPumped}
@@ -21,10 +23,10 @@ use Rattle.world_facts.specs.Work.{Works, IsPumped}
 pub record FactsButLives (transcript : List Entry) (w : World) : Type 0 where
   pub kept : Kept w.orders w.waiting w.book
   pub ends : EndsMeet w.book (gets w.to_chip w.flying) (reports w.flying w.to_host) (device_of first_node w.devices)
-  pub tables : Tables w.orders w.book w.confirmed transcript
-  pub confirmed : IsConfirmed w.orders w.book w.confirmed
+  pub in_turn : InTurn w.book (gets w.to_chip w.flying) (reports w.flying w.to_host) (device_of first_node w.devices)
+  pub tables : Tables w.orders w.waiting w.book w.confirmed transcript
   pub frames : FramesShown w.orders w.to_chip w.sent w.flying transcript
-  pub journals : Journals w.orders w.devices
+  pub journals : Journals transcript w.devices
   pub works : Works w.to_chip w.busy w.to_host transcript
 
 -- the facts
@@ -45,6 +47,7 @@ pub record IsAtEase (w : World) : Type 0 where
 -- what the headline says, but for the lines
 pub record Holds (whole : Bool) (before after : List State) (transcript : List Entry) : Type 0 where
   pub answers : AnswersOrders transcript
+  pub answered : AsksNothing (line_before None transcript)
   pub devices : (node : ℕ) (old new : State) → IsDevice node before after old new → RunsAsShown whole node transcript old new
   pub frames : CarriesUnits transcript
   pub prompt : IsPrompt whole transcript

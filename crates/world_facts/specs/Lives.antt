@@ -1,19 +1,21 @@
--- Facts on the devices: each went the way that the transcript shows, and the one of the joined node made one change for
--- each session that it took.
-use Rattle.std.specs.Prelude.{◌≡◌, ◌≤◌, ℕ, ◌+◌, zero, suc, Bool, true, List, [], ◌∷◌, ◌++◌, map, Some, ⊤}
+-- Facts on the devices: each went the way that the transcript shows, and the changes of the one of the joined node are
+-- those of its sessions.
+use Rattle.std.specs.Prelude.{◌≡◌, ◌≢◌, ◌≤◌, ◌<◌, ℕ, ◌+◌, Bool, true, List, [], ◌∷◌, ◌++◌, map, Some, ⊤}
 use Rattle.std.specs.List.{flat_map, AllByRecursion}
 use Rattle.zw_base.specs.declared.property.By.TheVariants.{Session}
+use Rattle.supervision.specs.Host.{command_at}
+use Rattle.supervision.specs.declared.session.TheConstants.{SUCCESS}
 use Rattle.device_sim.specs.declared.change.Change.{Change}
 use Rattle.device_sim.specs.State.{State}
-use Rattle.device_sim.specs.Hearing.{settings_of}
-use Rattle.device_sim.specs.declared.kind.Kind.TheVariants.{Switch}
-use Rattle.zw_text.specs.declared.line.Line.{Line}
 use Rattle.zw_text.specs.declared.entry.Entry.{Entry}
-use Rattle.zw_text.specs.Transcript.{made, time_of}
-use Rattle.zw_laws.specs.Answers.{first_node}
+use Rattle.zw_text.specs.declared.entry.Outcome.TheVariants.{Success}
+use Rattle.zw_text.specs.Transcript.{made, time_of, sessions, outcome}
+use Rattle.zw_laws.specs.Lists.{Has, Rises}
+use Rattle.zw_laws.specs.Nodes.{first_node}
+use Rattle.zw_laws.specs.Once.{AreOrdered, IsUndone, sessions_by}
+use Rattle.zw_laws.specs.Headline.{ConfirmsLast}
 use Rattle.zw_laws.specs.Frames.{controller, heard_by, sent_from}
 use Rattle.zw_laws.specs.Devices.{Event, Runs, comings, passings, made_by, device_of}
-use Rattle.world_facts.specs.Units.{value_at}
 
 -- a device of the node went from its state at entry to that now by what the transcript shows, in so many ticks
 pub record Lived (node ticks : ℕ) (transcript : List Entry) (old new : State) : Type 0 where
@@ -57,13 +59,35 @@ pub record Replaced (node : ℕ) (now later : List State) (new : State) : Type 0
 abbrev pub IsInTime : ℕ → ℕ → Bool → List Entry → Type 0
 IsInTime clock lived stamped transcript = lived + 1 ≡ clock → stamped ≡ true → time_of transcript ≡ clock
 
--- one change for each of the first sessions, with what its command asks for
-abbrev pub changes_to : List Line → ℕ → List Change
-changes_to orders zero = []
-changes_to orders (suc n) =
-    changes_to orders n ++ record { by = Session (suc n); settings = settings_of Switch (value_at orders (suc n)) } ∷ []
+-- a change is by a session, and makes what the session's command asks for
+pub record IsOfSession (node : ℕ) (transcript : List Entry) (change : Change) : Type 0 where
+  pub session : ℕ
+  pub by_session : change.by ≡ Session session
+  pub ordered : AreOrdered node transcript session change.settings
 
--- the journal of the device of the joined node is of the sessions that it took, and those of other nodes are empty
-pub record Journals (orders : List Line) (now : List State) : Type 0 where
-  pub taken : (state : State) → device_of first_node now ≡ Some state → state.journal ≡ changes_to orders state.sessions.taken
+-- the last change of a journal is by this session
+pub record EndsWith (journal : List Change) (session : ℕ) : Type 0 where
+  pub front : List Change
+  pub change : Change
+  pub parts : journal ≡ front ++ change ∷ []
+  pub by_session : change.by ≡ Session session
+
+-- the journal of a device is of sessions that it took, each once and in order, with what their commands ask for: of the
+-- last one where the device did it, of those that are reported successful, and of none that is reported otherwise; and
+-- the value of its last change is confirmed where that is reported successful
+pub record JournalFits (node : ℕ) (transcript : List Entry) (device : State) : Type 0 where
+  pub rises : Rises (sessions_by device.journal)
+  pub taken : AllByRecursion (λ session. session ≤ device.sessions.taken) (sessions_by device.journal)
+  pub ordered : AllByRecursion (IsOfSession node transcript) device.journal
+  pub done : 0 < device.sessions.taken → device.sessions.status ≡ SUCCESS → EndsWith device.journal device.sessions.taken
+  pub not_done : device.sessions.status ≢ SUCCESS → Has (sessions_by device.journal) device.sessions.taken → ⊥
+  pub successful : (session command : ℕ) → command_at (sessions node transcript) session ≡ Some command →
+      outcome command transcript ≡ Success → Has (sessions_by device.journal) session
+  pub undone : (session command : ℕ) → command_at (sessions node transcript) session ≡ Some command →
+      IsUndone (outcome command transcript) → Has (sessions_by device.journal) session → ⊥
+  pub confirms : ConfirmsLast node transcript device
+
+-- the journal of the device of the joined node fits the transcript, and those of other nodes are empty
+pub record Journals (transcript : List Entry) (now : List State) : Type 0 where
+  pub first : (state : State) → device_of first_node now ≡ Some state → JournalFits first_node transcript state
   pub others : (node : ℕ) (state : State) → (node ≡ first_node → ⊥) → device_of node now ≡ Some state → state.journal ≡ []

@@ -1,69 +1,54 @@
 -- Facts on what the host keeps: it is what the transcript shows.
-use Rattle.std.specs.Prelude.{◌≡◌, ℕ, zero, suc, ◌+◌, ◌-◌, ◌&&◌, nat_le, nat_lt, if◌then◌else◌, List, [], ◌∷◌, length, Option, Some, None, ⊤}
+use Rattle.std.specs.Prelude.{◌≡◌, ℕ, ◌<◌, ◌==◌, if◌then◌else◌, List, [], length, Option, Some, None}
+use Rattle.std.specs.List.{AllByRecursion}
 use Rattle.zw_base.specs.PropertyOrder.{same_property}
 use Rattle.zw_base.specs.declared.property.Property.{Property}
-use Rattle.supervision.specs.Host.{HostBook, begun_of}
+use Rattle.supervision.specs.Host.{HostBook, begun_of, command_at}
+use Rattle.supervision.specs.declared.session.TheConstants.{SUCCESS, FAIL}
 use Rattle.zw_text.specs.declared.line.Line.{Line}
-use Rattle.zw_text.specs.declared.line.Line.TheVariants.{Set, Tick}
 use Rattle.zw_text.specs.declared.entry.Ended.{Ended}
-use Rattle.zw_text.specs.declared.entry.Ended.TheVariants.{Success}
+use Rattle.zw_text.specs.declared.entry.Ended.TheVariants.{Success, Fail, NoSupport}
 use Rattle.zw_text.specs.declared.entry.Entry.{Entry}
-use Rattle.zw_text.specs.Transcript.{Command, accepted, sessions, carried, endings, line_before}
-use Rattle.zw_laws.specs.Answers.{first_node, accepted_count, AnswersOrders}
-use Rattle.zw_laws.specs.Once.{KeepsSessions}
+use Rattle.zw_text.specs.declared.entry.Outcome.{Outcome}
+use Rattle.zw_text.specs.declared.entry.Outcome.TheVariants.{Waiting, Begun}
+use Rattle.zw_text.specs.Transcript.{accepted, sessions, outcome, outcome_of, line_before}
+use Rattle.zw_laws.specs.Nodes.{first_node}
+use Rattle.zw_laws.specs.Orders.{switch}
+use Rattle.zw_laws.specs.Answers.{accepted_count, AsksNothing, AnswersOrders}
+use Rattle.zw_laws.specs.Once.{IsFinal, KeepsSessions}
 use Rattle.zw_laws.specs.Confirmed.{confirmed}
-use Rattle.zw_laws.specs.Table.{switch}
-use Rattle.world_facts.specs.Units.{value_at}
+use Rattle.world_facts.specs.Kept.{commands_for}
 
--- the orders as commands, numbered from this number on
-abbrev pub commands_from : ℕ → List Line → List Command
-commands_from number [] = []
-commands_from number (order ∷ orders) = record { number = number; order = order } ∷ commands_from (number + 1) orders
+-- how a command ended whose session has this final status
+abbrev pub ended_by : ℕ → Ended
+ended_by status = if status == SUCCESS then Success else (if status == FAIL then Fail else NoSupport)
 
--- the session of a command, where so many sessions were begun, each for the command with its number
-abbrev pub carried_in : ℕ → ℕ → List ℕ
-carried_in begun command = if nat_lt 0 command && nat_le command begun then command ∷ [] else []
+-- the outcome of a command whose session has this final status, or none yet
+abbrev pub outcome_with : Option ℕ → Outcome
+outcome_with None = Begun
+outcome_with (Some status) = outcome_of (ended_by status)
 
--- how many sessions came to a final outcome
-abbrev pub closed_of : HostBook → ℕ
-closed_of book = closed_by book.outcome (begun_of book)
-  where
-    closed_by : Option ℕ → ℕ → ℕ
-    closed_by None begun = begun - 1
-    closed_by (Some status) begun = begun
-
--- how a command ended, where so many sessions came to a final outcome, and each of them to success
-abbrev pub endings_in : ℕ → ℕ → List Ended
-endings_in closed command = if nat_lt 0 command && nat_le command closed then Success ∷ [] else []
-
--- a line that asks for no answer
-abbrev pub AsksNothing : Option Line → Type 0
-AsksNothing None = ⊤
-AsksNothing (Some (Tick count)) = ⊤
-AsksNothing (Some (Set node end word)) = ⊥
+-- what the transcript shows of how commands ended, of which so many were accepted: those that wait have not begun, nor
+-- has one that was not accepted; each session but the last came to a final outcome, and the last to what the host keeps
+pub record Outcomes (count : ℕ) (waiting : List ℕ) (book : HostBook) (transcript : List Entry) : Type 0 where
+  pub wait : AllByRecursion (λ command. outcome command transcript ≡ Waiting) waiting
+  pub not_accepted : (command : ℕ) → count < command → outcome command transcript ≡ Waiting
+  pub ended : (session command : ℕ) → session < begun_of book → command_at book.commands session ≡ Some command →
+      IsFinal (outcome command transcript)
+  pub last : (command : ℕ) → command_at book.commands (begun_of book) ≡ Some command →
+      outcome command transcript ≡ outcome_with book.outcome
 
 -- the confirmed value of a property, which is that of the switch where it is the switch's
 abbrev pub confirmed_in : Option ℕ → Property → Option ℕ
 confirmed_in value property = if same_property switch property then value else None
 
--- the value that so many sessions confirmed, each with success
-abbrev pub value_confirmed : List Line → ℕ → Option ℕ
-value_confirmed orders zero = None
-value_confirmed orders (suc before) = Some (value_at orders (suc before))
-
--- the host keeps the value of the last session that came to a final outcome
-pub record IsConfirmed (orders : List Line) (book : HostBook) (value : Option ℕ) : Type 0 where
-  pub value_is : value ≡ value_confirmed orders (closed_of book)
-
 -- the tables of the host are those of the transcript, and the laws on orders and sessions hold of it
-pub record Tables (orders : List Line) (book : HostBook) (value : Option ℕ) (transcript : List Entry) : Type 0 where
-  pub accepted_are : accepted first_node transcript ≡ commands_from 1 orders
+pub record Tables (orders : List Line) (waiting : List ℕ) (book : HostBook) (value : Option ℕ) (transcript : List Entry) : Type 0 where
+  pub accepted_are : (node : ℕ) → accepted node transcript ≡ commands_for node 1 orders
   pub counted : accepted_count transcript ≡ length orders
   pub sessions_are : sessions first_node transcript ≡ book.commands
-  pub none_accepted : (node : ℕ) → (node ≡ first_node → ⊥) → accepted node transcript ≡ []
   pub none_begun : (node : ℕ) → (node ≡ first_node → ⊥) → sessions node transcript ≡ []
-  pub carried_are : (command : ℕ) → carried command transcript ≡ carried_in (begun_of book) command
-  pub endings_are : (command : ℕ) → endings command transcript ≡ endings_in (closed_of book) command
+  pub outcomes : Outcomes (length orders) waiting book transcript
   pub confirmed_is : (property : Property) → confirmed transcript first_node property ≡ confirmed_in value property
   pub answered : AsksNothing (line_before None transcript)
   pub answers : AnswersOrders transcript

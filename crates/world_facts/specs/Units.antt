@@ -10,7 +10,7 @@ use Rattle.supervision.specs.Ends.{Get, Report}
 use Rattle.device_sim.specs.Hearing.{get_text, set_text, report_text}
 use Rattle.zw_text.specs.declared.line.Line.{Line}
 use Rattle.zw_text.specs.declared.line.Line.TheVariants.{Set, Tick}
-use Rattle.zw_laws.specs.Answers.{first_node}
+use Rattle.zw_laws.specs.Nodes.{first_node}
 use Rattle.zw_laws.specs.Orders.{switch_value}
 use Rattle.zw_laws.specs.Units.{send_data}
 

@@ -4,7 +4,7 @@ use Rattle.std.specs.List.{flat_map}
 use Rattle.supervision.specs.Host.{HostBook, open_session}
 use Rattle.zw_text.specs.declared.entry.Entry.{Entry}
 use Rattle.zw_laws.specs.Lists.{EachAfter}
-use Rattle.zw_laws.specs.Units.{sendings, callbacks, chip_frames, host_acks}
+use Rattle.zw_laws.specs.Units.{sendings, refused_count, callbacks, chip_frames, host_acks}
 use Rattle.zw_laws.specs.Prompt.{BeginsWithUnit, MayGoOn}
 use Rattle.world_facts.specs.World.{ToChip, ToHost, listed, callback_asked}
 use Rattle.world_facts.specs.World.ToHost.{Confirms, Takes, Calls_back, Brings}
@@ -16,10 +16,11 @@ frame_told Takes = Takes ∷ []
 frame_told (Calls_back callback status) = Calls_back callback status ∷ []
 frame_told (Brings report) = Brings report ∷ []
 
--- each request that was not called back waits for the chip or is carried out; each frame of the chip that was not
--- acknowledged is on its way; each session began with its unit; and nothing was owed at a rest
+-- each request that was neither called back nor refused waits for the chip or is carried out; each frame of the chip that
+-- was not acknowledged is on its way; each session began with its unit; and nothing was owed at a rest
 pub record Works (to_chip : List ToChip) (busy : Option ℕ) (to_host : List ToHost) (transcript : List Entry) : Type 0 where
-  pub called_back : length (callbacks transcript) + (length (flat_map callback_asked to_chip) + length (listed busy)) ≡ length (sendings transcript)
+  pub called_back : length (callbacks transcript) + refused_count transcript + (length (flat_map callback_asked to_chip) + length (listed busy))
+      ≡ length (sendings transcript)
   pub acknowledged : length (host_acks transcript) + length (flat_map frame_told to_host) ≡ length (chip_frames transcript)
   pub begun : BeginsWithUnit transcript
   pub between : EachAfter MayGoOn [] transcript

@@ -4,10 +4,14 @@ ghost use Rattle.std.specs.Prelude.{◌≡◌, ℕ, ◌+◌, ◌++◌, [], ◌�
 ghost use Rattle.std.specs.List.{AllByRecursion};
 ghost use Rattle.device_sim.specs.State.{State};
 ghost use Rattle.device_sim.specs.Hearing.{takes};
-ghost use Rattle.supervision.specs.Host.{begun_of, open_session};
+ghost use Rattle.supervision.specs.Session.{wire_id};
+ghost use Rattle.supervision.specs.Host.{open_session, command_at, told_of};
+ghost use Rattle.supervision.specs.Device.{heard_of};
+ghost use Rattle.supervision.specs.declared.host_node.Told.TheVariants.{Final};
+ghost use Rattle.supervision.specs.declared.device_book.Heard.TheVariants.{New, Again};
 ghost use Rattle.supervision.specs.Ends.{Get, Report};
 ghost use Rattle.zw_text.specs.declared.entry.Entry.{Entry};
-ghost use Rattle.zw_laws.specs.Answers.{first_node};
+ghost use Rattle.zw_laws.specs.Nodes.{first_node};
 ghost use Rattle.zw_laws.specs.Devices.{device_of};
 ghost use Rattle.zw_laws.specs.Headline.{IsAsMade};
 ghost use Rattle.world_facts.specs.World.{World, ToChip, ToHost, Flight};
@@ -38,9 +42,10 @@ pub fn events_keep_facts()
     ensures host_is_called { (before : List State) (T : List Entry) (w : World) (callback status : ℕ) (rest : List ToHost) →
         Facts before T w → w.stamped ≡ true → w.to_host ≡ Calls_back callback status ∷ rest →
         Facts before (T ++ ack_entries) (called w rest) }
-    ensures session_closes { (before : List State) (T : List Entry) (w : World) (report : Report) (rest : List ToHost) →
+    ensures session_closes { (before : List State) (T : List Entry) (w : World) (report : Report) (rest : List ToHost) (session command : ℕ) →
         Facts before T w → w.stamped ≡ true → w.to_host ≡ Brings report ∷ rest →
-        Facts before (T ++ close_entries w) (closes w rest) }
+        told_of w.book (wire_id report.session) report.status ≡ Final session → command_at w.book.commands session ≡ Some command →
+        Facts before (T ++ close_entries w command report.status) (closes w command report.status rest) }
     ensures report_arrives { (before : List State) (T : List Entry) (w : World) (number : ℕ) (report : Report) (rest : List Flight) →
         Facts before T w → w.stamped ≡ true → w.flying ≡ record { number = number; carried = Carries_report report } ∷ rest →
         Facts before (T ++ bring_entries number report) (brought w report rest) }
@@ -49,12 +54,12 @@ pub fn events_keep_facts()
         w.busy ≡ Some callback → device_of first_node w.devices ≡ None →
         Facts before (T ++ unheard_entries number callback) (unheard w callback rest) }
     ensures get_is_heard { (before : List State) (T : List Entry) (w : World) (number : ℕ) (get : Get) (rest : List Flight) (callback : ℕ)
-        (device : State) (devices : List State) →
+        (device : State) (devices : List State) (session : ℕ) →
         Facts before T w → w.stamped ≡ true → w.lived + 1 ≡ w.clock →
         w.flying ≡ record { number = number; carried = Carries_get get } ∷ rest → w.busy ≡ Some callback →
-        device_of first_node w.devices ≡ Some device →
-        Replaced first_node w.devices devices (takes device (begun_of w.book) (value_at w.orders (begun_of w.book))) →
-        Facts before (T ++ hear_entries w number callback) (heard w callback rest devices) }
+        device_of first_node w.devices ≡ Some device → heard_of device.sessions (wire_id get.session) ≡ New session →
+        Replaced first_node w.devices devices (takes device session (value_at w.orders get.command)) →
+        Facts before (T ++ hear_entries w number session (value_at w.orders get.command) callback) (heard w session callback rest devices) }
     ensures devices_live { (before : List State) (T : List Entry) (w : World) →
         Facts before T w → w.lived + 1 ≡ w.clock → Facts before T (devices_tick w) }
 {}
@@ -64,4 +69,20 @@ pub fn events_keep_facts()
 pub fn headline_follows()
     ensures whole { (before : List State) (T : List Entry) (w : World) → Facts before T w → IsAtEase w → Holds true before w.devices T }
     ensures cut { (before : List State) (T : List Entry) (w : World) → Facts before T w → Holds false before w.devices T }
+{}
+
+/// An id on the wire names the one session that its message is of: a Get that comes is new to the device as its own session
+/// alone, and comes again only as the last one taken; a report closes its own session alone. The facts allow messages of
+/// any age up to the bounds of `supervision`.
+pub fn ids_name_sessions()
+    ensures new { (before : List State) (T : List Entry) (w : World) (number : ℕ) (get : Get) (rest : List Flight) (device : State) (session : ℕ) →
+        Facts before T w → w.flying ≡ record { number = number; carried = Carries_get get } ∷ rest →
+        device_of first_node w.devices ≡ Some device → heard_of device.sessions (wire_id get.session) ≡ New session → session ≡ get.session }
+    ensures again { (before : List State) (T : List Entry) (w : World) (number : ℕ) (get : Get) (rest : List Flight) (device : State) (status : ℕ) →
+        Facts before T w → w.flying ≡ record { number = number; carried = Carries_get get } ∷ rest →
+        device_of first_node w.devices ≡ Some device → heard_of device.sessions (wire_id get.session) ≡ Again status →
+        get.session ≡ device.sessions.taken }
+    ensures closed { (before : List State) (T : List Entry) (w : World) (report : Report) (rest : List ToHost) (device : State) (session : ℕ) →
+        Facts before T w → w.to_host ≡ Brings report ∷ rest → device_of first_node w.devices ≡ Some device →
+        told_of w.book (wire_id report.session) report.status ≡ Final session → session ≡ report.session }
 {}

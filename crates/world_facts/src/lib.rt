@@ -9,4 +9,4 @@
 
 mod laws;
 
-pub use laws::{events_keep_facts, facts_hold_at_first, headline_follows};
+pub use laws::{events_keep_facts, facts_hold_at_first, headline_follows, ids_name_sessions};

@@ -1,22 +1,21 @@
--- How orders are answered: by the tables that the transcript shows so far (this project's own rule).
-use Rattle.std.specs.Prelude.{◌≡◌, ℕ, ◌+◌, ◌==◌, Bool, true, false, if◌then◌else◌, List, [], ◌∷◌, length, filter, Option, Some, None, ⊤}
+-- How orders are answered: by the nodes, the classes and the waiting commands that the transcript shows so far (this
+-- project's own rule).
+use Rattle.std.specs.Prelude.{◌≡◌, ℕ, ◌+◌, ◌==◌, Bool, true, false, not, List, [], ◌∷◌, ◌++◌, length, filter, Option, Some, None, ⊤}
 use Rattle.std.specs.List.{flat_map}
 use Rattle.zw_text.specs.declared.line.Line.{Line}
 use Rattle.zw_text.specs.declared.line.Line.TheVariants.{Set, Tick}
 use Rattle.zw_text.specs.declared.line.Word.{Word}
-use Rattle.zw_text.specs.declared.line.Word.TheVariants.{On, Off, Level}
 use Rattle.zw_text.specs.declared.entry.Entry.{Entry}
 use Rattle.zw_text.specs.declared.entry.Entry.TheVariants.{Accepted, Refused}
+use Rattle.zw_text.specs.declared.entry.Refusal.{Refusal}
 use Rattle.zw_text.specs.declared.entry.Refusal.TheVariants.{NotJoined, BadValue, MailboxFull}
 use Rattle.zw_text.specs.declared.entry.Outcome.{Outcome}
 use Rattle.zw_text.specs.declared.entry.Outcome.TheVariants.{Waiting, Begun, Success, Fail, NoSupport, Unanswered, Cancelled}
 use Rattle.zw_text.specs.Transcript.{accepted, outcome, line_before}
 use Rattle.zw_laws.specs.Lists.{EachAfter}
+use Rattle.zw_laws.specs.Nodes.{is_joined, known_classes}
+use Rattle.zw_laws.specs.Orders.{takes_word}
 use Rattle.zw_laws.specs.Once.{numbers_of}
-
--- the node that is joined from the start
-abbrev pub first_node : ℕ
-first_node = 2
 
 -- the most commands that may wait for a node
 abbrev pub most_waiting : ℕ
@@ -46,22 +45,26 @@ accepted_number _ = []
 abbrev pub accepted_count : List Entry → ℕ
 accepted_count transcript = length (flat_map accepted_number transcript)
 
--- the answer to an order that its node can take: a number, or a refusal where the mailbox is full
-abbrev pub answer_for : List Entry → ℕ → Entry
-answer_for past node =
-    if length (waiting node past) == most_waiting
-    then Refused (MailboxFull most_waiting)
-    else Accepted (accepted_count past + 1) node
+-- the refusal, where it applies
+abbrev pub refused_where : Bool → Refusal → List Refusal
+refused_where true refusal = refusal ∷ []
+refused_where false refusal = []
 
--- the answer to an order for a joined switch, which takes on and off
-abbrev pub answer_word : List Entry → ℕ → Word → Entry
-answer_word past node On = answer_for past node
-answer_word past node Off = answer_for past node
-answer_word past node (Level level) = Refused BadValue
+-- the refusals that apply to an order of a value, in the order in which they are looked for
+abbrev pub refusals_to : List Entry → ℕ → Word → List Refusal
+refusals_to past node word =
+    refused_where (not (is_joined past node)) NotJoined
+    ++ (refused_where (not (takes_word (known_classes past node) word)) BadValue
+    ++ refused_where (length (waiting node past) == most_waiting) (MailboxFull most_waiting))
+
+-- the answer to an order for a node: the first refusal that applies, else the next number
+abbrev pub answered_by : List Entry → ℕ → List Refusal → Entry
+answered_by past node [] = Accepted (accepted_count past + 1) node
+answered_by past node (refusal ∷ more) = Refused refusal
 
 -- the answer to an order after this past
 abbrev pub answer_to : List Entry → ℕ → Word → Entry
-answer_to past node word = if node == first_node then answer_word past node word else Refused NotJoined
+answer_to past node word = answered_by past node (refusals_to past node word)
 
 -- the entry is an answer
 abbrev pub IsAnswer : Entry → Type 0
@@ -75,9 +78,16 @@ FollowsLine (Some (Set node end word)) past entry = entry ≡ answer_to past nod
 FollowsLine (Some (Tick count)) past entry = IsAnswer entry → ⊥
 FollowsLine None past entry = IsAnswer entry → ⊥
 
+-- an entry after this past is an answer where it must be one
 abbrev pub MayAnswer : List Entry → Entry → Type 0
 MayAnswer past entry = FollowsLine (line_before None past) past entry
 
--- every order has the one answer that the tables so far demand
+-- a line that asks for no answer
+abbrev pub AsksNothing : Option Line → Type 0
+AsksNothing None = ⊤
+AsksNothing (Some (Tick count)) = ⊤
+AsksNothing (Some (Set node end word)) = ⊥
+
+-- every order that an entry follows has the one answer that the transcript so far demands, and nothing else is answered
 abbrev pub AnswersOrders : List Entry → Type 0
 AnswersOrders transcript = EachAfter MayAnswer [] transcript

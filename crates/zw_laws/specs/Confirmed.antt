@@ -3,12 +3,11 @@ use Rattle.std.specs.Prelude.{ℕ, Bool, true, false, if◌then◌else◌, List,
 use Rattle.zw_base.specs.PropertyOrder.{same_property}
 use Rattle.zw_base.specs.declared.property.Property.{Property}
 use Rattle.zw_base.specs.declared.property.Setting.{Setting}
-use Rattle.zw_text.specs.declared.line.Line.{Line}
 use Rattle.zw_text.specs.declared.entry.Entry.{Entry}
 use Rattle.zw_text.specs.declared.entry.Outcome.{Outcome}
 use Rattle.zw_text.specs.declared.entry.Outcome.TheVariants.{Waiting, Begun, Success, Fail, NoSupport, Unanswered, Cancelled}
-use Rattle.zw_text.specs.Transcript.{Command, accepted, sessions, outcome}
-use Rattle.zw_laws.specs.Orders.{settings_of, order_of}
+use Rattle.zw_text.specs.Transcript.{sessions, outcome}
+use Rattle.zw_laws.specs.Orders.{settings_for}
 
 -- whether the outcome is success
 abbrev pub is_success : Outcome → Bool
@@ -26,21 +25,15 @@ given_by [] property before = before
 given_by (setting ∷ settings) property before =
     given_by settings property (if same_property setting.property property then Some setting.value else before)
 
--- the settings of an order, where there is one
-abbrev pub settings_if : Option Line → List Setting
-settings_if None = []
-settings_if (Some order) = settings_of order
-
--- the value of a property that the successful ones of these commands confirm, in order
-abbrev pub confirmed_by : List Entry → List Command → Property → List ℕ → Option ℕ → Option ℕ
-confirmed_by transcript commands property [] before = before
-confirmed_by transcript commands property (number ∷ numbers) before =
-    confirmed_by transcript commands property numbers
+-- the value of a property that the successful ones of these commands of a node confirm, in order
+abbrev pub confirmed_by : List Entry → ℕ → Property → List ℕ → Option ℕ → Option ℕ
+confirmed_by transcript node property [] before = before
+confirmed_by transcript node property (number ∷ numbers) before =
+    confirmed_by transcript node property numbers
     (if is_success (outcome number transcript)
-    then given_by (settings_if (order_of number commands)) property before
+    then given_by (settings_for transcript node number) property before
     else before)
 
 -- the confirmed value of a property of a node, where it has one
 abbrev pub confirmed : List Entry → ℕ → Property → Option ℕ
-confirmed transcript node property =
-    confirmed_by transcript (accepted node transcript) property (sessions node transcript) None
+confirmed transcript node property = confirmed_by transcript node property (sessions node transcript) None

@@ -5,7 +5,7 @@ use Rattle.zw_text.specs.declared.entry.Entry.{Entry}
 use Rattle.zw_text.specs.declared.entry.Entry.TheVariants.{Air, Heard}
 use Rattle.zw_text.specs.Transcript.{AirFrame, frames, time_of}
 use Rattle.zw_laws.specs.Lists.{EachAfter}
-use Rattle.zw_laws.specs.Units.{Sending, sendings}
+use Rattle.zw_laws.specs.Units.{Sending, sendings_taken}
 
 -- the node of the controller
 abbrev pub controller : ℕ
@@ -20,19 +20,22 @@ sent_by sender frame =
 abbrev pub sent_from : ℕ → List Entry → List Sending
 sent_from sender transcript = flat_map (sent_by sender) (frames transcript)
 
--- a frame of the controller carries what the next SendData unit asked to send, one each and in order
+-- a frame of the controller carries what the next SendData request that the chip took asked to send, one each and in
+-- order
 abbrev pub CarriesNext : List Entry → Bool → Sending → Type 0
-CarriesNext past true sending = slice_get (sendings past) (length (sent_from controller past)) ≡ Some sending
+CarriesNext past true sending = slice_get (sendings_taken past) (length (sent_from controller past)) ≡ Some sending
 CarriesNext past false sending = ⊤
 
--- a frame that goes on the air has the next number, and one of the controller was asked for by a unit
+-- a frame that goes on the air has the next number, and one of the controller was asked for by a request that the chip
+-- took
 abbrev pub MayAir : List Entry → Entry → Type 0
 MayAir past (Air frame sender receiver repeaters payload) =
     (frame ≡ length (frames past) + 1)
     × CarriesNext past (sender == controller) (record { node = receiver; payload = payload })
 MayAir past _ = ⊤
 
--- every frame is numbered, and those of the controller are the payloads of its SendData units, in order and one each
+-- every frame is numbered, and those of the controller are the payloads of the SendData requests that the chip took, in
+-- order and one each
 abbrev pub CarriesUnits : List Entry → Type 0
 CarriesUnits transcript = EachAfter MayAir [] transcript
 

@@ -1,5 +1,5 @@
 -- The headline: what holds of a run's transcript and of its devices (this project's own theorem).
-use Rattle.std.specs.Prelude.{◌≡◌, ◌≤◌, ℕ, Bool, true, false, List, ◌∷◌, ◌++◌, Some}
+use Rattle.std.specs.Prelude.{◌≡◌, ◌≤◌, ℕ, Bool, true, false, List, ◌∷◌, ◌++◌, Some, None}
 use Rattle.std.specs.List.{AllByRecursion, list_any}
 use Rattle.zw_base.specs.PropertyOrder.{same_property}
 use Rattle.zw_base.specs.declared.property.Property.{Property}
@@ -12,9 +12,9 @@ use Rattle.device_sim.specs.State.{State, fresh, value_of}
 use Rattle.zw_text.specs.declared.line.Line.{Line}
 use Rattle.zw_text.specs.declared.entry.Entry.{Entry}
 use Rattle.zw_text.specs.declared.entry.Outcome.TheVariants.{Success}
-use Rattle.zw_text.specs.Transcript.{lines_run, sessions, outcome}
+use Rattle.zw_text.specs.Transcript.{lines_run, line_before, sessions, outcome}
 use Rattle.zw_laws.specs.Once.{KeepsSessions, Once}
-use Rattle.zw_laws.specs.Answers.{AnswersOrders}
+use Rattle.zw_laws.specs.Answers.{AsksNothing, AnswersOrders}
 use Rattle.zw_laws.specs.Frames.{CarriesUnits}
 use Rattle.zw_laws.specs.Devices.{RunsAsShown, device_of}
 use Rattle.zw_laws.specs.Prompt.{IsPrompt}
@@ -31,10 +31,12 @@ pub record IsDevice (node : ℕ) (before after : List State) (old new : State) :
   pub at_entry : device_of node before ≡ Some old
   pub at_exit : device_of node after ≡ Some new
 
--- a legal transcript of these lines: its lines, their answers, its devices and its frames
+-- a legal transcript of these lines: its lines, their answers (that of the last order is there too), its devices and its
+-- frames
 pub record IsLegal (whole : Bool) (lines : List Line) (before after : List State) (transcript : List Entry) : Type 0 where
   pub lines_are : lines_run transcript ≡ lines
   pub answers : AnswersOrders transcript
+  pub answered : AsksNothing (line_before None transcript)
   pub devices : (node : ℕ) (old new : State) → IsDevice node before after old new → RunsAsShown whole node transcript old new
   pub frames : CarriesUnits transcript
 
@@ -64,7 +66,8 @@ abbrev pub is_supervised : State → Bool
 is_supervised device = lists device.kind SUPERVISION
 
 -- what the headline says of a run: the transcript is legal, prompt and keeps the rule of sessions, each supervised
--- device is once-only, and its last confirmed change is what it has
+-- device is once-only, and where a command reported successful was the last to change a property, the confirmed value is
+-- what the device has
 pub record Headline (whole : Bool) (lines : List Line) (before after : List State) (transcript : List Entry) : Type 0 where
   pub legal : IsLegal whole lines before after transcript
   pub prompt : IsPrompt whole transcript

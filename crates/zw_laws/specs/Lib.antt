@@ -1,4 +1,5 @@
 pub mod Lists
+pub mod Nodes
 pub mod Orders
 pub mod Once
 pub mod Units

@@ -7,14 +7,13 @@ use Rattle.zw_base.specs.declared.property.By.{By}
 use Rattle.zw_base.specs.declared.property.By.TheVariants.{Session, Local, Plain}
 use Rattle.supervision.specs.Host.{command_at}
 use Rattle.device_sim.specs.declared.change.Change.{Change}
-use Rattle.zw_text.specs.declared.line.Line.{Line}
 use Rattle.zw_text.specs.declared.entry.Entry.{Entry}
 use Rattle.zw_text.specs.declared.entry.Entry.TheVariants.{Begin}
 use Rattle.zw_text.specs.declared.entry.Outcome.{Outcome}
 use Rattle.zw_text.specs.declared.entry.Outcome.TheVariants.{Waiting, Begun, Success, Fail, NoSupport, Unanswered, Cancelled}
 use Rattle.zw_text.specs.Transcript.{Command, accepted, sessions, outcome}
 use Rattle.zw_laws.specs.Lists.{EachAfter, Has, Rises}
-use Rattle.zw_laws.specs.Orders.{settings_of, order_of}
+use Rattle.zw_laws.specs.Orders.{settings_for}
 
 -- a final outcome: that of a final report
 abbrev pub IsFinal : Outcome → Type 0
@@ -61,13 +60,12 @@ sessions_by journal = flat_map (λ change. session_by change.by) journal
 abbrev pub numbers_of : List Command → List ℕ
 numbers_of commands = map (λ command. command.number) commands
 
--- the settings are those that the session's command asks for
-pub record AreOrdered (commands : List Command) (begun : List ℕ) (session : ℕ) (settings : List Setting) : Type 0 where
+-- the settings are those that the session's command asks for, which was accepted for the node
+pub record AreOrdered (node : ℕ) (transcript : List Entry) (session : ℕ) (settings : List Setting) : Type 0 where
   pub number : ℕ
-  pub order : Line
-  pub begun_for : command_at begun session ≡ Some number
-  pub ordered : order_of number commands ≡ Some order
-  pub settings_are : settings ≡ settings_of order
+  pub begun_for : command_at (sessions node transcript) session ≡ Some number
+  pub accepted_for : Has (numbers_of (accepted node transcript)) number
+  pub settings_are : settings ≡ settings_for transcript node number
 
 -- a command that was applied: a session that carries it, by which a change was made
 pub record IsApplied (begun : List ℕ) (journal : List Change) (number : ℕ) : Type 0 where
@@ -85,7 +83,7 @@ pub record Once (node : ℕ) (transcript : List Entry) (journal : List Change) :
   pub commands_accepted : AllByRecursion (λ number. Has (numbers_of (accepted node transcript)) number) (sessions node transcript)
   -- a change by a session makes what its command asks for
   pub settings : (change : Change) (session : ℕ) → Has journal change → change.by ≡ Session session →
-      AreOrdered (accepted node transcript) (sessions node transcript) session change.settings
+      AreOrdered node transcript session change.settings
   -- a command reported successful was applied
   pub successful : (number : ℕ) → Has (numbers_of (accepted node transcript)) number →
       outcome number transcript ≡ Success → IsApplied (sessions node transcript) journal number

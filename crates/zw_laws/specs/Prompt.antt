@@ -1,18 +1,19 @@
 -- Promptness: what is owed at a rest (this project's own rule).
-use Rattle.std.specs.Prelude.{◌≡◌, ℕ, ◌==◌, Bool, true, List, [], ◌∷◌, length, ⊤}
+use Rattle.std.specs.Prelude.{◌≡◌, ℕ, ◌+◌, ◌==◌, Bool, true, List, [], ◌∷◌, length, ⊤}
 use Rattle.std.specs.List.{AllByRecursion, list_any}
 use Rattle.zw_text.specs.declared.entry.Entry.{Entry}
 use Rattle.zw_text.specs.declared.entry.Entry.TheVariants.{Echo, Time, Begin}
 use Rattle.zw_text.specs.Transcript.{sessions, outcome}
 use Rattle.zw_laws.specs.Lists.{EachAfter}
+use Rattle.zw_laws.specs.Nodes.{is_awake}
 use Rattle.zw_laws.specs.Once.{IsFinal}
 use Rattle.zw_laws.specs.Answers.{waiting}
-use Rattle.zw_laws.specs.Units.{sendings, callbacks, chip_frames, host_acks}
+use Rattle.zw_laws.specs.Units.{sendings, refused_count, callbacks, chip_frames, host_acks}
 
--- no request of the host is under way: the chip has called back for each SendData, and the host has acknowledged each
--- frame of the chip
+-- no request of the host is under way: the chip has called back for each SendData or refused it, and the host has
+-- acknowledged each frame of the chip
 pub record IsRest (past : List Entry) : Type 0 where
-  pub called_back : length (callbacks past) ≡ length (sendings past)
+  pub called_back : length (callbacks past) + refused_count past ≡ length (sendings past)
   pub acknowledged : length (host_acks past) ≡ length (chip_frames past)
 
 -- whether the host asked to send to the node
@@ -25,14 +26,14 @@ BeginsWithUnit [] = ⊤
 BeginsWithUnit (Begin node session command ∷ rest) = (sends_to node rest ≡ true) × BeginsWithUnit rest
 BeginsWithUnit (entry ∷ rest) = BeginsWithUnit rest
 
--- what holds at a rest: no command waits for a node whose sessions have all come to a final outcome, and no session
--- has begun without its unit
+-- what holds at a rest: no command waits for an awake node whose sessions have all come to a final outcome, and no
+-- session has begun without its unit
 pub record OwesNothing (past : List Entry) : Type 0 where
-  pub begun : (node : ℕ) → AllByRecursion (λ number. IsFinal (outcome number past)) (sessions node past) →
-      waiting node past ≡ []
+  pub begun : (node : ℕ) → is_awake past node ≡ true →
+      AllByRecursion (λ number. IsFinal (outcome number past)) (sessions node past) → waiting node past ≡ []
   pub sent : BeginsWithUnit past
 
--- a line ends before the next one is echoed, a tick before the next one that has an entry
+-- at a rest nothing is owed when a line is echoed, nor when a tick that has an entry begins
 abbrev pub MayGoOn : List Entry → Entry → Type 0
 MayGoOn past (Echo line) = IsRest past → OwesNothing past
 MayGoOn past (Time tick) = IsRest past → OwesNothing past

@@ -1,5 +1,5 @@
--- What the units of a transcript say (Serial API: data frames, and the function SendData with its callback).
-use Rattle.std.specs.Prelude.{ℕ, ◌==◌, ◌&&◌, Bool, if◌then◌else◌, List, [], ◌∷◌, take, drop, slice_index}
+-- What the units of a transcript say (Serial API: data frames, and the function SendData with its response and callback).
+use Rattle.std.specs.Prelude.{ℕ, ◌==◌, ◌&&◌, not, Bool, if◌then◌else◌, List, [], ◌∷◌, length, filter, take, drop, slice_index}
 use Rattle.std.specs.List.{flat_map}
 use Rattle.serial_frame.specs.declared.unit.TheConstants.{SOF, ACK}
 use Rattle.zw_text.specs.declared.entry.Entry.{Entry}
@@ -10,11 +10,11 @@ pub record Sending : Type 0 where
   pub node : ℕ
   pub payload : List ℕ
 
--- the unit is a data frame
+-- whether the unit is a data frame
 abbrev pub is_data : List ℕ → Bool
 is_data unit = slice_index unit 0 == SOF
 
--- the unit is a data frame of this type and function
+-- whether the unit is a data frame of this type, 0 at a request and 1 at a response, and function
 abbrev pub is_frame : List ℕ → ℕ → ℕ → Bool
 is_frame unit type function = is_data unit && (slice_index unit 2 == type && slice_index unit 3 == function)
 
@@ -33,6 +33,35 @@ sending_of unit =
 -- all that the host asked the chip to send, in order
 abbrev pub sendings : List Entry → List Sending
 sendings entries = flat_map sending_of (host_units entries)
+
+-- what a unit of the chip answers to a SendData request, where it is a response: 0 where the chip refused the request, and
+-- another byte where it took it
+abbrev pub response_of : List ℕ → List ℕ
+response_of unit = if is_frame unit 1 send_data then slice_index unit 4 ∷ [] else []
+
+-- the answers of the chip to the SendData requests, in order
+abbrev pub responses : List Entry → List ℕ
+responses entries = flat_map response_of (chip_units entries)
+
+-- whether a response says that the chip took the request
+abbrev pub took : ℕ → Bool
+took response = not (response == 0)
+
+-- of these requests those that the chip took by these responses, one each and in order; a request without a response is
+-- not among them
+abbrev pub taken_by : List Sending → List ℕ → List Sending
+taken_by [] responses = []
+taken_by (sending ∷ sendings) [] = []
+taken_by (sending ∷ sendings) (response ∷ responses) =
+    if took response then sending ∷ taken_by sendings responses else taken_by sendings responses
+
+-- all that the chip took of what the host asked it to send, in order
+abbrev pub sendings_taken : List Entry → List Sending
+sendings_taken entries = taken_by (sendings entries) (responses entries)
+
+-- how many of the host's requests the chip refused
+abbrev pub refused_count : List Entry → ℕ
+refused_count entries = length (filter (λ response. not (took response)) (responses entries))
 
 -- the unit where the test holds of it
 abbrev pub where_true : Bool → List ℕ → List (List ℕ)

@@ -15,13 +15,14 @@ use Rattle.zw_text.specs.declared.entry.Entry.{Entry}
 use Rattle.zw_text.specs.declared.entry.Entry.TheVariants.{Air, Heard, Unheard, Dev, Written}
 use Rattle.zw_text.specs.declared.entry.Side.TheVariants.{Chip}
 use Rattle.zw_text.specs.Transcript.{lines_run}
-use Rattle.zw_laws.specs.Table.{switch}
+use Rattle.zw_laws.specs.Orders.{switch}
 use Rattle.zwave_console.specs.declared.air.Flight.{Flight}
 use Rattle.zwave_console.specs.declared.world.devices.MadeBy.{MadeBy}
 use Rattle.zwave_console.specs.declared.world.World.{World}
 use Rattle.zwave_console.specs.Air.{Sky}
 use Rattle.zwave_console.specs.Knows.{HearsNew, frame_of, machine_of}
 use Rattle.zwave_console.specs.World.{AddsLines}
+use Rattle.zwave_console.proofs.Entering.{entered-two}
 use Rattle.zwave_console.specs.Arriving.{AllFit, air_entries, flights, settings_by}
 use Rattle.zwave_console.proofs.FirstDevice.{seen_at}
 
@@ -117,11 +118,6 @@ module _ (sent sender receiver receiver' : ℕ) (replies : List (List ℕ)) (at 
       ∙ ap (λ (ps : List (List ℕ)). flying ++ flights sent sender receiver ps) (sym (drop_from replies at reply is))
       ∙ so_far
 
--- two entries one after the other
-pub enters_two : (old kept first new : List Entry) (a b : Entry) → kept ≡ old → first ≡ kept ++ a ∷ [] → new ≡ first ++ b ∷ [] → new ≡ old ++ a ∷ b ∷ []
-enters_two old kept first new a b same one two =
-    two ∙ ap (λ (es : List Entry). es ++ b ∷ []) (one ∙ ap (λ (es : List Entry). es ++ a ∷ []) same) ∙ append_assoc old (a ∷ []) (b ∷ [])
-
 -- the replies of a device are those of the same state
 pub replies_of-same : {T E : Type 0} (r : Result T E) (replies : List (List ℕ)) (payload : List ℕ) (device given : State) → device ≡ given
     → OnOk r ((flags value : ℕ) → IsSupervisedSet payload flags value → replies ≡ replies_of device flags)
@@ -182,7 +178,7 @@ enters_heard old kept first settings answers new made replies number node receiv
     four
     ∙ ap (λ (es : List Entry). es ++ Written Chip unit ∷ []) three'
     ∙ append_assoc settings (air ∷ []) (Written Chip unit ∷ [])
-    ∙ ap (λ (es : List Entry). es ++ air ∷ Written Chip unit ∷ []) (enters_two old kept first settings (Heard number) dev same one two')
+    ∙ ap (λ (es : List Entry). es ++ air ∷ Written Chip unit ∷ []) (entered-two old kept first settings (Heard number) dev same one two')
     ∙ append_assoc old (Heard number ∷ dev ∷ []) (air ∷ Written Chip unit ∷ [])
 
 -- the world once it was answered and the chip called back

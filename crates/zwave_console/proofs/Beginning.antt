@@ -1,7 +1,7 @@
 -- The host begins a session: what is known of the world goes on.
-use Rattle.std.proofs.Common.{◌≡◌, ℕ, zero, suc, ◌+◌, ◌-◌, ◌<◌, List, [], ◌∷◌, ◌++◌, length, map, drop, Option, Some, None, true, refl, sym, ap, subst, ◌∙◌, arith}
-use Rattle.std.specs.Prelude.{slice_get}
-use Rattle.std.proofs.lemmas.List.{length-map}
+use Rattle.std.proofs.Common.{◌≡◌, ℕ, ◌+◌, ◌-◌, List, [], ◌∷◌, ◌++◌, map, drop, Option, Some, None, true, refl, sym, ap, subst, ◌∙◌, inl, arith}
+use Rattle.std.specs.Prelude.{slice_get, option_map}
+use Rattle.std.proofs.lemmas.Option.{slice_get-map}
 use Rattle.serial_frame.specs.Items.{unit_text}
 use Rattle.serial_frame.specs.declared.unit.Unit.TheVariants.{Framed}
 use Rattle.supervision.specs.Host.{begun_of, open_session, begins}
@@ -11,12 +11,12 @@ use Rattle.device_sim.specs.Hearing.{get_text, set_text}
 use Rattle.zw_text.specs.declared.entry.Entry.{Entry}
 use Rattle.zw_text.specs.declared.entry.Entry.TheVariants.{Begin, Written}
 use Rattle.zw_text.specs.declared.entry.Side.TheVariants.{Host}
-use Rattle.zw_laws.specs.Answers.{first_node}
+use Rattle.zw_laws.specs.Nodes.{first_node}
 use Rattle.zw_laws.specs.Orders.{switch_value}
 use Rattle.world_facts.specs.Units.{value_asked, send_frame, ask_unit}
 use Rattle.world_facts.specs.Kept.{Kept}
 use Rattle.world_facts.specs.Work.{IsPumped}
-use Rattle.world_facts.proofs.KeptLemmas.{next_is, begun_waiting}
+use Rattle.world_facts.proofs.KeptLemmas.{IsPlaced, placed, waits_accepted}
 use Rattle.world_facts.specs.Machine.{Machine, Knows, GoesOn}
 use Rattle.world_facts.proofs.KnowsHost.{Knows-begins, order_is}
 use Rattle.world_facts.proofs.GoesLemmas.{GoesOn-by}
@@ -74,11 +74,6 @@ pumped_while_busy host callback e = record { pumped = λ r o. absurd (some_none 
     some_none : (n : ℕ) → Some n ≡ None → ⊥
     some_none n e = grind arith
 
-pub slice_get-map : {A B : Type 0} (f : A → B) (xs : List A) (i : ℕ) (x : A) → slice_get xs i ≡ Some x → slice_get (map f xs) i ≡ Some (f x)
-slice_get-map f [] i x e = absurd (grind arith)
-slice_get-map f (y ∷ ys) zero x e = cc
-slice_get-map f (y ∷ ys) (suc i) x e = slice_get-map f ys i x e
-
 pub begins-goes : (self : World) (opening : Opening) (order : Order) (host : HostParts) (pipe : Flow) (unit : List ℕ) (entries entries' : List Entry) →
     opening_of self.host ≡ Some opening → order_at self.host.orders opening.command ≡ Some order → self.stamped ≡ true → host ≡ opens self.host opening →
     unit ≡ unit_text (Framed (send_frame order.node (get_text (wire_id opening.session) (set_text (switch_value order.word))) opening.callback)) →
@@ -87,7 +82,7 @@ pub begins-goes : (self : World) (opening : Opening) (order : Order) (host : Hos
 begins-goes self opening order host pipe unit entries entries' opens_is ordered stamped host_is unit_is written entered =
     let parts = opening_parts self.host opening opens_is in
     let m : Machine = machine_of self in
-    let line : slice_get m.orders (opening.command - 1) ≡ Some (line_of order) = slice_get-map line_of self.host.orders (opening.command - 1) order ordered in
+    let line : slice_get m.orders (opening.command - 1) ≡ Some (line_of order) = slice_get-map line_of self.host.orders (opening.command - 1) ∙ ap (option_map line_of) ordered in
     let ask : List ℕ = ask_unit m.orders (record { session = begun_of m.book + 1; command = opening.command; begun = begun_of m.book + 1 }) opening.callback in
     let value : switch_value order.word ≡ value_asked (slice_get m.orders (opening.command - 1)) = sym (ap value_asked line) in
     GoesOn-by (machine_of self) (machine_of (record self { host = host; to_chip = pipe })) entries entries' (Begin order.node opening.session opening.command ∷ Written Host unit ∷ []) refl entered refl
@@ -105,14 +100,6 @@ begins-goes self opening order host pipe unit entries entries' opens_is ordered 
     (subst (λ (es : List Entry). Knows before (record m { waiting = parts.rest; book = begins m.book opening.command; request = Some opening.callback; to_chip = m.to_chip ++ ask }) lived devices (T ++ es))
     (λ i. Begin (sym node i) (sym parts.session_is i) opening.command ∷ Written Host (sym same_unit i) ∷ []) base)))
 
-within-Some : {A : Type 0} (xs : List A) (i : ℕ) → slice_get xs i ≡ None → i < length xs → ⊥
-within-Some [] i none below = omega arith
-within-Some (x ∷ xs) zero none below = some_none none
-  where
-    some_none : Some x ≡ None → ⊥
-    some_none e = grind arith
-within-Some (x ∷ xs) (suc i) none below = within-Some xs i none (omega arith)
-
 -- a command that waits has its order
 pub ordered_where_known : (before devices : List State) (self : World) (lived : ℕ) (T : List Entry) (opening : Opening) → Knows before (machine_of self) lived devices T →
     opening_of self.host ≡ Some opening → order_at self.host.orders opening.command ≡ None → ⊥
@@ -120,10 +107,10 @@ ordered_where_known before devices self lived T opening knows opens_is none =
     let parts = opening_parts self.host opening opens_is in
     let kept : Kept (map line_of self.host.orders) (opening.command ∷ parts.rest) self.host.book =
     subst (λ (w : List ℕ). Kept (map line_of self.host.orders) w self.host.book) parts.waits knows.facts.most.kept in
-    let next : opening.command ≡ begun_of self.host.book + 1 = next_is kept in
-    let all : begun_of self.host.book + length (opening.command ∷ parts.rest) ≡ length (map line_of self.host.orders) = begun_waiting kept in
-    let same : length (map line_of self.host.orders) ≡ length self.host.orders = length-map self.host.orders line_of in
-    within-Some self.host.orders (opening.command - 1) none (omega arith)
+    let at : IsPlaced first_node 1 opening.command (map line_of self.host.orders) = placed first_node 1 opening.command (map line_of self.host.orders) (waits_accepted kept opening.command (inl refl)) in
+    let nothing : slice_get (map line_of self.host.orders) (opening.command - 1) ≡ None = slice_get-map line_of self.host.orders (opening.command - 1) ∙ ap (option_map line_of) none in
+    let some : None ≡ Some at.order = sym nothing ∙ at.at_place in
+    absurd cc
 
 -- the world went on before that
 pub pumped_after : (a b c : Machine) (x y : List Entry) → GoesOn a b x y → IsPumpedIfKnown b c → IsPumpedIfKnown a c

@@ -12,8 +12,9 @@ use Rattle.device_sim.specs.State.{State, shown_of}
 use Rattle.zw_laws.specs.Headline.{Headline}
 use Rattle.zw_laws.specs.Lines.{lines_of, AreLines, AreFirstLines, AreLinesBefore, ticks_asked}
 use Rattle.zw_laws.specs.Devices.{device_of}
-use Rattle.zw_laws.specs.Answers.{first_node}
-use Rattle.zw_laws.specs.Table.{switch, value_line, device_lines}
+use Rattle.zw_laws.specs.Nodes.{first_node}
+use Rattle.zw_laws.specs.Orders.{switch}
+use Rattle.zw_laws.specs.Table.{value_line, device_lines}
 use Rattle.zw_text.specs.Transcript.{lines_run}
 use Rattle.world_facts.specs.Machine.{Machine, AtEase, first_machine}
 use Rattle.zwave_console.specs.Knows.{States}

@@ -1,6 +1,7 @@
 -- The headline, from what a line does up to the end of a run.
 use Rattle.std.proofs.Common.{◌≡◌, inl, inr, ℕ, ◌+◌, Bool, true, false, List, [], ◌∷◌, ◌++◌, Option, Result, Ok, Err, OnOk, OnErr, ap, sym, subst, ◌∙◌, append-nil}
 use Rattle.std.specs.Io.KnownBytes.{Appends}
+use Rattle.std.proofs.lemmas.Result.{on_ok_weaker}
 use Rattle.zw_text.specs.declared.line.Line.{Line}
 use Rattle.zw_text.specs.declared.entry.Entry.{Entry}
 use Rattle.zw_text.specs.Entry.{text_of}
@@ -22,7 +23,7 @@ use Rattle.zwave_console.proofs.Writing.{AppendsFront-whole}
 pub Headline-holds : (whole : Bool) (lines : List Line) (before after : States) (transcript : List Entry) → lines_run transcript ≡ lines →
     Holds whole before after transcript → Headline whole lines before after transcript
 Headline-holds whole lines before after transcript shown holds = record {
-  legal = record { lines_are = shown; answers = holds.answers; devices = holds.devices; frames = holds.frames };
+  legal = record { lines_are = shown; answers = holds.answers; answered = holds.answered; devices = holds.devices; frames = holds.frames };
   prompt = holds.prompt;
   sessions_keep = holds.sessions_keep;
   once = holds.once;
@@ -56,11 +57,6 @@ IsTable-at_ease before after machine lines transcript clock known = record {
   is = λ made.
       Knows-tables before after machine transcript (known made) ∙ ap (λ (ticks : ℕ). table_of ticks transcript after) clock;
 }
-
--- what holds where a call succeeds, by what it ensures there
-OnOk-by : {T E : Type 0} (r : Result T E) {P Q : Type 0} → OnOk r P → (P → Q) → OnOk r Q
-OnOk-by (Ok x) p by = by p
-OnOk-by (Err e) p by = p
 
 -- what was entered is what was added
 module _ {first out : List Entry} (none : first ≡ []) {lines : List Line} {Before After : List Entry → Type 0}
@@ -101,8 +97,8 @@ module _ {first out : List Entry} (none : first ≡ []) (shown : List Entry) (se
     }
 
     pub line_ran : OnOk written (LineRan line old new devices devices' (Appends sink sink'))
-    line_ran = OnOk-by written whole (λ (is : Appends sink sink' (text_of shown)).
-        runs (Appends sink sink') (subst (λ (es : List Entry). Appends sink sink' (text_of es)) seen is))
+    line_ran = on_ok_weaker written (λ (is : Appends sink sink' (text_of shown)).
+        runs (Appends sink sink') (subst (λ (es : List Entry). Appends sink sink' (text_of es)) seen is)) whole
 
     pub line_unwritten : LineRan line old new devices devices' (AppendsFront sink sink')
     line_unwritten = runs (AppendsFront sink sink') (front_written shown out sink sink' written seen whole front)

@@ -1,29 +1,31 @@
 -- What chip and host judge keeps what is known of the world.
-use Rattle.std.proofs.Common.{◌≡◌, ◌⊎◌, ℕ, ◌+◌, ◌-◌, ◌<◌, true, false, Bool, List, [], ◌∷◌, ◌++◌, length, map, drop, Option, Some, None, Result, Ok, Err, OnOk, OnErr, refl, sym, ap, subst, ◌∙◌, inl, inr, append_assoc, arith}
+use Rattle.std.proofs.Common.{◌≡◌, ◌⊎◌, ℕ, ◌+◌, ◌-◌, ◌<◌, true, false, Bool, List, [], ◌∷◌, ◌++◌, length, map, drop, Option, Some, None, Result, Ok, Err, OnOk, OnErr, refl, sym, ap, subst, subst₂, ◌∙◌, inl, inr, arith}
 use Rattle.std.specs.Prelude.{IsTrue, slice_get, option_map, ◌==◌, if◌then◌else◌}
 use Rattle.std.proofs.lemmas.List.{map-append}
 use Rattle.std.proofs.lemmas.Option.{slice_get-map}
+use Rattle.std.proofs.lemmas.Result.{on_ok_weaker, on_err_weaker}
 use Rattle.serial_frame.specs.Stream.{Adds, Feeds}
 use Rattle.serial_frame.specs.declared.item.Item.TheVariants.{Good}
 use Rattle.serial_frame.specs.declared.unit.Unit.TheVariants.{Ack, Framed}
 use Rattle.supervision.specs.Session.{wire_id, IsStatus}
-use Rattle.supervision.specs.Host.{HostBook, open_session, command_at, told_of, after_report}
+use Rattle.supervision.specs.Host.{HostBook, command_at, told_of}
 use Rattle.supervision.specs.declared.session.TheConstants.{SUCCESS}
 use Rattle.supervision.specs.declared.host_node.Told.{Told}
 use Rattle.supervision.specs.declared.host_node.Told.TheVariants.{Final}
+use Rattle.supervision.proofs.EndsLemmas.{after_report-Final}
 use Rattle.device_sim.specs.State.{State}
 use Rattle.device_sim.specs.Hearing.{report_text}
 use Rattle.zw_text.specs.declared.line.Line.{Line}
-use Rattle.zw_text.specs.declared.entry.Ended.TheVariants.{Success}
 use Rattle.zw_text.specs.declared.entry.Entry.{Entry}
 use Rattle.zw_text.specs.declared.entry.Entry.TheVariants.{Written, Air, Out, Store}
 use Rattle.zw_text.specs.declared.entry.Side.TheVariants.{Host, Chip}
 use Rattle.zw_text.specs.Transcript.{lines_run}
-use Rattle.zw_laws.specs.Answers.{first_node}
-use Rattle.zw_laws.specs.Orders.{switch_value}
-use Rattle.zw_laws.specs.Table.{switch}
+use Rattle.zw_laws.specs.Nodes.{first_node}
+use Rattle.zw_laws.specs.Orders.{switch_value, switch}
 use Rattle.world_facts.specs.Units.{value_asked, ack_unit, take_unit, send_frame, response_frame, callback_frame, came_frame}
 use Rattle.world_facts.specs.Kept.{IsTaken}
+use Rattle.world_facts.specs.Tables.{ended_by}
+use Rattle.world_facts.specs.Events.{store_where, confirmed_where}
 use Rattle.world_facts.specs.Machine.{Machine, Knows, GoesOn, Stops}
 use Rattle.world_facts.proofs.KnowsChip.{Knows-chip_fed, AsksFirst, ThanksFirst, chip_front}
 use Rattle.world_facts.proofs.KnowsHost.{Knows-host_fed, ConfirmsFirst, TakesFirst, CallsFirst, BringsFirst, host_front}
@@ -45,13 +47,6 @@ use Rattle.zwave_console.specs.declared.world.World.{World}
 pub written_after : (old reserved new unit text : List ℕ) → new ≡ reserved ++ unit → reserved ≡ old → unit ≡ text → new ≡ old ++ text
 written_after old reserved new unit text is same shown =
     is ∙ (ap (λ (bytes : List ℕ). bytes ++ unit) same ∙ ap (λ (bytes : List ℕ). old ++ bytes) shown)
-
--- an entry is put at the end of others
-pub put_first : (old before new : List Entry) (item entry : Entry) → new ≡ before ++ item ∷ [] → before ≡ old → item ≡ entry → new ≡ old ++ entry ∷ []
-put_first old before new item entry is same shown = is ∙ (ap (λ (es : List Entry). es ++ item ∷ []) same ∙ ap (λ (e : Entry). old ++ e ∷ []) shown)
-
-pub put_after : (old before new entries : List Entry) (item entry : Entry) → new ≡ before ++ item ∷ [] → before ≡ old ++ entries → item ≡ entry → new ≡ old ++ (entries ++ entry ∷ [])
-put_after old before new entries item entry is same shown = put_first (old ++ entries) before new item entry is same shown ∙ append_assoc old entries (entry ∷ [])
 
 -- a frame is sent at the end of others
 pub sent_as : (old before new : List Flight) (number number' sender receiver : ℕ) (payload payload' : List ℕ) →
@@ -140,10 +135,6 @@ pub OnOk-from : {T E : Type 0} (r : Result T E) (P Q R : Type 0) → (P → Q �
 OnOk-from (Ok x) P Q R give p q = give p q
 OnOk-from (Err e) P Q R give p q = tt
 
-pub OnErr-from : {T E : Type 0} (r : Result T E) (P Q : Type 0) → (P → Q) → OnErr r P → OnErr r Q
-OnErr-from (Ok x) P Q give p = tt
-OnErr-from (Err e) P Q give p = give p
-
 -- the chip wrote one thing and not another
 answered_is : (taken : ℕ) → Answered taken ≡ Acknowledged → ⊥
 answered_is taken same = cc
@@ -192,8 +183,8 @@ answered-goes m taken entries entries' some says stamped added =
         absurd (answered_no_callback taken calls.callback calls.status
         (says (Good (Framed (callback_frame calls.callback calls.status))) (CalledBack calls.callback calls.status) calls.is refl))
     front before devices lived T (inr (inr (inr brings))) =
-        absurd (answered_no_report taken first_node (report_text (wire_id brings.session) SUCCESS)
-        (says (Good (Framed (came_frame first_node (report_text (wire_id brings.session) SUCCESS)))) (Came first_node (report_text (wire_id brings.session) SUCCESS)) brings.is
+        absurd (answered_no_report taken first_node (report_text (wire_id brings.session) brings.status)
+        (says (Good (Framed (came_frame first_node (report_text (wire_id brings.session) brings.status)))) (Came first_node (report_text (wire_id brings.session) brings.status)) brings.is
         ((omega arith, omega arith, omega arith), refl)))
 
 -- the request under way ends with its own callback
@@ -220,17 +211,17 @@ called-goes m callback status entries entries' some says stamped added =
         ap (λ (request : Option ℕ). request_after request callback) calls.own ∙ ap (λ (id : ℕ). request_after (Some calls.callback) id) own ∙ request_ends calls.callback in
         subst (λ (request : Option ℕ). Knows before (record (thanked m) { request = request }) lived devices (T ++ Written Host ack_unit ∷ [])) (sym ends) (calls.then stamped)
     front before devices lived T (inr (inr (inr brings))) =
-        absurd (callback_no_report callback status first_node (report_text (wire_id brings.session) SUCCESS)
-        (says (Good (Framed (came_frame first_node (report_text (wire_id brings.session) SUCCESS)))) (Came first_node (report_text (wire_id brings.session) SUCCESS)) brings.is
+        absurd (callback_no_report callback status first_node (report_text (wire_id brings.session) brings.status)
+        (says (Good (Framed (came_frame first_node (report_text (wire_id brings.session) brings.status)))) (Came first_node (report_text (wire_id brings.session) brings.status)) brings.is
         ((omega arith, omega arith, omega arith), refl)))
 
 -- what came is a report of the first node
-record SaysReport (node : ℕ) (payload : List ℕ) (session : ℕ) : Type 0 where
+record SaysReport (node : ℕ) (payload : List ℕ) (session status : ℕ) : Type 0 where
   node_is : node ≡ first_node
-  payload_is : payload ≡ report_text (wire_id session) SUCCESS
+  payload_is : payload ≡ report_text (wire_id session) status
 
 came_is : (m : Machine) (node : ℕ) (payload : List ℕ) (before devices : List State) (lived : ℕ) (T : List Entry) → FirstSays m.host_items (Came node payload) → HostFront before devices m lived T →
-    (brings : BringsFirst before devices m lived T) × SaysReport node payload brings.session
+    (brings : BringsFirst before devices m lived T) × SaysReport node payload brings.session brings.status
 came_is m node payload before devices lived T says (inl confirms) = absurd (report_is node payload (says (Good Ack) Acknowledged confirms.is refl))
 came_is m node payload before devices lived T says (inr (inl takes)) =
     absurd (answered_no_report 1 node payload (sym (says (Good (Framed (response_frame 1))) (Answered 1) takes.is refl)))
@@ -238,27 +229,20 @@ came_is m node payload before devices lived T says (inr (inr (inl calls))) =
     absurd (callback_no_report calls.callback calls.status node payload
     (sym (says (Good (Framed (callback_frame calls.callback calls.status))) (CalledBack calls.callback calls.status) calls.is refl)))
 came_is m node payload before devices lived T says (inr (inr (inr brings))) =
-    let same = same_report node first_node payload (report_text (wire_id brings.session) SUCCESS)
-    (says (Good (Framed (came_frame first_node (report_text (wire_id brings.session) SUCCESS)))) (Came first_node (report_text (wire_id brings.session) SUCCESS)) brings.is
+    let same = same_report node first_node payload (report_text (wire_id brings.session) brings.status)
+    (says (Good (Framed (came_frame first_node (report_text (wire_id brings.session) brings.status)))) (Came first_node (report_text (wire_id brings.session) brings.status)) brings.is
     ((omega arith, omega arith, omega arith), refl)) in
     (brings, record { node_is = same.0; payload_is = same.1 })
 
 -- the host judges what is no report of the first node: nothing of the kind comes
 pub unread-goes : (m new : Machine) (node : ℕ) (payload : List ℕ) (entries entries' : List Entry) → 0 < length m.host_items → FirstSays m.host_items (Came node payload) →
-    ((session : ℕ) → node ≡ first_node → payload ≡ report_text (wire_id session) SUCCESS → ⊥) → new.clock ≡ m.clock →
+    ((session status : ℕ) → IsStatus status → node ≡ first_node → payload ≡ report_text (wire_id session) status → ⊥) → new.clock ≡ m.clock →
     entries' ≡ entries ++ Written Host ack_unit ∷ [] → GoesOn m new entries entries'
 unread-goes m new node payload entries entries' some says never same_clock added =
     GoesOn-by m new entries entries' (Written Host ack_unit ∷ []) same_clock added refl
     (λ before devices lived T knows.
     let came = came_is m node payload before devices lived T says (host_front before devices m lived T knows some) in
-    absurd (never came.0.session came.1.node_is came.1.payload_is))
-
--- a success of the open session is final
-told_final : (book : HostBook) (session : ℕ) → open_session book ≡ Some session → told_of book (wire_id session) SUCCESS ≡ Final session
-told_final book session is_open = rw is_open (grind arith)
-
-closes_with : (book : HostBook) (session : ℕ) → told_of book (wire_id session) SUCCESS ≡ Final session → after_report book (wire_id session) SUCCESS ≡ record book { outcome = Some SUCCESS }
-closes_with book session final = rw final refl
+    absurd (never came.0.session came.0.status came.0.known came.1.node_is came.1.payload_is))
 
 -- the order of the command that is confirmed
 record IsOrder (found : Option Order) (asked : Line) : Type 0 where
@@ -278,29 +262,40 @@ found_order (Some order) asked is taken =
       value = ap (λ (line : Line). value_asked (Some line)) same;
     }
 
--- what a success of the open session does
-record Closed (host : HostParts) (session : ℕ) (asked : Line) : Type 0 where
-  book : (told host (wire_id session) SUCCESS).book ≡ record host.book { outcome = Some SUCCESS }
-  confirmed : (told host (wire_id session) SUCCESS).confirmed ≡ Some (value_asked (Some asked))
-  entries : closing_entries host.orders (closing_of host (wire_id session) SUCCESS)
-      ≡ Out session Success ∷ Store first_node (record { property = switch; value = value_asked (Some asked) }) ∷ []
+-- the value that is confirmed, and its entry, where they are
+confirmed_as : (success : Bool) (order : Order) (value : ℕ) (before : Option ℕ) → switch_value order.word ≡ value →
+    (if success then value_by (Some order) before else before) ≡ confirmed_where success value before
+confirmed_as true order value before is = ap Some is
+confirmed_as false order value before is = refl
 
-told_closes : (host : HostParts) (session : ℕ) (asked : Line) → open_session host.book ≡ Some session → command_at host.book.commands session ≡ Some session →
-    slice_get (map line_of host.orders) (session - 1) ≡ Some asked → IsTaken asked → Closed host session asked
-told_closes host session asked is_open carries ordered taken =
-    let final = told_final host.book session is_open in
-    let found = found_order (slice_get host.orders (session - 1)) asked (sym (slice_get-map line_of host.orders (session - 1)) ∙ ordered) taken in
-    let closing : closing_of host (wire_id session) SUCCESS ≡ Some (record { command = session; status = SUCCESS }) =
-    ap (λ (what : Told). closing_by host.book what SUCCESS) final ∙ ap (λ (command : Option ℕ). closing_with command SUCCESS) carries in
+stored_as : (success : Bool) (order : Order) (value : ℕ) → order.node ≡ first_node → switch_value order.word ≡ value →
+    (if success then store_entries (Some order) else []) ≡ store_where success value
+stored_as true order value of_node is = λ i. Store (of_node i) (record { property = switch; value = is i }) ∷ []
+stored_as false order value of_node is = refl
+
+-- what a final report of the open session does
+record Closed (host : HostParts) (session status command : ℕ) (asked : Line) : Type 0 where
+  book : (told host (wire_id session) status).book ≡ record host.book { outcome = Some status }
+  confirmed : (told host (wire_id session) status).confirmed ≡ confirmed_where (status == SUCCESS) (value_asked (Some asked)) host.confirmed
+  entries : closing_entries host.orders (closing_of host (wire_id session) status)
+      ≡ Out command (ended_by status) ∷ store_where (status == SUCCESS) (value_asked (Some asked))
+
+told_closes : (host : HostParts) (session status command : ℕ) (asked : Line) → told_of host.book (wire_id session) status ≡ Final session → command_at host.book.commands session ≡ Some command →
+    slice_get (map line_of host.orders) (command - 1) ≡ Some asked → IsTaken asked → Closed host session status command asked
+told_closes host session status command asked final carries ordered taken =
+    let found = found_order (slice_get host.orders (command - 1)) asked (sym (slice_get-map line_of host.orders (command - 1)) ∙ ordered) taken in
+    let closing : closing_of host (wire_id session) status ≡ Some (record { command = command; status = status }) =
+    ap (λ (what : Told). closing_by host.book what status) final ∙ ap (λ (of : Option ℕ). closing_with of status) carries in
     record {
-      book = closes_with host.book session final;
+      book = after_report-Final host.book (wire_id session) status session final;
       confirmed =
-          ap (λ (what : Option Closing). confirmed_after host what) closing ∙ ap (λ (order : Option Order). value_by order host.confirmed) found.is
-          ∙ ap (λ (value : ℕ). Some value) found.value;
+          ap (λ (what : Option Closing). confirmed_after host what) closing
+          ∙ ap (λ (order : Option Order). if status == SUCCESS then value_by order host.confirmed else host.confirmed) found.is
+          ∙ confirmed_as (status == SUCCESS) found.order (value_asked (Some asked)) host.confirmed found.value;
       entries =
           ap (λ (what : Option Closing). closing_entries host.orders what) closing
-          ∙ ap (λ (order : Option Order). Out session Success ∷ store_entries order) found.is
-          ∙ (λ i. Out session Success ∷ Store (found.of_node i) (record { property = switch; value = found.value i }) ∷ []);
+          ∙ ap (λ (order : Option Order). Out command (ended_by status) ∷ (if status == SUCCESS then store_entries order else [])) found.is
+          ∙ ap (λ (es : List Entry). Out command (ended_by status) ∷ es) (stored_as (status == SUCCESS) found.order (value_asked (Some asked)) found.of_node found.value);
     }
 
 -- the machine once the host has taken a report
@@ -315,19 +310,18 @@ abbrev told_entries : HostParts → ℕ → ℕ → List Entry
 told_entries host id status = Written Host ack_unit ∷ closing_entries host.orders (closing_of host id status)
 
 told-known : (self : World) (before devices : List State) (lived : ℕ) (T : List Entry) (id status : ℕ) (brings : BringsFirst before devices (machine_of self) lived T) →
-    id ≡ wire_id brings.session → status ≡ SUCCESS → self.stamped ≡ true →
+    id ≡ wire_id brings.session → status ≡ brings.status → self.stamped ≡ true →
     Knows before (told_machine self id status) lived devices (T ++ told_entries self.host id status)
 told-known self before devices lived T id status brings id_is status_is stamped =
-    let closed = told_closes self.host brings.session brings.order brings.is_open brings.carries brings.ordered brings.of_node in
-    subst (λ (i : ℕ). Knows before (told_machine self i status) lived devices (T ++ told_entries self.host i status)) (sym id_is)
-    (subst (λ (s : ℕ). Knows before (told_machine self (wire_id brings.session) s) lived devices (T ++ told_entries self.host (wire_id brings.session) s)) (sym status_is)
-    (subst (λ (book : HostBook). Knows before (record (told_machine self (wire_id brings.session) SUCCESS) { book = book }) lived devices (T ++ told_entries self.host (wire_id brings.session) SUCCESS)) (sym closed.book)
-    (subst (λ (value : Option ℕ). Knows before (record (told_machine self (wire_id brings.session) SUCCESS) { book = record self.host.book { outcome = Some SUCCESS }; confirmed = value }) lived devices
-    (T ++ told_entries self.host (wire_id brings.session) SUCCESS)) (sym closed.confirmed)
-    (subst (λ (more : List Entry). Knows before
-    (record (told_machine self (wire_id brings.session) SUCCESS) { book = record self.host.book { outcome = Some SUCCESS }; confirmed = Some (value_asked (Some brings.order)) }) lived devices
-    (T ++ Written Host ack_unit ∷ more)) (sym closed.entries)
-    (brings.then stamped)))))
+    let own : ℕ = wire_id brings.session in
+    let closed = told_closes self.host brings.session brings.status brings.command brings.order brings.final brings.carries brings.ordered brings.of_node in
+    let with_book : HostBook = record self.host.book { outcome = Some brings.status } in
+    let with_value : Option ℕ = confirmed_where (brings.status == SUCCESS) (value_asked (Some brings.order)) self.host.confirmed in
+    subst₂ (λ (i s : ℕ). Knows before (told_machine self i s) lived devices (T ++ told_entries self.host i s)) (sym id_is) (sym status_is)
+    (subst (λ (book : HostBook). Knows before (record (told_machine self own brings.status) { book = book }) lived devices (T ++ told_entries self.host own brings.status)) (sym closed.book)
+    (subst (λ (value : Option ℕ). Knows before (record (told_machine self own brings.status) { book = with_book; confirmed = value }) lived devices (T ++ told_entries self.host own brings.status)) (sym closed.confirmed)
+    (subst (λ (more : List Entry). Knows before (record (told_machine self own brings.status) { book = with_book; confirmed = with_value }) lived devices (T ++ Written Host ack_unit ∷ more)) (sym closed.entries)
+    (brings.then stamped))))
 
 -- neither the outcome nor the value shows a line
 store_lines : (success : Bool) (found : Option Order) → lines_run (if success then store_entries found else []) ≡ []
@@ -342,14 +336,14 @@ told_lines orders (Some closing) = store_lines (closing.status == SUCCESS) (orde
 -- the host judges a report of the first node
 pub told-goes : (self : World) (new : Machine) (node id status : ℕ) (payload : List ℕ) (entries entries' : List Entry) → 0 < length self.host.heard.items →
     FirstSays self.host.heard.items (Came node payload) → self.stamped ≡ true →
-    ((session : ℕ) → payload ≡ report_text (wire_id session) SUCCESS → (id ≡ wire_id session) × (status ≡ SUCCESS)) →
+    ((session told : ℕ) → IsStatus told → payload ≡ report_text (wire_id session) told → (id ≡ wire_id session) × (status ≡ told)) →
     new ≡ told_machine self id status → entries' ≡ entries ++ told_entries self.host id status → GoesOn (machine_of self) new entries entries'
 told-goes self new node id status payload entries entries' some says stamped reads is added =
     GoesOn-by (machine_of self) new entries entries' (told_entries self.host id status) (ap (λ (m : Machine). m.clock) is) added
     (told_lines self.host.orders (closing_of self.host id status))
     (λ before devices lived T knows.
     let came = came_is (machine_of self) node payload before devices lived T says (host_front before devices (machine_of self) lived T knows some) in
-    let same = reads came.0.session came.1.payload_is in
+    let same = reads came.0.session came.0.status came.0.known came.1.payload_is in
     subst (λ (m : Machine). Knows before m lived devices (T ++ told_entries self.host id status)) (sym is)
     (told-known self before devices lived T id status came.0 same.0 same.1 stamped))
 
@@ -377,8 +371,8 @@ dropped-goes self host message entries some says no_answer no_callback no_report
     front before devices lived T (inr (inr (inl calls))) =
         absurd (no_callback calls.callback calls.status (says (Good (Framed (callback_frame calls.callback calls.status))) (CalledBack calls.callback calls.status) calls.is refl))
     front before devices lived T (inr (inr (inr brings))) =
-        absurd (no_report first_node (report_text (wire_id brings.session) SUCCESS)
-        (says (Good (Framed (came_frame first_node (report_text (wire_id brings.session) SUCCESS)))) (Came first_node (report_text (wire_id brings.session) SUCCESS)) brings.is
+        absurd (no_report first_node (report_text (wire_id brings.session) brings.status)
+        (says (Good (Framed (came_frame first_node (report_text (wire_id brings.session) brings.status)))) (Came first_node (report_text (wire_id brings.session) brings.status)) brings.is
         ((omega arith, omega arith, omega arith), refl)))
 
 -- what the host judges once the tick is entered
@@ -416,7 +410,7 @@ judges-called self w acked host callback status x y z first is added called =
     (called-goes (machine_of w) callback status y z first.some first.says first.stamped added))
 
 pub judges-told : {T E : Type 0} (r : Result T E) (self w : World) (new : Machine) (node id status : ℕ) (payload : List ℕ) (x y z : List Entry) → Stamped self w (Came node payload) x y →
-    ((session : ℕ) → payload ≡ report_text (wire_id session) SUCCESS → (id ≡ wire_id session) × (status ≡ SUCCESS)) →
+    ((session told : ℕ) → IsStatus told → payload ≡ report_text (wire_id session) told → (id ≡ wire_id session) × (status ≡ told)) →
     OnOk r (new ≡ told_machine w id status) → OnOk r (z ≡ y ++ told_entries w.host id status) → OnOk r (GoesOn (machine_of self) new x z)
 judges-told r self w new node id status payload x y z first reads machine entries =
     OnOk-from r (new ≡ told_machine w id status) (z ≡ y ++ told_entries w.host id status) (GoesOn (machine_of self) new x z)
@@ -425,7 +419,7 @@ judges-told r self w new node id status payload x y z first reads machine entrie
     machine entries
 
 pub judges-unread : {T E : Type 0} (r : Result T E) (self w : World) (new : Machine) (node : ℕ) (payload : List ℕ) (x y z : List Entry) → Stamped self w (Came node payload) x y →
-    ((session : ℕ) → node ≡ first_node → payload ≡ report_text (wire_id session) SUCCESS → ⊥) →
+    ((session status : ℕ) → IsStatus status → node ≡ first_node → payload ≡ report_text (wire_id session) status → ⊥) →
     OnOk r (new ≡ thanked (machine_of w)) → OnOk r (z ≡ y ++ Written Host ack_unit ∷ []) → OnOk r (GoesOn (machine_of self) new x z)
 judges-unread r self w new node payload x y z first never machine entries =
     OnOk-from r (new ≡ thanked (machine_of w)) (z ≡ y ++ Written Host ack_unit ∷ []) (GoesOn (machine_of self) new x z)
@@ -435,15 +429,15 @@ judges-unread r self w new node payload x y z first never machine entries =
 
 -- the event that follows finds no memory
 pub stops-after : {T E : Type 0} (r : Result T E) (a b : Machine) (x y z : List Entry) → GoesOn a b x y → OnErr r (z ≡ y) → OnErr r (Stops a x z)
-stops-after r a b x y z goes same = OnErr-from r (z ≡ y) (Stops a x z) (λ e. Stops-after a b x y z goes (Stops-none b y z e)) same
+stops-after r a b x y z goes same = on_err_weaker r (λ (e : z ≡ y). Stops-after a b x y z goes (Stops-none b y z e)) same
 
 -- what is read of a report that came is its id and its status
 pub read_same : (result : Option (ℕ × ℕ)) (id status : ℕ) (bytes payload : List ℕ) → result ≡ Some (id, status) → bytes ≡ payload →
     ((id' status' : ℕ) → bytes ≡ report_text id' status' → id' < 64 → IsStatus status' → result ≡ Some (id', status')) →
-    (session : ℕ) → payload ≡ report_text (wire_id session) SUCCESS → (id ≡ wire_id session) × (status ≡ SUCCESS)
-read_same result id status bytes payload is same read session came =
-    let report : ℕ × ℕ = (wire_id session, SUCCESS) in
-    same_pair (id, status) report (sym is ∙ read (wire_id session) SUCCESS (same ∙ came) (omega arith) refl)
+    (session told : ℕ) → IsStatus told → payload ≡ report_text (wire_id session) told → (id ≡ wire_id session) × (status ≡ told)
+read_same result id status bytes payload is same read session told known came =
+    let report : ℕ × ℕ = (wire_id session, told) in
+    same_pair (id, status) report (sym is ∙ read (wire_id session) told (same ∙ came) (omega arith) known)
   where
     same_pair : (one other : ℕ × ℕ) → Some one ≡ Some other → (one.0 ≡ other.0) × (one.1 ≡ other.1)
     same_pair one other e =
@@ -453,8 +447,8 @@ read_same result id status bytes payload is same read session came =
 -- what is not read is no report
 pub never_read : (result : Option (ℕ × ℕ)) (bytes payload : List ℕ) → ((report : ℕ × ℕ) → result ≡ Some report → ⊥) → bytes ≡ payload →
     ((id' status' : ℕ) → bytes ≡ report_text id' status' → id' < 64 → IsStatus status' → result ≡ Some (id', status')) →
-    (session : ℕ) → payload ≡ report_text (wire_id session) SUCCESS → ⊥
-never_read result bytes payload none same read session came = none (wire_id session, SUCCESS) (read (wire_id session) SUCCESS (same ∙ came) (omega arith) refl)
+    (session told : ℕ) → IsStatus told → payload ≡ report_text (wire_id session) told → ⊥
+never_read result bytes payload none same read session told known came = none (wire_id session, told) (read (wire_id session) told (same ∙ came) (omega arith) known)
 
 -- the chip drops what it judged
 pub chip_dropped-goes : (self : World) (chip : ChipParts) (message : Message) (entries : List Entry) → 0 < length self.chip.heard.items → FirstSays self.chip.heard.items message →
@@ -499,19 +493,18 @@ pub judges-refused : {T E : Type 0} (r : Result T E) (self w new : World) (messa
     GoesOn (machine_of self) (machine_of w) x y → (w.chip.busy ≡ None → node ≡ first_node → ⊥) → OnOk r (new.clock ≡ w.clock) → AddsLines [] y z →
     OnOk r (GoesOn (machine_of self) (machine_of new) x z)
 judges-refused r self w new message node payload callback x y z some says is others goes never same_clock quiet =
-    OnOk-from r (new.clock ≡ w.clock) (new.clock ≡ w.clock) (GoesOn (machine_of self) (machine_of new) x z)
-    (λ clock clock'. GoesOn-then (machine_of self) (machine_of w) (machine_of new) x y z goes
+    on_ok_weaker r
+    (λ (clock : new.clock ≡ w.clock). GoesOn-then (machine_of self) (machine_of w) (machine_of new) x y z goes
     (refused-goes w (machine_of new) node payload callback y z
     (subst (λ (v : World). 0 < length v.chip.heard.items) (sym others) some)
     (subst (λ (m : Message). FirstSays w.chip.heard.items m) is (subst (λ (v : World). FirstSays v.chip.heard.items message) (sym others) says))
     never clock quiet))
-    same_clock same_clock
+    same_clock
 
 pub judges-taken : {T E : Type 0} (r : Result T E) (self w new : World) (x y z : List Entry) → GoesOn (machine_of self) (machine_of w) x y →
     OnOk r (GoesOn (machine_of w) (machine_of new) y z) → OnOk r (GoesOn (machine_of self) (machine_of new) x z)
 judges-taken r self w new x y z first more =
-    OnOk-from r (GoesOn (machine_of w) (machine_of new) y z) (GoesOn (machine_of w) (machine_of new) y z) (GoesOn (machine_of self) (machine_of new) x z)
-    (λ goes same. GoesOn-then (machine_of self) (machine_of w) (machine_of new) x y z first goes) more more
+    on_ok_weaker r (λ (goes : GoesOn (machine_of w) (machine_of new) y z). GoesOn-then (machine_of self) (machine_of w) (machine_of new) x y z first goes) more
 
 -- no test is both true and false
 pub not_both : (test : Bool) → IsTrue test → test ≡ false → ⊥

@@ -13,9 +13,9 @@ use Rattle.zw_text.specs.declared.entry.Entry.{Entry}
 use Rattle.zw_text.specs.declared.entry.Entry.TheVariants.{Written, Air, Heard, Unheard, Dev}
 use Rattle.zw_text.specs.declared.entry.Side.TheVariants.{Chip}
 use Rattle.zw_text.specs.Transcript.{AirFrame}
-use Rattle.zw_laws.specs.Answers.{first_node}
+use Rattle.zw_laws.specs.Nodes.{first_node}
 use Rattle.zw_laws.specs.Devices.{device_of}
-use Rattle.zw_laws.specs.Table.{switch}
+use Rattle.zw_laws.specs.Orders.{switch}
 use Rattle.world_facts.specs.Goes.{Goes}
 use Rattle.world_facts.specs.Facts.{Holds}
 use Rattle.world_facts.specs.Lives.{GoOn, Replaced}

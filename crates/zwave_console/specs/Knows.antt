@@ -6,7 +6,7 @@ use Rattle.supervision.specs.declared.session.TheConstants.{SUCCESS}
 use Rattle.device_sim.specs.State.{State}
 use Rattle.device_sim.specs.Hearing.{IsSupervisedSet, hears, takes, replies_of, report_text}
 use Rattle.zw_text.specs.declared.entry.Entry.{Entry}
-use Rattle.zw_laws.specs.Table.{switch}
+use Rattle.zw_laws.specs.Orders.{switch}
 use Rattle.world_facts.specs.Goes.{Goes}
 use Rattle.serial_frame.specs.declared.item.Item.{Item}
 use Rattle.zw_text.specs.declared.line.Line.{Line}

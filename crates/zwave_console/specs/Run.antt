@@ -11,10 +11,11 @@ use Rattle.zw_text.specs.declared.entry.Entry.{Entry}
 use Rattle.zw_text.specs.declared.entry.Entry.TheVariants.{BadLine as bad_line, TableEnd, TableNode}
 use Rattle.zw_text.specs.Entry.{text_of}
 use Rattle.zw_text.specs.Transcript.{lines_run}
-use Rattle.zw_laws.specs.Answers.{first_node}
+use Rattle.zw_laws.specs.Nodes.{first_node}
 use Rattle.zw_laws.specs.Devices.{device_of}
 use Rattle.zw_laws.specs.Headline.{IsAsMade, Headline}
-use Rattle.zw_laws.specs.Table.{switch, value_line, device_lines, table_of}
+use Rattle.zw_laws.specs.Orders.{switch}
+use Rattle.zw_laws.specs.Table.{value_line, device_lines, table_of}
 use Rattle.zw_laws.specs.Lines.{lines_of, AreLines, AreFirstLines, AreLinesBefore, ticks_asked}
 use Rattle.world_facts.specs.Facts.{Holds}
 use Rattle.world_facts.specs.Machine.{Machine, AtEase}

@@ -2,23 +2,17 @@
 use Rattle.std.specs.Prelude.{◌≡◌, ℕ, ◌==◌, if◌then◌else◌, List, [], ◌∷◌, ◌++◌, Option, Some, None}
 use Rattle.device_sim.specs.State.{State}
 use Rattle.zw_text.specs.declared.entry.Entry.TheVariants.{Out, Store}
-use Rattle.zw_laws.specs.Table.{switch}
+use Rattle.zw_laws.specs.Orders.{switch, switch_value}
+use Rattle.world_facts.specs.Tables.{ended_by}
 use Rattle.world_facts.specs.Machine.{Machine, Knows}
 use Rattle.world_facts.specs.Work.{IsPumped}
-use Rattle.zw_laws.specs.Orders.{switch_value}
 use Rattle.zwave_console.specs.Host.{order_at}
 use Rattle.zwave_console.specs.declared.host.Order.{Order}
 use Rattle.zwave_console.specs.declared.host.Closing.{Closing}
-use Rattle.supervision.specs.declared.session.TheConstants.{SUCCESS, FAIL}
+use Rattle.supervision.specs.declared.session.TheConstants.{SUCCESS}
 use Rattle.zw_text.specs.declared.line.Line.{Line}
 use Rattle.zw_text.specs.declared.entry.Entry.{Entry}
 use Rattle.zw_text.specs.Transcript.{lines_run}
-use Rattle.zw_text.specs.declared.entry.Ended.{Ended}
-use Rattle.zw_text.specs.declared.entry.Ended.TheVariants.{Success, Fail, NoSupport}
-
--- how a command ended whose session has this final status
-abbrev pub ended_by : ℕ → Ended
-ended_by status = if status == SUCCESS then Success else (if status == FAIL then Fail else NoSupport)
 
 -- the entry of the value that an order confirms
 abbrev pub store_entries : Option Order → List Entry

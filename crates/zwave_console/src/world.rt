@@ -1,7 +1,8 @@
 //! The world: host, chip, pipes, air and time. A line changes one part, and the world settles.
 
 ghost use Rattle.std.specs.Prelude.{true, false, ◌≡◌, ◌+◌, ◌^◌, ◌≤◌, ◌<◌, [], ◌∷◌, ◌++◌, length, map, Some, None, IfOk, OnOk, OnErr};
-ghost use Rattle.zw_laws.specs.Table.{switch, value_line};
+ghost use Rattle.zw_laws.specs.Orders.{switch};
+ghost use Rattle.zw_laws.specs.Table.{value_line};
 ghost use Rattle.zwave_console.specs.Run.{table_lines};
 ghost use Rattle.zwave_console.specs.World.{IsPumpedIfKnown};
 ghost use Rattle.zwave_console.specs.Knows.{States, line_of, machine_of, KnowsStamped, GoesUpTo};

@@ -2,7 +2,7 @@
 
 ghost use Rattle.std.specs.Prelude.{false, ◌≡◌, ◌⊎◌, ◌+◌, ◌^◌, ◌≤◌, ◌<◌, ℕ, [], ◌∷◌, ◌++◌, length, map, Some, None, OnOk, OnErr};
 ghost use Rattle.device_sim.specs.Hearing.{report_text, takes};
-ghost use Rattle.zw_laws.specs.Table.{switch};
+ghost use Rattle.zw_laws.specs.Orders.{switch};
 ghost use Rattle.zwave_console.specs.World.{AddsLines};
 ghost use Rattle.zwave_console.specs.Arriving.{AllFit, air_entries, flights};
 ghost use Rattle.zwave_console.specs.Knows.{States, frame_of, machine_of, HearsNew};

@@ -1,7 +1,7 @@
 //! Entries and settings that the world makes.
 
 ghost use Rattle.std.specs.Prelude.{◌≡◌};
-ghost use Rattle.zw_laws.specs.Table.{switch};
+ghost use Rattle.zw_laws.specs.Orders.{switch};
 
 use zw_base::{Bytes, EndPoint, Name, Property, Setting};
 use zw_text::{Entry, Side};

@@ -4,7 +4,8 @@ ghost use Rattle.std.specs.Prelude.{true, false, ◌≡◌, ◌+◌, ◌≤◌, 
 ghost use Rattle.supervision.specs.Session.{IsStatus};
 ghost use Rattle.device_sim.specs.Hearing.{report_text};
 ghost use Rattle.zwave_console.specs.Host.{opening_of, order_at, closing_of, told};
-ghost use Rattle.zwave_console.specs.World.{ended_by, closing_entries, IsPumpedIfKnown};
+ghost use Rattle.zwave_console.specs.World.{closing_entries, IsPumpedIfKnown};
+ghost use Rattle.world_facts.specs.Tables.{ended_by};
 ghost use Rattle.zwave_console.specs.Knows.{machine_of, FirstSays};
 ghost use Rattle.world_facts.specs.Machine.{GoesOn, Stops};
 ghost use Rattle.world_facts.specs.Units.{ack_unit};

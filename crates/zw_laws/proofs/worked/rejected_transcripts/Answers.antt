@@ -10,7 +10,7 @@ use Rattle.zw_laws.specs.Devices.Event.{Comes, Passes}
 use Rattle.zw_laws.specs.Frames.{HeardAt}
 use Rattle.zw_laws.specs.Once.{IsApplied, sessions_by}
 use Rattle.zw_laws.specs.Lists.{Has}
-use Rattle.zw_laws.specs.Table.{switch}
+use Rattle.zw_laws.specs.Orders.{switch}
 use Rattle.zw_laws.specs.Headline.{LastChange}
 use Rattle.zw_laws.specs.Worked.{switch_before, first_get, one_change, too_soon, switch_left_off}
 use Rattle.zw_laws.proofs.worked.rejected_transcripts.Goals as goal
@@ -24,7 +24,7 @@ some_waits number numbers none = cc
 
 pub returns-clause-unbegun : goal.returns-clause-unbegun
 returns-clause-unbegun c prompt =
-    some_waits 1 [] ((prompt.in_the_end refl (record { called_back = refl; acknowledged = refl })).begun 2 tt)
+    some_waits 1 [] ((prompt.in_the_end refl (record { called_back = refl; acknowledged = refl })).begun 2 refl tt)
 
 -- a device that hears nothing makes no change
 quiet : (events : List Event) (ticks : ℕ) (old new : State) (answers : List (List ℕ)) → comings ticks events ≡ [] → Runs old events new answers →

@@ -5,10 +5,8 @@ use Rattle.zw_base.specs.declared.property.By.TheVariants.{Session}
 use Rattle.device_sim.specs.declared.change.Change.{Change}
 use Rattle.device_sim.specs.State.{State, ticked}
 use Rattle.device_sim.specs.Hearing.{hears}
-use Rattle.zw_text.specs.declared.line.Line.TheVariants.{Set}
-use Rattle.zw_text.specs.declared.line.Word.TheVariants.{On}
 use Rattle.zw_text.specs.declared.entry.Entry.{Entry}
-use Rattle.zw_text.specs.Transcript.{accepted, sessions, outcome}
+use Rattle.zw_text.specs.Transcript.{outcome}
 use Rattle.zw_laws.specs.Answers.{waiting}
 use Rattle.zw_laws.specs.Devices.{RunsAsShown, Runs}
 use Rattle.zw_laws.specs.Devices.Event.{Comes, Passes}
@@ -16,15 +14,15 @@ use Rattle.zw_laws.specs.Headline.{IsDevice, ConfirmsLast, sets}
 use Rattle.zw_laws.specs.Lists.{EachAfter}
 use Rattle.zw_laws.specs.Once.{AreOrdered, IsUndone, Once}
 use Rattle.zw_laws.specs.Prompt.{MayGoOn, OwesNothing, IsPrompt}
-use Rattle.zw_laws.specs.Table.{switch}
+use Rattle.zw_laws.specs.Orders.{switch}
 use Rattle.zw_laws.specs.Worked.{switched_on, on, beginning, hearing, changing, answering, first_get, first_report, one_change, switch_before, switch_after}
 use Rattle.zw_laws.proofs.worked.worked_transcript.Goals as goal
 
 -- the one change makes what its command asks for
-ordered : (session : ℕ) → 1 ≡ session → AreOrdered (accepted 2 switched_on) (sessions 2 switched_on) session (on ∷ [])
+ordered : (session : ℕ) → 1 ≡ session → AreOrdered 2 switched_on session (on ∷ [])
 ordered session e =
-    subst (λ (s : ℕ). AreOrdered (accepted 2 switched_on) (sessions 2 switched_on) s (on ∷ [])) e
-    (record { number = 1; order = Set 2 0 On; begun_for = refl; ordered = refl; settings_are = refl })
+    subst (λ (s : ℕ). AreOrdered 2 switched_on s (on ∷ [])) e
+    (record { number = 1; begun_for = refl; accepted_for = inl refl; settings_are = refl })
 
 same_session : (s t : ℕ) → Session s ≡ Session t → s ≡ t
 same_session s t e = cc
@@ -36,7 +34,7 @@ once = record {
   commands_rise = (tt, tt);
   commands_accepted = (inl refl, tt);
   settings = λ change session has is. elim has [
-    | inl first ↦ subst (λ (c : Change). c.by ≡ Session session → AreOrdered (accepted 2 switched_on) (sessions 2 switched_on) session c.settings) first
+    | inl first ↦ subst (λ (c : Change). c.by ≡ Session session → AreOrdered 2 switched_on session c.settings) first
         (λ by. ordered session (same_session 1 session by)) is
     | inr never ↦ absurd never
   ];
@@ -101,7 +99,7 @@ runs_as_shown key = record {
 
 -- before any line nothing is owed
 owes_nothing_first : OwesNothing []
-owes_nothing_first = record { begun = λ node final. refl; sent = tt }
+owes_nothing_first = record { begun = λ node awake final. refl; sent = tt }
 
 -- nothing has been called back of what the host asked to send
 under_way : ◌≡◌ {A = ℕ} 0 1 → ⊥
@@ -128,7 +126,7 @@ none_waits node = elim (eqb_tells 2 node) [
 -- from the second tick on: the callback has come, and the report has not been written yet
 after_second : EachAfter MayGoOn up_to_second (drop 3 answering)
 after_second =
-    (λ rest. record { begun = λ node final. none_waits_second node; sent = (refl, tt) }, (tt, (tt, (tt, (tt, (tt, tt))))))
+    (λ rest. record { begun = λ node awake final. none_waits_second node; sent = (refl, tt) }, (tt, (tt, (tt, (tt, (tt, tt))))))
 
 -- from the second line on: the callback has not come when the first tick begins
 after_first : EachAfter MayGoOn beginning (hearing ++ (changing ++ answering))
@@ -138,7 +136,7 @@ after_first =
 prompt : IsPrompt true switched_on
 prompt = record {
   between = (λ rest. owes_nothing_first, (tt, (tt, (tt, (tt, (tt, (tt, (tt, after_first))))))));
-  in_the_end = λ whole rest. record { begun = λ node final. none_waits node; sent = (refl, tt) };
+  in_the_end = λ whole rest. record { begun = λ node awake final. none_waits node; sent = (refl, tt) };
 }
 
 -- the one change is the last one
@@ -164,6 +162,7 @@ returns-clause-headline c key = record {
   legal = record {
     lines_are = refl;
     answers = grind arith;
+    answered = tt;
     devices = is_switch key (λ node old new. RunsAsShown true node switched_on old new) (runs_as_shown key);
     frames = grind arith;
   };

@@ -1,12 +1,13 @@
 use Rattle.std.proofs.Common.{[], ap, ◌∙◌}
 use Rattle.zwave_console.specs.declared.world.World.{World}
 use Rattle.zwave_console.proofs.Adding.{AddsLines-append}
-use Rattle.zwave_console.proofs.Arriving.{enters_two, unheard_quietly}
+use Rattle.zwave_console.proofs.Entering.{entered-two}
+use Rattle.zwave_console.proofs.Arriving.{unheard_quietly}
 use Rattle.zwave_console.proofs.world.World.arrive_nowhere.Goals as goal
 
 pub returns-clause-entries : goal.returns-clause-entries
 returns-clause-entries c callback busy =
-    enters_two _ _ _ _ _ _ c.in_ok-reserve.ensures.items c.put.ensures.items (c.call_back.ensures.entries _ (c.in_ok-callback.ensures.unit callback busy))
+    entered-two _ _ _ _ _ _ c.in_ok-reserve.ensures.items c.put.ensures.items (c.call_back.ensures.entries _ (c.in_ok-callback.ensures.unit callback busy))
 
 pub returns-clause-quiet : goal.returns-clause-quiet
 returns-clause-quiet c =

@@ -6,7 +6,8 @@ use Rattle.serial_frame.specs.Frame.{FrameParts}
 use Rattle.serial_frame.specs.declared.unit.Unit.TheVariants.{Framed}
 use Rattle.world_facts.specs.Units.{ack_unit, take_unit}
 use Rattle.zwave_console.specs.Chip.{ChipParts}
-use Rattle.zwave_console.proofs.Judging.{written_after, put_first, put_after, sent_as, takes-goes}
+use Rattle.zwave_console.proofs.Entering.{put_first, put_after}
+use Rattle.zwave_console.proofs.Judging.{written_after, sent_as, takes-goes}
 use Rattle.zwave_console.proofs.world.World.chip_takes.Goals as goal
 
 pub returns-clause-goes : goal.returns-clause-goes

@@ -58,9 +58,9 @@ returns-in_default-report_of-clause-goes c =
     judges-unread _ c.args.self.now c.stamp-in-Came.new.self _ c.in-Came.node c.in-Came.payload _ c.stamp-in-Came.new.out.items _
     (stamped_first c.args.self.now c.stamp-in-Came.new.self _ _ _ _ c.requires.some c.requires.says c.in-Came.is ok.others ok.stamped ok.goes)
     (elim c.in_default-report_of.branch [
-      | in_default-report_of-via-in-Some+else-number-eq-FIRST_NODE w ↦ λ session of_node is. w.if-number-eq-FIRST_NODE.false (w.number.ensures.value ∙ of_node)
-      | in_default-report_of-via-in_default-report_of w ↦ λ session of_node is.
-          never_read c.report_of.result c.bytes.result.now c.in-Came.payload w.in_default-report_of.not-Some c.bytes.ensures.value c.report_of.ensures.read session is
+      | in_default-report_of-via-in-Some+else-number-eq-FIRST_NODE w ↦ λ session status known of_node is. w.if-number-eq-FIRST_NODE.false (w.number.ensures.value ∙ of_node)
+      | in_default-report_of-via-in_default-report_of w ↦ λ session status known of_node is.
+          never_read c.report_of.result c.bytes.result.now c.in-Came.payload w.in_default-report_of.not-Some c.bytes.ensures.value c.report_of.ensures.read session status known is
     ])
     c.host_acknowledges-in_default-report_of.ensures.machine c.host_acknowledges-in_default-report_of.ensures.entries
 
