@@ -10,6 +10,8 @@ use Rattle.supervision.specs.declared.session.TheConstants.{SUCCESS}
 use Rattle.device_sim.specs.State.{State, ticked}
 use Rattle.device_sim.specs.Hearing.{takes}
 use Rattle.zw_text.specs.declared.entry.Entry.{Entry}
+use Rattle.zw_text.specs.Transcript.{lines_run}
+use Rattle.zw_laws.specs.Lines.{ticks_asked}
 use Rattle.zw_laws.specs.Nodes.{first_node}
 use Rattle.zw_laws.specs.Devices.{device_of, RunsAsShown}
 use Rattle.zw_laws.specs.Headline.{IsDevice}
@@ -29,8 +31,8 @@ use Rattle.world_facts.proofs.FactsAir.{at_air}
 use Rattle.world_facts.proofs.FactsHears.{meet_one, succeeds, journals_taken}
 
 -- a run that came to its end
-pub Facts-whole : (before : List State) (T : List Entry) (w : World) → Facts before T w → IsAtEase w → Holds true before w.devices T
-Facts-whole before T w facts ease = Holds-whole facts ease
+pub Facts-whole : (before : List State) (T : List Entry) (w : World) → Facts before T w → IsAtEase w → w.clock ≡ ticks_asked (lines_run T) → Holds true before w.devices T
+Facts-whole before T w facts ease ticks = Holds-whole facts ease ticks
 
 -- the devices are as they were
 pub Facts-cut : (before : List State) (T : List Entry) (w : World) → Facts before T w → Holds false before w.devices T

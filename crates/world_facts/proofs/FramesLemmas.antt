@@ -1,5 +1,5 @@
 -- What each event makes of the facts on frames.
-use Rattle.std.proofs.Common.{◌≡◌, ◌≤◌, ℕ, zero, suc, ◌+◌, ◌-◌, List, [], ◌∷◌, ◌++◌, length, Some, refl, sym, ap, ◌∙◌, arith, append_assoc, append-nil, length-append}
+use Rattle.std.proofs.Common.{◌≡◌, ◌≤◌, ℕ, zero, suc, ◌+◌, ◌-◌, List, [], ◌∷◌, ◌++◌, length, Some, refl, sym, ap, ap₂, ◌∙◌, arith, append_assoc, append-nil, length-append}
 use Rattle.std.specs.Prelude.{⊤, slice_get}
 use Rattle.std.specs.List.{flat_map, AllByRecursion}
 use Rattle.std.proofs.lemmas.Grind.{flat_map-append}
@@ -14,7 +14,7 @@ use Rattle.zw_text.specs.declared.entry.Side.TheVariants.{Host, Chip}
 use Rattle.zw_text.specs.Transcript.{frame_at, frames}
 use Rattle.zw_laws.specs.Lists.{EachAfter}
 use Rattle.zw_laws.specs.Nodes.{first_node}
-use Rattle.zw_laws.specs.Units.{Sending, sendings, response_of, responses, taken_by}
+use Rattle.zw_laws.specs.Units.{Sending, sendings, response_of, responses, taken_by, sendings_taken}
 use Rattle.zw_laws.specs.Frames.{controller, sent_by, sent_from, MayAir}
 use Rattle.world_facts.specs.World.{ToChip, Carried, Flight, get_asked, get_carried, gets_flying}
 use Rattle.world_facts.specs.World.ToChip.{Asks, Acknowledges}
@@ -58,6 +58,18 @@ taken_next : (before : List Sending) (next : Sending) (rest : List Sending) →
     slice_get (taken_by (before ++ next ∷ rest) (all_taken before ++ 1 ∷ [])) (length before) ≡ Some next
 taken_next [] next rest = refl
 taken_next (first ∷ before) next rest = taken_next before next rest
+
+-- all that the chip took is on the air or was
+taken_all : (sent more : List Sending) → taken_by (sent ++ more) (all_taken sent) ≡ sent
+taken_all [] [] = refl
+taken_all [] (next ∷ more) = refl
+taken_all (first ∷ sent) more = ap (λ (s : List Sending). first ∷ s) (taken_all sent more)
+
+pub all_sent : (orders : List Line) (to_chip : List ToChip) (sent : ℕ) (flying : List Flight) (T : List Entry) → FramesShown orders to_chip sent flying T →
+    sent_from controller T ≡ sendings_taken T
+all_sent orders to_chip sent flying T facts =
+    sym (ap₂ (λ (asked : List Sending) (answers : List ℕ). taken_by asked answers) facts.asked facts.taken
+    ∙ taken_all (sent_from controller T) (flat_map (sending_asked orders) to_chip))
 
 -- the facts after more entries, where the requests that go off their way are taken and put on the air
 FramesShown-append : (orders : List Line) (to_chip to_chip' : List ToChip) (sent sent' : ℕ) (flying flying' : List Flight) (T es : List Entry) →

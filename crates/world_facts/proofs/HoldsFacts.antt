@@ -1,8 +1,10 @@
 -- What the facts say at the end of a run: what the headline says, but for the lines.
-use Rattle.std.proofs.Common.{◌≡◌, ℕ, Bool, true, false, List, Some, subst, sym, inl, inr, true≢false}
+use Rattle.std.proofs.Common.{◌≡◌, ℕ, Bool, true, false, List, Some, subst, sym, ◌∙◌, inl, inr, true≢false}
 use Rattle.std.proofs.lemmas.Bool.Decides.{eqb_tells}
 use Rattle.device_sim.specs.State.{State}
 use Rattle.zw_text.specs.declared.entry.Entry.{Entry}
+use Rattle.zw_text.specs.Transcript.{lines_run}
+use Rattle.zw_laws.specs.Lines.{ticks_asked}
 use Rattle.zw_laws.specs.Nodes.{first_node}
 use Rattle.zw_laws.specs.Devices.{RunsAsShown, device_of}
 use Rattle.zw_laws.specs.Headline.{IsDevice, ConfirmsLast}
@@ -13,6 +15,7 @@ use Rattle.world_facts.specs.Facts.{FactsButLives, Facts, IsAtEase, Holds}
 use Rattle.world_facts.proofs.LivesLemmas.{shown-whole}
 use Rattle.world_facts.specs.Work.{IsPumped}
 use Rattle.world_facts.proofs.TablesLemmas.{all_final, waiting_is, waiting_none}
+use Rattle.world_facts.proofs.FramesLemmas.{all_sent}
 use Rattle.world_facts.proofs.WorkLemmas.{owes_nothing}
 use Rattle.world_facts.proofs.OnceFacts.{Once-first, Once-other, Confirms-first, Confirms-other}
 
@@ -42,11 +45,12 @@ Confirms-each {transcript} {w} facts node device is =
 holds : (whole : Bool) (before : List State) {transcript : List Entry} {w : World} → FactsButLives transcript w →
     ((node : ℕ) (old new : State) → IsDevice node before w.devices old new → RunsAsShown whole node transcript old new) →
     (whole ≡ true → IsRest transcript → OwesNothing transcript) → Holds whole before w.devices transcript
-holds whole before facts runs owes = record {
+holds whole before {transcript} {w} facts runs owes = record {
   answers = facts.tables.answers;
   answered = facts.tables.answered;
   devices = runs;
   frames = facts.frames.carries;
+  all_sent = all_sent w.orders w.to_chip w.sent w.flying transcript facts.frames;
   prompt = record { between = facts.works.between; in_the_end = owes };
   sessions_keep = facts.tables.keeps;
   once = λ node old new is supervised. Once-each facts node new is.at_exit;
@@ -61,10 +65,10 @@ Facts-owe_nothing {transcript = transcript} {w = w} facts pumped =
     owes_nothing w.request w.to_chip w.busy w.to_host w.flying w.book w.waiting transcript most.works facts.on_the_way pumped
     (all_final most.kept most.tables) (waiting_is most.kept most.tables) (waiting_none most.kept most.tables)
 
--- a run that came to its end
-pub Holds-whole : {before : List State} {transcript : List Entry} {w : World} → Facts before transcript w → IsAtEase w → Holds true before w.devices transcript
-Holds-whole {before} {transcript} {w} facts ease =
-    holds true before facts.most (λ node old new is. shown-whole before w.lived w.devices transcript node old new facts.lives is)
+-- a run that came to its end, in which the ticks passed that its lines ask for
+pub Holds-whole : {before : List State} {transcript : List Entry} {w : World} → Facts before transcript w → IsAtEase w → w.clock ≡ ticks_asked (lines_run transcript) → Holds true before w.devices transcript
+Holds-whole {before} {transcript} {w} facts ease ticks =
+    holds true before facts.most (λ node old new is. shown-whole before w.lived w.devices transcript node old new facts.lives (ease.lived ∙ ticks) is)
     (λ e. Facts-owe_nothing facts ease.pumped)
 
 -- a run that was cut short

@@ -11,7 +11,8 @@ use Rattle.zw_text.specs.declared.line.Word.TheVariants.{Level}
 use Rattle.zw_text.specs.declared.entry.Entry.{Entry}
 use Rattle.zw_text.specs.declared.entry.Entry.TheVariants.{Echo, Accepted, Refused, TableEnd, TableNode}
 use Rattle.zw_text.specs.declared.entry.Refusal.TheVariants.{NotJoined, BadValue, MailboxFull}
-use Rattle.zw_text.specs.Transcript.{AirFrame}
+use Rattle.zw_text.specs.Transcript.{AirFrame, lines_run}
+use Rattle.zw_laws.specs.Lines.{ticks_asked}
 use Rattle.zw_laws.specs.Nodes.{first_node}
 use Rattle.zw_laws.specs.Devices.{device_of}
 use Rattle.zw_laws.specs.Headline.{IsAsMade}
@@ -30,7 +31,7 @@ use Rattle.world_facts.proofs.LineLemmas.{AreOnLine-none}
 use Rattle.world_facts.proofs.FramesLemmas.{IsOfOrder, ByRecursion-split, same_payload, same_frame}
 use Rattle.world_facts.proofs.OrdersLemmas.{all_of_order}
 use Rattle.world_facts.proofs.FactsLines.{IsNew, Facts-start, Facts-accepts, Facts-not_joined, Facts-bad_value, Facts-full, Facts-ticks}
-use Rattle.world_facts.proofs.TableLemmas.{table_is}
+use Rattle.world_facts.proofs.FinalTable.{table_is}
 use Rattle.world_facts.proofs.FactsExits.{Facts-whole, Facts-cut, Facts-cut_ticks}
 
 -- a device as it was made has taken nothing and changed nothing
@@ -146,8 +147,8 @@ Knows-ticks before devices m T count ease =
 
 -- ends
 
-pub Holds-at_ease : (before devices : List State) (m : Machine) (T : List Entry) → AtEase before m devices T → Holds true before devices T
-Holds-at_ease before devices m T ease = Facts-whole before T (parts before devices m T ease) ease.knows.facts (is_at_ease before devices m T ease)
+pub Holds-at_ease : (before devices : List State) (m : Machine) (T : List Entry) → AtEase before m devices T → m.clock ≡ ticks_asked (lines_run T) → Holds true before devices T
+Holds-at_ease before devices m T ease ticks = Facts-whole before T (parts before devices m T ease) ease.knows.facts (is_at_ease before devices m T ease) ticks
 
 pub Holds-held : (before devices : List State) (T : List Entry) → Held before devices T → Holds false before devices T
 Holds-held before devices T held = subst (λ (states : List State). Holds false before states T) held.devices_are (Facts-cut before T held.parts held.facts)

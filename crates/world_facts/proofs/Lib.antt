@@ -19,7 +19,7 @@ pub mod JournalsLemmas
 pub mod UnitsLemmas
 pub mod FramesLemmas
 pub mod WorkLemmas
-pub mod TableLemmas
+pub mod FinalTable
 pub mod OnceFacts
 pub mod HoldsFacts
 pub mod MessagesLemmas

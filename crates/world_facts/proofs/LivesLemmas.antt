@@ -14,9 +14,10 @@ use Rattle.device_sim.specs.State.{State, ticked}
 use Rattle.device_sim.specs.Hearing.{hears_as, id_of}
 use Rattle.zw_text.specs.declared.entry.Entry.{Entry}
 use Rattle.zw_text.specs.declared.entry.Entry.TheVariants.{Heard, Dev, Air, Time}
-use Rattle.zw_text.specs.Transcript.{AirFrame, Made, made, made_at, frames, frame_at, time_of, ticks, tick_at, last_number, where_same}
+use Rattle.zw_text.specs.Transcript.{AirFrame, Made, lines_run, made, made_at, frames, frame_at, time_of, ticks, tick_at, last_number, where_same}
 use Rattle.zw_text.proofs.TranscriptLemmas.{time_of-append}
 use Rattle.zw_laws.specs.Nodes.{first_node}
+use Rattle.zw_laws.specs.Lines.{ticks_asked}
 use Rattle.zw_laws.specs.Units.{Sending}
 use Rattle.zw_laws.specs.Frames.{HeardAt, controller, heard_as, heard_from, sent_by, sent_from}
 use Rattle.zw_laws.specs.Devices.{Event, Steps, Runs, comings, passings, made_by, device_of, RunsAsShown}
@@ -333,8 +334,8 @@ Lives-ticks before lived now past lives = record {
 
 -- where the transcript shows all that happened, each device went as it shows
 pub shown-whole : (before : List State) (lived : ℕ) (now : List State) (transcript : List Entry) (node : ℕ) (old new : State) →
-    Lives before lived now transcript → IsDevice node before now old new → RunsAsShown true node transcript old new
-shown-whole before lived now transcript node old new lives is =
+    Lives before lived now transcript → lived ≡ ticks_asked (lines_run transcript) → IsDevice node before now old new → RunsAsShown true node transcript old new
+shown-whole before lived now transcript node old new lives ticks is =
     let life : Lived node lived transcript old new = lives.each node old new is.at_entry is.at_exit in
     record {
       shown = life.events;
@@ -349,6 +350,7 @@ shown-whole before lived now transcript node old new lives is =
       changed = life.changed;
       entered = life.entered;
       answered = life.answered;
+      ticked = λ whole. life.passed ∙ ticks;
       all_shown = λ whole. refl;
     }
 
@@ -386,6 +388,7 @@ shown-cut before lived now later transcript node old new lives on is =
       changed = life.changed;
       entered = life.entered;
       answered = life.answered;
+      ticked = λ whole. cc;
       all_shown = λ whole. cc;
     }
 

@@ -5,7 +5,8 @@ use Rattle.zw_text.specs.declared.entry.Entry.{Entry}
 use Rattle.zw_text.specs.Transcript.{line_before}
 use Rattle.zw_laws.specs.Nodes.{first_node}
 use Rattle.zw_laws.specs.Answers.{AsksNothing, AnswersOrders}
-use Rattle.zw_laws.specs.Frames.{CarriesUnits}
+use Rattle.zw_laws.specs.Units.{sendings_taken}
+use Rattle.zw_laws.specs.Frames.{controller, sent_from, CarriesUnits}
 use Rattle.zw_laws.specs.Devices.{RunsAsShown, device_of}
 use Rattle.zw_laws.specs.Once.{KeepsSessions, Once}
 use Rattle.zw_laws.specs.Prompt.{IsPrompt}
@@ -50,6 +51,7 @@ pub record Holds (whole : Bool) (before after : List State) (transcript : List E
   pub answered : AsksNothing (line_before None transcript)
   pub devices : (node : ℕ) (old new : State) → IsDevice node before after old new → RunsAsShown whole node transcript old new
   pub frames : CarriesUnits transcript
+  pub all_sent : sent_from controller transcript ≡ sendings_taken transcript
   pub prompt : IsPrompt whole transcript
   pub sessions_keep : KeepsSessions transcript
   pub once : (node : ℕ) (old new : State) → IsDevice node before after old new → is_supervised new ≡ true → Once node transcript new.journal

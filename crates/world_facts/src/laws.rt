@@ -11,6 +11,8 @@ ghost use Rattle.supervision.specs.declared.host_node.Told.TheVariants.{Final};
 ghost use Rattle.supervision.specs.declared.device_book.Heard.TheVariants.{New, Again};
 ghost use Rattle.supervision.specs.Ends.{Get, Report};
 ghost use Rattle.zw_text.specs.declared.entry.Entry.{Entry};
+ghost use Rattle.zw_text.specs.Transcript.{lines_run};
+ghost use Rattle.zw_laws.specs.Lines.{ticks_asked};
 ghost use Rattle.zw_laws.specs.Nodes.{first_node};
 ghost use Rattle.zw_laws.specs.Devices.{device_of};
 ghost use Rattle.zw_laws.specs.Headline.{IsAsMade};
@@ -64,10 +66,11 @@ pub fn events_keep_facts()
         Facts before T w → w.lived + 1 ≡ w.clock → Facts before T (devices_tick w) }
 {}
 
-/// Where the facts hold, what the headline says holds: of a whole run between lines, and of one that is cut short at any
-/// moment.
+/// Where the facts hold, what the headline says holds: of a whole run between lines, in which the ticks passed that its lines
+/// ask for, and of one that is cut short at any moment.
 pub fn headline_follows()
-    ensures whole { (before : List State) (T : List Entry) (w : World) → Facts before T w → IsAtEase w → Holds true before w.devices T }
+    ensures whole { (before : List State) (T : List Entry) (w : World) → Facts before T w → IsAtEase w →
+        w.clock ≡ ticks_asked (lines_run T) → Holds true before w.devices T }
     ensures cut { (before : List State) (T : List Entry) (w : World) → Facts before T w → Holds false before w.devices T }
 {}
 

@@ -5,7 +5,8 @@ use Rattle.device_sim.specs.declared.change.Change.{Change}
 use Rattle.device_sim.specs.State.{State, ticked}
 use Rattle.device_sim.specs.Hearing.{IsSupervisedSet, hears, replies_of}
 use Rattle.zw_text.specs.declared.entry.Entry.{Entry}
-use Rattle.zw_text.specs.Transcript.{Made, made}
+use Rattle.zw_text.specs.Transcript.{Made, lines_run, made}
+use Rattle.zw_laws.specs.Lines.{ticks_asked}
 use Rattle.zw_laws.specs.Frames.{HeardAt, heard_by, sent_from, controller}
 
 -- what happens to a device: a payload comes, or a tick passes
@@ -48,8 +49,9 @@ device_of node [] = None
 device_of node (state ∷ states) = if state.node == node then Some state else device_of node states
 
 -- the device of a node went from its state at entry to that at exit as the transcript shows: by the payloads heard and
--- the ticks, in order; its changes are the `dev` entries, and its answers its frames to the controller. Where the run
--- was cut short by want of memory, the last of these may not be shown yet
+-- the ticks that the lines ask for, in order; its changes are the `dev` entries, and its answers its frames to the
+-- controller. Where the run was cut short by want of memory, the last of these may not be shown, and the last tick not
+-- have come
 pub record RunsAsShown (whole : Bool) (node : ℕ) (transcript : List Entry) (old new : State) : Type 0 where
   pub shown : List Event
   pub unshown : List Event
@@ -63,4 +65,5 @@ pub record RunsAsShown (whole : Bool) (node : ℕ) (transcript : List Entry) (ol
   pub changed : mid.journal ≡ old.journal ++ changes
   pub entered : made node transcript ≡ flat_map made_by changes
   pub answered : sent_from node transcript ≡ map (λ payload. record { node = controller; payload = payload }) answers
+  pub ticked : whole ≡ true → passings shown ≡ ticks_asked (lines_run transcript)
   pub all_shown : whole ≡ true → unshown ≡ []

@@ -15,7 +15,8 @@ use Rattle.zw_text.specs.declared.entry.Outcome.TheVariants.{Success}
 use Rattle.zw_text.specs.Transcript.{lines_run, line_before, sessions, outcome}
 use Rattle.zw_laws.specs.Once.{KeepsSessions, Once}
 use Rattle.zw_laws.specs.Answers.{AsksNothing, AnswersOrders}
-use Rattle.zw_laws.specs.Frames.{CarriesUnits}
+use Rattle.zw_laws.specs.Units.{sendings_taken}
+use Rattle.zw_laws.specs.Frames.{controller, sent_from, CarriesUnits}
 use Rattle.zw_laws.specs.Devices.{RunsAsShown, device_of}
 use Rattle.zw_laws.specs.Prompt.{IsPrompt}
 use Rattle.zw_laws.specs.Confirmed.{confirmed}
@@ -32,13 +33,14 @@ pub record IsDevice (node : ℕ) (before after : List State) (old new : State) :
   pub at_exit : device_of node after ≡ Some new
 
 -- a legal transcript of these lines: its lines, their answers (that of the last order is there too), its devices and its
--- frames
+-- frames (all that the chip took to send has gone on the air)
 pub record IsLegal (whole : Bool) (lines : List Line) (before after : List State) (transcript : List Entry) : Type 0 where
   pub lines_are : lines_run transcript ≡ lines
   pub answers : AnswersOrders transcript
   pub answered : AsksNothing (line_before None transcript)
   pub devices : (node : ℕ) (old new : State) → IsDevice node before after old new → RunsAsShown whole node transcript old new
   pub frames : CarriesUnits transcript
+  pub all_sent : sent_from controller transcript ≡ sendings_taken transcript
 
 -- whether a change gives a property a value
 abbrev pub sets : Change → Property → Bool

@@ -1,4 +1,5 @@
 pub mod Lists
+pub mod Lines
 pub mod Nodes
 pub mod Orders
 pub mod Once
@@ -9,6 +10,5 @@ pub mod Devices
 pub mod Prompt
 pub mod Confirmed
 pub mod Table
-pub mod Lines
 pub mod Headline
 pub mod Worked

@@ -99,6 +99,10 @@ uncarried = beginning ++ Air 2 1 2 [] first_get ∷ []
 abbrev pub refused_aired : List Entry
 refused_aired = asking ++ Written Chip (1 ∷ 4 ∷ 1 ∷ 0x13 ∷ 0 ∷ 0xE9 ∷ []) ∷ first_frame ∷ []
 
+-- a request that the chip took, and its frame is kept back
+abbrev pub kept_back : List Entry
+kept_back = asking ++ Written Chip (1 ∷ 4 ∷ 1 ∷ 0x13 ∷ 1 ∷ 0xE8 ∷ []) ∷ Written Host (6 ∷ []) ∷ []
+
 -- an order that has no answer before the next line
 abbrev pub unanswered : List Entry
 unanswered = Echo (Set 2 0 On) ∷ Echo (Tick 2) ∷ []
@@ -118,6 +122,10 @@ unshown = beginning ++ (hearing ++ answering)
 -- success before the device has heard the command, and so before it has changed
 abbrev pub too_soon : List Entry
 too_soon = beginning ++ Out 1 Success ∷ []
+
+-- the switch after it, but that it has lived a tick for which no line asks
+abbrev pub switch_aged : List ℕ → State
+switch_aged key = record (switch_after key) { clock = 3 }
 
 -- the switch after it, but that session 1, which asks for on, has set it to off
 abbrev pub switch_left_off : List ℕ → State

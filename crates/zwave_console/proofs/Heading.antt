@@ -13,9 +13,10 @@ use Rattle.world_facts.specs.Facts.{Holds}
 use Rattle.world_facts.specs.Goes.{Goes}
 use Rattle.world_facts.specs.Machine.{Machine, AtEase, first_machine}
 use Rattle.world_facts.proofs.KnowsLemmas.{Knows-first, Knows-tables, Holds-at_ease, Holds-held, Held-knows}
-use Rattle.zwave_console.specs.Knows.{States, GoesUpTo}
+use Rattle.zw_world.specs.Knows.{States, GoesUpTo}
 use Rattle.zwave_console.specs.Output.{AppendsFront}
-use Rattle.zwave_console.specs.Run.{AreAsMade, IsTable, table_lines}
+use Rattle.zw_world.specs.Table.{table_lines}
+use Rattle.zwave_console.specs.Run.{AreAsMade, IsTable}
 use Rattle.zwave_console.specs.RunLine.{LineRan, LineStopped}
 use Rattle.zwave_console.proofs.Writing.{AppendsFront-whole}
 
@@ -23,7 +24,7 @@ use Rattle.zwave_console.proofs.Writing.{AppendsFront-whole}
 pub Headline-holds : (whole : Bool) (lines : List Line) (before after : States) (transcript : List Entry) → lines_run transcript ≡ lines →
     Holds whole before after transcript → Headline whole lines before after transcript
 Headline-holds whole lines before after transcript shown holds = record {
-  legal = record { lines_are = shown; answers = holds.answers; answered = holds.answered; devices = holds.devices; frames = holds.frames };
+  legal = record { lines_are = shown; answers = holds.answers; answered = holds.answered; devices = holds.devices; frames = holds.frames; all_sent = holds.all_sent };
   prompt = holds.prompt;
   sessions_keep = holds.sessions_keep;
   once = holds.once;
@@ -37,9 +38,9 @@ Holds-cut before machine devices transcript ease =
     Holds-held before devices transcript (Held-knows before devices machine machine.clock transcript ease.knows)
 
 pub Holds-either : (whole : Bool) (before : States) (machine : Machine) (devices : States) (transcript : List Entry) → AtEase before machine devices transcript →
-    Holds whole before devices transcript
-Holds-either true before machine devices transcript ease = Holds-at_ease before devices machine transcript ease
-Holds-either false before machine devices transcript ease = Holds-cut before machine devices transcript ease
+    machine.clock ≡ ticks_asked (lines_run transcript) → Holds whole before devices transcript
+Holds-either true before machine devices transcript ease clock = Holds-at_ease before devices machine transcript ease clock
+Holds-either false before machine devices transcript ease clock = Holds-cut before machine devices transcript ease
 
 -- of devices as they were made all is known at first
 pub AtEase-first : (before : States) (machine : Machine) → machine ≡ first_machine → AreAsMade before → AtEase before machine before []

@@ -2,13 +2,5 @@ pub mod Cutting
 pub mod Writing
 pub mod Heading
 pub mod Running
-pub mod Adding
 pub mod Ending
 pub mod Words
-pub mod FirstDevice
-pub mod Beginning
-pub mod Entering
-pub mod Arriving
-pub mod Judging
-pub mod Passing
-pub mod Landing

@@ -15,7 +15,7 @@ use Rattle.zw_text.specs.Line.{LineText}
 use Rattle.zw_text.specs.Transcript.{lines_run, line_of}
 use Rattle.zw_laws.specs.Lines.{lines_of, AreLines, AreFirstLines, ticks_asked}
 use Rattle.world_facts.specs.Machine.{Machine, AtEase}
-use Rattle.zwave_console.specs.Knows.{States}
+use Rattle.zw_world.specs.Knows.{States}
 use Rattle.zwave_console.specs.Output.{AppendsFront}
 use Rattle.zwave_console.specs.Run.{LinesRan}
 use Rattle.zwave_console.specs.RunLine.{LineRan, LineStopped}
@@ -48,6 +48,11 @@ ticks_asked-more : (lines : List Line) (line : Line) → ticks_asked (lines ++ l
 ticks_asked-more [] line = omega arith
 ticks_asked-more (Set node end word ∷ lines) line = ticks_asked-more lines line
 ticks_asked-more (Tick count ∷ lines) line = let rest = ticks_asked-more lines line in omega (arith, rest)
+
+-- the clock after one more line
+clock_more : (lines : List Line) (line : Line) (first before last : ℕ) → before ≡ first + ticks_asked lines → last ≡ before + ticks_asked (line ∷ []) →
+    last ≡ first + ticks_asked (lines ++ line ∷ [])
+clock_more lines line first before last so_long more = omega (arith, so_long, more, ticks_asked-more lines line)
 
 lines_run-append : (xs ys : List Entry) → lines_run (xs ++ ys) ≡ lines_run xs ++ lines_run ys
 lines_run-append xs ys = flat_map-append line_of xs ys
@@ -149,7 +154,7 @@ module _ {number : ℕ} {input rest : List ℕ} {old mid : Machine} {devices dev
       },
       same ∙ unknown_word fault found is either,
     );
-    clock = tt;
+    clock = so_far.clock;
     known = so_far.known;
     written = so_far.written;
   }
@@ -179,10 +184,7 @@ module _ {number : ℕ} {input rest : List ℕ} {old mid : Machine} {devices dev
       read = AreLines-append so_far.front so_far.lines text line so_far.read is_line;
       count = let n : number ≡ length so_far.front = so_far.count in omega (arith, length-append so_far.front (text ∷ []));
       shown = shown_more ran.entries (line ∷ []) ran.shown;
-      clock =
-          let so_long = so_far.clock in
-          let more = ran.clock in
-          omega (arith, so_long, more, ticks_asked-more so_far.lines line);
+      clock = clock_more so_far.lines line old.clock mid.clock new.clock so_far.clock ran.clock;
       known = λ before ease. ran.known before so_far.transcript (so_far.known before ease);
       written = subst (λ (bytes : List ℕ). Appends sink sink'' bytes) (sym (text_of-append so_far.transcript ran.entries))
           (Appends-append sink sink' sink'' (text_of so_far.transcript) (text_of ran.entries) so_far.written ran.written);
@@ -196,7 +198,7 @@ module _ {number : ℕ} {input rest : List ℕ} {old mid : Machine} {devices dev
       lines = so_far.lines ++ line ∷ [];
       shown = shown_more ran.entries (line ∷ []) ran.shown;
       ended = first_more line is_line;
-      clock = tt;
+      clock = clock_more so_far.lines line old.clock mid.clock new.clock so_far.clock ran.clock;
       known = λ before ease. ran.known before so_far.transcript (so_far.known before ease);
       written = front_more sink'' ran.entries ran.written;
     }

@@ -62,10 +62,6 @@ lines_front a b c lines i line within at p q =
     subst (λ (bytes : List ℕ). AppendsFront a c bytes) (sym whole)
     (AppendsFront-more a c (before ++ line) after (AppendsFront-append a b c before line p q))
 
-pub OnErr-always : {T E : Type 0} (r : Result T E) (P : Type 0) → P → OnErr r P
-OnErr-always (Ok x) P p = tt
-OnErr-always (Err e) P p = p
-
 pub OnErr-is : {T E : Type 0} (r : Result T E) (P : Type 0) → is_err r ≡ true → OnErr r P → P
 OnErr-is (Ok x) P e p = absurd (grind arith)
 OnErr-is (Err e) P is p = p

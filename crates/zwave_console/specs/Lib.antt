@@ -1,12 +1,3 @@
-pub mod Bodies
-pub mod Pipe
-pub mod Inbox
-pub mod Air
-pub mod Chip
-pub mod Host
-pub mod World
-pub mod Knows
-pub mod Arriving
 pub mod Status
 pub mod Output
 pub mod RunLine

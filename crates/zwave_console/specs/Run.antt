@@ -8,18 +8,16 @@ use Rattle.zw_text.specs.declared.line.Line.{Line}
 use Rattle.zw_text.specs.declared.fault.LineFault.{LineFault}
 use Rattle.zw_text.specs.declared.fault.LineFault.TheVariants.{Unknown}
 use Rattle.zw_text.specs.declared.entry.Entry.{Entry}
-use Rattle.zw_text.specs.declared.entry.Entry.TheVariants.{BadLine as bad_line, TableEnd, TableNode}
+use Rattle.zw_text.specs.declared.entry.Entry.TheVariants.{BadLine as bad_line}
 use Rattle.zw_text.specs.Entry.{text_of}
 use Rattle.zw_text.specs.Transcript.{lines_run}
-use Rattle.zw_laws.specs.Nodes.{first_node}
-use Rattle.zw_laws.specs.Devices.{device_of}
 use Rattle.zw_laws.specs.Headline.{IsAsMade, Headline}
-use Rattle.zw_laws.specs.Orders.{switch}
-use Rattle.zw_laws.specs.Table.{value_line, device_lines, table_of}
+use Rattle.zw_laws.specs.Table.{table_of}
 use Rattle.zw_laws.specs.Lines.{lines_of, AreLines, AreFirstLines, AreLinesBefore, ticks_asked}
 use Rattle.world_facts.specs.Facts.{Holds}
 use Rattle.world_facts.specs.Machine.{Machine, AtEase}
-use Rattle.zwave_console.specs.Knows.{States}
+use Rattle.zw_world.specs.Knows.{States}
+use Rattle.zw_world.specs.Table.{table_lines}
 use Rattle.zwave_console.specs.Output.{AppendsFront}
 use Rattle.zwave_console.specs.declared.status.Status.{Status}
 use Rattle.zwave_console.specs.declared.status.Status.TheVariants.{Ok, Usage, BadLine, ReadFault, WriteFault, NoMemory, InputTooLong, BadHex}
@@ -47,11 +45,11 @@ EndsKnown (bad_met number fault) before machine devices transcript = AtEase befo
 EndsKnown write_failed before machine devices transcript = AtEase before machine devices transcript
 EndsKnown no_memory before machine devices transcript = Holds false before devices transcript
 
--- at the end of all lines the clock has gone on by the ticks that they ask for
+-- where the lines were run whole, the clock has gone on by the ticks that they ask for
 abbrev pub EndsClock : LinesEnd → ℕ → ℕ → List Line → Type 0
 EndsClock all_run old new lines = new ≡ old + ticks_asked lines
-EndsClock (bad_met number fault) old new lines = ⊤
-EndsClock write_failed old new lines = ⊤
+EndsClock (bad_met number fault) old new lines = new ≡ old + ticks_asked lines
+EndsClock write_failed old new lines = new ≡ old + ticks_asked lines
 EndsClock no_memory old new lines = ⊤
 
 -- the lines of an input were run up to this end, with a transcript that was written. Where the facts held before them,
@@ -105,13 +103,6 @@ is_whole (BadHex place) = true
 -- the devices are as their maker leaves them, with one network key
 abbrev pub AreAsMade : States → Type 0
 AreAsMade devices = (key : List ℕ) × AllByRecursion (IsAsMade key) devices
-
--- the lines of the final table: the clock, the sessions of the first node, its confirmed value where it has one, and what
--- is shown of its device, where there is one
-abbrev pub table_lines : ℕ → List ℕ → Option ℕ → States → List Entry
-table_lines clock sessions confirmed devices =
-    TableEnd clock ∷ TableNode first_node sessions
-    ∷ (value_line first_node switch confirmed ++ device_lines first_node (device_of first_node devices))
 
 -- the last lines have the form of the final table of the devices at exit, with the ticks that the lines ask for, and where
 -- the devices at entry were as made, they are the table after this transcript

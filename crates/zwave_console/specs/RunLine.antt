@@ -7,7 +7,7 @@ use Rattle.zw_text.specs.Transcript.{lines_run}
 use Rattle.zw_laws.specs.Lines.{ticks_asked}
 use Rattle.world_facts.specs.Facts.{Holds}
 use Rattle.world_facts.specs.Machine.{Machine, AtEase}
-use Rattle.zwave_console.specs.Knows.{States}
+use Rattle.zw_world.specs.Knows.{States}
 use Rattle.zwave_console.specs.Output.{AppendsFront}
 
 -- the line was run, with entries whose text was written so: the clock went on by the ticks that it asks for, and what was

@@ -1,27 +1,19 @@
 //! The console of the simulator: it reads a scenario and writes the transcript of all that it does.
 //!
-//! `run` is the whole of it, and its clause `headline` is the theorem of docs/THEOREM.md. Host, chip, line, air and devices
-//! stand in `world` and in the modules that it uses; the definitions that the clauses cite are those of `zw_laws`,
-//! `world_facts` and this crate's `specs/`. `main` makes the devices, the input and the output.
+//! `run` is the whole of it, and its clause `headline` is the theorem of docs/THEOREM.md. Host, chip, line and air stand in
+//! the crate `zw_world`; the definitions that the clauses cite are those of `zw_laws`, `world_facts`, `zw_world` and this
+//! crate's `specs/`. `main` makes the devices, the input and the output.
 #![tactic(auto)]
 
-mod air;
-mod bodies;
 mod chacha;
-mod chip;
 #[cfg(test)]
 mod edge_tests;
-mod host;
-mod inbox;
 mod input;
 mod output;
-mod pipe;
 mod run;
-mod session_get;
 mod status;
 #[cfg(test)]
 mod tests;
-mod world;
 
 use crate::chacha::ChaChaDraw;
 use crate::run::run;

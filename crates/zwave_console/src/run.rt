@@ -7,18 +7,19 @@ ghost use Rattle.zw_laws.specs.Lines.{lines_of};
 ghost use Rattle.zwave_console.specs.Output.{AppendsFront};
 ghost use Rattle.zw_text.specs.Entry.{text_of};
 ghost use Rattle.zw_text.specs.Line.{IsWithinRanges};
-ghost use Rattle.zwave_console.specs.Knows.{machine_of};
-ghost use Rattle.zwave_console.specs.Run.{LinesRan, EndsWell, EndsBadly, IsOfRun, IsSim, ReadsWhole, HasRun, table_lines};
+ghost use Rattle.zw_world.specs.Knows.{machine_of};
+ghost use Rattle.zw_world.specs.Table.{table_lines};
+ghost use Rattle.zwave_console.specs.Run.{LinesRan, EndsWell, EndsBadly, IsOfRun, IsSim, ReadsWhole, HasRun};
 ghost use Rattle.zwave_console.specs.RunLine.{LineRan, LineStopped};
 
 use crate::input::{InputFault, MAX_INPUT, read_input};
 use crate::output::{OutputFault, write_entries};
 use crate::status::Status;
-use crate::world::World;
 use device_sim::Device;
 use std::alloc::Global;
 use zw_base::{Draw, List, NoMemory, Sink, Source};
 use zw_text::{Entry, Line, LineFault, ReadLineFault, read_line};
+use zw_world::World;
 
 /// Runs the command that the words name: `sim` reads a scenario and writes the transcript of what it does.
 /// `devices` are those of the mesh, and `key` is the network key that they have.
@@ -215,7 +216,7 @@ fn end_well<K: Sink>(
     devices: &Vec<Box<dyn Device>>,
 ) -> Status
     requires { length devices.now.items < 2 ^ 64 }
-    ensures ended { EndsWell (table_lines world.now.clock world.now.host.book.commands world.now.host.confirmed
+    ensures ended { EndsWell (table_lines (machine_of world.now).clock (machine_of world.now).book.commands (machine_of world.now).confirmed
         (map (λ d. state d) devices.now.items)) result (K.written sink.old) (K.written sink.new) }
     ensures never_falls { K.faults sink.old ≤ K.faults sink.new }
     ensures failed { result ≡ Status.WriteFault → Rose (K.faults sink.old) (K.faults sink.new) }

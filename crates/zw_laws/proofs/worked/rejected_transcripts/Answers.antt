@@ -1,18 +1,21 @@
-use Rattle.std.proofs.Common.{◌≡◌, ℕ, suc, ◌+◌, List, [], ◌∷◌, refl, sym, ap, subst, ◌∙◌, inl, Option, Some}
+use Rattle.std.proofs.Common.{◌≡◌, ℕ, suc, ◌+◌, List, [], ◌∷◌, refl, sym, ap, subst, ◌∙◌, inl, Option, Some, add-zero, arith}
 use Rattle.std.specs.List.{flat_map}
 use Rattle.zw_base.specs.declared.property.By.TheVariants.{Session}
 use Rattle.device_sim.specs.declared.change.Change.{Change}
 use Rattle.device_sim.specs.State.{State}
-use Rattle.device_sim.specs.Hearing.{IsSupervisedSet, hears, get_text, set_text}
+use Rattle.device_sim.specs.Hearing.{IsSupervisedSet, hears, hears_as, id_of, get_text, set_text}
+use Rattle.supervision.specs.Device.{heard_of}
+use Rattle.supervision.specs.declared.device_book.Heard.{Heard}
+use Rattle.supervision.specs.declared.device_book.Heard.TheVariants.{New, Again, Old}
 use Rattle.zw_text.specs.Transcript.{sessions}
-use Rattle.zw_laws.specs.Devices.{Event, Runs, comings, made_by}
+use Rattle.zw_laws.specs.Devices.{Event, Runs, comings, passings, made_by}
 use Rattle.zw_laws.specs.Devices.Event.{Comes, Passes}
 use Rattle.zw_laws.specs.Frames.{HeardAt}
 use Rattle.zw_laws.specs.Once.{IsApplied, sessions_by}
 use Rattle.zw_laws.specs.Lists.{Has}
 use Rattle.zw_laws.specs.Orders.{switch}
 use Rattle.zw_laws.specs.Headline.{LastChange}
-use Rattle.zw_laws.specs.Worked.{switch_before, first_get, one_change, too_soon, switch_left_off}
+use Rattle.zw_laws.specs.Worked.{switch_before, first_get, one_change, too_soon, switch_aged, switch_left_off}
 use Rattle.zw_laws.proofs.worked.rejected_transcripts.Goals as goal
 
 pub returns-clause-unchanged : goal.returns-clause-unchanged
@@ -77,6 +80,37 @@ returns-clause-too_soon c key new run once =
     let journal : new.journal ≡ [] = ap (λ (s : State). s.journal) at_end ∙ quiet run.shown 0 (switch_before key) run.mid run.answers run.heard run.runs in
     let applied : IsApplied (sessions 2 too_soon) new.journal 1 = once.successful 1 (inl refl) refl in
     subst (λ (j : List Change). Has (sessions_by j) applied.session) journal applied.changed
+
+-- a Get that is heard lets no time pass
+hears_clock : (device : State) (flags value : ℕ) → (hears device flags value).clock ≡ device.clock
+hears_clock device flags value = heard_clock device (heard_of device.sessions (id_of flags)) value
+  where
+    heard_clock : (device : State) (meant : Heard) (value : ℕ) → (hears_as device meant value).clock ≡ device.clock
+    heard_clock device (New session) value = refl
+    heard_clock device (Again status) value = refl
+    heard_clock device Old value = refl
+
+-- a device has lived the ticks that passed
+lived : (events : List Event) (old new : State) (answers : List (List ℕ)) → Runs old events new answers → new.clock ≡ old.clock + passings events
+lived [] old new answers runs = ap (λ (s : State). s.clock) runs.0 ∙ sym (add-zero old.clock)
+lived (Comes payload ∷ events) old new answers runs =
+    let flags : ℕ = runs.3.0 in
+    let value : ℕ = runs.3.1 in
+    lived events runs.0 new runs.2 runs.4
+    ∙ ap (λ (n : ℕ). n + passings events) (ap (λ (s : State). s.clock) runs.3.3 ∙ hears_clock old flags value)
+lived (Passes ∷ events) old new answers runs =
+    let rest : new.clock ≡ runs.0.clock + passings events = lived events runs.0 new runs.2 runs.4 in
+    let tick : runs.0.clock ≡ old.clock + 1 = ap (λ (s : State). s.clock) runs.3.0 in
+    omega arith
+
+pub returns-clause-aged : goal.returns-clause-aged
+returns-clause-aged c key run =
+    let none : run.unshown ≡ [] = run.all_shown refl in
+    let at_end : switch_aged key ≡ run.mid = (subst (λ (es : List Event). Runs run.mid es (switch_aged key) run.unsent) none run.runs_on).0 in
+    let ticks : run.mid.clock ≡ 0 + passings run.shown = lived run.shown (switch_before key) run.mid run.answers run.runs in
+    let two : passings run.shown ≡ 2 = run.ticked refl in
+    let three : 3 ≡ run.mid.clock = ap (λ (s : State). s.clock) at_end in
+    omega (arith, ticks, two, three)
 
 -- on is not off
 on_not_off : ◌≡◌ {A = Option ℕ} (Some 255) (Some 0) → ⊥

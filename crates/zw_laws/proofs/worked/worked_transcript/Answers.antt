@@ -94,6 +94,7 @@ runs_as_shown key = record {
   changed = refl;
   entered = refl;
   answered = refl;
+  ticked = λ e. refl;
   all_shown = λ e. refl;
 }
 
@@ -165,6 +166,7 @@ returns-clause-headline c key = record {
     answered = tt;
     devices = is_switch key (λ node old new. RunsAsShown true node switched_on old new) (runs_as_shown key);
     frames = grind arith;
+    all_sent = refl;
   };
   prompt = prompt;
   sessions_keep = grind arith;

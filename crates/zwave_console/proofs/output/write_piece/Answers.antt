@@ -1,5 +1,6 @@
 use Rattle.std.proofs.Common.{arith}
-use Rattle.zwave_console.proofs.Writing.{written_within, written_front, written_more, OnErr-always}
+use Rattle.zw_world.proofs.Errors.{OnErr-always}
+use Rattle.zwave_console.proofs.Writing.{written_within, written_front, written_more}
 use Rattle.zwave_console.proofs.output.write_piece.Goals as goal
 
 pub returns-in_err-done-clause-front : goal.returns-in_err-done-clause-front

@@ -1,0 +1,10 @@
+pub mod Errors
+pub mod Adding
+pub mod FirstDevice
+pub mod Showing
+pub mod Beginning
+pub mod Entering
+pub mod Arriving
+pub mod Judging
+pub mod Passing
+pub mod Landing

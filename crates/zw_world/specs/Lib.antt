@@ -1,0 +1,10 @@
+pub mod Bodies
+pub mod Pipe
+pub mod Inbox
+pub mod Air
+pub mod Chip
+pub mod Host
+pub mod World
+pub mod Knows
+pub mod Arriving
+pub mod Table
