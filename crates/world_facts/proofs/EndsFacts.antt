@@ -7,11 +7,12 @@ use Rattle.supervision.specs.Device.{Taken, none_taken, heard_of}
 use Rattle.supervision.specs.Session.{wire_id}
 use Rattle.supervision.specs.declared.device_book.Heard.TheVariants.{New}
 use Rattle.supervision.specs.declared.host_node.Told.TheVariants.{Final}
-use Rattle.supervision.specs.Ends.{Get, Report, EndsAgree, GetFits, ReportFits, is_fresh_on_line}
+use Rattle.supervision.specs.Ends.{Get, Report, EndsAgree, GetFits, ReportFits, is_fresh, is_fresh_on_line}
 use Rattle.supervision.specs.declared.session.TheConstants.{SUCCESS, WORKING}
 use Rattle.supervision.proofs.EndsLemmas.{GetNames, ReportNames, get_in_time, report_in_time, report_near, all_taken, after_report-Final, EndsAgree-start, EndsAgree-begins, EndsAgree-taken, EndsAgree-finished, EndsAgree-reported, GetFits-sent, ReportFits-sent, open_session-Some}
 use Rattle.device_sim.specs.State.{State}
 use Rattle.world_facts.specs.Ends.{DeviceAgrees, EndsMeet, InTurn}
+use Rattle.world_facts.proofs.FramesLemmas.{ByRecursion-split}
 
 -- an age is told by a test: the test, and the fact that it tells
 
@@ -104,16 +105,28 @@ Meets-begins book command device meets none carries =
       };
     }
 
--- an id names one session: that of a Get at the device, and that of a report at the host
-pub get_names_one : (book : HostBook) (get : Get) (gets : List Get) (reports : List Report) (device : State) → EndsMeet book (get ∷ gets) reports (Some device) → GetNames device.sessions get
-get_names_one book get gets reports device meet =
-    let agrees : DeviceAgrees book reports device = meet.agrees device refl in
-    get_in_time book device.sessions get agrees.agree meet.gets_fit.0 (from_test (begun_of book) (get.begun + 61) meet.gets_fresh.0)
+-- what holds of each item of a list holds of one that stands among others
+all_at : {A : Type 0} (P : A → Type 0) (front : List A) (item : A) (back : List A) → AllByRecursion P (front ++ item ∷ back) → P item
+all_at P front item back all = (ByRecursion-split P front (item ∷ back) all).1.0
 
-pub report_names_one : (book : HostBook) (gets : List Get) (report : Report) (reports : List Report) (device : State) → EndsMeet book gets (report ∷ reports) (Some device) → ReportNames book device.sessions report
-report_names_one book gets report reports device meet =
-    let agrees : DeviceAgrees book (report ∷ reports) device = meet.agrees device refl in
-    report_in_time book device.sessions report agrees.agree agrees.reports_fit.0 (from_test (begun_of book) (report.begun + 62) meet.reports_fresh.0)
+-- each Get on its way fits what is begun
+pub get_fits : (book : HostBook) (front : List Get) (get : Get) (back : List Get) (reports : List Report) (device : Option State) → EndsMeet book (front ++ get ∷ back) reports device → GetFits book.commands get
+get_fits book front get back reports device meet = all_at (GetFits book.commands) front get back meet.gets_fit
+
+-- an id names one session, whatever else is on its way: that of each Get at the device, and that of each report at the host
+pub get_names_one : (book : HostBook) (front : List Get) (get : Get) (back : List Get) (reports : List Report) (device : Option State) (state : State) →
+    EndsMeet book (front ++ get ∷ back) reports device → device ≡ Some state → GetNames state.sessions get
+get_names_one book front get back reports device state meet here =
+    let fresh : IsTrue (is_fresh (begun_of book) get.begun) = all_at (λ (g : Get). IsTrue (is_fresh (begun_of book) g.begun)) front get back meet.gets_fresh in
+    get_in_time book state.sessions get (meet.agrees state here).agree (get_fits book front get back reports device meet) (from_test (begun_of book) (get.begun + 61) fresh)
+
+pub report_names_one : (book : HostBook) (gets : List Get) (front : List Report) (report : Report) (back : List Report) (device : Option State) (state : State) →
+    EndsMeet book gets (front ++ report ∷ back) device → device ≡ Some state → ReportNames book state.sessions report
+report_names_one book gets front report back device state meet here =
+    let agrees : DeviceAgrees book (front ++ report ∷ back) state = meet.agrees state here in
+    let fits : ReportFits (begun_of book) state.sessions report = all_at (ReportFits (begun_of book) state.sessions) front report back agrees.reports_fit in
+    let fresh : IsTrue (is_fresh_on_line (begun_of book) report.begun) = all_at (λ (r : Report). IsTrue (is_fresh_on_line (begun_of book) r.begun)) front report back meet.reports_fresh in
+    report_in_time book state.sessions report agrees.agree fits (from_test (begun_of book) (report.begun + 62) fresh)
 
 -- a device at rest takes the next session as new
 next_heard : (device : Taken) (session : ℕ) → session ≡ device.taken + 1 → device.status ≢ WORKING → heard_of device (wire_id session) ≡ New session
@@ -141,7 +154,7 @@ some_is a b e = cc
 pub Meets-heard : (book : HostBook) (get : Get) (session : ℕ) (old new : State) → Meets book (get ∷ []) [] (Some old) → heard_of old.sessions (wire_id get.session) ≡ New session → new.sessions ≡ record { taken = session; status = SUCCESS } → Meets book [] (record { session = session; status = SUCCESS; begun = begun_of book } ∷ []) (Some new)
 Meets-heard book get session old new meets new_session takes =
     let was : DeviceAgrees book [] old = meets.ends.agrees old refl in
-    let names : GetNames old.sessions get = get_names_one book get [] [] old meets.ends in
+    let names : GetNames old.sessions get = get_names_one book [] get [] [] (Some old) old meets.ends refl in
     let own : session ≡ get.session = (names.fresh session new_session).0 in
     let next : get.session ≡ old.sessions.taken + 1 = (names.fresh session new_session).1 in
     let fits : GetFits book.commands get = meets.ends.gets_fit.0 in
@@ -209,9 +222,10 @@ pub record ClosesLast (book : HostBook) (report : Report) (session : ℕ) (devic
   pub taken : device.sessions.taken ≡ begun_of book
   pub kept : device.sessions.status ≡ report.status
 
-pub closes_last : (book : HostBook) (gets : List Get) (report : Report) (reports : List Report) (session : ℕ) (device : State) → EndsMeet book gets (report ∷ reports) (Some device) → told_of book (wire_id report.session) report.status ≡ Final session → ClosesLast book report session device
-closes_last book gets report reports session device meet final =
-    let names : ReportNames book device.sessions report = report_names_one book gets report reports device meet in
+pub closes_last : (book : HostBook) (gets : List Get) (front : List Report) (report : Report) (back : List Report) (session : ℕ) (device : Option State) (state : State) →
+    EndsMeet book gets (front ++ report ∷ back) device → device ≡ Some state → told_of book (wire_id report.session) report.status ≡ Final session → ClosesLast book report session state
+closes_last book gets front report back session device state meet here final =
+    let names : ReportNames book state.sessions report = report_names_one book gets front report back device state meet here in
     let is = names.final session final in
     let last = open_session-Some book report.session is.1 in
     record {

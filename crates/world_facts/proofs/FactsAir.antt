@@ -27,6 +27,7 @@ use Rattle.world_facts.proofs.DevicesLemmas.{device_of-ticked, before_tick, none
 use Rattle.world_facts.proofs.JournalsLemmas.{Journals-ticks}
 use Rattle.world_facts.proofs.WorkLemmas.{Works-takes, Works-brings, Works-calls_back}
 use Rattle.world_facts.proofs.LivesLemmas.{Lives-asides, Lives-brings, Lives-ticks, IsInTime-lived, IsInTime-asides}
+use Rattle.world_facts.proofs.SucceedsLemmas.{Succeeds-more}
 use Rattle.world_facts.proofs.AsidesLemmas.{after_all, is_stamped, FramesShown-asides, Works-asides, Journals-asides}
 
 -- the devices live a tick
@@ -50,6 +51,7 @@ Facts-devices_tick before T w facts in_tick =
         frames = most.frames;
         journals = Journals-ticks T w.devices most.journals;
         works = most.works;
+        succeeds = most.succeeds;
       };
       on_the_way = facts.on_the_way;
       lives = Lives-ticks before w.lived w.devices T facts.lives;
@@ -84,6 +86,7 @@ Facts-takes before T w get callback rest facts stamped is = record {
         (Works-asides rest (Some callback) (w.to_host ++ Confirms ∷ Takes ∷ []) (T ++ written) (air ∷ []) (tt, tt)
         (Works-takes get callback rest w.to_host T
         (subst (λ (b : Option ℕ). Works (Asks get callback ∷ rest) b w.to_host T) (takes_when_idle before T w get callback rest facts is) most.works)));
+    succeeds = Succeeds-more T (take_entries w get) (tt, (tt, (tt, tt))) most.succeeds;
   };
   on_the_way = OnTheWay-takes w.request rest w.busy w.to_host w.flying get callback (w.sent + 1) at.on_the_way;
   lives = Lives-asides before w.lived w.devices T (take_entries w get) facts.lives (tt, (tt, (refl, tt)));
@@ -130,6 +133,7 @@ Facts-brings before T w number report rest facts stamped is = record {
         after_all (Works w.to_chip w.busy (w.to_host ++ Brings report ∷ [])) T (Heard number ∷ []) (Written Chip (bring_unit report) ∷ [])
         (Works-brings report w.to_chip w.busy w.to_host (T ++ Heard number ∷ [])
         (Works-asides w.to_chip w.busy w.to_host T (Heard number ∷ []) (tt, tt) most.works));
+    succeeds = Succeeds-more T (bring_entries number report) (tt, (tt, tt)) most.succeeds;
   };
   on_the_way = OnTheWay-brings w.request w.to_chip w.busy w.to_host rest number report at.on_the_way;
   lives =
@@ -186,6 +190,7 @@ Facts-unheard before T w number get rest callback facts stamped is busy none = r
         after_all (Works w.to_chip None (w.to_host ++ Calls_back callback 1 ∷ [])) T (Unheard number ∷ []) (Written Chip (callback_unit callback 1) ∷ [])
         (Works-calls_back callback 1 w.to_chip w.to_host (T ++ Unheard number ∷ [])
         (Works-asides w.to_chip (Some callback) w.to_host T (Unheard number ∷ []) (tt, tt) most.works));
+    succeeds = Succeeds-more T (unheard_entries number callback) (tt, (tt, tt)) most.succeeds;
   };
   on_the_way = OnTheWay-calls_back w.request w.to_chip w.to_host rest number get callback 1 at.on_the_way;
   lives = Lives-asides before w.lived w.devices T (unheard_entries number callback) facts.lives (tt, (tt, tt));

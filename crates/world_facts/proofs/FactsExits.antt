@@ -1,6 +1,6 @@
 -- What holds where a run ends: whole, or cut short by want of memory with the devices as they were, or after some of them
 -- ticked, or after the device heard a Get.
-use Rattle.std.proofs.Common.{◌≡◌, ℕ, zero, suc, true, false, List, [], ◌∷◌, ◌++◌, map, take, drop, Option, Some, None, inl, inr, refl, sym, ap, subst, ◌∙◌}
+use Rattle.std.proofs.Common.{◌≡◌, ℕ, zero, suc, ◌-◌, true, false, List, [], ◌∷◌, ◌++◌, map, take, drop, Option, Some, None, inl, inr, refl, sym, ap, subst, ◌∙◌}
 use Rattle.supervision.specs.Session.{wire_id}
 use Rattle.supervision.specs.Host.{begun_of}
 use Rattle.supervision.specs.Device.{heard_of}
@@ -10,22 +10,23 @@ use Rattle.supervision.specs.declared.session.TheConstants.{SUCCESS}
 use Rattle.device_sim.specs.State.{State, ticked}
 use Rattle.device_sim.specs.Hearing.{takes}
 use Rattle.zw_text.specs.declared.entry.Entry.{Entry}
-use Rattle.zw_text.specs.Transcript.{lines_run}
+use Rattle.zw_text.specs.Transcript.{AirFrame, lines_run}
 use Rattle.zw_laws.specs.Lines.{ticks_asked}
 use Rattle.zw_laws.specs.Nodes.{first_node}
 use Rattle.zw_laws.specs.Devices.{device_of, RunsAsShown}
 use Rattle.zw_laws.specs.Headline.{IsDevice}
 use Rattle.world_facts.specs.World.{World, Flight, gets, reports}
 use Rattle.world_facts.specs.World.Carried.{Carries_get}
-use Rattle.world_facts.specs.Units.{value_at}
-use Rattle.world_facts.specs.Lives.{GoOn, Replaced}
+use Rattle.world_facts.specs.Units.{value_at, get_payload}
+use Rattle.world_facts.specs.Frames.{air_frame}
+use Rattle.world_facts.specs.Lives.{OnlyPasses, OnlyComes, GoOn, Replaced}
 use Rattle.world_facts.specs.Facts.{FactsButLives, Facts, IsAtEase, Holds}
 use Rattle.world_facts.proofs.EndsFacts.{Meets, Meets-heard, Meets-unsent, Meets-same}
 use Rattle.world_facts.proofs.MessagesLemmas.{Meets-at, alone_flying}
 use Rattle.world_facts.proofs.FramesLemmas.{FramesShown-lands}
 use Rattle.world_facts.proofs.JournalsLemmas.{IsFrom, Journals-from}
 use Rattle.world_facts.proofs.DevicesLemmas.{same_or_other, device_of-here, device_of-past}
-use Rattle.world_facts.proofs.LivesLemmas.{shown-cut, GoOn-same, GoOn-ticked}
+use Rattle.world_facts.proofs.LivesLemmas.{shown-cut, GoOn-same, GoOn-ticked, passes_aired, comes_aired}
 use Rattle.world_facts.proofs.HoldsFacts.{Holds-whole, Holds-cut}
 use Rattle.world_facts.proofs.FactsAir.{at_air}
 use Rattle.world_facts.proofs.FactsHears.{meet_one, succeeds, journals_taken}
@@ -37,7 +38,7 @@ Facts-whole before T w facts ease ticks = Holds-whole facts ease ticks
 -- the devices are as they were
 pub Facts-cut : (before : List State) (T : List Entry) (w : World) → Facts before T w → Holds false before w.devices T
 Facts-cut before T w facts =
-    Holds-cut facts.most (λ node old new is. shown-cut before w.lived w.devices w.devices T node old new facts.lives (GoOn-same w.devices) is)
+    Holds-cut facts.most (λ node old new is. shown-cut OnlyPasses before w.lived w.devices w.devices T node old new facts.lives (passes_aired T) (GoOn-same OnlyPasses w.devices) is)
 
 -- the devices before a place ticked
 
@@ -91,16 +92,17 @@ Facts-cut_ticks before T w facts k = Holds-cut {w = record w { devices = some_ti
           frames = were.frames;
           journals = Journals-from T w.devices (some_ticked k w.devices) (λ node new is. from_ticked node k w.devices new is) were.journals;
           works = were.works;
+          succeeds = were.succeeds;
         }
 
     runs : (node : ℕ) (old new : State) → IsDevice node before (some_ticked k w.devices) old new → RunsAsShown false node T old new
-    runs node old new is = shown-cut before w.lived w.devices (some_ticked k w.devices) T node old new facts.lives (GoOn-ticked w.devices k) is
+    runs node old new is = shown-cut OnlyPasses before w.lived w.devices (some_ticked k w.devices) T node old new facts.lives (passes_aired T) (GoOn-ticked w.devices k) is
 
 -- the device heard the Get and changed, which the transcript does not show
 
 pub Facts-cut_hears : (before : List State) (T : List Entry) (w : World) (number : ℕ) (get : Get) (rest : List Flight) (device : State) (later : List State) → Facts before T w →
     w.flying ≡ record { number = number; carried = Carries_get get } ∷ rest → device_of first_node w.devices ≡ Some device → heard_of device.sessions (wire_id get.session) ≡ New get.session →
-    Replaced first_node w.devices later (takes device get.session (value_at w.orders get.command)) → GoOn w.devices later → Holds false before later T
+    Replaced first_node w.devices later (takes device get.session (value_at w.orders get.command)) → GoOn (OnlyComes first_node (get_payload w.orders get)) w.devices later → Holds false before later T
 Facts-cut_hears before T w number get rest device later facts is here new_session replaced on = Holds-cut {w = record w { flying = rest; devices = later }} most runs
   where
     flight : Flight
@@ -131,7 +133,13 @@ Facts-cut_hears before T w number get rest device later facts is here new_sessio
           frames = FramesShown-lands w.orders w.to_chip w.sent flight rest T were.frames;
           journals = journals_taken before T w number get rest device later facts is here new_session replaced;
           works = were.works;
+          succeeds = were.succeeds;
         }
 
+    frame : AirFrame
+    frame = air_frame w.orders number (Carries_get get)
+
     runs : (node : ℕ) (old last : State) → IsDevice node before later old last → RunsAsShown false node T old last
-    runs node old last is_device = shown-cut before w.lived w.devices later T node old last facts.lives on is_device
+    runs node old last is_device =
+        shown-cut (OnlyComes first_node (get_payload w.orders get)) before w.lived w.devices later T node old last facts.lives
+        (comes_aired T (number - 1) frame at.most.frames.flying_shown.0.1) on is_device

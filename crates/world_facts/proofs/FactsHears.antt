@@ -1,5 +1,6 @@
 -- A Get that comes to the device keeps the facts.
 use Rattle.std.proofs.Common.{◌≡◌, ℕ, ◌+◌, ◌<◌, ◌≤◌, true, List, [], ◌∷◌, ◌++◌, Option, Some, None, refl, sym, ap, subst, subst₂, ◌∙◌, arith}
+use Rattle.std.specs.List.{flat_map}
 use Rattle.zw_base.specs.declared.property.Setting.{Setting}
 use Rattle.zw_base.specs.declared.property.By.TheVariants.{Session}
 use Rattle.supervision.specs.Host.{begun_of, command_at}
@@ -8,8 +9,8 @@ use Rattle.supervision.specs.Session.{wire_id}
 use Rattle.supervision.specs.declared.device_book.Heard.{Heard as Meant}
 use Rattle.supervision.specs.declared.device_book.Heard.TheVariants.{New, Again}
 use Rattle.supervision.specs.declared.session.TheConstants.{SUCCESS}
-use Rattle.supervision.specs.Ends.{Get, EndsAgree}
-use Rattle.supervision.proofs.EndsLemmas.{command_at-Some}
+use Rattle.supervision.specs.Ends.{Get, EndsAgree, GetFits}
+use Rattle.supervision.proofs.EndsLemmas.{GetNames, command_at-Some}
 use Rattle.device_sim.specs.declared.change.Change.{Change}
 use Rattle.device_sim.specs.declared.kind.Kind.{Kind}
 use Rattle.device_sim.specs.declared.kind.Kind.TheVariants.{Switch}
@@ -26,7 +27,7 @@ use Rattle.zw_laws.specs.Devices.{device_of, Steps}
 use Rattle.zw_laws.specs.Devices.Event.{Comes}
 use Rattle.zw_laws.specs.Frames.{controller}
 use Rattle.zw_laws.specs.Orders.{switch}
-use Rattle.world_facts.specs.World.{World, Flight, gets, reports}
+use Rattle.world_facts.specs.World.{World, Flight, get_asked, gets_flying, gets, reports}
 use Rattle.world_facts.specs.World.ToHost.{Calls_back}
 use Rattle.world_facts.specs.World.Carried.{Carries_get, Carries_report}
 use Rattle.world_facts.specs.Units.{value_at, get_payload, report_payload, callback_unit}
@@ -39,7 +40,7 @@ use Rattle.world_facts.specs.Work.{Works}
 use Rattle.world_facts.specs.Events.{next_report, hear_entries, heard}
 use Rattle.world_facts.specs.Facts.{FactsButLives, Facts}
 use Rattle.world_facts.proofs.RequestLemmas.{OnTheWay-calls_back, OnTheWay-answers}
-use Rattle.world_facts.proofs.EndsFacts.{Meets, get_names_one, heard_new}
+use Rattle.world_facts.proofs.EndsFacts.{Meets, get_fits, get_names_one, heard_new}
 use Rattle.world_facts.proofs.MessagesLemmas.{Meets-hears, alone_flying}
 use Rattle.world_facts.proofs.KeptLemmas.{Has-at, begun_accepted}
 use Rattle.world_facts.proofs.OrdersLemmas.{supervised_set}
@@ -49,6 +50,7 @@ use Rattle.world_facts.specs.Lives.{Replaced}
 use Rattle.world_facts.proofs.JournalsLemmas.{Journals-hears}
 use Rattle.world_facts.proofs.WorkLemmas.{Works-calls_back}
 use Rattle.world_facts.proofs.LivesLemmas.{IsHeard, Lives-asides, Lives-hears, IsInTime-asides}
+use Rattle.world_facts.proofs.SucceedsLemmas.{Succeeds-more}
 use Rattle.world_facts.proofs.AsidesLemmas.{after_all, is_stamped, FramesShown-asides, Works-asides, Journals-asides}
 use Rattle.world_facts.proofs.FactsAir.{at_air, arrives}
 
@@ -57,7 +59,19 @@ pub record Hears (w : World) (get : Get) (device : State) : Type 0 where
   pub new : heard_of device.sessions (wire_id get.session) ≡ New get.session
   pub payload : IsSupervisedSet (get_payload w.orders get) (wire_id get.session) (value_at w.orders get.command)
 
--- the facts on both ends say of it
+-- the facts on both ends, where it comes to a device
+meet_first : (before : List State) (T : List Entry) (w : World) (number : ℕ) (get : Get) (rest : List Flight) → Facts before T w → w.flying ≡ record { number = number; carried = Carries_get get } ∷ rest →
+    EndsMeet w.book (flat_map get_asked w.to_chip ++ get ∷ gets_flying rest) (reports rest w.to_host) (device_of first_node w.devices)
+meet_first before T w number get rest facts is = (at_air before T w (record { number = number; carried = Carries_get get } ∷ rest) facts is).most.ends
+
+-- so its id names its own session alone, by its age
+names_first : (before : List State) (T : List Entry) (w : World) (number : ℕ) (get : Get) (rest : List Flight) (device : State) → Facts before T w →
+    w.flying ≡ record { number = number; carried = Carries_get get } ∷ rest → device_of first_node w.devices ≡ Some device → GetNames device.sessions get
+names_first before T w number get rest device facts is here =
+    get_names_one w.book (flat_map get_asked w.to_chip) get (gets_flying rest) (reports rest w.to_host) (device_of first_node w.devices) device
+    (meet_first before T w number get rest facts is) here
+
+-- where messages come in turn, it is on its way alone
 pub meet_one : (before : List State) (T : List Entry) (w : World) (number : ℕ) (get : Get) (rest : List Flight) (device : State) → Facts before T w →
     w.flying ≡ record { number = number; carried = Carries_get get } ∷ rest → device_of first_node w.devices ≡ Some device → Meets w.book (get ∷ []) [] (Some device)
 meet_one before T w number get rest device facts is here =
@@ -111,11 +125,14 @@ record IsNext (w : World) (get : Get) (device : State) : Type 0 where
   is_open : w.book.outcome ≡ None
   carries : command_at w.book.commands get.session ≡ Some get.command
 
-is_next : (w : World) (get : Get) (device : State) → EndsMeet w.book (get ∷ []) [] (Some device) → heard_of device.sessions (wire_id get.session) ≡ New get.session → IsNext w get device
-is_next w get device meet new =
-    let agree : EndsAgree w.book device.sessions = (meet.agrees device refl).agree in
-    let carries : command_at w.book.commands get.session ≡ Some get.command = meet.gets_fit.0.carries in
-    let next : get.session ≡ device.sessions.taken + 1 = ((get_names_one w.book get [] [] device meet).fresh get.session new).1 in
+is_next : (before : List State) (T : List Entry) (w : World) (number : ℕ) (get : Get) (rest : List Flight) (device : State) → Facts before T w →
+    w.flying ≡ record { number = number; carried = Carries_get get } ∷ rest → device_of first_node w.devices ≡ Some device → heard_of device.sessions (wire_id get.session) ≡ New get.session → IsNext w get device
+is_next before T w number get rest device facts is here new =
+    let agree : EndsAgree w.book device.sessions = (facts.most.ends.agrees device here).agree in
+    let fits : GetFits w.book.commands get =
+    get_fits w.book (flat_map get_asked w.to_chip) get (gets_flying rest) (reports rest w.to_host) (device_of first_node w.devices) (meet_first before T w number get rest facts is) in
+    let carries : command_at w.book.commands get.session ≡ Some get.command = fits.carries in
+    let next : get.session ≡ device.sessions.taken + 1 = ((names_first before T w number get rest device facts is here).fresh get.session new).1 in
     let within : get.session ≤ begun_of w.book = (command_at-Some w.book.commands get.session get.command carries).1 in
     let behind : begun_of w.book ≤ device.sessions.taken + 1 = agree.one_behind in
     record {
@@ -138,7 +155,7 @@ journals_taken before T w number get rest device later facts is here new replace
     let kept : Kept w.orders w.waiting w.book = facts.most.kept in
     let tables : Tables w.orders w.waiting w.book w.confirmed T = facts.most.tables in
     let value : ℕ = value_at w.orders get.command in
-    let known : IsNext w get device = is_next w get device (meet_one before T w number get rest device facts is here).ends new in
+    let known : IsNext w get device = is_next before T w number get rest device facts is here new in
     let next : get.session ≡ device.sessions.taken + 1 = known.next in
     let carries : command_at (sessions first_node T) (device.sessions.taken + 1) ≡ Some get.command =
     subst₂ (λ (commands : List ℕ) (n : ℕ). command_at commands n ≡ Some get.command) (sym tables.sessions_are) next known.carries in
@@ -184,6 +201,7 @@ hears_own before T w number get rest callback device devices facts stamped in_ti
         after_all (Works w.to_chip None (w.to_host ++ Calls_back callback 0 ∷ [])) T (heard_first ∷ made ∷ air ∷ []) (told ∷ [])
         (Works-calls_back callback 0 w.to_chip w.to_host (T ++ heard_first ∷ made ∷ air ∷ [])
         (Works-asides w.to_chip (Some callback) w.to_host T (heard_first ∷ made ∷ air ∷ []) (tt, (tt, (tt, tt))) most.works));
+    succeeds = Succeeds-more T entries (tt, (tt, (tt, (tt, tt)))) most.succeeds;
   };
   on_the_way =
       OnTheWay-answers w.request w.to_chip None (w.to_host ++ Calls_back callback 0 ∷ []) rest (w.sent + 1) (next_report w get.session)
@@ -257,12 +275,12 @@ pub own_again : (before : List State) (T : List Entry) (w : World) (number : ℕ
     w.flying ≡ record { number = number; carried = Carries_get get } ∷ rest → device_of first_node w.devices ≡ Some device → heard_of device.sessions (wire_id get.session) ≡ Again status →
     get.session ≡ device.sessions.taken
 own_again before T w number get rest device status facts is here again =
-    (get_names_one w.book get [] [] device (meet_one before T w number get rest device facts is here).ends).again status again
+    (names_first before T w number get rest device facts is here).again status again
 
 pub own_session : (before : List State) (T : List Entry) (w : World) (number : ℕ) (get : Get) (rest : List Flight) (device : State) (session : ℕ) → Facts before T w →
     w.flying ≡ record { number = number; carried = Carries_get get } ∷ rest → device_of first_node w.devices ≡ Some device → heard_of device.sessions (wire_id get.session) ≡ New session → session ≡ get.session
 own_session before T w number get rest device session facts is here new =
-    ((get_names_one w.book get [] [] device (meet_one before T w number get rest device facts is here).ends).fresh session new).0
+    ((names_first before T w number get rest device facts is here).fresh session new).0
 
 pub Facts-hears : (before : List State) (T : List Entry) (w : World) (number : ℕ) (get : Get) (rest : List Flight) (callback : ℕ) (device : State) (devices : List State) (session : ℕ) → Facts before T w → w.stamped ≡ true →
     w.lived + 1 ≡ w.clock → w.flying ≡ record { number = number; carried = Carries_get get } ∷ rest → w.busy ≡ Some callback → device_of first_node w.devices ≡ Some device →

@@ -1,6 +1,7 @@
 -- What the host does keeps the facts: it begins sessions, acknowledges frames, and closes sessions.
-use Rattle.std.proofs.Common.{◌≡◌, ℕ, ◌+◌, ◌<◌, ◌==◌, Bool, true, false, List, [], ◌∷◌, ◌++◌, length, Option, Some, None, refl, sym, ap, subst, ◌∙◌, inl, inr}
+use Rattle.std.proofs.Common.{◌≡◌, ℕ, ◌+◌, ◌<◌, ◌==◌, Bool, true, false, List, [], ◌∷◌, ◌++◌, length, Option, Some, None, refl, sym, ap, subst, ◌∙◌, inl, inr, arith, append-nil}
 use Rattle.std.specs.List.{flat_map, AllByRecursion}
+use Rattle.std.proofs.lemmas.Grind.{flat_map-append}
 use Rattle.supervision.specs.Session.{IsStatus, wire_id}
 use Rattle.supervision.specs.Host.{HostBook, begins, begun_of, open_session, command_at, told_of}
 use Rattle.supervision.specs.declared.host_node.Told.TheVariants.{Final}
@@ -11,10 +12,12 @@ use Rattle.device_sim.specs.State.{State}
 use Rattle.zw_text.specs.declared.entry.Entry.{Entry}
 use Rattle.zw_text.specs.declared.entry.Entry.TheVariants.{Begin, Written, Out, Store, Time}
 use Rattle.zw_text.specs.declared.entry.Side.TheVariants.{Host}
-use Rattle.zw_text.specs.Transcript.{sessions}
+use Rattle.device_sim.specs.declared.change.Change.{Change}
+use Rattle.zw_text.specs.Transcript.{Command, Made, sessions, made, made_at}
 use Rattle.zw_laws.specs.Nodes.{first_node}
-use Rattle.zw_laws.specs.Lists.{Rises}
-use Rattle.zw_laws.specs.Devices.{device_of}
+use Rattle.zw_laws.specs.Lists.{Has, Rises}
+use Rattle.zw_laws.specs.Once.{numbers_of, session_by, AreOrdered, IsShownApplied, MayEnd, SucceedsAfterChange}
+use Rattle.zw_laws.specs.Devices.{made_by, device_of}
 use Rattle.zw_laws.specs.Orders.{switch}
 use Rattle.world_facts.specs.World.{World, ToChip, ToHost, gets, reports, reports_flying, report_told}
 use Rattle.world_facts.specs.World.ToChip.{Asks, Acknowledges}
@@ -22,8 +25,13 @@ use Rattle.world_facts.specs.World.ToHost.{Confirms, Takes, Calls_back, Brings}
 use Rattle.world_facts.specs.Units.{value_at, ask_unit, ack_unit}
 use Rattle.world_facts.specs.OnTheWay.{OnTheWay}
 use Rattle.world_facts.specs.Tables.{Tables, ended_by}
-use Rattle.world_facts.specs.Ends.{EndsMeet}
-use Rattle.world_facts.specs.Lives.{Journals}
+use Rattle.world_facts.specs.Kept.{Kept}
+use Rattle.world_facts.specs.Lives.{Lived, IsOfSession, EndsWith, JournalFits, Journals}
+use Rattle.world_facts.proofs.Appends.{EachAfter-append}
+use Rattle.world_facts.proofs.ListLemmas.{Has-all}
+use Rattle.world_facts.proofs.ChangesLemmas.{EndsWith-has}
+use Rattle.world_facts.proofs.DevicesLemmas.{device_of-all}
+use Rattle.world_facts.proofs.SucceedsLemmas.{IsNoEnd, may_end_by, Succeeds-more, last_shown, device_before}
 use Rattle.world_facts.specs.Frames.{FramesShown}
 use Rattle.world_facts.specs.Work.{Works}
 use Rattle.world_facts.specs.Events.{stamp_entries, stamps, next_get, begin_entries, begins_session, chip_drops, host_drops, ack_entries, answered, called, store_where, confirmed_where, close_entries, closes, tick_begins, tick_ends}
@@ -34,7 +42,7 @@ use Rattle.world_facts.proofs.KeptLemmas.{last_at, sessions_rise}
 use Rattle.world_facts.proofs.MessagesLemmas.{Meets-at, Meets-asks, Meets-acks, Meets-closes, alone_told}
 use Rattle.world_facts.proofs.OrdersLemmas.{Kept-begins, Kept-closes, carries_command, IsOrdered, ordered}
 use Rattle.world_facts.proofs.QuietLemmas.{IsAside}
-use Rattle.world_facts.proofs.TablesLemmas.{Tables-aside, Tables-asides, Tables-begins, Begins-shown, Tables-closes, Closes-shown}
+use Rattle.world_facts.proofs.TablesLemmas.{settings_are, Tables-aside, Tables-asides, Tables-begins, Begins-shown, Tables-closes, Closes-shown}
 use Rattle.world_facts.proofs.JournalsLemmas.{Journals-begins, Journals-closes}
 use Rattle.world_facts.proofs.FramesLemmas.{IsNoFrame, FramesShown-asks, FramesShown-acks, FramesShown-drops}
 use Rattle.world_facts.proofs.WorkLemmas.{IsNoWork, IsFrame, Works-time, Works-begins, Works-acks, Works-chip_drops, Works-host_drops}
@@ -56,6 +64,7 @@ Facts-stamps before T w facts unstamped =
         frames = FramesShown-asides w.orders w.to_chip w.sent w.flying T (stamp_entries w) (tt, tt) most.frames;
         journals = Journals-asides T (stamp_entries w) w.devices (tt, tt) most.journals;
         works = Works-time w.to_chip w.busy w.to_host T w.clock (Facts-owe_nothing facts (facts.unstamped unstamped)) most.works;
+        succeeds = Succeeds-more T (stamp_entries w) (tt, tt) most.succeeds;
       };
       on_the_way = facts.on_the_way;
       lives = Lives-asides before w.lived w.devices T (stamp_entries w) facts.lives (tt, tt);
@@ -68,7 +77,7 @@ pub Facts-tick_begins : (before : List State) (T : List Entry) (w : World) → F
 Facts-tick_begins before T w facts ease =
     let most : FactsButLives T w = facts.most in
     record {
-      most = record { kept = most.kept; ends = most.ends; in_turn = most.in_turn; tables = most.tables; frames = most.frames; journals = most.journals; works = most.works };
+      most = record { kept = most.kept; ends = most.ends; in_turn = most.in_turn; tables = most.tables; frames = most.frames; journals = most.journals; works = most.works; succeeds = most.succeeds };
       on_the_way = facts.on_the_way;
       lives = facts.lives;
       in_time = IsInTime-tick_begins (w.clock + 1) w.lived T;
@@ -80,7 +89,7 @@ pub Facts-tick_ends : (before : List State) (T : List Entry) (w : World) → Fac
 Facts-tick_ends before T w facts lived =
     let most : FactsButLives T w = facts.most in
     record {
-      most = record { kept = most.kept; ends = most.ends; in_turn = most.in_turn; tables = most.tables; frames = most.frames; journals = most.journals; works = most.works };
+      most = record { kept = most.kept; ends = most.ends; in_turn = most.in_turn; tables = most.tables; frames = most.frames; journals = most.journals; works = most.works; succeeds = most.succeeds };
       on_the_way = facts.on_the_way;
       lives = facts.lives;
       in_time = IsInTime-lived w.clock w.lived true T lived;
@@ -109,6 +118,7 @@ begins_at before T w command rest callback facts stamped closed = record {
         (Journals-asides (T ++ first ∷ []) (second ∷ []) w.devices (tt, tt)
         (Journals-begins command T (T ++ first ∷ []) w.devices (Begins-shown most.kept most.tables) most.journals));
     works = Works-begins w.orders (next_get w command) callback (begun_of w.book + 1) command w.to_chip w.busy w.to_host T most.works;
+    succeeds = Succeeds-more T (begin_entries w command callback) (tt, (tt, tt)) most.succeeds;
   };
   on_the_way = OnTheWay-begins w.to_chip w.busy w.to_host w.flying (next_get w command) callback facts.on_the_way;
   lives = Lives-asides before w.lived w.devices T (begin_entries w command callback) facts.lives (tt, (tt, tt));
@@ -154,6 +164,7 @@ chip_drops_at before T w rest facts =
         frames = FramesShown-drops w.orders rest w.sent w.flying T most.frames;
         journals = most.journals;
         works = Works-chip_drops rest w.busy w.to_host T most.works;
+        succeeds = most.succeeds;
       };
       on_the_way = OnTheWay-chip_drops w.request rest w.busy w.to_host w.flying facts.on_the_way;
       lives = facts.lives;
@@ -178,6 +189,7 @@ host_drops_at before T w rest facts =
         frames = most.frames;
         journals = most.journals;
         works = Works-host_drops w.to_chip w.busy rest T most.works;
+        succeeds = most.succeeds;
       };
       on_the_way = OnTheWay-host_drops w.request w.to_chip w.busy rest w.flying facts.on_the_way;
       lives = facts.lives;
@@ -209,6 +221,7 @@ acks_at before T w request frame rest facts stamped is none way =
         frames = FramesShown-acks w.orders w.to_chip w.sent w.flying T most.frames;
         journals = Journals-asides T ack_entries w.devices (tt, tt) most.journals;
         works = Works-acks w.to_chip w.busy frame rest T is most.works;
+        succeeds = Succeeds-more T ack_entries (tt, tt) most.succeeds;
       };
       on_the_way = way;
       lives = Lives-asides before w.lived w.devices T ack_entries facts.lives (tt, tt);
@@ -262,13 +275,13 @@ comes_what before T w report rest facts is =
       order_is = ordered w.orders w.waiting w.book report.session some.0 facts.most.kept carries;
     }
 
--- the session that it closes is the last one, which its device took, and ended with this status
+-- the session that it closes is the last one, which its device took, and ended with this status: its age tells, whatever
+-- else is on its way
 closes_by : (before : List State) (T : List Entry) (w : World) (report : Report) (rest : List ToHost) (session : ℕ) → Facts before T (record w { to_host = Brings report ∷ rest }) →
     told_of w.book (wire_id report.session) report.status ≡ Final session → (device : State) → device_of first_node w.devices ≡ Some device → ClosesLast w.book report session device
 closes_by before T w report rest session at final device here =
     let most : FactsButLives T (record w { to_host = Brings report ∷ rest }) = at.most in
-    let alone = alone_told w.book report w.to_chip w.flying rest (device_of first_node w.devices) (record { ends = most.ends; in_turn = most.in_turn }) in
-    closes_last w.book [] report [] session device (subst (λ (d : Option State). EndsMeet w.book [] (report ∷ []) d) here alone.2.ends) final
+    closes_last w.book (gets w.to_chip w.flying) (reports_flying w.flying) report (flat_map report_told rest) session (device_of first_node w.devices) device most.ends here final
 
 -- the session that a report closes is its own
 pub own_report : (before : List State) (T : List Entry) (w : World) (report : Report) (rest : List ToHost) (device : State) (session : ℕ) → Facts before T w → w.to_host ≡ Brings report ∷ rest →
@@ -277,6 +290,44 @@ own_report before T w report rest device session facts is here final =
     let by : ClosesLast w.book report session device =
     closes_by before T w report rest session (at_host before T w (Brings report ∷ rest) facts is) final device here in
     by.own
+
+-- the device that the report is of is shown to have changed by the session
+applied_shown : (before : List State) (T : List Entry) (w : World) (report : Report) (rest : List ToHost) (session command : ℕ) → Facts before T w → w.to_host ≡ Brings report ∷ rest →
+    told_of w.book (wire_id report.session) report.status ≡ Final session → command_at w.book.commands session ≡ Some command → report.status ≡ SUCCESS →
+    (device : Option State) → device_of first_node w.devices ≡ device → IsShownApplied (T ++ Written Host ack_unit ∷ []) command
+applied_shown before T w report rest session command facts is final carries ok None none =
+    let most : FactsButLives T (record w { to_host = Brings report ∷ rest }) = (at_host before T w (Brings report ∷ rest) facts is).most in
+    let alone = alone_told w.book report w.to_chip w.flying rest (device_of first_node w.devices) (record { ends = most.ends; in_turn = most.in_turn }) in
+    let nothing : length (report ∷ []) ≡ 0 = alone.2.ends.absent none in
+    absurd (omega (arith, nothing))
+applied_shown before T w report rest session command facts is final carries ok (Some device) here =
+    let kept : Kept w.orders w.waiting w.book = facts.most.kept in
+    let tables : Tables w.orders w.waiting w.book w.confirmed T = facts.most.tables in
+    let by : ClosesLast w.book report session device = closes_by before T w report rest session (at_host before T w (Brings report ∷ rest) facts is) final device here in
+    let fits : JournalFits first_node T device = facts.most.journals.first device here in
+    let own : session ≡ device.sessions.taken = by.last ∙ sym by.taken in
+    let some : 0 < session = (open_session-Some w.book session (told_of-Final w.book (wire_id report.session) report.status session final).0).1 in
+    let ends : EndsWith device.journal device.sessions.taken = fits.done (subst (λ (n : ℕ). 0 < n) own some) (by.kept ∙ ok) in
+    let of : IsOfSession first_node T ends.change = Has-all (IsOfSession first_node T) device.journal ends.change fits.ordered (EndsWith-has device.journal device.sessions.taken ends) in
+    let asked : AreOrdered first_node T of.session ends.change.settings = of.ordered in
+    let settings : ends.change.settings ≡ record { property = switch; value = value_at w.orders asked.number } ∷ [] =
+    asked.settings_are
+    ∙ settings_are kept tables asked.number (subst (λ (cs : List Command). Has (numbers_of cs) asked.number) (tables.accepted_are first_node) asked.accepted_for) in
+    let old = device_before first_node before w.devices device facts.lives.same_nodes here in
+    let life : Lived first_node w.lived T old.0 device = facts.lives.each first_node old.0 device old.1 here in
+    let new : old.0.journal ≡ [] = device_of-all (λ (one : State). one.journal ≡ []) first_node before old.0 facts.lives.unchanged old.1 in
+    let changes : device.journal ≡ life.changes = life.changed ∙ ap (λ (js : List Change). js ++ life.changes) new in
+    let shown : made first_node (T ++ Written Host ack_unit ∷ []) ≡ flat_map made_by device.journal =
+    flat_map-append (made_at first_node) T (Written Host ack_unit ∷ []) ∙ append-nil (made first_node T) ∙ life.entered ∙ ap (λ (cs : List Change). flat_map made_by cs) (sym changes) in
+    record {
+      node = first_node;
+      session = session;
+      begun_for = subst (λ (commands : List ℕ). command_at commands session ≡ Some command) (sym (Tables-aside (Written Host ack_unit) tt tables).sessions_are) carries;
+      changed =
+          subst (λ (items : List Made). Has (flat_map (λ (item : Made). session_by item.by) items) session) (sym shown)
+          (subst (λ (n : ℕ). Has (flat_map (λ (item : Made). session_by item.by) (flat_map made_by device.journal)) n) (sym own)
+          (last_shown device.journal device.sessions.taken (record { property = switch; value = value_at w.orders asked.number }) [] ends settings));
+    }
 
 -- entries of a confirmed value
 store_aside : (success : Bool) (value : ℕ) (P : Entry → Type 0) → P (Store first_node (record { property = switch; value = value })) → AllByRecursion P (store_where success value)
@@ -312,6 +363,11 @@ Facts-closes before T w report rest session command facts stamped is final carri
         after_all (Works (w.to_chip ++ Acknowledges ∷ []) w.busy rest) T (ack ∷ []) (out ∷ stores)
         (Works-asides (w.to_chip ++ Acknowledges ∷ []) w.busy rest (T ++ ack ∷ []) (out ∷ stores) (tt, store_aside success stored IsNoWork tt)
         (Works-acks w.to_chip w.busy (Brings report) rest T tt most.works));
+    succeeds =
+        after_all SucceedsAfterChange T (ack ∷ out ∷ []) stores
+        (Succeeds-more (T ++ ack ∷ out ∷ []) stores (store_aside success stored IsNoEnd tt)
+        (after_all SucceedsAfterChange T (ack ∷ []) (out ∷ [])
+        (EachAfter-append MayEnd [] (T ++ ack ∷ []) (out ∷ []) (Succeeds-more T (ack ∷ []) (tt, tt) most.succeeds) (may_end_by (T ++ ack ∷ []) command report.status applied, tt))));
   };
   on_the_way = OnTheWay-acks w.request w.to_chip w.busy (Brings report) rest w.flying refl at.on_the_way;
   lives = Lives-asides before w.lived w.devices T (close_entries w command report.status) facts.lives (tt, (tt, store_aside success stored IsPassing tt));
@@ -365,3 +421,7 @@ Facts-closes before T w report rest session command facts stamped is final carri
     taken state here =
         let by : ClosesLast w.book report session state = closes_by before T w report rest session at final state here in
         (by.taken ∙ ap length (sym after_ack.sessions_are), by.kept)
+
+    -- where it is reported successful, the device is shown to have changed by it
+    applied : report.status ≡ SUCCESS → IsShownApplied (T ++ ack ∷ []) command
+    applied ok = applied_shown before T w report rest session command facts is final carries ok (device_of first_node w.devices) refl

@@ -30,6 +30,7 @@ use Rattle.world_facts.proofs.DevicesLemmas.{device_of-all}
 use Rattle.world_facts.proofs.JournalsLemmas.{Journals-start, Journals-stays}
 use Rattle.world_facts.proofs.WorkLemmas.{IsNoWork, Works-start, Works-echo}
 use Rattle.world_facts.proofs.LivesLemmas.{IsAside, ShowsNoTick, Lives-start, Lives-asides, IsInTime-lived, IsInTime-asides}
+use Rattle.world_facts.proofs.SucceedsLemmas.{IsNoEnd, quiet_ends_none, Succeeds-more}
 use Rattle.world_facts.proofs.HoldsFacts.{Facts-owe_nothing}
 use Rattle.world_facts.proofs.AsidesLemmas.{after_all, is_stamped, FramesShown-asides, Works-asides}
 
@@ -47,9 +48,11 @@ Facts-start before new = record {
     frames = FramesShown-start;
     journals = Journals-start before (λ node state is. (device_of-all IsNew node before state new is).1);
     works = Works-start;
+    succeeds = tt;
   };
   on_the_way = OnTheWay-start;
-  lives = Lives-start before (ByRecursion-weaker IsNew (λ (device : State). 2 ≤ device.node) (λ device is. is.0) before new);
+  lives = Lives-start before (ByRecursion-weaker IsNew (λ (device : State). 2 ≤ device.node) (λ device is. is.0) before new)
+      (ByRecursion-weaker IsNew (λ (device : State). device.journal ≡ []) (λ device is. is.1.1) before new);
   in_time = IsInTime-lived 0 0 true [] refl;
   unstamped = λ off. is_stamped true refl off;
   ticks = inl refl;
@@ -74,6 +77,7 @@ Facts-accepts before T w word facts ease takes few = record {
         after_all (λ (t : List Entry). Works w.to_chip w.busy w.to_host t) T (Echo line ∷ []) (Accepted (length w.orders + 1) first_node ∷ [])
         (Works-asides w.to_chip w.busy w.to_host (T ++ Echo line ∷ []) (Accepted (length w.orders + 1) first_node ∷ []) (tt, tt)
         (Works-echo w.to_chip w.busy w.to_host T line (Facts-owe_nothing facts ease.pumped) most.works));
+    succeeds = Succeeds-more T entries (tt, (tt, tt)) most.succeeds;
   };
   on_the_way = facts.on_the_way;
   lives = Lives-asides before w.lived w.devices T entries facts.lives (tt, (tt, tt));
@@ -114,6 +118,7 @@ said before T w line more facts ease no_frame no_work aside no_tick quiet tables
             after_all (λ (t : List Entry). Works w.to_chip w.busy w.to_host t) T (Echo line ∷ []) more
             (Works-asides w.to_chip w.busy w.to_host (T ++ Echo line ∷ []) more no_work
             (Works-echo w.to_chip w.busy w.to_host T line (Facts-owe_nothing facts ease.pumped) most.works));
+        succeeds = Succeeds-more T (Echo line ∷ more) (tt, ByRecursion-weaker IsQuiet IsNoEnd quiet_ends_none more quiet) most.succeeds;
       };
       on_the_way = facts.on_the_way;
       lives = Lives-asides before w.lived w.devices T (Echo line ∷ more) facts.lives (tt, aside);

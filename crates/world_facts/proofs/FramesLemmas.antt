@@ -189,6 +189,7 @@ may_air_taken get callback orders rest sent flying T facts =
     let sent_are : sent_from controller (T ++ taking) ≡ sent_from controller T =
     sent_from-append controller T taking ∙ append-nil (sent_from controller T) in (
       ap (λ n. n + 1) (sym counted),
+      refl,
       rw (asked_are, taken_are, sent_are) (taken_next (sent_from controller T) asked (flat_map (sending_asked orders) rest)),
     )
 
@@ -218,7 +219,7 @@ FramesShown-answers report orders to_chip sent flying T facts =
     let flight : Flight = record { number = sent + 1; carried = Carries_report report } in
     FramesShown-append orders to_chip to_chip sent (sent + 1) flying (flying ++ flight ∷ []) T (air ∷ []) refl
     (append-nil (flat_map (sending_asked orders) to_chip)) refl
-    ((ap (λ n. n + 1) (sym facts.counted), tt), tt)
+    ((ap (λ n. n + 1) (sym facts.counted), refl, tt), tt)
     (ByRecursion-append (IsShown orders (T ++ air ∷ [])) flying (flight ∷ []) (shown_more orders T (air ∷ []) flying facts.flying_shown)
     (flight_shown orders sent (Carries_report report) T (air ∷ []) facts.counted refl, tt))
     facts

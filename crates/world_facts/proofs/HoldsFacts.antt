@@ -53,6 +53,7 @@ holds whole before {transcript} {w} facts runs owes = record {
   all_sent = all_sent w.orders w.to_chip w.sent w.flying transcript facts.frames;
   prompt = record { between = facts.works.between; in_the_end = owes };
   sessions_keep = facts.tables.keeps;
+  succeeds = facts.succeeds;
   once = λ node old new is supervised. Once-each facts node new is.at_exit;
   confirms = λ node old new is supervised. Confirms-each facts node new is.at_exit;
 }

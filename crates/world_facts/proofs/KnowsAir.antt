@@ -29,7 +29,7 @@ use Rattle.world_facts.specs.World.ToHost.{Calls_back, Brings}
 use Rattle.world_facts.specs.World.Carried.{Carries_get, Carries_report}
 use Rattle.world_facts.specs.Units.{value_at, get_payload, came_frame, callback_unit}
 use Rattle.world_facts.specs.Frames.{air_frame}
-use Rattle.world_facts.specs.Lives.{GoOn}
+use Rattle.world_facts.specs.Lives.{OnlyComes, GoOn}
 use Rattle.world_facts.specs.Work.{IsPumped}
 use Rattle.world_facts.specs.Events.{next_report, heard}
 use Rattle.world_facts.specs.Facts.{Facts, Holds}
@@ -101,7 +101,7 @@ pub record GetArrives (before devices : List State) (m : Machine) (lived : ℕ) 
       ∷ Air (m.sent + 1) first_node m.own_node [] (report_text (wire_id session) SUCCESS) ∷ Written Chip (callback_unit callback 0) ∷ [])
   -- the device took it, and want of memory kept that from being shown
   pub cut : (device : State) (later : List State) → device_of first_node devices ≡ Some device →
-      Replaced first_node devices later (takes device session value) → GoOn devices later → Holds false before later T
+      Replaced first_node devices later (takes device session value) → GoOn (OnlyComes first_node frame.payload) devices later → Holds false before later T
 
 -- a switch does all that it takes
 does_all : (kind : Kind) → status_of kind ≡ SUCCESS

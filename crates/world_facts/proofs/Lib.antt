@@ -12,6 +12,7 @@ pub mod OutcomesLemmas
 pub mod AnswersLemmas
 pub mod TablesLemmas
 pub mod DevicesLemmas
+pub mod SucceedsLemmas
 pub mod LivesLemmas
 pub mod ChangesLemmas
 pub mod JournalSteps

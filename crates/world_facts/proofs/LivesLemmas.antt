@@ -20,11 +20,11 @@ use Rattle.zw_laws.specs.Nodes.{first_node}
 use Rattle.zw_laws.specs.Lines.{ticks_asked}
 use Rattle.zw_laws.specs.Units.{Sending}
 use Rattle.zw_laws.specs.Frames.{HeardAt, controller, heard_as, heard_from, sent_by, sent_from}
-use Rattle.zw_laws.specs.Devices.{Event, Steps, Runs, comings, passings, made_by, device_of, RunsAsShown}
+use Rattle.zw_laws.specs.Devices.{Event, Steps, Runs, comings, passings, made_by, device_of, RunsAsShown, IsAired}
 use Rattle.zw_laws.specs.Devices.Event.{Comes, Passes}
 use Rattle.zw_laws.specs.Headline.{IsDevice}
-use Rattle.world_facts.specs.Lives.{Lived, Lives, GoesOn, GoOn, IsInTime, Replaced}
-use Rattle.world_facts.proofs.Appends.{heard_from-append}
+use Rattle.world_facts.specs.Lives.{Lived, Lives, GoOn, IsInTime, Replaced, OnlyPasses, OnlyComes, Moved}
+use Rattle.world_facts.proofs.Appends.{heard_from-append, ByRecursion-weaker}
 use Rattle.world_facts.proofs.DevicesLemmas.{same_or_other, device_of-node, device_of-all, device_of-here, device_of-past, device_of-ticked, nodes-ticked, before_tick}
 
 -- one run after another is a run
@@ -102,9 +102,11 @@ Lived-more node lived ticking past more old mid new life on = record {
 }
 
 -- at the start nothing has happened to the devices
-pub Lives-start : (before : List State) → AllByRecursion (λ (device : State). 2 ≤ device.node) before → Lives before 0 before []
-Lives-start before from_two = record {
+pub Lives-start : (before : List State) → AllByRecursion (λ (device : State). 2 ≤ device.node) before → AllByRecursion (λ (device : State). device.journal ≡ []) before →
+    Lives before 0 before []
+Lives-start before from_two unchanged = record {
   from_two = from_two;
+  unchanged = unchanged;
   same_nodes = refl;
   each = λ node old new is_old is_new. record {
     events = [];
@@ -152,6 +154,7 @@ Lives-quiet : (before : List State) (lived : ℕ) (now : List State) (past more 
     Lives before lived now past → ((node : ℕ) → 2 ≤ node → IsQuiet node past more) → Lives before lived now (past ++ more)
 Lives-quiet before lived now past more lives quiet = record {
   from_two = lives.from_two;
+  unchanged = lives.unchanged;
   same_nodes = lives.same_nodes;
   each = λ node old new is_old is_new.
       Lived-quiet node lived past more old new (lives.each node old new is_old is_new)
@@ -278,6 +281,7 @@ pub Lives-hears : (before : List State) (lived : ℕ) (now later : List State) (
     Lives before lived later (past ++ heard_entries number sent change setting reply)
 Lives-hears before lived now later past number sent change setting reply old new lives of_first hearing replaced = record {
   from_two = lives.from_two;
+  unchanged = lives.unchanged;
   same_nodes = replaced.same_nodes ∙ lives.same_nodes;
   each = λ node first last is_first is_last. elim (same_or_other node first_node) [
     | inl same ↦ heard_one node first last same is_first is_last
@@ -325,6 +329,7 @@ Lived-ticked node lived past old new life =
 pub Lives-ticks : (before : List State) (lived : ℕ) (now : List State) (past : List Entry) → Lives before lived now past → Lives before (lived + 1) (map ticked now) past
 Lives-ticks before lived now past lives = record {
   from_two = lives.from_two;
+  unchanged = lives.unchanged;
   same_nodes = nodes-ticked now ∙ lives.same_nodes;
   each = λ node old new is_old is_new.
       let mid = before_tick (device_of node now) new (sym (device_of-ticked node now) ∙ is_new) in
@@ -351,29 +356,43 @@ shown-whole before lived now transcript node old new lives ticks is =
       entered = life.entered;
       answered = life.answered;
       ticked = λ whole. life.passed ∙ ticks;
+      few = omega arith;
+      aired = tt;
       all_shown = λ whole. refl;
     }
 
 -- a device that went on was one before
-GoOn-device : (node : ℕ) (now later : List State) (new : State) → GoOn now later → device_of node later ≡ Some new →
-    (mid : State) × (device_of node now ≡ Some mid) × GoesOn mid new
-GoOn-device node [] [] new on is = cc
-GoOn-device node (old ∷ olds) (first ∷ rest) new on is = elim (same_or_other first.node node) [
+GoOn-device : (Allowed : State → Event → Type 0) (node : ℕ) (now later : List State) (new : State) → GoOn Allowed now later → device_of node later ≡ Some new →
+    (mid : State) × (device_of node now ≡ Some mid) × Moved Allowed mid new
+GoOn-device Allowed node [] [] new on is = cc
+GoOn-device Allowed node (old ∷ olds) (first ∷ rest) new on is = elim (same_or_other first.node node) [
   | inl here ↦
       let first_is : first ≡ new = let at = device_of-here node first rest here in cc in
-      (old, device_of-here node old olds (sym on.0.same_node ∙ here), subst (λ (s : State). GoesOn old s) first_is on.0)
+      (old, device_of-here node old olds (sym on.0.same_node ∙ here), subst (λ (s : State). Moved Allowed old s) first_is on.0)
   | inr past ↦
-      let found = GoOn-device node olds rest new on.1 (sym (device_of-past node first rest past) ∙ is) in
+      let found = GoOn-device Allowed node olds rest new on.1 (sym (device_of-past node first rest past) ∙ is) in
       (found.0, device_of-past node old olds (λ e. past (on.0.same_node ∙ e)) ∙ found.1, found.2)
 ]
-GoOn-device node [] (first ∷ rest) new on is = absurd on
-GoOn-device node (old ∷ olds) [] new on is = absurd on
+GoOn-device Allowed node [] (first ∷ rest) new on is = absurd on
+GoOn-device Allowed node (old ∷ olds) [] new on is = absurd on
+
+-- a tick that is not shown may have passed, and a frame on the air that is not shown as heard may have come
+pub passes_aired : (transcript : List Entry) (device : State) (event : Event) → OnlyPasses device event → IsAired device.node transcript event
+passes_aired transcript device Passes only = tt
+passes_aired transcript device (Comes payload) only = absurd only
+
+pub comes_aired : (transcript : List Entry) (place : ℕ) (frame : AirFrame) → slice_get (frames transcript) place ≡ Some frame →
+    (device : State) (event : Event) → OnlyComes frame.receiver frame.payload device event → IsAired device.node transcript event
+comes_aired transcript place frame shown device Passes only = absurd only
+comes_aired transcript place frame shown device (Comes payload) only = (place, frame, shown, sym only.0, sym only.1)
 
 -- where the devices went on by what the transcript does not show, each went as it shows so far
-pub shown-cut : (before : List State) (lived : ℕ) (now later : List State) (transcript : List Entry) (node : ℕ) (old new : State) →
-    Lives before lived now transcript → GoOn now later → IsDevice node before later old new → RunsAsShown false node transcript old new
-shown-cut before lived now later transcript node old new lives on is =
-    let found = GoOn-device node now later new on is.at_exit in
+pub shown-cut : (Allowed : State → Event → Type 0) (before : List State) (lived : ℕ) (now later : List State) (transcript : List Entry) (node : ℕ) (old new : State) →
+    Lives before lived now transcript → ((device : State) (event : Event) → Allowed device event → IsAired device.node transcript event) →
+    GoOn Allowed now later → IsDevice node before later old new → RunsAsShown false node transcript old new
+shown-cut Allowed before lived now later transcript node old new lives aired on is =
+    let found = GoOn-device Allowed node now later new on is.at_exit in
+    let at_node : found.0.node ≡ node = device_of-node node now found.0 found.1 in
     let life : Lived node lived transcript old found.0 = lives.each node old found.0 is.at_entry found.1 in
     record {
       shown = life.events;
@@ -389,13 +408,17 @@ shown-cut before lived now later transcript node old new lives on is =
       entered = life.entered;
       answered = life.answered;
       ticked = λ whole. cc;
+      few = found.2.few;
+      aired = subst (λ (n : ℕ). AllByRecursion (IsAired n transcript) found.2.events) at_node
+          (ByRecursion-weaker (Allowed found.0) (IsAired found.0.node transcript) (aired found.0) found.2.events found.2.allowed);
       all_shown = λ whole. cc;
     }
 
 -- devices to which nothing happened
-pub GoOn-same : (now : List State) → GoOn now now
-GoOn-same [] = tt
-GoOn-same (first ∷ rest) = (record { events = []; answers = []; runs = (refl, refl); same_node = refl }, GoOn-same rest)
+pub GoOn-same : (Allowed : State → Event → Type 0) (now : List State) → GoOn Allowed now now
+GoOn-same Allowed [] = tt
+GoOn-same Allowed (first ∷ rest) =
+    (record { events = []; answers = []; runs = (refl, refl); few = omega arith; allowed = tt; same_node = refl }, GoOn-same Allowed rest)
 
 hears_as-node : (device : State) (meant : Meant) (value : ℕ) → (hears_as device meant value).node ≡ device.node
 hears_as-node device (New session) value = refl
@@ -409,30 +432,34 @@ hears-node old new payload replies steps =
 
 -- one device heard a payload
 pub GoOn-heard : (now : List State) (place : ℕ) (old new : State) (payload : List ℕ) (replies : List (List ℕ)) →
-    slice_get now place ≡ Some old → Steps old (Comes payload) new replies → GoOn now (set now place new)
+    slice_get now place ≡ Some old → Steps old (Comes payload) new replies → GoOn (OnlyComes old.node payload) now (set now place new)
 GoOn-heard [] place old new payload replies is steps = cc
 GoOn-heard (first ∷ rest) zero old new payload replies is steps =
     let old_is : old ≡ first = cc in
-    let goes : GoesOn old new = record {
+    let goes : Moved (OnlyComes old.node payload) old new = record {
       events = Comes payload ∷ [];
       answers = replies;
       runs = (new, replies, [], steps, (refl, refl), sym (append-nil replies));
+      few = omega arith;
+      allowed = ((refl, refl), tt);
       same_node = hears-node old new payload replies steps;
     } in
-    (subst (λ (s : State). GoesOn s new) old_is goes, GoOn-same rest)
+    (subst (λ (s : State). Moved (OnlyComes old.node payload) s new) old_is goes, GoOn-same (OnlyComes old.node payload) rest)
 GoOn-heard (first ∷ rest) (suc place) old new payload replies is steps =
-    (record { events = []; answers = []; runs = (refl, refl); same_node = refl }, GoOn-heard rest place old new payload replies is steps)
+    (record { events = []; answers = []; runs = (refl, refl); few = omega arith; allowed = tt; same_node = refl }, GoOn-heard rest place old new payload replies is steps)
 
 -- the first devices ticked
-pub GoOn-ticked : (now : List State) (count : ℕ) → GoOn now (map ticked (take count now) ++ drop count now)
+pub GoOn-ticked : (now : List State) (count : ℕ) → GoOn OnlyPasses now (map ticked (take count now) ++ drop count now)
 GoOn-ticked [] zero = tt
 GoOn-ticked [] (suc count) = tt
-GoOn-ticked (first ∷ rest) zero = GoOn-same (first ∷ rest)
+GoOn-ticked (first ∷ rest) zero = GoOn-same OnlyPasses (first ∷ rest)
 GoOn-ticked (first ∷ rest) (suc count) = (
   record {
     events = Passes ∷ [];
     answers = [];
     runs = (ticked first, [], [], (refl, refl), (refl, refl), refl);
+    few = omega arith;
+    allowed = (tt, tt);
     same_node = refl;
   },
   GoOn-ticked rest count,

@@ -1,5 +1,5 @@
 -- What is known of nodes whatever a transcript shows: no line of this stage joins a node, and no entry tells of classes.
-use Rattle.std.proofs.Common.{◌≡◌, ℕ, ◌==◌, true, false, List, [], ◌∷◌, refl, ap, ◌∙◌, arith}
+use Rattle.std.proofs.Common.{◌≡◌, ℕ, ◌==◌, true, false, List, [], ◌∷◌, ◌++◌, refl, ap, ◌∙◌, arith}
 use Rattle.std.specs.List.{flat_map, list_any}
 use Rattle.std.specs.Ordering.{nat_cmp}
 use Rattle.std.proofs.lemmas.Bool.Decides.{nat_tests}
@@ -7,7 +7,7 @@ use Rattle.zw_text.specs.declared.line.Line.{Line}
 use Rattle.zw_text.specs.declared.line.Line.TheVariants.{Set, Tick}
 use Rattle.zw_text.specs.declared.entry.Entry.{Entry}
 use Rattle.zw_laws.specs.Lists.{in_order, last_or}
-use Rattle.zw_laws.specs.Nodes.{first_node, joined_by, lines_done, joined, is_joined, nodes_in_order, classes_shown, classes_at_first, known_classes}
+use Rattle.zw_laws.specs.Nodes.{first_node, joined_by, lines_done, joined, is_joined, nodes_in_order, shown_from, classes_shown, classes_at_first, known_classes}
 
 joined_by-none : (lines : List Line) → flat_map joined_by lines ≡ []
 joined_by-none [] = refl
@@ -30,9 +30,9 @@ joined-other T node other =
     ∙ (let differs : (first_node == node) ≡ false = grind (arith, nat_tests) in rw differs refl)
 
 -- the classes of a node are those that the host has at first
-classes_shown-none : (node : ℕ) (T : List Entry) → flat_map (classes_shown node) T ≡ []
-classes_shown-none node [] = refl
-classes_shown-none node (entry ∷ T) = classes_shown-none node T
+classes_shown-none : (node : ℕ) (past T : List Entry) → shown_from (classes_shown node) past T ≡ []
+classes_shown-none node past [] = refl
+classes_shown-none node past (entry ∷ T) = classes_shown-none node (past ++ entry ∷ []) T
 
 pub classes-are : (T : List Entry) (node : ℕ) → known_classes T node ≡ classes_at_first node
-classes-are T node = ap (λ (cs : List (List ℕ)). last_or (classes_at_first node) cs) (classes_shown-none node T)
+classes-are T node = ap (λ (cs : List (List ℕ)). last_or (classes_at_first node) cs) (classes_shown-none node [] T)

@@ -1,5 +1,5 @@
 -- Each event keeps the facts on the request under way, and moves what is on its way.
-use Rattle.std.proofs.Common.{◌≡◌, ℕ, ◌+◌, ◌≤◌, List, [], ◌∷◌, ◌++◌, length, Option, Some, None, refl, sym, ap, ◌∙◌, arith, length-append, append-nil}
+use Rattle.std.proofs.Common.{◌≡◌, ℕ, ◌+◌, List, [], ◌∷◌, ◌++◌, length, Option, Some, None, refl, sym, ap, ◌∙◌, arith, length-append, append-nil}
 use Rattle.std.specs.List.{flat_map}
 use Rattle.std.proofs.lemmas.List.Concat.{flat_map-append}
 use Rattle.supervision.specs.Ends.{Get, Report}
@@ -10,16 +10,6 @@ use Rattle.world_facts.specs.World.Carried.{Carries_get, Carries_report}
 use Rattle.world_facts.specs.OnTheWay.{OnTheWay}
 
 -- lists of one
-
--- a list that has an item and two lists beside it, with no more than one item in all, has that one alone
-pub all_empty : {A : Type 0} (item : A) (xs ys : List A) → length (item ∷ (xs ++ ys)) ≤ 1 → (xs ≡ []) × (ys ≡ [])
-all_empty item [] [] few = (refl, refl)
-all_empty item [] (y ∷ ys) few = absurd (omega arith)
-all_empty item (x ∷ xs) ys few = absurd (omega arith)
-
-listed-short : {A : Type 0} (option : Option A) → length (listed option) ≤ 1
-listed-short None = omega arith
-listed-short (Some item) = omega arith
 
 -- one of a list of callbacks: what is asked stands alone
 pub one_asked : (request : Option ℕ) (callback : ℕ) (asked told : List ℕ) (busy : Option ℕ) → listed request ≡ callback ∷ (asked ++ (listed busy ++ told)) → (asked ≡ []) × (busy ≡ None) × (told ≡ []) × (request ≡ Some callback)

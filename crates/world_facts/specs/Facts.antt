@@ -8,7 +8,7 @@ use Rattle.zw_laws.specs.Answers.{AsksNothing, AnswersOrders}
 use Rattle.zw_laws.specs.Units.{sendings_taken}
 use Rattle.zw_laws.specs.Frames.{controller, sent_from, CarriesUnits}
 use Rattle.zw_laws.specs.Devices.{RunsAsShown, device_of}
-use Rattle.zw_laws.specs.Once.{KeepsSessions, Once}
+use Rattle.zw_laws.specs.Once.{KeepsSessions, SucceedsAfterChange, Once}
 use Rattle.zw_laws.specs.Prompt.{IsPrompt}
 use Rattle.zw_laws.specs.Headline.{IsDevice, ConfirmsLast, is_supervised}
 use Rattle.world_facts.specs.World.{World, gets, reports}
@@ -29,6 +29,7 @@ pub record FactsButLives (transcript : List Entry) (w : World) : Type 0 where
   pub frames : FramesShown w.orders w.to_chip w.sent w.flying transcript
   pub journals : Journals transcript w.devices
   pub works : Works w.to_chip w.busy w.to_host transcript
+  pub succeeds : SucceedsAfterChange transcript
 
 -- the facts
 pub record Facts (before : List State) (transcript : List Entry) (w : World) : Type 0 where
@@ -54,5 +55,6 @@ pub record Holds (whole : Bool) (before after : List State) (transcript : List E
   pub all_sent : sent_from controller transcript ≡ sendings_taken transcript
   pub prompt : IsPrompt whole transcript
   pub sessions_keep : KeepsSessions transcript
+  pub succeeds : SucceedsAfterChange transcript
   pub once : (node : ℕ) (old new : State) → IsDevice node before after old new → is_supervised new ≡ true → Once node transcript new.journal
   pub confirms : (node : ℕ) (old new : State) → IsDevice node before after old new → is_supervised new ≡ true → ConfirmsLast node transcript new

@@ -1,6 +1,6 @@
 -- Facts on the devices: each went the way that the transcript shows, and the changes of the one of the joined node are
 -- those of its sessions.
-use Rattle.std.specs.Prelude.{◌≡◌, ◌≢◌, ◌≤◌, ◌<◌, ℕ, ◌+◌, Bool, true, List, [], ◌∷◌, ◌++◌, map, Some, ⊤}
+use Rattle.std.specs.Prelude.{◌≡◌, ◌≢◌, ◌≤◌, ◌<◌, ℕ, ◌+◌, Bool, true, List, [], ◌∷◌, ◌++◌, length, map, Some, ⊤}
 use Rattle.std.specs.List.{flat_map, AllByRecursion}
 use Rattle.zw_base.specs.declared.property.By.TheVariants.{Session}
 use Rattle.supervision.specs.Host.{command_at}
@@ -15,6 +15,7 @@ use Rattle.zw_laws.specs.Nodes.{first_node}
 use Rattle.zw_laws.specs.Once.{AreOrdered, IsUndone, sessions_by}
 use Rattle.zw_laws.specs.Headline.{ConfirmsLast}
 use Rattle.zw_laws.specs.Frames.{controller, heard_by, sent_from}
+use Rattle.zw_laws.specs.Devices.Event.{Comes, Passes}
 use Rattle.zw_laws.specs.Devices.{Event, Runs, comings, passings, made_by, device_of}
 
 -- a device of the node went from its state at entry to that now by what the transcript shows, in so many ticks
@@ -29,25 +30,38 @@ pub record Lived (node ticks : ℕ) (transcript : List Entry) (old new : State) 
   pub entered : made node transcript ≡ flat_map made_by changes
   pub answered : sent_from node transcript ≡ map (λ payload. record { node = controller; payload = payload }) answers
 
--- every device lived so, at its node, which is not that of the controller, and stands where it stood
+-- every device lived so from no change on, at its node, which is not that of the controller, and stands where it stood
 pub record Lives (before : List State) (lived : ℕ) (now : List State) (transcript : List Entry) : Type 0 where
   pub from_two : AllByRecursion (λ (device : State). 2 ≤ device.node) before
+  pub unchanged : AllByRecursion (λ (device : State). device.journal ≡ []) before
   pub same_nodes : map (λ (device : State). device.node) now ≡ map (λ (device : State). device.node) before
   pub each : (node : ℕ) (old new : State) → device_of node before ≡ Some old → device_of node now ≡ Some new →
       Lived node lived transcript old new
 
--- a device went on by some events, at its node
-pub record GoesOn (old new : State) : Type 0 where
+-- only a tick
+abbrev pub OnlyPasses : State → Event → Type 0
+OnlyPasses device Passes = ⊤
+OnlyPasses device (Comes payload) = ⊥
+
+-- only this payload, at the device of this node
+abbrev pub OnlyComes : ℕ → List ℕ → State → Event → Type 0
+OnlyComes node payload device Passes = ⊥
+OnlyComes node payload device (Comes came) = (device.node ≡ node) × (came ≡ payload)
+
+-- a device went on by one event at most, which is allowed, at its node
+pub record Moved (Allowed : State → Event → Type 0) (old new : State) : Type 0 where
   pub events : List Event
   pub answers : List (List ℕ)
   pub runs : Runs old events new answers
+  pub few : length events ≤ 1
+  pub allowed : AllByRecursion (Allowed old) events
   pub same_node : new.node ≡ old.node
 
 -- each device of a list went on so, and stands where it stood
-abbrev pub GoOn : List State → List State → Type 0
-GoOn [] [] = ⊤
-GoOn (old ∷ olds) (new ∷ news) = GoesOn old new × GoOn olds news
-GoOn _ _ = ⊥
+abbrev pub GoOn : (State → Event → Type 0) → List State → List State → Type 0
+GoOn Allowed [] [] = ⊤
+GoOn Allowed (old ∷ olds) (new ∷ news) = Moved Allowed old new × GoOn Allowed olds news
+GoOn Allowed _ _ = ⊥
 
 -- the device of the node is new in the later list, and those of other nodes are as they were
 pub record Replaced (node : ℕ) (now later : List State) (new : State) : Type 0 where

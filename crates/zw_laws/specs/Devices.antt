@@ -1,11 +1,11 @@
 -- What a device did, by the transcript (this project's own model of devices, in the crate device_sim).
-use Rattle.std.specs.Prelude.{◌≡◌, ℕ, ◌==◌, Bool, true, if◌then◌else◌, suc, List, [], ◌∷◌, ◌++◌, map, Option, Some, None}
-use Rattle.std.specs.List.{flat_map}
+use Rattle.std.specs.Prelude.{◌≡◌, ℕ, ◌==◌, Bool, true, if◌then◌else◌, suc, List, [], ◌∷◌, ◌++◌, map, Option, Some, None, ◌≤◌, length, slice_get, ⊤}
+use Rattle.std.specs.List.{flat_map, AllByRecursion}
 use Rattle.device_sim.specs.declared.change.Change.{Change}
 use Rattle.device_sim.specs.State.{State, ticked}
 use Rattle.device_sim.specs.Hearing.{IsSupervisedSet, hears, replies_of}
 use Rattle.zw_text.specs.declared.entry.Entry.{Entry}
-use Rattle.zw_text.specs.Transcript.{Made, lines_run, made}
+use Rattle.zw_text.specs.Transcript.{AirFrame, Made, lines_run, frames, made}
 use Rattle.zw_laws.specs.Lines.{ticks_asked}
 use Rattle.zw_laws.specs.Frames.{HeardAt, heard_by, sent_from, controller}
 
@@ -48,10 +48,16 @@ abbrev pub device_of : ℕ → List State → Option State
 device_of node [] = None
 device_of node (state ∷ states) = if state.node == node then Some state else device_of node states
 
+-- what may have happened to the device of a node: a tick, or that a frame to it came which is on the air
+abbrev pub IsAired : ℕ → List Entry → Event → Type 0
+IsAired node transcript Passes = ⊤
+IsAired node transcript (Comes payload) =
+    (place : ℕ) × (frame : AirFrame) × (slice_get (frames transcript) place ≡ Some frame) × (frame.receiver ≡ node) × (frame.payload ≡ payload)
+
 -- the device of a node went from its state at entry to that at exit as the transcript shows: by the payloads heard and
 -- the ticks that the lines ask for, in order; its changes are the `dev` entries, and its answers its frames to the
--- controller. Where the run was cut short by want of memory, the last of these may not be shown, and the last tick not
--- have come
+-- controller. Where the run was cut short by want of memory, one last event may not be shown, and ticks of the last line
+-- may not have come
 pub record RunsAsShown (whole : Bool) (node : ℕ) (transcript : List Entry) (old new : State) : Type 0 where
   pub shown : List Event
   pub unshown : List Event
@@ -66,4 +72,6 @@ pub record RunsAsShown (whole : Bool) (node : ℕ) (transcript : List Entry) (ol
   pub entered : made node transcript ≡ flat_map made_by changes
   pub answered : sent_from node transcript ≡ map (λ payload. record { node = controller; payload = payload }) answers
   pub ticked : whole ≡ true → passings shown ≡ ticks_asked (lines_run transcript)
+  pub few : length unshown ≤ 1
+  pub aired : AllByRecursion (IsAired node transcript) unshown
   pub all_shown : whole ≡ true → unshown ≡ []

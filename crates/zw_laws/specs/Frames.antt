@@ -26,16 +26,22 @@ abbrev pub CarriesNext : List Entry → Bool → Sending → Type 0
 CarriesNext past true sending = slice_get (sendings_taken past) (length (sent_from controller past)) ≡ Some sending
 CarriesNext past false sending = ⊤
 
--- a frame that goes on the air has the next number, and one of the controller was asked for by a request that the chip
--- took
+-- the nodes that repeat a frame on its way, in order: no line of this stage links nodes over repeaters, so every frame
+-- goes straight
+abbrev pub route_of : List Entry → ℕ → ℕ → List ℕ
+route_of past sender receiver = []
+
+-- a frame that goes on the air has the next number and names the nodes that repeat it, and one of the controller was
+-- asked for by a request that the chip took
 abbrev pub MayAir : List Entry → Entry → Type 0
 MayAir past (Air frame sender receiver repeaters payload) =
     (frame ≡ length (frames past) + 1)
+    × (repeaters ≡ route_of past sender receiver)
     × CarriesNext past (sender == controller) (record { node = receiver; payload = payload })
 MayAir past _ = ⊤
 
--- every frame is numbered, and those of the controller are the payloads of the SendData requests that the chip took, in
--- order and one each
+-- every frame is numbered and goes its way, and those of the controller are the payloads of the SendData requests that
+-- the chip took, in order and one each
 abbrev pub CarriesUnits : List Entry → Type 0
 CarriesUnits transcript = EachAfter MayAir [] transcript
 

@@ -13,7 +13,7 @@ use Rattle.zw_text.specs.declared.line.Line.{Line}
 use Rattle.zw_text.specs.declared.entry.Entry.{Entry}
 use Rattle.zw_text.specs.declared.entry.Outcome.TheVariants.{Success}
 use Rattle.zw_text.specs.Transcript.{lines_run, line_before, sessions, outcome}
-use Rattle.zw_laws.specs.Once.{KeepsSessions, Once}
+use Rattle.zw_laws.specs.Once.{KeepsSessions, SucceedsAfterChange, Once}
 use Rattle.zw_laws.specs.Answers.{AsksNothing, AnswersOrders}
 use Rattle.zw_laws.specs.Units.{sendings_taken}
 use Rattle.zw_laws.specs.Frames.{controller, sent_from, CarriesUnits}
@@ -67,13 +67,14 @@ ConfirmsLast node transcript device =
 abbrev pub is_supervised : State → Bool
 is_supervised device = lists device.kind SUPERVISION
 
--- what the headline says of a run: the transcript is legal, prompt and keeps the rule of sessions, each supervised
--- device is once-only, and where a command reported successful was the last to change a property, the confirmed value is
+-- what the headline says of a run: the transcript is legal, prompt and keeps the rule of sessions, each success is
+-- reported after its change, each supervised device is once-only, and where a command reported successful was the last to change a property, the confirmed value is
 -- what the device has
 pub record Headline (whole : Bool) (lines : List Line) (before after : List State) (transcript : List Entry) : Type 0 where
   pub legal : IsLegal whole lines before after transcript
   pub prompt : IsPrompt whole transcript
   pub sessions_keep : KeepsSessions transcript
+  pub succeeds : SucceedsAfterChange transcript
   pub once : (node : ℕ) (old new : State) → IsDevice node before after old new → is_supervised new ≡ true →
       Once node transcript new.journal
   pub confirms : (node : ℕ) (old new : State) → IsDevice node before after old new → is_supervised new ≡ true →

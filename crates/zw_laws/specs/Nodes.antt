@@ -1,6 +1,7 @@
 -- Which nodes are joined, which command classes the host has of a node, and whether it counts the node as awake, by the
 -- transcript so far (this project's own rule). A line that joins a node, and an entry that shows the host what a node lists
--- or that it wakes or sleeps, add their cases here.
+-- or that it wakes or sleeps, add their cases here. What an entry shows is judged by the entries before it too, since an
+-- entry that tells that a node was asked for its classes does not carry them: they stand in a unit of the chip before it.
 use Rattle.std.specs.Prelude.{ℕ, ◌==◌, Bool, if◌then◌else◌, List, [], ◌∷◌, ◌++◌}
 use Rattle.std.specs.List.{flat_map, list_any}
 use Rattle.std.specs.Ordering.{nat_cmp}
@@ -44,9 +45,14 @@ is_joined past node = list_any (λ one. one == node) (joined past)
 abbrev pub nodes_in_order : List Entry → List ℕ
 nodes_in_order past = in_order nat_cmp (joined past)
 
--- the command classes of a node that an entry shows the host: in this stage no entry shows any
-abbrev pub classes_shown : ℕ → Entry → List (List ℕ)
-classes_shown node entry = []
+-- what the entries after this past show, in order, each judged by the entries before it
+abbrev pub shown_from : {A : Type 0} → (List Entry → Entry → List A) → List Entry → List Entry → List A
+shown_from shows past [] = []
+shown_from shows past (entry ∷ rest) = shows past entry ++ shown_from shows (past ++ entry ∷ []) rest
+
+-- the command classes of a node that an entry after this past shows the host: in this stage no entry shows any
+abbrev pub classes_shown : ℕ → List Entry → Entry → List (List ℕ)
+classes_shown node past entry = []
 
 -- the command classes that the host has of a node at first: those of a switch at the first node, of another node none
 abbrev pub classes_at_first : ℕ → List ℕ
@@ -54,12 +60,12 @@ classes_at_first node = if node == first_node then classes_of Switch else []
 
 -- the command classes that the host has of a node
 abbrev pub known_classes : List Entry → ℕ → List ℕ
-known_classes past node = last_or (classes_at_first node) (flat_map (classes_shown node) past)
+known_classes past node = last_or (classes_at_first node) (shown_from (classes_shown node) [] past)
 
--- whether an entry shows that a node wakes or falls asleep: in this stage no entry does
-abbrev pub awake_shown : ℕ → Entry → List Bool
-awake_shown node entry = []
+-- whether an entry after this past shows that a node wakes or falls asleep: in this stage no entry does
+abbrev pub awake_shown : ℕ → List Entry → Entry → List Bool
+awake_shown node past entry = []
 
 -- whether the host counts a node as awake: the first node is from the start, since a switch listens at all times
 abbrev pub is_awake : List Entry → ℕ → Bool
-is_awake past node = last_or (node == first_node) (flat_map (awake_shown node) past)
+is_awake past node = last_or (node == first_node) (shown_from (awake_shown node) [] past)

@@ -8,10 +8,11 @@ use Rattle.zw_base.specs.declared.property.By.TheVariants.{Session, Local, Plain
 use Rattle.supervision.specs.Host.{command_at}
 use Rattle.device_sim.specs.declared.change.Change.{Change}
 use Rattle.zw_text.specs.declared.entry.Entry.{Entry}
-use Rattle.zw_text.specs.declared.entry.Entry.TheVariants.{Begin}
+use Rattle.zw_text.specs.declared.entry.Ended.TheVariants.{Success as Succeeds}
+use Rattle.zw_text.specs.declared.entry.Entry.TheVariants.{Begin, Out}
 use Rattle.zw_text.specs.declared.entry.Outcome.{Outcome}
 use Rattle.zw_text.specs.declared.entry.Outcome.TheVariants.{Waiting, Begun, Success, Fail, NoSupport, Unanswered, Cancelled}
-use Rattle.zw_text.specs.Transcript.{Command, accepted, sessions, outcome}
+use Rattle.zw_text.specs.Transcript.{Command, accepted, sessions, made, outcome}
 use Rattle.zw_laws.specs.Lists.{EachAfter, Has, Rises}
 use Rattle.zw_laws.specs.Orders.{settings_for}
 
@@ -72,6 +73,26 @@ pub record IsApplied (begun : List ℕ) (journal : List Change) (number : ℕ) :
   pub session : ℕ
   pub begun_for : command_at begun session ≡ Some number
   pub changed : Has (sessions_by journal) session
+
+-- the sessions by which the transcript shows that a node's device changed, in order
+abbrev pub sessions_made : ℕ → List Entry → List ℕ
+sessions_made node transcript = flat_map (λ item. session_by item.by) (made node transcript)
+
+-- a command that a device is shown to have applied: a session of its node carries it, and the device has changed by that
+pub record IsShownApplied (past : List Entry) (number : ℕ) : Type 0 where
+  pub node : ℕ
+  pub session : ℕ
+  pub begun_for : command_at (sessions node past) session ≡ Some number
+  pub changed : Has (sessions_made node past) session
+
+-- a command is reported successful only once its device is shown to have applied it
+abbrev pub MayEnd : List Entry → Entry → Type 0
+MayEnd past (Out number Succeeds) = IsShownApplied past number
+MayEnd past _ = ⊤
+
+-- each success is reported after the change
+abbrev pub SucceedsAfterChange : List Entry → Type 0
+SucceedsAfterChange transcript = EachAfter MayEnd [] transcript
 
 -- once only, of the commands accepted for a node, the sessions begun for it, their outcomes and its journal
 pub record Once (node : ℕ) (transcript : List Entry) (journal : List Change) : Type 0 where

@@ -1,6 +1,6 @@
 -- A worked transcript (that of `set 2 on`, `tick 2`) with its device and its table, others like it with one thing wrong,
 -- and a past that fills a mailbox.
-use Rattle.std.specs.Prelude.{ℕ, zero, suc, List, [], ◌∷◌, ◌++◌, Some, None}
+use Rattle.std.specs.Prelude.{ℕ, zero, suc, List, [], ◌∷◌, ◌++◌, take, Some, None}
 use Rattle.zw_base.specs.declared.property.By.TheVariants.{Session}
 use Rattle.zw_base.specs.declared.property.Setting.{Setting}
 use Rattle.zw_text.specs.declared.line.Line.{Line}
@@ -99,6 +99,11 @@ uncarried = beginning ++ Air 2 1 2 [] first_get ∷ []
 abbrev pub refused_aired : List Entry
 refused_aired = asking ++ Written Chip (1 ∷ 4 ∷ 1 ∷ 0x13 ∷ 0 ∷ 0xE9 ∷ []) ∷ first_frame ∷ []
 
+-- a frame of the controller that node 7 repeats, though no line links nodes over it
+abbrev pub by_way_of_others : List Entry
+by_way_of_others =
+    asking ++ Written Chip (1 ∷ 4 ∷ 1 ∷ 0x13 ∷ 1 ∷ 0xE8 ∷ []) ∷ Air 1 1 2 (7 ∷ []) first_get ∷ Written Host (6 ∷ []) ∷ []
+
 -- a request that the chip took, and its frame is kept back
 abbrev pub kept_back : List Entry
 kept_back = asking ++ Written Chip (1 ∷ 4 ∷ 1 ∷ 0x13 ∷ 1 ∷ 0xE8 ∷ []) ∷ Written Host (6 ∷ []) ∷ []
@@ -118,6 +123,10 @@ unbegun = Echo (Set 2 0 On) ∷ Accepted 1 2 ∷ []
 -- the whole transcript without the entry of the change that the device made
 abbrev pub unshown : List Entry
 unshown = beginning ++ (hearing ++ answering)
+
+-- the whole transcript, but that success is reported before the change
+abbrev pub too_early : List Entry
+too_early = beginning ++ (hearing ++ Out 1 Success ∷ (changing ++ take 7 answering))
 
 -- success before the device has heard the command, and so before it has changed
 abbrev pub too_soon : List Entry

@@ -10,7 +10,7 @@ ghost use Rattle.zw_text.specs.declared.line.Word.TheVariants.{On, Off, Level};
 ghost use Rattle.zw_text.specs.declared.entry.Entry.TheVariants.{Accepted, Refused};
 ghost use Rattle.zw_text.specs.declared.entry.Refusal.TheVariants.{NotJoined, BadValue, MailboxFull};
 ghost use Rattle.zw_laws.specs.Lists.{in_order};
-ghost use Rattle.zw_laws.specs.Once.{KeepsSessions, Once};
+ghost use Rattle.zw_laws.specs.Once.{KeepsSessions, SucceedsAfterChange, Once};
 ghost use Rattle.zw_laws.specs.Answers.{AnswersOrders, answer_to};
 ghost use Rattle.zw_laws.specs.Units.{Sending, taken_by};
 ghost use Rattle.zw_laws.specs.Frames.{CarriesUnits};
@@ -20,7 +20,7 @@ ghost use Rattle.zw_laws.specs.Confirmed.{confirmed};
 ghost use Rattle.zw_laws.specs.Orders.{switch, settings_of};
 ghost use Rattle.zw_laws.specs.Table.{table_of};
 ghost use Rattle.zw_laws.specs.Headline.{IsAsMade, IsLegal, ConfirmsLast, Headline};
-ghost use Rattle.zw_laws.specs.Worked.{switched_on, worked_lines, worked_table, off, one_change, switch_before, switch_after, begun_twice, uncarried, refused_aired, kept_back, unanswered, left_unanswered, unbegun, unshown, too_soon, switch_aged, switch_left_off, full_mailbox};
+ghost use Rattle.zw_laws.specs.Worked.{switched_on, worked_lines, worked_table, off, one_change, switch_before, switch_after, begun_twice, uncarried, refused_aired, by_way_of_others, kept_back, unanswered, left_unanswered, unbegun, unshown, too_early, too_soon, switch_aged, switch_left_off, full_mailbox};
 
 /// All that the headline says holds of the whole transcript of `set 2 on`, `tick 2`, with a switch at node 2 that is as
 /// its maker left it, whatever its key, and ends with the one change. The confirmed value is on, and the table at its end,
@@ -33,15 +33,17 @@ pub fn worked_transcript()
 {}
 
 /// Each of these breaks the law that it is named with: a session that begins twice, a frame that no unit carried, a frame
-/// of a request that the chip refused, a request that it took and whose frame is kept back, an order without an answer
-/// before the next line or at the end, a command that is not begun though nothing is under way, a change that is not shown
-/// (whatever state the switch ends in), a switch that lived a tick for which no line asks, success where the switch ends
-/// without a change, success before the switch has heard the command (whatever state it then ends in), a second change by
-/// the same session, and a confirmed value that is not the one that the session gave the switch.
+/// of a request that the chip refused, a frame that another node repeats though no line links nodes over it, a request that
+/// the chip took and whose frame is kept back, an order without an answer before the next line or at the end, a command that
+/// is not begun though nothing is under way, a change that is not shown (whatever state the switch ends in), a switch that
+/// lived a tick for which no line asks, success where the switch ends without a change, success that is reported before
+/// the change, success before the switch has heard the command (whatever state it then ends in), a second change by the
+/// same session, and a confirmed value that is not the one that the session gave the switch.
 pub fn rejected_transcripts()
     ensures begun_twice { KeepsSessions begun_twice → ⊥ }
     ensures uncarried { CarriesUnits uncarried → ⊥ }
     ensures refused_aired { CarriesUnits refused_aired → ⊥ }
+    ensures by_way_of_others { CarriesUnits by_way_of_others → ⊥ }
     ensures kept_back { (whole : Bool) (before after : List State) → IsLegal whole (Set 2 0 On ∷ []) before after kept_back → ⊥ }
     ensures unanswered { AnswersOrders unanswered → ⊥ }
     ensures left_unanswered { (whole : Bool) (before after : List State) → IsLegal whole (Set 2 0 On ∷ []) before after left_unanswered → ⊥ }
@@ -49,6 +51,7 @@ pub fn rejected_transcripts()
     ensures unshown { (whole : Bool) (key : List ℕ) (new : State) → RunsAsShown whole 2 unshown (switch_before key) new → ⊥ }
     ensures aged { (key : List ℕ) → RunsAsShown true 2 switched_on (switch_before key) (switch_aged key) → ⊥ }
     ensures unchanged { Once 2 switched_on [] → ⊥ }
+    ensures too_early { SucceedsAfterChange too_early → ⊥ }
     ensures too_soon { (key : List ℕ) (new : State) → RunsAsShown true 2 too_soon (switch_before key) new → Once 2 too_soon new.journal → ⊥ }
     ensures changed_twice { Once 2 switched_on (one_change ++ one_change) → ⊥ }
     ensures left_off { (key : List ℕ) → ConfirmsLast 2 switched_on (switch_left_off key) → ⊥ }

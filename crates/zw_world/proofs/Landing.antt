@@ -1,5 +1,5 @@
 -- A frame that comes off the air, as an event of which the facts speak: over plain variables.
-use Rattle.std.proofs.Common.{◌≡◌, ◌⊎◌, ℕ, ◌+◌, true, false, List, [], ◌∷◌, ◌++◌, map, take, drop, set, slice_get, option_map, Option, Some, None, Result, Ok, Err, OnOk, OnErr, refl, sym, ap, subst, ◌∙◌, inl, inr}
+use Rattle.std.proofs.Common.{◌≡◌, ◌⊎◌, ℕ, ◌+◌, true, false, List, [], ◌∷◌, ◌++◌, map, take, drop, set, slice_get, option_map, Option, Some, None, Result, Ok, Err, OnOk, OnErr, refl, sym, ap, subst, subst₂, ◌∙◌, inl, inr}
 use Rattle.std.proofs.lemmas.List.{append_cancel_left, drop-map, map-set, set-get_or}
 use Rattle.std.proofs.lemmas.Option.{slice_get-map, get_or_from_slice_get}
 use Rattle.zw_base.specs.declared.property.By.TheVariants.{Session}
@@ -18,7 +18,7 @@ use Rattle.zw_laws.specs.Devices.{device_of}
 use Rattle.zw_laws.specs.Orders.{switch}
 use Rattle.world_facts.specs.Goes.{Goes}
 use Rattle.world_facts.specs.Facts.{Holds}
-use Rattle.world_facts.specs.Lives.{GoOn, Replaced}
+use Rattle.world_facts.specs.Lives.{OnlyComes, GoOn, Replaced}
 use Rattle.world_facts.specs.Machine.{Machine, Knows, GoesOn}
 use Rattle.world_facts.specs.Units.{came_frame, callback_unit}
 use Rattle.world_facts.proofs.DevicesLemmas.{device_of-node, Replaced-set}
@@ -231,7 +231,8 @@ module _ (w : World) (air : Sky) (flight : Flight) (stamped : w.stamped ≡ true
         (knows_holds before devices (machine_of w) lived T knows)
     cut_holds before lived T knows get (inr taken) =
         get.cut old later (here get.to_device) (replaced get.session get.value get.to_device taken)
-        (subst (λ (states : States). GoOn devices states) (sym (later_is ∙ ap (λ (s : State). set devices place s) taken))
+        (subst₂ (λ (node : ℕ) (states : States). GoOn (OnlyComes node flight.payload) devices states)
+        (device_of-node first_node devices old (here get.to_device)) (sym (later_is ∙ ap (λ (s : State). set devices place s) taken))
         (GoOn-heard devices place old (takes old get.session get.value) flight.payload (replies_of old (wire_id get.session)) at
         (wire_id get.session, get.value, get.payload, sym (get.new old (here get.to_device)), refl)))
 

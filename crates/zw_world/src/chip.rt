@@ -74,6 +74,7 @@ impl Chip {
         self.busy
     }
 
+    /// Whether no SendData is under way.
     pub fn is_idle(&self) -> bool
         ensures { IsTrue result ↔ (self.now.busy ≡ None) }
     {

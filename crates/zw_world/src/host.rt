@@ -118,6 +118,7 @@ impl Host {
         ensures waiting { IfOk result (λ host. host.waiting ≡ []) }
         ensures book { IfOk result (λ host. host.book ≡ no_sessions) }
         ensures request { IfOk result (λ host. host.request ≡ None) }
+        ensures last_callback { IfOk result (λ host. host.last_callback ≡ 0) }
         ensures confirmed { IfOk result (λ host. host.confirmed ≡ None) }
         ensures items { IfOk result (λ host. host.heard.items ≡ []) }
         ensures rest { IfOk result (λ host. host.heard.rest ≡ no_rest) }

@@ -1,6 +1,6 @@
 -- How a run comes to its end: the lines that were run, and the last lines that the status adds.
 use Rattle.std.proofs.Common.{◌≡◌, inl, inr, ℕ, ◌+◌, Bool, true, false, List, [], ◌∷◌, ◌++◌, Option, Some, None, IfSome, refl, ap, sym, subst, ◌∙◌, append-nil, arith}
-use Rattle.std.specs.Io.KnownBytes.{Appends, Keeps}
+use Rattle.std.specs.Io.KnownBytes.{Appends, Keeps, Consumes, IsAtEnd}
 use Rattle.zw_text.specs.declared.line.Line.{Line}
 use Rattle.zw_text.specs.declared.fault.LineFault.{LineFault}
 use Rattle.zw_text.specs.declared.fault.LineFault.TheVariants.{Unknown}
@@ -14,7 +14,7 @@ use Rattle.world_facts.specs.Machine.{Machine, AtEase, first_machine}
 use Rattle.zw_world.specs.Knows.{States}
 use Rattle.zwave_console.specs.Output.{AppendsFront}
 use Rattle.zw_world.specs.Table.{table_lines}
-use Rattle.zwave_console.specs.Run.{LinesRan, EndsWell, EndsBadly, HasRun, IsTable, AreAsMade}
+use Rattle.zwave_console.specs.Run.{LinesRan, EndsWell, EndsBadly, HasRun, HasRunOf, IsTable, AreAsMade}
 use Rattle.zwave_console.specs.declared.run.LinesEnd.TheVariants.{All, Bad, Failed as lines_failed, NoMemory as lines_no_memory}
 use Rattle.zwave_console.specs.declared.status.Status.{Status}
 use Rattle.zwave_console.specs.declared.status.Status.TheVariants.{Ok as ok, Usage, BadLine, ReadFault, WriteFault, NoMemory, InputTooLong, BadHex}
@@ -84,7 +84,7 @@ module _ (before : States) (first : Machine) (is_first : first ≡ first_machine
       run = lines_all input ran.lines ran.ended;
       written = (
         table_lines machine.clock machine.book.commands machine.confirmed after,
-        inr (inl (tables ran.lines ran.transcript ran.clock (ran.known before))),
+        inr (inl (ran.ended, tables ran.lines ran.transcript ran.clock (ran.known before))),
         AppendsFront-append a b c (text_of ran.transcript) (text_of (table_lines machine.clock machine.book.commands machine.confirmed after)) ran.written written,
       );
       headline = heads true ran.lines ran.transcript ran.shown ran.clock (ran.known before);
@@ -123,7 +123,7 @@ module _ (before : States) (first : Machine) (is_first : first ≡ first_machine
       run = lines_before input ran.lines number ran.ended.0;
       written = (
         bad_line number fault ∷ [],
-        inr (inr (number, ap (λ (f : LineFault). bad_line number f ∷ []) ran.ended.1)),
+        inr (inr (number, ran.ended.0, ap (λ (f : LineFault). bad_line number f ∷ []) ran.ended.1)),
         AppendsFront-append a b c (text_of ran.transcript) (text_of (bad_line number fault ∷ [])) ran.written written,
       );
       headline = heads true ran.lines ran.transcript ran.shown ran.clock (ran.known before);
@@ -171,13 +171,13 @@ module _ (devices : States) (input : List ℕ) (a : Option (List ℕ)) where
   stays whole made = heads devices first_machine refl devices first_machine whole [] [] refl refl (λ ease. ease) made
 
   pub runs_usage : HasRun Usage devices devices input a a
-  runs_usage = record { transcript = []; lines = []; shown = refl; run = refl; written = Keeps-same a; headline = stays true }
+  runs_usage = record { transcript = []; lines = []; shown = refl; run = refl; written = (refl, Keeps-same a); headline = stays true }
 
   pub runs_read_fault : HasRun ReadFault devices devices input a a
-  runs_read_fault = record { transcript = []; lines = []; shown = refl; run = refl; written = Keeps-same a; headline = stays true }
+  runs_read_fault = record { transcript = []; lines = []; shown = refl; run = refl; written = (refl, Keeps-same a); headline = stays true }
 
   pub runs_too_long : HasRun InputTooLong devices devices input a a
-  runs_too_long = record { transcript = []; lines = []; shown = refl; run = refl; written = Keeps-same a; headline = stays true }
+  runs_too_long = record { transcript = []; lines = []; shown = refl; run = refl; written = (refl, Keeps-same a); headline = stays true }
 
   pub runs_nothing : HasRun NoMemory devices devices input a a
   runs_nothing = record {
@@ -189,6 +189,23 @@ module _ (devices : States) (input : List ℕ) (a : Option (List ℕ)) where
     headline = stays false;
   }
 
-pub IfSome-always : {A : Type 0} (o : Option A) (P : A → Type 0) → ((x : A) → P x) → IfSome o P
-IfSome-always None P all = tt
-IfSome-always (Some x) P all = all x
+-- a source that is at its end told what was read of it
+told_read : (told left : Option (List ℕ)) (input : List ℕ) → Consumes told left input → IsAtEnd left → IfSome told (λ bytes. bytes ≡ input)
+told_read None left input consumed at_end = tt
+told_read (Some bytes) None input consumed at_end = absurd consumed
+told_read (Some bytes) (Some rest) input consumed at_end = consumed ∙ ap (λ (xs : List ℕ). input ++ xs) at_end ∙ append-nil input
+
+module _ {status : Status} {before after : States} {a b : Option (List ℕ)} where
+  -- what holds of every input holds of the one that the source tells, or of none where it tells nothing
+  pub HasRunOf-any : (told : Option (List ℕ)) → ((input : List ℕ) → HasRun status before after input a b) → HasRunOf told status before after a b
+  HasRunOf-any None all = record { input = []; is_told = tt; ran = all [] }
+  HasRunOf-any (Some input) all = record { input = input; is_told = refl; ran = all input }
+
+  -- what was read up to the source's end is all that it told
+  pub HasRunOf-read : (told left : Option (List ℕ)) (input : List ℕ) → Consumes told left input → IsAtEnd left →
+      HasRun status before after input a b → HasRunOf told status before after a b
+  HasRunOf-read told left input consumed at_end ran = record {
+    input = input;
+    is_told = told_read told left input consumed at_end;
+    ran = ran;
+  }

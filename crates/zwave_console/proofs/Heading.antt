@@ -27,6 +27,7 @@ Headline-holds whole lines before after transcript shown holds = record {
   legal = record { lines_are = shown; answers = holds.answers; answered = holds.answered; devices = holds.devices; frames = holds.frames; all_sent = holds.all_sent };
   prompt = holds.prompt;
   sessions_keep = holds.sessions_keep;
+  succeeds = holds.succeeds;
   once = holds.once;
   confirms = holds.confirms;
 }

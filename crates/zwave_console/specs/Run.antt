@@ -1,5 +1,5 @@
 -- What a run reads, runs and writes, by its status (this project's own).
-use Rattle.std.specs.Prelude.{◌≡◌, ◌⊎◌, ℕ, ◌+◌, Bool, true, false, List, [], ◌∷◌, ◌++◌, Option, codes, string_bytes, ⊤}
+use Rattle.std.specs.Prelude.{◌≡◌, ◌⊎◌, ℕ, ◌+◌, Bool, true, false, List, [], ◌∷◌, ◌++◌, Option, IfSome, codes, string_bytes, ⊤}
 use Rattle.std.specs.List.{AllByRecursion}
 use Rattle.std.specs.Io.KnownBytes.{Appends, Keeps}
 use Rattle.std.specs.declared.string.String.{String}
@@ -112,10 +112,13 @@ pub record IsTable (before after : States) (lines : List Line) (transcript table
   pub form : table ≡ table_lines (ticks_asked lines) sessions confirmed after
   pub is : AreAsMade before → table ≡ table_of (ticks_asked lines) transcript after
 
--- the last lines of a run
-abbrev pub AreLast : States → States → List Line → List Entry → List Entry → Type 0
-AreLast before after lines transcript last =
-    (last ≡ []) ⊎ (IsTable before after lines transcript last ⊎ ((number : ℕ) × (last ≡ bad_line number Unknown ∷ [])))
+-- the last lines of a run of these texts: the table where all were run, the line that names the first text that is none, or
+-- nothing yet
+abbrev pub AreLast : List (List ℕ) → States → States → List Line → List Entry → List Entry → Type 0
+AreLast texts before after lines transcript last =
+    (last ≡ [])
+    ⊎ ((AreLines texts lines × IsTable before after lines transcript last)
+    ⊎ ((number : ℕ) × AreLinesBefore texts lines number × (last ≡ bad_line number Unknown ∷ [])))
 
 -- which lines were run, of the texts of an input
 abbrev pub RunsLines : Status → List (List ℕ) → List Line → Type 0
@@ -128,19 +131,20 @@ RunsLines ReadFault texts lines = lines ≡ []
 RunsLines InputTooLong texts lines = lines ≡ []
 RunsLines (BadHex place) texts lines = lines ≡ []
 
--- what was written: the transcript's text and the last lines that the status adds, or a front of it
-abbrev pub Writes : Status → States → States → List Line → Option (List ℕ) → Option (List ℕ) → List Entry → Type 0
-Writes Ok before after lines old new transcript =
+-- what was written: the transcript's text and the last lines that the status adds, or a front of it. Where no line was to be
+-- run, the transcript is empty
+abbrev pub Writes : Status → List (List ℕ) → States → States → List Line → Option (List ℕ) → Option (List ℕ) → List Entry → Type 0
+Writes Ok texts before after lines old new transcript =
     (table : List Entry) × IsTable before after lines transcript table × Appends old new (text_of transcript ++ text_of table)
-Writes (BadLine number fault) before after lines old new transcript =
+Writes (BadLine number fault) texts before after lines old new transcript =
     Appends old new (text_of transcript ++ text_of (bad_line number fault ∷ []))
-Writes WriteFault before after lines old new transcript =
-    (last : List Entry) × AreLast before after lines transcript last × AppendsFront old new (text_of transcript ++ text_of last)
-Writes NoMemory before after lines old new transcript = AppendsFront old new (text_of transcript)
-Writes Usage before after lines old new transcript = Keeps old new
-Writes ReadFault before after lines old new transcript = Keeps old new
-Writes InputTooLong before after lines old new transcript = Keeps old new
-Writes (BadHex place) before after lines old new transcript = Keeps old new
+Writes WriteFault texts before after lines old new transcript =
+    (last : List Entry) × AreLast texts before after lines transcript last × AppendsFront old new (text_of transcript ++ text_of last)
+Writes NoMemory texts before after lines old new transcript = AppendsFront old new (text_of transcript)
+Writes Usage texts before after lines old new transcript = (transcript ≡ []) × Keeps old new
+Writes ReadFault texts before after lines old new transcript = (transcript ≡ []) × Keeps old new
+Writes InputTooLong texts before after lines old new transcript = (transcript ≡ []) × Keeps old new
+Writes (BadHex place) texts before after lines old new transcript = (transcript ≡ []) × Keeps old new
 
 -- lines of the input were run with a transcript that was written, as the status says. Where the devices at entry were as
 -- their maker leaves them, the headline holds of these lines, of the devices and of this transcript
@@ -149,8 +153,14 @@ pub record HasRun (status : Status) (before after : States) (input : List ℕ) (
   pub lines : List Line
   pub shown : lines_run transcript ≡ lines
   pub run : RunsLines status (lines_of input) lines
-  pub written : Writes status before after lines old new transcript
+  pub written : Writes status (lines_of input) before after lines old new transcript
   pub headline : AreAsMade before → Headline (is_whole status) lines before after transcript
+
+-- there is an input of which this holds: where the source tells what was left in it, it is that
+pub record HasRunOf (told : Option (List ℕ)) (status : Status) (before after : States) (old new : Option (List ℕ)) : Type 0 where
+  pub input : List ℕ
+  pub is_told : IfSome told (λ bytes. bytes ≡ input)
+  pub ran : HasRun status before after input old new
 
 -- how the final table was written
 abbrev pub EndsWell : List Entry → Status → Option (List ℕ) → Option (List ℕ) → Type 0

@@ -21,6 +21,7 @@ use crate::status::Status;
 use device_sim::{Device, make_switch};
 use std::alloc::Global;
 use std::env;
+use std::io::ErrorKind;
 use std::process::ExitCode;
 use zw_base::{NoMemory, StdSink, StdSource, read_node};
 
@@ -46,11 +47,13 @@ fn main(rt: HostRuntime) -> ExitCode {
     ExitCode::from(status.code())
 }
 
-// The words after the program's name.
+// The words after the program's name. One that is not UTF-8 is none that the program takes.
 fn words_of(rt: &HostRuntime) -> Result<Vec<String>, Status> {
     let mut words = Vec::new(rt.alloc());
-    let Ok(args) = env::args(rt) else {
-        return Err(Status::Usage);
+    let args = match env::args(rt) {
+        Ok(args) => args,
+        Err(error) if error.kind() == ErrorKind::OutOfMemory => return Err(Status::NoMemory),
+        Err(_) => return Err(Status::Usage),
     };
     for word in args.skip(1) {
         if words.push(word).is_err() {

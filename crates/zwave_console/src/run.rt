@@ -9,7 +9,7 @@ ghost use Rattle.zw_text.specs.Entry.{text_of};
 ghost use Rattle.zw_text.specs.Line.{IsWithinRanges};
 ghost use Rattle.zw_world.specs.Knows.{machine_of};
 ghost use Rattle.zw_world.specs.Table.{table_lines};
-ghost use Rattle.zwave_console.specs.Run.{LinesRan, EndsWell, EndsBadly, IsOfRun, IsSim, ReadsWhole, HasRun};
+ghost use Rattle.zwave_console.specs.Run.{LinesRan, EndsWell, EndsBadly, IsOfRun, IsSim, ReadsWhole, HasRun, HasRunOf};
 ghost use Rattle.zwave_console.specs.RunLine.{LineRan, LineStopped};
 
 use crate::input::{InputFault, MAX_INPUT, read_input};
@@ -43,10 +43,15 @@ pub fn run<S: Source, K: Sink, D: Draw>(
     ensures read_whole { ReadsWhole result → IsAtEnd (S.left source.new) }
     ensures never_bad_hex { (place : ℕ) → result ≡ Status.BadHex place → ⊥ }
 
-    // The lines of the input were run and their transcript was written, as far as the status says; and where the devices
-    // were as their maker leaves them, the headline holds of it.
-    ensures headline { IfSome (S.left source.old) (λ input. HasRun result (map (λ d. state d) devices.old.items)
-        (map (λ d. state d) devices.new.items) input (K.written sink.old) (K.written sink.new)) }
+    // At a status of no run nothing was done, and for words that are no command nothing was read.
+    ensures untouched { (IsOfRun result → ⊥) → map (λ d. state d) devices.new.items ≡ map (λ d. state d) devices.old.items }
+    ensures unwritten { (IsOfRun result → ⊥) → Keeps (K.written sink.old) (K.written sink.new) }
+    ensures unread { result ≡ Status.Usage → S.left source.new ≡ S.left source.old }
+
+    // The lines of an input, which is that of the source where it tells it, were run and their transcript was written, as
+    // far as the status says; and where the devices were as their maker leaves them, the headline holds of it.
+    ensures headline { HasRunOf (S.left source.old) result (map (λ d. state d) devices.old.items)
+        (map (λ d. state d) devices.new.items) (K.written sink.old) (K.written sink.new) }
     ensures sink_never_falls { K.faults sink.old ≤ K.faults sink.new }
     ensures source_never_falls { S.faults source.old ≤ S.faults source.new }
     ensures kept { length devices.new.items ≡ length devices.old.items }

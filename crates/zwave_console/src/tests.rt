@@ -280,6 +280,17 @@ fn scenarios_write_their_transcripts(rt: HostRuntime) -> Result<(), Fail> {
     Ok(())
 }
 
+// How many line feeds bytes have.
+fn line_feeds(bytes: &[u8]) -> u64 {
+    let mut count: u64 = 0;
+    for byte in bytes {
+        if *byte == b'\n' {
+            count = count.saturating_add(1);
+        }
+    }
+    count
+}
+
 #[test]
 fn a_failing_write_leaves_a_front(rt: HostRuntime) -> Result<(), Fail> {
     for write in 1..=25u64 {
@@ -287,6 +298,11 @@ fn a_failing_write_leaves_a_front(rt: HostRuntime) -> Result<(), Fail> {
         assert_eq!(rt; ended, Status::WriteFault, "at {write}");
         assert!(rt;
             SWITCHED_ON.as_bytes().starts_with(sink.bytes()),
+            "at {write}"
+        );
+        assert_eq!(rt; line_feeds(sink.bytes()), write - 1, "at {write}");
+        assert!(rt;
+            sink.bytes().last().is_none_or(|byte| *byte == b'\n'),
             "at {write}"
         );
     }

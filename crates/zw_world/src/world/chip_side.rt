@@ -1,6 +1,6 @@
 //! What the chip does in the world: it judges what the host wrote, and calls back.
 
-ghost use Rattle.std.specs.Prelude.{true, false, ◌≡◌, ◌+◌, ◌≤◌, ◌<◌, ℕ, List as Items, [], ◌∷◌, ◌++◌, length, take, drop, Option, Some, None, IfSome, IfOk, OnOk, OnErr};
+ghost use Rattle.std.specs.Prelude.{true, false, ◌≡◌, ◌≢◌, ◌↔◌, ◌+◌, ◌≤◌, ◌<◌, ℕ, List as Items, [], ◌∷◌, ◌++◌, length, take, drop, Option, Some, None, IfSome, IfOk, OnOk, OnErr, IsTrue};
 ghost use Rattle.std.specs.Option.{ForSome};
 ghost use Rattle.zw_world.specs.World.{AddsLines};
 ghost use Rattle.zw_world.specs.Knows.{machine_of, FirstSays};
@@ -32,6 +32,7 @@ impl World {
     pub(super) fn chip_hears(&mut self, out: &mut List<Entry>) -> Result<bool, NoMemory>
         ensures goes { OnOk result (GoesOn (machine_of self.old) (machine_of self.new) out.old.items out.new.items) }
         ensures stops { OnErr result (Stops (machine_of self.old) out.old.items out.new.items) }
+        ensures moved { IfOk result (λ moved. IsTrue moved ↔ (self.old.to_chip.bytes ≢ [])) }
     {
         if self.to_chip.bytes().is_empty() {
             return Ok(false);

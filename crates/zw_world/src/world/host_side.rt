@@ -1,6 +1,6 @@
 //! What the host does in the world: it begins sessions, and judges what the chip wrote.
 
-ghost use Rattle.std.specs.Prelude.{true, false, ◌≡◌, ◌+◌, ◌≤◌, ◌<◌, ℕ, [], ◌∷◌, ◌++◌, length, drop, Option, Some, None, IfSome, OnOk, OnErr};
+ghost use Rattle.std.specs.Prelude.{true, false, ◌≡◌, ◌≢◌, ◌↔◌, ◌+◌, ◌%◌, ◌≤◌, ◌<◌, ℕ, [], ◌∷◌, ◌++◌, length, drop, slice_get, slice_index_or, Option, Some, None, IfSome, IfOk, OnOk, OnErr, IsTrue};
 ghost use Rattle.supervision.specs.Session.{IsStatus};
 ghost use Rattle.device_sim.specs.Hearing.{report_text};
 ghost use Rattle.zw_world.specs.Host.{opening_of, order_at, closing_of, told};
@@ -26,6 +26,11 @@ pub(super) fn report_of(payload: &[u8]) -> Option<(u8, u8)>
     ensures read { (id status : ℕ) → payload.now ≡ report_text id status → id < 64 → IsStatus status →
         result ≡ Some (id, status) }
     ensures known { IfSome result (λ report. (report.0 < 64) × IsStatus report.1) }
+    ensures class { IfSome result (λ report. slice_get payload.now 0 ≡ Some SUPERVISION) }
+    ensures command { IfSome result (λ report. slice_get payload.now 1 ≡ Some SUPERVISION_REPORT) }
+    ensures whole { IfSome result (λ report. 5 ≤ length payload.now) }
+    ensures id { IfSome result (λ report. report.0 ≡ slice_index_or payload.now 2 0 % 64) }
+    ensures status { IfSome result (λ report. slice_get payload.now 3 ≡ Some report.1) }
 {
     match payload {
         [
@@ -109,6 +114,7 @@ impl World {
     pub(super) fn host_hears(&mut self, out: &mut List<Entry>) -> Result<bool, NoMemory>
         ensures goes { OnOk result (GoesOn (machine_of self.old) (machine_of self.new) out.old.items out.new.items) }
         ensures stops { OnErr result (Stops (machine_of self.old) out.old.items out.new.items) }
+        ensures moved { IfOk result (λ moved. IsTrue moved ↔ (self.old.to_host.bytes ≢ [])) }
     {
         if self.to_host.bytes().is_empty() {
             return Ok(false);

@@ -12,7 +12,7 @@ use Rattle.zw_laws.specs.Devices.{RunsAsShown, Runs}
 use Rattle.zw_laws.specs.Devices.Event.{Comes, Passes}
 use Rattle.zw_laws.specs.Headline.{IsDevice, ConfirmsLast, sets}
 use Rattle.zw_laws.specs.Lists.{EachAfter}
-use Rattle.zw_laws.specs.Once.{AreOrdered, IsUndone, Once}
+use Rattle.zw_laws.specs.Once.{AreOrdered, IsUndone, SucceedsAfterChange, Once}
 use Rattle.zw_laws.specs.Prompt.{MayGoOn, OwesNothing, IsPrompt}
 use Rattle.zw_laws.specs.Orders.{switch}
 use Rattle.zw_laws.specs.Worked.{switched_on, on, beginning, hearing, changing, answering, first_get, first_report, one_change, switch_before, switch_after}
@@ -95,6 +95,8 @@ runs_as_shown key = record {
   entered = refl;
   answered = refl;
   ticked = λ e. refl;
+  few = omega arith;
+  aired = tt;
   all_shown = λ e. refl;
 }
 
@@ -140,6 +142,11 @@ prompt = record {
   in_the_end = λ whole rest. record { begun = λ node awake final. none_waits node; sent = (refl, tt) };
 }
 
+-- success is reported after the change
+succeeds : SucceedsAfterChange switched_on
+succeeds =
+    (tt, (tt, (tt, (tt, (tt, (tt, (tt, (tt, (tt, (tt, (tt, (tt, (tt, (tt, (tt, (tt, (tt, (tt, (tt, (record { node = 2; session = 1; begun_for = refl; changed = inl refl }, (tt, tt)))))))))))))))))))))
+
 -- the one change is the last one
 same_change : (before : List Change) (change last : Change) (after : List Change) → last ∷ [] ≡ before ++ change ∷ after → last ≡ change
 same_change [] change last after e = cc
@@ -170,6 +177,7 @@ returns-clause-headline c key = record {
   };
   prompt = prompt;
   sessions_keep = grind arith;
+  succeeds = succeeds;
   once = λ node old new is supervised. is_switch key (λ (n : ℕ) (o e : State). Once n switched_on e.journal) once node old new is;
   confirms = λ node old new is supervised. is_switch key (λ (n : ℕ) (o e : State). ConfirmsLast n switched_on e) (confirms key) node old new is;
 }
