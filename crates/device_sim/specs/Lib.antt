@@ -1,4 +1,3 @@
 pub mod Kind
 pub mod State
-pub mod Hearing
-pub mod Switch
+pub mod Event

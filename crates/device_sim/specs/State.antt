@@ -1,14 +1,11 @@
 -- All that a simulated device is (this project's own model), whatever its kind.
-use Rattle.std.specs.Prelude.{ℕ, ◌+◌, List, [], ◌∷◌, ◌++◌, Bool, true, ◌==◌, Option, None, if◌then◌else◌}
+use Rattle.std.specs.Prelude.{ℕ, List, [], ◌∷◌, Bool, true, Option, None, if◌then◌else◌}
 use Rattle.zw_base.specs.PropertyOrder.{same_property}
 use Rattle.zw_base.specs.declared.property.Property.{Property}
 use Rattle.zw_base.specs.declared.property.Setting.{Setting}
-use Rattle.zw_base.specs.declared.property.By.TheVariants.{Local}
 use Rattle.supervision.specs.Device.{Taken, none_taken}
 use Rattle.device_sim.specs.declared.kind.Kind.{Kind}
-use Rattle.device_sim.specs.declared.kind.Kind.TheVariants.{Switch}
 use Rattle.device_sim.specs.declared.change.Change.{Change}
-use Rattle.device_sim.specs.Kind.{listens, main_property_of}
 
 -- what a giver of nonces keeps of a peer: how many it gave, and the one that is live
 pub record Given : Type 0 where
@@ -75,29 +72,3 @@ value_after (change ∷ changes) property before = value_after changes property 
 -- the value of a property: every one is 0 at first
 abbrev pub value_of : State → Property → ℕ
 value_of device property = value_after device.journal property 0
-
--- after a tick
-abbrev pub ticked : State → State
-ticked device = record device { clock = device.clock + 1 }
-
--- after a wake-up, which changes nothing at a device that listens
-abbrev pub woken : State → State
-woken device = device
-
--- the value that a number means for the main property
-abbrev pub by_hand : Kind → ℕ → ℕ
-by_hand Switch value = if value == 0 then 0 else 255
-
--- after somebody set the main property
-abbrev pub set_by_hand : State → ℕ → State
-set_by_hand device value =
-    let setting : Setting = record { property = main_property_of device.kind; value = by_hand device.kind value } in
-    record device { journal = device.journal ++ record { by = Local; settings = setting ∷ [] } ∷ [] }
-
--- what is shown of a device: the main property, and the others that are not 0
-abbrev pub shown_by : Kind → State → List Setting
-shown_by Switch device =
-    record { property = main_property_of Switch; value = value_of device (main_property_of Switch) } ∷ []
-
-abbrev pub shown_of : State → List Setting
-shown_of device = shown_by device.kind device

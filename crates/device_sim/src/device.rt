@@ -1,9 +1,9 @@
 //! The trait of the simulated devices.
 
-ghost use Rattle.std.specs.Prelude.{◌≡◌, ℕ, ◌<◌, [], length, slice_get, IfOk, OnOk, OnErr};
+ghost use Rattle.std.specs.Prelude.{◌≡◌, ℕ, ◌<◌, ◌≤◌, [], List, length, slice_get, IfOk, OnOk, OnErr};
 ghost use Rattle.device_sim.specs.Kind.{listens, classes_of};
-ghost use Rattle.device_sim.specs.State.{State, ticked, woken, set_by_hand, shown_of};
-ghost use Rattle.device_sim.specs.Hearing.{IsSupervisedSet, hears, replies_of};
+ghost use Rattle.device_sim.specs.State.{State};
+ghost use Rattle.device_sim.specs.Event.{DeviceEvent, Hears, Ticks, Wakes, Sets, device_after, device_replies};
 
 use crate::{Change, Profile};
 use std::alloc::Global;
@@ -30,40 +30,37 @@ pub trait Device: Drop {
     /// Takes a payload that comes to the device while it is awake.
     fn hear(&mut self, payload: &[u8], drawn: [u8; 8], out: &mut Replies) -> Result<(), NoMemory>
         requires { out.old ≡ [] }
-        ensures heard { OnOk result ((flags value : ℕ) → IsSupervisedSet payload.now flags value →
-            state self.new ≡ hears (state self.old) flags value) }
-        ensures replies { OnOk result ((flags value : ℕ) → IsSupervisedSet payload.now flags value →
-            out.new ≡ replies_of (state self.old) flags) }
+        ensures ok { OnOk result (state self.new ≡ device_after (state self.old) (Hears payload.now drawn)) }
+        ensures replies { OnOk result (out.new ≡ device_replies (state self.old) (Hears payload.now drawn)) }
         ensures err { OnErr result (state self.new ≡ state self.old) }
         ensures err_replies { OnErr result (out.new ≡ []) };
 
     /// A tick passes.
     fn tick(&mut self, drawn: [u8; 8], out: &mut Replies) -> Result<(), NoMemory>
         requires { out.old ≡ [] }
-        ensures ok { OnOk result (state self.new ≡ ticked (state self.old)) }
-        ensures replies { OnOk result (out.new ≡ []) }
+        ensures ok { OnOk result (state self.new ≡ device_after (state self.old) (Ticks drawn)) }
+        ensures replies { OnOk result (out.new ≡ device_replies (state self.old) (Ticks drawn)) }
         ensures err { OnErr result (state self.new ≡ state self.old) }
         ensures err_replies { OnErr result (out.new ≡ []) };
 
     /// Somebody wakes the device.
     fn wake(&mut self, out: &mut Replies) -> Result<(), NoMemory>
         requires { out.old ≡ [] }
-        ensures ok { OnOk result (state self.new ≡ woken (state self.old)) }
-        ensures replies { OnOk result (out.new ≡ []) }
+        ensures ok { OnOk result (state self.new ≡ device_after (state self.old) Wakes) }
+        ensures replies { OnOk result (out.new ≡ device_replies (state self.old) Wakes) }
         ensures err { OnErr result (state self.new ≡ state self.old) }
         ensures err_replies { OnErr result (out.new ≡ []) };
 
     /// Somebody sets the main property by hand.
     fn local(&mut self, value: u8, out: &mut Replies) -> Result<(), NoMemory>
         requires { out.old ≡ [] }
-        ensures ok { OnOk result (state self.new ≡ set_by_hand (state self.old) value) }
-        ensures replies { OnOk result (out.new ≡ []) }
+        ensures ok { OnOk result (state self.new ≡ device_after (state self.old) (Sets value)) }
+        ensures replies { OnOk result (out.new ≡ device_replies (state self.old) (Sets value)) }
         ensures err { OnErr result (state self.new ≡ state self.old) }
         ensures err_replies { OnErr result (out.new ≡ []) };
 
     /// The main property and the others that are not 0, in the order of properties, with their values.
-    fn show(&self, alloc: Global) -> Result<List<Setting>, NoMemory>
-        ensures { IfOk result (λ shown. shown.items ≡ shown_of (state self.now)) };
+    fn show(&self, alloc: Global) -> Result<List<Setting>, NoMemory>;
 
     /// How many changes it made.
     fn changes(&self) -> u64

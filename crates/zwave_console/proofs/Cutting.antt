@@ -1,7 +1,7 @@
 -- Where the first line of an input ends.
 use Rattle.std.proofs.Common.{◌≡◌, ◌≢◌, ℕ, zero, suc, ◌<◌, List, [], ◌∷◌, length, get_or, take, drop, arith}
 use Rattle.std.proofs.lemmas.Bool.Decides.{nat_tests}
-use Rattle.zw_laws.specs.Lines.{lines_of}
+use Rattle.first_laws.specs.Lines.{lines_of}
 
 -- a line ends before the first line feed
 pub lines_of-cut : (bytes : List ℕ) (k : ℕ) → k < length bytes → ((j : ℕ) → j < k → get_or bytes j 0 ≢ 10) → get_or bytes k 0 ≡ 10

@@ -1,19 +1,19 @@
 -- How a run comes to its end: the lines that were run, and the last lines that the status adds.
 use Rattle.std.proofs.Common.{◌≡◌, inl, inr, ℕ, ◌+◌, Bool, true, false, List, [], ◌∷◌, ◌++◌, Option, Some, None, IfSome, refl, ap, sym, subst, ◌∙◌, append-nil, arith}
 use Rattle.std.specs.Io.KnownBytes.{Appends, Keeps, Consumes, IsAtEnd}
-use Rattle.zw_text.specs.declared.line.Line.{Line}
-use Rattle.zw_text.specs.declared.fault.LineFault.{LineFault}
-use Rattle.zw_text.specs.declared.fault.LineFault.TheVariants.{Unknown}
-use Rattle.zw_text.specs.declared.entry.Entry.{Entry}
-use Rattle.zw_text.specs.declared.entry.Entry.TheVariants.{BadLine as bad_line}
-use Rattle.zw_text.specs.Entry.{text_of}
-use Rattle.zw_laws.specs.Headline.{Headline}
-use Rattle.zw_laws.specs.Lines.{lines_of, AreLines, AreFirstLines, AreLinesBefore, ticks_asked}
-use Rattle.zw_text.specs.Transcript.{lines_run}
-use Rattle.world_facts.specs.Machine.{Machine, AtEase, first_machine}
-use Rattle.zw_world.specs.Knows.{States}
+use Rattle.first_text.specs.declared.line.Line.{Line}
+use Rattle.first_text.specs.declared.fault.LineFault.{LineFault}
+use Rattle.first_text.specs.declared.fault.LineFault.TheVariants.{Unknown}
+use Rattle.first_text.specs.declared.entry.Entry.{Entry}
+use Rattle.first_text.specs.declared.entry.Entry.TheVariants.{BadLine as bad_line}
+use Rattle.first_text.specs.Entry.{text_of}
+use Rattle.first_laws.specs.Headline.{Headline}
+use Rattle.first_laws.specs.Lines.{lines_of, AreLines, AreFirstLines, AreLinesBefore, ticks_asked}
+use Rattle.first_text.specs.Transcript.{lines_run}
+use Rattle.first_facts.specs.Machine.{Machine, AtEase, first_machine}
+use Rattle.first_world.specs.Knows.{States}
 use Rattle.zwave_console.specs.Output.{AppendsFront}
-use Rattle.zw_world.specs.Table.{table_lines}
+use Rattle.first_world.specs.Table.{table_lines}
 use Rattle.zwave_console.specs.Run.{LinesRan, EndsWell, EndsBadly, HasRun, HasRunOf, IsTable, AreAsMade}
 use Rattle.zwave_console.specs.declared.run.LinesEnd.TheVariants.{All, Bad, Failed as lines_failed, NoMemory as lines_no_memory}
 use Rattle.zwave_console.specs.declared.status.Status.{Status}

@@ -2,20 +2,20 @@
 use Rattle.std.proofs.Common.{◌≡◌, inl, inr, ℕ, ◌+◌, Bool, true, false, List, [], ◌∷◌, ◌++◌, Option, Result, Ok, Err, OnOk, OnErr, ap, sym, subst, ◌∙◌, append-nil}
 use Rattle.std.specs.Io.KnownBytes.{Appends}
 use Rattle.std.proofs.lemmas.Result.{on_ok_weaker}
-use Rattle.zw_text.specs.declared.line.Line.{Line}
-use Rattle.zw_text.specs.declared.entry.Entry.{Entry}
-use Rattle.zw_text.specs.Entry.{text_of}
-use Rattle.zw_text.specs.Transcript.{lines_run}
-use Rattle.zw_laws.specs.Headline.{Headline}
-use Rattle.zw_laws.specs.Lines.{ticks_asked}
-use Rattle.zw_laws.specs.Table.{table_of}
-use Rattle.world_facts.specs.Facts.{Holds}
-use Rattle.world_facts.specs.Goes.{Goes}
-use Rattle.world_facts.specs.Machine.{Machine, AtEase, first_machine}
-use Rattle.world_facts.proofs.KnowsLemmas.{Knows-first, Knows-tables, Holds-at_ease, Holds-held, Held-knows}
-use Rattle.zw_world.specs.Knows.{States, GoesUpTo}
+use Rattle.first_text.specs.declared.line.Line.{Line}
+use Rattle.first_text.specs.declared.entry.Entry.{Entry}
+use Rattle.first_text.specs.Entry.{text_of}
+use Rattle.first_text.specs.Transcript.{lines_run}
+use Rattle.first_laws.specs.Headline.{Headline}
+use Rattle.first_laws.specs.Lines.{ticks_asked}
+use Rattle.first_laws.specs.Table.{table_of}
+use Rattle.first_facts.specs.Facts.{Holds}
+use Rattle.first_facts.specs.Goes.{Goes}
+use Rattle.first_facts.specs.Machine.{Machine, AtEase, first_machine}
+use Rattle.first_facts.proofs.KnowsLemmas.{Knows-first, Knows-tables, Holds-at_ease, Holds-held, Held-knows}
+use Rattle.first_world.specs.Knows.{States, GoesUpTo}
 use Rattle.zwave_console.specs.Output.{AppendsFront}
-use Rattle.zw_world.specs.Table.{table_lines}
+use Rattle.first_world.specs.Table.{table_lines}
 use Rattle.zwave_console.specs.Run.{AreAsMade, IsTable}
 use Rattle.zwave_console.specs.RunLine.{LineRan, LineStopped}
 use Rattle.zwave_console.proofs.Writing.{AppendsFront-whole}

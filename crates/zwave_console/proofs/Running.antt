@@ -3,19 +3,19 @@ use Rattle.std.proofs.Common.{◌≡◌, ◌⊎◌, inl, inr, ℕ, ◌+◌, ◌=
 use Rattle.std.specs.Io.KnownBytes.{Appends}
 use Rattle.std.proofs.lemmas.Bool.Decides.{nat_tests}
 use Rattle.std.proofs.lemmas.Grind.{flat_map-append}
-use Rattle.zw_text.specs.declared.line.Line.{Line}
-use Rattle.zw_text.specs.declared.line.Line.TheVariants.{Set, Tick}
-use Rattle.zw_text.specs.declared.fault.LineFault.{LineFault}
-use Rattle.zw_text.specs.declared.fault.LineFault.TheVariants.{Unknown}
-use Rattle.zw_text.specs.declared.fault.ReadLineFault.{ReadLineFault}
-use Rattle.zw_text.specs.declared.fault.ReadLineFault.TheVariants.{Bad as ReadBad, NoMemory as ReadNoMemory}
-use Rattle.zw_text.specs.declared.entry.Entry.{Entry}
-use Rattle.zw_text.specs.Entry.{text_of, line_text}
-use Rattle.zw_text.specs.Line.{LineText}
-use Rattle.zw_text.specs.Transcript.{lines_run, line_of}
-use Rattle.zw_laws.specs.Lines.{lines_of, AreLines, AreFirstLines, ticks_asked}
-use Rattle.world_facts.specs.Machine.{Machine, AtEase}
-use Rattle.zw_world.specs.Knows.{States}
+use Rattle.first_text.specs.declared.line.Line.{Line}
+use Rattle.first_text.specs.declared.line.Line.TheVariants.{Set, Tick}
+use Rattle.first_text.specs.declared.fault.LineFault.{LineFault}
+use Rattle.first_text.specs.declared.fault.LineFault.TheVariants.{Unknown}
+use Rattle.first_text.specs.declared.fault.ReadLineFault.{ReadLineFault}
+use Rattle.first_text.specs.declared.fault.ReadLineFault.TheVariants.{Bad as ReadBad, NoMemory as ReadNoMemory}
+use Rattle.first_text.specs.declared.entry.Entry.{Entry}
+use Rattle.first_text.specs.Entry.{text_of, line_text}
+use Rattle.first_text.specs.Line.{LineText}
+use Rattle.first_text.specs.Transcript.{lines_run, line_of}
+use Rattle.first_laws.specs.Lines.{lines_of, AreLines, AreFirstLines, ticks_asked}
+use Rattle.first_facts.specs.Machine.{Machine, AtEase}
+use Rattle.first_world.specs.Knows.{States}
 use Rattle.zwave_console.specs.Output.{AppendsFront}
 use Rattle.zwave_console.specs.Run.{LinesRan}
 use Rattle.zwave_console.specs.RunLine.{LineRan, LineStopped}

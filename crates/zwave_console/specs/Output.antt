@@ -1,7 +1,7 @@
 -- What a sink holds after a write that did not come to its end.
 use Rattle.std.specs.Prelude.{ℕ, List, Option}
 use Rattle.std.specs.Io.KnownBytes.{Appends}
-use Rattle.zw_laws.specs.Lists.{IsFrontOf}
+use Rattle.first_laws.specs.Lists.{IsFrontOf}
 
 -- known bytes grow by a front of these
 abbrev pub AppendsFront : Option (List ℕ) → Option (List ℕ) → List ℕ → Type 0

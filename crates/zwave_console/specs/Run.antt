@@ -4,20 +4,20 @@ use Rattle.std.specs.List.{AllByRecursion}
 use Rattle.std.specs.Io.KnownBytes.{Appends, Keeps}
 use Rattle.std.specs.declared.string.String.{String}
 use Rattle.std.specs.declared.alloc.Global.{Global}
-use Rattle.zw_text.specs.declared.line.Line.{Line}
-use Rattle.zw_text.specs.declared.fault.LineFault.{LineFault}
-use Rattle.zw_text.specs.declared.fault.LineFault.TheVariants.{Unknown}
-use Rattle.zw_text.specs.declared.entry.Entry.{Entry}
-use Rattle.zw_text.specs.declared.entry.Entry.TheVariants.{BadLine as bad_line}
-use Rattle.zw_text.specs.Entry.{text_of}
-use Rattle.zw_text.specs.Transcript.{lines_run}
-use Rattle.zw_laws.specs.Headline.{IsAsMade, Headline}
-use Rattle.zw_laws.specs.Table.{table_of}
-use Rattle.zw_laws.specs.Lines.{lines_of, AreLines, AreFirstLines, AreLinesBefore, ticks_asked}
-use Rattle.world_facts.specs.Facts.{Holds}
-use Rattle.world_facts.specs.Machine.{Machine, AtEase}
-use Rattle.zw_world.specs.Knows.{States}
-use Rattle.zw_world.specs.Table.{table_lines}
+use Rattle.first_text.specs.declared.line.Line.{Line}
+use Rattle.first_text.specs.declared.fault.LineFault.{LineFault}
+use Rattle.first_text.specs.declared.fault.LineFault.TheVariants.{Unknown}
+use Rattle.first_text.specs.declared.entry.Entry.{Entry}
+use Rattle.first_text.specs.declared.entry.Entry.TheVariants.{BadLine as bad_line}
+use Rattle.first_text.specs.Entry.{text_of}
+use Rattle.first_text.specs.Transcript.{lines_run}
+use Rattle.first_laws.specs.Headline.{IsAsMade, Headline}
+use Rattle.first_laws.specs.Table.{table_of}
+use Rattle.first_laws.specs.Lines.{lines_of, AreLines, AreFirstLines, AreLinesBefore, ticks_asked}
+use Rattle.first_facts.specs.Facts.{Holds}
+use Rattle.first_facts.specs.Machine.{Machine, AtEase}
+use Rattle.first_world.specs.Knows.{States}
+use Rattle.first_world.specs.Table.{table_lines}
 use Rattle.zwave_console.specs.Output.{AppendsFront}
 use Rattle.zwave_console.specs.declared.status.Status.{Status}
 use Rattle.zwave_console.specs.declared.status.Status.TheVariants.{Ok, Usage, BadLine, ReadFault, WriteFault, NoMemory, InputTooLong, BadHex}

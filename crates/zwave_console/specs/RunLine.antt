@@ -1,13 +1,13 @@
 -- What running one line does and writes (this project's own).
 use Rattle.std.specs.Prelude.{◌≡◌, ◌⊎◌, ℕ, ◌+◌, false, List, [], ◌∷◌, ◌++◌, Option}
-use Rattle.zw_text.specs.declared.line.Line.{Line}
-use Rattle.zw_text.specs.declared.entry.Entry.{Entry}
-use Rattle.zw_text.specs.Entry.{text_of}
-use Rattle.zw_text.specs.Transcript.{lines_run}
-use Rattle.zw_laws.specs.Lines.{ticks_asked}
-use Rattle.world_facts.specs.Facts.{Holds}
-use Rattle.world_facts.specs.Machine.{Machine, AtEase}
-use Rattle.zw_world.specs.Knows.{States}
+use Rattle.first_text.specs.declared.line.Line.{Line}
+use Rattle.first_text.specs.declared.entry.Entry.{Entry}
+use Rattle.first_text.specs.Entry.{text_of}
+use Rattle.first_text.specs.Transcript.{lines_run}
+use Rattle.first_laws.specs.Lines.{ticks_asked}
+use Rattle.first_facts.specs.Facts.{Holds}
+use Rattle.first_facts.specs.Machine.{Machine, AtEase}
+use Rattle.first_world.specs.Knows.{States}
 use Rattle.zwave_console.specs.Output.{AppendsFront}
 
 -- the line was run, with entries whose text was written so: the clock went on by the ticks that it asks for, and what was

@@ -3,7 +3,7 @@
 use crate::chacha::ChaChaDraw;
 use crate::run::run;
 use crate::status::Status;
-use device_sim::Device;
+use first_devices::Device;
 use std::io;
 use std::io::{ErrorKind, Read, Write};
 use std::test::Fail;

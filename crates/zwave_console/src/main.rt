@@ -1,7 +1,7 @@
 //! The console of the simulator: it reads a scenario and writes the transcript of all that it does.
 //!
 //! `run` is the whole of it, and its clause `headline` is the theorem of docs/THEOREM.md. Host, chip, line and air stand in
-//! the crate `zw_world`; the definitions that the clauses cite are those of `zw_laws`, `world_facts`, `zw_world` and this
+//! the crate `first_world`; the definitions that the clauses cite are those of `first_laws`, `first_facts`, `first_world` and this
 //! crate's `specs/`. `main` makes the devices, the input and the output.
 #![tactic(auto)]
 
@@ -18,7 +18,7 @@ mod tests;
 use crate::chacha::ChaChaDraw;
 use crate::run::run;
 use crate::status::Status;
-use device_sim::{Device, make_switch};
+use first_devices::{Device, make_switch};
 use std::alloc::Global;
 use std::env;
 use std::io::ErrorKind;

@@ -4,12 +4,12 @@ ghost use Rattle.std.specs.Prelude.{◌≡◌, ◌≤◌, ℕ, List as Items, �
 ghost use Rattle.std.specs.Io.KnownBytes.{Appends, Keeps};
 ghost use Rattle.zw_base.specs.Faults.{Rose};
 ghost use Rattle.std.specs.List.{flat_map};
-ghost use Rattle.zw_text.specs.Entry.{line_text, text_of};
+ghost use Rattle.first_text.specs.Entry.{line_text, text_of};
 ghost use Rattle.zwave_console.specs.Output.{AppendsFront};
 
+use first_text::{Entry, print_entry};
 use std::alloc::Global;
 use zw_base::{Bytes, Failed, List, NoMemory, Sink};
-use zw_text::{Entry, print_entry};
 
 /// Why lines were not written.
 #[derive(Clone, Copy, Debug, PartialEq, Eq)]

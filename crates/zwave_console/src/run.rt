@@ -3,23 +3,23 @@
 ghost use Rattle.std.specs.Prelude.{◌≡◌, ◌≢◌, ◌^◌, ◌<◌, ◌≤◌, ◌↔◌, ℕ, [], ◌∷◌, length, map, IfSome, IsTrue, slice_index, OnOk, OnErr, IsErrOf};
 ghost use Rattle.std.specs.Io.KnownBytes.{Appends, Keeps, IsAtEnd};
 ghost use Rattle.zw_base.specs.Faults.{Rose};
-ghost use Rattle.zw_laws.specs.Lines.{lines_of};
+ghost use Rattle.first_laws.specs.Lines.{lines_of};
 ghost use Rattle.zwave_console.specs.Output.{AppendsFront};
-ghost use Rattle.zw_text.specs.Entry.{text_of};
-ghost use Rattle.zw_text.specs.Line.{IsWithinRanges};
-ghost use Rattle.zw_world.specs.Knows.{machine_of};
-ghost use Rattle.zw_world.specs.Table.{table_lines};
+ghost use Rattle.first_text.specs.Entry.{text_of};
+ghost use Rattle.first_text.specs.Line.{IsWithinRanges};
+ghost use Rattle.first_world.specs.Knows.{machine_of};
+ghost use Rattle.first_world.specs.Table.{table_lines};
 ghost use Rattle.zwave_console.specs.Run.{LinesRan, EndsWell, EndsBadly, IsOfRun, IsSim, ReadsWhole, HasRun, HasRunOf};
 ghost use Rattle.zwave_console.specs.RunLine.{LineRan, LineStopped};
 
 use crate::input::{InputFault, MAX_INPUT, read_input};
 use crate::output::{OutputFault, write_entries};
 use crate::status::Status;
-use device_sim::Device;
+use first_devices::Device;
+use first_text::{Entry, Line, LineFault, ReadLineFault, read_line};
+use first_world::World;
 use std::alloc::Global;
 use zw_base::{Draw, List, NoMemory, Sink, Source};
-use zw_text::{Entry, Line, LineFault, ReadLineFault, read_line};
-use zw_world::World;
 
 /// Runs the command that the words name: `sim` reads a scenario and writes the transcript of what it does.
 /// `devices` are those of the mesh, and `key` is the network key that they have.

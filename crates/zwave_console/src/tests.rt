@@ -3,11 +3,11 @@
 use crate::chacha::ChaChaDraw;
 use crate::run::run;
 use crate::status::Status;
-use device_sim::{Device, make_switch};
+use first_devices::{Device, make_switch};
+use first_text::LineFault;
 use std::alloc::Global;
 use std::test::Fail;
 use zw_base::{Failed, FixedDraw, MemorySink, MemorySource, Sink, read_node};
-use zw_text::LineFault;
 
 const KEY: [u8; 16] = [7; 16];
 

@@ -1,5 +1,5 @@
 use Rattle.std.proofs.Common.{◌≡◌, take, map}
-use Rattle.zw_text.specs.Entry.{line_text}
+use Rattle.first_text.specs.Entry.{line_text}
 use Rattle.zwave_console.proofs.output.print_all.Given as goal
 
 abbrev pub invariant-loop-entry : goal.invariant-loop-entry

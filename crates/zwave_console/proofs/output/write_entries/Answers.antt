@@ -1,7 +1,7 @@
 use Rattle.std.proofs.Common.{◌≡◌, List, ℕ, map, ap, ◌∙◌}
 use Rattle.std.specs.List.{flat_map}
 use Rattle.std.proofs.lemmas.List.Folds.{flat_map-map}
-use Rattle.zw_text.specs.Entry.{line_text, text_of}
+use Rattle.first_text.specs.Entry.{line_text, text_of}
 use Rattle.zwave_console.proofs.output.write_entries.Goals as goal
 
 pub returns-clause-written : goal.returns-clause-written

@@ -1,5 +1,5 @@
 use Rattle.std.proofs.Common.{arith}
-use Rattle.zw_world.proofs.Errors.{OnErr-always}
+use Rattle.first_world.proofs.Errors.{OnErr-always}
 use Rattle.zwave_console.proofs.Writing.{written_within, written_front, written_more}
 use Rattle.zwave_console.proofs.output.write_piece.Goals as goal
 

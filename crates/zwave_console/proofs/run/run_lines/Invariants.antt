@@ -1,5 +1,5 @@
 use Rattle.std.proofs.Common.{◌≡◌, ◌≤◌, ◌+◌, length, map}
-use Rattle.zw_world.specs.Knows.{machine_of}
+use Rattle.first_world.specs.Knows.{machine_of}
 use Rattle.zwave_console.proofs.Running.{RunsOn}
 use Rattle.zwave_console.proofs.run.run_lines.Given as goal
 

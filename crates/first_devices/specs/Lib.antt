@@ -1,0 +1,4 @@
+pub mod Kind
+pub mod State
+pub mod Hearing
+pub mod Switch

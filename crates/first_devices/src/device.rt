@@ -1,0 +1,75 @@
+//! The trait of the simulated devices.
+
+ghost use Rattle.std.specs.Prelude.{◌≡◌, ℕ, ◌<◌, [], length, slice_get, IfOk, OnOk, OnErr};
+ghost use Rattle.first_devices.specs.Kind.{listens, classes_of};
+ghost use Rattle.first_devices.specs.State.{State, ticked, woken, set_by_hand, shown_of};
+ghost use Rattle.first_devices.specs.Hearing.{IsSupervisedSet, hears, replies_of};
+
+use crate::{Change, Profile};
+use std::alloc::Global;
+use zw_base::{List, NoMemory, NodeId, Replies, Setting};
+
+/// A simulated device. `drawn` are eight drawn bytes for a nonce that the call may need. What a call puts out are
+/// payloads of 1 to 46 bytes, to be sent in their order. Ticks are of 100 ms.
+pub trait Device: Drop {
+    /// All that the device is: its node and kind, its sessions, and the changes that it made.
+    ghost state: { Self → State };
+
+    fn node(&self) -> NodeId
+        ensures { result ≡ (state self.now).node };
+
+    /// What the device tells of itself.
+    fn profile(&self, alloc: Global) -> Result<Profile, NoMemory>
+        ensures listening { IfOk result (λ profile. profile.listening ≡ listens (state self.now).kind) }
+        ensures classes { IfOk result (λ profile. profile.classes ≡ classes_of (state self.now).kind) };
+
+    /// Whether it hears what comes.
+    fn awake(&self) -> bool
+        ensures { result ≡ (state self.now).awake };
+
+    /// Takes a payload that comes to the device while it is awake.
+    fn hear(&mut self, payload: &[u8], drawn: [u8; 8], out: &mut Replies) -> Result<(), NoMemory>
+        requires { out.old ≡ [] }
+        ensures heard { OnOk result ((flags value : ℕ) → IsSupervisedSet payload.now flags value →
+            state self.new ≡ hears (state self.old) flags value) }
+        ensures replies { OnOk result ((flags value : ℕ) → IsSupervisedSet payload.now flags value →
+            out.new ≡ replies_of (state self.old) flags) }
+        ensures err { OnErr result (state self.new ≡ state self.old) }
+        ensures err_replies { OnErr result (out.new ≡ []) };
+
+    /// A tick passes.
+    fn tick(&mut self, drawn: [u8; 8], out: &mut Replies) -> Result<(), NoMemory>
+        requires { out.old ≡ [] }
+        ensures ok { OnOk result (state self.new ≡ ticked (state self.old)) }
+        ensures replies { OnOk result (out.new ≡ []) }
+        ensures err { OnErr result (state self.new ≡ state self.old) }
+        ensures err_replies { OnErr result (out.new ≡ []) };
+
+    /// Somebody wakes the device.
+    fn wake(&mut self, out: &mut Replies) -> Result<(), NoMemory>
+        requires { out.old ≡ [] }
+        ensures ok { OnOk result (state self.new ≡ woken (state self.old)) }
+        ensures replies { OnOk result (out.new ≡ []) }
+        ensures err { OnErr result (state self.new ≡ state self.old) }
+        ensures err_replies { OnErr result (out.new ≡ []) };
+
+    /// Somebody sets the main property by hand.
+    fn local(&mut self, value: u8, out: &mut Replies) -> Result<(), NoMemory>
+        requires { out.old ≡ [] }
+        ensures ok { OnOk result (state self.new ≡ set_by_hand (state self.old) value) }
+        ensures replies { OnOk result (out.new ≡ []) }
+        ensures err { OnErr result (state self.new ≡ state self.old) }
+        ensures err_replies { OnErr result (out.new ≡ []) };
+
+    /// The main property and the others that are not 0, in the order of properties, with their values.
+    fn show(&self, alloc: Global) -> Result<List<Setting>, NoMemory>
+        ensures { IfOk result (λ shown. shown.items ≡ shown_of (state self.now)) };
+
+    /// How many changes it made.
+    fn changes(&self) -> u64
+        ensures { result ≡ length (state self.now).journal };
+
+    /// The change at that place of the journal, counted from 0.
+    fn change(&self, alloc: Global, at: u64) -> Result<Option<Change>, NoMemory>
+        ensures { IfOk result (λ change. change ≡ slice_get (state self.now).journal at) };
+}
