@@ -2,10 +2,9 @@
 
 use crate::nodes::node;
 use std::alloc::Global;
-use std::process::Abort;
 use std::test::Fail;
 use value_store::{Held, MAX_PROPERTIES, Store, StoreFault, Stored};
-use zw_base::{EndPoint, Name, Property, read_end};
+use zw_base::{EndPoint, Name, NodeId, Property, read_end};
 
 fn of_root(name: Name) -> Property {
     Property {
@@ -18,88 +17,126 @@ fn values(confirmed: Option<u32>, heard: Option<u32>) -> Stored {
     Stored { confirmed, heard }
 }
 
-fn expect_json(rt: &impl Abort, alloc: Global, store: &Store, want: &str) -> Result<(), Fail> {
-    let text = store.to_json(alloc, node(2)?)?;
-    assert_eq!(rt; text.as_slice(), want.as_bytes());
-    Ok(())
+/// A call for a property of a node itself, and what it answers. One that is confirmed is reserved before.
+enum Call {
+    Reserve(Result<(), StoreFault>),
+    Confirm(u32),
+    Hear(u32, Result<(), StoreFault>),
+    Get(Option<u32>, Option<u32>),
+    None,
+}
+
+/// Whether the call answers so.
+fn answers(
+    store: &mut Store,
+    node: NodeId,
+    property: Property,
+    call: &Call,
+) -> Result<bool, StoreFault> {
+    match call {
+        Call::Reserve(want) => Ok(store.reserve(node, &[property]) == *want),
+        Call::Confirm(value) => {
+            store.reserve(node, &[property])?;
+            store.confirm(node, property, *value);
+            Ok(true)
+        }
+        Call::Hear(value, want) => Ok(store.hear_report(node, property, *value) == *want),
+        Call::Get(confirmed, heard) => {
+            Ok(store.get(node, property) == Some(values(*confirmed, *heard)))
+        }
+        Call::None => Ok(store.get(node, property).is_none()),
+    }
+}
+
+const APART: [(u8, Name, Call); 13] = [
+    (2, Name::Switch, Call::None),
+    (2, Name::Switch, Call::Reserve(Ok(()))),
+    (2, Name::Switch, Call::None),
+    (2, Name::Switch, Call::Confirm(255)),
+    (2, Name::Level, Call::Confirm(50)),
+    (2, Name::Level, Call::Hear(99, Ok(()))),
+    (2, Name::Switch, Call::Get(Some(255), None)),
+    (2, Name::Level, Call::Get(Some(50), Some(99))),
+    (2, Name::Lock, Call::None),
+    (3, Name::Switch, Call::None),
+    (3, Name::Switch, Call::Hear(1, Ok(()))),
+    (3, Name::Switch, Call::Get(None, Some(1))),
+    (2, Name::Switch, Call::Hear(0, Ok(()))),
+];
+
+/// Whether the store lists the switch and the level of node 2, after those rows.
+fn lists_both(alloc: Global, store: &Store) -> Result<bool, Fail> {
+    let held = [
+        Held {
+            property: of_root(Name::Switch),
+            stored: values(Some(255), Some(0)),
+        },
+        Held {
+            property: of_root(Name::Level),
+            stored: values(Some(50), Some(99)),
+        },
+    ];
+    let listed = store.list(alloc, node(2)?)?;
+    Ok(listed.as_slice() == held.as_slice())
 }
 
 #[test]
 fn values_are_kept_apart(rt: HostRuntime) -> Result<(), Fail> {
-    let alloc = rt.alloc();
-    let two = node(2)?;
-    let switch = of_root(Name::Switch);
-    let level = of_root(Name::Level);
-    let mut store = Store::new(alloc);
-    store.reserve(two, &[level, switch, level])?;
-    assert_eq!(rt; store.get(two, switch), None);
-    assert!(rt; store.list(alloc, two)?.is_empty());
-    store.confirm(two, switch, 255);
-    store.confirm(two, level, 50);
-    assert_eq!(rt; store.hear_report(two, level, 99), Ok(()));
-    let rows = [
-        (2, switch, Some(values(Some(255), None))),
-        (2, level, Some(values(Some(50), Some(99)))),
-        (2, of_root(Name::Lock), None),
-        (3, switch, None),
-    ];
-    for (n, property, want) in rows {
-        assert_eq!(rt; store.get(node(n)?, property), want, "of {n}");
+    let mut store = Store::new(rt.alloc());
+    for ((number, name, call), row) in APART.iter().zip(1..100u8) {
+        let same = answers(&mut store, node(*number)?, of_root(*name), call)?;
+        assert!(rt; same, "row {row}");
     }
-    assert_eq!(rt; store.hear_report(two, switch, 0), Ok(()));
-    let held = [
-        Held {
-            property: switch,
-            stored: values(Some(255), Some(0)),
-        },
-        Held {
-            property: level,
-            stored: values(Some(50), Some(99)),
-        },
-    ];
-    assert_eq!(rt; store.list(alloc, two)?.as_slice(), held.as_slice());
+    let listed = lists_both(rt.alloc(), &store)?;
+    assert!(rt; listed);
     Ok(())
+}
+
+/// A switch that is confirmed, and a member of an association of the last end point that is heard.
+fn switch_and_member(alloc: Global) -> Result<Store, Fail> {
+    let mut store = Store::new(alloc);
+    let end = read_end(127).ok_or("no end point")?;
+    let name = Name::Member(3, node(232)?);
+    store.hear_report(node(2)?, Property { end, name }, u32::MAX)?;
+    let switch = of_root(Name::Switch);
+    store.reserve(node(2)?, &[switch, switch])?;
+    store.confirm(node(2)?, switch, 255);
+    Ok(store)
 }
 
 #[test]
 fn values_are_printed(rt: HostRuntime) -> Result<(), Fail> {
-    let alloc = rt.alloc();
-    let two = node(2)?;
-    let mut store = Store::new(alloc);
-    expect_json(&rt, alloc, &store, "{\"node\":2,\"values\":[]}")?;
-    let end = read_end(127).ok_or("no end point")?;
-    let name = Name::Member(3, node(232)?);
-    store.hear_report(two, Property { end, name }, u32::MAX)?;
-    let switch = of_root(Name::Switch);
-    store.reserve(two, &[switch])?;
-    store.confirm(two, switch, 255);
-    expect_json(
-        &rt,
-        alloc,
-        &store,
+    let empty = Store::new(rt.alloc()).to_json(rt.alloc(), node(2)?)?;
+    assert!(rt; empty.as_slice() == b"{\"node\":2,\"values\":[]}".as_slice());
+    let text = switch_and_member(rt.alloc())?.to_json(rt.alloc(), node(2)?)?;
+    let want =
         "{\"node\":2,\"values\":[{\"confirmed\":255,\"heard\":null,\"property\":\"0/switch\"},\
-         {\"confirmed\":null,\"heard\":4294967295,\"property\":\"127/member:3:232\"}]}",
-    )?;
+         {\"confirmed\":null,\"heard\":4294967295,\"property\":\"127/member:3:232\"}]}";
+    assert!(rt; text.as_slice() == want.as_bytes());
     Ok(())
 }
 
+/// What a node with 512 properties takes, and what another node does.
+const FULL: [(u8, Name, Call); 5] = [
+    (2, Name::Switch, Call::Reserve(Err(StoreFault::StoreFull))),
+    (2, Name::Switch, Call::Hear(1, Err(StoreFault::StoreFull))),
+    (2, Name::Config(9), Call::Reserve(Ok(()))),
+    (2, Name::Config(9), Call::Hear(1, Ok(()))),
+    (3, Name::Switch, Call::Hear(1, Ok(()))),
+];
+
 #[test]
 fn a_node_has_at_most_512_properties(rt: HostRuntime) -> Result<(), Fail> {
-    let two = node(2)?;
     let mut store = Store::new(rt.alloc());
+    let end = read_end(1).ok_or("no end point")?;
     for n in 0..=255u8 {
         let name = Name::Config(n);
-        let end = read_end(1).ok_or("no end point")?;
-        store.reserve(two, &[of_root(name), Property { end, name }])?;
+        store.reserve(node(2)?, &[of_root(name), Property { end, name }])?;
     }
-    let switch = of_root(Name::Switch);
-    assert_eq!(rt; store.reserve(two, &[switch]), Err(StoreFault::StoreFull));
-    assert_eq!(rt;
-        store.hear_report(two, switch, 1),
-        Err(StoreFault::StoreFull)
-    );
-    assert_eq!(rt; store.hear_report(two, of_root(Name::Config(9)), 1), Ok(()));
-    assert_eq!(rt; store.hear_report(node(3)?, switch, 1), Ok(()));
-    assert_eq!(rt; MAX_PROPERTIES, 512);
+    for ((number, name, call), row) in FULL.iter().zip(1..100u8) {
+        let same = answers(&mut store, node(*number)?, of_root(*name), call)?;
+        assert!(rt; same, "row {row}");
+    }
+    assert!(rt; MAX_PROPERTIES == 512);
     Ok(())
 }
