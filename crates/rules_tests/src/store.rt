@@ -30,21 +30,21 @@ enum Call {
 fn answers(
     store: &mut Store,
     node: NodeId,
-    property: Property,
+    property: &Property,
     call: &Call,
 ) -> Result<bool, StoreFault> {
     match call {
-        Call::Reserve(want) => Ok(store.reserve(node, &[property]) == *want),
+        Call::Reserve(want) => Ok(store.reserve(node, &[*property]) == *want),
         Call::Confirm(value) => {
-            store.reserve(node, &[property])?;
-            store.confirm(node, property, *value);
+            store.reserve(node, &[*property])?;
+            store.confirm(node, *property, *value);
             Ok(true)
         }
-        Call::Hear(value, want) => Ok(store.hear_report(node, property, *value) == *want),
+        Call::Hear(value, want) => Ok(store.hear_report(node, *property, *value) == *want),
         Call::Get(confirmed, heard) => {
-            Ok(store.get(node, property) == Some(values(*confirmed, *heard)))
+            Ok(store.get(node, *property) == Some(values(*confirmed, *heard)))
         }
-        Call::None => Ok(store.get(node, property).is_none()),
+        Call::None => Ok(store.get(node, *property).is_none()),
     }
 }
 
@@ -84,7 +84,7 @@ fn lists_both(alloc: Global, store: &Store) -> Result<bool, Fail> {
 fn values_are_kept_apart(rt: HostRuntime) -> Result<(), Fail> {
     let mut store = Store::new(rt.alloc());
     for ((number, name, call), row) in APART.iter().zip(1..100u8) {
-        let same = answers(&mut store, node(*number)?, of_root(*name), call)?;
+        let same = answers(&mut store, node(*number)?, &of_root(*name), call)?;
         assert!(rt; same, "row {row}");
     }
     let listed = lists_both(rt.alloc(), &store)?;
@@ -134,7 +134,7 @@ fn a_node_has_at_most_512_properties(rt: HostRuntime) -> Result<(), Fail> {
         store.reserve(node(2)?, &[of_root(name), Property { end, name }])?;
     }
     for ((number, name, call), row) in FULL.iter().zip(1..100u8) {
-        let same = answers(&mut store, node(*number)?, of_root(*name), call)?;
+        let same = answers(&mut store, node(*number)?, &of_root(*name), call)?;
         assert!(rt; same, "row {row}");
     }
     assert!(rt; MAX_PROPERTIES == 512);
