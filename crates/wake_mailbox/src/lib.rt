@@ -5,7 +5,5 @@
 #![tactic(auto)]
 
 mod mailbox;
-#[cfg(test)]
-mod tests;
 
 pub use mailbox::{CAPACITY, Full, Mailbox, NotWaiting};
