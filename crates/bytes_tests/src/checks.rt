@@ -14,6 +14,6 @@ fn agrees_with_outside_vectors(rt: HostRuntime) {
         (&[0xFF; 16], 0x45EA),
     ];
     for (bytes, want) in table {
-        assert_eq!(rt; crc_ccitt(bytes), want, "of {bytes:?}");
+        assert!(rt; crc_ccitt(bytes) == want, "whose check is {want}");
     }
 }

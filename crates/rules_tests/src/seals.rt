@@ -3,9 +3,8 @@
 use crate::nodes::node;
 use s0_crypto::{Keys, SealEnds, SealFault, keys, seal, unseal};
 use std::alloc::Global;
-use std::process::Abort;
 use std::test::Fail;
-use zw_base::Bytes;
+use zw_base::{Bytes, NoMemory};
 
 /// The network key, the nonces and the plain text of the tables.
 const NETWORK: [u8; 16] = [
@@ -23,7 +22,7 @@ const PLAIN: [u8; 26] = [
 
 /// The sender, the receiver, how many bytes of the plain text are sealed, and the message. With 11 bytes the blocks that
 /// the code covers are full and with 12 one more begins; with 15 a block of the key stream is used up and with 16 the next.
-const SEALED: [(u8, u8, usize, &[u8]); 7] = [
+static SEALED: [(u8, u8, usize, &[u8]); 7] = [
     (
         1,
         4,
@@ -84,68 +83,96 @@ const WANT: [u8; 8] = [0xB4, 0x38, 0x47, 0x1D, 0xC1, 0xA5, 0xA8, 0xF8];
 
 const GOT: [u8; 8] = [0xC1, 0x26, 0xA5, 0xAF, 0xB4, 0xDF, 0xAC, 0xFD];
 
-/// Opens a message of the tables.
+/// What a message of the tables gives when it is opened. None where it is no message that may be opened.
 fn open(
-    rt: &impl Abort,
     alloc: Global,
     keys: &Keys,
     ends: &SealEnds,
     message: &[u8],
-) -> Result<Bytes, SealFault> {
+) -> Option<Result<Bytes, SealFault>> {
     if message.len() >= 20 {
-        assert!(rt; message[0] == 0x98 && message[1] == 0x81);
-        assert!(rt; message[message.len() - 9] == RECEIVER[0]);
+        if message[0] != 0x98 || message[1] != 0x81 {
+            return None;
+        }
+        if message[message.len() - 9] != RECEIVER[0] {
+            return None;
+        }
     }
-    unseal(alloc, keys, RECEIVER, ends, message)
+    Some(unseal(alloc, keys, RECEIVER, ends, message))
+}
+
+/// Whether so many bytes of the plain text are sealed as the message.
+fn is_sealed(
+    alloc: Global,
+    keys: &Keys,
+    ends: &SealEnds,
+    len: usize,
+    message: &[u8],
+) -> Result<bool, NoMemory> {
+    if len > PLAIN.len() {
+        return Ok(false);
+    }
+    let bytes = seal(alloc, keys, SENDER, RECEIVER, ends, &PLAIN[..len])?;
+    Ok(bytes.as_slice() == message)
+}
+
+/// Whether the message opens as so many bytes of the plain text.
+fn is_opened(alloc: Global, keys: &Keys, ends: &SealEnds, len: usize, message: &[u8]) -> bool {
+    match open(alloc, keys, ends, message) {
+        Some(Ok(plain)) => plain.len() == len && PLAIN.starts_with(plain.as_slice()),
+        _ => false,
+    }
+}
+
+fn ends(sender: u8, receiver: u8) -> Result<SealEnds, Fail> {
+    Ok(SealEnds {
+        sender: node(sender)?,
+        receiver: node(receiver)?,
+    })
 }
 
 #[test]
 fn sealed_messages(rt: HostRuntime) -> Result<(), Fail> {
     let keys = keys(NETWORK);
-    for (sender, receiver, len, message) in SEALED {
-        let ends = SealEnds {
-            sender: node(sender)?,
-            receiver: node(receiver)?,
-        };
-        let plain = PLAIN.get(..len).ok_or("a longer text")?;
-        assert!(rt; plain.len() <= 26);
-        let bytes = seal(rt.alloc(), &keys, SENDER, RECEIVER, &ends, plain)?;
-        assert_eq!(rt; bytes.as_slice(), message, "of {len} bytes");
-        let opened = open(&rt, rt.alloc(), &keys, &ends, message)?;
-        assert_eq!(rt; opened.as_slice(), plain);
+    for &(sender, receiver, len, message) in &SEALED {
+        let ends = ends(sender, receiver)?;
+        let sealed = is_sealed(rt.alloc(), &keys, &ends, len, message)?;
+        let opened = is_opened(rt.alloc(), &keys, &ends, len, message);
+        assert!(rt; sealed && opened, "of {len} bytes");
     }
     Ok(())
 }
 
-/// The fault of an answer, if it is one.
-fn fault_of(answer: Result<Bytes, SealFault>) -> Option<SealFault> {
-    match answer {
-        Ok(_) => None,
-        Err(fault) => Some(fault),
+/// Whether the message is refused for this fault.
+fn is_refused(
+    alloc: Global,
+    keys: &Keys,
+    ends: &SealEnds,
+    message: &[u8],
+    fault: SealFault,
+) -> bool {
+    match open(alloc, keys, ends, message) {
+        Some(Err(found)) => found == fault,
+        _ => false,
     }
 }
 
 #[test]
 fn refusals(rt: HostRuntime) -> Result<(), Fail> {
-    let ends = SealEnds {
-        sender: node(1)?,
-        receiver: node(4)?,
-    };
+    let ends = ends(1, 4)?;
     let keys = keys(NETWORK);
+    let bad_code = SealFault::BadCode {
+        want: WANT,
+        got: GOT,
+    };
     let rows: [(&[u8], SealFault); 3] = [
         (&CHANGED[..19], SealFault::Short),
-        (
-            &CHANGED,
-            SealFault::BadCode {
-                want: WANT,
-                got: GOT,
-            },
-        ),
+        (&CHANGED, bad_code),
         (&OTHER_SEQUENCE, SealFault::Sequence(1)),
     ];
     for (message, fault) in rows {
-        let answer = open(&rt, rt.alloc(), &keys, &ends, message);
-        assert_eq!(rt; fault_of(answer), Some(fault));
+        let refused = is_refused(rt.alloc(), &keys, &ends, message, fault);
+        assert!(rt; refused, "{fault}");
     }
     Ok(())
 }

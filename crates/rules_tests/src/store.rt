@@ -92,23 +92,24 @@ fn values_are_kept_apart(rt: HostRuntime) -> Result<(), Fail> {
     Ok(())
 }
 
-/// A switch that is confirmed, and a member of an association of the last end point that is heard.
-fn switch_and_member(alloc: Global) -> Result<Store, Fail> {
-    let mut store = Store::new(alloc);
-    let end = read_end(127).ok_or("no end point")?;
-    let name = Name::Member(3, node(232)?);
-    store.hear_report(node(2)?, Property { end, name }, u32::MAX)?;
-    let switch = of_root(Name::Switch);
-    store.reserve(node(2)?, &[switch, switch])?;
-    store.confirm(node(2)?, switch, 255);
-    Ok(store)
+/// Whether a switch is confirmed, and a member of an association of the last end point is heard.
+fn takes_both(store: &mut Store, two: NodeId) -> Result<bool, Fail> {
+    let member = Property {
+        end: read_end(127).ok_or("no end point")?,
+        name: Name::Member(3, node(232)?),
+    };
+    let heard = answers(store, two, &member, &Call::Hear(u32::MAX, Ok(())))?;
+    Ok(answers(store, two, &of_root(Name::Switch), &Call::Confirm(255))? && heard)
 }
 
 #[test]
 fn values_are_printed(rt: HostRuntime) -> Result<(), Fail> {
-    let empty = Store::new(rt.alloc()).to_json(rt.alloc(), node(2)?)?;
+    let two = node(2)?;
+    let mut store = Store::new(rt.alloc());
+    let empty = store.to_json(rt.alloc(), two)?;
     assert!(rt; empty.as_slice() == b"{\"node\":2,\"values\":[]}".as_slice());
-    let text = switch_and_member(rt.alloc())?.to_json(rt.alloc(), node(2)?)?;
+    assert!(rt; takes_both(&mut store, two)?);
+    let text = store.to_json(rt.alloc(), two)?;
     let want =
         "{\"node\":2,\"values\":[{\"confirmed\":255,\"heard\":null,\"property\":\"0/switch\"},\
          {\"confirmed\":null,\"heard\":4294967295,\"property\":\"127/member:3:232\"}]}";
@@ -131,7 +132,10 @@ fn a_node_has_at_most_512_properties(rt: HostRuntime) -> Result<(), Fail> {
     let end = read_end(1).ok_or("no end point")?;
     for n in 0..=255u8 {
         let name = Name::Config(n);
-        store.reserve(node(2)?, &[of_root(name), Property { end, name }])?;
+        store.reserve(
+            node(2)?,
+            &[of_root(name), Property { end, name }, of_root(name)],
+        )?;
     }
     for ((number, name, call), row) in FULL.iter().zip(1..100u8) {
         let same = answers(&mut store, node(*number)?, &of_root(*name), call)?;

@@ -15,6 +15,14 @@ fn mask(numbers: &[u8]) -> NodeMask {
     mask
 }
 
+/// The bytes of a mask whose first and last byte are these, and that is 0 between.
+fn bits(first: u8, last: u8) -> [u8; 29] {
+    let mut bits = [0; 29];
+    bits[0] = first;
+    bits[28] = last;
+    bits
+}
+
 #[test]
 fn nodes_as_bits(rt: HostRuntime) -> Result<(), Fail> {
     let table: [(&[u8], u8, u8); 3] = [
@@ -25,10 +33,10 @@ fn nodes_as_bits(rt: HostRuntime) -> Result<(), Fail> {
     for (numbers, first, last) in table {
         let nodes = mask(numbers);
         let frame = write_response(rt.alloc(), &Response::GetRoutingInfo { nodes })?;
-        let mut want = [0; 29];
-        want[0] = first;
-        want[28] = last;
-        assert_eq!(rt; frame.body.as_slice(), want.as_slice());
+        assert!(rt;
+            frame.body.as_slice() == bits(first, last).as_slice(),
+            "with {first} and {last}"
+        );
     }
     Ok(())
 }
