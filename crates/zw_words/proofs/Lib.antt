@@ -1,0 +1,4 @@
+pub mod Choices
+pub mod WordLemmas
+pub mod NumberLemmas
+
