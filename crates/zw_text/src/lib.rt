@@ -8,10 +8,21 @@
 #![tactic(auto)]
 
 mod entry;
+mod laws;
 mod line;
+mod print;
+mod print_lists;
+mod print_parts;
+mod read;
+mod rows;
 mod word;
+#[cfg(test)]
+mod tests;
 
 pub use entry::{Done, Ended, Entry, Outcome, Refusal};
+pub use laws::{folded_grows, one_line_each, quiet_grows, shown_grows};
 pub use line::{Line, ReplayLine};
+pub use print::print_entry;
+pub use read::{read_line, read_replay, read_rest};
 pub use word::{LineWord, is_replay_word, line_word};
 pub use zw_words::{LineFault, ReadLineFault, Side};

@@ -1,5 +1,5 @@
 -- Choices and steps, taken apart.
-use Rattle.std.proofs.Common.{◌≡◌, ℕ, Bool, true, false, cond, Option, Some, None, Result, Ok, Err, List, refl, ◌⊎◌, inl, inr}
+use Rattle.std.proofs.Common.{◌≡◌, ℕ, Bool, true, false, cond, ◌&&◌, Option, Some, None, Result, Ok, Err, List, refl, ◌⊎◌, inl, inr}
 use Rattle.std.specs.Prelude.{option_and_then}
 use Rattle.zw_words.specs.declared.fault.LineFault.{LineFault}
 use Rattle.zw_words.specs.Fields.{◌>>=◌, make}
@@ -34,7 +34,7 @@ pub not_ok : {A : Type 0} (f : LineFault) (y : A) → failed f ≡ done y → �
 not_ok f y e = cc
 
 -- a test that is true only where both are
-pub both : (a b : Bool) → cond a b false ≡ true → (a ≡ true) × (b ≡ true)
+pub both : (a b : Bool) → (a && b) ≡ true → (a ≡ true) × (b ≡ true)
 both true b e = (refl, e)
 both false b e = absurd cc
 

@@ -1,5 +1,7 @@
 -- What one word stands for, where it has the form that is asked for. All of it is this project's own rule.
-use Rattle.std.specs.Prelude.{ℕ, zero, suc, ◌+◌, ◌-◌, ◌*◌, ◌^◌, ◌==◌, ◌&&◌, ◌||◌, nat_lt, nat_le, not, Bool, true, false, if◌then◌else◌, List, [], ◌∷◌, ◌++◌, length, slice_index, codes, decimal, bytes_eq, Option, Some, None, option_and_then, option_map, position, take, drop, Result, Ok, Err}
+use Rattle.std.specs.Prelude.{ℕ, zero, suc, ◌+◌, ◌-◌, ◌*◌, ◌/◌, ◌%◌, ◌^◌, ◌==◌, ◌&&◌, ◌||◌, nat_lt, nat_le, not, Bool, true, false, if◌then◌else◌, List, [], ◌∷◌, ◌++◌, length, slice_index, codes, decimal, bytes_eq, Option, Some, None, option_and_then, option_map, position, take, drop, Result, Ok, Err}
+use Rattle.std.specs.Char.{is_ascii_hexdigit}
+use Rattle.std.specs.List.{list_all}
 use Rattle.std.specs.Str.{all_ascii_digits}
 use Rattle.hex.specs.Hex.{decode_of}
 use Rattle.hex.specs.declared.error.FromHexError.{FromHexError}
@@ -70,9 +72,10 @@ abbrev pub decoded : Result (List ℕ) FromHexError → Option (List ℕ)
 decoded (Ok bytes) = Some bytes
 decoded (Err fault) = None
 
--- bytes in hex of either case, so many at least and at most
-abbrev pub so_many : ℕ → ℕ → List ℕ → Option (List ℕ)
-so_many least most bytes = if nat_le least (length bytes) && nat_le (length bytes) most then Some bytes else None
+-- whether a word has the length of so many bytes in hex
+abbrev pub hex_length : ℕ → ℕ → List ℕ → Bool
+hex_length least most word = length word % 2 == 0 && (nat_le least (length word / 2) && nat_le (length word / 2) most)
 
+-- bytes in hex of either case, so many at least and at most
 unfoldable pub hex_in : ℕ → ℕ → List ℕ → Option (List ℕ)
-hex_in least most word = option_and_then (so_many least most) (decoded (decode_of word))
+hex_in least most word = if hex_length least most word && list_all is_ascii_hexdigit word then decoded (decode_of word) else None

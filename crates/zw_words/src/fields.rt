@@ -39,6 +39,7 @@ pub fn no_more(text: &[u8]) -> Result<(), LineFault>
 pub fn take_number(text: &mut &[u8], least: u32, most: u32) -> Result<u32, LineFault>
     ensures ok { IfOk result (λ value. next (between_in least most) (words text.old.now) ≡ Ok (record { value = value; rest = words text.new.now })) }
     ensures err { IfErr result (λ fault. next (between_in least most) (words text.old.now) ≡ Err fault) }
+    ensures range { IfOk result (λ value. (least ≤ value) × (value ≤ most)) }
 {
     let (word, rest) = next_word(text)?;
     *text = rest;
@@ -51,7 +52,8 @@ pub fn take_number(text: &mut &[u8], least: u32, most: u32) -> Result<u32, LineF
 /// The last word as a number from `least` to `most`.
 #[tactic(auto, unfolding(crate::specs::Fields::last))]
 pub fn last_number(mut text: &[u8], least: u32, most: u32) -> Result<u32, LineFault>
-    ensures { result ≡ last (between_in least most) (words text.now) }
+    ensures value { result ≡ last (between_in least most) (words text.now) }
+    ensures range { IfOk result (λ value. (least ≤ value) × (value ≤ most)) }
 {
     let number = take_number(&mut text, least, most)?;
     no_more(text)?;
@@ -167,7 +169,9 @@ pub fn last_hex(alloc: Global, text: &[u8], least: usize, most: usize) -> Result
     if !is_hex(word, least, most) {
         return Err(ReadLineFault::Bad(LineFault::Number));
     }
-    no_more(rest)?;
+    if let Err(fault) = no_more(rest) {
+        return Err(ReadLineFault::Bad(fault));
+    }
     match hex_of(alloc, word, least, most)? {
         Some(bytes) => Ok(bytes),
         None => Err(ReadLineFault::Bad(LineFault::Number)),

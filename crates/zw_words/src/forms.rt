@@ -1,7 +1,9 @@
 //! What one word stands for.
 
-ghost use Rattle.std.specs.Prelude.{◌≡◌, ℕ, ◌+◌, ◌-◌, ◌*◌, ◌<◌, ◌≤◌, ◌^◌, length, SomeIff, IfSome, IfOk, OnErr, IsSome, IsTrue, ◌↔◌};
-ghost use Rattle.zw_words.specs.Forms.{begins_number, between_in, digits_in, end_behind, hex_in, node_in, number_in, side_in, target_in, value_in};
+ghost use Rattle.std.specs.Prelude.{◌≡◌, ℕ, ◌+◌, ◌-◌, ◌*◌, ◌<◌, ◌≤◌, ◌^◌, length, position, ◌==◌, ◌&&◌, SomeIff, IfSome, IfOk, OnErr, IsSome};
+ghost use Rattle.std.specs.Char.{is_ascii_hexdigit};
+ghost use Rattle.std.specs.List.{list_all};
+ghost use Rattle.zw_words.specs.Forms.{begins_number, between_in, digits_in, end_behind, hex_in, hex_length, node_in, number_in, side_in, target_in, value_in};
 
 use crate::Side;
 use std::alloc::Global;
@@ -99,7 +101,7 @@ pub fn target_of(word: &[u8], least: u32) -> Option<Target>
     requires { 1 ≤ least }
     ensures { result ≡ target_in least word.now }
 {
-    match word.iter().position(|byte| *byte == POINT) {
+    match point_in(word) {
         Some(at) => target_of_parts(&word[..at], &word[at + 1..], least),
         None => {
             let node = node_of(word, least)?;
@@ -109,6 +111,14 @@ pub fn target_of(word: &[u8], least: u32) -> Option<Target>
             })
         }
     }
+}
+
+/// Where the first point of the word stands.
+fn point_in(word: &[u8]) -> Option<usize>
+    ensures at { result ≡ position (λ b. b == 46) word.now }
+    ensures within { IfSome result (λ at. at < length word.now) }
+{
+    word.iter().position(|byte| *byte == POINT)
 }
 
 /// A node from `least` on, and an end point from 1 on.
@@ -151,20 +161,31 @@ pub fn side_of(word: &[u8]) -> Option<Side>
     None
 }
 
-/// Whether the word is bytes in hex, of either case: from `least` to `most` of them.
-pub fn is_hex(word: &[u8], least: usize, most: usize) -> bool
-    ensures { IsTrue result ↔ IsSome (hex_in least most word.now) }
+fn has_hex_length(word: &[u8], least: usize, most: usize) -> bool
+    ensures { result ≡ hex_length least most word.now }
 {
     let count = word.len() / 2;
-    word.len() % 2 == 0
-        && count >= least
-        && count <= most
-        && word.iter().all(|digit| digit.is_ascii_hexdigit())
+    word.len() % 2 == 0 && count >= least && count <= most
+}
+
+fn has_hex_digits(word: &[u8]) -> bool
+    ensures { result ≡ list_all is_ascii_hexdigit word.now }
+{
+    word.iter().all(|digit| digit.is_ascii_hexdigit())
+}
+
+/// Whether the word is bytes in hex, of either case: from `least` to `most` of them.
+pub fn is_hex(word: &[u8], least: usize, most: usize) -> bool
+    ensures { result ≡ (hex_length least most word.now && list_all is_ascii_hexdigit word.now) }
+{
+    has_hex_length(word, least, most) && has_hex_digits(word)
 }
 
 /// The bytes that the word is in hex, where it is: from `least` to `most` of them.
+#[tactic(auto, unfolding(crate::specs::Forms::hex_in))]
 pub fn hex_of(alloc: Global, word: &[u8], least: usize, most: usize) -> Result<Option<Bytes>, NoMemory>
     ensures ok { IfOk result (λ bytes. bytes ≡ hex_in least most word.now) }
+    // There was no memory only where the word is such bytes.
     ensures err { OnErr result (IsSome (hex_in least most word.now)) }
 {
     if !is_hex(word, least, most) {
