@@ -2,17 +2,14 @@
 //! their exact words.
 //!
 //! It promises that a line is read exactly where the text is that line's, and else which fault is the first from the
-//! left; and that an entry is printed as exactly its text.
+//! left.
 //! The definitions stand in `specs/`: `Line` and `Entry` for the texts, `Fits` for the ranges of an entry's numbers,
-//! `Transcript` for what a list of entries shows. Entries are read back by `zw_entries`.
+//! `Transcript` for what a list of entries shows. Entries are printed by `zw_print` and read back by `zw_entries`.
 #![tactic(auto)]
 
 mod entry;
 mod laws;
 mod line;
-mod print;
-mod print_lists;
-mod print_parts;
 mod read;
 mod rows;
 mod word;
@@ -22,7 +19,6 @@ mod tests;
 pub use entry::{Done, Ended, Entry, Outcome, Refusal};
 pub use laws::{folded_grows, one_line_each, quiet_grows, shown_grows};
 pub use line::{Line, ReplayLine};
-pub use print::print_entry;
 pub use read::{read_line, read_replay, read_rest};
 pub use word::{LineWord, is_replay_word, line_word};
 pub use zw_words::{LineFault, ReadLineFault, Side};

@@ -4,6 +4,7 @@ ghost use Rattle.std.specs.Prelude.{◌≡◌};
 ghost use Rattle.zw_words.specs.Words.{words};
 ghost use Rattle.zw_words.specs.Fields.{Gives};
 ghost use Rattle.zw_text.specs.Line.{line_by, order_line};
+ghost use Rattle.zw_text.specs.declared.word.LineWord.{LineWord};
 
 use crate::{Line, LineFault, ReadLineFault};
 use std::alloc::Global;

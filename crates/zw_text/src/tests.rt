@@ -1,55 +1,162 @@
-//! Values from outside: lines and entries as docs/TRANSCRIPT.md describes them.
+//! Values from outside: lines as docs/TRANSCRIPT.md describes them.
 
-use crate::{
-    Done, Ended, Entry, Line, LineFault, ReadLineFault, Refusal, ReplayLine, Side, print_entry,
-    read_line, read_replay,
-};
+use crate::{Line, LineFault, ReadLineFault, ReplayLine, read_line, read_replay};
 use std::alloc::Global;
 use std::process::Abort;
 use std::test::Fail;
-use zw_base::{
-    By, Bytes, EndPoint, Name, NodeId, Payload, Property, Sequence, Setting, read_end, read_node,
-};
 use zw_order::{What, Word};
 
-/// A line as one word and numbers, so that a table can say what was read.
-fn told(alloc: Global, line: &Line) -> Result<String, Fail> {
-    Ok(format!(in alloc; "{line:?}")?)
-}
+/// A line of each kind, its numbers at their greatest. Each begins with all words of its kind but the last in turn.
+const LINES: [&str; 34] = [
+    "set 232.127 99", "mode 232 255", "setpoint 232 15 65535", "comfort 232 255 15 65535",
+    "config 232 255 999999999", "bulk 232 255 AbCdEf09", "assoc 232 255 232", "unassoc 232 255 232",
+    "interval 232 999999999", "tick 100000", "cut 4096", "stall 1000", "drop c", "garble c 255 255",
+    "collide", "send 232 99", "get 232.127", "join 232", "interview 232", "lose 1000",
+    "loseack 1000", "repeat 999999999", "wake 232", "cancel 999999999", "link 232 232",
+    "unlink 232 232", "discover", "neighbours 232", "failed 232", "probe", "local 232 255",
+    "show 232", "store 232", "restart",
+];
 
-/// How a text was read: the line, `none`, or the name of the fault.
-fn read(alloc: Global, text: &str) -> Result<String, Fail> {
-    match read_line(alloc, text.as_bytes()) {
-        Ok(Some(line)) => told(alloc, &line),
-        Ok(None) => Ok(String::from_str(alloc, "none")?),
-        Err(ReadLineFault::Bad(fault)) => Ok(format!(in alloc; "{fault}")?),
-        Err(ReadLineFault::NoMemory) => Ok(String::from_str(alloc, "no memory")?),
+/// Texts with a number or a word that is out of its form or range.
+const OUTSIDE: [&str; 47] = [
+    "set 1 on", "set 233 on", "set 02 on", "set 2.0 on", "set 2.128 on", "set 2. on", "set .1 on",
+    "set 2.1.1 on", "set 2 100", "set 2 ON", "set 2 00", "set +2 on", "set 2 on\r\r", "mode 1 0",
+    "mode 2 256", "setpoint 2 16 1", "setpoint 2 1 65536", "config 2 0 1000000000", "bulk 2 256 00",
+    "bulk 2 0 0", "bulk 2 0 zz", "assoc 2 0 3", "assoc 2 1 233", "assoc 2 1 0", "interval 2 1000000000",
+    "tick 0", "tick 100001", "tick 4294967297", "tick 99999999999999999999", "cut 4097", "stall 0",
+    "stall 1001", "drop H", "garble h 256 1", "garble h 0 0", "send 0 on", "send 2.1 on", "get 2.0",
+    "lose 0", "lose 1001", "loseack 0", "repeat 0", "repeat 1000000000", "cancel 0", "link 0 1",
+    "local 2 256", "wake 0",
+];
+
+/// How a text is read: `line`, `none`, or the name of the fault.
+fn heard(alloc: Global, text: &[u8]) -> &'static str {
+    match read_line(alloc, text) {
+        Ok(Some(_)) => "line",
+        Ok(None) => "none",
+        Err(ReadLineFault::Bad(fault)) => name(fault),
+        Err(ReadLineFault::NoMemory) => "no memory",
     }
 }
 
+fn replayed(alloc: Global, text: &[u8]) -> &'static str {
+    match read_replay(alloc, text) {
+        Ok(Some(ReplayLine::Plain { .. })) => "line",
+        Ok(Some(ReplayLine::Chip { .. })) => "chip",
+        Ok(None) => "none",
+        Err(ReadLineFault::Bad(fault)) => name(fault),
+        Err(ReadLineFault::NoMemory) => "no memory",
+    }
+}
+
+fn name(fault: LineFault) -> &'static str {
+    match fault {
+        LineFault::Unknown => "unknown",
+        LineFault::Missing => "missing",
+        LineFault::Number => "number",
+        LineFault::Extra => "extra",
+        LineFault::TooLong => "toolong",
+    }
+}
+
+fn joined(alloc: Global, front: &[u8], back: &str) -> Result<Vec<u8>, Fail> {
+    let mut text = Vec::from_slice(alloc, front)?;
+    text.extend_from_slice(back.as_bytes())?;
+    Ok(text)
+}
+
+/// The line without the words from each one on, with a bad word in that place, and with a word too many.
+fn faults_at_each_word(rt: &impl Abort, alloc: Global, line: &[u8]) -> Result<(), Fail> {
+    assert_eq!(rt; heard(alloc, line), "line");
+    for (i, byte) in line.iter().enumerate() {
+        if *byte == b' ' {
+            assert_eq!(rt; heard(alloc, &line[..i]), "missing");
+            let bad = joined(alloc, &line[..i], " x")?;
+            assert_eq!(rt; heard(alloc, bad.as_slice()), "number");
+        }
+    }
+    let more = joined(alloc, line, " \tx")?;
+    assert_eq!(rt; heard(alloc, more.as_slice()), "extra");
+    let other = joined(alloc, b"x".as_slice(), "set 2 on")?;
+    assert_eq!(rt; heard(alloc, other.as_slice()), "unknown");
+    Ok(())
+}
+
 #[test]
-fn reads_lines(rt: HostRuntime) -> Result<(), Fail> {
+fn each_fault_at_each_word(rt: HostRuntime) -> Result<(), Fail> {
     let alloc = rt.alloc();
-    let good = [
-        "set 2 on", "set 232 off", "set 10 0", "set 2.1 99", "set 2.127 on", "mode 6 255",
-        "setpoint 6 15 65535", "comfort 6 1 2 215", "config 8 0 999999999", "bulk 8 255 AbCd",
-        "assoc 2 1 232", "unassoc 2 255 1", "interval 5 0", "tick 1", "tick 100000", "cut 0",
-        "cut 4096", "stall 1000", "drop h", "drop c", "garble h 255 1", "garble c 0 255", "collide",
-        "send 1 on", "get 9", "get 7.3", "join 232", "interview 1", "lose 1", "loseack 1000",
-        "repeat 999999999", "wake 5", "cancel 1", "link 1 2", "unlink 2 1", "discover",
-        "neighbours 2", "failed 2", "probe", "local 2 255", "show 2", "store 2", "restart",
-        "  set\t2   on\t\r", "restart\r",
-    ];
-    for text in good {
-        let got = read(alloc, text)?;
-        assert!(rt; !is_fault(got.as_str()), "{text}: {got}");
+    for line in LINES {
+        faults_at_each_word(&rt, alloc, line.as_bytes())?;
+    }
+    for text in OUTSIDE {
+        assert_eq!(rt; heard(alloc, text.as_bytes()), "number", "{text}");
     }
     Ok(())
 }
 
-fn is_fault(text: &str) -> bool {
-    match text {
-        "none" | "unknown" | "missing" | "number" | "extra" | "toolong" | "no memory" => true,
-        _ => false,
+#[test]
+fn blanks_remarks_and_length(rt: HostRuntime) -> Result<(), Fail> {
+    let alloc = rt.alloc();
+    let cases = [
+        ("", "none"), ("\r", "none"), (" \t ", "none"), ("# set", "none"), (" # set", "unknown"),
+        ("  set\t2   on \t\r", "line"), ("restart\r", "line"), ("SET 2 on", "unknown"), ("chip 06", "unknown"),
+    ];
+    for (text, want) in cases {
+        assert_eq!(rt; heard(alloc, text.as_bytes()), want, "{text}");
     }
+    let mut long = Vec::new(alloc);
+    for _ in 0..1024 {
+        long.push(b'#')?;
+    }
+    assert_eq!(rt; heard(alloc, long.as_slice()), "none");
+    long.push(b'\r')?;
+    assert_eq!(rt; heard(alloc, long.as_slice()), "toolong");
+    Ok(())
+}
+
+#[test]
+fn lines_of_replay(rt: HostRuntime) -> Result<(), Fail> {
+    let alloc = rt.alloc();
+    let cases = [
+        ("set 2 on", "line"), ("tick 5", "line"), ("store 2", "line"), ("cut 1", "unknown"), ("wake 5", "unknown"),
+        ("chip 06", "chip"), ("chip 0104011301e8", "chip"), ("chip", "missing"), ("chip 0", "number"),
+        ("chip 06 07", "extra"), ("chips 06", "unknown"), ("", "none"),
+    ];
+    for (text, want) in cases {
+        assert_eq!(rt; replayed(alloc, text.as_bytes()), want, "{text}");
+    }
+    Ok(())
+}
+
+fn line(alloc: Global, text: &str) -> Result<Line, Fail> {
+    match read_line(alloc, text.as_bytes()) {
+        Ok(Some(line)) => Ok(line),
+        _ => Err("no line")?,
+    }
+}
+
+#[test]
+fn numbers_in_their_places(rt: HostRuntime) -> Result<(), Fail> {
+    let alloc = rt.alloc();
+    let Line::Command { order } = line(alloc, "set 7.3 off")? else {
+        return Err("no order")?;
+    };
+    assert_eq!(rt; order.node.number(), 7);
+    assert_eq!(rt; order.end.number(), 3);
+    assert!(rt; matches!(order.what, What::Value(Word::Off)));
+    let Line::Command { order } = line(alloc, "comfort 6 1 2 215")? else {
+        return Err("no order")?;
+    };
+    assert!(rt; matches!(order.what, What::Comfort { mode: 1, kind: 2, tenths: 215 }));
+    let Line::Garble { side: _, place, xor } = line(alloc, "garble h 3 128")? else {
+        return Err("no garble")?;
+    };
+    assert_eq!(rt; place, 3);
+    assert_eq!(rt; xor, 128);
+    let Line::Link { first, second } = line(alloc, "link 1 10")? else {
+        return Err("no link")?;
+    };
+    assert_eq!(rt; first.number(), 1);
+    assert_eq!(rt; second.number(), 10);
+    Ok(())
 }

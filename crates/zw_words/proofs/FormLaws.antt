@@ -266,7 +266,7 @@ ends_of (Some n) (Some e) t h = (n, e, refl, refl, some_is (record { node = n; e
 ends_of (Some n) None t h = absurd (not_some t h)
 ends_of None end t h = absurd (not_some t h)
 
-target_alone : (node end : ℕ) → end ≡ 0 → target_word node end ≡ decimal node
+pub target_alone : (node end : ℕ) → end ≡ 0 → target_word node end ≡ decimal node
 target_alone node end e = let P : ℕ → Type 0 = λ n. target_word node n ≡ decimal node in subst P (sym e) refl
 
 target_both : (node end : ℕ) → 1 ≤ end → target_word node end ≡ decimal node ++ (46 ∷ decimal end)

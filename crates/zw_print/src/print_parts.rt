@@ -6,9 +6,9 @@ ghost use Rattle.hex.specs.Hex.{encode_upper};
 ghost use Rattle.zw_words.specs.Texts.{side_word};
 ghost use Rattle.zw_text.specs.Entry.{by_word, done_word, ended_word, failed_word, fault_word, name_word, number_word, property_word, refusal_words};
 
-use crate::{Done, Ended, LineFault, Refusal, Side};
 use std::alloc::{AllocError, Global};
 use zw_base::{By, Bytes, Name, NoMemory, NodeId, Property, Setting};
+use zw_text::{Done, Ended, LineFault, Refusal, Side};
 
 fn bytes_of(alloc: Global, text: &str) -> Result<Bytes, NoMemory>
     ensures { IfOk result (λ bytes. bytes ≡ text.now) }

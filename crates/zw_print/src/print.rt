@@ -10,9 +10,9 @@ use crate::print_parts::{
     print_property_of, print_refusal, print_setting_of, print_side, print_unread, print_value,
     print_written,
 };
-use crate::Entry;
 use std::alloc::Global;
 use zw_base::{Bytes, NoMemory, NodeId};
+use zw_text::Entry;
 
 fn number(node: NodeId) -> u64
     ensures { result ≡ node }
@@ -21,7 +21,7 @@ fn number(node: NodeId) -> u64
 }
 
 /// The text of an entry, without a line feed.
-#[tactic(auto, unfolding(crate::specs::Entry::entry_text))]
+#[tactic(auto, unfolding(zw_text::specs::Entry::entry_text))]
 pub fn print_entry(alloc: Global, entry: &Entry) -> Result<Bytes, NoMemory>
     ensures { IfOk result (λ text. text ≡ entry_text entry.now) }
 {

@@ -1,0 +1,10 @@
+//! Printing the entries of a transcript.
+//!
+//! It promises that `print_entry` gives exactly the text of the entry, which `zw_text` defines in `specs/Entry`.
+#![tactic(auto)]
+
+mod print;
+mod print_lists;
+mod print_parts;
+
+pub use print::print_entry;

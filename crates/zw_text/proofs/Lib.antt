@@ -1,0 +1,4 @@
+pub mod Fields
+pub mod LineTakes
+pub mod LineAgain
+pub mod TextLaws
