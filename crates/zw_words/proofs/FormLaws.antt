@@ -299,8 +299,10 @@ target_again least t low high end = again least t.node t.end low high end
   where
     position_none : (xs : List ℕ) → position_or_len (λ b. b == 46) xs ≡ length xs → position (λ b. b == 46) xs ≡ None
     position_none xs e = rw (e, le-ltb (length xs) (length xs) (omega arith)) refl
+
     position_some : (xs ys : List ℕ) → position_or_len (λ b. b == 46) (xs ++ (46 ∷ ys)) ≡ length xs → position (λ b. b == 46) (xs ++ (46 ∷ ys)) ≡ Some (length xs)
     position_some xs ys e = rw (e, lt-ltb (length xs) (length (xs ++ (46 ∷ ys))) (simp length-append (omega arith))) refl
+
     again : (least node end : ℕ) → least ≤ node → node ≤ 232 → end ≤ 127 → target_at least (target_word node end) (position (λ b. b == 46) (target_word node end)) ≡ some (record { node = node; end = end })
     again least node zero low high end =
         rw (target_alone node zero refl, position_none (decimal node) (no_point (decimal node) (pointless node (omega (arith, high)))), between_again least 232 node low high (omega (arith, high))) refl

@@ -162,7 +162,12 @@ pub fn last_side(mut text: &[u8]) -> Result<Side, LineFault>
 
 /// The last word as bytes in hex of either case, from `least` to `most` of them.
 #[tactic(auto, unfolding(crate::specs::Fields::last, crate::specs::Fields::next))]
-pub fn last_hex(alloc: Global, text: &[u8], least: usize, most: usize) -> Result<Bytes, ReadLineFault>
+pub fn last_hex(
+    alloc: Global,
+    text: &[u8],
+    least: usize,
+    most: usize,
+) -> Result<Bytes, ReadLineFault>
     ensures { Gives result (last (hex_in least most) (words text.now)) }
 {
     let (word, rest) = next_word(text)?;

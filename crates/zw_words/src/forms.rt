@@ -183,7 +183,12 @@ pub fn is_hex(word: &[u8], least: usize, most: usize) -> bool
 
 /// The bytes that the word is in hex, where it is: from `least` to `most` of them.
 #[tactic(auto, unfolding(crate::specs::Forms::hex_in))]
-pub fn hex_of(alloc: Global, word: &[u8], least: usize, most: usize) -> Result<Option<Bytes>, NoMemory>
+pub fn hex_of(
+    alloc: Global,
+    word: &[u8],
+    least: usize,
+    most: usize,
+) -> Result<Option<Bytes>, NoMemory>
     ensures ok { IfOk result (λ bytes. bytes ≡ hex_in least most word.now) }
     // There was no memory only where the word is such bytes.
     ensures err { OnErr result (IsSome (hex_in least most word.now)) }

@@ -10,15 +10,17 @@ mod fault;
 mod fields;
 mod forms;
 mod side;
-mod words;
 #[cfg(test)]
 mod tests;
+mod words;
 
 pub use fault::{LineFault, ReadLineFault};
 pub use fields::{
     last_hex, last_node, last_number, last_side, last_target, last_value, no_more, take_node,
     take_number, take_side, take_target, take_value,
 };
-pub use forms::{Target, hex_of, is_hex, node_of, number_between, number_of, side_of, target_of, value_of};
+pub use forms::{
+    Target, hex_of, is_hex, node_of, number_between, number_of, side_of, target_of, value_of,
+};
 pub use side::Side;
 pub use words::{LONGEST_LINE, cut_word, open_line};

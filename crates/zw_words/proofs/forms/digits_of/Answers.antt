@@ -21,8 +21,8 @@ loop-digit-preserved c =
     let digit : is_ascii_digit (get_or c.args.word.now c.loop-digit.digit-index 0) ≡ true = sym c.is_ascii_digit.ensures.value ∙ c.if-not-is_ascii_digit.false in
     record {
       so_far = c.loop-digit.invariant.so_far
-    ∙ digits-next c.args.word.now c.loop-digit.number c.loop-digit.digit-index c.loop-digit-test.true digit
-    ∙ ap (λ n. digits_in n (drop (c.loop-digit.digit-index + 1) c.args.word.now)) (sym c.in_ok-number.ensures.1);
+          ∙ digits-next c.args.word.now c.loop-digit.number c.loop-digit.digit-index c.loop-digit-test.true digit
+          ∙ ap (λ n. digits_in n (drop (c.loop-digit.digit-index + 1) c.args.word.now)) (sym c.in_ok-number.ensures.1);
       small = omega (arith, c.in_ok-number.ensures);
     }
 
