@@ -45,11 +45,7 @@ pub fn read_line(alloc: Global, text: &[u8]) -> Result<Option<Line>, ReadLineFau
     // Which fault it is; there was no memory only where the text is that of a line.
     ensures exact { Gives result (line_at text.now) }
 {
-    let Some((word, rest)) = open_line(text)? else {
-        return Ok(None);
-    };
-    let line = read_words(alloc, word, rest)?;
-    Ok(Some(line))
+    line_of_text(alloc, text)
 }
 
 /// The line of `replay` that the text is, without its line feed.
@@ -60,6 +56,22 @@ pub fn read_replay(alloc: Global, text: &[u8]) -> Result<Option<ReplayLine>, Rea
     ensures only { (line : AnyReplayLine) → ReplayText text.now line → Gives result (Ok (Some line)) }
     // Which fault it is; there was no memory only where the text is that of a line.
     ensures exact { Gives result (replay_at text.now) }
+{
+    replay_of_text(alloc, text)
+}
+
+fn line_of_text(alloc: Global, text: &[u8]) -> Result<Option<Line>, ReadLineFault>
+    ensures { Gives result (line_at text.now) }
+{
+    let Some((word, rest)) = open_line(text)? else {
+        return Ok(None);
+    };
+    let line = read_words(alloc, word, rest)?;
+    Ok(Some(line))
+}
+
+fn replay_of_text(alloc: Global, text: &[u8]) -> Result<Option<ReplayLine>, ReadLineFault>
+    ensures { Gives result (replay_at text.now) }
 {
     let Some((word, rest)) = open_line(text)? else {
         return Ok(None);
