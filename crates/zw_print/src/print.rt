@@ -45,7 +45,14 @@ pub fn print_entry(alloc: Global, entry: &Entry) -> Result<Bytes, NoMemory>
             receiver,
             repeaters,
             payload,
-        } => print_air(alloc, *frame, *sender, *receiver, repeaters.as_slice(), payload.bytes()),
+        } => print_air(
+            alloc,
+            *frame,
+            *sender,
+            *receiver,
+            repeaters.as_slice(),
+            payload.bytes(),
+        ),
         Entry::Heard { frame } => print_count(alloc, "heard", *frame),
         Entry::Lost { frame } => print_count(alloc, "lost", *frame),
         Entry::Unheard { frame } => print_count(alloc, "unheard", *frame),
@@ -58,7 +65,9 @@ pub fn print_entry(alloc: Global, entry: &Entry) -> Result<Bytes, NoMemory>
         }
         Entry::Store { node, setting } => print_setting_of(alloc, "store", *node, *setting),
         Entry::Report { node, setting } => print_setting_of(alloc, "report", *node, *setting),
-        Entry::Unstored { node, property } => print_property_of(alloc, "unstored", *node, *property),
+        Entry::Unstored { node, property } => print_property_of(
+            alloc, "unstored", *node, *property,
+        ),
         Entry::Old { node, id } => print_pair(alloc, "old", number(*node), u64::from(*id)),
         Entry::Unread { node, payload } => print_unread(alloc, *node, payload.as_slice()),
         Entry::Awake { node } => print_count(alloc, "awake", number(*node)),

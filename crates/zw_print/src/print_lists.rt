@@ -9,7 +9,14 @@ use std::alloc::{AllocError, Global};
 use zw_base::{Bytes, NoMemory, NodeId};
 
 /// `air I A>B via R HEX`
-pub fn print_air(alloc: Global, frame: u64, sender: NodeId, receiver: NodeId, repeaters: &[NodeId], payload: &[u8]) -> Result<Bytes, NoMemory>
+pub fn print_air(
+    alloc: Global,
+    frame: u64,
+    sender: NodeId,
+    receiver: NodeId,
+    repeaters: &[NodeId],
+    payload: &[u8],
+) -> Result<Bytes, NoMemory>
     ensures { IfOk result (λ text. text ≡ join_with_byte 32 (codes "air" ∷ decimal frame ∷ ends_word sender receiver ∷ codes "via" ∷ number_words repeaters.now (encode_upper payload.now ∷ []))) }
 {
     let sender = sender.number();

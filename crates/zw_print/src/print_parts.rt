@@ -60,7 +60,12 @@ pub fn print_accepted(alloc: Global, command: u32, node: NodeId) -> Result<Bytes
 }
 
 /// `begin N S I`
-pub fn print_begin(alloc: Global, node: NodeId, session: u64, command: u32) -> Result<Bytes, NoMemory>
+pub fn print_begin(
+    alloc: Global,
+    node: NodeId,
+    session: u64,
+    command: u32,
+) -> Result<Bytes, NoMemory>
     ensures { IfOk result (λ text. text ≡ join_with_byte 32 (codes "begin" ∷ decimal node ∷ decimal session ∷ decimal command ∷ [])) }
 {
     let node = node.number();
@@ -117,7 +122,12 @@ pub fn print_unread(alloc: Global, node: NodeId, payload: &[u8]) -> Result<Bytes
 }
 
 /// A word, a node, a property and its value.
-pub fn print_setting_of(alloc: Global, word: &str, node: NodeId, setting: Setting) -> Result<Bytes, NoMemory>
+pub fn print_setting_of(
+    alloc: Global,
+    word: &str,
+    node: NodeId,
+    setting: Setting,
+) -> Result<Bytes, NoMemory>
     ensures { IfOk result (λ text. text ≡ join_with_byte 32 (word.now ∷ decimal node ∷ property_word setting.property ∷ decimal setting.value ∷ [])) }
 {
     let node = node.number();
@@ -128,7 +138,12 @@ pub fn print_setting_of(alloc: Global, word: &str, node: NodeId, setting: Settin
 }
 
 /// A word, a node and a property.
-pub fn print_property_of(alloc: Global, word: &str, node: NodeId, property: Property) -> Result<Bytes, NoMemory>
+pub fn print_property_of(
+    alloc: Global,
+    word: &str,
+    node: NodeId,
+    property: Property,
+) -> Result<Bytes, NoMemory>
     ensures { IfOk result (λ text. text ≡ join_with_byte 32 (word.now ∷ decimal node ∷ property_word property ∷ [])) }
 {
     let node = node.number();
@@ -150,7 +165,13 @@ pub fn print_made(alloc: Global, node: NodeId, by: By, setting: Setting) -> Resu
 }
 
 /// `value N P confirmed X heard X`
-pub fn print_value(alloc: Global, node: NodeId, property: Property, confirmed: Option<u32>, heard: Option<u32>) -> Result<Bytes, NoMemory>
+pub fn print_value(
+    alloc: Global,
+    node: NodeId,
+    property: Property,
+    confirmed: Option<u32>,
+    heard: Option<u32>,
+) -> Result<Bytes, NoMemory>
     ensures { IfOk result (λ text. text ≡ join_with_byte 32 (codes "value" ∷ decimal node ∷ property_word property ∷ codes "confirmed" ∷ number_word confirmed ∷ codes "heard" ∷ number_word heard ∷ [])) }
 {
     let node = node.number();
@@ -172,13 +193,29 @@ pub fn print_refusal(alloc: Global, refusal: Refusal) -> Result<Bytes, NoMemory>
         Refusal::BadValue => bytes_of(alloc, "refused badvalue"),
         Refusal::Unsupervised => bytes_of(alloc, "refused unsupervised"),
         Refusal::TooLong { bytes } => print_count(alloc, "refused toolong", u64::from(bytes)),
-        Refusal::MailboxFull { waiting } => print_count(alloc, "refused mailboxfull", u64::from(waiting)),
-        Refusal::StoreFull { properties } => print_count(alloc, "refused storefull", u64::from(properties)),
+        Refusal::MailboxFull { waiting } => print_count(
+            alloc,
+            "refused mailboxfull",
+            u64::from(waiting),
+        ),
+        Refusal::StoreFull { properties } => print_count(
+            alloc,
+            "refused storefull",
+            u64::from(properties),
+        ),
         Refusal::Secured => bytes_of(alloc, "refused secured"),
-        Refusal::QueueFull { waiting } => print_count(alloc, "refused queuefull", u64::from(waiting)),
+        Refusal::QueueFull { waiting } => print_count(
+            alloc,
+            "refused queuefull",
+            u64::from(waiting),
+        ),
         Refusal::AlreadyJoined => bytes_of(alloc, "refused alreadyjoined"),
         Refusal::KeeperFault => bytes_of(alloc, "refused keeperfault"),
-        Refusal::NotWaiting { command } => print_count(alloc, "refused notwaiting", u64::from(command)),
+        Refusal::NotWaiting { command } => print_count(
+            alloc,
+            "refused notwaiting",
+            u64::from(command),
+        ),
         Refusal::NeverSent => bytes_of(alloc, "refused neversent"),
         Refusal::Forgotten => bytes_of(alloc, "refused forgotten"),
         Refusal::Stale { later } => print_count(alloc, "refused stale", later),

@@ -234,12 +234,16 @@ not_chip WRestart = refl
 
 replay_from_again : (text : List ℕ) (line : ReplayLine) → ReplayText text line → (w : List ℕ) × (rest : List (List ℕ)) × MayBeLine text × (words (without_return text) ≡ w ∷ rest) × (replay_from w rest ≡ Ok line)
 replay_from_again text (Plain line) t =
-    let w = word_text (first_word line) in
-    (w, t.0.rest, t.0.may_be, t.0.words_are,
-    ap (λ b. cond b (make Chip (last (hex_in 1 508) t.0.rest)) (make Plain (line_of_word (replay_word (line_word_in w)) t.0.rest))) (not_chip (first_word line))
-    ∙ ap (λ o. make Plain (line_of_word (replay_word o) t.0.rest)) (word_again (first_word line))
-    ∙ ap (λ b. make Plain (line_of_word (cond b (Some (first_word line)) None) t.0.rest)) t.1
-    ∙ ap (make Plain) (by_again line t.0.rest t.0.stands))
+    let w = word_text (first_word line) in (
+      w,
+      t.0.rest,
+      t.0.may_be,
+      t.0.words_are,
+      ap (λ b. cond b (make Chip (last (hex_in 1 508) t.0.rest)) (make Plain (line_of_word (replay_word (line_word_in w)) t.0.rest))) (not_chip (first_word line))
+          ∙ ap (λ o. make Plain (line_of_word (replay_word o) t.0.rest)) (word_again (first_word line))
+          ∙ ap (λ b. make Plain (line_of_word (cond b (Some (first_word line)) None) t.0.rest)) t.1
+          ∙ ap (make Plain) (by_again line t.0.rest t.0.stands),
+    )
 replay_from_again text (Chip bytes) t =
     (codes "chip", t.3.0 ∷ [], t.0, t.3.2, ap (make Chip) (hex_last 1 508 t.3.0 bytes t.3.1 t.1 t.2))
 

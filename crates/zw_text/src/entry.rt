@@ -91,81 +91,185 @@ pub enum Refusal {
 #[derive(Debug, Drop)]
 pub enum Entry {
     /// `> WORDS`: the line that is run, its words as they came with one space between two.
-    Said { words: Bytes },
+    Said {
+        words: Bytes,
+    },
     /// `accepted I node N`: the line's command has this number.
-    Accepted { command: u32, node: NodeId },
+    Accepted {
+        command: u32,
+        node: NodeId,
+    },
     /// `refused NAME` or `refused NAME X`: the line is not done.
-    Refused { refusal: Refusal },
+    Refused {
+        refusal: Refusal,
+    },
     /// `begin N S I`: session S of the node carries command I.
-    Begin { node: NodeId, session: u64, command: u32 },
+    Begin {
+        node: NodeId,
+        session: u64,
+        command: u32,
+    },
     /// `h HEX` or `c HEX`: a unit that a side wrote.
-    Written { side: Side, unit: Bytes },
+    Written {
+        side: Side,
+        unit: Bytes,
+    },
     /// `dropped S`: the unit just before was lost.
-    Dropped { side: Side },
+    Dropped {
+        side: Side,
+    },
     /// `garbled S HEX`: the unit just before was changed to this.
-    Garbled { side: Side, unit: Bytes },
+    Garbled {
+        side: Side,
+        unit: Bytes,
+    },
     /// `overrun S`: the unit just before did not fit its pipe.
-    Overrun { side: Side },
+    Overrun {
+        side: Side,
+    },
     /// `air I A>B via R HEX`: the frame goes on the air, over the repeaters.
-    Air { frame: u64, sender: NodeId, receiver: NodeId, repeaters: Sequence<NodeId>, payload: Payload },
+    Air {
+        frame: u64,
+        sender: NodeId,
+        receiver: NodeId,
+        repeaters: Sequence<NodeId>,
+        payload: Payload,
+    },
     /// `heard I`: the frame was heard by its receiver.
-    Heard { frame: u64 },
+    Heard {
+        frame: u64,
+    },
     /// `lost I`: the frame was lost.
-    Lost { frame: u64 },
+    Lost {
+        frame: u64,
+    },
     /// `unheard I`: the frame was not lost, and its receiver did not hear it.
-    Unheard { frame: u64 },
+    Unheard {
+        frame: u64,
+    },
     /// `dev N BY P X`: a setting of a change of the device.
-    Dev { node: NodeId, by: By, setting: Setting },
+    Dev {
+        node: NodeId,
+        by: By,
+        setting: Setting,
+    },
     /// `forget A B`: a hop left the chip's table.
-    Forget { first: NodeId, second: NodeId },
+    Forget {
+        first: NodeId,
+        second: NodeId,
+    },
     /// `out I WORD`: the command ended so.
-    Out { command: u32, ended: Ended },
+    Out {
+        command: u32,
+        ended: Ended,
+    },
     /// `store N P X`: the value is confirmed.
-    Store { node: NodeId, setting: Setting },
+    Store {
+        node: NodeId,
+        setting: Setting,
+    },
     /// `report N P X`: the value was heard.
-    Report { node: NodeId, setting: Setting },
+    Report {
+        node: NodeId,
+        setting: Setting,
+    },
     /// `unstored N P`: there was no room for what was heard.
-    Unstored { node: NodeId, property: Property },
+    Unstored {
+        node: NodeId,
+        property: Property,
+    },
     /// `old N ID`: a Supervision Report with this id was not for the begun session.
-    Old { node: NodeId, id: u8 },
+    Old {
+        node: NodeId,
+        id: u8,
+    },
     /// `unread N HEX`: a payload of the node was not read.
-    Unread { node: NodeId, payload: Bytes },
+    Unread {
+        node: NodeId,
+        payload: Bytes,
+    },
     /// `awake N`: the host takes the node to be awake.
-    Awake { node: NodeId },
+    Awake {
+        node: NodeId,
+    },
     /// `asleep N`: the host takes the node to be asleep.
-    Asleep { node: NodeId },
+    Asleep {
+        node: NodeId,
+    },
     /// `interviewed N`: the host knows the node's classes.
-    Interviewed { node: NodeId },
+    Interviewed {
+        node: NodeId,
+    },
     /// `interview N failed`: what the host knew of the node stays.
-    InterviewFailed { node: NodeId },
+    InterviewFailed {
+        node: NodeId,
+    },
     /// `done N WORD`: the request of a `send` or `get` ended so.
-    Done { node: NodeId, done: Done },
+    Done {
+        node: NodeId,
+        done: Done,
+    },
     /// `neighbours N LIST`: the neighbours that the chip knows of the node.
-    Neighbours { node: NodeId, list: Sequence<NodeId> },
+    Neighbours {
+        node: NodeId,
+        list: Sequence<NodeId>,
+    },
     /// `failed N yes` or `failed N no`: whether the chip takes the node to have failed.
-    Failed { node: NodeId, failed: bool },
+    Failed {
+        node: NodeId,
+        failed: bool,
+    },
     /// `chipfull`: the chip dropped a frame for the host.
     ChipFull,
     /// `queuefull N`: the host dropped a message to the node.
-    QueueFull { node: NodeId },
+    QueueFull {
+        node: NodeId,
+    },
     /// `device N P X`: what the device keeps of a property.
-    Device { node: NodeId, setting: Setting },
+    Device {
+        node: NodeId,
+        setting: Setting,
+    },
     /// `json TEXT`: the stored values of a node.
-    Json { text: Bytes },
+    Json {
+        text: Bytes,
+    },
     /// `held N`: the host keeps the node awake.
-    Held { node: NodeId },
+    Held {
+        node: NodeId,
+    },
     /// `cleared S K`: a restart lost so many bytes in the pipe of that side.
-    Cleared { side: Side, bytes: u64 },
+    Cleared {
+        side: Side,
+        bytes: u64,
+    },
     /// `unkept N`: the keeper failed, and something of the node was not done.
-    Unkept { node: NodeId },
+    Unkept {
+        node: NodeId,
+    },
     /// `t T`: what follows comes in this tick, counted from 1.
-    Time { tick: u64 },
+    Time {
+        tick: u64,
+    },
     /// `end T`: the run ended after so many ticks.
-    TableEnd { ticks: u64 },
+    TableEnd {
+        ticks: u64,
+    },
     /// `node N sessions LIST`: the commands of the node's sessions, in their order.
-    TableNode { node: NodeId, sessions: Sequence<u32> },
+    TableNode {
+        node: NodeId,
+        sessions: Sequence<u32>,
+    },
     /// `value N P confirmed X heard X`: what the host keeps of a property.
-    TableValue { node: NodeId, property: Property, confirmed: Option<u32>, heard: Option<u32> },
+    TableValue {
+        node: NodeId,
+        property: Property,
+        confirmed: Option<u32>,
+        heard: Option<u32>,
+    },
     /// `badline K NAME`: the line of this number, from 1 on, is none.
-    BadLine { line: u32, fault: LineFault },
+    BadLine {
+        line: u32,
+        fault: LineFault,
+    },
 }

@@ -12,9 +12,9 @@ mod laws;
 mod line;
 mod read;
 mod rows;
-mod word;
 #[cfg(test)]
 mod tests;
+mod word;
 
 pub use entry::{Done, Ended, Entry, Outcome, Refusal};
 pub use laws::{folded_grows, one_line_each, quiet_grows, shown_grows};

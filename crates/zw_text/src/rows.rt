@@ -82,7 +82,13 @@ pub fn read_setpoint(mut text: &[u8]) -> Result<Line, LineFault>
     let node = take_node(&mut text, LEAST_ORDER_NODE)?;
     let kind = take_number(&mut text, 0, MOST_KIND)?;
     let tenths = last_number(text, 0, MOST_TENTHS)?;
-    Ok(order_to(node, What::Setpoint { kind: kind as u8, tenths: tenths as u16 }))
+    Ok(order_to(
+        node,
+        What::Setpoint {
+            kind: kind as u8,
+            tenths: tenths as u16,
+        },
+    ))
 }
 
 /// `N M T X`.
@@ -94,7 +100,14 @@ pub fn read_comfort(mut text: &[u8]) -> Result<Line, LineFault>
     let mode = take_number(&mut text, 0, MOST_BYTE)?;
     let kind = take_number(&mut text, 0, MOST_KIND)?;
     let tenths = last_number(text, 0, MOST_TENTHS)?;
-    Ok(order_to(node, What::Comfort { mode: mode as u8, kind: kind as u8, tenths: tenths as u16 }))
+    Ok(order_to(
+        node,
+        What::Comfort {
+            mode: mode as u8,
+            kind: kind as u8,
+            tenths: tenths as u16,
+        },
+    ))
 }
 
 /// `N P X`.
@@ -105,7 +118,13 @@ pub fn read_config(mut text: &[u8]) -> Result<Line, LineFault>
     let node = take_node(&mut text, LEAST_ORDER_NODE)?;
     let param = take_number(&mut text, 0, MOST_BYTE)?;
     let value = last_number(text, 0, MOST_NUMBER)?;
-    Ok(order_to(node, What::Config { param: param as u8, value }))
+    Ok(order_to(
+        node,
+        What::Config {
+            param: param as u8,
+            value,
+        },
+    ))
 }
 
 /// `N P H`.
@@ -116,7 +135,13 @@ pub fn read_bulk(alloc: Global, mut text: &[u8]) -> Result<Line, ReadLineFault>
     let node = take_node(&mut text, LEAST_ORDER_NODE)?;
     let offset = take_number(&mut text, 0, MOST_BYTE)?;
     let values = last_hex(alloc, text, 1, MOST_VALUES)?;
-    Ok(order_to(node, What::Bulk { offset: offset as u8, values }))
+    Ok(order_to(
+        node,
+        What::Bulk {
+            offset: offset as u8,
+            values,
+        },
+    ))
 }
 
 /// `N G M`.
@@ -127,7 +152,13 @@ pub fn read_assoc(mut text: &[u8]) -> Result<Line, LineFault>
     let node = take_node(&mut text, LEAST_ORDER_NODE)?;
     let group = take_number(&mut text, 1, MOST_BYTE)?;
     let member = last_node(text, LEAST_NODE)?;
-    Ok(order_to(node, What::Associate { group: group as u8, member }))
+    Ok(order_to(
+        node,
+        What::Associate {
+            group: group as u8,
+            member,
+        },
+    ))
 }
 
 /// `N G M`.
@@ -138,7 +169,13 @@ pub fn read_unassoc(mut text: &[u8]) -> Result<Line, LineFault>
     let node = take_node(&mut text, LEAST_ORDER_NODE)?;
     let group = take_number(&mut text, 1, MOST_BYTE)?;
     let member = last_node(text, LEAST_NODE)?;
-    Ok(order_to(node, What::Dissociate { group: group as u8, member }))
+    Ok(order_to(
+        node,
+        What::Dissociate {
+            group: group as u8,
+            member,
+        },
+    ))
 }
 
 /// `N X`.
@@ -159,7 +196,11 @@ pub fn read_garble(mut text: &[u8]) -> Result<Line, LineFault>
     let side = take_side(&mut text)?;
     let place = take_number(&mut text, 0, MOST_BYTE)?;
     let xor = last_number(text, 1, MOST_BYTE)?;
-    Ok(Line::Garble { side, place: place as u8, xor: xor as u8 })
+    Ok(Line::Garble {
+        side,
+        place: place as u8,
+        xor: xor as u8,
+    })
 }
 
 /// `N V`.
@@ -199,5 +240,8 @@ pub fn read_local(mut text: &[u8]) -> Result<Line, LineFault>
 {
     let node = take_node(&mut text, LEAST_NODE)?;
     let value = last_number(text, 0, MOST_BYTE)?;
-    Ok(Line::Local { node, value: value as u8 })
+    Ok(Line::Local {
+        node,
+        value: value as u8,
+    })
 }
