@@ -4,6 +4,7 @@ ghost use Rattle.std.specs.Prelude.{◌≡◌, ◌∷◌, [], ◌++◌, IfOk, On
 ghost use Rattle.std.specs.List.{join_with_byte};
 ghost use Rattle.hex.specs.Hex.{encode_upper};
 ghost use Rattle.zw_text.specs.Entry.{ends_word, number_words};
+ghost use Rattle.zw_print.specs.Lists.{list_text};
 
 use std::alloc::{AllocError, Global};
 use zw_base::{Bytes, NoMemory, NodeId};
@@ -19,36 +20,64 @@ pub fn print_air(
 ) -> Result<Bytes, NoMemory>
     ensures { IfOk result (λ text. text ≡ join_with_byte 32 (codes "air" ∷ decimal frame ∷ ends_word sender receiver ∷ codes "via" ∷ number_words repeaters.now (encode_upper payload.now ∷ []))) }
 {
+    let text = show_air(alloc, frame, sender, receiver, repeaters, payload)?;
+    let bytes = Bytes::from_slice(alloc, text.as_bytes())?;
+    Ok(bytes)
+}
+
+fn show_air(
+    alloc: Global,
+    frame: u64,
+    sender: NodeId,
+    receiver: NodeId,
+    repeaters: &[NodeId],
+    payload: &[u8],
+) -> Result<String, AllocError>
+    ensures { IfOk result (λ text. string_bytes text ≡ codes "air " ++ (decimal frame ++ (codes " " ++ (decimal sender ++ (codes ">" ++ (decimal receiver ++ (codes " via " ++ (list_text repeaters.now ++ (codes " " ++ encode_upper payload.now))))))))) }
+{
     let sender = sender.number();
     let receiver = receiver.number();
     let repeaters = show_nodes(alloc, repeaters)?;
     let payload = hex::encode_upper(alloc, payload)?;
-    let text = format!(in alloc; "air {frame} {sender}>{receiver} via {repeaters} {payload}")?;
-    Bytes::from_slice(alloc, text.as_bytes())
+    format!(in alloc; "air {frame} {sender}>{receiver} via {repeaters} {payload}")
 }
 
 /// `neighbours N LIST`
 pub fn print_neighbours(alloc: Global, node: NodeId, list: &[NodeId]) -> Result<Bytes, NoMemory>
     ensures { IfOk result (λ text. text ≡ join_with_byte 32 (codes "neighbours" ∷ decimal node ∷ number_words list.now [])) }
 {
+    let text = show_neighbours(alloc, node, list)?;
+    let bytes = Bytes::from_slice(alloc, text.as_bytes())?;
+    Ok(bytes)
+}
+
+fn show_neighbours(alloc: Global, node: NodeId, list: &[NodeId]) -> Result<String, AllocError>
+    ensures { IfOk result (λ text. string_bytes text ≡ codes "neighbours " ++ (decimal node ++ (codes " " ++ list_text list.now))) }
+{
     let node = node.number();
     let list = show_nodes(alloc, list)?;
-    let text = format!(in alloc; "neighbours {node} {list}")?;
-    Bytes::from_slice(alloc, text.as_bytes())
+    format!(in alloc; "neighbours {node} {list}")
 }
 
 /// `node N sessions LIST`
 pub fn print_sessions(alloc: Global, node: NodeId, sessions: &[u32]) -> Result<Bytes, NoMemory>
     ensures { IfOk result (λ text. text ≡ join_with_byte 32 (codes "node" ∷ decimal node ∷ codes "sessions" ∷ number_words sessions.now [])) }
 {
+    let text = show_sessions(alloc, node, sessions)?;
+    let bytes = Bytes::from_slice(alloc, text.as_bytes())?;
+    Ok(bytes)
+}
+
+fn show_sessions(alloc: Global, node: NodeId, sessions: &[u32]) -> Result<String, AllocError>
+    ensures { IfOk result (λ text. string_bytes text ≡ codes "node " ++ (decimal node ++ (codes " sessions " ++ list_text sessions.now))) }
+{
     let node = node.number();
     let sessions = show_numbers(alloc, sessions)?;
-    let text = format!(in alloc; "node {node} sessions {sessions}")?;
-    Bytes::from_slice(alloc, text.as_bytes())
+    format!(in alloc; "node {node} sessions {sessions}")
 }
 
 fn show_numbers(alloc: Global, numbers: &[u32]) -> Result<String, AllocError>
-    ensures { IfOk result (λ text. string_bytes text ≡ join_with_byte 32 (number_words numbers.now [])) }
+    ensures { IfOk result (λ text. string_bytes text ≡ list_text numbers.now) }
 {
     let [first, rest @ ..] = numbers else {
         return String::from_str(alloc, "-");
@@ -62,7 +91,7 @@ fn show_numbers(alloc: Global, numbers: &[u32]) -> Result<String, AllocError>
 }
 
 fn show_nodes(alloc: Global, nodes: &[NodeId]) -> Result<String, AllocError>
-    ensures { IfOk result (λ text. string_bytes text ≡ join_with_byte 32 (number_words nodes.now [])) }
+    ensures { IfOk result (λ text. string_bytes text ≡ list_text nodes.now) }
 {
     let [first, rest @ ..] = nodes else {
         return String::from_str(alloc, "-");
