@@ -4,7 +4,7 @@
 //! It promises that a line is read exactly where the text is that line's, and else which fault is the first from the
 //! left.
 //! The definitions stand in `specs/`: `Line` and `Entry` for the texts, `Fits` for the ranges of an entry's numbers,
-//! `Transcript` for what a list of entries shows. Entries are printed by `zw_print` and read back by `zw_entries`.
+//! `Transcript` for what a list of entries shows. Entries are printed by `zw_print`.
 #![tactic(auto)]
 
 mod entry;
