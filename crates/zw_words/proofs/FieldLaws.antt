@@ -1,9 +1,9 @@
 -- Words that are read in turn, both ways.
-use Rattle.std.proofs.Common.{◌≡◌, ℕ, Bool, Option, Some, None, Result, Ok, Err, List, [], ◌∷◌, refl, ap, ◌∙◌, sym}
+use Rattle.std.proofs.Common.{◌≡◌, ℕ, Option, Some, None, Ok, Err, List, [], ◌∷◌, refl, ap, ◌∙◌, sym}
 use Rattle.zw_words.specs.declared.fault.LineFault.{LineFault}
 use Rattle.zw_words.specs.declared.fault.LineFault.TheVariants.{Missing, Number, Extra}
 use Rattle.zw_words.specs.Fields.{◌>>=◌, Taken, alone, ends, formed, last, next}
-use Rattle.zw_words.proofs.Choices.{bind_ok, done, failed, not_ok, ok_is, some}
+use Rattle.zw_words.proofs.Choices.{bind_ok, done, not_ok, ok_is, some}
 
 -- a word that was taken
 pub record Takes {A : Type 0} (form : List ℕ → Option A) (ws rest : List (List ℕ)) (x : A) : Type 0 where

@@ -1,5 +1,5 @@
 -- The words of a text, cut off from its front.
-use Rattle.std.proofs.Common.{◌≡◌, ◌≢◌, ℕ, zero, suc, ◌+◌, ◌-◌, ◌<◌, ◌≤◌, Bool, true, false, cond, List, [], ◌∷◌, ◌++◌, length, get_or, take, drop, arith, ap, refl, ◌∙◌, sym, subst, add-one, drop-cons}
+use Rattle.std.proofs.Common.{◌≡◌, ℕ, zero, suc, ◌+◌, ◌<◌, ◌≤◌, true, false, cond, List, [], ◌∷◌, ◌++◌, length, get_or, take, drop, arith, ap, refl, ◌∙◌, sym, subst, add-one, drop-cons}
 use Rattle.std.specs.Prelude.{All, filter}
 use Rattle.std.specs.List.{slice_split}
 use Rattle.std.proofs.lemmas.List.{get_or_default, get_or-take, length-take-le, take-append-drop}

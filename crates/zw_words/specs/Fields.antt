@@ -2,7 +2,7 @@
 use Rattle.std.specs.Prelude.{◌≡◌, ℕ, List, [], ◌∷◌, Option, Some, None, Result, Ok, Err, IsOk}
 use Rattle.zw_words.specs.Words.{line_words}
 use Rattle.zw_words.specs.declared.fault.LineFault.{LineFault}
-use Rattle.zw_words.specs.declared.fault.LineFault.TheVariants.{Unknown, Missing, Number, Extra}
+use Rattle.zw_words.specs.declared.fault.LineFault.TheVariants.{Missing, Number, Extra}
 use Rattle.zw_words.specs.declared.fault.ReadLineFault.{ReadLineFault}
 use Rattle.zw_words.specs.declared.fault.ReadLineFault.TheVariants.{Bad, NoMemory}
 

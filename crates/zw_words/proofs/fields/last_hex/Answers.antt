@@ -1,7 +1,5 @@
 -- A word that is no hex, and a word behind one that is.
-use Rattle.std.proofs.Common.{◌≡◌, Err, rules, ◌∙◌, subst, sym}
-use Rattle.zw_words.specs.Fields.{Gives, last}
-use Rattle.zw_words.specs.declared.fault.ReadLineFault.TheVariants.{Bad}
+use Rattle.std.proofs.Common.{◌∙◌, sym}
 use Rattle.zw_words.specs.Forms.{hex_in}
 use Rattle.zw_words.specs.Words.{words}
 use Rattle.zw_words.proofs.FormLaws.{hex_bad, hex_some}
