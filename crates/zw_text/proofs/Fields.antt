@@ -1,8 +1,7 @@
 -- Fields of lines, both ways.
-use Rattle.std.proofs.Common.{◌≡◌, ℕ, ◌<◌, ◌≤◌, ◌^◌, Option, Some, Result, Ok, Err, List, [], ◌∷◌, length, decimal, arith, ap, refl, ◌∙◌, sym}
+use Rattle.std.proofs.Common.{◌≡◌, ℕ, ◌<◌, ◌≤◌, ◌^◌, Ok, List, [], ◌∷◌, length, decimal, arith, ap, ◌∙◌}
 use Rattle.hex.specs.Hex.{decode_of}
 use Rattle.zw_order.specs.declared.order.Word.{Word}
-use Rattle.zw_words.specs.declared.fault.LineFault.{LineFault}
 use Rattle.zw_words.specs.declared.forms.Target.{Target}
 use Rattle.zw_words.specs.declared.side.Side.{Side}
 use Rattle.zw_words.specs.Fields.{Taken, last, next}

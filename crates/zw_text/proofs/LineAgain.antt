@@ -1,20 +1,16 @@
 -- A line's words are read as that line.
-use Rattle.std.proofs.Common.{◌≡◌, ℕ, ◌≤◌, Result, Ok, Err, List, [], ◌∷◌, decimal, arith, ap, refl, ◌∙◌, sym, subst, zero-le}
-use Rattle.zw_order.specs.declared.order.Order.{Order}
+use Rattle.std.proofs.Common.{◌≡◌, ℕ, ◌≤◌, Result, Ok, List, [], ◌∷◌, decimal, arith, ap, refl, ◌∙◌, sym}
 use Rattle.zw_order.specs.declared.order.What.{What}
 use Rattle.zw_order.specs.declared.order.What.TheVariants.{Value, Mode, Setpoint, Config, Bulk, Associate, Dissociate, Interval, Comfort}
 use Rattle.zw_order.specs.declared.order.Word.{Word}
 use Rattle.zw_order.specs.declared.order.Word.TheVariants.{On, Off, Level}
 use Rattle.zw_words.specs.declared.fault.LineFault.{LineFault}
 use Rattle.zw_words.specs.declared.forms.Target.{Target}
-use Rattle.zw_words.specs.declared.side.Side.{Side}
-use Rattle.zw_words.specs.Fields.{◌>>=◌, Taken, ends, last, make, next}
-use Rattle.zw_words.specs.Forms.{between_in, hex_in, node_in, side_in, target_in, value_in}
-use Rattle.zw_words.specs.Texts.{side_word, target_word, value_word}
+use Rattle.zw_words.specs.Fields.{last, make}
+use Rattle.zw_words.specs.Texts.{target_word, value_word}
 use Rattle.zw_text.specs.declared.line.Line.{Line}
 use Rattle.zw_text.specs.declared.line.Line.TheVariants.{Command, Tick, Cut, Stall, Drop, Garble, Collide, Send, Get, Join, Interview, Lose, LoseAck, Repeat, Wake, Cancel, Link, Unlink, Discover, Neighbours, Failed, Probe, Local, Show, Store, Restart}
-use Rattle.zw_text.specs.declared.word.LineWord.{LineWord}
-use Rattle.zw_text.specs.declared.word.LineWord.TheVariants.{Set as WSet, Mode as WMode, Setpoint as WSetpoint, Comfort as WComfort, Config as WConfig, Bulk as WBulk, Assoc as WAssoc, Unassoc as WUnassoc, Interval as WInterval, Tick as WTick, Cut as WCut, Stall as WStall, Drop as WDrop, Garble as WGarble, Collide as WCollide, Send as WSend, Get as WGet, Join as WJoin, Interview as WInterview, Lose as WLose, LoseAck as WLoseAck, Repeat as WRepeat, Wake as WWake, Cancel as WCancel, Link as WLink, Unlink as WUnlink, Discover as WDiscover, Neighbours as WNeighbours, Failed as WFailed, Probe as WProbe, Local as WLocal, Show as WShow, Store as WStore, Restart as WRestart}
+use Rattle.zw_text.specs.declared.word.LineWord.TheVariants.{Set as WSet, Mode as WMode, Setpoint as WSetpoint, Comfort as WComfort, Config as WConfig, Bulk as WBulk, Assoc as WAssoc, Unassoc as WUnassoc, Interval as WInterval, Tick as WTick, Cut as WCut, Stall as WStall, Drop as WDrop, Garble as WGarble, Send as WSend, Get as WGet, Join as WJoin, Interview as WInterview, Lose as WLose, LoseAck as WLoseAck, Repeat as WRepeat, Wake as WWake, Cancel as WCancel, Link as WLink, Unlink as WUnlink, Neighbours as WNeighbours, Failed as WFailed, Local as WLocal, Show as WShow, Store as WStore}
 use Rattle.zw_words.proofs.FieldLaws.{ends_again}
 use Rattle.zw_words.proofs.FormLaws.{IsLevel, target_alone}
 use Rattle.zw_text.specs.Line.{EndStands, IsIn, IsValue, LineWords, WhatWords, first_word, line_by, order_line, what_word}

@@ -1,25 +1,22 @@
 -- What is read as a line is that line's words.
-use Rattle.std.proofs.Common.{◌≡◌, ℕ, ◌≤◌, Result, Ok, Err, List, [], ◌∷◌, decimal, ap, refl, ◌∙◌, sym, subst}
-use Rattle.zw_order.specs.declared.order.Order.{Order}
+use Rattle.std.proofs.Common.{◌≡◌, ℕ, Ok, List, [], ◌∷◌, decimal, ap, refl, ◌∙◌, subst}
 use Rattle.zw_order.specs.declared.order.What.{What}
 use Rattle.zw_order.specs.declared.order.What.TheVariants.{Value, Mode, Setpoint, Config, Bulk, Associate, Dissociate, Interval, Comfort}
 use Rattle.zw_order.specs.declared.order.Word.{Word}
 use Rattle.zw_order.specs.declared.order.Word.TheVariants.{On, Off, Level}
-use Rattle.zw_words.specs.declared.fault.LineFault.{LineFault}
 use Rattle.zw_words.specs.declared.forms.Target.{Target}
-use Rattle.zw_words.specs.declared.side.Side.{Side}
-use Rattle.zw_words.specs.Fields.{◌>>=◌, Taken, ends, last, make, next}
+use Rattle.zw_words.specs.Fields.{ends, last, next}
 use Rattle.zw_words.specs.Forms.{between_in, hex_in, node_in, side_in, target_in, value_in}
 use Rattle.zw_words.specs.Texts.{side_word, target_word, value_word}
 use Rattle.zw_text.specs.declared.line.Line.{Line}
 use Rattle.zw_text.specs.declared.line.Line.TheVariants.{Command, Tick, Cut, Stall, Drop, Garble, Collide, Send, Get, Join, Interview, Lose, LoseAck, Repeat, Wake, Cancel, Link, Unlink, Discover, Neighbours, Failed, Probe, Local, Show, Store, Restart}
 use Rattle.zw_text.specs.declared.word.LineWord.{LineWord}
 use Rattle.zw_text.specs.declared.word.LineWord.TheVariants.{Set as WSet, Mode as WMode, Setpoint as WSetpoint, Comfort as WComfort, Config as WConfig, Bulk as WBulk, Assoc as WAssoc, Unassoc as WUnassoc, Interval as WInterval, Tick as WTick, Cut as WCut, Stall as WStall, Drop as WDrop, Garble as WGarble, Collide as WCollide, Send as WSend, Get as WGet, Join as WJoin, Interview as WInterview, Lose as WLose, LoseAck as WLoseAck, Repeat as WRepeat, Wake as WWake, Cancel as WCancel, Link as WLink, Unlink as WUnlink, Discover as WDiscover, Neighbours as WNeighbours, Failed as WFailed, Probe as WProbe, Local as WLocal, Show as WShow, Store as WStore, Restart as WRestart}
-use Rattle.zw_words.proofs.Choices.{bind_ok, done, made_of, not_ok, ok_is}
+use Rattle.zw_words.proofs.Choices.{bind_ok, made_of}
 use Rattle.zw_words.proofs.FieldLaws.{ends_takes}
 use Rattle.zw_words.proofs.FormLaws.{IsLevel}
-use Rattle.zw_text.specs.Line.{EndStands, IsIn, IsValue, LineWords, WhatWords, first_word, line_by, order_line, what_word}
-use Rattle.zw_text.proofs.Fields.{HexThen, NumberThen, TargetThen, last_hex, last_number, last_side, last_target, last_value, next_number, next_side, next_target}
+use Rattle.zw_text.specs.Line.{EndStands, IsValue, LineWords, WhatWords, first_word, line_by, order_line, what_word}
+use Rattle.zw_text.proofs.Fields.{NumberThen, last_hex, last_number, last_side, last_target, last_value, next_number, next_side, next_target}
 
 -- the line begins with the word, and its other words are these
 pub record IsRow (word : LineWord) (ws : List (List ℕ)) (line : Line) : Type 0 where

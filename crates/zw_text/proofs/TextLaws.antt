@@ -1,22 +1,20 @@
 -- Texts of lines: what is read is the text's line, and a line's text is read as that line.
-use Rattle.std.proofs.Common.{◌≡◌, ℕ, ◌≤◌, ◌<◌, ◌==◌, Bool, true, false, cond, ltb, Option, Some, None, Result, Ok, Err, List, [], ◌∷◌, length, get_or, take, ◌-◌, codes, arith, ap, refl, ◌∙◌, sym, subst, ◌⊎◌, inl, inr}
-use Rattle.std.specs.Prelude.{IfOk, IsTrue, MatchOption, bytes_eq, find}
+use Rattle.std.proofs.Common.{◌≡◌, ℕ, ◌≤◌, Bool, true, false, cond, ltb, Option, Some, None, Result, Ok, Err, List, [], ◌∷◌, length, codes, ap, refl, ◌∙◌, sym, subst, ◌⊎◌, inl, inr}
+use Rattle.std.specs.Prelude.{IfOk, MatchOption, bytes_eq, find}
 use Rattle.std.proofs.lemmas.Bool.{le-ltb, ltb-false}
 use Rattle.std.proofs.lemmas.Slice.Eq.{bytes_eq-Decides}
-use Rattle.zw_words.specs.declared.fault.LineFault.{LineFault}
 use Rattle.zw_words.specs.declared.fault.LineFault.TheVariants.{Unknown, TooLong}
 use Rattle.zw_words.specs.declared.fault.ReadLineFault.{ReadLineFault}
-use Rattle.zw_words.specs.declared.fault.ReadLineFault.TheVariants.{Bad, NoMemory}
 use Rattle.zw_words.specs.Words.{is_remark, line_words, without_return, words}
 use Rattle.zw_words.specs.Forms.{hex_in}
-use Rattle.zw_words.specs.Fields.{◌>>=◌, Gives, last, make, of_text, of_words}
-use Rattle.zw_words.proofs.Choices.{bind_ok, chosen, done, failed, made_of, not_ok, ok_is, some, some_is, not_some}
+use Rattle.zw_words.specs.Fields.{◌>>=◌, Gives, last, make, of_words}
+use Rattle.zw_words.proofs.Choices.{bind_ok, chosen, made_of, not_ok, ok_is, some, some_is, not_some}
 use Rattle.zw_text.specs.declared.line.Line.{Line}
 use Rattle.zw_text.specs.declared.line.ReplayLine.{ReplayLine}
 use Rattle.zw_text.specs.declared.line.ReplayLine.TheVariants.{Plain, Chip}
 use Rattle.zw_text.specs.declared.word.LineWord.{LineWord}
 use Rattle.zw_text.specs.declared.word.LineWord.TheVariants.{Set as WSet, Mode as WMode, Setpoint as WSetpoint, Comfort as WComfort, Config as WConfig, Bulk as WBulk, Assoc as WAssoc, Unassoc as WUnassoc, Interval as WInterval, Tick as WTick, Cut as WCut, Stall as WStall, Drop as WDrop, Garble as WGarble, Collide as WCollide, Send as WSend, Get as WGet, Join as WJoin, Interview as WInterview, Lose as WLose, LoseAck as WLoseAck, Repeat as WRepeat, Wake as WWake, Cancel as WCancel, Link as WLink, Unlink as WUnlink, Discover as WDiscover, Neighbours as WNeighbours, Failed as WFailed, Probe as WProbe, Local as WLocal, Show as WShow, Store as WStore, Restart as WRestart}
-use Rattle.zw_text.specs.Line.{IsNoLine, LineText, LineWords, MayBeLine, ReplayText, first_word, is_replayed, line_at, line_by, line_from, line_of_word, line_word_in, line_words_all, replay_at, replay_from, replay_word, word_text}
+use Rattle.zw_text.specs.Line.{IsNoLine, LineText, LineWords, MayBeLine, ReplayText, first_word, is_replayed, line_at, line_from, line_of_word, line_word_in, line_words_all, replay_at, replay_from, replay_word, word_text}
 use Rattle.zw_text.proofs.Fields.{hex_last, last_hex}
 use Rattle.zw_text.proofs.LineTakes.{by_takes}
 use Rattle.zw_text.proofs.LineAgain.{by_again}

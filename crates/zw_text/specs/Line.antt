@@ -1,15 +1,12 @@
 -- The lines of a scenario and of `replay`: which words each has, and what a text is read as from left to right. All of it is this project's own rule.
-use Rattle.std.specs.Prelude.{◌≡◌, ◌≢◌, ℕ, ◌==◌, ◌≤◌, ◌<◌, ◌^◌, ◌⊎◌, if◌then◌else◌, Bool, true, false, nat_le, List, [], ◌∷◌, ◌++◌, length, codes, decimal, bytes_eq, find, Option, Some, None, option_map, Result, Ok, Err, IsTrue}
+use Rattle.std.specs.Prelude.{◌≡◌, ℕ, ◌≤◌, ◌⊎◌, if◌then◌else◌, Bool, true, false, List, [], ◌∷◌, length, codes, decimal, bytes_eq, find, Option, Some, None, Result, Ok, Err, IsTrue}
 use Rattle.hex.specs.Hex.{decode_of}
-use Rattle.zw_order.specs.declared.order.Order.{Order}
 use Rattle.zw_order.specs.declared.order.What.{What}
 use Rattle.zw_order.specs.declared.order.What.TheVariants.{Value, Mode, Setpoint, Config, Bulk, Associate, Dissociate, Interval, Comfort}
 use Rattle.zw_order.specs.declared.order.Word.{Word}
 use Rattle.zw_order.specs.declared.order.Word.TheVariants.{On, Off, Level}
 use Rattle.zw_words.specs.declared.fault.LineFault.{LineFault}
 use Rattle.zw_words.specs.declared.fault.LineFault.TheVariants.{Unknown}
-use Rattle.zw_words.specs.declared.forms.Target.{Target}
-use Rattle.zw_words.specs.declared.side.Side.{Side}
 use Rattle.zw_words.specs.Words.{is_remark, without_return, words}
 use Rattle.zw_words.specs.Forms.{between_in, hex_in, node_in, side_in, target_in, value_in}
 use Rattle.zw_words.specs.Texts.{side_word, target_word, value_word}
