@@ -1,0 +1,6 @@
+pub mod Frames
+pub mod State
+pub mod Next
+pub mod Events
+pub mod Facts
+pub mod Inside

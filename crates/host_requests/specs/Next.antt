@@ -1,0 +1,183 @@
+-- What an event makes of the request under way (this project's own rules on the Serial API; the waits are its own).
+use Rattle.std.specs.Prelude.{ℕ, ◌-◌, ◌==◌, ◌&&◌, ◌||◌, nat_lt, not, if◌then◌else◌, Bool, true, false, Option, Some, None}
+use Rattle.chip_functions.specs.declared.function.TheConstants.{SEND_DATA}
+use Rattle.chip_functions.specs.declared.notice.TransmitStatus.{TransmitStatus}
+use Rattle.chip_functions.specs.declared.notice.Update.{Update}
+use Rattle.chip_functions.specs.declared.notice.Update.TheVariants.{Received, RequestFailed}
+use Rattle.chip_functions.specs.declared.response.Response.{Response}
+use Rattle.chip_functions.specs.declared.response.Response.TheVariants.{GetInitData, GetCapabilities, SendData, GetVersion, MemoryGetId, GetNodeProtocolInfo, RequestNodeInfo, IsFailedNode, GetRoutingInfo}
+use Rattle.chip_functions.specs.declared.response.TheConstants.{REFUSED}
+use Rattle.chip_functions.specs.Response.{response_function}
+use Rattle.host_requests.specs.Frames.{function_of}
+use Rattle.host_requests.specs.State.{RequestsState}
+use Rattle.host_requests.specs.declared.end.End.{End}
+use Rattle.host_requests.specs.declared.end.How.{How}
+use Rattle.host_requests.specs.declared.end.How.TheVariants.{AtCallback, AtResponse, AtUpdate, Refused, Silent, LinkFailed, AbortSent}
+use Rattle.host_requests.specs.declared.next.Next.{Next}
+use Rattle.host_requests.specs.declared.next.Next.TheVariants.{GoesOn, Ends}
+use Rattle.host_requests.specs.declared.task.Task.{Task}
+use Rattle.host_requests.specs.declared.task.Task.TheVariants.{Plain, Offer, Segment, NoMore, First, Second, Members, Neighbours, IsFailed, Version, MemoryId, Capabilities}
+use Rattle.host_requests.specs.declared.task.Purpose.{Purpose}
+use Rattle.host_requests.specs.declared.task.Purpose.TheVariants.{Housekeeping, Attempt, Abort}
+use Rattle.host_requests.specs.declared.under_way.Progress.{Progress}
+use Rattle.host_requests.specs.declared.under_way.Progress.TheVariants.{Submitted, Sent, Answered}
+use Rattle.host_requests.specs.declared.under_way.TheConstants.{RESPONSE_TICKS, NOTICE_TICKS}
+use Rattle.host_requests.specs.declared.under_way.UnderWay.{UnderWay}
+
+-- a response came
+abbrev pub is_answered : Progress → Bool
+is_answered Submitted = false
+is_answered (Sent left) = false
+is_answered (Answered sent left) = true
+
+-- the frame was acknowledged
+abbrev pub is_sent : Progress → Bool
+is_sent Submitted = false
+is_sent (Sent left) = true
+is_sent (Answered sent left) = sent
+
+-- the frame is acknowledged: a request that is not answered waits for its response from now on; an abort has no response
+abbrev pub acknowledged : Purpose → Next
+acknowledged (Housekeeping task) = GoesOn (Sent RESPONSE_TICKS)
+acknowledged (Attempt n more payload) = GoesOn (Sent RESPONSE_TICKS)
+acknowledged Abort = Ends AbortSent
+
+abbrev pub sent_from : Purpose → Progress → Next
+sent_from purpose Submitted = acknowledged purpose
+sent_from purpose (Sent left) = GoesOn (Sent left)
+sent_from purpose (Answered sent left) = GoesOn (Answered true left)
+
+abbrev pub at_sent : UnderWay → Next
+at_sent u = sent_from u.purpose u.progress
+
+-- 0 says that the request was not taken; else it waits for its callback or ApplicationUpdate from now on
+abbrev pub taken : ℕ → UnderWay → Next
+taken answer u = if answer == REFUSED then Ends Refused else GoesOn (Answered (is_sent u.progress) NOTICE_TICKS)
+
+-- the response to this request: all but a SendData and a RequestNodeInfo end with it
+abbrev pub judged : Response → UnderWay → Next
+judged (SendData answer) u = taken answer u
+judged (RequestNodeInfo answer) u = taken answer u
+judged (GetInitData v c nodes t w) u = Ends (AtResponse (GetInitData v c nodes t w))
+judged (GetCapabilities v r m t p functions) u = Ends (AtResponse (GetCapabilities v r m t p functions))
+judged (GetVersion text t) u = Ends (AtResponse (GetVersion text t))
+judged (MemoryGetId home n) u = Ends (AtResponse (MemoryGetId home n))
+judged (GetNodeProtocolInfo c s r b g t) u = Ends (AtResponse (GetNodeProtocolInfo c s r b g t))
+judged (IsFailedNode failed) u = Ends (AtResponse (IsFailedNode failed))
+judged (GetRoutingInfo nodes) u = Ends (AtResponse (GetRoutingInfo nodes))
+
+-- a response is taken once, where its function is that of the request; an abort's function has none
+abbrev pub at_response : Response → UnderWay → Next
+at_response response u =
+    if is_answered u.progress || not (response_function response == function_of u.purpose) then GoesOn u.progress else judged response u
+
+-- a callback ends the SendData that has its id, answered and acknowledged or not
+abbrev pub at_callback : ℕ → ℕ → TransmitStatus → UnderWay → Next
+at_callback last id status u = if (function_of u.purpose == SEND_DATA) && (id == last) then Ends (AtCallback status) else GoesOn u.progress
+
+-- the information is that of the node that was asked; that none came is said of no node
+abbrev pub is_update_of : ℕ → Update → Bool
+is_update_of node (Received n b g s classes) = n == node
+is_update_of node RequestFailed = true
+
+-- an ApplicationUpdate ends a RequestNodeInfo, answered and acknowledged or not
+abbrev pub task_ends_at_update : Update → Task → Bool
+task_ends_at_update update (Second n) = is_update_of n update
+task_ends_at_update update (Plain n payload) = false
+task_ends_at_update update (Offer n nonce) = false
+task_ends_at_update update (Segment n payload) = false
+task_ends_at_update update (NoMore n) = false
+task_ends_at_update update (First n) = false
+task_ends_at_update update Members = false
+task_ends_at_update update (Neighbours n) = false
+task_ends_at_update update (IsFailed n) = false
+task_ends_at_update update Version = false
+task_ends_at_update update MemoryId = false
+task_ends_at_update update Capabilities = false
+
+abbrev pub purpose_ends_at_update : Update → Purpose → Bool
+purpose_ends_at_update update (Housekeeping task) = task_ends_at_update update task
+purpose_ends_at_update update (Attempt n more payload) = false
+purpose_ends_at_update update Abort = false
+
+abbrev pub ends_at_update : Update → UnderWay → Bool
+ends_at_update update u = purpose_ends_at_update update u.purpose
+
+abbrev pub at_update : Option ℕ → Update → UnderWay → Next
+at_update first update u = if ends_at_update update u then Ends (AtUpdate update first) else GoesOn u.progress
+
+-- a tick later; none where the wait has ended
+abbrev pub counted_down : Progress → Option Progress
+counted_down Submitted = Some Submitted
+counted_down (Sent left) = if nat_lt 1 left then Some (Sent (left - 1)) else None
+counted_down (Answered sent left) = if nat_lt 1 left then Some (Answered sent (left - 1)) else None
+
+-- a wait that ends brought nothing
+abbrev pub on_with : Option Progress → Next
+on_with (Some progress) = GoesOn progress
+on_with None = Ends Silent
+
+abbrev pub at_tick : UnderWay → Next
+at_tick u = on_with (counted_down u.progress)
+
+-- a SendData that was taken, and whose callback did not come: the chip is to give it up
+abbrev pub is_silent : How → Bool
+is_silent Silent = true
+is_silent (AtCallback status) = false
+is_silent (AtResponse response) = false
+is_silent (AtUpdate update first) = false
+is_silent Refused = false
+is_silent LinkFailed = false
+is_silent AbortSent = false
+
+abbrev pub owes_abort : UnderWay → How → Bool
+owes_abort u how = is_silent how && (is_answered u.progress && (function_of u.purpose == SEND_DATA))
+
+-- the capability byte of a response
+abbrev pub capability_in : Response → Option ℕ
+capability_in (GetNodeProtocolInfo c s r b g t) = Some c
+capability_in (GetInitData v c nodes t w) = None
+capability_in (GetCapabilities v r m t p functions) = None
+capability_in (SendData answer) = None
+capability_in (GetVersion text t) = None
+capability_in (MemoryGetId home n) = None
+capability_in (RequestNodeInfo answer) = None
+capability_in (IsFailedNode failed) = None
+capability_in (GetRoutingInfo nodes) = None
+
+-- the first request of an interview brings it where it ends at its response; no other request brings one
+abbrev pub capability_at : How → Option ℕ
+capability_at (AtResponse response) = capability_in response
+capability_at (AtCallback status) = None
+capability_at (AtUpdate update first) = None
+capability_at Refused = None
+capability_at Silent = None
+capability_at LinkFailed = None
+capability_at AbortSent = None
+
+-- a request ended
+abbrev pub finished : RequestsState → UnderWay → How → RequestsState
+finished s u how = record s { under_way = None; owes = owes_abort u how; first = capability_at how }
+
+abbrev pub went_on : RequestsState → UnderWay → Next → RequestsState
+went_on s u (GoesOn progress) = record s { under_way = Some (record { purpose = u.purpose; progress = progress }) }
+went_on s u (Ends how) = finished s u how
+
+abbrev pub end_of : UnderWay → Next → Option End
+end_of u (GoesOn progress) = None
+end_of u (Ends how) = Some (record { purpose = u.purpose; how = how })
+
+-- what an event makes of the state, and what ends at it: nothing where no request is under way
+abbrev pub next_from : RequestsState → (UnderWay → Next) → Option UnderWay → RequestsState
+next_from s next None = s
+next_from s next (Some u) = went_on s u (next u)
+
+abbrev pub after_next : RequestsState → (UnderWay → Next) → RequestsState
+after_next s next = next_from s next s.under_way
+
+abbrev pub end_from : (UnderWay → Next) → Option UnderWay → Option End
+end_from next None = None
+end_from next (Some u) = end_of u (next u)
+
+abbrev pub end_of_next : RequestsState → (UnderWay → Next) → Option End
+end_of_next s next = end_from next s.under_way
