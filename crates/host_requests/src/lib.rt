@@ -13,8 +13,8 @@ mod next;
 mod requests;
 mod task;
 mod under_way;
-//T #[cfg(test)]
-//T mod tests;
+#[cfg(test)]
+mod tests;
 
 pub use end::{End, How};
 //L pub use laws::{each_request_ends, interviews_are_whole, what_holds};
