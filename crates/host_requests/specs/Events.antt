@@ -61,19 +61,13 @@ after s Forgets = no_requests
 
 -- what ends at an event
 abbrev pub end_at : RequestsState → RequestsEvent → Option End
-end_at s (Pushes task) = None
-end_at s (PushesInterview n) = None
-end_at s PushesProbe = None
-end_at s BeginsAbort = None
-end_at s BeginsFront = None
-end_at s (BeginsAttempt n more payload) = None
 end_at s IsSent = end_of_next s at_sent
 end_at s Fails = end_of_next s (λ _. Ends LinkFailed)
 end_at s (Responds response) = end_of_next s (at_response response)
 end_at s (CallsBack id status) = end_of_next s (at_callback s.last_id id status)
 end_at s (Updates update) = end_of_next s (at_update s.first update)
 end_at s Ticks = end_of_next s at_tick
-end_at s Forgets = None
+end_at s event = None
 
 -- so many more tasks may wait
 abbrev pub HasRoom : RequestsState → ℕ → Type 0
@@ -88,20 +82,13 @@ May s PushesProbe = HasRoom s 3
 May s BeginsAbort = (s.under_way ≡ None) × IsTrue s.owes
 May s BeginsFront = (s.under_way ≡ None) × (s.owes ≡ false)
 May s (BeginsAttempt n more payload) = (s.under_way ≡ None) × (s.owes ≡ false) × (s.queue ≡ []) × (1 ≤ length payload)
-May s IsSent = Unit {0}
-May s Fails = Unit {0}
-May s (Responds response) = Unit {0}
-May s (CallsBack id status) = Unit {0}
-May s (Updates update) = Unit {0}
-May s Ticks = Unit {0}
-May s Forgets = Unit {0}
+May s event = Unit {0}
 
 -- the capability byte of the interview that ends well at an ApplicationUpdate: where it is the asked node's information, and
 -- the first request brought one
 abbrev pub interviewed_from : Option ℕ → Update → Option UnderWay → Option ℕ
-interviewed_from first update None = None
 interviewed_from first (Received n b g s classes) (Some u) = if ends_at_update (Received n b g s classes) u then first else None
-interviewed_from first RequestFailed (Some u) = None
+interviewed_from first update under_way = None
 
 abbrev pub interviewed_by : RequestsState → Update → Option ℕ
 interviewed_by s update = interviewed_from s.first update s.under_way

@@ -62,28 +62,10 @@ frame_of purpose id = request_frame (request_of purpose id)
 abbrev pub HasPayload : Task → Type 0
 HasPayload (Plain n payload) = 1 ≤ length payload
 HasPayload (Segment n payload) = 1 ≤ length payload
-HasPayload (Offer n nonce) = Unit {0}
-HasPayload (NoMore n) = Unit {0}
-HasPayload (First n) = Unit {0}
-HasPayload (Second n) = Unit {0}
-HasPayload Members = Unit {0}
-HasPayload (Neighbours n) = Unit {0}
-HasPayload (IsFailed n) = Unit {0}
-HasPayload Version = Unit {0}
-HasPayload MemoryId = Unit {0}
-HasPayload Capabilities = Unit {0}
+HasPayload task = Unit {0}
 
 -- such a task, and not one of the two of an interview
 abbrev pub StandsAlone : Task → Type 0
-StandsAlone (Plain n payload) = 1 ≤ length payload
-StandsAlone (Segment n payload) = 1 ≤ length payload
-StandsAlone (Offer n nonce) = Unit {0}
-StandsAlone (NoMore n) = Unit {0}
 StandsAlone (First n) = ⊥
 StandsAlone (Second n) = ⊥
-StandsAlone Members = Unit {0}
-StandsAlone (Neighbours n) = Unit {0}
-StandsAlone (IsFailed n) = Unit {0}
-StandsAlone Version = Unit {0}
-StandsAlone MemoryId = Unit {0}
-StandsAlone Capabilities = Unit {0}
+StandsAlone task = HasPayload task

@@ -26,9 +26,8 @@ use Rattle.host_requests.specs.declared.under_way.UnderWay.{UnderWay}
 
 -- a response came
 abbrev pub is_answered : Progress → Bool
-is_answered Submitted = false
-is_answered (Sent left) = false
 is_answered (Answered sent left) = true
+is_answered progress = false
 
 -- the frame was acknowledged
 abbrev pub is_sent : Progress → Bool
@@ -38,9 +37,8 @@ is_sent (Answered sent left) = sent
 
 -- the frame is acknowledged: a request that is not answered waits for its response from now on; an abort has no response
 abbrev pub acknowledged : Purpose → Next
-acknowledged (Housekeeping task) = GoesOn (Sent RESPONSE_TICKS)
-acknowledged (Attempt n more payload) = GoesOn (Sent RESPONSE_TICKS)
 acknowledged Abort = Ends AbortSent
+acknowledged purpose = GoesOn (Sent RESPONSE_TICKS)
 
 abbrev pub sent_from : Purpose → Progress → Next
 sent_from purpose Submitted = acknowledged purpose
@@ -58,13 +56,7 @@ taken answer u = if answer == REFUSED then Ends Refused else GoesOn (Answered (i
 abbrev pub judged : Response → UnderWay → Next
 judged (SendData answer) u = taken answer u
 judged (RequestNodeInfo answer) u = taken answer u
-judged (GetInitData v c nodes t w) u = Ends (AtResponse (GetInitData v c nodes t w))
-judged (GetCapabilities v r m t p functions) u = Ends (AtResponse (GetCapabilities v r m t p functions))
-judged (GetVersion text t) u = Ends (AtResponse (GetVersion text t))
-judged (MemoryGetId home n) u = Ends (AtResponse (MemoryGetId home n))
-judged (GetNodeProtocolInfo c s r b g t) u = Ends (AtResponse (GetNodeProtocolInfo c s r b g t))
-judged (IsFailedNode failed) u = Ends (AtResponse (IsFailedNode failed))
-judged (GetRoutingInfo nodes) u = Ends (AtResponse (GetRoutingInfo nodes))
+judged response u = Ends (AtResponse response)
 
 -- a response is taken once, where its function is that of the request; an abort's function has none
 abbrev pub at_response : Response → UnderWay → Next
@@ -81,24 +73,9 @@ is_update_of node (Received n b g s classes) = n == node
 is_update_of node RequestFailed = true
 
 -- an ApplicationUpdate ends a RequestNodeInfo, answered and acknowledged or not
-abbrev pub task_ends_at_update : Update → Task → Bool
-task_ends_at_update update (Second n) = is_update_of n update
-task_ends_at_update update (Plain n payload) = false
-task_ends_at_update update (Offer n nonce) = false
-task_ends_at_update update (Segment n payload) = false
-task_ends_at_update update (NoMore n) = false
-task_ends_at_update update (First n) = false
-task_ends_at_update update Members = false
-task_ends_at_update update (Neighbours n) = false
-task_ends_at_update update (IsFailed n) = false
-task_ends_at_update update Version = false
-task_ends_at_update update MemoryId = false
-task_ends_at_update update Capabilities = false
-
 abbrev pub purpose_ends_at_update : Update → Purpose → Bool
-purpose_ends_at_update update (Housekeeping task) = task_ends_at_update update task
-purpose_ends_at_update update (Attempt n more payload) = false
-purpose_ends_at_update update Abort = false
+purpose_ends_at_update update (Housekeeping (Second n)) = is_update_of n update
+purpose_ends_at_update update purpose = false
 
 abbrev pub ends_at_update : Update → UnderWay → Bool
 ends_at_update update u = purpose_ends_at_update update u.purpose
@@ -123,12 +100,7 @@ at_tick u = on_with (counted_down u.progress)
 -- a SendData that was taken, and whose callback did not come: the chip is to give it up
 abbrev pub is_silent : How → Bool
 is_silent Silent = true
-is_silent (AtCallback status) = false
-is_silent (AtResponse response) = false
-is_silent (AtUpdate update first) = false
-is_silent Refused = false
-is_silent LinkFailed = false
-is_silent AbortSent = false
+is_silent how = false
 
 abbrev pub owes_abort : UnderWay → How → Bool
 owes_abort u how = is_silent how && (is_answered u.progress && (function_of u.purpose == SEND_DATA))
@@ -136,24 +108,12 @@ owes_abort u how = is_silent how && (is_answered u.progress && (function_of u.pu
 -- the capability byte of a response
 abbrev pub capability_in : Response → Option ℕ
 capability_in (GetNodeProtocolInfo c s r b g t) = Some c
-capability_in (GetInitData v c nodes t w) = None
-capability_in (GetCapabilities v r m t p functions) = None
-capability_in (SendData answer) = None
-capability_in (GetVersion text t) = None
-capability_in (MemoryGetId home n) = None
-capability_in (RequestNodeInfo answer) = None
-capability_in (IsFailedNode failed) = None
-capability_in (GetRoutingInfo nodes) = None
+capability_in response = None
 
 -- the first request of an interview brings it where it ends at its response; no other request brings one
 abbrev pub capability_at : How → Option ℕ
 capability_at (AtResponse response) = capability_in response
-capability_at (AtCallback status) = None
-capability_at (AtUpdate update first) = None
-capability_at Refused = None
-capability_at Silent = None
-capability_at LinkFailed = None
-capability_at AbortSent = None
+capability_at how = None
 
 -- a request ended
 abbrev pub finished : RequestsState → UnderWay → How → RequestsState

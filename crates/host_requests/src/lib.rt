@@ -8,7 +8,7 @@
 
 mod end;
 mod frame;
-//L mod laws;
+mod laws;
 mod next;
 mod requests;
 mod task;
@@ -17,7 +17,7 @@ mod under_way;
 mod tests;
 
 pub use end::{End, How};
-//L pub use laws::{each_request_ends, interviews_are_whole, what_holds};
+pub use laws::{callback_ids, each_request_ends, what_holds};
 pub use requests::{QUEUE_CAPACITY, Requests};
 pub use task::{Purpose, Task};
 pub use under_way::{Progress, UnderWay};
