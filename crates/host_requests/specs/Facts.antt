@@ -93,10 +93,13 @@ IsWaiting Submitted = ⊥
 IsWaiting progress = Unit {0}
 
 -- how many ticks are among the events
+abbrev pub tick_of : RequestsEvent → ℕ
+tick_of Ticks = 1
+tick_of event = 0
+
 abbrev pub ticks_in : List RequestsEvent → ℕ
 ticks_in [] = 0
-ticks_in (Ticks ∷ events) = ticks_in events + 1
-ticks_in (event ∷ events) = ticks_in events
+ticks_in (event ∷ events) = tick_of event + ticks_in events
 
 -- a request ends at one of the events, or all is forgotten
 abbrev pub EndsAmong : RequestsState → List RequestsEvent → Type 0

@@ -18,8 +18,8 @@ pub fn what_holds()
 
 /// A request that was acknowledged or answered ends in as many ticks as are left for it, whatever else happens.
 pub fn each_request_ends()
-    ensures { (s : RequestsState) (events : List RequestsEvent) (u : TheUnderWay) → s.under_way ≡ Some u → IsWaiting u.progress
-        → MayAll s events → most_left u.progress ≤ ticks_in events → EndsAmong s events }
+    ensures { (s : RequestsState) (events : List RequestsEvent) (u : TheUnderWay) → IsRequests s → s.under_way ≡ Some u
+        → IsWaiting u.progress → MayAll s events → most_left u.progress ≤ ticks_in events → EndsAmong s events }
 {}
 
 /// Two callback ids in a row differ, and are 1 to 255. A request has its function whatever its callback id.

@@ -1,0 +1,3 @@
+pub mod Purposes
+pub mod Keeping
+pub mod Ending
