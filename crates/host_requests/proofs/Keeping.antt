@@ -69,7 +69,7 @@ begins s p few payloads ids paired paid due brought =
       either = record { waits = tt; id = id_given s.last_id p; paid = paid; due = due; brought = brought };
     }
 
-idle_of : (s : RequestsState) → IsRequests s → s.under_way ≡ None → IsIdle s
+pub idle_of : (s : RequestsState) → IsRequests s → s.under_way ≡ None → IsIdle s
 idle_of s facts none = subst (λ (o : Option UnderWay). IsEither o s) none facts.either
 
 front_begins : (s : RequestsState) (queue : List Task) → s.queue ≡ queue → IsRequests s → s.under_way ≡ None → s.owes ≡ false → IsRequests (front_begun s queue)
@@ -175,13 +175,30 @@ tick_fits p (Sent left) (some, most, other) =
 tick_fits p (Answered sent left) (some, most, notice) =
     left_fits p (nat_lt 1 left) (Answered sent (left - 1)) (λ e. let less = one_less left NOTICE_TICKS e most in (less.0, less.1, notice))
 
+-- what each of these events makes of the request under way
+
+pub fits_sent : (u : UnderWay) → Waits (function_of u.purpose) u.progress → NextFits u.purpose (at_sent u)
+fits_sent u waits = sent_fits u.purpose u.progress waits
+
+pub fits_response : (r : Response) (u : UnderWay) → Waits (function_of u.purpose) u.progress → NextFits u.purpose (at_response r u)
+fits_response r u waits = response_fits r u waits
+
+pub fits_callback : (last id : ℕ) (status : TransmitStatus) (u : UnderWay) → Waits (function_of u.purpose) u.progress → NextFits u.purpose (at_callback last id status u)
+fits_callback last id status u waits = if_fits u.purpose ((function_of u.purpose == SEND_DATA) && (id == last)) _ _ (λ _. inl refl) (λ _. waits)
+
+pub fits_update : (first : Option ℕ) (update : Update) (u : UnderWay) → Waits (function_of u.purpose) u.progress → NextFits u.purpose (at_update first update u)
+fits_update first update u waits = if_fits u.purpose (ends_at_update update u) _ _ (λ _. inl refl) (λ _. waits)
+
+pub fits_tick : (u : UnderWay) → Waits (function_of u.purpose) u.progress → NextFits u.purpose (at_tick u)
+fits_tick u waits = tick_fits u.purpose u.progress waits
+
 no_tasks : All HasPayload []
 no_tasks = All-nil HasPayload
 
 one_task : (t : Task) → HasPayload t → All HasPayload (t ∷ [])
 one_task t h = All-cons HasPayload t [] h no_tasks
 
-at_first : IsRequests no_requests
+pub at_first : IsRequests no_requests
 at_first = record { few = omega arith; payloads = no_tasks; ids = omega arith; paired = refl; either = record { owed = λ owes. refl; brought = λ none. refl } }
 
 pub kept : (s : RequestsState) (event : RequestsEvent) → IsRequests s → May s event → IsRequests (after s event)
@@ -197,15 +214,12 @@ kept s (BeginsAttempt n more payload) facts (none, paid, empty, bytes) =
     let idle = idle_of s facts none in
     let due : due_second s.queue ≡ None = ap due_second empty in
     begins s (Attempt n more payload) facts.few facts.payloads facts.ids facts.paired paid due (λ _. idle.brought due)
-kept s IsSent facts may = next_kept s at_sent s.under_way refl facts (λ u waits. sent_fits u.purpose u.progress waits)
+kept s IsSent facts may = next_kept s at_sent s.under_way refl facts fits_sent
 kept s Fails facts may = next_kept s (λ _. Ends LinkFailed) s.under_way refl facts (λ u waits. inl refl)
-kept s (Responds r) facts may = next_kept s (at_response r) s.under_way refl facts (response_fits r)
-kept s (CallsBack id status) facts may =
-    next_kept s (at_callback s.last_id id status) s.under_way refl facts
-    (λ u waits. if_fits u.purpose ((function_of u.purpose == SEND_DATA) && (id == s.last_id)) _ _ (λ _. inl refl) (λ _. waits))
-kept s (Updates update) facts may =
-    next_kept s (at_update s.first update) s.under_way refl facts (λ u waits. if_fits u.purpose (ends_at_update update u) _ _ (λ _. inl refl) (λ _. waits))
-kept s Ticks facts may = next_kept s at_tick s.under_way refl facts (λ u waits. tick_fits u.purpose u.progress waits)
+kept s (Responds r) facts may = next_kept s (at_response r) s.under_way refl facts (fits_response r)
+kept s (CallsBack id status) facts may = next_kept s (at_callback s.last_id id status) s.under_way refl facts (fits_callback s.last_id id status)
+kept s (Updates update) facts may = next_kept s (at_update s.first update) s.under_way refl facts (fits_update s.first update)
+kept s Ticks facts may = next_kept s at_tick s.under_way refl facts fits_tick
 kept s Forgets facts may = at_first
 
 pub kept_all : (s : RequestsState) (events : List RequestsEvent) → IsRequests s → MayAll s events → IsRequests (after_all s events)

@@ -17,7 +17,7 @@ mod under_way;
 mod tests;
 
 pub use end::{End, How};
-pub use laws::{callback_ids, each_request_ends, what_holds};
+pub use laws::{callback_ids, each_request_ends, interviews_are_whole, what_holds};
 pub use requests::{QUEUE_CAPACITY, Requests};
 pub use task::{Purpose, Task};
 pub use under_way::{Progress, UnderWay};
