@@ -128,9 +128,9 @@ ends s [] u facts e waiting may left =
     omega arith
 ends s (event ∷ events) u facts e waiting may left =
     elim (goes s event u e waiting may.0) [
-      inl ended ↦ inl ended
+      | inl ended ↦ inl ended
       | inr other ↦ elim other [
-        inl forgot ↦ inr (inl forgot)
+        | inl forgot ↦ inr (inl forgot)
         | inr on ↦ inr (inr (ends (after s event) events on.now (kept s event facts may.0) on.under_way on.waiting may.1 (omega (arith, on.less, left))))
       ]
     ]

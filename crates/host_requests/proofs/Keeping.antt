@@ -13,7 +13,7 @@ use Rattle.chip_functions.specs.declared.response.Response.TheVariants.{GetInitD
 use Rattle.chip_functions.specs.declared.response.TheConstants.{REFUSED}
 use Rattle.host_requests.specs.Frames.{function_of, HasPayload, StandsAlone}
 use Rattle.host_requests.specs.State.{RequestsState, no_requests, begun}
-use Rattle.host_requests.specs.Next.{is_answered, acknowledged, sent_from, at_sent, taken, judged, at_response, at_callback, ends_at_update, at_update, counted_down, on_with, at_tick, is_silent, owes_abort, capability_at, finished, went_on, next_from, after_next}
+use Rattle.host_requests.specs.Next.{response_ticks, notice_ticks, is_answered, acknowledged, sent_from, at_sent, taken, judged, at_response, at_callback, ends_at_update, at_update, counted_down, on_with, at_tick, is_silent, owes_abort, capability_at, finished, went_on, next_from, after_next}
 use Rattle.host_requests.specs.Events.{RequestsEvent, with_tasks, front_begun, after, May, after_all, MayAll}
 use Rattle.host_requests.specs.Events.RequestsEvent.{Pushes, PushesInterview, PushesProbe, BeginsAbort, BeginsFront, BeginsAttempt, IsSent, Fails, Responds, CallsBack, Updates, Ticks, Forgets}
 use Rattle.host_requests.specs.Facts.{HasNotice, Waits, first_of, second_of, first_asked, second_asked, ArePaired, due_second, IsUnderWay, IsIdle, IsEither, IsRequests}
@@ -27,7 +27,6 @@ use Rattle.host_requests.specs.declared.task.Purpose.{Purpose}
 use Rattle.host_requests.specs.declared.task.Purpose.TheVariants.{Housekeeping, Attempt, Abort}
 use Rattle.host_requests.specs.declared.under_way.Progress.{Progress}
 use Rattle.host_requests.specs.declared.under_way.Progress.TheVariants.{Submitted, Sent, Answered}
-use Rattle.host_requests.specs.declared.under_way.TheConstants.{RESPONSE_TICKS, NOTICE_TICKS}
 use Rattle.host_requests.specs.declared.under_way.UnderWay.{UnderWay}
 use Rattle.host_requests.proofs.Purposes.{alone_payload, alone_paired, send_first, capable_first, task_no_abort, due-paired, paired-append, due-append, id_given, id_fits}
 
@@ -171,9 +170,9 @@ one_less left most e bound = (grind (arith, nat_tests), omega arith)
 tick_fits : (p : Purpose) (progress : Progress) → Waits (function_of p) progress → NextFits p (on_with (counted_down progress))
 tick_fits p Submitted waits = tt
 tick_fits p (Sent left) (some, most, other) =
-    left_fits p (nat_lt 1 left) (Sent (left - 1)) (λ e. let less = one_less left RESPONSE_TICKS e most in (less.0, less.1, other))
+    left_fits p (nat_lt 1 left) (Sent (left - 1)) (λ e. let less = one_less left response_ticks e most in (less.0, less.1, other))
 tick_fits p (Answered sent left) (some, most, notice) =
-    left_fits p (nat_lt 1 left) (Answered sent (left - 1)) (λ e. let less = one_less left NOTICE_TICKS e most in (less.0, less.1, notice))
+    left_fits p (nat_lt 1 left) (Answered sent (left - 1)) (λ e. let less = one_less left notice_ticks e most in (less.0, less.1, notice))
 
 -- what each of these events makes of the request under way
 

@@ -46,9 +46,18 @@ capable_first (Housekeeping Capabilities) e none = omega arith
 
 pub task_no_abort : (t : Task) → function_of (Housekeeping t) ≢ SEND_DATA_ABORT
 task_no_abort t e = elim t as (λ t. function_of (Housekeeping t) ≡ SEND_DATA_ABORT → ⊥) [
-    Plain n payload ↦ λ e. omega arith | Offer n nonce ↦ λ e. omega arith | Segment n payload ↦ λ e. omega arith | NoMore n ↦ λ e. omega arith
-    | First n ↦ λ e. omega arith | Second n ↦ λ e. omega arith | Members ↦ λ e. omega arith | Neighbours n ↦ λ e. omega arith | IsFailed n ↦ λ e. omega arith
-    | Version ↦ λ e. omega arith | MemoryId ↦ λ e. omega arith | Capabilities ↦ λ e. omega arith
+  | Plain n payload ↦ λ e. omega arith
+  | Offer n nonce ↦ λ e. omega arith
+  | Segment n payload ↦ λ e. omega arith
+  | NoMore n ↦ λ e. omega arith
+  | First n ↦ λ e. omega arith
+  | Second n ↦ λ e. omega arith
+  | Members ↦ λ e. omega arith
+  | Neighbours n ↦ λ e. omega arith
+  | IsFailed n ↦ λ e. omega arith
+  | Version ↦ λ e. omega arith
+  | MemoryId ↦ λ e. omega arith
+  | Capabilities ↦ λ e. omega arith
 ] e
 
 -- tasks in pairs

@@ -3,16 +3,15 @@ use Rattle.std.specs.Prelude.{◌≡◌, ◌≢◌, ℕ, ◌+◌, ◌<◌, ◌�
 use Rattle.chip_functions.specs.declared.function.TheConstants.{SEND_DATA, SEND_DATA_ABORT, REQUEST_NODE_INFO}
 use Rattle.host_requests.specs.Frames.{function_of, HasPayload}
 use Rattle.host_requests.specs.State.{RequestsState}
+use Rattle.host_requests.specs.Next.{response_ticks, notice_ticks}
 use Rattle.host_requests.specs.Events.{RequestsEvent, after, end_at}
 use Rattle.host_requests.specs.Events.RequestsEvent.{Ticks, Forgets}
-use Rattle.host_requests.specs.declared.requests.TheConstants.{QUEUE_CAPACITY}
 use Rattle.host_requests.specs.declared.task.Task.{Task}
 use Rattle.host_requests.specs.declared.task.Task.TheVariants.{First, Second}
 use Rattle.host_requests.specs.declared.task.Purpose.{Purpose}
 use Rattle.host_requests.specs.declared.task.Purpose.TheVariants.{Housekeeping}
 use Rattle.host_requests.specs.declared.under_way.Progress.{Progress}
 use Rattle.host_requests.specs.declared.under_way.Progress.TheVariants.{Submitted, Sent, Answered}
-use Rattle.host_requests.specs.declared.under_way.TheConstants.{RESPONSE_TICKS, NOTICE_TICKS}
 use Rattle.host_requests.specs.declared.under_way.UnderWay.{UnderWay}
 
 -- a function that has something to come after its response
@@ -23,8 +22,8 @@ HasNotice function = (function ≡ SEND_DATA) ⊎ (function ≡ REQUEST_NODE_INF
 -- 1 to 65, and is a SendData or a RequestNodeInfo; one that was neither does not wait
 abbrev pub Waits : ℕ → Progress → Type 0
 Waits function Submitted = Unit {0}
-Waits function (Sent left) = (1 ≤ left) × (left ≤ RESPONSE_TICKS) × (function ≢ SEND_DATA_ABORT)
-Waits function (Answered sent left) = (1 ≤ left) × (left ≤ NOTICE_TICKS) × HasNotice function
+Waits function (Sent left) = (1 ≤ left) × (left ≤ response_ticks) × (function ≢ SEND_DATA_ABORT)
+Waits function (Answered sent left) = (1 ≤ left) × (left ≤ notice_ticks) × HasNotice function
 
 -- the node of a first task of an interview, and that of a second one
 abbrev pub first_of : Task → Option ℕ
@@ -75,7 +74,7 @@ IsEither (Some u) s = IsUnderWay u s
 
 -- what is true at all times
 pub record IsRequests (s : RequestsState) : Type 0 where
-  pub few : length s.queue ≤ QUEUE_CAPACITY
+  pub few : length s.queue ≤ 64
   pub payloads : All HasPayload s.queue
   pub ids : s.last_id ≤ 255
   pub paired : ArePaired (due_second s.queue) s.queue
@@ -84,7 +83,7 @@ pub record IsRequests (s : RequestsState) : Type 0 where
 -- the most ticks until a request ends that was acknowledged or answered
 abbrev pub most_left : Progress → ℕ
 most_left Submitted = 0
-most_left (Sent left) = left + NOTICE_TICKS
+most_left (Sent left) = left + notice_ticks
 most_left (Answered sent left) = left
 
 -- it was acknowledged or answered

@@ -7,19 +7,18 @@ use Rattle.chip_functions.specs.declared.request.Request.{Request}
 use Rattle.chip_functions.specs.declared.request.Request.TheVariants.{GetInitData, GetCapabilities, SendData, GetVersion, SendDataAbort, MemoryGetId, GetNodeProtocolInfo, RequestNodeInfo, IsFailedNode, GetRoutingInfo}
 use Rattle.chip_functions.specs.declared.request.TheConstants.{TRANSMIT_OPTIONS}
 use Rattle.chip_functions.specs.Request.{request_function, request_body}
-use Rattle.host_requests.specs.declared.frame.TheConstants.{SECURITY, NONCE_REPORT, WAKE_UP, NO_MORE_INFORMATION}
 use Rattle.host_requests.specs.declared.task.Task.{Task}
 use Rattle.host_requests.specs.declared.task.Task.TheVariants.{Plain, Offer, Segment, NoMore, First, Second, Members, Neighbours, IsFailed, Version, MemoryId, Capabilities}
 use Rattle.host_requests.specs.declared.task.Purpose.{Purpose}
 use Rattle.host_requests.specs.declared.task.Purpose.TheVariants.{Housekeeping, Attempt, Abort}
 
--- a Nonce Report
+-- a Nonce Report: bytes 98 and 80 (hexadecimal), then the nonce
 abbrev pub nonce_report : List ℕ → List ℕ
-nonce_report nonce = SECURITY ∷ NONCE_REPORT ∷ nonce
+nonce_report nonce = 152 ∷ 128 ∷ nonce
 
--- a No More Information
+-- a No More Information: bytes 84 and 08 (hexadecimal)
 abbrev pub no_more_information : List ℕ
-no_more_information = WAKE_UP ∷ NO_MORE_INFORMATION ∷ []
+no_more_information = 132 ∷ 8 ∷ []
 
 -- a SendData of a payload, with the host's options
 abbrev pub send : ℕ → List ℕ → ℕ → Request

@@ -21,8 +21,15 @@ use Rattle.host_requests.specs.declared.task.Purpose.{Purpose}
 use Rattle.host_requests.specs.declared.task.Purpose.TheVariants.{Housekeeping, Attempt, Abort}
 use Rattle.host_requests.specs.declared.under_way.Progress.{Progress}
 use Rattle.host_requests.specs.declared.under_way.Progress.TheVariants.{Submitted, Sent, Answered}
-use Rattle.host_requests.specs.declared.under_way.TheConstants.{RESPONSE_TICKS, NOTICE_TICKS}
 use Rattle.host_requests.specs.declared.under_way.UnderWay.{UnderWay}
+
+-- the ticks in which a response comes after the frame was acknowledged
+abbrev pub response_ticks : ℕ
+response_ticks = 15
+
+-- the ticks in which a callback or an ApplicationUpdate comes after the response
+abbrev pub notice_ticks : ℕ
+notice_ticks = 65
 
 -- a response came
 abbrev pub is_answered : Progress → Bool
@@ -38,7 +45,7 @@ is_sent (Answered sent left) = sent
 -- the frame is acknowledged: a request that is not answered waits for its response from now on; an abort has no response
 abbrev pub acknowledged : Purpose → Next
 acknowledged Abort = Ends AbortSent
-acknowledged purpose = GoesOn (Sent RESPONSE_TICKS)
+acknowledged purpose = GoesOn (Sent response_ticks)
 
 abbrev pub sent_from : Purpose → Progress → Next
 sent_from purpose Submitted = acknowledged purpose
@@ -50,7 +57,7 @@ at_sent u = sent_from u.purpose u.progress
 
 -- 0 says that the request was not taken; else it waits for its callback or ApplicationUpdate from now on
 abbrev pub taken : ℕ → UnderWay → Next
-taken answer u = if answer == REFUSED then Ends Refused else GoesOn (Answered (is_sent u.progress) NOTICE_TICKS)
+taken answer u = if answer == REFUSED then Ends Refused else GoesOn (Answered (is_sent u.progress) notice_ticks)
 
 -- the response to this request: all but a SendData and a RequestNodeInfo end with it
 abbrev pub judged : Response → UnderWay → Next

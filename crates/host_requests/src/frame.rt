@@ -21,7 +21,12 @@ pub const WAKE_UP: u8 = 0x84;
 pub const NO_MORE_INFORMATION: u8 = 0x08;
 
 /// A SendData of this payload.
-pub fn send(alloc: Global, node: NodeId, payload: &[u8], callback_id: u8) -> Result<Request, NoMemory>
+pub fn send(
+    alloc: Global,
+    node: NodeId,
+    payload: &[u8],
+    callback_id: u8,
+) -> Result<Request, NoMemory>
     requires { length payload.now ≤ 46 }
     ensures request { IfOk result (λ request. request ≡ send node payload.now callback_id) }
     ensures fits { IfOk result (λ request. length (request_body request) ≤ 252) }

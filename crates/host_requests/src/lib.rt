@@ -12,9 +12,9 @@ mod laws;
 mod next;
 mod requests;
 mod task;
-mod under_way;
 #[cfg(test)]
 mod tests;
+mod under_way;
 
 pub use end::{End, How};
 pub use laws::{callback_ids, each_request_ends, interviews_are_whole, what_holds};

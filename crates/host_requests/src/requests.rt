@@ -291,7 +291,10 @@ impl Requests {
         ensures state { self.new ≡ after self.old (CallsBack id status) }
         ensures end { result ≡ end_at self.old (CallsBack id status) }
     {
-        let next = self.under_way.as_ref()?.at_callback(self.last_id, id, status);
+        let next = self
+            .under_way
+            .as_ref()?
+            .at_callback(self.last_id, id, status);
         self.take_next(next)
     }
 
@@ -309,7 +312,8 @@ impl Requests {
         ensures { result ≡ interviewed_by self.now update.now }
     {
         match update {
-            Update::Received { .. } if self.under_way.as_ref()?.ends_at_update(update) => self.first,
+            Update::Received { .. } if self.under_way.as_ref()?.ends_at_update(update) =>
+                self.first,
             _ => None,
         }
     }

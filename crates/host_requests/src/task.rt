@@ -62,10 +62,8 @@ impl Task {
         ensures { result ≡ request_function (task_request self.now 0) }
     {
         match self {
-            Task::Plain { .. }
-            | Task::Offer { .. }
-            | Task::Segment { .. }
-            | Task::NoMore { .. } => SEND_DATA,
+            Task::Plain { .. } | Task::Offer { .. } | Task::Segment { .. } | Task::NoMore { .. } =>
+                SEND_DATA,
             Task::First { .. } => GET_NODE_PROTOCOL_INFO,
             Task::Second { .. } => REQUEST_NODE_INFO,
             Task::Members => GET_INIT_DATA,

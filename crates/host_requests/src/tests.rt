@@ -57,8 +57,13 @@ fn each_request_has_its_unit(rt: HostRuntime) -> Result<(), Fail> {
     }
     assert_eq!(rt; requests.len(), 12);
     for unit in UNITS.iter() {
-        let frame = requests.front_frame(rt.alloc())?.expect(&rt, "a task waits");
-        assert_eq!(rt; requests.front().map(|task| task.function()), Some(frame.func));
+        let frame = requests
+            .front_frame(rt.alloc())?
+            .expect(&rt, "a task waits");
+        assert_eq!(rt;
+            requests.front().map(|task| task.function()),
+            Some(frame.func)
+        );
         assert!(rt; has_bytes(rt.alloc(), frame, unit)?, "{unit:?}");
         let _begun = perform(&rt, &mut requests, rt.alloc(), &Act::Front);
         let _ended = perform(&rt, &mut requests, rt.alloc(), &Act::Failed);
@@ -83,7 +88,11 @@ fn each_course(rt: HostRuntime) -> Result<(), Fail> {
         for (row, (act, at)) in rows.iter().enumerate() {
             let end = perform(&rt, &mut requests, rt.alloc(), act);
             let right = is_at(&requests, &end, at);
-            assert!(rt; right, "course {course} row {row}: {end:?} {:?}", requests.under_way());
+            assert!(rt;
+                right,
+                "course {course} row {row}: {end:?} {:?}",
+                requests.under_way()
+            );
         }
     }
     Ok(())
@@ -116,10 +125,15 @@ fn callback_ids_go_round(rt: HostRuntime) -> Result<(), Fail> {
     for count in 0..300u16 {
         let id = (count % 255 + 1) as u8;
         push(&rt, &mut requests, &Ask::Plain);
-        let frame = requests.front_frame(rt.alloc())?.expect(&rt, "a task waits");
+        let frame = requests
+            .front_frame(rt.alloc())?
+            .expect(&rt, "a task waits");
         assert_eq!(rt; frame.body.as_slice().last(), Some(&id));
         assert!(rt; perform(&rt, &mut requests, rt.alloc(), &Act::Front).is_none());
-        assert!(rt; perform(&rt, &mut requests, rt.alloc(), &Act::Callback(id, 0)).is_some(), "{id}");
+        assert!(rt;
+            perform(&rt, &mut requests, rt.alloc(), &Act::Callback(id, 0)).is_some(),
+            "{id}"
+        );
     }
     Ok(())
 }

@@ -8,8 +8,8 @@ use crate::next::Next;
 use crate::{How, Purpose, Task};
 use chip_functions::{
     GET_CAPABILITIES, GET_INIT_DATA, GET_NODE_PROTOCOL_INFO, GET_ROUTING_INFO, GET_VERSION,
-    IS_FAILED_NODE, MEMORY_GET_ID, REFUSED, REQUEST_NODE_INFO, Response, SEND_DATA,
-    TransmitStatus, Update,
+    IS_FAILED_NODE, MEMORY_GET_ID, REFUSED, REQUEST_NODE_INFO, Response, SEND_DATA, TransmitStatus,
+    Update,
 };
 
 /// The ticks in which a response comes after the frame was acknowledged.

@@ -192,10 +192,12 @@ fn update(rt: &impl Abort, requests: &mut Requests, update: Update) -> Option<En
     let told = requests.interviewed_by(&update);
     let is_received = matches!(update, Update::Received { .. });
     let end = requests.update(update);
-    if let Some(End {
-        how: How::AtUpdate { capability, .. },
-        ..
-    }) = &end
+    if let Some(
+        End {
+            how: How::AtUpdate { capability, .. },
+            ..
+        },
+    ) = &end
     {
         assert!(rt; told == if is_received { *capability } else { None });
     } else {

@@ -42,7 +42,10 @@ pub static COURSES: [&[Row]; 17] = [
         (Act::Ask(Ask::Plain), SUBMITTED),
         (Act::Sent, SENT),
         (ACCEPTED, ANSWERED),
-        (Act::Callback(1, 0), At::Ended(Ending::Called(TransmitStatus::CompleteOk))),
+        (
+            Act::Callback(1, 0),
+            At::Ended(Ending::Called(TransmitStatus::CompleteOk)),
+        ),
         (Act::Callback(1, 0), At::Idle),
     ],
     // a second acknowledgement and a second response mean nothing
@@ -63,13 +66,22 @@ pub static COURSES: [&[Row]; 17] = [
         (Act::Ticks(200), SUBMITTED),
         (Act::Sent, At::Ended(Ending::AbortSent)),
         (Act::Attempt, SUBMITTED),
-        (Act::Callback(2, 1), At::Ended(Ending::Called(TransmitStatus::NoAck))),
+        (
+            Act::Callback(2, 1),
+            At::Ended(Ending::Called(TransmitStatus::NoAck)),
+        ),
     ],
     // an abort that the link gives up
     &[
         (Act::Ask(Ask::Segment), SUBMITTED),
         (ACCEPTED, ANSWERED_EARLY),
-        (Act::Ticks(64), At::Goes(Progress::Answered { sent: false, ticks_left: 1 })),
+        (
+            Act::Ticks(64),
+            At::Goes(Progress::Answered {
+                sent: false,
+                ticks_left: 1,
+            }),
+        ),
         (Act::Tick, At::Ended(Ending::Given)),
         (Act::Abort, SUBMITTED),
         (Act::Failed, At::Ended(Ending::Link)),
@@ -81,12 +93,18 @@ pub static COURSES: [&[Row]; 17] = [
         (Act::Ticks(200), SUBMITTED),
         (ACCEPTED, ANSWERED_EARLY),
         (Act::Sent, ANSWERED),
-        (Act::Callback(1, 2), At::Ended(Ending::Called(TransmitStatus::Fail))),
+        (
+            Act::Callback(1, 2),
+            At::Ended(Ending::Called(TransmitStatus::Fail)),
+        ),
     ],
     // the callback before both
     &[
         (Act::Ask(Ask::Offer), SUBMITTED),
-        (Act::Callback(1, 4), At::Ended(Ending::Called(TransmitStatus::NoRoute))),
+        (
+            Act::Callback(1, 4),
+            At::Ended(Ending::Called(TransmitStatus::NoRoute)),
+        ),
         (Act::Sent, At::Idle),
         (ACCEPTED, At::Idle),
     ],
@@ -94,14 +112,20 @@ pub static COURSES: [&[Row]; 17] = [
     &[
         (Act::Attempt, SUBMITTED),
         (Act::Sent, SENT),
-        (Act::Callback(1, 3), At::Ended(Ending::Called(TransmitStatus::NotIdle))),
+        (
+            Act::Callback(1, 3),
+            At::Ended(Ending::Called(TransmitStatus::NotIdle)),
+        ),
     ],
     // callbacks of others
     &[
         (Act::Attempt, SUBMITTED),
         (Act::Callback(0, 0), SUBMITTED),
         (Act::Callback(2, 0), SUBMITTED),
-        (Act::Callback(1, 0), At::Ended(Ending::Called(TransmitStatus::CompleteOk))),
+        (
+            Act::Callback(1, 0),
+            At::Ended(Ending::Called(TransmitStatus::CompleteOk)),
+        ),
         (Act::Ask(Ask::Neighbours), SUBMITTED),
         (Act::Callback(1, 0), SUBMITTED),
         (Act::Reply(Reply::Neighbours), REPLIED),
