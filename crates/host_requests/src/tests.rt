@@ -8,6 +8,7 @@ use acts::{Act, Ask, At, is_at, payload, perform, push};
 use courses::COURSES;
 use serial_frame::{Frame, Unit, encode};
 use std::alloc::Global;
+use std::process::Abort;
 use std::test::Fail;
 use zw_base::{NoMemory, read_node};
 
@@ -40,8 +41,8 @@ static UNITS: [&[u8]; 12] = [
     b"\x01\x03\x00\x07\xfb",
 ];
 
-/// A Nonce Get with the fifth callback id, and an abort.
-const NONCE_GET: &[u8] = b"\x01\x09\x00\x13\x0a\x02\x98\x40\x25\x05\x15";
+/// A Nonce Get with the first callback id, and an abort.
+const NONCE_GET: &[u8] = b"\x01\x09\x00\x13\x0a\x02\x98\x40\x25\x01\x11";
 
 const ABORT: &[u8] = b"\x01\x03\x00\x16\xea";
 
@@ -49,27 +50,32 @@ fn has_bytes(alloc: Global, frame: Frame, bytes: &[u8]) -> Result<bool, NoMemory
     Ok(encode(alloc, &Unit::Framed(frame))?.as_slice() == bytes)
 }
 
+/// The frame of the task that waited longest. The task is submitted then, and the link gives it up.
+fn next_frame(rt: &impl Abort, requests: &mut Requests, alloc: Global) -> Result<Frame, NoMemory> {
+    let frame = requests.front_frame(alloc)?.expect(rt, "a task waits");
+    let _begun = perform(rt, requests, alloc, &Act::Front);
+    let _ended = perform(rt, requests, alloc, &Act::Failed);
+    Ok(frame)
+}
+
 #[test]
-fn each_request_has_its_unit(rt: HostRuntime) -> Result<(), Fail> {
+fn each_task_has_its_unit(rt: HostRuntime) -> Result<(), Fail> {
     let mut requests = Requests::new(rt.alloc())?;
     for ask in ASKS.iter() {
         push(&rt, &mut requests, ask);
     }
     assert_eq!(rt; requests.len(), 12);
     for unit in UNITS.iter() {
-        let frame = requests
-            .front_frame(rt.alloc())?
-            .expect(&rt, "a task waits");
-        assert_eq!(rt;
-            requests.front().map(|task| task.function()),
-            Some(frame.func)
-        );
+        let frame = next_frame(&rt, &mut requests, rt.alloc())?;
         assert!(rt; has_bytes(rt.alloc(), frame, unit)?, "{unit:?}");
-        let _begun = perform(&rt, &mut requests, rt.alloc(), &Act::Front);
-        let _ended = perform(&rt, &mut requests, rt.alloc(), &Act::Failed);
     }
-    assert!(rt; requests.is_empty());
     assert!(rt; requests.front_frame(rt.alloc())?.is_none());
+    Ok(())
+}
+
+#[test]
+fn attempts_and_aborts_have_their_units(rt: HostRuntime) -> Result<(), Fail> {
+    let requests = Requests::new(rt.alloc())?;
     let node = read_node(10).expect(&rt, "a node");
     let get = payload(&rt, b"\x98\x40");
     assert!(rt; get.bytes().len() > 0);
