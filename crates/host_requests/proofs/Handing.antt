@@ -1,24 +1,22 @@
 -- What the first request of an interview brings to the second.
-use Rattle.std.proofs.Common.{◌≡◌, ℕ, ◌⊎◌, inl, inr, ◌==◌, ◌&&◌, ◌||◌, not, Bool, true, false, List, [], ◌∷◌, ◌++◌, Option, Some, None, refl, sym, ap, subst, ◌∙◌, arith}
-use Rattle.std.specs.Prelude.{◌↔◌, IsTrue, if◌then◌else◌}
+use Rattle.std.proofs.Common.{◌≡◌, ℕ, ◌⊎◌, inl, inr, List, [], ◌∷◌, ◌++◌, Option, Some, None, refl, sym, ap, subst, ◌∙◌}
+use Rattle.std.specs.Prelude.{◌↔◌}
 use Rattle.chip_functions.specs.declared.function.TheConstants.{GET_NODE_PROTOCOL_INFO}
 use Rattle.host_requests.specs.Frames.{function_of}
 use Rattle.host_requests.specs.State.{RequestsState, no_requests}
 use Rattle.host_requests.specs.Next.{at_sent, at_response, at_callback, at_update, at_tick, capability_at, went_on, end_of, next_from, end_from}
-use Rattle.host_requests.specs.Events.{RequestsEvent, with_tasks, front_begun, after, end_at, May, after_all, MayAll}
+use Rattle.host_requests.specs.Events.{RequestsEvent, with_tasks, front_begun, after, May, after_all, MayAll}
 use Rattle.host_requests.specs.Events.RequestsEvent.{Pushes, PushesInterview, PushesProbe, BeginsAbort, BeginsFront, BeginsAttempt, IsSent, Fails, Responds, CallsBack, Updates, Ticks, Forgets}
-use Rattle.host_requests.specs.Facts.{Waits, first_of, second_of, first_asked, second_asked, ArePaired, due_second, IsUnderWay, IsIdle, IsEither, IsRequests}
+use Rattle.host_requests.specs.Facts.{Waits, first_asked, second_asked, ArePaired, due_second, IsUnderWay, IsEither, IsRequests}
 use Rattle.host_requests.specs.Interviews.{Brought, brought_of, brought_by, brought_after, brought_in}
-use Rattle.host_requests.specs.declared.end.How.{How}
 use Rattle.host_requests.specs.declared.end.How.TheVariants.{LinkFailed}
 use Rattle.host_requests.specs.declared.next.Next.{Next}
 use Rattle.host_requests.specs.declared.next.Next.TheVariants.{GoesOn, Ends}
 use Rattle.host_requests.specs.declared.task.Task.{Task}
 use Rattle.host_requests.specs.declared.task.Task.TheVariants.{First, Second, Version, MemoryId, Capabilities}
 use Rattle.host_requests.specs.declared.task.Purpose.{Purpose}
-use Rattle.host_requests.specs.declared.task.Purpose.TheVariants.{Housekeeping, Attempt, Abort}
 use Rattle.host_requests.specs.declared.under_way.UnderWay.{UnderWay}
-use Rattle.host_requests.proofs.Purposes.{alone_paired, capable_first, due-paired, due-append}
+use Rattle.host_requests.proofs.Purposes.{alone_paired, capable_first, due-append}
 use Rattle.host_requests.proofs.Keeping.{NextFits, idle_of, fits_sent, fits_response, fits_callback, fits_update, fits_tick, kept, at_first}
 
 -- the node of what was brought

@@ -1,5 +1,5 @@
 -- What each event keeps.
-use Rattle.std.proofs.Common.{◌≡◌, ◌≢◌, ℕ, ◌+◌, ◌-◌, ◌≤◌, ◌⊎◌, inl, inr, ◌==◌, ◌&&◌, ◌||◌, not, Bool, true, false, List, [], ◌∷◌, ◌++◌, length, Option, Some, None, refl, sym, ap, subst, ◌∙◌, arith}
+use Rattle.std.proofs.Common.{◌≡◌, ℕ, ◌+◌, ◌-◌, ◌≤◌, ◌⊎◌, inl, inr, ◌==◌, ◌&&◌, ◌||◌, not, Bool, true, false, List, [], ◌∷◌, ◌++◌, length, Option, Some, None, refl, sym, ap, subst, ◌∙◌, arith}
 use Rattle.std.specs.Prelude.{All, IsTrue, nat_lt, if◌then◌else◌}
 use Rattle.std.proofs.lemmas.Bool.Decides.{nat_tests}
 use Rattle.std.proofs.lemmas.List.{length-append}
@@ -11,14 +11,14 @@ use Rattle.chip_functions.specs.declared.notice.Update.{Update}
 use Rattle.chip_functions.specs.declared.response.Response.{Response}
 use Rattle.chip_functions.specs.declared.response.Response.TheVariants.{GetInitData, GetCapabilities, SendData, GetVersion, MemoryGetId, GetNodeProtocolInfo, RequestNodeInfo, IsFailedNode, GetRoutingInfo}
 use Rattle.chip_functions.specs.declared.response.TheConstants.{REFUSED}
-use Rattle.host_requests.specs.Frames.{function_of, HasPayload, StandsAlone}
+use Rattle.host_requests.specs.Frames.{function_of, HasPayload}
 use Rattle.host_requests.specs.State.{RequestsState, no_requests, begun}
-use Rattle.host_requests.specs.Next.{response_ticks, notice_ticks, is_answered, acknowledged, sent_from, at_sent, taken, judged, at_response, at_callback, ends_at_update, at_update, counted_down, on_with, at_tick, is_silent, owes_abort, capability_at, finished, went_on, next_from, after_next}
+use Rattle.host_requests.specs.Next.{response_ticks, notice_ticks, is_answered, acknowledged, sent_from, at_sent, taken, judged, at_response, at_callback, ends_at_update, at_update, counted_down, on_with, at_tick, owes_abort, capability_at, went_on, next_from}
 use Rattle.host_requests.specs.Events.{RequestsEvent, with_tasks, front_begun, after, May, after_all, MayAll}
 use Rattle.host_requests.specs.Events.RequestsEvent.{Pushes, PushesInterview, PushesProbe, BeginsAbort, BeginsFront, BeginsAttempt, IsSent, Fails, Responds, CallsBack, Updates, Ticks, Forgets}
 use Rattle.host_requests.specs.Facts.{HasNotice, Waits, first_of, second_of, first_asked, second_asked, ArePaired, due_second, IsUnderWay, IsIdle, IsEither, IsRequests}
 use Rattle.host_requests.specs.declared.end.How.{How}
-use Rattle.host_requests.specs.declared.end.How.TheVariants.{AtCallback, AtResponse, AtUpdate, Refused, Silent, LinkFailed, AbortSent}
+use Rattle.host_requests.specs.declared.end.How.TheVariants.{LinkFailed}
 use Rattle.host_requests.specs.declared.next.Next.{Next}
 use Rattle.host_requests.specs.declared.next.Next.TheVariants.{GoesOn, Ends}
 use Rattle.host_requests.specs.declared.task.Task.{Task}

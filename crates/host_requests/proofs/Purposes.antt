@@ -1,10 +1,10 @@
 -- Tasks and purposes, by cases.
-use Rattle.std.proofs.Common.{◌≡◌, ◌≢◌, ℕ, ◌+◌, ◌≤◌, ◌==◌, Bool, true, false, List, [], ◌∷◌, ◌++◌, Option, Some, None, refl, sym, ap, subst, ◌∙◌, arith}
+use Rattle.std.proofs.Common.{◌≡◌, ◌≢◌, ℕ, ◌≤◌, List, [], ◌∷◌, ◌++◌, Option, None, refl, sym, subst, arith}
 use Rattle.std.proofs.lemmas.Bool.Decides.{nat_tests}
 use Rattle.chip_functions.specs.declared.function.TheConstants.{SEND_DATA, SEND_DATA_ABORT, GET_NODE_PROTOCOL_INFO}
 use Rattle.host_requests.specs.Frames.{function_of, HasPayload, StandsAlone}
-use Rattle.host_requests.specs.State.{next_id, id_after}
-use Rattle.host_requests.specs.Facts.{first_of, second_of, first_asked, ArePaired, due_second}
+use Rattle.host_requests.specs.State.{id_after}
+use Rattle.host_requests.specs.Facts.{first_of, first_asked, ArePaired, due_second}
 use Rattle.host_requests.specs.declared.task.Task.{Task}
 use Rattle.host_requests.specs.declared.task.Task.TheVariants.{Plain, Offer, Segment, NoMore, First, Second, Members, Neighbours, IsFailed, Version, MemoryId, Capabilities}
 use Rattle.host_requests.specs.declared.task.Purpose.{Purpose}

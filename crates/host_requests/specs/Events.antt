@@ -1,8 +1,8 @@
 -- What may happen to the host's requests, one event at a time (this project's own rules on the Serial API).
-use Rattle.std.specs.Prelude.{◌≡◌, ℕ, ◌+◌, ◌<◌, ◌≤◌, Bool, true, false, Option, Some, None, List, [], ◌∷◌, ◌++◌, length, IsTrue, if◌then◌else◌}
+use Rattle.std.specs.Prelude.{◌≡◌, ℕ, ◌+◌, ◌≤◌, Bool, false, Option, Some, None, List, [], ◌∷◌, ◌++◌, length, IsTrue, if◌then◌else◌}
 use Rattle.chip_functions.specs.declared.notice.TransmitStatus.{TransmitStatus}
 use Rattle.chip_functions.specs.declared.notice.Update.{Update}
-use Rattle.chip_functions.specs.declared.notice.Update.TheVariants.{Received, RequestFailed}
+use Rattle.chip_functions.specs.declared.notice.Update.TheVariants.{Received}
 use Rattle.chip_functions.specs.declared.response.Response.{Response}
 use Rattle.host_requests.specs.Frames.{StandsAlone}
 use Rattle.host_requests.specs.State.{RequestsState, no_requests, begun}

@@ -1,5 +1,5 @@
 -- What holds of the host's requests at all times.
-use Rattle.std.specs.Prelude.{◌≡◌, ◌≢◌, ℕ, ◌+◌, ◌<◌, ◌≤◌, ◌⊎◌, Bool, true, false, Option, Some, None, List, [], ◌∷◌, ◌++◌, length, All, IsTrue, IsSome}
+use Rattle.std.specs.Prelude.{◌≡◌, ◌≢◌, ℕ, ◌+◌, ◌≤◌, ◌⊎◌, false, Option, Some, None, List, [], ◌∷◌, length, All, IsTrue, IsSome}
 use Rattle.chip_functions.specs.declared.function.TheConstants.{SEND_DATA, SEND_DATA_ABORT, REQUEST_NODE_INFO}
 use Rattle.host_requests.specs.Frames.{function_of, HasPayload}
 use Rattle.host_requests.specs.State.{RequestsState}

@@ -1,6 +1,6 @@
 -- What is asked of the chip (Serial API: Host Application Programming Guide; Security 0 Command Class: Nonce Report;
 -- Wake Up Command Class: No More Information).
-use Rattle.std.specs.Prelude.{ℕ, Bool, ◌≤◌, List, [], ◌∷◌, length}
+use Rattle.std.specs.Prelude.{ℕ, ◌≤◌, List, [], ◌∷◌, length}
 use Rattle.serial_frame.specs.Frame.{FrameParts}
 use Rattle.serial_frame.specs.declared.frame.Kind.TheVariants.{Request as of_request}
 use Rattle.chip_functions.specs.declared.request.Request.{Request}

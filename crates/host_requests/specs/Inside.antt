@@ -1,5 +1,5 @@
 -- What the fields say, and what is true of them.
-use Rattle.std.specs.Prelude.{◌≤◌, length, All}
+use Rattle.std.specs.Prelude.{◌≤◌, All}
 use Rattle.std.specs.VecDeque.{deque_len, deque_capacity}
 use Rattle.host_requests.specs.Frames.{HasPayload}
 use Rattle.host_requests.specs.State.{RequestsState}

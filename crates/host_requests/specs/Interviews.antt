@@ -1,8 +1,8 @@
 -- What the first request of an interview brings to the second (this project's own rule).
-use Rattle.std.specs.Prelude.{◌≡◌, ◌↔◌, ℕ, Option, Some, None, List, [], ◌∷◌}
+use Rattle.std.specs.Prelude.{ℕ, Option, Some, None, List, [], ◌∷◌}
 use Rattle.host_requests.specs.Next.{capability_at}
-use Rattle.host_requests.specs.State.{RequestsState, no_requests}
-use Rattle.host_requests.specs.Events.{RequestsEvent, after, end_at, after_all, MayAll}
+use Rattle.host_requests.specs.State.{RequestsState}
+use Rattle.host_requests.specs.Events.{RequestsEvent, after, end_at}
 use Rattle.host_requests.specs.Events.RequestsEvent.{Forgets}
 use Rattle.host_requests.specs.Facts.{first_asked}
 use Rattle.host_requests.specs.declared.end.End.{End}
