@@ -1,7 +1,7 @@
 //! The requests of purposes, as frames.
 
 ghost use Rattle.std.specs.Prelude.{◌≡◌, ◌≤◌, length, IfOk};
-ghost use Rattle.chip_functions.specs.Request.{request_body, HasRequestRow};
+ghost use Rattle.chip_functions.specs.Request.{request_body};
 ghost use Rattle.host_requests.specs.Frames.{HasPayload, send, nonce_report, task_request, request_frame};
 
 use crate::Task;

@@ -3,7 +3,7 @@
 //!
 //! It promises what each event makes of them, exactly, and that after `new` no event takes memory.
 //! The definitions stand in `specs/`: `Frames` (what is asked of the chip), `State` (what is kept), `Next` (what an
-//! event makes of the request under way), `Events` (one event at a time) and `Facts` (what holds at all times).
+//! event makes of the request under way), `Events` (one event at a time), `Facts` and `Interviews` (what holds at all times).
 #![tactic(auto)]
 
 mod end;

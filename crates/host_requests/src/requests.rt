@@ -1,8 +1,8 @@
 //! All that the host keeps of its requests.
 
-ghost use Rattle.std.specs.Prelude.{◌≡◌, ◌≢◌, ◌↔◌, ◌+◌, ◌<◌, ◌≤◌, [], ◌∷◌, ◌++◌, Option, Some, None, false, length, slice_get, IsTrue, IfOk};
+ghost use Rattle.std.specs.Prelude.{◌≡◌, ◌↔◌, ◌+◌, ◌<◌, ◌≤◌, [], None, false, length, slice_get, IsTrue, IfOk};
 ghost use Rattle.std.specs.Option.{option_copied, option_map};
-ghost use Rattle.host_requests.specs.Frames.{StandsAlone, HasPayload, frame_of};
+ghost use Rattle.host_requests.specs.Frames.{StandsAlone, frame_of};
 ghost use Rattle.host_requests.specs.State.{no_requests, next_id, begun};
 ghost use Rattle.host_requests.specs.Next.{after_next, end_of_next, finished};
 ghost use Rattle.host_requests.specs.Events.{after, end_at, interviewed_by};

@@ -1,6 +1,6 @@
 //! The request under way, and what each event makes of it.
 
-ghost use Rattle.std.specs.Prelude.{◌≡◌, ◌==◌, ◌↔◌, Option, IsTrue};
+ghost use Rattle.std.specs.Prelude.{◌≡◌};
 ghost use Rattle.chip_functions.specs.Response.{response_function};
 ghost use Rattle.host_requests.specs.Next.{acknowledged};
 
