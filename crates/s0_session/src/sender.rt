@@ -100,4 +100,17 @@ impl Sender {
     {
         let _dropped = self.pending.take();
     }
+    /// How many nonces of the receiver were seen.
+    pub fn seen(&self) -> u64
+        ensures { result ≡ self.now.seen }
+    {
+        self.seen
+    }
+
+    /// Sets how many nonces of the receiver were seen.
+    pub fn restore(&mut self, count: u64)
+        ensures { self.new ≡ record self.old { seen = count } }
+    {
+        self.seen = count;
+    }
 }
