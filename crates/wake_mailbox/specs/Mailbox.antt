@@ -1,6 +1,6 @@
 -- Commands that wait for a node until it wakes (Wake Up Command Class; the bound and the cancelling are this project's
 -- own rule, and so is the hold).
-use Rattle.std.specs.Prelude.{◌≡◌, ℕ, zero, suc, ◌-◌, Bool, true, false, List, [], ◌∷◌, ◌++◌, Contains}
+use Rattle.std.specs.Prelude.{◌≡◌, ℕ, zero, suc, ◌-◌, Bool, true, false, List, [], ◌∷◌, ◌++◌, length, slice_get, take, Option, Contains}
 
 -- the numbers of the commands that wait, first come first, whether the node counts as awake, and how many more ticks
 -- it is held awake
@@ -24,6 +24,14 @@ pub record TakesOut (old new : List ℕ) (command : ℕ) : Type 0 where
   pub stood : old ≡ before ++ command ∷ after
   pub stay : new ≡ before ++ after
   pub first : ¬ Contains before command
+
+-- the command that was put last
+abbrev pub last_of : List ℕ → Option ℕ
+last_of commands = slice_get commands (length commands - 1)
+
+-- the commands before it
+abbrev pub without_last : List ℕ → List ℕ
+without_last commands = take (length commands - 1) commands
 
 -- what is left of a hold once the node counts as awake, or as asleep, which ends it
 abbrev pub hold_after : Bool → ℕ → ℕ

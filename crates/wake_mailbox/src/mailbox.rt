@@ -1,7 +1,7 @@
 //! A queue of command numbers that is bounded.
 
 ghost use Rattle.std.specs.Prelude.{◌≡◌, ℕ, ◌-◌, ◌++◌, ◌∷◌, [], ◌<◌, ◌≤◌, ◌↔◌, length, slice_get, drop, Contains, ◌==◌, position, IsSome, IsTrue, IsOk, IsErr, IfOk, OnOk, OnErr};
-ghost use Rattle.wake_mailbox.specs.Mailbox.{nothing_waits, holding, counting, ticked, ticked_by, TakesOut, Waiting as TheWaiting};
+ghost use Rattle.wake_mailbox.specs.Mailbox.{last_of, without_last, nothing_waits, holding, counting, ticked, ticked_by, TakesOut, Waiting as TheWaiting};
 
 use std::alloc::Global;
 use std::marker::Model;
@@ -32,7 +32,7 @@ pub struct Mailbox {
 
 impl Model for Mailbox {
     ghost use Rattle.std.specs.Prelude.{◌≤◌, vec_len, vec_capacity};
-    ghost use Rattle.wake_mailbox.specs.Mailbox.{Waiting};
+    ghost use Rattle.wake_mailbox.specs.Mailbox.{last_of, without_last, Waiting};
 
     ghost Value = { Waiting };
 
@@ -100,6 +100,21 @@ impl Mailbox {
             }
             None => Err(NotWaiting),
         }
+    }
+
+    /// Takes out the command that was put last.
+    pub fn take_back(&mut self) -> Option<u32>
+        ensures last { result ≡ last_of self.old.commands }
+        ensures rest { self.new ≡ holding self.old (without_last self.old.commands) }
+    {
+        self.commands.pop()
+    }
+
+    /// Whether that command waits.
+    pub fn waits(&self, command: u32) -> bool
+        ensures { IsTrue result ↔ Contains self.now.commands command }
+    {
+        place_of(&self.commands, command).is_some()
     }
 
     /// How many commands wait, 0 to 16.
