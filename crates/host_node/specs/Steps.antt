@@ -20,6 +20,13 @@ use Rattle.host_node.specs.State.{NodeState, is_false, is_idle, is_running, is_u
 abbrev pub wait_ticks : ℕ
 wait_ticks = 100
 
+-- so much is left of the rest after a series, or of the wait of an attempt
+abbrev pub with_rest : NodeState → ℕ → NodeState
+with_rest n ticks = record n { again_wait = ticks }
+
+abbrev pub with_wait : NodeState → ℕ → NodeState
+with_wait n ticks = record n { attempt_wait = ticks }
+
 -- a new series is due, with no attempt counted
 abbrev pub new_series : NodeState → NodeState
 new_series n = record n { series = Due; book = with_attempts n.book 0; again_wait = 0 }
@@ -88,7 +95,7 @@ after_text n = record n { text = None }
 
 -- a request of the running attempt was called back as well received, or the node is at work on it
 abbrev pub after_sign : NodeState → NodeState
-after_sign n = if is_running n.series then record n { attempt_wait = wait_ticks } else n
+after_sign n = if is_running n.series then with_wait n wait_ticks else n
 
 -- a nonce of the node is taken, and the pending plain text is sealed to this
 abbrev pub after_nonce : NodeState → ℕ → List ℕ → NodeState
@@ -116,12 +123,18 @@ abbrev pub rest_from : Moment → ℕ
 rest_from BetweenTicks = 100
 rest_from BeforeItsTick = 101
 
--- so many attempts of the series have ended: the next one is due, or the third was the last
+-- so many attempts of the series have ended, and the next one is due; or the series is over, and a rest begins
+abbrev pub next_due : NodeState → ℕ → NodeState
+next_due n attempts = record n { series = Due; book = with_attempts n.book attempts }
+
+abbrev pub series_over : NodeState → ℕ → Moment → NodeState
+series_over n attempts moment =
+    record n { series = Idle; book = with_attempts n.book attempts; again_wait = rest_from moment }
+
+-- the third attempt is the last
 abbrev pub after_attempts : NodeState → ℕ → Moment → NodeState
 after_attempts n attempts moment =
-    if nat_lt attempts 3
-    then record n { series = Due; book = with_attempts n.book attempts }
-    else after_sleep (record n { series = Idle; book = with_attempts n.book attempts; again_wait = rest_from moment })
+    if nat_lt attempts 3 then next_due n attempts else after_sleep (series_over n attempts moment)
 
 -- the running attempt ends without a report
 abbrev pub after_attempt_end : NodeState → Moment → NodeState
@@ -140,14 +153,15 @@ abbrev pub with_final : NodeState → ℕ → NodeState
 with_final n status =
     record (without_attempt n) { series = Idle; again_wait = 0; book = record n.book { outcome = Some status; attempts = 0 } }
 
+-- a report with this status is taken, which says this
+abbrev pub after_told : NodeState → ℕ → Told → NodeState
+after_told n status (Final session) = with_final n status
+after_told n status Working = after_sign n
+after_told n status Old = n
+
 -- a Supervision Report with this id and status is taken
 abbrev pub after_report : NodeState → ℕ → ℕ → NodeState
 after_report n id status = after_told n status (told_of n.book id status)
-  where
-    after_told : NodeState → ℕ → Told → NodeState
-    after_told n status (Final session) = with_final n status
-    after_told n status Working = after_sign n
-    after_told n status Old = n
 
 -- it is held awake
 abbrev pub after_hold : NodeState → NodeState
@@ -180,12 +194,12 @@ after_rest n = if has_waiting n then after_occasion n else n
 
 abbrev pub after_again_tick : NodeState → NodeState
 after_again_tick n =
-    if n.again_wait == 1 then after_rest (record n { again_wait = 0 }) else record n { again_wait = n.again_wait - 1 }
+    if n.again_wait == 1 then after_rest (with_rest n 0) else with_rest n (n.again_wait - 1)
 
 -- at the end of an attempt's wait it ends. The rest that may begin then has had its part of this tick
 abbrev pub after_attempt_tick : NodeState → NodeState
 after_attempt_tick n =
-    if n.attempt_wait == 1 then after_attempt_end n BetweenTicks else record n { attempt_wait = n.attempt_wait - 1 }
+    if n.attempt_wait == 1 then after_attempt_end n BetweenTicks else with_wait n (n.attempt_wait - 1)
 
 abbrev pub after_tick : NodeState → NodeState
 after_tick n = after_attempt_tick (after_again_tick (after_hold_tick n))

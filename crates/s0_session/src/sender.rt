@@ -121,6 +121,7 @@ impl Sender {
     ) -> Result<Option<Bytes>, NoMemory>
         ensures nothing { (result ≡ Ok None) ↔ (self.now.pending ≡ None) }
         ensures sealed { (bytes : List ℕ) → result ≡ Ok (Some bytes) → WouldSeal self.now keys.now drawn nonce bytes }
+        ensures short { (bytes : List ℕ) → result ≡ Ok (Some bytes) → length bytes ≤ 46 }
     {
         let Some(plain) = &self.pending else {
             return Ok(None);

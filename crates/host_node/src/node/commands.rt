@@ -52,7 +52,8 @@ impl Node {
         ensures ok { OnOk result (self.new ≡ after_cancel self.old command) }
         ensures err { OnErr result (self.new ≡ self.old) }
     {
-        self.mailbox.cancel(command)
+        self.mailbox.cancel(command)?;
+        Ok(())
     }
 
     /// Begins the session of the command that has waited longest, and a series of attempts is due. It takes no memory:
