@@ -58,7 +58,11 @@ series_at {n} s f e = subst (λ (t : Series). SeriesFacts t n.book n.attempt_wai
 renewed : (n : NodeState) → NodeFacts n → IsSome (open_session n.book) → n.series ≡ Idle → NodeFacts (new_series n)
 renewed n f begun_one idle = record {
   series = (record { is_open = begun_one; fewer = omega arith }, refl, (series_at Idle f idle).1);
-  attempt_wait = f.attempt_wait; again_wait = omega arith; hold = f.hold; no_more = f.no_more; waiting = f.waiting;
+  attempt_wait = f.attempt_wait;
+  again_wait = omega arith;
+  hold = f.hold;
+  no_more = f.no_more;
+  waiting = f.waiting;
 }
 
 occasion : (n : NodeState) → NodeFacts n → NodeFacts (after_occasion n)
@@ -72,18 +76,28 @@ dropped : (n : NodeState) → NodeFacts n → NodeFacts (without_attempt n)
 dropped n f = record {
   series =
       elim n.series as (λ s. SeriesFacts s n.book n.attempt_wait n.again_wait n.next_segment n.segments n.text n.pending
-      → SeriesFacts s n.book 0 n.again_wait 0 0 None None)
-      [ Idle ↦ λ g. (g.0, record { no_wait = refl; no_next = refl; no_segments = refl; no_text = refl; no_pending = refl })
-      | Due ↦ λ g. (g.0, g.1, record { no_wait = refl; no_next = refl; no_segments = refl; no_text = refl; no_pending = refl })
-      | Running ↦ λ g. (g.0, g.1, omega arith, refl) ]
+      → SeriesFacts s n.book 0 n.again_wait 0 0 None None) [
+        | Idle ↦ λ g. (g.0, record { no_wait = refl; no_next = refl; no_segments = refl; no_text = refl; no_pending = refl })
+        | Due ↦ λ g. (g.0, g.1, record { no_wait = refl; no_next = refl; no_segments = refl; no_text = refl; no_pending = refl })
+        | Running ↦ λ g. (g.0, g.1, omega arith, refl)
+      ]
       f.series;
-  attempt_wait = omega arith; again_wait = f.again_wait; hold = f.hold; no_more = f.no_more; waiting = f.waiting;
+  attempt_wait = omega arith;
+  again_wait = f.again_wait;
+  hold = f.hold;
+  no_more = f.no_more;
+  waiting = f.waiting;
 }
 
 -- it counts as asleep
 slept : (n : NodeState) → NodeFacts n → NodeFacts (after_sleep n)
 slept n f = either n.listens n (asleep n) (λ _. f) (λ _. record {
-  series = f.series; attempt_wait = f.attempt_wait; again_wait = f.again_wait; hold = omega arith; no_more = tt; waiting = f.waiting;
+  series = f.series;
+  attempt_wait = f.attempt_wait;
+  again_wait = f.again_wait;
+  hold = omega arith;
+  no_more = tt;
+  waiting = f.waiting;
 })
 
 rest_is_short : (moment : Moment) → rest_from moment ≤ 101
@@ -104,14 +118,25 @@ ended n moment f = either (is_running n.series) (after_attempts (without_attempt
     either (nat_lt (n.book.attempts + 1) 3) (next_due (without_attempt n) (n.book.attempts + 1)) (after_sleep (series_over (without_attempt n) (n.book.attempts + 1) moment))
     (λ more. let few : n.book.attempts + 1 ≤ 2 = omega (arith, below_holds _ _ more) in record {
       series = (record { is_open = runs.0.is_open; fewer = few }, runs.1, record { no_wait = refl; no_next = refl; no_segments = refl; no_text = refl; no_pending = refl });
-      attempt_wait = omega arith; again_wait = f.again_wait; hold = f.hold; no_more = f.no_more; waiting = f.waiting;
+      attempt_wait = omega arith;
+      again_wait = f.again_wait;
+      hold = f.hold;
+      no_more = f.no_more;
+      waiting = f.waiting;
     })
     (λ last. slept (series_over (without_attempt n) (n.book.attempts + 1) moment) (record {
-      series = (record {
-        closed = λ none. absurd (none_is_not_some _ runs.0.is_open none);
-        opened = λ _. third n.book.attempts runs.0.fewer (not_below_holds _ _ last);
-      }, record { no_wait = refl; no_next = refl; no_segments = refl; no_text = refl; no_pending = refl });
-      attempt_wait = omega arith; again_wait = rest_is_short moment; hold = f.hold; no_more = f.no_more; waiting = f.waiting;
+      series = (
+        record {
+          closed = λ none. absurd (none_is_not_some _ runs.0.is_open none);
+          opened = λ _. third n.book.attempts runs.0.fewer (not_below_holds _ _ last);
+        },
+        record { no_wait = refl; no_next = refl; no_segments = refl; no_text = refl; no_pending = refl },
+      );
+      attempt_wait = omega arith;
+      again_wait = rest_is_short moment;
+      hold = f.hold;
+      no_more = f.no_more;
+      waiting = f.waiting;
     })))
     (λ _. f)
 
@@ -121,14 +146,22 @@ signed n f = either (is_running n.series) (with_wait n 100) n (λ e.
     let runs = series_at Running f (running_holds _ e) in
     record {
       series = subst (λ (s : Series). SeriesFacts s n.book 100 n.again_wait n.next_segment n.segments n.text n.pending) (sym (running_holds _ e)) runs;
-      attempt_wait = omega arith; again_wait = f.again_wait; hold = f.hold; no_more = f.no_more; waiting = f.waiting;
+      attempt_wait = omega arith;
+      again_wait = f.again_wait;
+      hold = f.hold;
+      no_more = f.no_more;
+      waiting = f.waiting;
     })
     (λ _. f)
 
 told : (n : NodeState) (status : ℕ) (t : Told) → NodeFacts n → NodeFacts (after_told n status t)
 told n status (Final session) f = record {
   series = (record { closed = λ _. (refl, refl); opened = λ _. refl }, record { no_wait = refl; no_next = refl; no_segments = refl; no_text = refl; no_pending = refl });
-  attempt_wait = omega arith; again_wait = omega arith; hold = f.hold; no_more = f.no_more; waiting = f.waiting;
+  attempt_wait = omega arith;
+  again_wait = omega arith;
+  hold = f.hold;
+  no_more = f.no_more;
+  waiting = f.waiting;
 }
 told n status Working f = signed n f
 told n status Old f = f
@@ -142,12 +175,16 @@ begun : (n : NodeState) → NodeFacts n → open_session n.book ≡ None → Nod
 begun n f closed = record {
   series =
       elim n.series as (λ s. SeriesFacts s n.book n.attempt_wait n.again_wait n.next_segment n.segments n.text n.pending
-      → SeriesFacts Due (after_begin n).book n.attempt_wait n.again_wait n.next_segment n.segments n.text n.pending)
-      [ Idle ↦ λ g. (record { is_open = begun_is_open n.book.commands _; fewer = omega arith }, (g.0.closed closed).1, g.1)
-      | Due ↦ λ g. absurd (none_is_not_some _ g.0.is_open closed)
-      | Running ↦ λ g. absurd (none_is_not_some _ g.0.is_open closed) ]
+      → SeriesFacts Due (after_begin n).book n.attempt_wait n.again_wait n.next_segment n.segments n.text n.pending) [
+        | Idle ↦ λ g. (record { is_open = begun_is_open n.book.commands _; fewer = omega arith }, (g.0.closed closed).1, g.1)
+        | Due ↦ λ g. absurd (none_is_not_some _ g.0.is_open closed)
+        | Running ↦ λ g. absurd (none_is_not_some _ g.0.is_open closed)
+      ]
       f.series;
-  attempt_wait = f.attempt_wait; again_wait = f.again_wait; hold = f.hold; no_more = f.no_more;
+  attempt_wait = f.attempt_wait;
+  again_wait = f.again_wait;
+  hold = f.hold;
+  no_more = f.no_more;
   waiting = omega (arith, f.waiting, length-drop {A = ℕ});
 }
 
@@ -161,53 +198,82 @@ started n Whole f due fits =
     let g = series_at Due f due in
     record {
       series = (g.0, g.1, omega (arith, g.2.no_next, g.2.no_segments), not_both n.text n.pending g.2.no_text);
-      attempt_wait = f.attempt_wait; again_wait = f.again_wait; hold = f.hold; no_more = f.no_more; waiting = f.waiting;
+      attempt_wait = f.attempt_wait;
+      again_wait = f.again_wait;
+      hold = f.hold;
+      no_more = f.no_more;
+      waiting = f.waiting;
     }
 started n (Segments count) f due fits =
     let g = series_at Due f due in
     record {
       series = (g.0, g.1, fits, not_both n.text n.pending g.2.no_text);
-      attempt_wait = f.attempt_wait; again_wait = f.again_wait; hold = f.hold; no_more = f.no_more; waiting = f.waiting;
+      attempt_wait = f.attempt_wait;
+      again_wait = f.again_wait;
+      hold = f.hold;
+      no_more = f.no_more;
+      waiting = f.waiting;
     }
 started n (Sealed plain) f due fits =
     let g = series_at Due f due in
     record {
       series = (g.0, g.1, omega (arith, g.2.no_next, g.2.no_segments), not_both n.text (Some plain) g.2.no_text);
-      attempt_wait = f.attempt_wait; again_wait = f.again_wait; hold = f.hold; no_more = f.no_more; waiting = f.waiting;
+      attempt_wait = f.attempt_wait;
+      again_wait = f.again_wait;
+      hold = f.hold;
+      no_more = f.no_more;
+      waiting = f.waiting;
     }
 
 segment_given : (n : NodeState) → NodeFacts n → n.next_segment < n.segments → NodeFacts (after_segment n)
 segment_given n f below = record {
   series =
       elim n.series as (λ s. SeriesFacts s n.book n.attempt_wait n.again_wait n.next_segment n.segments n.text n.pending
-      → SeriesFacts s n.book n.attempt_wait n.again_wait (n.next_segment + 1) n.segments n.text n.pending)
-      [ Idle ↦ λ g. absurd (omega (arith, below, g.1.no_segments)) | Due ↦ λ g. absurd (omega (arith, below, g.2.no_segments))
-      | Running ↦ λ g. (g.0, g.1, omega (arith, below), g.3) ]
+      → SeriesFacts s n.book n.attempt_wait n.again_wait (n.next_segment + 1) n.segments n.text n.pending) [
+        | Idle ↦ λ g. absurd (omega (arith, below, g.1.no_segments))
+        | Due ↦ λ g. absurd (omega (arith, below, g.2.no_segments))
+        | Running ↦ λ g. (g.0, g.1, omega (arith, below), g.3)
+      ]
       f.series;
-  attempt_wait = f.attempt_wait; again_wait = f.again_wait; hold = f.hold; no_more = f.no_more; waiting = f.waiting;
+  attempt_wait = f.attempt_wait;
+  again_wait = f.again_wait;
+  hold = f.hold;
+  no_more = f.no_more;
+  waiting = f.waiting;
 }
 
 text_given : (n : NodeState) → NodeFacts n → NodeFacts (after_text n)
 text_given n f = record {
   series =
       elim n.series as (λ s. SeriesFacts s n.book n.attempt_wait n.again_wait n.next_segment n.segments n.text n.pending
-      → SeriesFacts s n.book n.attempt_wait n.again_wait n.next_segment n.segments None n.pending)
-      [ Idle ↦ λ g. (g.0, record { no_wait = g.1.no_wait; no_next = g.1.no_next; no_segments = g.1.no_segments; no_text = refl; no_pending = g.1.no_pending })
-      | Due ↦ λ g. (g.0, g.1, record { no_wait = g.2.no_wait; no_next = g.2.no_next; no_segments = g.2.no_segments; no_text = refl; no_pending = g.2.no_pending })
-      | Running ↦ λ g. (g.0, g.1, g.2, refl) ]
+      → SeriesFacts s n.book n.attempt_wait n.again_wait n.next_segment n.segments None n.pending) [
+        | Idle ↦ λ g. (g.0, record { no_wait = g.1.no_wait; no_next = g.1.no_next; no_segments = g.1.no_segments; no_text = refl; no_pending = g.1.no_pending })
+        | Due ↦ λ g. (g.0, g.1, record { no_wait = g.2.no_wait; no_next = g.2.no_next; no_segments = g.2.no_segments; no_text = refl; no_pending = g.2.no_pending })
+        | Running ↦ λ g. (g.0, g.1, g.2, refl)
+      ]
       f.series;
-  attempt_wait = f.attempt_wait; again_wait = f.again_wait; hold = f.hold; no_more = f.no_more; waiting = f.waiting;
+  attempt_wait = f.attempt_wait;
+  again_wait = f.again_wait;
+  hold = f.hold;
+  no_more = f.no_more;
+  waiting = f.waiting;
 }
 
 nonce_taken : (n : NodeState) (seen : ℕ) (text : List ℕ) → NodeFacts n → IsSome n.pending → NodeFacts (after_nonce n seen text)
 nonce_taken n seen text f pending = record {
   series =
       elim n.series as (λ s. SeriesFacts s n.book n.attempt_wait n.again_wait n.next_segment n.segments n.text n.pending
-      → SeriesFacts s n.book n.attempt_wait n.again_wait n.next_segment n.segments (Some text) None)
-      [ Idle ↦ λ g. absurd (none_is_not_some _ pending g.1.no_pending) | Due ↦ λ g. absurd (none_is_not_some _ pending g.2.no_pending)
-      | Running ↦ λ g. (g.0, g.1, g.2, refl) ]
+      → SeriesFacts s n.book n.attempt_wait n.again_wait n.next_segment n.segments (Some text) None) [
+        | Idle ↦ λ g. absurd (none_is_not_some _ pending g.1.no_pending)
+        | Due ↦ λ g. absurd (none_is_not_some _ pending g.2.no_pending)
+        | Running ↦ λ g. (g.0, g.1, g.2, refl)
+      ]
       f.series;
-  attempt_wait = f.attempt_wait; again_wait = f.again_wait; hold = f.hold; no_more = f.no_more; waiting = f.waiting;
+  attempt_wait = f.attempt_wait;
+  again_wait = f.again_wait;
+  hold = f.hold;
+  no_more = f.no_more;
+  waiting = f.waiting;
 }
 
 -- a wait that is less than it was
@@ -215,28 +281,44 @@ rest_shorter : (n : NodeState) (ticks : ℕ) → ticks ≤ n.again_wait → Node
 rest_shorter n ticks less f = record {
   series =
       elim n.series as (λ s. SeriesFacts s n.book n.attempt_wait n.again_wait n.next_segment n.segments n.text n.pending
-      → SeriesFacts s n.book n.attempt_wait ticks n.next_segment n.segments n.text n.pending)
-      [ Idle ↦ λ g. (record { closed = λ none. ((g.0.closed none).0, omega (arith, less, (g.0.closed none).1)); opened = g.0.opened }, g.1)
-      | Due ↦ λ g. (g.0, omega (arith, less, g.1), g.2) | Running ↦ λ g. (g.0, omega (arith, less, g.1), g.2, g.3) ]
+      → SeriesFacts s n.book n.attempt_wait ticks n.next_segment n.segments n.text n.pending) [
+        | Idle ↦ λ g. (record { closed = λ none. ((g.0.closed none).0, omega (arith, less, (g.0.closed none).1)); opened = g.0.opened }, g.1)
+        | Due ↦ λ g. (g.0, omega (arith, less, g.1), g.2)
+        | Running ↦ λ g. (g.0, omega (arith, less, g.1), g.2, g.3)
+      ]
       f.series;
-  attempt_wait = f.attempt_wait; again_wait = omega (arith, less, f.again_wait); hold = f.hold; no_more = f.no_more; waiting = f.waiting;
+  attempt_wait = f.attempt_wait;
+  again_wait = omega (arith, less, f.again_wait);
+  hold = f.hold;
+  no_more = f.no_more;
+  waiting = f.waiting;
 }
 
 attempt_shorter : (n : NodeState) (ticks : ℕ) → ticks ≤ n.attempt_wait → NodeFacts n → NodeFacts (record n { attempt_wait = ticks })
 attempt_shorter n ticks less f = record {
   series =
       elim n.series as (λ s. SeriesFacts s n.book n.attempt_wait n.again_wait n.next_segment n.segments n.text n.pending
-      → SeriesFacts s n.book ticks n.again_wait n.next_segment n.segments n.text n.pending)
-      [ Idle ↦ λ g. (g.0, record { no_wait = omega (arith, less, g.1.no_wait); no_next = g.1.no_next; no_segments = g.1.no_segments; no_text = g.1.no_text; no_pending = g.1.no_pending })
-      | Due ↦ λ g. (g.0, g.1, record { no_wait = omega (arith, less, g.2.no_wait); no_next = g.2.no_next; no_segments = g.2.no_segments; no_text = g.2.no_text; no_pending = g.2.no_pending })
-      | Running ↦ λ g. g ]
+      → SeriesFacts s n.book ticks n.again_wait n.next_segment n.segments n.text n.pending) [
+        | Idle ↦ λ g. (g.0, record { no_wait = omega (arith, less, g.1.no_wait); no_next = g.1.no_next; no_segments = g.1.no_segments; no_text = g.1.no_text; no_pending = g.1.no_pending })
+        | Due ↦ λ g. (g.0, g.1, record { no_wait = omega (arith, less, g.2.no_wait); no_next = g.2.no_next; no_segments = g.2.no_segments; no_text = g.2.no_text; no_pending = g.2.no_pending })
+        | Running ↦ λ g. g
+      ]
       f.series;
-  attempt_wait = omega (arith, less, f.attempt_wait); again_wait = f.again_wait; hold = f.hold; no_more = f.no_more; waiting = f.waiting;
+  attempt_wait = omega (arith, less, f.attempt_wait);
+  again_wait = f.again_wait;
+  hold = f.hold;
+  no_more = f.no_more;
+  waiting = f.waiting;
 }
 
 hold_ticked : (n : NodeState) → NodeFacts n → NodeFacts (after_hold_tick n)
 hold_ticked n f = record {
-  series = f.series; attempt_wait = f.attempt_wait; again_wait = f.again_wait; hold = omega (arith, f.hold); no_more = f.no_more; waiting = f.waiting;
+  series = f.series;
+  attempt_wait = f.attempt_wait;
+  again_wait = f.again_wait;
+  hold = omega (arith, f.hold);
+  no_more = f.no_more;
+  waiting = f.waiting;
 }
 
 rested : (n : NodeState) → NodeFacts n → NodeFacts (after_rest n)
@@ -270,7 +352,11 @@ wanted n h =
 recorded : (n : NodeState) → NodeFacts n → NodeFacts (as_recorded n)
 recorded n f = record {
   series = (record { closed = λ _. (refl, refl); opened = λ _. refl }, record { no_wait = refl; no_next = refl; no_segments = refl; no_text = refl; no_pending = refl });
-  attempt_wait = omega arith; again_wait = omega arith; hold = omega arith; no_more = tt; waiting = f.waiting;
+  attempt_wait = omega arith;
+  again_wait = omega arith;
+  hold = omega arith;
+  no_more = tt;
+  waiting = f.waiting;
 }
 
 length-without : (commands : List ℕ) (command : ℕ) → length (without commands command) ≤ length commands
@@ -280,19 +366,33 @@ length-without (first ∷ rest) command = grind (arith, nat_tests, length-withou
 -- only what waits, or what became of No More Information, changes
 other_waiting : (n : NodeState) (waiting : List ℕ) → length waiting ≤ 16 → NodeFacts n → NodeFacts (record n { waiting = waiting })
 other_waiting n waiting short f = record {
-  series = f.series; attempt_wait = f.attempt_wait; again_wait = f.again_wait; hold = f.hold; no_more = f.no_more; waiting = short;
+  series = f.series;
+  attempt_wait = f.attempt_wait;
+  again_wait = f.again_wait;
+  hold = f.hold;
+  no_more = f.no_more;
+  waiting = short;
 }
 
 other_no_more : (n : NodeState) (m : NoMore) → NoMoreFacts m n.awake n.classes → NodeFacts n → NodeFacts (after_no_more n m)
 other_no_more n m g f = record {
-  series = f.series; attempt_wait = f.attempt_wait; again_wait = f.again_wait; hold = f.hold; no_more = g; waiting = f.waiting;
+  series = f.series;
+  attempt_wait = f.attempt_wait;
+  again_wait = f.again_wait;
+  hold = f.hold;
+  no_more = g;
+  waiting = f.waiting;
 }
 
 pub kept : (n : NodeState) (event : NodeEvent) → May n event → NodeFacts n → NodeFacts (after n event)
 kept n Joins may f = record { series = f.series; attempt_wait = f.attempt_wait; again_wait = f.again_wait; hold = f.hold; no_more = f.no_more; waiting = f.waiting }
 kept n (Interviews listens classes) may f = record {
-  series = f.series; attempt_wait = f.attempt_wait; again_wait = f.again_wait; hold = f.hold;
-  no_more = interviewed n.no_more n.awake n.classes classes f.no_more; waiting = f.waiting;
+  series = f.series;
+  attempt_wait = f.attempt_wait;
+  again_wait = f.again_wait;
+  hold = f.hold;
+  no_more = interviewed n.no_more n.awake n.classes classes f.no_more;
+  waiting = f.waiting;
 }
 kept n (Puts command) may f = other_waiting n _ (simp length-append (omega (arith, may))) f
 kept n Takes_back may f = other_waiting n _ (omega (arith, f.waiting, length-take {A = ℕ})) f
@@ -310,7 +410,12 @@ kept n (Ends_attempt moment) may f = ended n moment f
 kept n (Reports id status) may f = told n status (told_of n.book id status) f
 kept n Holds may f = record { series = f.series; attempt_wait = f.attempt_wait; again_wait = f.again_wait; hold = omega arith; no_more = f.no_more; waiting = f.waiting }
 kept n Notifies may f = occasion _ (record {
-  series = f.series; attempt_wait = f.attempt_wait; again_wait = f.again_wait; hold = f.hold; no_more = woken n.no_more n.awake n.classes f.no_more; waiting = f.waiting;
+  series = f.series;
+  attempt_wait = f.attempt_wait;
+  again_wait = f.again_wait;
+  hold = f.hold;
+  no_more = woken n.no_more n.awake n.classes f.no_more;
+  waiting = f.waiting;
 })
 kept n Sleeps may f = slept n f
 kept n Queues_no_more may f = other_no_more n Queued (wanted n may) f

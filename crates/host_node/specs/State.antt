@@ -43,11 +43,24 @@ pub record NodeState : Type 0 where
 -- a node of which nothing is known
 abbrev pub unknown : ℕ → NodeState
 unknown node = record {
-  node = node; joined = false; listens = false; classes = None;
-  waiting = []; awake = false; hold = 0; book = no_sessions;
-  series = Idle; attempt_wait = 0; again_wait = 0;
-  next_segment = 0; segments = 0; text = None; seen = 0; pending = None;
-  no_more = Unasked; blocked = false
+  node = node;
+  joined = false;
+  listens = false;
+  classes = None;
+  waiting = [];
+  awake = false;
+  hold = 0;
+  book = no_sessions;
+  series = Idle;
+  attempt_wait = 0;
+  again_wait = 0;
+  next_segment = 0;
+  segments = 0;
+  text = None;
+  seen = 0;
+  pending = None;
+  no_more = Unasked;
+  blocked = false;
 }
 
 abbrev pub is_false : Bool → Bool

@@ -214,8 +214,13 @@ tick_end n = attempt_tick_end (after_again_tick (after_hold_tick n))
 -- only what its records say is left of it
 abbrev pub as_recorded : NodeState → NodeState
 as_recorded n = record (without_attempt n) {
-  series = Idle; again_wait = 0; book = with_attempts n.book 0;
-  awake = false; hold = 0; no_more = Unasked; blocked = false
+  series = Idle;
+  again_wait = 0;
+  book = with_attempts n.book 0;
+  awake = false;
+  hold = 0;
+  no_more = Unasked;
+  blocked = false;
 }
 
 -- the host starts from its records

@@ -14,9 +14,8 @@ mod nonces;
 mod ticks;
 mod waking;
 
-pub use commands::Begun;
-
 use crate::{NoMore, Series};
+pub use commands::Begun;
 use s0_crypto::SealEnds;
 use s0_session::Sender;
 use std::alloc::Global;

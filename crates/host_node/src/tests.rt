@@ -89,9 +89,19 @@ const LISTENING: [Row; 44] = [
     Row(Succeed, Nothing, Running, false),
     Row(Ticks(99), Ended(NoneRan), Running, false),
     Row(Report(2, SUCCESS), Answer::Told(Told::Old), Running, false),
-    Row(Report(1, WORKING), Answer::Told(Told::Working), Running, false),
+    Row(
+        Report(1, WORKING),
+        Answer::Told(Told::Working),
+        Running,
+        false,
+    ),
     Row(Ticks(99), Ended(NoneRan), Running, false),
-    Row(Report(1, SUCCESS), Answer::Told(Told::Final(1)), Idle, false),
+    Row(
+        Report(1, SUCCESS),
+        Answer::Told(Told::Final(1)),
+        Idle,
+        false,
+    ),
     Row(Put(2), Nothing, Idle, true),
     Row(Accept, Nothing, Idle, true),
     Row(Begin, Began(2, 2), Due, true),
@@ -120,7 +130,12 @@ const LISTENING: [Row; 44] = [
     Row(Segment, Given(2), Running, false),
     Row(End(BetweenTicks), Ended(Again), Due, true),
     Row(StartSegments(2), Nothing, Running, true),
-    Row(Report(3, SUCCESS), Answer::Told(Told::Final(3)), Idle, false),
+    Row(
+        Report(3, SUCCESS),
+        Answer::Told(Told::Final(3)),
+        Idle,
+        false,
+    ),
 ];
 
 /// A node that sleeps: its waking, a hold, No More Information, a third attempt, restarts.
@@ -135,7 +150,12 @@ const SLEEPING: [Row; 49] = [
     Row(Notify, Nothing, Idle, true),
     Row(Begin, Began(1, 1), Due, true),
     Row(StartWhole, Nothing, Running, false),
-    Row(Report(1, SUCCESS), Answer::Told(Told::Final(1)), Idle, false),
+    Row(
+        Report(1, SUCCESS),
+        Answer::Told(Told::Final(1)),
+        Idle,
+        false,
+    ),
     Row(Hold, Nothing, Idle, false),
     Row(Ticks(99), Ended(NoneRan), Idle, false),
     Row(Put(4), Nothing, Idle, true),
