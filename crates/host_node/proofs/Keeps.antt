@@ -13,10 +13,10 @@ use Rattle.host_node.specs.declared.attempt.Plan.TheVariants.{Whole, Segments, S
 use Rattle.host_node.specs.declared.attempt.Moment.{Moment}
 use Rattle.host_node.specs.declared.attempt.Moment.TheVariants.{BetweenTicks, BeforeItsTick}
 use Rattle.host_node.specs.State.{NodeState, unknown, is_false, is_idle, is_running, is_up, is_open, has_waiting, has_segment, wants_no_more}
-use Rattle.host_node.specs.Steps.{with_rest, with_wait, next_due, series_over, after_occasion, new_series, without, without_attempt, asleep, after_sleep, after_attempts, after_attempt_end, rest_from, after_sign, with_final, after_told, tried_again, after_rest, after_again_tick, after_attempt_tick, after_hold_tick, as_recorded, after_begin, after_start, after_segment, after_text, after_nonce, after_no_more}
+use Rattle.host_node.specs.Steps.{with_again, with_wait, next_due, series_over, after_occasion, new_series, without, without_attempt, asleep, after_sleep, after_attempts, after_attempt_end, again_from, after_sign, with_final, after_told, tried_again, after_again, after_again_tick, after_attempt_tick, after_hold_tick, as_recorded, after_begin, after_start, after_segment, after_text, after_nonce, after_no_more}
 use Rattle.host_node.specs.Events.{NodeEvent, after, after_all, May, MayAll, FitsPlan}
 use Rattle.host_node.specs.Events.NodeEvent.{Joins, Interviews, Puts, Takes_back, Accepts, Cancels, Begins, Blocks, Starts, Gives_segment, Gives_text, Succeeds, Takes_nonce, Restores_seen, Ends_attempt, Reports, Holds, Notifies, Sleeps, Queues_no_more, Drops_no_more, Ends_no_more, Ticks, Restarts}
-use Rattle.host_node.specs.Facts.{NodeFacts, NothingLeft, HasAttempts, AtRest, SeriesFacts, NoMoreFacts}
+use Rattle.host_node.specs.Facts.{NodeFacts, NothingLeft, HasAttempts, IdleFacts, SeriesFacts, NoMoreFacts}
 
 -- either branch of a test keeps the facts
 either : (test : Bool) (yes no : NodeState) → (test ≡ true → NodeFacts yes) → (test ≡ false → NodeFacts no) → NodeFacts (if test then yes else no)
@@ -100,9 +100,9 @@ slept n f = either n.listens n (asleep n) (λ _. f) (λ _. record {
   waiting = f.waiting;
 })
 
-rest_is_short : (moment : Moment) → rest_from moment ≤ 101
-rest_is_short BetweenTicks = omega arith
-rest_is_short BeforeItsTick = omega arith
+again_is_short : (moment : Moment) → again_from moment ≤ 101
+again_is_short BetweenTicks = omega arith
+again_is_short BeforeItsTick = omega arith
 
 third : (attempts : ℕ) → attempts ≤ 2 → 3 ≤ attempts + 1 → IsTrue (attempts + 1 == 0 || attempts + 1 == 3)
 third attempts few many = let three : attempts + 1 ≡ 3 = omega arith in subst (λ k. IsTrue (k == 0 || k == 3)) (sym three) refl
@@ -133,7 +133,7 @@ ended n moment f = either (is_running n.series) (after_attempts (without_attempt
         record { no_wait = refl; no_next = refl; no_segments = refl; no_text = refl; no_pending = refl },
       );
       attempt_wait = omega arith;
-      again_wait = rest_is_short moment;
+      again_wait = again_is_short moment;
       hold = f.hold;
       no_more = f.no_more;
       waiting = f.waiting;
@@ -277,8 +277,8 @@ nonce_taken n seen text f pending = record {
 }
 
 -- a wait that is less than it was
-rest_shorter : (n : NodeState) (ticks : ℕ) → ticks ≤ n.again_wait → NodeFacts n → NodeFacts (record n { again_wait = ticks })
-rest_shorter n ticks less f = record {
+again_shorter : (n : NodeState) (ticks : ℕ) → ticks ≤ n.again_wait → NodeFacts n → NodeFacts (record n { again_wait = ticks })
+again_shorter n ticks less f = record {
   series =
       elim n.series as (λ s. SeriesFacts s n.book n.attempt_wait n.again_wait n.next_segment n.segments n.text n.pending
       → SeriesFacts s n.book n.attempt_wait ticks n.next_segment n.segments n.text n.pending) [
@@ -321,14 +321,14 @@ hold_ticked n f = record {
   waiting = f.waiting;
 }
 
-rested : (n : NodeState) → NodeFacts n → NodeFacts (after_rest n)
-rested n f = either (has_waiting n) (after_occasion n) n (λ _. occasion n f) (λ _. f)
+begun_again : (n : NodeState) → NodeFacts n → NodeFacts (after_again n)
+begun_again n f = either (has_waiting n) (after_occasion n) n (λ _. occasion n f) (λ _. f)
 
 again_ticked : (n : NodeState) → NodeFacts n → NodeFacts (after_again_tick n)
 again_ticked n f =
-    either (n.again_wait == 1) (after_rest (with_rest n 0)) (with_rest n (n.again_wait - 1))
-    (λ _. rested (with_rest n 0) (rest_shorter n 0 (omega arith) f))
-    (λ _. rest_shorter n (n.again_wait - 1) (omega arith) f)
+    either (n.again_wait == 1) (after_again (with_again n 0)) (with_again n (n.again_wait - 1))
+    (λ _. begun_again (with_again n 0) (again_shorter n 0 (omega arith) f))
+    (λ _. again_shorter n (n.again_wait - 1) (omega arith) f)
 
 attempt_ticked : (n : NodeState) → NodeFacts n → NodeFacts (after_attempt_tick n)
 attempt_ticked n f = either (n.attempt_wait == 1) (after_attempt_end n BetweenTicks) (with_wait n (n.attempt_wait - 1)) (λ _. ended n BetweenTicks f) (λ _. attempt_shorter n (n.attempt_wait - 1) (omega arith) f)

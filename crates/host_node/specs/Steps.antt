@@ -16,13 +16,13 @@ use Rattle.host_node.specs.declared.attempt.Moment.{Moment}
 use Rattle.host_node.specs.declared.attempt.Moment.TheVariants.{BetweenTicks, BeforeItsTick}
 use Rattle.host_node.specs.State.{NodeState, is_false, is_idle, is_running, is_up, is_open, has_waiting}
 
--- the ticks of an attempt without a report, of the rest after a series, and of a hold
+-- the ticks of an attempt without a report, of the wait after a series, and of a hold
 abbrev pub wait_ticks : ℕ
 wait_ticks = 100
 
--- so much is left of the rest after a series, or of the wait of an attempt
-abbrev pub with_rest : NodeState → ℕ → NodeState
-with_rest n ticks = record n { again_wait = ticks }
+-- so much is left of the wait after a series, or of the wait of an attempt
+abbrev pub with_again : NodeState → ℕ → NodeState
+with_again n ticks = record n { again_wait = ticks }
 
 abbrev pub with_wait : NodeState → ℕ → NodeState
 with_wait n ticks = record n { attempt_wait = ticks }
@@ -117,19 +117,19 @@ after_sleep n = if n.listens then n else asleep n
 abbrev pub falls_asleep : NodeState → Bool
 falls_asleep n = n.awake && is_false n.listens
 
--- the rest after a series: the node's tick in the tick of the host that has come to its link or its request counts for
--- no wait that begins there
-abbrev pub rest_from : Moment → ℕ
-rest_from BetweenTicks = 100
-rest_from BeforeItsTick = 101
+-- the wait after a series. Where the host's tick has come to its link or its request, the node's own tick of that tick
+-- counts for no wait that begins there
+abbrev pub again_from : Moment → ℕ
+again_from BetweenTicks = 100
+again_from BeforeItsTick = 101
 
--- so many attempts of the series have ended, and the next one is due; or the series is over, and a rest begins
+-- so many attempts of the series have ended, and the next one is due; or the series is over, and the wait for another begins
 abbrev pub next_due : NodeState → ℕ → NodeState
 next_due n attempts = record n { series = Due; book = with_attempts n.book attempts }
 
 abbrev pub series_over : NodeState → ℕ → Moment → NodeState
 series_over n attempts moment =
-    record n { series = Idle; book = with_attempts n.book attempts; again_wait = rest_from moment }
+    record n { series = Idle; book = with_attempts n.book attempts; again_wait = again_from moment }
 
 -- the third attempt is the last
 abbrev pub after_attempts : NodeState → ℕ → Moment → NodeState
@@ -188,15 +188,15 @@ after_no_more_end n = after_sleep (after_no_more n Unasked)
 abbrev pub after_hold_tick : NodeState → NodeState
 after_hold_tick n = record n { blocked = false; hold = n.hold - 1 }
 
--- at the end of the rest a new series is due, if a command waits
-abbrev pub after_rest : NodeState → NodeState
-after_rest n = if has_waiting n then after_occasion n else n
+-- at the end of the wait after a series a new one is due, if a command waits
+abbrev pub after_again : NodeState → NodeState
+after_again n = if has_waiting n then after_occasion n else n
 
 abbrev pub after_again_tick : NodeState → NodeState
 after_again_tick n =
-    if n.again_wait == 1 then after_rest (with_rest n 0) else with_rest n (n.again_wait - 1)
+    if n.again_wait == 1 then after_again (with_again n 0) else with_again n (n.again_wait - 1)
 
--- at the end of an attempt's wait it ends. The rest that may begin then has had its part of this tick
+-- at the end of an attempt's wait it ends. The wait for another series, which may begin then, has had its part of this tick
 abbrev pub after_attempt_tick : NodeState → NodeState
 after_attempt_tick n =
     if n.attempt_wait == 1 then after_attempt_end n BetweenTicks else with_wait n (n.attempt_wait - 1)

@@ -2,14 +2,11 @@
 
 use zw_base::Bytes;
 
-/// The most attempts of one series.
-pub(crate) const MAX_ATTEMPTS: u8 = supervision::MAX_ATTEMPTS;
-
 /// How many ticks after its last good callback or Working report an attempt ends.
 pub(crate) const WAIT_TICKS: u8 = 100;
 
 /// How many ticks after its end a series is followed by the next one, where a command waits.
-pub(crate) const REST_TICKS: u8 = 100;
+pub(crate) const AGAIN_TICKS: u8 = 100;
 
 /// What an attempt gives.
 #[derive(Debug, Drop)]

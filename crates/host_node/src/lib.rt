@@ -15,7 +15,10 @@ mod series;
 mod tests;
 
 pub use attempt::{AttemptEnd, Moment, Plan};
-pub use laws::{a_tick_without_waits_is_nothing, facts_are_kept, what_is_taken_back_is_undone};
+pub use laws::{
+    a_restart_needs_the_records_alone, a_tick_without_waits_is_nothing, facts_are_kept,
+    what_is_taken_back_is_undone,
+};
 pub use no_more::NoMore;
 pub use node::{Begun, Node};
 pub use series::Series;

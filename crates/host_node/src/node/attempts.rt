@@ -4,13 +4,13 @@ ghost use Rattle.std.specs.Prelude.{◌≡◌, ◌<◌, ◌≤◌, ℕ, Option, 
 ghost use Rattle.supervision.specs.Session.{IsStatus};
 ghost use Rattle.supervision.specs.Host.{told_of};
 ghost use Rattle.host_node.specs.State.{has_segment};
-ghost use Rattle.host_node.specs.Steps.{without_attempt, after_start, after_segment, after_text, after_sign, after_attempt_end, attempt_end, after_report, rest_from};
+ghost use Rattle.host_node.specs.Steps.{without_attempt, after_start, after_segment, after_text, after_sign, after_attempt_end, attempt_end, after_report, again_from};
 ghost use Rattle.host_node.specs.Events.{FitsPlan};
 
-use crate::attempt::{MAX_ATTEMPTS, REST_TICKS, WAIT_TICKS};
+use crate::attempt::{AGAIN_TICKS, WAIT_TICKS};
 use crate::node::Node;
 use crate::{AttemptEnd, Moment, Plan, Series};
-use supervision::Told;
+use supervision::{MAX_ATTEMPTS, Told};
 use zw_base::Payload;
 
 impl Node {
@@ -74,7 +74,7 @@ impl Node {
             return AttemptEnd::Again;
         }
         self.series = Series::Idle;
-        self.again_wait = rest_from(moment);
+        self.again_wait = again_from(moment);
         AttemptEnd::Unanswered(self.sleep())
     }
 
@@ -112,12 +112,12 @@ impl Node {
     }
 }
 
-// The rest after a series that ends then.
-fn rest_from(moment: Moment) -> u8
-    ensures { result ≡ rest_from moment }
+// The wait after a series that ends then.
+fn again_from(moment: Moment) -> u8
+    ensures { result ≡ again_from moment }
 {
     match moment {
-        Moment::BetweenTicks => REST_TICKS,
-        Moment::BeforeItsTick => REST_TICKS + 1,
+        Moment::BetweenTicks => AGAIN_TICKS,
+        Moment::BeforeItsTick => AGAIN_TICKS + 1,
     }
 }

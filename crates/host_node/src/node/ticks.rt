@@ -14,12 +14,12 @@ impl Node {
     {
         self.blocked = false;
         self.mailbox.tick();
-        self.tick_rest();
+        self.tick_again();
         self.tick_attempt()
     }
 
-    // The rest after a series: at its end a new one is due, if a command waits.
-    fn tick_rest(&mut self)
+    // The wait after a series: at its end a new one is due, if a command waits.
+    fn tick_again(&mut self)
         ensures { self.new ≡ after_again_tick self.old }
     {
         if self.again_wait != 1 {
