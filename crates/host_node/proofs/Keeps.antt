@@ -1,7 +1,7 @@
 -- Each event keeps the facts of a node.
-use Rattle.std.proofs.Common.{rules, ◌≡◌, ℕ, ◌+◌, ◌-◌, ◌<◌, ◌≤◌, ◌==◌, ◌&&◌, ◌||◌, nat_lt, Bool, true, false, if◌then◌else◌, Option, Some, None, List, [], ◌∷◌, ◌++◌, length, drop, take, is_some, IsSome, IsTrue, refl, ap, sym, subst, ◌∙◌, arith, length-append, length-take, length-drop}
+use Rattle.std.proofs.Common.{◌≡◌, ℕ, ◌+◌, ◌-◌, ◌<◌, ◌≤◌, ◌==◌, ◌&&◌, ◌||◌, nat_lt, Bool, true, false, if◌then◌else◌, Option, Some, None, List, [], ◌∷◌, ◌++◌, length, is_some, IsSome, IsTrue, refl, sym, subst, arith, length-append, length-take, length-drop}
 use Rattle.std.proofs.lemmas.Bool.Decides.{nat_tests}
-use Rattle.supervision.specs.Host.{HostBook, open_session, begins, with_attempts, told_of}
+use Rattle.supervision.specs.Host.{open_session, told_of}
 use Rattle.supervision.specs.declared.host_node.Told.{Told}
 use Rattle.supervision.specs.declared.host_node.Told.TheVariants.{Final, Working, Old}
 use Rattle.host_node.specs.declared.series.Series.{Series}
@@ -12,11 +12,11 @@ use Rattle.host_node.specs.declared.attempt.Plan.{Plan}
 use Rattle.host_node.specs.declared.attempt.Plan.TheVariants.{Whole, Segments, Sealed}
 use Rattle.host_node.specs.declared.attempt.Moment.{Moment}
 use Rattle.host_node.specs.declared.attempt.Moment.TheVariants.{BetweenTicks, BeforeItsTick}
-use Rattle.host_node.specs.State.{NodeState, unknown, is_false, is_idle, is_running, is_up, is_open, has_waiting, has_segment, wants_no_more}
-use Rattle.host_node.specs.Steps.{with_again, with_wait, next_due, series_over, after_occasion, new_series, without, without_attempt, asleep, after_sleep, after_attempts, after_attempt_end, again_from, after_sign, with_final, after_told, tried_again, after_again, after_again_tick, after_attempt_tick, after_hold_tick, as_recorded, after_begin, after_start, after_segment, after_text, after_nonce, after_no_more}
+use Rattle.host_node.specs.State.{NodeState, is_false, is_idle, is_running, is_up, is_open, has_waiting, wants_no_more}
+use Rattle.host_node.specs.Steps.{with_again, with_wait, next_due, series_over, after_occasion, new_series, without, without_attempt, asleep, after_sleep, after_attempts, after_attempt_end, again_from, after_sign, after_told, tried_again, after_again, after_again_tick, after_attempt_tick, after_hold_tick, as_recorded, after_begin, after_start, after_segment, after_text, after_nonce, after_no_more}
 use Rattle.host_node.specs.Events.{NodeEvent, after, after_all, May, MayAll, FitsPlan}
 use Rattle.host_node.specs.Events.NodeEvent.{Joins, Interviews, Puts, Takes_back, Accepts, Cancels, Begins, Blocks, Starts, Gives_segment, Gives_text, Succeeds, Takes_nonce, Restores_seen, Ends_attempt, Reports, Holds, Notifies, Sleeps, Queues_no_more, Drops_no_more, Ends_no_more, Ticks, Restarts}
-use Rattle.host_node.specs.Facts.{NodeFacts, NothingLeft, HasAttempts, IdleFacts, SeriesFacts, NoMoreFacts}
+use Rattle.host_node.specs.Facts.{NodeFacts, SeriesFacts, NoMoreFacts}
 
 -- either branch of a test keeps the facts
 either : (test : Bool) (yes no : NodeState) → (test ≡ true → NodeFacts yes) → (test ≡ false → NodeFacts no) → NodeFacts (if test then yes else no)

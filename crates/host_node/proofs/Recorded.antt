@@ -3,12 +3,11 @@ use Rattle.std.proofs.Common.{◌≡◌, ℕ, ◌+◌, ◌-◌, ◌==◌, ◌&&�
 use Rattle.supervision.specs.Host.{told_of}
 use Rattle.supervision.specs.declared.host_node.Told.{Told}
 use Rattle.supervision.specs.declared.host_node.Told.TheVariants.{Final, Working, Old}
-use Rattle.host_node.specs.declared.attempt.Plan.{Plan}
 use Rattle.host_node.specs.declared.attempt.Plan.TheVariants.{Whole, Segments, Sealed}
 use Rattle.host_node.specs.declared.attempt.Moment.{Moment}
-use Rattle.host_node.specs.declared.attempt.Moment.TheVariants.{BetweenTicks, BeforeItsTick}
-use Rattle.host_node.specs.State.{NodeState, is_false, is_idle, is_running, is_up, is_open, has_waiting}
-use Rattle.host_node.specs.Steps.{with_again, with_wait, new_series, next_due, series_over, after_occasion, without_attempt, asleep, after_sleep, after_attempts, after_attempt_end, after_sign, after_told, tried_again, after_again, after_again_tick, after_attempt_tick, after_hold_tick, after_tick, as_recorded, after_no_more, after_start}
+use Rattle.host_node.specs.declared.attempt.Moment.TheVariants.{BetweenTicks}
+use Rattle.host_node.specs.State.{NodeState, is_idle, is_running, is_up, is_open, has_waiting}
+use Rattle.host_node.specs.Steps.{with_again, with_wait, new_series, next_due, series_over, after_occasion, without_attempt, asleep, after_sleep, after_attempts, after_attempt_end, after_sign, after_told, after_again, after_again_tick, after_attempt_tick, after_hold_tick, as_recorded}
 use Rattle.host_node.specs.Events.{NodeEvent, after}
 use Rattle.host_node.specs.Events.NodeEvent.{Joins, Interviews, Puts, Takes_back, Accepts, Cancels, Begins, Blocks, Starts, Gives_segment, Gives_text, Succeeds, Takes_nonce, Restores_seen, Ends_attempt, Reports, Holds, Notifies, Sleeps, Queues_no_more, Drops_no_more, Ends_no_more, Ticks, Restarts}
 use Rattle.host_node.specs.Facts.{is_final, is_recorded}

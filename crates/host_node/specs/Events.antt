@@ -1,8 +1,8 @@
 -- The events of a node as data, when each may happen, and the node after it (this project's own rule, docs/NODES.md).
-use Rattle.std.specs.Prelude.{◌≡◌, ℕ, ◌<◌, ◌≤◌, Bool, Option, None, List, [], ◌∷◌, length, Contains, IsSome, IsTrue}
+use Rattle.std.specs.Prelude.{◌≡◌, ℕ, ◌<◌, ◌≤◌, Bool, None, List, [], ◌∷◌, length, Contains, IsSome, IsTrue}
 use Rattle.supervision.specs.Host.{open_session}
 use Rattle.host_node.specs.declared.series.Series.TheVariants.{Due}
-use Rattle.host_node.specs.declared.no_more.NoMore.TheVariants.{Unasked, Queued, Dropped}
+use Rattle.host_node.specs.declared.no_more.NoMore.TheVariants.{Queued, Dropped}
 use Rattle.host_node.specs.declared.attempt.Plan.{Plan}
 use Rattle.host_node.specs.declared.attempt.Plan.TheVariants.{Whole, Segments, Sealed}
 use Rattle.host_node.specs.declared.attempt.Moment.{Moment}

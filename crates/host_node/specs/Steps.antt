@@ -1,10 +1,9 @@
 -- The node after each event (this project's own rule, docs/NODES.md).
-use Rattle.std.specs.Prelude.{ℕ, ◌+◌, ◌-◌, ◌==◌, ◌&&◌, nat_lt, Bool, true, false, if◌then◌else◌, Option, Some, None, List, [], ◌∷◌, ◌++◌, drop, slice_index}
-use Rattle.supervision.specs.Host.{HostBook, begins, with_attempts, told_of}
+use Rattle.std.specs.Prelude.{ℕ, ◌+◌, ◌-◌, ◌==◌, ◌&&◌, nat_lt, Bool, true, false, if◌then◌else◌, Some, None, List, [], ◌∷◌, ◌++◌, drop, slice_index}
+use Rattle.supervision.specs.Host.{begins, with_attempts, told_of}
 use Rattle.supervision.specs.declared.host_node.Told.{Told}
 use Rattle.supervision.specs.declared.host_node.Told.TheVariants.{Final, Working, Old}
 use Rattle.wake_mailbox.specs.Mailbox.{without_last}
-use Rattle.host_node.specs.declared.series.Series.{Series}
 use Rattle.host_node.specs.declared.series.Series.TheVariants.{Idle, Due, Running}
 use Rattle.host_node.specs.declared.no_more.NoMore.{NoMore}
 use Rattle.host_node.specs.declared.no_more.NoMore.TheVariants.{Unasked, Queued, Dropped}

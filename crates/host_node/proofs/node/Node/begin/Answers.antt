@@ -1,5 +1,5 @@
 -- A session begins where none is open and there is room for it.
-use Rattle.std.proofs.Common.{◌≡◌, ◌≢◌, ℕ, ◌<◌, Option, Some, None, Ok, Err, IsOk, length, refl, ap, sym, ◌∙◌, arith}
+use Rattle.std.proofs.Common.{◌≡◌, ◌≢◌, ℕ, Some, None, Ok, Err, IsOk, length, refl, ap, sym, ◌∙◌, arith}
 use Rattle.std.specs.declared.result.Result.{Result}
 use Rattle.supervision.specs.declared.host_node.BeginFault.{BeginFault}
 use Rattle.supervision.specs.declared.host_node.BeginFault.TheVariants.{StillBegun, NoMemory}

@@ -1,5 +1,5 @@
 -- What is taken out of the mailbox is the first place of the command.
-use Rattle.std.proofs.Common.{◌≡◌, List, ℕ}
+use Rattle.std.proofs.Common.{◌≡◌}
 use Rattle.host_node.specs.Steps.{without}
 use Rattle.host_node.proofs.Lists.{taken_out_is_without}
 use Rattle.host_node.proofs.node.Node.cancel.Goals as goal

@@ -1,10 +1,9 @@
 -- What seals the pending plain text fits a payload.
-use Rattle.std.proofs.Common.{◌≡◌, ℕ, ◌≤◌, Option, Some, None, Ok, IsSome, List, length, refl, ap, sym, subst, ◌∙◌, arith}
+use Rattle.std.proofs.Common.{◌≡◌, ℕ, ◌≤◌, Option, Some, None, Ok, IsSome, List, length, refl, ap, sym, subst, ◌∙◌}
 use Rattle.std.specs.Option.{SomeIff}
 use Rattle.s0_crypto.specs.declared.ends.SealEnds.{SealEnds}
 use Rattle.s0_crypto.specs.Seal.{Seals}
-use Rattle.s0_session.specs.Sending.{WouldSeal}
-use Rattle.host_node.specs.State.{NodeState, SealsText, ends_to}
+use Rattle.host_node.specs.State.{NodeState, ends_to}
 use Rattle.host_node.proofs.node.Node.seal_text.Goals as goal
 
 some_of : {X : Type 0} (P : Type 0) (o : Option X) (v : X) → SomeIff o P v → P → IsSome o
