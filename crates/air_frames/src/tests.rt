@@ -1,0 +1,1 @@
+//! Frames that are sent, land and are asked for again.
