@@ -1,5 +1,5 @@
 -- What is kept of the frames that were sent (this project's own rule, docs/AIR.md).
-use Rattle.std.specs.Prelude.{ℕ, ◌+◌, ◌-◌, ◌&&◌, nat_le, nat_lt, min, max, if◌then◌else◌, Option, Some, None, List, [], ◌∷◌, ◌++◌, length, replicate, slice_get, slice_set, slice_index_or}
+use Rattle.std.specs.Prelude.{ℕ, ◌+◌, ◌-◌, ◌&&◌, nat_le, nat_lt, min, max, if◌then◌else◌, Bool, true, false, take, Option, Some, None, List, [], ◌∷◌, ◌++◌, length, replicate, slice_get, slice_set, slice_index_or}
 use Rattle.circular_buffer.specs.Buffer.{keep_last}
 use Rattle.air_frames.specs.declared.peer.Peer.{Peer}
 use Rattle.air_frames.specs.declared.frame.Departure.{Departure}
@@ -29,6 +29,11 @@ peer_of state node = slice_index_or state.peers node no_counts
 -- how many frames are kept: the last 4,097, and all that are on the air
 abbrev pub kept : ℕ → ℕ → ℕ
 kept sent landed = max (min sent 4097) (sent - landed)
+
+-- the oldest of these frames, where it is kept apart
+abbrev pub pushed_out : Bool → {A : Type 0} → List A → List A
+pushed_out true frames = take 1 frames
+pushed_out false frames = []
 
 -- a frame goes on the air
 unfoldable pub putting : FramesState → Departure → FramesState

@@ -1,6 +1,7 @@
 //! How old a frame may be that is repeated.
 
-ghost use Rattle.std.specs.Prelude.{◌≡◌, result_err};
+ghost use Rattle.std.specs.Prelude.{◌≡◌};
+ghost use Rattle.std.specs.Result.{result_err};
 
 use crate::{Frame, Peer};
 

@@ -1,9 +1,12 @@
 //! The frames that are kept.
 
-ghost use Rattle.std.specs.Prelude.{◌≡◌, ℕ, ◌+◌, ◌-◌, ◌<◌, ◌≤◌, ◌^◌, ◌⊎◌, [], ◌∷◌, length, slice_set, IfOk, OnOk, OnErr, IfSome, MatchResult, Some, None};
+ghost use Rattle.std.specs.Prelude.{◌≡◌, ℕ, ◌+◌, ◌-◌, ◌<◌, ◌≤◌, ◌^◌, ◌⊎◌, [], ◌∷◌, ◌++◌, nat_lt, length, slice_set, IfOk, OnOk, OnErr, IfSome, MatchResult, Some, None};
 ghost use Rattle.std.specs.Option.{option_copied};
 ghost use Rattle.air_frames.specs.Flown.{IsSound};
 ghost use Rattle.air_frames.specs.Frames.{FramesState, no_frames, peer_of, putting, landing, next_of, remembered};
+ghost use Rattle.std.specs.VecDeque.{deque_len, deque_capacity};
+ghost use Rattle.circular_buffer.specs.Buffer.{buffer, keep_last};
+ghost use Rattle.air_frames.specs.Frames.{pushed_out};
 ghost use Rattle.air_frames.specs.Ages.{refusal_of};
 
 use crate::ages::check_age;
@@ -132,11 +135,8 @@ impl Frames {
         peer.show(departure.heading, departure.payload.bytes());
         let frame = Frame::new(departure, peer);
         self.sent += 1;
-        if let Some(oldest) = self.ring.push_back(frame) {
-            if self.sent - self.landed > KEPT_FRAMES as u64 {
-                self.late.push_back_reserved(oldest);
-            }
-        }
+        let flying = self.sent - self.landed;
+        keep(&mut self.ring, &mut self.late, frame, flying);
         self.sent
     }
 
@@ -192,5 +192,29 @@ impl Frames {
         let peer = &self.peers[frame.node().number() as usize];
         check_age(frame, peer)?;
         Ok(frame)
+    }
+}
+
+/// Puts a frame behind those of the ring, where so many are on the air then. The oldest gives way where the ring is full,
+/// and is kept apart where it is still on the air.
+fn keep(
+    ring: &mut HeapCircularBuffer<Frame>,
+    late: &mut VecDeque<Frame>,
+    frame: Frame,
+    flying: u64,
+)
+    requires capacity { ring.old.capacity ≡ 4097 }
+    requires full { 4097 < flying → length ring.old.items ≡ 4097 }
+    requires room { 4097 < flying → deque_len late.old < deque_capacity late.old }
+    ensures ring { ring.new ≡ buffer (keep_last 4097 (ring.old.items ++ frame ∷ [])) 4097 }
+    ensures late { late.new.items ≡ late.old.items ++ pushed_out (nat_lt 4097 flying) (ring.old.items ++ frame ∷ []) }
+    ensures len { 4097 < flying → deque_len late.new ≡ deque_len late.old + 1 }
+    ensures same_len { flying ≤ 4097 → deque_len late.new ≡ deque_len late.old }
+    ensures room { deque_capacity late.new ≡ deque_capacity late.old }
+{
+    if let Some(oldest) = ring.push_back(frame) {
+        if flying > KEPT_FRAMES as u64 {
+            late.push_back_reserved(oldest);
+        }
     }
 }
