@@ -28,4 +28,4 @@ stale_if state (Some frame) = stale_of frame (peer_of state frame.node)
 -- why the frame of that number is not repeated: it was never sent, it is forgotten, it is stale, in this order
 abbrev pub refusal_of : FramesState → ℕ → Option Refusal
 refusal_of state number =
-    if (number == 0) || nat_lt state.sent number then Some NeverSent else stale_if state (remembered state number)
+    if nat_lt 0 number && nat_le number state.sent then stale_if state (remembered state number) else Some NeverSent

@@ -111,6 +111,12 @@ stamped before (Goes departure ∷ log) = record {
   shown = news_after departure.node [] (before ++ Goes departure ∷ []);
 } ∷ stamped (before ++ Goes departure ∷ []) log
 
+-- each frame is of a node whose number has a place
+abbrev pub GoBetweenNodes : List Mark → Type 0
+GoBetweenNodes [] = Unit {0}
+GoBetweenNodes (Goes departure ∷ log) = (departure.node < 233) × GoBetweenNodes log
+GoBetweenNodes (Begins node ∷ log) = GoBetweenNodes log
+
 -- what is kept is what this history leaves: the last frames, and the counts of each node
 pub record IsOf (log : List Mark) (state : FramesState) : Type 0 where
   pub sent : state.sent ≡ goes_in log
@@ -120,7 +126,7 @@ pub record IsOf (log : List Mark) (state : FramesState) : Type 0 where
   pub begun : (node : ℕ) → node < 233 → (peer_of state node).begun ≡ begins_in node log
   pub shown : (node : ℕ) → node < 233 → (peer_of state node).shown ≡ news_after node [] log
   pub last : (node : ℕ) (heading : Heading) → node < 233 → last_of (peer_of state node) heading ≡ last_in node heading None log
-  pub nodes : (number : ℕ) (departure : Departure) → departure_at log number ≡ Some departure → departure.node < 233
+  pub nodes : GoBetweenNodes log
 
 -- why the frame of a number, counted from 1, is not repeated, by the whole history
 abbrev pub stale_in : List Mark → ℕ → Option Departure → Option Refusal

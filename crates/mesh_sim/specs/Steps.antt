@@ -264,13 +264,13 @@ pub record Stops (old : AirState) (devices : List State) (new : AirState) (later
   pub steps : List AirStep
   pub arrivals : All IsArrival steps
   pub may : MayAllHappen (record { air = old; devices = devices }) steps
-  pub air : new ≡ (mesh_after_all (record { air = old; devices = devices }) steps).air
-  pub devices : IsCut (mesh_after_all (record { air = old; devices = devices }) steps) later
+  pub air_is : new ≡ (mesh_after_all (record { air = old; devices = devices }) steps).air
+  pub cut : IsCut (mesh_after_all (record { air = old; devices = devices }) steps) later
   pub outs : all ≡ before ++ mesh_outs_all (record { air = old; devices = devices }) steps
 
 -- a device heard a payload, and what it did was told, with these events at the end
 pub record HasHeard (air : AirState) (node : ℕ) (payload drawn : List ℕ) (route : Option Route) (old new : State) (later : AirState) (number : ℕ) (end before all : List AirEvent) : Type 0 where
   pub way : IsRoute air.network node route
   pub device : new ≡ device_after old (Hears payload drawn)
-  pub air : later ≡ air_hearing air node route old (Hears payload drawn)
+  pub air_is : later ≡ air_hearing air node route old (Hears payload drawn)
   pub outs : all ≡ before ++ (outs_hearing air number node route old (Hears payload drawn) ++ end)

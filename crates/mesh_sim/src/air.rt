@@ -41,7 +41,12 @@ impl Model for Air {
     ghost use Rattle.std.specs.Prelude.{◌≡◌, length};
     ghost use Rattle.mesh_sim.specs.Air.{Airing};
 
+    ghost use Rattle.std.specs.Coded.{codes};
+    ghost use Rattle.route_table.specs.Network.{network_code};
+
     ghost Value = { Airing };
+
+    ghost coded = { Prim.hlevel (codes, network_code) };
 
     ghost view = { λ a. record {
       state = record { network = a.table; joined = a.joined; frames = a.frames.state; losing = a.losing; ack_losing = a.ack_losing };
