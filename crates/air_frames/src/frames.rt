@@ -80,6 +80,14 @@ impl Frames {
         self.landed
     }
 
+    /// The number of the frame that arrives next.
+    pub fn next_number(&self) -> u64
+        requires { self.now.state.landed < self.now.state.sent }
+        ensures { result ≡ self.now.state.landed + 1 }
+    {
+        self.sent - (self.flying() - 1)
+    }
+
     /// How many frames are on the air.
     pub fn flying(&self) -> u64
         ensures value { result ≡ self.now.state.sent - self.now.state.landed }

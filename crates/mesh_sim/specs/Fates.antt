@@ -1,5 +1,5 @@
 -- What becomes of a frame that arrives (this project's own rule, docs/AIR.md).
-use Rattle.std.specs.Prelude.{ℕ, ◌<◌, ◌==◌, if◌then◌else◌, Bool, false, Option, Some, None, List, [], ◌∷◌, slice_get, position}
+use Rattle.std.specs.Prelude.{ℕ, ◌<◌, ◌==◌, if◌then◌else◌, Bool, false, Option, Some, None, List, [], ◌∷◌, slice_get, suc, option_map}
 use Rattle.route_table.specs.Network.{Network, linked}
 use Rattle.route_table.specs.Route.{via}
 use Rattle.device_sim.specs.State.{State}
@@ -17,7 +17,8 @@ pub record Mesh : Type 0 where
 
 -- where the first device of a node stands
 abbrev pub place_of : ℕ → List State → Option ℕ
-place_of node devices = position (λ device. device.node == node) devices
+place_of node [] = None
+place_of node (device ∷ devices) = if device.node == node then Some 0 else option_map suc (place_of node devices)
 
 abbrev pub is_awake : Option State → Bool
 is_awake None = false

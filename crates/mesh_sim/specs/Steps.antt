@@ -268,6 +268,10 @@ pub record Stops (old : AirState) (devices : List State) (new : AirState) (later
   pub cut : IsCut (mesh_after_all (record { air = old; devices = devices }) steps) later
   pub outs : all ≡ before ++ mesh_outs_all (record { air = old; devices = devices }) steps
 
+-- a device is as it was, or has heard, with the route over which it would answer
+abbrev pub HasPerhaps : AirState → ℕ → State → State → DeviceEvent → Type 0
+HasPerhaps air node old new event = (new ≡ old) ⊎ ((route : Option Route) × IsRoute air.network node route × (new ≡ device_after old event))
+
 -- a device heard a payload, and what it did was told, with these events at the end
 pub record HasHeard (air : AirState) (node : ℕ) (payload drawn : List ℕ) (route : Option Route) (old new : State) (later : AirState) (number : ℕ) (end before all : List AirEvent) : Type 0 where
   pub way : IsRoute air.network node route

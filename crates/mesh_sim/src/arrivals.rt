@@ -11,7 +11,7 @@ ghost use Rattle.air_frames.specs.Frames.{landing, next_of};
 ghost use Rattle.mesh_sim.specs.Air.{is_joined, departing};
 ghost use Rattle.mesh_sim.specs.Routes.{IsRoute, backwards};
 ghost use Rattle.mesh_sim.specs.Fates.{Mesh};
-ghost use Rattle.mesh_sim.specs.Steps.{AirStep, Arrives, Did, Stops, Delivers, landed, acknowledged, status_of, done_of, changed, sent_event, answered, answers, answered_if, answers_if, HasHeard};
+ghost use Rattle.mesh_sim.specs.Steps.{AirStep, Arrives, Did, Stops, Delivers, landed, acknowledged, status_of, done_of, changed, sent_event, answered, answers, answered_if, answers_if, HasHeard, HasPerhaps};
 
 use crate::air::{NO_ROUTE, copy_of};
 use crate::devices::{changes_of, hear_one};
@@ -87,7 +87,7 @@ impl Air {
         let heading = frame.heading();
         let fate = fate_now(&self.table, frame, devices);
         let arrival = Arrival {
-            number: self.frames.landed() + 1,
+            number: self.frames.next_number(),
             node: frame.node(),
             payload: copy_of(frame.payload()),
         };
@@ -120,7 +120,7 @@ impl Air {
         ensures no_outs { OnErr result (out.new.items ≡ out.old.items) }
     {
         out.reserve(2)?;
-        let frame = self.frames.landed() + 1;
+        let frame = self.frames.next_number();
         self.frames.land();
         out.put(event);
         if heading == Heading::Outward {
@@ -165,7 +165,7 @@ impl Air {
             (AirEvent.Done arrival.now.number (status_of self.old.state) None ∷ []) out.old.items out.new.items) }
         ensures err { OnErr result (self.new.state ≡ self.old.state) }
         ensures no_outs { OnErr result (out.new.items ≡ out.old.items) }
-        ensures cut { OnErr result ((state device.new ≡ state device.old) ⊎ (state device.new ≡ device_after (state device.old) (Hears arrival.now.payload drawn))) }
+        ensures cut { OnErr result (HasPerhaps self.old.state arrival.now.node (state device.old) (state device.new) (Hears arrival.now.payload drawn)) }
     {
         let hearing = self.hear(arrival, device, drawn, out)?;
         let status = self.acknowledge();
@@ -211,7 +211,7 @@ impl Air {
         ensures sound { IfOk result (λ hearing. ForSome hearing.way (λ r. IsSound r)) }
         ensures room { OnOk result (8 ≤ self.new.room) }
         ensures out_room { IfOk result (λ hearing. hearing.changes + 10 ≤ out.new.room) }
-        ensures cut { OnErr result ((state device.new ≡ state device.old) ⊎ (state device.new ≡ device_after (state device.old) (Hears arrival.now.payload drawn))) }
+        ensures cut { OnErr result (HasPerhaps self.old.state arrival.now.node (state device.old) (state device.new) (Hears arrival.now.payload drawn)) }
     {
         let mut replies = Replies::new(self.alloc)?;
         self.reserve(MAX_REPLIES)?;

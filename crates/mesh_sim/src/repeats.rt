@@ -7,7 +7,7 @@ ghost use Rattle.air_frames.specs.Ages.{refusal_of};
 ghost use Rattle.air_frames.specs.History.{Mark, IsOf, refusal_in};
 ghost use Rattle.mesh_sim.specs.Faults.{IsFault};
 ghost use Rattle.mesh_sim.specs.Fates.{Mesh};
-ghost use Rattle.mesh_sim.specs.Steps.{Repeats, Did, IsCut, HasHeard};
+ghost use Rattle.mesh_sim.specs.Steps.{Repeats, Did, IsCut, HasHeard, HasPerhaps};
 
 use crate::air::copy_of;
 use crate::arrivals::{Arrival, enter_at_chip};
@@ -72,7 +72,7 @@ impl Air {
             (state device.old) (state device.new) self.new.state arrival.now.number [] out.old.items out.new.items) }
         ensures err { OnErr result (self.new.state ≡ self.old.state) }
         ensures no_outs { OnErr result (out.new.items ≡ out.old.items) }
-        ensures cut { OnErr result ((state device.new ≡ state device.old) ⊎ (state device.new ≡ device_after (state device.old) (Hears arrival.now.payload drawn))) }
+        ensures cut { OnErr result (HasPerhaps self.old.state arrival.now.node (state device.old) (state device.new) (Hears arrival.now.payload drawn)) }
     {
         let hearing = self.hear(arrival, device, drawn, out)?;
         self.enter_heard(arrival, &hearing, out);

@@ -1,0 +1,201 @@
+-- Steps that are done: one, one after another, and a front of them.
+use Rattle.std.proofs.Common.{◌≡◌, ℕ, zero, suc, ◌+◌, ◌-◌, ◌<◌, ◌≤◌, ◌⊎◌, inl, inr, if◌then◌else◌, Bool, true, false, All, Option, Some, None, Result, Ok, Err, OnOk, OnErr, List, [], ◌∷◌, ◌++◌, length, map, get_or, set, slice_get, option_map, refl, ap, sym, subst, ◌∙◌, append_assoc, length-append, arith}
+use Rattle.std.proofs.lemmas.List.{append-nil, map-set}
+use Rattle.std.proofs.lemmas.List.Elements.{All-append}
+use Rattle.route_table.specs.declared.route.Route.{Route}
+use Rattle.device_sim.specs.State.{State}
+use Rattle.device_sim.specs.Event.{DeviceEvent, Hears, device_after, device_replies}
+use Rattle.air_frames.specs.declared.frame.Heading.{Heading}
+use Rattle.air_frames.specs.declared.frame.Heading.TheVariants.{Outward, Homeward}
+use Rattle.air_frames.specs.Flown.{Flown}
+use Rattle.air_frames.specs.Frames.{FramesState, putting, landing, next_of, remembered}
+use Rattle.air_frames.specs.Ages.{refusal_of}
+use Rattle.mesh_sim.specs.declared.event.AirEvent.{AirEvent}
+use Rattle.mesh_sim.specs.declared.event.AirEvent.TheVariants.{Heard, ToChip, Done}
+use Rattle.mesh_sim.specs.declared.fate.Fate.{Fate}
+use Rattle.mesh_sim.specs.declared.fate.Fate.TheVariants.{Lost, Dead, Missed, AtChip, AtDevice}
+use Rattle.mesh_sim.specs.Routes.{IsRoute, backwards}
+use Rattle.mesh_sim.specs.Air.{AirState, is_joined, departing}
+use Rattle.mesh_sim.specs.Fates.{Mesh, fate_of, listener_of}
+use Rattle.mesh_sim.specs.Steps.{AirStep, Arrives, Repeats, mesh_after, mesh_outs, MayHappen, mesh_after_all, mesh_outs_all, MayAllHappen, Did, Stops, Delivers, IsCut, IsArrival, HasHeard, HasPerhaps, landed, acknowledged, status_of, answered, answered_if, air_hearing, outs_hearing, heard_at, arriving, arriving_as, arrival_outs, arrival_outs_as, MayArrive, MayArriveIf, repeating, repeating_by, repeating_at, repeat_outs, repeat_outs_by, repeat_outs_at, MayRepeat, MayRepeatBy, MayRepeatAt}
+
+abbrev pub States : Type 0
+States = List State
+
+abbrev pub mesh : AirState → States → Mesh
+mesh air devices = record { air = air; devices = devices }
+
+-- one list of steps after another
+mesh_after_all-append : (m : Mesh) (xs ys : List AirStep) → mesh_after_all m (xs ++ ys) ≡ mesh_after_all (mesh_after_all m xs) ys
+mesh_after_all-append m [] ys = refl
+mesh_after_all-append m (x ∷ xs) ys = mesh_after_all-append (mesh_after m x) xs ys
+
+mesh_outs_all-append : (m : Mesh) (xs ys : List AirStep) → mesh_outs_all m (xs ++ ys) ≡ mesh_outs_all m xs ++ mesh_outs_all (mesh_after_all m xs) ys
+mesh_outs_all-append m [] ys = refl
+mesh_outs_all-append m (x ∷ xs) ys =
+    ap (λ l. mesh_outs m x ++ l) (mesh_outs_all-append (mesh_after m x) xs ys) ∙ sym (append_assoc (mesh_outs m x) (mesh_outs_all (mesh_after m x) xs) (mesh_outs_all (mesh_after_all (mesh_after m x) xs) ys))
+
+MayAllHappen-append : (m : Mesh) (xs ys : List AirStep) → MayAllHappen m xs → MayAllHappen (mesh_after_all m xs) ys → MayAllHappen m (xs ++ ys)
+MayAllHappen-append m [] ys first more = more
+MayAllHappen-append m (x ∷ xs) ys first more = (first.0, MayAllHappen-append (mesh_after m x) xs ys first.1 more)
+
+outs_then : (before mid all xs ys : List AirEvent) → mid ≡ before ++ xs → all ≡ mid ++ ys → all ≡ before ++ (xs ++ ys)
+outs_then before mid all xs ys first more = more ∙ (ap (λ l. l ++ ys) first ∙ append_assoc before xs ys)
+
+-- nothing was done
+pub did_nothing : (old : AirState) (ds : States) (all : List AirEvent) → Did [] old ds old ds all all
+did_nothing old ds all = record { may = tt; mesh = refl; outs = sym (append-nil all) }
+
+pub did_both : (xs ys : List AirStep) (a b c : AirState) (d e f : States) (before mid all : List AirEvent) → Did xs a d b e before mid → Did ys b e c f mid all → Did (xs ++ ys) a d c f before all
+did_both xs ys a b c d e f before mid all first more = record {
+  may = MayAllHappen-append (mesh a d) xs ys first.may (subst (λ (m : Mesh). MayAllHappen m ys) first.mesh more.may);
+  mesh = more.mesh ∙ (ap (λ (m : Mesh). mesh_after_all m ys) first.mesh ∙ sym (mesh_after_all-append (mesh a d) xs ys));
+  outs = outs_then before mid all (mesh_outs_all (mesh a d) xs) (mesh_outs_all (mesh b e) ys) first.outs more.outs
+      ∙ ap (λ l. before ++ l) (ap (λ (m : Mesh). mesh_outs_all (mesh a d) xs ++ mesh_outs_all m ys) first.mesh ∙ sym (mesh_outs_all-append (mesh a d) xs ys));
+}
+
+-- it stops where nothing was told, and a device may have done its part
+pub stop_now : (old new : AirState) (ds ds' : States) (before all : List AirEvent) → new ≡ old → all ≡ before → IsCut (mesh old ds) ds' → Stops old ds new ds' before all
+stop_now old new ds ds' before all same told cut = record {
+  steps = [];
+  arrivals = tt;
+  may = tt;
+  air_is = same;
+  cut = cut;
+  outs = told ∙ sym (append-nil before);
+}
+
+-- after steps that were done
+pub stop_then : (xs : List AirStep) (a b c : AirState) (d e f : States) (before mid all : List AirEvent) → All IsArrival xs → Did xs a d b e before mid → Stops b e c f mid all → Stops a d c f before all
+stop_then xs a b c d e f before mid all arrive first more = record {
+  steps = xs ++ more.steps;
+  arrivals = All-append IsArrival xs more.steps arrive more.arrivals;
+  may = MayAllHappen-append (mesh a d) xs more.steps first.may (subst (λ (m : Mesh). MayAllHappen m more.steps) first.mesh more.may);
+  air_is = more.air_is ∙ ap (λ (m : Mesh). m.air) whole;
+  cut = subst (λ (m : Mesh). IsCut m f) whole more.cut;
+  outs = outs_then before mid all (mesh_outs_all (mesh a d) xs) (mesh_outs_all (mesh b e) more.steps) first.outs more.outs
+      ∙ ap (λ l. before ++ l) (ap (λ (m : Mesh). mesh_outs_all (mesh a d) xs ++ mesh_outs_all m more.steps) first.mesh ∙ sym (mesh_outs_all-append (mesh a d) xs more.steps));
+}
+  where
+    whole : mesh_after_all (mesh b e) more.steps ≡ mesh_after_all (mesh a d) (xs ++ more.steps)
+    whole = ap (λ (m : Mesh). mesh_after_all m more.steps) first.mesh ∙ sym (mesh_after_all-append (mesh a d) xs more.steps)
+
+-- the next frame arrives
+module _ (old new : AirState) (ds later : States) (frame : Flown) (fate : Fate) (drawn : List ℕ) (route : Option Route) (before all : List AirEvent)
+    (next : next_of old.frames ≡ Some frame) (is : fate ≡ fate_of old.network ds frame) where
+  pub arrive_did : MayArrive (mesh old ds) frame fate route → mesh new later ≡ arriving_as (mesh old ds) frame fate drawn route
+      → all ≡ before ++ arrival_outs_as (mesh old ds) (old.frames.landed + 1) frame fate drawn route
+      → Did (Arrives drawn route ∷ []) old ds new later before all
+  unfolding mesh_after mesh_outs MayHappen
+  arrive_did may moves tells = record {
+    may = (subst (λ (o : Option Flown). MayArriveIf (mesh old ds) o route) (sym next) (subst (λ (f : Fate). MayArrive (mesh old ds) frame f route) is may), tt);
+    mesh = moves ∙ (ap (λ (f : Fate). arriving_as (mesh old ds) frame f drawn route) is ∙ ap (λ (o : Option Flown). arriving (mesh old ds) o drawn route) (sym next));
+    outs = tells ∙ ap (λ l. before ++ l) (ap (λ (f : Fate). arrival_outs_as (mesh old ds) (old.frames.landed + 1) frame f drawn route) is
+        ∙ (ap (λ (o : Option Flown). arrival_outs (mesh old ds) o drawn route) (sym next) ∙ sym (append-nil (arrival_outs (mesh old ds) (next_of old.frames) drawn route))));
+  }
+
+  pub arrive_cut : MayArrive (mesh old ds) frame fate route → later ≡ (arriving_as (mesh old ds) frame fate drawn route).devices → IsCut (mesh old ds) later
+  unfolding mesh_after MayHappen
+  arrive_cut may moves = inr (
+    Arrives drawn route,
+    subst (λ (o : Option Flown). MayArriveIf (mesh old ds) o route) (sym next) (subst (λ (f : Fate). MayArrive (mesh old ds) frame f route) is may),
+    moves ∙ (ap (λ (f : Fate). (arriving_as (mesh old ds) frame f drawn route).devices) is ∙ ap (λ (o : Option Flown). (arriving (mesh old ds) o drawn route).devices) (sym next)),
+  )
+
+-- a device at a place of the list hears
+pub hears_at : (air new : AirState) (ds later : States) (place node number : ℕ) (old d : State) (payload drawn : List ℕ) (route : Option Route) (end before all : List AirEvent)
+    → slice_get ds place ≡ Some old → later ≡ set ds place d → HasHeard air node payload drawn route old d new number end before all
+    → mesh new later ≡ heard_at (mesh air ds) place (slice_get ds place) node route (Hears payload drawn)
+hears_at air new ds later place node number old d payload drawn route end before all at set_is heard =
+    ap (λ (a : AirState). mesh a later) heard.air_is
+    ∙ (ap (λ (l : States). mesh (air_hearing air node route old (Hears payload drawn)) l) (set_is ∙ ap (λ (x : State). set ds place x) heard.device)
+    ∙ ap (λ (o : Option State). heard_at (mesh air ds) place o node route (Hears payload drawn)) (sym at))
+
+-- what an arrival does to the counts of frames
+counts_putting : (air : AirState) (node : ℕ) (way : Option Route) (replies : List (List ℕ))
+    → ((answered air node way replies).frames.landed ≡ air.frames.landed) × (air.frames.sent ≤ (answered air node way replies).frames.sent)
+counts_putting air node way [] = (refl, omega arith)
+counts_putting air node way (reply ∷ replies) =
+    let rest = counts_putting (departing air node Homeward way reply) node way replies in
+    let one = one_more air node way reply in
+    (rest.0 ∙ one.0, let a = rest.1 in let b = one.1 in omega arith)
+  where
+    one_more : (air : AirState) (node : ℕ) (way : Option Route) (reply : List ℕ) → ((departing air node Homeward way reply).frames.landed ≡ air.frames.landed) × (air.frames.sent ≤ (departing air node Homeward way reply).frames.sent)
+    unfolding putting
+    one_more air node way reply = (refl, omega arith)
+
+counts_if : (b : Bool) (air : AirState) (node : ℕ) (way : Option Route) (replies : List (List ℕ))
+    → ((answered_if b air node way replies).frames.landed ≡ air.frames.landed) × (air.frames.sent ≤ (answered_if b air node way replies).frames.sent)
+counts_if true air node way replies = counts_putting air node way replies
+counts_if false air node way replies = (refl, omega arith)
+
+record Moves (old new : AirState) : Type 0 where
+  landed : new.frames.landed ≡ old.frames.landed + 1
+  sent : old.frames.sent ≤ new.frames.sent
+
+landed_moves : (air : AirState) → Moves air (landed air)
+unfolding landing
+landed_moves air = record { landed = refl; sent = omega arith }
+
+heard_moves : (air : AirState) (ds : States) (place node : ℕ) (o : Option State) (route : Option Route) (event : DeviceEvent) → Moves air (heard_at (mesh (landed (acknowledged air)) ds) place o node route event).air
+heard_moves air ds place node None route event = let m = landed_moves air in record { landed = landed_one air; sent = sent_one air }
+  where
+    landed_one : (air : AirState) → (landed (acknowledged air)).frames.landed ≡ air.frames.landed + 1
+    unfolding landing
+    landed_one air = refl
+    sent_one : (air : AirState) → air.frames.sent ≤ (landed (acknowledged air)).frames.sent
+    unfolding landing
+    sent_one air = omega arith
+heard_moves air ds place node (Some d) route event =
+    let c = counts_if (is_joined (landed (acknowledged air)) node) (landed (acknowledged air)) node (option_map backwards route) (device_replies d event) in
+    record { landed = c.0 ∙ landed_one air; sent = let a = c.1 in let b = sent_one air in omega arith }
+  where
+    landed_one : (air : AirState) → (landed (acknowledged air)).frames.landed ≡ air.frames.landed + 1
+    unfolding landing
+    landed_one air = refl
+    sent_one : (air : AirState) → air.frames.sent ≤ (landed (acknowledged air)).frames.sent
+    unfolding landing
+    sent_one air = omega arith
+
+moves_as : (air : AirState) (ds : States) (frame : Flown) (fate : Fate) (drawn : List ℕ) (route : Option Route) → Moves air (arriving_as (mesh air ds) frame fate drawn route).air
+moves_as air ds frame Lost drawn route = landed_moves air
+moves_as air ds frame (Dead from to) drawn route = landed_moves air
+moves_as air ds frame Missed drawn route = landed_moves air
+moves_as air ds frame AtChip drawn route = landed_moves air
+moves_as air ds frame (AtDevice place) drawn route = heard_moves air ds place frame.node (slice_get ds place) route (Hears frame.payload drawn)
+
+moves_if : (air : AirState) (ds : States) (o : Option Flown) (drawn : List ℕ) (route : Option Route) → MayArriveIf (mesh air ds) o route → Moves air (arriving (mesh air ds) o drawn route).air
+moves_if air ds None drawn route may = absurd may
+moves_if air ds (Some frame) drawn route may = moves_as air ds frame (fate_of air.network ds frame) drawn route
+
+arrived : (old new : AirState) (ds later : States) (drawn : List ℕ) (route : Option Route) (before all : List AirEvent) → Did (Arrives drawn route ∷ []) old ds new later before all → Moves old new
+unfolding mesh_after MayHappen
+arrived old new ds later drawn route before all did =
+    subst (λ (a : AirState). Moves old a) (sym (ap (λ (m : Mesh). m.air) did.mesh)) (moves_if old ds (next_of old.frames) drawn route did.may.0)
+
+-- so many frames arrived
+pub record Arrived (count : ℕ) (old : AirState) (ds : States) (new : AirState) (later : States) (before all : List AirEvent) : Type 0 where
+  pub steps : List AirStep
+  pub arrivals : All IsArrival steps
+  pub each : length steps ≡ count
+  pub did : Did steps old ds new later before all
+  pub landed : new.frames.landed ≡ old.frames.landed + count
+  pub sent : old.frames.sent ≤ new.frames.sent
+
+pub none_arrived : (old : AirState) (ds : States) (all : List AirEvent) → Arrived 0 old ds old ds all all
+none_arrived old ds all = record { steps = []; arrivals = tt; each = refl; did = did_nothing old ds all; landed = omega arith; sent = omega arith }
+
+pub one_arrived : (count : ℕ) (a b c : AirState) (d e f : States) (before mid all : List AirEvent) → Arrived count a d b e before mid
+    → (drawn : List ℕ) × (route : Option Route) × Did (Arrives drawn route ∷ []) b e c f mid all → Arrived (count + 1) a d c f before all
+one_arrived count a b c d e f before mid all first more =
+    let moves = arrived b c e f more.0 more.1 mid all more.2 in record {
+      steps = first.steps ++ Arrives more.0 more.1 ∷ [];
+      arrivals = All-append IsArrival first.steps (Arrives more.0 more.1 ∷ []) first.arrivals (tt, tt);
+      each = length-append first.steps (Arrives more.0 more.1 ∷ []) ∙ ap (λ n. n + 1) first.each;
+      did = did_both first.steps (Arrives more.0 more.1 ∷ []) a b c d e f before mid all first.did more.2;
+      landed = let x = moves.landed in let y = first.landed in omega arith;
+      sent = let x = moves.sent in let y = first.sent in omega arith;
+    }
+
+pub all_arrived : (count : ℕ) (a b : AirState) (d e : States) (before all : List AirEvent) → count ≡ a.frames.sent - a.frames.landed → Arrived count a d b e before all → Delivers a d b e before all
+all_arrived count a b d e before all whole first = record { steps = first.steps; arrivals = first.arrivals; each = first.each ∙ whole; did = first.did }
