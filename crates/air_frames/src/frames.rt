@@ -1,6 +1,6 @@
 //! The frames that are kept.
 
-ghost use Rattle.std.specs.Prelude.{◌≡◌, ℕ, ◌+◌, ◌-◌, ◌<◌, ◌≤◌, ◌^◌, ◌⊎◌, [], ◌∷◌, ◌++◌, nat_lt, length, slice_set, IfOk, OnOk, OnErr, IfSome, MatchResult, Some, None};
+ghost use Rattle.std.specs.Prelude.{◌≡◌, ℕ, ◌+◌, ◌-◌, ◌<◌, ◌≤◌, ◌^◌, ◌⊎◌, [], ◌∷◌, ◌++◌, nat_lt, length, slice_set, IfOk, OnOk, OnErr, IfSome, IsSome, MatchResult, Some, None};
 ghost use Rattle.std.specs.Option.{option_copied};
 ghost use Rattle.air_frames.specs.Flown.{IsSound};
 ghost use Rattle.air_frames.specs.Frames.{FramesState, no_frames, peer_of, putting, landing, next_of, remembered};
@@ -150,7 +150,8 @@ impl Frames {
 
     /// The frame that arrives next.
     pub fn next(&self) -> Option<&Frame>
-        ensures { option_copied result ≡ next_of self.now.state }
+        ensures value { option_copied result ≡ next_of self.now.state }
+        ensures some { self.now.state.landed < self.now.state.sent → IsSome result }
     {
         if self.landed == self.sent {
             return None;

@@ -1,5 +1,5 @@
 -- Steps of the loops over devices, repeaters and changes: over plain lists.
-use Rattle.std.proofs.Common.{◌≡◌, ◌≢◌, ℕ, zero, suc, ◌+◌, ◌-◌, ◌<◌, ◌≤◌, ◌==◌, ◌⊎◌, inl, inr, if◌then◌else◌, Bool, true, false, Option, Some, None, List, [], ◌∷◌, ◌++◌, length, take, drop, map, get_or, slice_get, option_map, refl, ap, sym, subst, ◌∙◌, append_assoc, arith}
+use Rattle.std.proofs.Common.{◌≡◌, ◌≢◌, ℕ, zero, suc, ◌+◌, ◌-◌, ◌<◌, ◌≤◌, ◌==◌, ◌⊎◌, inl, inr, if◌then◌else◌, Bool, true, false, Option, Some, None, List, [], ◌∷◌, ◌++◌, length, take, drop, map, get_or, set, slice_get, option_map, refl, ap, sym, subst, ◌∙◌, append_assoc, arith}
 use Rattle.std.proofs.lemmas.Option.{slice_get-map, slice_get_read}
 use Rattle.std.proofs.lemmas.Bool.{eq-eqb}
 use Rattle.std.proofs.lemmas.Bool.Decides.{eqb_tells}
@@ -47,7 +47,7 @@ place_passed node devices i device before at other = subst (λ n. place_of node 
 
 -- none is of the node
 pub place_none : {A : Type 0} (seen : A → State) (node : ℕ) (xs : List A) (i : ℕ) → length xs ≤ i → place_of node (take i (map seen xs)) ≡ None → place_of node (map seen xs) ≡ None
-place_none seen node xs i past none = subst (λ ds. place_of node ds ≡ None) (whole xs i past) none
+place_none {A = A} seen node xs i past none = subst (λ ds. place_of node ds ≡ None) (whole xs i past) none
   where
     whole : (xs : List A) (i : ℕ) → length xs ≤ i → take i (map seen xs) ≡ map seen xs
     whole [] zero past = refl
@@ -67,3 +67,9 @@ change_more out more whole node at at' next k k' left here further added told =
 -- all are told
 pub changes_all : (out whole : List AirEvent) (node at k : ℕ) → k ≡ 0 → out ++ changed node at k ≡ whole → out ≡ whole
 changes_all out whole node at k none told = sym (append-nil out) ∙ (sym (ap (λ n. out ++ changed node at n) none) ∙ told)
+
+-- a value that is put at a place of a list is seen there
+pub seen_set : {A B : Type 0} (seen : A → B) (xs : List A) (i : ℕ) (y : A) → map seen (set xs i y) ≡ set (map seen xs) i (seen y)
+seen_set seen [] i y = refl
+seen_set seen (x ∷ xs) zero y = refl
+seen_set seen (x ∷ xs) (suc i) y = ap (λ l. seen x ∷ l) (seen_set seen xs i y)

@@ -9,7 +9,7 @@ use Rattle.mesh_sim.specs.Steps.{answered, answers, sent_event}
 
 -- what is left from a place on begins with what stands there
 pub rest_at : {A : Type 0} (xs : List A) (i : ℕ) (x : A) → slice_get xs i ≡ Some x → drop i xs ≡ x ∷ drop (i + 1) xs
-rest_at xs i x at = go xs i at ∙ ap (λ n. x ∷ drop n xs) (let e : suc i ≡ i + 1 = omega arith in e)
+rest_at {A = A} xs i x at = go xs i at ∙ ap (λ n. x ∷ drop n xs) (let e : suc i ≡ i + 1 = omega arith in e)
   where
     go : (xs : List A) (i : ℕ) → slice_get xs i ≡ Some x → drop i xs ≡ x ∷ drop (suc i) xs
     go [] i at = absurd cc

@@ -7,6 +7,7 @@ use Rattle.std.specs.Cmp.Lexicographic.{slice_cmp}
 use Rattle.std.specs.FinMap.{nat_cmp-IsAntisymmetric, slice_cmp-IsAntisymmetric}
 use Rattle.std.proofs.lemmas.Cmp.{nat_list_cmp_total}
 use Rattle.std.proofs.lemmas.List.{take-append-drop, length-take-le}
+use Rattle.std.proofs.lemmas.List.Elements.{All-head, All-tail}
 use Rattle.route_table.specs.declared.route.Route.{Route}
 use Rattle.route_table.specs.Route.{via}
 use Rattle.route_table.specs.Network.{Network}
@@ -18,8 +19,14 @@ use Rattle.mesh_sim.specs.Air.{AirState, departing, going_home}
 -- two lists of which neither comes after the other are one
 level : (xs ys : List ℕ) (r : Ordering) → slice_cmp nat_cmp xs ys ≡ r → IsTrue (is_le r) → IsTrue (is_le (ordering_reverse r)) → xs ≡ ys
 level xs ys Equal e p q = slice_cmp-IsAntisymmetric nat_cmp-IsAntisymmetric xs ys e
-level xs ys Less e p q = absurd q
-level xs ys Greater e p q = absurd p
+level xs ys Less e p q = absurd (no q)
+  where
+    no : IsTrue (is_le (ordering_reverse Less)) → ⊥
+    no h = cc
+level xs ys Greater e p q = absurd (no p)
+  where
+    no : IsTrue (is_le Greater) → ⊥
+    no h = cc
 
 one_walk : (xs ys : List ℕ) → ComesFirst xs ys → ComesFirst ys xs → xs ≡ ys
 one_walk xs ys (inl fewer) (inl more) = absurd (omega arith)
@@ -35,8 +42,8 @@ zeros [] [] long none same = refl
 zeros [] (y ∷ ys) long none same = absurd cc
 zeros (x ∷ xs) [] long none same = absurd cc
 zeros (x ∷ xs) (y ∷ ys) long none same =
-    let tails = zeros xs ys (let e : length xs ≡ length ys = omega arith in e) none.1 same.1 in
-    ap (λ z. z ∷ xs) (none.0 ∙ sym same.0) ∙ ap (λ zs. y ∷ zs) tails
+    let tails = zeros xs ys (let e : length xs ≡ length ys = omega arith in e) (All-tail (λ n. n ≡ 0) x xs none) (All-tail (λ n. n ≡ 0) y ys same) in
+    ap (λ z. z ∷ xs) (All-head (λ n. n ≡ 0) x xs none ∙ sym (All-head (λ n. n ≡ 0) y ys same)) ∙ ap (λ zs. y ∷ zs) tails
 
 length_via : (net : Network) (to : ℕ) (r : Route) → IsLeast net to r → length (via r) ≡ r.count
 length_via net to r is = length-take-le r.count r.hops (let f = is.few in let p = is.places in omega arith)

@@ -272,6 +272,16 @@ pub record Stops (old : AirState) (devices : List State) (new : AirState) (later
 abbrev pub HasPerhaps : AirState → ℕ → State → State → DeviceEvent → Type 0
 HasPerhaps air node old new event = (new ≡ old) ⊎ ((route : Option Route) × IsRoute air.network node route × (new ≡ device_after old event))
 
+-- the next frame, with what is read of it
+pub record Comes (air : AirState) (devices : List State) (heading : Heading) (fate : Fate) (number node : ℕ) (payload : List ℕ) : Type 0 where
+  pub frame : Flown
+  pub next : next_of air.frames ≡ Some frame
+  pub heads : heading ≡ frame.heading
+  pub becomes : fate ≡ fate_of air.network devices frame
+  pub numbered : number ≡ air.frames.landed + 1
+  pub ends : node ≡ frame.node
+  pub carries : payload ≡ frame.payload
+
 -- a device heard a payload, and what it did was told, with these events at the end
 pub record HasHeard (air : AirState) (node : ℕ) (payload drawn : List ℕ) (route : Option Route) (old new : State) (later : AirState) (number : ℕ) (end before all : List AirEvent) : Type 0 where
   pub way : IsRoute air.network node route

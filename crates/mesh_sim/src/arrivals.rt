@@ -10,8 +10,8 @@ ghost use Rattle.air_frames.specs.declared.frame.Heading.TheVariants.{Homeward};
 ghost use Rattle.air_frames.specs.Frames.{landing, next_of};
 ghost use Rattle.mesh_sim.specs.Air.{is_joined, departing};
 ghost use Rattle.mesh_sim.specs.Routes.{IsRoute, backwards};
-ghost use Rattle.mesh_sim.specs.Fates.{Mesh};
-ghost use Rattle.mesh_sim.specs.Steps.{AirStep, Arrives, Did, Stops, Delivers, landed, acknowledged, status_of, done_of, changed, sent_event, answered, answers, answered_if, answers_if, HasHeard, HasPerhaps};
+ghost use Rattle.mesh_sim.specs.Fates.{HearsWithin};
+ghost use Rattle.mesh_sim.specs.Steps.{Arrives, Did, Stops, Delivers, landed, acknowledged, status_of, done_of, changed, sent_event, answered, answers, answered_if, answers_if, HasHeard, HasPerhaps, Comes};
 
 use crate::air::{NO_ROUTE, copy_of};
 use crate::devices::{changes_of, hear_one};
@@ -36,6 +36,14 @@ pub(crate) struct Hearing {
     changes: u64,
     replies: Replies,
     way: Option<Route>,
+}
+
+/// The frame that arrives next, and what becomes of it.
+#[derive(Drop)]
+struct Coming {
+    heading: Heading,
+    fate: Fate,
+    arrival: Arrival,
 }
 
 /// A frame that arrives or is repeated.
@@ -81,16 +89,12 @@ impl Air {
         ensures err { OnErr result (Stops self.old.state (map (λ d. state d) devices.old.items) self.new.state (map (λ d. state d) devices.new.items) out.old.items out.new.items) }
         ensures kept { length devices.new.items ≡ length devices.old.items }
     {
-        let Some(frame) = self.frames.next() else {
-            unreachable!()
-        };
-        let heading = frame.heading();
-        let fate = fate_now(&self.table, frame, devices);
-        let arrival = Arrival {
-            number: self.frames.next_number(),
-            node: frame.node(),
-            payload: copy_of(frame.payload()),
-        };
+        let coming = self.coming(devices);
+        let Coming {
+            heading,
+            fate,
+            arrival,
+        } = coming;
         match fate {
             Fate::Lost => self.pass(AirEvent::Lost(arrival.number), heading, None, out),
             Fate::Dead(from, to) => {
@@ -102,6 +106,27 @@ impl Air {
                 let drawn = draw.next();
                 self.arrive_at_device(&arrival, &mut devices[place], drawn, out)
             }
+        }
+    }
+
+    /// The frame that arrives next, and what becomes of it.
+    fn coming(&self, devices: &Vec<Box<dyn Device>>) -> Coming
+        requires few { length devices.now.items < 2 ^ 64 }
+        requires flying { self.now.state.frames.landed < self.now.state.frames.sent }
+        ensures comes { Comes self.now.state (map (λ d. state d) devices.now.items) result.heading result.fate result.arrival.number result.arrival.node result.arrival.payload }
+        ensures within { HearsWithin result.fate (length devices.now.items) }
+    {
+        let Some(frame) = self.frames.next() else {
+            unreachable!()
+        };
+        Coming {
+            heading: frame.heading(),
+            fate: fate_now(&self.table, frame, devices),
+            arrival: Arrival {
+                number: self.frames.next_number(),
+                node: frame.node(),
+                payload: copy_of(frame.payload()),
+            },
         }
     }
 
@@ -210,6 +235,7 @@ impl Air {
             × (hearing.way ≡ option_map backwards route)) }
         ensures sound { IfOk result (λ hearing. ForSome hearing.way (λ r. IsSound r)) }
         ensures room { OnOk result (8 ≤ self.new.room) }
+        ensures places { IfOk result (λ hearing. hearing.first_change + hearing.changes < 2 ^ 64) }
         ensures out_room { IfOk result (λ hearing. hearing.changes + 10 ≤ out.new.room) }
         ensures cut { OnErr result (HasPerhaps self.old.state arrival.now.node (state device.old) (state device.new) (Hears arrival.now.payload drawn)) }
     {
@@ -241,6 +267,7 @@ impl Air {
     )
         requires room { 8 ≤ self.old.room }
         requires out_room { hearing.now.changes + 10 ≤ out.old.room }
+        requires places { hearing.now.first_change + hearing.now.changes < 2 ^ 64 }
         requires sound { ForSome hearing.now.way (λ r. IsSound r) }
         ensures state { self.new.state ≡ answered_if (is_joined self.old.state arrival.now.node) self.old.state arrival.now.node hearing.now.way hearing.now.replies }
         ensures outs { out.new.items ≡ out.old.items ++ AirEvent.Heard arrival.now.number
