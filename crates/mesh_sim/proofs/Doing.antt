@@ -17,7 +17,7 @@ use Rattle.mesh_sim.specs.declared.fate.Fate.TheVariants.{Lost, Dead, Missed, At
 use Rattle.mesh_sim.specs.Routes.{IsRoute, backwards}
 use Rattle.mesh_sim.specs.Air.{AirState, is_joined, departing}
 use Rattle.mesh_sim.specs.Fates.{Mesh, HearsWithin, fate_of, listener_of}
-use Rattle.mesh_sim.specs.Steps.{AirStep, Arrives, Repeats, mesh_after, mesh_outs, MayHappen, mesh_after_all, mesh_outs_all, MayAllHappen, Did, Stops, Delivers, IsCut, IsArrival, HasHeard, HasPerhaps, Comes, done_of, outs_at, landed, acknowledged, status_of, answered, answered_if, air_hearing, outs_hearing, heard_at, arriving, arriving_as, arrival_outs, arrival_outs_as, MayArrive, MayArriveIf, repeating, repeating_by, repeating_at, repeat_outs, repeat_outs_by, repeat_outs_at, MayRepeat, MayRepeatBy, MayRepeatAt}
+use Rattle.mesh_sim.specs.Steps.{AirStep, Arrives, Repeats, mesh_after, mesh_outs, MayHappen, mesh_after_all, mesh_outs_all, MayAllHappen, Did, Stops, Delivers, IsCut, IsArrival, HasHeard, HasPerhaps, Comes, done_of, outs_at, landed, acknowledged, status_of, answered, answered_if, air_hearing, outs_hearing, heard_at, arriving, arriving_as, arrival_outs, arrival_outs_as, MayArrive, MayArriveIf, repeating, repeating_by, repeat_outs, repeat_outs_by, MayRepeat, MayRepeatBy, MayHearAgain, heard_again, outs_again, ComesAgain, IsHeardAgain, IsHeardPerhaps}
 
 abbrev pub States : Type 0
 States = List State
@@ -288,3 +288,83 @@ on_err (Err e) P holds = holds
 
 pub heard_within : (fate : Fate) (place count : ℕ) → fate ≡ AtDevice place → HearsWithin fate count → place < count
 heard_within fate place count is within = subst (λ (f : Fate). HearsWithin f count) is within
+
+-- a frame is heard again
+module _ (old new : AirState) (ds later : States) (frame_number : ℕ) (heading : Heading) (number node : ℕ) (payload drawn : List ℕ) (route : Option Route) (before all : List AirEvent)
+    (comes : ComesAgain old frame_number heading number node payload) where
+  again_did : (other : Heading) → heading ≡ other → MayRepeatBy other (mesh old ds) comes.frame route → mesh new later ≡ repeating_by other (mesh old ds) comes.frame drawn route
+      → all ≡ before ++ repeat_outs_by other (mesh old ds) frame_number comes.frame drawn route → Did (Repeats frame_number drawn route ∷ []) old ds new later before all
+  unfolding mesh_after mesh_outs MayHappen
+  again_did other is may moves told =
+      let same : other ≡ comes.frame.heading = sym is ∙ comes.heads in record {
+        may = ((comes.allowed, subst (λ (o : Option Flown). MayRepeat (mesh old ds) o route) (sym comes.kept) (subst (λ (h : Heading). MayRepeatBy h (mesh old ds) comes.frame route) same may)), tt);
+        mesh = moves ∙ (ap (λ (h : Heading). repeating_by h (mesh old ds) comes.frame drawn route) same ∙ ap (λ (o : Option Flown). repeating (mesh old ds) o drawn route) (sym comes.kept));
+        outs = told ∙ ap (λ l. before ++ l) (ap (λ (h : Heading). repeat_outs_by h (mesh old ds) frame_number comes.frame drawn route) same
+            ∙ (ap (λ (o : Option Flown). repeat_outs (mesh old ds) frame_number o drawn route) (sym comes.kept) ∙ sym (append-nil (repeat_outs (mesh old ds) frame_number (remembered old.frames frame_number) drawn route))));
+      }
+
+  pub chip_again : heading ≡ Homeward → mesh new later ≡ mesh old ds → all ≡ before ++ tells.Heard number ∷ tells.ToChip number node payload ∷ [] → Did (Repeats frame_number drawn route ∷ []) old ds new later before all
+  chip_again is same told = again_did Homeward is tt same
+      (told ∙ ap (λ l. before ++ l) (ap (λ n. tells.Heard n ∷ tells.ToChip n node payload ∷ []) comes.numbered
+      ∙ (ap (λ n. tells.Heard frame_number ∷ tells.ToChip frame_number n payload ∷ []) comes.ends
+      ∙ ap (λ p. tells.Heard frame_number ∷ tells.ToChip frame_number comes.frame.node p ∷ []) comes.carries)))
+
+  pub device_again : heading ≡ Outward → IsHeardAgain old ds new later number node payload drawn route before all → Did (Repeats frame_number drawn route ∷ []) old ds new later before all
+  device_again is heard = again_did Outward is
+      (subst (λ n. MayHearAgain old n (listener_of n ds) route) comes.ends heard.may)
+      (heard.moves ∙ (ap (λ n. heard_again (mesh old ds) (listener_of n ds) n route (Hears payload drawn)) comes.ends
+      ∙ ap (λ p. heard_again (mesh old ds) (listener_of comes.frame.node ds) comes.frame.node route (Hears p drawn)) comes.carries))
+      (heard.told ∙ ap (λ l. before ++ l) (ap (λ n. outs_again (mesh old ds) (listener_of node ds) n node route (Hears payload drawn)) comes.numbered
+      ∙ (ap (λ n. outs_again (mesh old ds) (listener_of n ds) frame_number n route (Hears payload drawn)) comes.ends
+      ∙ ap (λ p. outs_again (mesh old ds) (listener_of comes.frame.node ds) frame_number comes.frame.node route (Hears p drawn)) comes.carries)))
+
+  pub device_again_cut : heading ≡ Outward → IsHeardPerhaps old ds later node payload → IsCut (mesh old ds) later
+  unfolding mesh_after MayHappen
+  device_again_cut is (inl same) = inl same
+  device_again_cut is (inr (drawn', route', may, moves)) =
+      let same : Outward ≡ comes.frame.heading = sym is ∙ comes.heads in
+      inr (Repeats frame_number drawn' route',
+      (comes.allowed, subst (λ (o : Option Flown). MayRepeat (mesh old ds) o route') (sym comes.kept) (subst (λ (h : Heading). MayRepeatBy h (mesh old ds) comes.frame route') same
+          (subst (λ n. MayHearAgain old n (listener_of n ds) route') comes.ends may))),
+      moves ∙ (ap (λ n. (heard_again (mesh old ds) (listener_of n ds) n route' (Hears payload drawn')).devices) comes.ends
+      ∙ (ap (λ p. (heard_again (mesh old ds) (listener_of comes.frame.node ds) comes.frame.node route' (Hears p drawn')).devices) comes.carries
+      ∙ (ap (λ (h : Heading). (repeating_by h (mesh old ds) comes.frame drawn' route').devices) same ∙ ap (λ (o : Option Flown). (repeating (mesh old ds) o drawn' route').devices) (sym comes.kept)))))
+
+-- the device that hears it again, or none
+pub none_again : (air : AirState) (ds : States) (number node : ℕ) (payload : List ℕ) (all : List AirEvent) → None ≡ listener_of node ds → IsHeardAgain air ds air ds number node payload [] None all all
+none_again air ds number node payload all is = record {
+  may = subst (λ (o : Option ℕ). MayHearAgain air node o None) is tt;
+  moves = ap (λ (o : Option ℕ). heard_again (mesh air ds) o node None (Hears payload [])) is;
+  told = sym (append-nil all) ∙ ap (λ (o : Option ℕ). all ++ outs_again (mesh air ds) o number node None (Hears payload [])) is;
+}
+
+module _ {V E : Type 0} (r : Result V E) (old new : AirState) (ds later : States) (place : ℕ) (d d' : State) (number node : ℕ) (payload drawn : List ℕ) (before all : List AirEvent)
+    (is : Some place ≡ listener_of node ds) (at : slice_get ds place ≡ Some d) (set_is : later ≡ set ds place d') where
+  pub one_again : OnOk r ((route : Option Route) × HasHeard old node payload drawn route d d' new number [] before all)
+      → OnOk r ((drawn : List ℕ) × (route : Option Route) × IsHeardAgain old ds new later number node payload drawn route before all)
+  one_again = go r
+    where
+      go : (s : Result V E) → OnOk s ((route : Option Route) × HasHeard old node payload drawn route d d' new number [] before all)
+          → OnOk s ((drawn : List ℕ) × (route : Option Route) × IsHeardAgain old ds new later number node payload drawn route before all)
+      go (Err e) heard = tt
+      go (Ok v) (route, heard) = (drawn, route, record {
+        may = subst (λ (o : Option ℕ). MayHearAgain old node o route) is heard.way;
+        moves = hears_at old new ds later place node number d d' payload drawn route [] before all at set_is heard
+            ∙ ap (λ (o : Option ℕ). heard_again (mesh old ds) o node route (Hears payload drawn)) is;
+        told = heard.outs ∙ ap (λ l. before ++ l) (append-nil (outs_hearing old number node route d (Hears payload drawn))
+            ∙ (ap (λ (o : Option State). outs_at (mesh old ds) o number node route (Hears payload drawn)) (sym at)
+            ∙ ap (λ (o : Option ℕ). outs_again (mesh old ds) o number node route (Hears payload drawn)) is));
+      })
+
+  pub perhaps_again : OnErr r (HasPerhaps old node d d' (Hears payload drawn)) → OnErr r (IsHeardPerhaps old ds later node payload)
+  perhaps_again = go r
+    where
+      one : HasPerhaps old node d d' (Hears payload drawn) → IsHeardPerhaps old ds later node payload
+      one (inl same) = inl (set_is ∙ (ap (λ (x : State). set ds place x) same ∙ set_same ds place d at))
+      one (inr (route, way, after)) = inr (drawn, route, subst (λ (o : Option ℕ). MayHearAgain old node o route) is way,
+          set_is ∙ (ap (λ (x : State). set ds place x) after
+          ∙ (ap (λ (o : Option State). (heard_at (mesh old ds) place o node route (Hears payload drawn)).devices) (sym at)
+          ∙ ap (λ (o : Option ℕ). (heard_again (mesh old ds) o node route (Hears payload drawn)).devices) is)))
+      go : (s : Result V E) → OnErr s (HasPerhaps old node d d' (Hears payload drawn)) → OnErr s (IsHeardPerhaps old ds later node payload)
+      go (Ok v) perhaps = tt
+      go (Err e) perhaps = one perhaps

@@ -138,40 +138,39 @@ abbrev pub MayArriveIf : Mesh → Option Flown → Option Route → Type 0
 MayArriveIf mesh None route = ⊥
 MayArriveIf mesh (Some frame) route = MayArrive mesh frame (fate_of mesh.air.network mesh.devices frame) route
 
--- a frame is heard again: by the device of its node, where it is awake, or by node 1
-abbrev pub repeating_at : Mesh → Flown → Option ℕ → List ℕ → Option Route → Mesh
-repeating_at mesh frame None drawn route = mesh
-repeating_at mesh frame (Some place) drawn route =
-    heard_at mesh place (slice_get mesh.devices place) frame.node route (Hears frame.payload drawn)
+-- a frame of node 1 is heard again by the first device of its node where that is awake, and else by nobody
+abbrev pub MayHearAgain : AirState → ℕ → Option ℕ → Option Route → Type 0
+MayHearAgain air node None route = Unit {0}
+MayHearAgain air node (Some place) route = IsRoute air.network node route
 
+abbrev pub heard_again : Mesh → Option ℕ → ℕ → Option Route → DeviceEvent → Mesh
+heard_again mesh None node route event = mesh
+heard_again mesh (Some place) node route event = heard_at mesh place (slice_get mesh.devices place) node route event
+
+abbrev pub outs_again : Mesh → Option ℕ → ℕ → ℕ → Option Route → DeviceEvent → List AirEvent
+outs_again mesh None number node route event = []
+outs_again mesh (Some place) number node route event = outs_at mesh (slice_get mesh.devices place) number node route event
+
+-- a frame is heard again: by the device of its node, where it is awake, or by node 1
 abbrev pub repeating_by : Heading → Mesh → Flown → List ℕ → Option Route → Mesh
 repeating_by Homeward mesh frame drawn route = mesh
-repeating_by Outward mesh frame drawn route = repeating_at mesh frame (listener_of frame.node mesh.devices) drawn route
+repeating_by Outward mesh frame drawn route = heard_again mesh (listener_of frame.node mesh.devices) frame.node route (Hears frame.payload drawn)
 
 abbrev pub repeating : Mesh → Option Flown → List ℕ → Option Route → Mesh
 repeating mesh None drawn route = mesh
 repeating mesh (Some frame) drawn route = repeating_by frame.heading mesh frame drawn route
 
-abbrev pub repeat_outs_at : Mesh → ℕ → Flown → Option ℕ → List ℕ → Option Route → List AirEvent
-repeat_outs_at mesh number frame None drawn route = []
-repeat_outs_at mesh number frame (Some place) drawn route =
-    outs_at mesh (slice_get mesh.devices place) number frame.node route (Hears frame.payload drawn)
-
 abbrev pub repeat_outs_by : Heading → Mesh → ℕ → Flown → List ℕ → Option Route → List AirEvent
 repeat_outs_by Homeward mesh number frame drawn route = tells.Heard number ∷ tells.ToChip number frame.node frame.payload ∷ []
-repeat_outs_by Outward mesh number frame drawn route = repeat_outs_at mesh number frame (listener_of frame.node mesh.devices) drawn route
+repeat_outs_by Outward mesh number frame drawn route = outs_again mesh (listener_of frame.node mesh.devices) number frame.node route (Hears frame.payload drawn)
 
 abbrev pub repeat_outs : Mesh → ℕ → Option Flown → List ℕ → Option Route → List AirEvent
 repeat_outs mesh number None drawn route = []
 repeat_outs mesh number (Some frame) drawn route = repeat_outs_by frame.heading mesh number frame drawn route
 
-abbrev pub MayRepeatAt : Mesh → Flown → Option ℕ → Option Route → Type 0
-MayRepeatAt mesh frame None route = Unit {0}
-MayRepeatAt mesh frame (Some place) route = IsRoute mesh.air.network frame.node route
-
 abbrev pub MayRepeatBy : Heading → Mesh → Flown → Option Route → Type 0
 MayRepeatBy Homeward mesh frame route = Unit {0}
-MayRepeatBy Outward mesh frame route = MayRepeatAt mesh frame (listener_of frame.node mesh.devices) route
+MayRepeatBy Outward mesh frame route = MayHearAgain mesh.air frame.node (listener_of frame.node mesh.devices) route
 
 abbrev pub MayRepeat : Mesh → Option Flown → Option Route → Type 0
 MayRepeat mesh None route = ⊥
@@ -288,3 +287,24 @@ pub record HasHeard (air : AirState) (node : ℕ) (payload drawn : List ℕ) (ro
   pub device : new ≡ device_after old (Hears payload drawn)
   pub air_is : later ≡ air_hearing air node route old (Hears payload drawn)
   pub outs : all ≡ before ++ (outs_hearing air number node route old (Hears payload drawn) ++ end)
+
+-- a frame that may be repeated, with what is read of it
+pub record ComesAgain (air : AirState) (frame_number : ℕ) (heading : Heading) (number node : ℕ) (payload : List ℕ) : Type 0 where
+  pub frame : Flown
+  pub allowed : refusal_of air.frames frame_number ≡ None
+  pub kept : remembered air.frames frame_number ≡ Some frame
+  pub heads : heading ≡ frame.heading
+  pub numbered : number ≡ frame_number
+  pub ends : node ≡ frame.node
+  pub carries : payload ≡ frame.payload
+
+-- what that says of a call
+pub record IsHeardAgain (old : AirState) (devices : List State) (new : AirState) (later : List State) (number node : ℕ) (payload drawn : List ℕ) (route : Option Route) (before all : List AirEvent) : Type 0 where
+  pub may : MayHearAgain old node (listener_of node devices) route
+  pub moves : record { air = new; devices = later } ≡ heard_again (record { air = old; devices = devices }) (listener_of node devices) node route (Hears payload drawn)
+  pub told : all ≡ before ++ outs_again (record { air = old; devices = devices }) (listener_of node devices) number node route (Hears payload drawn)
+
+-- the devices are as they were, or that device has heard
+abbrev pub IsHeardPerhaps : AirState → List State → List State → ℕ → List ℕ → Type 0
+IsHeardPerhaps air devices later node payload = (later ≡ devices) ⊎ ((drawn : List ℕ) × (route : Option Route) × MayHearAgain air node (listener_of node devices) route
+    × (later ≡ (heard_again (record { air = air; devices = devices }) (listener_of node devices) node route (Hears payload drawn)).devices))
