@@ -88,6 +88,13 @@ impl Air {
         self.table.set_link(a, b, live);
     }
 
+    /// How many sessions of a node have begun.
+    pub fn begun(&self, node: NodeId) -> u64
+        ensures { result ≡ (peer_of self.now.state.frames node).begun }
+    {
+        self.frames.begun(node)
+    }
+
     /// From now on so many sessions of a node have begun, no fewer than before.
     pub fn set_begun(&mut self, node: NodeId, sessions: u64)
         requires { (peer_of self.old.state.frames node).begun ≤ sessions }
