@@ -1,5 +1,5 @@
 -- What is kept after each event is of the history with its mark.
-use Rattle.std.proofs.Common.{◌≡◌, ◌≢◌, ℕ, zero, suc, ◌+◌, ◌-◌, ◌<◌, ◌≤◌, ◌==◌, ◌⊎◌, inl, inr, min, max, if◌then◌else◌, Bool, true, false, Option, Some, None, List, [], ◌∷◌, ◌++◌, length, drop, replicate, get_or, set, refl, ap, sym, subst, ◌∙◌, append_assoc, length-append, length-drop, length-set, get_or-set_same, get_or-set_other, arith}
+use Rattle.std.proofs.Common.{◌≡◌, ◌≢◌, ℕ, zero, suc, ◌+◌, ◌-◌, ◌<◌, ◌≤◌, ◌==◌, ◌⊎◌, inl, inr, if◌then◌else◌, Bool, true, false, Option, Some, None, List, [], ◌∷◌, ◌++◌, length, drop, replicate, get_or, set, refl, ap, sym, subst, ◌∙◌, length-append, length-drop, length-set, get_or-set_same, get_or-set_other, arith}
 use Rattle.std.proofs.lemmas.Bool.Decides.{eqb_tells}
 use Rattle.std.proofs.lemmas.List.{append-nil, drop-drop, drop-append-le, length-replicate}
 use Rattle.circular_buffer.specs.Buffer.{keep_last}
@@ -9,9 +9,9 @@ use Rattle.air_frames.specs.declared.frame.Heading.TheVariants.{Outward, Homewar
 use Rattle.air_frames.specs.declared.peer.Peer.{Peer}
 use Rattle.air_frames.specs.Nonces.{nonce_in, is_news}
 use Rattle.air_frames.specs.Peer.{no_counts, showing, showing_nonce, last_of}
-use Rattle.air_frames.specs.Flown.{Flown, flown}
+use Rattle.air_frames.specs.Flown.{flown}
 use Rattle.air_frames.specs.Frames.{FramesState, no_frames, peer_of, kept, putting, landing}
-use Rattle.air_frames.specs.History.{Mark, Goes, Begins, IsOf, GoBetweenNodes, goes_in, begins_in, last_in, last_after, later_nonce, same_heading, news_by, news_after, new_in, stamped}
+use Rattle.air_frames.specs.History.{Mark, Goes, Begins, IsOf, begins_in, last_in, last_after, later_nonce, same_heading, news_by, news_after, new_in, stamped}
 use Rattle.air_frames.proofs.Logs.{goes_in-append, begins_in-append, last_in-append, news_after-append, stamped-append, length-stamped, GoBetweenNodes-append, goes_in-begins, news_after-begins, last_in-begins, stamped-begins, between-begins, begins_in-begins}
 
 -- the last frames of the last frames
@@ -132,6 +132,7 @@ module _ (log : List Mark) (state : FramesState) (d : Departure) (within : d.nod
     where
       same_count : begins_in node more ≡ begins_in node log
       same_count = begins_in-append node log (Goes d ∷ []) ∙ (let z : (k : ℕ) → k + 0 ≡ k = λ k. omega arith in z (begins_in node log))
+
       by : (((d.node == node) ≡ true) × (d.node ≡ node)) ⊎ (((d.node == node) ≡ false) × (d.node ≢ node)) → (get_or peers node no_counts).begun ≡ begins_in node more
       by (inl (e, same)) = subst (λ (n : ℕ). (get_or peers n no_counts).begun ≡ begins_in n log) same (ap (λ (p : Peer). p.begun) at_own ∙ begun_now) ∙ sym same_count
       by (inr (e, other)) = ap (λ (p : Peer). p.begun) (at_other node other) ∙ (old.begun node fits ∙ sym same_count)
@@ -151,10 +152,11 @@ module _ (log : List Mark) (state : FramesState) (d : Departure) (within : d.nod
     where
       goes_on : last_in node heading None more ≡ last_after node heading d (last_in node heading None log)
       goes_on = last_in-append node heading None log (Goes d ∷ [])
+
       by : (((d.node == node) ≡ true) × (d.node ≡ node)) ⊎ (((d.node == node) ≡ false) × (d.node ≢ node)) → last_of (get_or peers node no_counts) heading ≡ last_in node heading None more
       by (inl (e, same)) =
           let own : last_of (get_or peers d.node no_counts) heading ≡ (if same_heading d.heading heading then later_nonce (nonce_in d.payload) (last_of peer heading) else last_of peer heading) =
-              ap (λ (p : Peer). last_of p heading) at_own ∙ showing-last peer d.heading heading (nonce_in d.payload) in
+          ap (λ (p : Peer). last_of p heading) at_own ∙ showing-last peer d.heading heading (nonce_in d.payload) in
           subst (λ (n : ℕ). last_of (get_or peers n no_counts) heading ≡ (if same_heading d.heading heading then later_nonce (nonce_in d.payload) (last_of (get_or state.peers n no_counts) heading) else last_of (get_or state.peers n no_counts) heading)) same own
           ∙ (ap (λ (l : Option (List ℕ)). if same_heading d.heading heading then later_nonce (nonce_in d.payload) l else l) (old.last node heading fits)
           ∙ (let step : (if same_heading d.heading heading then later_nonce (nonce_in d.payload) (last_in node heading None log) else last_in node heading None log) ≡ last_after node heading d (last_in node heading None log) = rw e refl in step ∙ sym goes_on))

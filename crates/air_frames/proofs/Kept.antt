@@ -1,5 +1,5 @@
 -- The ring and what is kept apart, against the list of frames that are kept: over plain lists.
-use Rattle.std.proofs.Common.{◌≡◌, ◌≢◌, ℕ, suc, ◌+◌, ◌-◌, ◌<◌, ◌≤◌, ◌⊎◌, inl, inr, Bool, true, false, ltb, min, max, if◌then◌else◌, Option, Some, None, List, [], ◌∷◌, ◌++◌, length, take, drop, get_or, set, replicate, All, subst, refl, ap, sym, ◌∙◌, append_assoc, length-append, length-drop, arith}
+use Rattle.std.proofs.Common.{◌≡◌, ℕ, ◌+◌, ◌-◌, ◌<◌, ◌≤◌, ◌⊎◌, inl, inr, Bool, true, false, ltb, min, if◌then◌else◌, Option, Some, None, List, [], ◌∷◌, ◌++◌, length, take, drop, get_or, set, replicate, All, subst, refl, ap, sym, ◌∙◌, append_assoc, length-append, length-drop, arith}
 use Rattle.std.proofs.lemmas.Bool.{ltb-true, ltb-false}
 use Rattle.std.proofs.lemmas.List.{take-append-drop, append-nil}
 use Rattle.std.proofs.lemmas.List.{get_or_default}
@@ -12,7 +12,7 @@ use Rattle.air_frames.specs.declared.peer.Peer.{Peer}
 use Rattle.air_frames.specs.Nonces.{nonce_in, is_news}
 use Rattle.air_frames.specs.Peer.{no_counts, showing, showing_nonce}
 use Rattle.air_frames.specs.Flown.{Flown, flown}
-use Rattle.air_frames.specs.Frames.{FramesState, kept, pushed_out, no_frames, putting, landing}
+use Rattle.air_frames.specs.Frames.{kept, pushed_out, no_frames, putting, landing}
 
 -- what a test of two numbers tells
 ltb_tells : (a b : ℕ) → ((ltb a b ≡ true) × (a < b)) ⊎ ((ltb a b ≡ false) × (b ≤ a))
@@ -100,7 +100,7 @@ pub put_state : (s l : ℕ) (late ring late' ring' : List Flown) (peers : List P
 unfolding putting
 put_state s l late ring late' ring' peers departure shown frame order full apart counted is apart' ring_is =
     let frames : late' ++ ring' ≡ keep_last (kept (s + 1) l) ((late ++ ring) ++ frame ∷ []) =
-        ap (λ xs. xs ++ ring') apart' ∙ (ap (λ xs. (late ++ pushed_out (ltb 4097 (s + 1 - l)) (ring ++ frame ∷ [])) ++ xs) ring_is ∙ put_frames s l late ring frame order full apart) in
+    ap (λ xs. xs ++ ring') apart' ∙ (ap (λ xs. (late ++ pushed_out (ltb 4097 (s + 1 - l)) (ring ++ frame ∷ [])) ++ xs) ring_is ∙ put_frames s l late ring frame order full apart) in
     ap (λ (fs : List Flown). record { sent = s + 1; landed = l; frames = fs; peers = set peers departure.node shown }) (frames ∙ ap (λ (f : Flown). keep_last (kept (s + 1) l) ((late ++ ring) ++ f ∷ [])) is)
     ∙ ap (λ (p : Peer). record { sent = s + 1; landed = l; frames = keep_last (kept (s + 1) l) ((late ++ ring) ++ flown departure p ∷ []); peers = set peers departure.node p }) counted
 

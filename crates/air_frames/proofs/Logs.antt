@@ -40,8 +40,13 @@ pub stamped-append : (log xs ys : List Mark) → stamped log (xs ++ ys) ≡ stam
 stamped-append log [] ys = ap (λ l. stamped l ys) (sym (append-nil log))
 stamped-append log (Goes d ∷ xs) ys =
     ap (λ fs. record {
-      node = d.node; heading = d.heading; route = d.route; lost = d.lost; payload = d.payload;
-      begun = begins_in d.node log; shown = news_after d.node [] (log ++ Goes d ∷ []);
+      node = d.node;
+      heading = d.heading;
+      route = d.route;
+      lost = d.lost;
+      payload = d.payload;
+      begun = begins_in d.node log;
+      shown = news_after d.node [] (log ++ Goes d ∷ []);
     } ∷ fs) (stamped-append (log ++ Goes d ∷ []) xs ys
     ∙ ap (λ l. stamped (log ++ Goes d ∷ []) xs ++ stamped l ys) (append_assoc log (Goes d ∷ []) xs))
 stamped-append log (Begins n ∷ xs) ys =
@@ -125,8 +130,13 @@ stamped_at before (Goes first ∷ log) zero d e =
     let same : first ≡ d = cc in
     subst (λ (x : Departure). StampedAt before (Goes first ∷ log) zero x) same (record {
       frame = record {
-        node = first.node; heading = first.heading; route = first.route; lost = first.lost; payload = first.payload;
-        begun = begins_in first.node before; shown = news_after first.node [] (before ++ Goes first ∷ []);
+        node = first.node;
+        heading = first.heading;
+        route = first.route;
+        lost = first.lost;
+        payload = first.payload;
+        begun = begins_in first.node before;
+        shown = news_after first.node [] (before ++ Goes first ∷ []);
       };
       at = refl;
       node = refl;

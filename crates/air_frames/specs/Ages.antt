@@ -1,5 +1,5 @@
 -- When a frame may be repeated (this project's own rule, docs/AIR.md).
-use Rattle.std.specs.Prelude.{ℕ, ◌+◌, ◌-◌, ◌==◌, ◌&&◌, ◌||◌, nat_lt, nat_le, Bool, true, false, if◌then◌else◌, Option, Some, None, List, [], ◌∷◌}
+use Rattle.std.specs.Prelude.{ℕ, ◌-◌, ◌==◌, ◌&&◌, ◌||◌, nat_lt, nat_le, Bool, false, if◌then◌else◌, Option, Some, None, List, [], ◌∷◌}
 use Rattle.air_frames.specs.declared.ages.Refusal.{Refusal}
 use Rattle.air_frames.specs.declared.ages.Refusal.TheVariants.{NeverSent, Forgotten, Stale}
 use Rattle.air_frames.specs.declared.peer.Peer.{Peer}

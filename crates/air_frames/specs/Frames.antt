@@ -1,5 +1,5 @@
 -- What is kept of the frames that were sent (this project's own rule, docs/AIR.md).
-use Rattle.std.specs.Prelude.{ℕ, ◌+◌, ◌-◌, ◌&&◌, nat_le, nat_lt, min, max, if◌then◌else◌, Bool, true, false, take, Option, Some, None, List, [], ◌∷◌, ◌++◌, length, replicate, slice_get, slice_set, slice_index_or}
+use Rattle.std.specs.Prelude.{ℕ, ◌+◌, ◌-◌, ◌&&◌, nat_le, nat_lt, min, max, if◌then◌else◌, Bool, true, false, take, Option, None, List, [], ◌∷◌, ◌++◌, length, replicate, slice_get, slice_set, slice_index_or}
 use Rattle.circular_buffer.specs.Buffer.{keep_last}
 use Rattle.air_frames.specs.declared.peer.Peer.{Peer}
 use Rattle.air_frames.specs.declared.frame.Departure.{Departure}

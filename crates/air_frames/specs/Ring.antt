@@ -1,5 +1,5 @@
 -- How the fields of `Frames` show what is kept: the last 4,097 frames in a ring, older ones that are on the air before them.
-use Rattle.std.specs.Prelude.{◌≡◌, ℕ, ◌+◌, ◌-◌, ◌^◌, ◌≤◌, min, ◌++◌, length, All}
+use Rattle.std.specs.Prelude.{◌≡◌, ◌+◌, ◌-◌, ◌^◌, ◌≤◌, min, ◌++◌, length, All}
 use Rattle.std.specs.VecDeque.{deque_len, deque_capacity}
 use Rattle.air_frames.specs.declared.frames.Frames.TheInside.{Inside}
 use Rattle.air_frames.specs.Frames.{Keeping}

@@ -48,7 +48,13 @@ impl Model for Frame {
     ghost Value = { Flown };
 
     ghost view = { λ f. record {
-      node = f.node; heading = f.heading; route = f.route; lost = f.lost; payload = f.payload; begun = f.begun; shown = f.shown
+      node = f.node;
+      heading = f.heading;
+      route = f.route;
+      lost = f.lost;
+      payload = f.payload;
+      begun = f.begun;
+      shown = f.shown;
     } };
 
     ghost invariant = { λ f. IsSound f.route };

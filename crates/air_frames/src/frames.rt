@@ -106,7 +106,7 @@ impl Frames {
     /// From now on so many sessions of a node have begun.
     pub fn set_begun(&mut self, node: NodeId, sessions: u64)
         ensures state { self.new.state ≡ record self.old.state {
-          peers = slice_set self.old.state.peers node (record (peer_of self.old.state node) { begun = sessions })
+          peers = slice_set self.old.state.peers node (record (peer_of self.old.state node) { begun = sessions });
         } }
         ensures room { self.new.room ≡ self.old.room }
     {
@@ -206,12 +206,7 @@ impl Frames {
 
 /// Puts a frame behind those of the ring, where so many are on the air then. The oldest gives way where the ring is full,
 /// and is kept apart where it is still on the air.
-fn keep(
-    ring: &mut HeapCircularBuffer<Frame>,
-    late: &mut VecDeque<Frame>,
-    frame: Frame,
-    flying: u64,
-)
+fn keep(ring: &mut HeapCircularBuffer<Frame>, late: &mut VecDeque<Frame>, frame: Frame, flying: u64)
     requires capacity { ring.old.capacity ≡ 4097 }
     requires full { 4097 < flying → length ring.old.items ≡ 4097 }
     requires room { 4097 < flying → deque_len late.old < deque_capacity late.old }

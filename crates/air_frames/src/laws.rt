@@ -14,7 +14,7 @@ pub fn what_is_kept_is_of_the_history()
     ensures lands { (log : List Mark) (state : FramesState) → state.landed < state.sent → IsOf log state → IsOf log (landing state) }
     ensures begins { (log : List Mark) (state : FramesState) (node sessions : ℕ) → node < 233 → (peer_of state node).begun ≤ sessions → IsOf log state
         → IsOf (log ++ replicate (sessions - (peer_of state node).begun) (Begins node))
-          (record state { peers = slice_set state.peers node (record (peer_of state node) { begun = sessions }) }) }
+        (record state { peers = slice_set state.peers node (record (peer_of state node) { begun = sessions }) }) }
 {}
 
 /// A repeat is refused exactly as the history says: where the frame was never sent, where more than 4,096 later ones

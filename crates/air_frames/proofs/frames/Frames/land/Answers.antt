@@ -1,4 +1,3 @@
-use Rattle.std.proofs.Common.{arith}
 use Rattle.air_frames.proofs.Kept.{landed_state}
 use Rattle.air_frames.proofs.frames.Frames.land.Goals as goal
 
