@@ -211,8 +211,12 @@ module _ {V E : Type 0} (r : Result V E) (old new : AirState) (ds : States) (hea
   did_as other told is may moves tells = go r
     where
       go : (s : Result V E) → OnOk s (new ≡ landed old) → OnOk s (all ≡ before ++ told) → OnOk s ((drawn : List ℕ) × (route : Option Route) × Did (Arrives drawn route ∷ []) old ds new ds before all)
-      go (Ok v) lands outs = ([], None, arrive_did old new ds ds comes.frame other [] None before all comes.next (sym is ∙ comes.becomes) may
-          (ap (λ (a : AirState). mesh a ds) lands ∙ moves) (outs ∙ ap (λ l. before ++ l) tells))
+      go (Ok v) lands outs = (
+        [],
+        None,
+        arrive_did old new ds ds comes.frame other [] None before all comes.next (sym is ∙ comes.becomes) may
+            (ap (λ (a : AirState). mesh a ds) lands ∙ moves) (outs ∙ ap (λ l. before ++ l) tells),
+      )
       go (Err e) lands outs = tt
 
   pub lost_did : fate ≡ Lost → OnOk r (new ≡ landed old) → OnOk r (all ≡ before ++ tells.Lost number ∷ done_of heading (old.frames.landed + 1) 1 None) → Goal
@@ -323,12 +327,17 @@ module _ (old new : AirState) (ds later : States) (frame_number : ℕ) (heading 
   device_again_cut is (inl same) = inl same
   device_again_cut is (inr (drawn', route', may, moves)) =
       let same : Outward ≡ comes.frame.heading = sym is ∙ comes.heads in
-      inr (Repeats frame_number drawn' route',
-      (comes.allowed, subst (λ (o : Option Flown). MayRepeat (mesh old ds) o route') (sym comes.kept) (subst (λ (h : Heading). MayRepeatBy h (mesh old ds) comes.frame route') same
-          (subst (λ n. MayHearAgain old n (listener_of n ds) route') comes.ends may))),
-      moves ∙ (ap (λ n. (heard_again (mesh old ds) (listener_of n ds) n route' (Hears payload drawn')).devices) comes.ends
-      ∙ (ap (λ p. (heard_again (mesh old ds) (listener_of comes.frame.node ds) comes.frame.node route' (Hears p drawn')).devices) comes.carries
-      ∙ (ap (λ (h : Heading). (repeating_by h (mesh old ds) comes.frame drawn' route').devices) same ∙ ap (λ (o : Option Flown). (repeating (mesh old ds) o drawn' route').devices) (sym comes.kept)))))
+      inr (
+        Repeats frame_number drawn' route',
+        (
+          comes.allowed,
+          subst (λ (o : Option Flown). MayRepeat (mesh old ds) o route') (sym comes.kept) (subst (λ (h : Heading). MayRepeatBy h (mesh old ds) comes.frame route') same
+              (subst (λ n. MayHearAgain old n (listener_of n ds) route') comes.ends may)),
+        ),
+        moves ∙ (ap (λ n. (heard_again (mesh old ds) (listener_of n ds) n route' (Hears payload drawn')).devices) comes.ends
+            ∙ (ap (λ p. (heard_again (mesh old ds) (listener_of comes.frame.node ds) comes.frame.node route' (Hears p drawn')).devices) comes.carries
+            ∙ (ap (λ (h : Heading). (repeating_by h (mesh old ds) comes.frame drawn' route').devices) same ∙ ap (λ (o : Option Flown). (repeating (mesh old ds) o drawn' route').devices) (sym comes.kept)))),
+      )
 
 -- the device that hears it again, or none
 pub none_again : (air : AirState) (ds : States) (number node : ℕ) (payload : List ℕ) (all : List AirEvent) → None ≡ listener_of node ds → IsHeardAgain air ds air ds number node payload [] None all all
@@ -347,24 +356,33 @@ module _ {V E : Type 0} (r : Result V E) (old new : AirState) (ds later : States
       go : (s : Result V E) → OnOk s ((route : Option Route) × HasHeard old node payload drawn route d d' new number [] before all)
           → OnOk s ((drawn : List ℕ) × (route : Option Route) × IsHeardAgain old ds new later number node payload drawn route before all)
       go (Err e) heard = tt
-      go (Ok v) (route, heard) = (drawn, route, record {
-        may = subst (λ (o : Option ℕ). MayHearAgain old node o route) is heard.way;
-        moves = hears_at old new ds later place node number d d' payload drawn route [] before all at set_is heard
-            ∙ ap (λ (o : Option ℕ). heard_again (mesh old ds) o node route (Hears payload drawn)) is;
-        told = heard.outs ∙ ap (λ l. before ++ l) (append-nil (outs_hearing old number node route d (Hears payload drawn))
-            ∙ (ap (λ (o : Option State). outs_at (mesh old ds) o number node route (Hears payload drawn)) (sym at)
-            ∙ ap (λ (o : Option ℕ). outs_again (mesh old ds) o number node route (Hears payload drawn)) is));
-      })
+      go (Ok v) (route, heard) = (
+        drawn,
+        route,
+        record {
+          may = subst (λ (o : Option ℕ). MayHearAgain old node o route) is heard.way;
+          moves = hears_at old new ds later place node number d d' payload drawn route [] before all at set_is heard
+              ∙ ap (λ (o : Option ℕ). heard_again (mesh old ds) o node route (Hears payload drawn)) is;
+          told = heard.outs ∙ ap (λ l. before ++ l) (append-nil (outs_hearing old number node route d (Hears payload drawn))
+              ∙ (ap (λ (o : Option State). outs_at (mesh old ds) o number node route (Hears payload drawn)) (sym at)
+              ∙ ap (λ (o : Option ℕ). outs_again (mesh old ds) o number node route (Hears payload drawn)) is));
+        },
+      )
 
   pub perhaps_again : OnErr r (HasPerhaps old node d d' (Hears payload drawn)) → OnErr r (IsHeardPerhaps old ds later node payload)
   perhaps_again = go r
     where
       one : HasPerhaps old node d d' (Hears payload drawn) → IsHeardPerhaps old ds later node payload
       one (inl same) = inl (set_is ∙ (ap (λ (x : State). set ds place x) same ∙ set_same ds place d at))
-      one (inr (route, way, after)) = inr (drawn, route, subst (λ (o : Option ℕ). MayHearAgain old node o route) is way,
-          set_is ∙ (ap (λ (x : State). set ds place x) after
-          ∙ (ap (λ (o : Option State). (heard_at (mesh old ds) place o node route (Hears payload drawn)).devices) (sym at)
-          ∙ ap (λ (o : Option ℕ). (heard_again (mesh old ds) o node route (Hears payload drawn)).devices) is)))
+      one (inr (route, way, after)) = inr (
+        drawn,
+        route,
+        subst (λ (o : Option ℕ). MayHearAgain old node o route) is way,
+        set_is ∙ (ap (λ (x : State). set ds place x) after
+            ∙ (ap (λ (o : Option State). (heard_at (mesh old ds) place o node route (Hears payload drawn)).devices) (sym at)
+            ∙ ap (λ (o : Option ℕ). (heard_again (mesh old ds) o node route (Hears payload drawn)).devices) is)),
+      )
+
       go : (s : Result V E) → OnErr s (HasPerhaps old node d d' (Hears payload drawn)) → OnErr s (IsHeardPerhaps old ds later node payload)
       go (Ok v) perhaps = tt
       go (Err e) perhaps = one perhaps

@@ -57,7 +57,7 @@ one_least net to r s p q =
     let walks : via r ≡ via s = one_walk (via r) (via s) (p.least (via s) q.walk) (q.least (via r) p.walk) in
     let counts : r.count ≡ s.count = sym (length_via net to r p) ∙ (ap length walks ∙ length_via net to s q) in
     let long : length (drop r.count r.hops) ≡ length (drop s.count s.hops) =
-        length-drop r.count r.hops ∙ ((let a = p.places in let b = q.places in let e : length r.hops - r.count ≡ length s.hops - s.count = omega arith in e) ∙ sym (length-drop s.count s.hops)) in
+    length-drop r.count r.hops ∙ ((let a = p.places in let b = q.places in let e : length r.hops - r.count ≡ length s.hops - s.count = omega arith in e) ∙ sym (length-drop s.count s.hops)) in
     let rest : drop r.count r.hops ≡ drop s.count s.hops = zeros (drop r.count r.hops) (drop s.count s.hops) long p.padded q.padded in
     same_fields r s counts
     (sym (take-append-drop r.count r.hops)

@@ -40,7 +40,6 @@ pub struct Air {
 impl Model for Air {
     ghost use Rattle.std.specs.Prelude.{◌≡◌, length};
     ghost use Rattle.mesh_sim.specs.Air.{Airing};
-
     ghost use Rattle.std.specs.Coded.{codes};
     ghost use Rattle.route_table.specs.Network.{network_code};
 
@@ -50,7 +49,7 @@ impl Model for Air {
 
     ghost view = { λ a. record {
       state = record { network = a.table; joined = a.joined; frames = a.frames.state; losing = a.losing; ack_losing = a.ack_losing };
-      room = a.frames.room
+      room = a.frames.room;
     } };
 }
 

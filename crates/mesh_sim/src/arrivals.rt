@@ -98,7 +98,12 @@ impl Air {
         match fate {
             Fate::Lost => self.pass(AirEvent::Lost(arrival.number), heading, None, out),
             Fate::Dead(from, to) => {
-                self.pass(AirEvent::Unheard(arrival.number), heading, Some((from, to)), out)
+                self.pass(
+                    AirEvent::Unheard(arrival.number),
+                    heading,
+                    Some((from, to)),
+                    out,
+                )
             }
             Fate::Missed => self.pass(AirEvent::Unheard(arrival.number), heading, None, out),
             Fate::AtChip => self.arrive_at_chip(arrival, out),
@@ -159,11 +164,7 @@ impl Air {
     }
 
     /// The next frame arrives at node 1.
-    fn arrive_at_chip(
-        &mut self,
-        arrival: Arrival,
-        out: &mut List<AirEvent>,
-    ) -> Result<(), NoMemory>
+    fn arrive_at_chip(&mut self, arrival: Arrival, out: &mut List<AirEvent>) -> Result<(), NoMemory>
         requires { self.old.state.frames.landed < self.old.state.frames.sent }
         ensures ok { OnOk result (self.new.state ≡ landed self.old.state) }
         ensures outs { OnOk result (out.new.items ≡ out.old.items ++ AirEvent.Heard arrival.number ∷ AirEvent.ToChip arrival.number arrival.node arrival.payload ∷ []) }

@@ -30,7 +30,10 @@ pub enum AirEvent {
         payload: Payload,
     },
     /// The device of that node made a change: the one at that place of its journal, counted from 0.
-    Changed { node: NodeId, at: u64 },
+    Changed {
+        node: NodeId,
+        at: u64,
+    },
     /// The frame came to node 1, with that payload of that node.
     ToChip {
         frame: u64,

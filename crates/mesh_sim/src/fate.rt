@@ -77,11 +77,7 @@ fn dead_hop_on(table: &RouteTable, frame: &Frame) -> Option<(NodeId, NodeId)>
 }
 
 /// What becomes of the frame, by its mark, the links and the devices.
-pub(crate) fn fate_now(
-    table: &RouteTable,
-    frame: &Frame,
-    devices: &Vec<Box<dyn Device>>,
-) -> Fate
+pub(crate) fn fate_now(table: &RouteTable, frame: &Frame, devices: &Vec<Box<dyn Device>>) -> Fate
     requires { length devices.now.items < 2 ^ 64 }
     ensures value { result ≡ fate_of table.now (map (λ d. state d) devices.now.items) frame.now }
     ensures within { HearsWithin result (length devices.now.items) }

@@ -62,8 +62,17 @@ fn fates_without_devices(rt: HostRuntime) -> Result<(), Fail> {
     assert!(rt; devices.len() < 1);
     air.deliver(&mut devices, &mut draw, &mut out)?;
     let wanted = [
-        ('L', 1), ('D', 1), ('U', 2), ('D', 2), ('U', 3), ('D', 3),
-        ('H', 4), ('C', 4), ('L', 5), ('H', 6), ('C', 6),
+        ('L', 1),
+        ('D', 1),
+        ('U', 2),
+        ('D', 2),
+        ('U', 3),
+        ('D', 3),
+        ('H', 4),
+        ('C', 4),
+        ('L', 5),
+        ('H', 6),
+        ('C', 6),
     ];
     same(&rt, &out, &wanted, "the first delivery");
     out.clear();
@@ -101,10 +110,16 @@ fn refusals(rt: HostRuntime) -> Result<(), Fail> {
     air.deliver(&mut devices, &mut draw, &mut out)?;
     let _sent = air.send(home, lock, DIRECT, &[0x25])?;
     assert!(rt; devices.len() < 1);
-    assert_eq!(rt; air.repeat(1, &mut devices, &mut draw, &mut out), Err(RepeatFault::Forgotten));
+    assert_eq!(rt;
+        air.repeat(1, &mut devices, &mut draw, &mut out),
+        Err(RepeatFault::Forgotten)
+    );
     assert_eq!(rt; air.payload(1), None);
     assert!(rt; devices.len() < 1);
-    assert_eq!(rt; air.repeat(4099, &mut devices, &mut draw, &mut out), Err(RepeatFault::NeverSent));
+    assert_eq!(rt;
+        air.repeat(4099, &mut devices, &mut draw, &mut out),
+        Err(RepeatFault::NeverSent)
+    );
     Ok(())
 }
 
@@ -130,7 +145,11 @@ fn stale_frames(rt: HostRuntime) -> Result<(), Fail> {
             Ok(())
         };
         assert!(rt; devices.len() < 1);
-        assert_eq!(rt; air.repeat(3, &mut devices, &mut draw, &mut out), wanted, "{shown}");
+        assert_eq!(rt;
+            air.repeat(3, &mut devices, &mut draw, &mut out),
+            wanted,
+            "{shown}"
+        );
     }
     let mut reached = Air::new(rt.alloc())?;
     let _plain = reached.send(home, lock, DIRECT, &[0x6C])?;
@@ -144,9 +163,17 @@ fn stale_frames(rt: HostRuntime) -> Result<(), Fail> {
         assert!(rt; reached.begun(lock) <= sessions);
         reached.set_begun(lock, sessions);
         assert!(rt; devices.len() < 1);
-        assert_eq!(rt; reached.repeat(1, &mut devices, &mut draw, &mut out), plain, "{sessions}");
+        assert_eq!(rt;
+            reached.repeat(1, &mut devices, &mut draw, &mut out),
+            plain,
+            "{sessions}"
+        );
         assert!(rt; devices.len() < 1);
-        assert_eq!(rt; reached.repeat(2, &mut devices, &mut draw, &mut out), segment, "{sessions}");
+        assert_eq!(rt;
+            reached.repeat(2, &mut devices, &mut draw, &mut out),
+            segment,
+            "{sessions}"
+        );
     }
     Ok(())
 }
