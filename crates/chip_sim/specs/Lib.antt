@@ -1,0 +1,7 @@
+pub mod Answers
+pub mod Did
+pub mod Events
+pub mod Nodes
+pub mod Requests
+pub mod State
+pub mod Waiting
