@@ -63,7 +63,7 @@ fed_nothing old new before all rest same outs =
     (fed_none old [] old before all
     (record { reads = (rest.unfinished, append-nil old.decoder.bytes); ticks = refl })
     (λ stream items splits.
-        subst (λ (t : List Signal). Splits t (items ++ []) old.decoder) (sym (append-nil stream)) (subst (λ (t : List Item). Splits stream t old.decoder) (sym (append-nil items)) splits))
+    subst (λ (t : List Signal). Splits t (items ++ []) old.decoder) (sym (append-nil stream)) (subst (λ (t : List Item). Splits stream t old.decoder) (sym (append-nil items)) splits))
     refl outs)
 
 -- an item that the decoder gave was judged

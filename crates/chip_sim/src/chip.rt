@@ -1,6 +1,6 @@
 //! The chip and its calls.
 
-ghost use Rattle.std.specs.Prelude.{◌≡◌, ◌++◌, ◌+◌, ◌<◌, ◌≤◌, ◌^◌, ◌∷◌, [], length, IfOk, OnOk, OnErr, OnSome};
+ghost use Rattle.std.specs.Prelude.{◌≡◌, ◌++◌, ◌+◌, ◌<◌, ◌≤◌, ◌^◌, ◌∷◌, ◌↔◌, [], length, IsTrue, IfOk, OnOk, OnErr, OnSome};
 ghost use Rattle.std.specs.Option.{option_copied};
 ghost use Rattle.serial_frame.specs.Stream.{no_rest, after_tick};
 ghost use Rattle.chip_sim.specs.State.{fresh_chip};
@@ -181,6 +181,13 @@ impl Chip {
             payload: Bytes::from_slice(self.alloc, payload)?,
         };
         self.give(&notice, out)
+    }
+
+    /// True exactly where an `OnAir` or `NoRoute` output has not had its call of `done`.
+    pub fn owes_call(&self) -> bool
+        ensures { IsTrue result ↔ OwesCall self.now.state }
+    {
+        self.aborted > 0 || self.sending.is_some()
     }
 
     /// Ends the oldest `OnAir` or `NoRoute` output whose call has not come. One that was aborted is passed over.

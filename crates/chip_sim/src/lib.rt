@@ -14,8 +14,13 @@ mod out;
 mod port;
 mod post;
 mod requests;
+mod laws;
 mod waiting;
 
 pub use chip::Chip;
+pub use laws::{rules_of_events, rules_of_histories};
 pub use out::{ChipOut, Sending};
 pub use waiting::MAX_WAITING;
+
+#[cfg(test)]
+mod tests;
