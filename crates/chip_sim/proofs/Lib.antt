@@ -1,3 +1,7 @@
+pub mod Calls
 pub mod Doing
 pub mod Feeding
+pub mod Histories
 pub mod Masks
+pub mod Ports
+pub mod Steps
