@@ -37,7 +37,7 @@ port_stopped : (o : Option Sending) (s : ChipState) → (stopped o s).port ≡ s
 port_stopped None s = refl
 port_stopped (Some sending) s = refl
 
-port_performed : (r : Request) (s : ChipState) → (performed r s).port ≡ s.port
+pub port_performed : (r : Request) (s : ChipState) → (performed r s).port ≡ s.port
 port_performed GetInitData s = refl
 port_performed GetCapabilities s = refl
 port_performed (SendData n payload options id) s = port_sending (takes s n payload) s (record { node = n; callback_id = id })

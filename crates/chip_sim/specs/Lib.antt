@@ -1,6 +1,7 @@
 pub mod Answers
 pub mod Did
 pub mod Events
+pub mod Link
 pub mod Nodes
 pub mod Requests
 pub mod Rules

@@ -9,12 +9,12 @@
 
 mod answers;
 mod chip;
+mod laws;
 mod marks;
 mod out;
 mod port;
 mod post;
 mod requests;
-mod laws;
 mod waiting;
 
 pub use chip::Chip;

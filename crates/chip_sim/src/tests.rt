@@ -130,7 +130,12 @@ fn end(chip: &mut Chip, status: TransmitStatus, out: &mut List<ChipOut>) -> Resu
     Ok(())
 }
 
-fn perform(alloc: Global, chip: &mut Chip, act: &Act, out: &mut List<ChipOut>) -> Result<(), NoMemory> {
+fn perform(
+    alloc: Global,
+    chip: &mut Chip,
+    act: &Act,
+    out: &mut List<ChipOut>,
+) -> Result<(), NoMemory> {
     match act {
         Act::Join(number, listening) => chip.join(node(*number)?, *listening),
         Act::Link(a, b) => chip.set_link(node(*a)?, node(*b)?, true),
