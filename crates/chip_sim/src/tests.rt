@@ -5,7 +5,7 @@ mod rows;
 use crate::{Chip, ChipOut, MAX_WAITING};
 use chip_functions::TransmitStatus;
 use device_sim::Profile;
-use rows::ROWS;
+use rows::{ANSWERS, LINK, SENDING};
 use serial_frame::{Unit, encode};
 use std::alloc::Global;
 use std::process::Abort;
@@ -28,14 +28,11 @@ enum Want {
 
 /// What a test does to a chip.
 enum Act {
-    Join(u8, bool),
-    Link(u8, u8),
     Forget(u8, u8),
     Feed(&'static [u8]),
-    /// One byte a call.
-    FeedEach(&'static [u8]),
+    /// A request, and then the ACK of what it is answered.
+    Ask(&'static [u8]),
     Tick(u8),
-    Heard(u8, &'static [u8]),
     /// Nothing, where no call is to come.
     Done(TransmitStatus),
     Info(u8, Option<&'static [u8]>),
@@ -83,7 +80,7 @@ fn expect(
     at: usize,
     out: &mut List<ChipOut>,
     wants: &[Want],
-) -> Result<(), Fail> {
+) -> Result<(), NoMemory> {
     assert_eq!(rt; out.len(), wants.len(), "row {at}: {:?}", out.as_slice());
     for (one, want) in out.as_slice().iter().zip(wants) {
         assert!(rt; is_wanted(alloc, one, want)?, "row {at}: {one:?}");
@@ -111,18 +108,6 @@ fn inform(
     }
 }
 
-fn hear(
-    chip: &mut Chip,
-    from: NodeId,
-    payload: &[u8],
-    out: &mut List<ChipOut>,
-) -> Result<(), NoMemory> {
-    if payload.is_empty() || payload.len() > 46 {
-        return Ok(());
-    }
-    chip.heard(from, payload, out)
-}
-
 fn end(chip: &mut Chip, status: TransmitStatus, out: &mut List<ChipOut>) -> Result<(), NoMemory> {
     if chip.owes_call() {
         chip.done(status, out)?;
@@ -137,35 +122,88 @@ fn perform(
     out: &mut List<ChipOut>,
 ) -> Result<(), NoMemory> {
     match act {
-        Act::Join(number, listening) => chip.join(node(*number)?, *listening),
-        Act::Link(a, b) => chip.set_link(node(*a)?, node(*b)?, true),
         Act::Forget(a, b) => chip.forget_hop(node(*a)?, node(*b)?),
         Act::Feed(piece) => chip.feed(piece, out)?,
-        Act::FeedEach(bytes) => {
-            for byte in bytes.iter() {
-                chip.feed(&[*byte], out)?;
-            }
+        Act::Ask(request) => {
+            chip.feed(request, out)?;
+            chip.feed(&[0x06], out)?;
         }
         Act::Tick(count) => {
             for _ in 0..*count {
                 chip.tick(out)?;
             }
         }
-        Act::Heard(from, payload) => hear(chip, node(*from)?, payload, out)?,
         Act::Done(status) => end(chip, *status, out)?,
         Act::Info(from, classes) => inform(alloc, chip, node(*from)?, *classes, out)?,
     }
     Ok(())
 }
 
-#[test]
-fn a_morning(rt: HostRuntime) -> Result<(), Fail> {
-    let mut chip = Chip::new(rt.alloc())?;
-    let mut out = List::new(rt.alloc());
-    for (at, row) in ROWS.iter().enumerate() {
-        perform(rt.alloc(), &mut chip, &row.act, &mut out)?;
-        expect(&rt, rt.alloc(), at, &mut out, row.outs)?;
+/// A chip with nodes 2, 5 and 10, of which 5 does not listen, and the links 1 to 2 and 2 to 10.
+fn network(alloc: Global) -> Result<Chip, NoMemory> {
+    let mut chip = Chip::new(alloc)?;
+    chip.join(node(2)?, true);
+    chip.join(node(5)?, false);
+    chip.join(node(10)?, true);
+    chip.set_link(node(1)?, node(2)?, true);
+    chip.set_link(node(2)?, node(10)?, true);
+    Ok(chip)
+}
+
+/// Does what the rows say, and compares.
+fn go_through(rt: &impl Abort, alloc: Global, rows: &[Row]) -> Result<(), NoMemory> {
+    let mut chip = network(alloc)?;
+    let mut out = List::new(alloc);
+    for (at, row) in rows.iter().enumerate() {
+        perform(alloc, &mut chip, &row.act, &mut out)?;
+        expect(rt, alloc, at, &mut out, row.outs)?;
     }
+    Ok(())
+}
+
+#[test]
+fn answers(rt: HostRuntime) -> Result<(), Fail> {
+    go_through(&rt, rt.alloc(), &ANSWERS)?;
+    Ok(())
+}
+
+#[test]
+fn sending(rt: HostRuntime) -> Result<(), Fail> {
+    go_through(&rt, rt.alloc(), &SENDING)?;
+    Ok(())
+}
+
+#[test]
+fn link(rt: HostRuntime) -> Result<(), Fail> {
+    go_through(&rt, rt.alloc(), &LINK)?;
+    Ok(())
+}
+
+/// A SendData one byte a call: nothing comes before the last byte, and the callback comes with the call of `done`.
+#[test]
+fn byte_by_byte(rt: HostRuntime) -> Result<(), Fail> {
+    let mut chip = network(rt.alloc())?;
+    let mut out = List::new(rt.alloc());
+    for at in 0..SEND_DATA.len() - 1 {
+        chip.feed(&SEND_DATA[at..at + 1], &mut out)?;
+        expect(&rt, rt.alloc(), at, &mut out, &[])?;
+    }
+    chip.feed(&[0x77], &mut out)?;
+    let wants = [
+        Want::Write(&[0x06]),
+        Want::Write(&[0x01, 0x04, 0x01, 0x13, 0x01, 0xe8]),
+        Want::OnAir {
+            to: 2,
+            via: &[],
+            payload: &[0x6c, 0x01, 0x01, 0x03, 0x25, 0x01, 0xff],
+        },
+    ];
+    expect(&rt, rt.alloc(), 16, &mut out, &wants)?;
+    chip.feed(&[0x06], &mut out)?;
+    expect(&rt, rt.alloc(), 17, &mut out, &[])?;
+    end(&mut chip, TransmitStatus::CompleteOk, &mut out)?;
+    let wants = [Want::Write(&[0x01, 0x05, 0x00, 0x13, 0x01, 0x00, 0xe8])];
+    expect(&rt, rt.alloc(), 18, &mut out, &wants)?;
     Ok(())
 }
 
@@ -194,7 +232,8 @@ fn thirty_two_wait(rt: HostRuntime) -> Result<(), Fail> {
         expect(&rt, rt.alloc(), at, &mut out, &[Want::Write(&HANDLER)])?;
     }
     chip.feed(&[0x06, 0x06], &mut out)?;
-    expect(&rt, rt.alloc(), 34, &mut out, &[])
+    expect(&rt, rt.alloc(), 34, &mut out, &[])?;
+    Ok(())
 }
 
 /// A SendData is taken though its response is dropped, and the chip is idle again though its callback is.
@@ -228,7 +267,8 @@ fn collision(rt: HostRuntime) -> Result<(), Fail> {
     expect(&rt, rt.alloc(), 0, &mut out, &[Want::Write(&[0x18])])?;
     chip.feed(&SEND_DATA, &mut out)?;
     let wants = [Want::Write(&[0x06]), Want::Write(&REFUSED)];
-    expect(&rt, rt.alloc(), 1, &mut out, &wants)
+    expect(&rt, rt.alloc(), 1, &mut out, &wants)?;
+    Ok(())
 }
 
 /// A SendData to node 2 with callback id 1, and the response that refuses it.

@@ -1,64 +1,12 @@
-//! A chip through a morning: what is done to it, and what it puts out.
+//! What is done to a chip, and what it puts out.
 
 use super::{Act, Row, Want};
 use chip_functions::TransmitStatus;
 
-pub(super) const ROWS: [Row; 80] = [
-    // a SendData, byte by byte, and its callback
+/// Each function once, what a node tells, and what asks for nothing.
+pub(super) const ANSWERS: [Row; 16] = [
     Row {
-        act: Act::Join(2, true),
-        outs: &[],
-    },
-    Row {
-        act: Act::Link(1, 2),
-        outs: &[],
-    },
-    Row {
-        act: Act::FeedEach(&[
-            0x01, 0x0e, 0x00, 0x13, 0x02, 0x07, 0x6c, 0x01, 0x01, 0x03, 0x25, 0x01, 0xff, 0x25,
-            0x01,
-        ]),
-        outs: &[],
-    },
-    Row {
-        act: Act::Feed(&[0x77]),
-        outs: &[
-            Want::Write(&[0x06]),
-            Want::Write(&[0x01, 0x04, 0x01, 0x13, 0x01, 0xe8]),
-            Want::OnAir {
-                to: 2,
-                via: &[],
-                payload: &[0x6c, 0x01, 0x01, 0x03, 0x25, 0x01, 0xff],
-            },
-        ],
-    },
-    Row {
-        act: Act::Feed(&[0x06]),
-        outs: &[],
-    },
-    Row {
-        act: Act::Done(TransmitStatus::CompleteOk),
-        outs: &[Want::Write(&[0x01, 0x05, 0x00, 0x13, 0x01, 0x00, 0xe8])],
-    },
-    Row {
-        act: Act::Feed(&[0x06]),
-        outs: &[],
-    },
-    // each function is answered once
-    Row {
-        act: Act::Join(10, true),
-        outs: &[],
-    },
-    Row {
-        act: Act::Join(5, false),
-        outs: &[],
-    },
-    Row {
-        act: Act::Link(2, 10),
-        outs: &[],
-    },
-    Row {
-        act: Act::Feed(&[0x01, 0x03, 0x00, 0x02, 0xfe]),
+        act: Act::Ask(&[0x01, 0x03, 0x00, 0x02, 0xfe]),
         outs: &[
             Want::Write(&[0x06]),
             Want::Write(&[
@@ -69,11 +17,7 @@ pub(super) const ROWS: [Row; 80] = [
         ],
     },
     Row {
-        act: Act::Feed(&[0x06]),
-        outs: &[],
-    },
-    Row {
-        act: Act::Feed(&[0x01, 0x07, 0x00, 0x80, 0x0a, 0x00, 0x00, 0x00, 0x72]),
+        act: Act::Ask(&[0x01, 0x07, 0x00, 0x80, 0x0a, 0x00, 0x00, 0x00, 0x72]),
         outs: &[
             Want::Write(&[0x06]),
             Want::Write(&[
@@ -84,22 +28,14 @@ pub(super) const ROWS: [Row; 80] = [
         ],
     },
     Row {
-        act: Act::Feed(&[0x06]),
-        outs: &[],
-    },
-    Row {
-        act: Act::Feed(&[0x01, 0x04, 0x00, 0x62, 0x0a, 0x93]),
+        act: Act::Ask(&[0x01, 0x04, 0x00, 0x62, 0x0a, 0x93]),
         outs: &[
             Want::Write(&[0x06]),
             Want::Write(&[0x01, 0x04, 0x01, 0x62, 0x00, 0x98]),
         ],
     },
     Row {
-        act: Act::Feed(&[0x06]),
-        outs: &[],
-    },
-    Row {
-        act: Act::Feed(&[0x01, 0x03, 0x00, 0x15, 0xe9]),
+        act: Act::Ask(&[0x01, 0x03, 0x00, 0x15, 0xe9]),
         outs: &[
             Want::Write(&[0x06]),
             Want::Write(&[
@@ -109,22 +45,14 @@ pub(super) const ROWS: [Row; 80] = [
         ],
     },
     Row {
-        act: Act::Feed(&[0x06]),
-        outs: &[],
-    },
-    Row {
-        act: Act::Feed(&[0x01, 0x03, 0x00, 0x20, 0xdc]),
+        act: Act::Ask(&[0x01, 0x03, 0x00, 0x20, 0xdc]),
         outs: &[
             Want::Write(&[0x06]),
             Want::Write(&[0x01, 0x08, 0x01, 0x20, 0x00, 0x00, 0x00, 0x01, 0x01, 0xd6]),
         ],
     },
     Row {
-        act: Act::Feed(&[0x06]),
-        outs: &[],
-    },
-    Row {
-        act: Act::Feed(&[0x01, 0x03, 0x00, 0x07, 0xfb]),
+        act: Act::Ask(&[0x01, 0x03, 0x00, 0x07, 0xfb]),
         outs: &[
             Want::Write(&[0x06]),
             Want::Write(&[
@@ -136,11 +64,7 @@ pub(super) const ROWS: [Row; 80] = [
         ],
     },
     Row {
-        act: Act::Feed(&[0x06]),
-        outs: &[],
-    },
-    Row {
-        act: Act::Feed(&[0x01, 0x04, 0x00, 0x41, 0x0a, 0xb0]),
+        act: Act::Ask(&[0x01, 0x04, 0x00, 0x41, 0x0a, 0xb0]),
         outs: &[
             Want::Write(&[0x06]),
             Want::Write(&[
@@ -149,11 +73,7 @@ pub(super) const ROWS: [Row; 80] = [
         ],
     },
     Row {
-        act: Act::Feed(&[0x06]),
-        outs: &[],
-    },
-    Row {
-        act: Act::Feed(&[0x01, 0x04, 0x00, 0x41, 0x01, 0xbb]),
+        act: Act::Ask(&[0x01, 0x04, 0x00, 0x41, 0x01, 0xbb]),
         outs: &[
             Want::Write(&[0x06]),
             Want::Write(&[
@@ -162,11 +82,7 @@ pub(super) const ROWS: [Row; 80] = [
         ],
     },
     Row {
-        act: Act::Feed(&[0x06]),
-        outs: &[],
-    },
-    Row {
-        act: Act::Feed(&[0x01, 0x04, 0x00, 0x41, 0x05, 0xbf]),
+        act: Act::Ask(&[0x01, 0x04, 0x00, 0x41, 0x05, 0xbf]),
         outs: &[
             Want::Write(&[0x06]),
             Want::Write(&[
@@ -175,33 +91,12 @@ pub(super) const ROWS: [Row; 80] = [
         ],
     },
     Row {
-        act: Act::Feed(&[0x06]),
-        outs: &[],
-    },
-    Row {
-        act: Act::Feed(&[0x01, 0x04, 0x00, 0x41, 0x07, 0xbd]),
-        outs: &[
-            Want::Write(&[0x06]),
-            Want::Write(&[
-                0x01, 0x09, 0x01, 0x41, 0x00, 0x00, 0x00, 0x04, 0x00, 0x00, 0xb2,
-            ]),
-        ],
-    },
-    Row {
-        act: Act::Feed(&[0x06]),
-        outs: &[],
-    },
-    Row {
-        act: Act::Feed(&[0x01, 0x04, 0x00, 0x60, 0x0a, 0x91]),
+        act: Act::Ask(&[0x01, 0x04, 0x00, 0x60, 0x0a, 0x91]),
         outs: &[
             Want::Write(&[0x06]),
             Want::Write(&[0x01, 0x04, 0x01, 0x60, 0x01, 0x9b]),
             Want::AskInfo(10),
         ],
-    },
-    Row {
-        act: Act::Feed(&[0x06]),
-        outs: &[],
     },
     Row {
         act: Act::Info(10, Some(&[0x25, 0x85, 0x6c])),
@@ -221,36 +116,29 @@ pub(super) const ROWS: [Row; 80] = [
         act: Act::Feed(&[0x06]),
         outs: &[],
     },
-    Row {
-        act: Act::Heard(2, &[0x6c, 0x02, 0x01, 0xff, 0x00]),
-        outs: &[Want::Write(&[
-            0x01, 0x0b, 0x00, 0x04, 0x00, 0x02, 0x05, 0x6c, 0x02, 0x01, 0xff, 0x00, 0x67,
-        ])],
-    },
-    Row {
-        act: Act::Feed(&[0x06]),
-        outs: &[],
-    },
-    // an abort without a SendData, an unknown function, a tail, a response: acknowledged and no more
+    // an abort without a SendData, an unknown function, a tail and a response: acknowledged and no more
     Row {
         act: Act::Feed(&[0x01, 0x03, 0x00, 0x16, 0xea]),
         outs: &[Want::Write(&[0x06])],
     },
     Row {
-        act: Act::Feed(&[0x01, 0x03, 0x00, 0x4a, 0xb6]),
-        outs: &[Want::Write(&[0x06])],
+        act: Act::Feed(&[
+            0x01, 0x03, 0x00, 0x4a, 0xb6, 0x01, 0x04, 0x00, 0x15, 0x00, 0xee, 0x01, 0x04, 0x01,
+            0x13, 0x01, 0xe8,
+        ]),
+        outs: &[
+            Want::Write(&[0x06]),
+            Want::Write(&[0x06]),
+            Want::Write(&[0x06]),
+        ],
     },
-    Row {
-        act: Act::Feed(&[0x01, 0x04, 0x00, 0x15, 0x00, 0xee]),
-        outs: &[Want::Write(&[0x06])],
-    },
-    Row {
-        act: Act::Feed(&[0x01, 0x04, 0x01, 0x13, 0x01, 0xe8]),
-        outs: &[Want::Write(&[0x06])],
-    },
+];
+
+/// SendData that are refused, aborted and without a route.
+pub(super) const SENDING: [Row; 16] = [
     // refused: a node that has not joined, 47 bytes, and while another is under way
     Row {
-        act: Act::Feed(&[
+        act: Act::Ask(&[
             0x01, 0x0e, 0x00, 0x13, 0x07, 0x07, 0x6c, 0x01, 0x01, 0x03, 0x25, 0x01, 0xff, 0x25,
             0x02, 0x71,
         ]),
@@ -260,11 +148,7 @@ pub(super) const ROWS: [Row; 80] = [
         ],
     },
     Row {
-        act: Act::Feed(&[0x06]),
-        outs: &[],
-    },
-    Row {
-        act: Act::Feed(&[
+        act: Act::Ask(&[
             0x01, 0x36, 0x00, 0x13, 0x02, 0x2f, 0x25, 0x25, 0x25, 0x25, 0x25, 0x25, 0x25, 0x25,
             0x25, 0x25, 0x25, 0x25, 0x25, 0x25, 0x25, 0x25, 0x25, 0x25, 0x25, 0x25, 0x25, 0x25,
             0x25, 0x25, 0x25, 0x25, 0x25, 0x25, 0x25, 0x25, 0x25, 0x25, 0x25, 0x25, 0x25, 0x25,
@@ -276,11 +160,7 @@ pub(super) const ROWS: [Row; 80] = [
         ],
     },
     Row {
-        act: Act::Feed(&[0x06]),
-        outs: &[],
-    },
-    Row {
-        act: Act::Feed(&[
+        act: Act::Ask(&[
             0x01, 0x35, 0x00, 0x13, 0x0a, 0x2e, 0x25, 0x25, 0x25, 0x25, 0x25, 0x25, 0x25, 0x25,
             0x25, 0x25, 0x25, 0x25, 0x25, 0x25, 0x25, 0x25, 0x25, 0x25, 0x25, 0x25, 0x25, 0x25,
             0x25, 0x25, 0x25, 0x25, 0x25, 0x25, 0x25, 0x25, 0x25, 0x25, 0x25, 0x25, 0x25, 0x25,
@@ -302,11 +182,7 @@ pub(super) const ROWS: [Row; 80] = [
         ],
     },
     Row {
-        act: Act::Feed(&[0x06]),
-        outs: &[],
-    },
-    Row {
-        act: Act::Feed(&[
+        act: Act::Ask(&[
             0x01, 0x0e, 0x00, 0x13, 0x02, 0x07, 0x6c, 0x01, 0x01, 0x03, 0x25, 0x01, 0xff, 0x25,
             0x03, 0x75,
         ]),
@@ -315,24 +191,16 @@ pub(super) const ROWS: [Row; 80] = [
             Want::Write(&[0x01, 0x04, 0x01, 0x13, 0x00, 0xe9]),
         ],
     },
-    Row {
-        act: Act::Feed(&[0x06]),
-        outs: &[],
-    },
     // an abort: the callback at once, and the chip is idle; its call is passed over
     Row {
-        act: Act::Feed(&[0x01, 0x03, 0x00, 0x16, 0xea]),
+        act: Act::Ask(&[0x01, 0x03, 0x00, 0x16, 0xea]),
         outs: &[
             Want::Write(&[0x06]),
             Want::Write(&[0x01, 0x05, 0x00, 0x13, 0x02, 0x02, 0xe9]),
         ],
     },
     Row {
-        act: Act::Feed(&[0x06]),
-        outs: &[],
-    },
-    Row {
-        act: Act::Feed(&[
+        act: Act::Ask(&[
             0x01, 0x0e, 0x00, 0x13, 0x02, 0x07, 0x6c, 0x01, 0x01, 0x03, 0x25, 0x01, 0xff, 0x25,
             0x04, 0x72,
         ]),
@@ -347,10 +215,6 @@ pub(super) const ROWS: [Row; 80] = [
         ],
     },
     Row {
-        act: Act::Feed(&[0x06]),
-        outs: &[],
-    },
-    Row {
         act: Act::Done(TransmitStatus::NoAck),
         outs: &[],
     },
@@ -362,40 +226,28 @@ pub(super) const ROWS: [Row; 80] = [
         act: Act::Feed(&[0x06]),
         outs: &[],
     },
-    Row {
-        act: Act::Done(TransmitStatus::CompleteOk),
-        outs: &[],
-    },
     // NO_ACK is remembered of the node whose callback it was
     Row {
-        act: Act::Feed(&[0x01, 0x04, 0x00, 0x62, 0x02, 0x9b]),
+        act: Act::Ask(&[0x01, 0x04, 0x00, 0x62, 0x02, 0x9b]),
         outs: &[
             Want::Write(&[0x06]),
             Want::Write(&[0x01, 0x04, 0x01, 0x62, 0x01, 0x99]),
         ],
     },
     Row {
-        act: Act::Feed(&[0x06]),
-        outs: &[],
-    },
-    Row {
-        act: Act::Feed(&[0x01, 0x04, 0x00, 0x62, 0x0a, 0x93]),
+        act: Act::Ask(&[0x01, 0x04, 0x00, 0x62, 0x0a, 0x93]),
         outs: &[
             Want::Write(&[0x06]),
             Want::Write(&[0x01, 0x04, 0x01, 0x62, 0x00, 0x98]),
         ],
     },
-    Row {
-        act: Act::Feed(&[0x06]),
-        outs: &[],
-    },
-    // no route, once the hop is forgotten; and a node that was never linked
+    // no route, once the hop is forgotten
     Row {
         act: Act::Forget(2, 10),
         outs: &[],
     },
     Row {
-        act: Act::Feed(&[
+        act: Act::Ask(&[
             0x01, 0x0e, 0x00, 0x13, 0x0a, 0x07, 0x6c, 0x01, 0x01, 0x03, 0x25, 0x01, 0xff, 0x25,
             0x01, 0x7f,
         ]),
@@ -406,10 +258,6 @@ pub(super) const ROWS: [Row; 80] = [
         ],
     },
     Row {
-        act: Act::Feed(&[0x06]),
-        outs: &[],
-    },
-    Row {
         act: Act::Done(TransmitStatus::NoRoute),
         outs: &[Want::Write(&[0x01, 0x05, 0x00, 0x13, 0x01, 0x04, 0xec])],
     },
@@ -418,23 +266,31 @@ pub(super) const ROWS: [Row; 80] = [
         outs: &[],
     },
     Row {
-        act: Act::Feed(&[0x01, 0x04, 0x00, 0x62, 0x0a, 0x93]),
+        act: Act::Ask(&[0x01, 0x04, 0x00, 0x62, 0x0a, 0x93]),
         outs: &[
             Want::Write(&[0x06]),
             Want::Write(&[0x01, 0x04, 0x01, 0x62, 0x01, 0x99]),
         ],
     },
+];
+
+/// Frames that wait, copies, and bytes that are no unit.
+pub(super) const LINK: [Row; 10] = [
     // what waits while the link is busy is written after the ACK, or after the fourth copy failed
     Row {
         act: Act::Feed(&[0x01, 0x03, 0x00, 0x15, 0xe9, 0x01, 0x03, 0x00, 0x20, 0xdc]),
-        outs: &[Want::Write(&[0x06]), Want::Write(&[0x06])],
+        outs: &[
+            Want::Write(&[0x06]),
+            Want::Write(&[
+                0x01, 0x10, 0x01, 0x15, 0x5a, 0x2d, 0x57, 0x61, 0x76, 0x65, 0x20, 0x30, 0x2e, 0x30,
+                0x30, 0x00, 0x01, 0x96,
+            ]),
+            Want::Write(&[0x06]),
+        ],
     },
     Row {
-        act: Act::Feed(&[0x06, 0x15]),
-        outs: &[Want::Write(&[
-            0x01, 0x10, 0x01, 0x15, 0x5a, 0x2d, 0x57, 0x61, 0x76, 0x65, 0x20, 0x30, 0x2e, 0x30,
-            0x30, 0x00, 0x01, 0x96,
-        ])],
+        act: Act::Feed(&[0x15]),
+        outs: &[],
     },
     Row {
         act: Act::Tick(1),
@@ -467,19 +323,15 @@ pub(super) const ROWS: [Row; 80] = [
     },
     // bytes that are no unit: a wrong sum is refused, a stray byte ignored, an unfinished frame forgotten
     Row {
-        act: Act::Feed(&[0x01, 0x03, 0x00, 0x15, 0xe8]),
+        act: Act::Feed(&[0x01, 0x03, 0x00, 0x15, 0xe8, 0x77, 0x01, 0x03]),
         outs: &[Want::Write(&[0x15])],
-    },
-    Row {
-        act: Act::Feed(&[0x77, 0x01, 0x03]),
-        outs: &[],
     },
     Row {
         act: Act::Tick(15),
         outs: &[],
     },
     Row {
-        act: Act::Feed(&[0x01, 0x03, 0x00, 0x15, 0xe9]),
+        act: Act::Ask(&[0x01, 0x03, 0x00, 0x15, 0xe9]),
         outs: &[
             Want::Write(&[0x06]),
             Want::Write(&[
@@ -487,9 +339,5 @@ pub(super) const ROWS: [Row; 80] = [
                 0x30, 0x00, 0x01, 0x96,
             ]),
         ],
-    },
-    Row {
-        act: Act::Feed(&[0x06]),
-        outs: &[],
     },
 ];
