@@ -9,7 +9,7 @@ use Rattle.chip_functions.specs.declared.notice.Notice.TheVariants.{ApplicationC
 use Rattle.chip_functions.specs.declared.notice.Update.{Update}
 use Rattle.chip_functions.specs.declared.notice.Update.TheVariants.{Received, RequestFailed}
 use Rattle.chip_functions.specs.declared.notice.TransmitStatus.{TransmitStatus}
-use Rattle.device_sim.specs.declared.kind.Profile.{Profile}
+use Rattle.zw_base.specs.declared.profile.Profile.{Profile}
 use Rattle.chip_sim.specs.Waiting.{PortState, queued_outs, served, ticked, ticked_outs}
 use Rattle.chip_sim.specs.State.{ChipState, owed_calls}
 use Rattle.chip_sim.specs.Answers.{notice_frame}

@@ -16,11 +16,10 @@ use crate::port::Port;
 use crate::post::Post;
 use crate::{ChipOut, Sending};
 use chip_functions::{Notice, TransmitStatus, Update, write_notice};
-use device_sim::Profile;
 use route_table::RouteTable;
 use std::alloc::Global;
 use std::marker::Model;
-use zw_base::{Bytes, List, NoMemory, NodeId};
+use zw_base::{Bytes, List, NoMemory, NodeId, Profile};
 
 /// The device classes that each ApplicationUpdate tells: basic, generic and specific.
 const BASIC: u8 = 4;

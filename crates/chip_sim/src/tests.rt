@@ -4,13 +4,12 @@ mod rows;
 
 use crate::{Chip, ChipOut, MAX_WAITING};
 use chip_functions::TransmitStatus;
-use device_sim::Profile;
 use rows::{ANSWERS, LINK, SENDING};
 use serial_frame::{Unit, encode};
 use std::alloc::Global;
 use std::process::Abort;
 use std::test::Fail;
-use zw_base::{Bytes, List, NoMemory, NodeId, read_node};
+use zw_base::{Bytes, List, NoMemory, NodeId, Profile, read_node};
 
 /// What a test expects to be put out.
 #[derive(Drop)]
