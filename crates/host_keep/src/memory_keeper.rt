@@ -1,0 +1,126 @@
+//! A keeper over memory, of which chosen calls fail. It serves tests.
+
+ghost use Rattle.std.specs.Prelude.{◌≡◌, ◌↔◌, ◌+◌, ◌<◌, ◌≤◌, [], ◌∷◌, ◌++◌, length, Err, Some, IfOk, OnOk, OnErr, Contains};
+ghost use Rattle.zw_base.specs.Faults.{Rose, raised};
+ghost use Rattle.host_keep.specs.Keeping.{OptAdds, IsKeptAt};
+ghost use Rattle.host_keep.specs.Shelf.{Shelf as TheShelf};
+
+use crate::keeper::{KeepFault, Keeper};
+use std::alloc::Global;
+use std::marker::Model;
+use zw_base::{Bytes, List, NoMemory};
+
+/// A keeper that tells its records, and fails at the calls of `append` and `read` whose numbers, from 1, it was given.
+#[derive(Debug, Drop)]
+pub struct MemoryKeeper {
+    alloc: Global,
+    records: List<Bytes>,
+    calls: u64,
+    failing: List<u64>,
+    faults: u64,
+    reads: u64,
+}
+
+impl Model for MemoryKeeper {
+    ghost use Rattle.host_keep.specs.Shelf.{Shelf};
+
+    ghost Value = { Shelf };
+
+    ghost view = { λ k. record { records = k.records.items; calls = k.calls; failing = k.failing.items; faults = k.faults; reads = k.reads } };
+}
+
+impl MemoryKeeper {
+    /// No records.
+    pub fn new(alloc: Global, failing: &[u64]) -> Result<MemoryKeeper, NoMemory>
+        ensures { IfOk result (λ k. k ≡ record { records = []; calls = 0; failing = failing.now; faults = 0; reads = 0 }) }
+    {
+        Ok(MemoryKeeper {
+            alloc,
+            records: List::new(alloc),
+            calls: 0,
+            failing: List::from_slice(alloc, failing)?,
+            faults: 0,
+            reads: 0,
+        })
+    }
+
+    /// Counts a call, which fails where it is one of those chosen.
+    fn call(&mut self) -> Result<(), KeepFault>
+        ensures calls { self.new.calls ≡ raised self.old.calls }
+        ensures records { self.new.records ≡ self.old.records }
+        ensures failing { self.new.failing ≡ self.old.failing }
+        ensures reads { self.new.reads ≡ self.old.reads }
+        ensures fails { (result ≡ Err KeepFault.Failed) ↔ Contains self.old.failing (raised self.old.calls) }
+        ensures counted { result ≡ Err KeepFault.Failed → self.new.faults ≡ raised self.old.faults }
+        ensures uncounted { OnOk result (self.new.faults ≡ self.old.faults) }
+        ensures memory { result ≡ Err KeepFault.NoMemory → ⊥ }
+    {
+        self.calls = self.calls.saturating_add(1);
+        if self.failing.as_slice().contains(&self.calls) {
+            self.faults = self.faults.saturating_add(1);
+            return Err(KeepFault::Failed);
+        }
+        Ok(())
+    }
+}
+
+impl Keeper for MemoryKeeper {
+    ghost use Rattle.std.specs.Prelude.{Some, length};
+
+    ghost number = { λ k. length k.records };
+
+    ghost records = { λ k. Some k.records };
+
+    ghost faults = { λ k. k.faults };
+
+    ghost reads = { λ k. k.reads };
+
+    ghost tells_all = { λ k told e. Rattle.host_keep.specs.Keeping.length-told e };
+
+    fn append(&mut self, bytes: &[u8]) -> Result<(), KeepFault>
+        ensures added { OnOk result (length self.new.records ≡ length self.old.records + 1) }
+        ensures records { OnOk result (OptAdds (Some self.old.records) (Some self.new.records) (bytes.now ∷ [])) }
+        ensures not_added { OnErr result (length self.new.records ≡ length self.old.records) }
+        ensures unchanged { OnErr result (OptAdds (Some self.old.records) (Some self.new.records) []) }
+        ensures reads { self.new.reads ≡ self.old.reads }
+        ensures never_falls { self.old.faults ≤ self.new.faults }
+        ensures failed { result ≡ Err KeepFault.Failed → Rose self.old.faults self.new.faults }
+
+        // Exactly the chosen calls fail.
+        ensures calls { self.new.calls ≡ raised self.old.calls }
+        ensures failing { self.new.failing ≡ self.old.failing }
+        ensures fails { (result ≡ Err KeepFault.Failed) ↔ Contains self.old.failing (raised self.old.calls) }
+        ensures counted { result ≡ Err KeepFault.Failed → self.new.faults ≡ raised self.old.faults }
+    {
+        self.call()?;
+        let kept = Bytes::from_slice(self.alloc, bytes)?;
+        self.records.push(kept)?;
+        Ok(())
+    }
+
+    fn count(&self) -> u64 {
+        self.records.len() as u64
+    }
+
+    fn read(&mut self, alloc: Global, at: u64) -> Result<Bytes, KeepFault>
+        requires { at < length self.old.records }
+        ensures found { IfOk result (λ bytes. IsKeptAt (Some self.old.records) at bytes) }
+        ensures number { length self.new.records ≡ length self.old.records }
+        ensures records { OptAdds (Some self.old.records) (Some self.new.records) [] }
+        ensures reads { OnOk result (self.new.reads ≡ raised self.old.reads) }
+        ensures not_read { OnErr result (self.new.reads ≡ self.old.reads) }
+        ensures never_falls { self.old.faults ≤ self.new.faults }
+        ensures failed { result ≡ Err KeepFault.Failed → Rose self.old.faults self.new.faults }
+
+        // Exactly the chosen calls fail.
+        ensures calls { self.new.calls ≡ raised self.old.calls }
+        ensures failing { self.new.failing ≡ self.old.failing }
+        ensures fails { (result ≡ Err KeepFault.Failed) ↔ Contains self.old.failing (raised self.old.calls) }
+        ensures counted { result ≡ Err KeepFault.Failed → self.new.faults ≡ raised self.old.faults }
+    {
+        self.call()?;
+        let found = Bytes::from_slice(alloc, self.records.as_slice()[at as usize].as_slice())?;
+        self.reads = self.reads.saturating_add(1);
+        Ok(found)
+    }
+}
