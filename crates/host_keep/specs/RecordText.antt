@@ -1,5 +1,5 @@
 -- The text of a record: its numbers as a JSON array with no space (RFC 8259).
-use Rattle.std.specs.Prelude.{◌≡◌, ℕ, ◌^◌, ◌<◌, List, All, map}
+use Rattle.std.specs.Prelude.{◌≡◌, ℕ, ◌^◌, ◌<◌, List, EachIndex, slice_index, map}
 use Rattle.serde_json.specs.Data.{Data, number, unsigned, array}
 use Rattle.serde_json.specs.View.{items_of}
 use Rattle.serde_json.specs.Written.{compact_text}
@@ -20,7 +20,7 @@ row_text numbers = compact_text (row_data numbers)
 
 -- numbers of 64 bits
 abbrev pub AreLong : List ℕ → Type 0
-AreLong numbers = All (λ n. n < 2 ^ 64) numbers
+AreLong numbers = EachIndex numbers (λ k. slice_index numbers k < 2 ^ 64)
 
 -- the text of a record
 abbrev pub record_text : Record → List ℕ

@@ -1,5 +1,5 @@
 -- The numbers of a record, and their ranges (this project's own rule).
-use Rattle.std.specs.Prelude.{◌≡◌, ℕ, ◌^◌, ◌<◌, ◌≤◌, Bool, true, false, List, [], ◌∷◌, length, All}
+use Rattle.std.specs.Prelude.{◌≡◌, ℕ, ◌^◌, ◌<◌, ◌≤◌, Bool, true, false, List, [], ◌∷◌, length, EachIndex, slice_index}
 use Rattle.zw_order.specs.declared.order.Word.{Word}
 use Rattle.zw_order.specs.declared.order.Word.TheVariants.{On, Off, Level}
 use Rattle.zw_order.specs.declared.order.What.{What}
@@ -48,7 +48,7 @@ IsNode node = (1 ≤ node) × (node ≤ 232)
 
 -- each is a byte
 abbrev pub AreBytes : List ℕ → Type 0
-AreBytes numbers = All (λ n. n < 2 ^ 8) numbers
+AreBytes numbers = EachIndex numbers (λ k. slice_index numbers k < 2 ^ 8)
 
 abbrev pub IsWord : Word → Type 0
 IsWord On = Unit {0}

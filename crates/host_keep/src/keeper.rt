@@ -2,7 +2,7 @@
 
 ghost use Rattle.std.specs.Prelude.{◌≡◌, ℕ, ◌+◌, ◌<◌, ◌≤◌, List as Items, [], ◌∷◌, Option, Some, length, IfOk, OnOk, OnErr, Err};
 ghost use Rattle.zw_base.specs.Faults.{Rose, raised};
-ghost use Rattle.host_keep.specs.Keeping.{OptAdds, Appends, IsKeptAt, Kept, added};
+ghost use Rattle.host_keep.specs.Keeping.{OptAdds, IsKeptAt, Kept, added};
 
 use std::alloc::Global;
 use zw_base::{Bytes, NoMemory};

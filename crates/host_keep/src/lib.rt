@@ -25,3 +25,6 @@ pub use plain_keeper::PlainKeeper;
 pub use reading::{RecordFault, read_record};
 pub use record::Record;
 pub use writing::write_record;
+
+#[cfg(test)]
+mod tests;

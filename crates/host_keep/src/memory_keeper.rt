@@ -1,9 +1,8 @@
 //! A keeper over memory, of which chosen calls fail. It serves tests.
 
-ghost use Rattle.std.specs.Prelude.{◌≡◌, ◌↔◌, ◌+◌, ◌<◌, ◌≤◌, [], ◌∷◌, ◌++◌, length, Err, Some, IfOk, OnOk, OnErr, Contains};
+ghost use Rattle.std.specs.Prelude.{◌≡◌, ◌↔◌, ◌+◌, ◌<◌, ◌≤◌, [], ◌∷◌, ◌++◌, length, false, Err, Some, IfOk, IsTrue, OnOk, OnErr, Contains};
 ghost use Rattle.zw_base.specs.Faults.{Rose, raised};
 ghost use Rattle.host_keep.specs.Keeping.{OptAdds, IsKeptAt};
-ghost use Rattle.host_keep.specs.Shelf.{Shelf as TheShelf};
 
 use crate::keeper::{KeepFault, Keeper};
 use std::alloc::Global;
@@ -44,23 +43,18 @@ impl MemoryKeeper {
         })
     }
 
-    /// Counts a call, which fails where it is one of those chosen.
-    fn call(&mut self) -> Result<(), KeepFault>
-        ensures calls { self.new.calls ≡ raised self.old.calls }
-        ensures records { self.new.records ≡ self.old.records }
-        ensures failing { self.new.failing ≡ self.old.failing }
-        ensures reads { self.new.reads ≡ self.old.reads }
-        ensures fails { (result ≡ Err KeepFault.Failed) ↔ Contains self.old.failing (raised self.old.calls) }
-        ensures counted { result ≡ Err KeepFault.Failed → self.new.faults ≡ raised self.old.faults }
-        ensures uncounted { OnOk result (self.new.faults ≡ self.old.faults) }
-        ensures memory { result ≡ Err KeepFault.NoMemory → ⊥ }
+    /// Counts a call, and answers whether it is one that is to fail, which counts as a fault.
+    fn fails(&mut self) -> bool
+        ensures chosen { IsTrue result ↔ Contains self.old.failing (raised self.old.calls) }
+        ensures failed { IsTrue result → self.new ≡ record self.old { calls = raised self.old.calls; faults = raised self.old.faults } }
+        ensures called { result ≡ false → self.new ≡ record self.old { calls = raised self.old.calls } }
     {
         self.calls = self.calls.saturating_add(1);
-        if self.failing.as_slice().contains(&self.calls) {
+        let fails = self.failing.as_slice().contains(&self.calls);
+        if fails {
             self.faults = self.faults.saturating_add(1);
-            return Err(KeepFault::Failed);
         }
-        Ok(())
+        fails
     }
 }
 
@@ -92,7 +86,9 @@ impl Keeper for MemoryKeeper {
         ensures fails { (result ≡ Err KeepFault.Failed) ↔ Contains self.old.failing (raised self.old.calls) }
         ensures counted { result ≡ Err KeepFault.Failed → self.new.faults ≡ raised self.old.faults }
     {
-        self.call()?;
+        if self.fails() {
+            return Err(KeepFault::Failed);
+        }
         let kept = Bytes::from_slice(self.alloc, bytes)?;
         self.records.push(kept)?;
         Ok(())
@@ -118,7 +114,9 @@ impl Keeper for MemoryKeeper {
         ensures fails { (result ≡ Err KeepFault.Failed) ↔ Contains self.old.failing (raised self.old.calls) }
         ensures counted { result ≡ Err KeepFault.Failed → self.new.faults ≡ raised self.old.faults }
     {
-        self.call()?;
+        if self.fails() {
+            return Err(KeepFault::Failed);
+        }
         let found = Bytes::from_slice(alloc, self.records.as_slice()[at as usize].as_slice())?;
         self.reads = self.reads.saturating_add(1);
         Ok(found)

@@ -101,7 +101,8 @@ fn bytes(alloc: Global, numbers: &[u64], at: usize) -> Result<Bytes, RecordFault
 {
     let mut bytes = Bytes::new(alloc);
     for i in at..numbers.len() {
-        bytes.push(byte_of(numbers[i])?)?;
+        let byte = byte_of(numbers[i])?;
+        bytes.push(byte)?;
     }
     Ok(bytes)
 }

@@ -2,7 +2,7 @@
 
 ghost use Rattle.std.specs.Prelude.{◌≡◌, ◌++◌, map, IfOk, OnOk};
 ghost use Rattle.serde_json.specs.View.{view, items_view, items_of};
-ghost use Rattle.host_keep.specs.Rows.{what_numbers, numbers_of, flag_number, IsRecord, IsWhat};
+ghost use Rattle.host_keep.specs.Rows.{what_numbers, numbers_of, flag_number, AreBytes, IsRecord, IsWhat, IsWord};
 ghost use Rattle.host_keep.specs.RecordText.{IsTextOf, number_data, row_data, row_text};
 
 use crate::kinds::{
@@ -17,7 +17,8 @@ use zw_order::{What, Word};
 
 /// Adds bytes as numbers.
 fn put_bytes(numbers: &mut Vec<u64>, bytes: &[u8]) -> Result<(), AllocError>
-    ensures { OnOk result (numbers.new.items ≡ numbers.old.items ++ bytes.now) }
+    ensures numbers { OnOk result (numbers.new.items ≡ numbers.old.items ++ bytes.now) }
+    ensures range { AreBytes bytes.now }
 {
     for byte in bytes {
         numbers.push(u64::from(*byte))?;
@@ -27,7 +28,8 @@ fn put_bytes(numbers: &mut Vec<u64>, bytes: &[u8]) -> Result<(), AllocError>
 
 /// Adds a value in words.
 fn put_word(numbers: &mut Vec<u64>, word: Word) -> Result<(), AllocError>
-    ensures { OnOk result (numbers.new.items ≡ numbers.old.items ++ what_numbers (What.Value word)) }
+    ensures numbers { OnOk result (numbers.new.items ≡ numbers.old.items ++ what_numbers (What.Value word)) }
+    ensures range { IsWord word }
 {
     match word {
         Word::On => numbers.push(ON)?,
@@ -154,6 +156,7 @@ fn row_value(alloc: Global, numbers: &[u64]) -> Result<Value, AllocError>
 }
 
 /// The text of a row of numbers.
+#[tactic(auto, unfolding(crate::specs::RecordText::row_text))]
 fn write_row(alloc: Global, numbers: &[u64]) -> Result<Bytes, NoMemory>
     ensures { IfOk result (λ bytes. bytes ≡ row_text numbers.now) }
 {
