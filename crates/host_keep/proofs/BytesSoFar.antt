@@ -2,9 +2,9 @@
 use Rattle.std.proofs.Common.{◌≡◌, ℕ, zero, suc, ◌+◌, ◌<◌, ◌≤◌, List, [], ◌∷◌, ◌++◌, length, get_or, drop, Result, Ok, Err, refl, sym, ap, ◌∙◌, arith, add-one, append_assoc, append-nil}
 use Rattle.std.proofs.lemmas.List.{drop_all}
 use Rattle.std.proofs.Math.Seq.{drop-cons}
-use Rattle.host_keep.specs.RowReading.{◌>>=◌, byte_in, bytes_in}
+use Rattle.host_keep.specs.RowReading.{◌>>=◌, Gives, byte_in, bytes_in}
 use Rattle.host_keep.specs.declared.reading.RecordFault.{RecordFault}
-use Rattle.host_keep.specs.declared.reading.RecordFault.TheVariants.{Bad}
+use Rattle.host_keep.specs.declared.reading.RecordFault.TheVariants.{Bad, NoMemory}
 
 -- of the bytes from `at` on these were read, and those from `i` on are left
 pub record IsSoFar (at : ℕ) (numbers done : List ℕ) (i : ℕ) : Type 0 where
@@ -42,3 +42,8 @@ so_far_bad at numbers done i h is so =
 pub so_far_end : (at : ℕ) (numbers done : List ℕ) (i : ℕ) → length numbers ≤ i → IsSoFar at numbers done i → bytes_in (drop at numbers) ≡ Ok done
 so_far_end at numbers done i h so =
     so.all ∙ ap (λ xs. bytes_in xs >>= λ rest. Ok (done ++ rest)) (drop_all i numbers h) ∙ ap Ok (append-nil done)
+
+-- a byte that is refused is bad
+pub bad_given : (fault : RecordFault) (n : ℕ) (s : Result (List ℕ) RecordFault) → Err fault ≡ byte_in n → (byte_in n ≡ Err Bad → s ≡ Err Bad) → Gives (Err fault) s
+bad_given Bad n s e k = k (sym e)
+bad_given NoMemory n s e k = tt

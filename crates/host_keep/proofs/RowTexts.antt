@@ -1,5 +1,5 @@
 -- The text of a row of numbers: it is read as that row and as no other.
-use Rattle.std.proofs.Common.{◌≡◌, ℕ, zero, suc, ◌+◌, ◌^◌, ◌<◌, ◌≤◌, List, [], ◌∷◌, ◌++◌, length, map, Bool, true, false, Some, option_map, option_and_then, decimal, refl, sym, ap, ◌∙◌, arith, append-nil}
+use Rattle.std.proofs.Common.{◌≡◌, ℕ, zero, suc, ◌+◌, ◌^◌, ◌<◌, ◌≤◌, List, [], ◌∷◌, ◌++◌, length, map, Bool, true, false, IsTrue, Option, Some, None, option_map, option_and_then, decimal, refl, sym, ap, subst, ◌∙◌, arith, append-nil}
 use Rattle.std.specs.Str.{IsUtf8, IsAscii}
 use Rattle.std.proofs.lemmas.Str.{IsUtf8-from_ascii, IsUtf8-append, IsUtf8-nil}
 use Rattle.std.proofs.lemmas.Fmt.{IsAscii-decimal}
@@ -10,11 +10,11 @@ use Rattle.json.proofs.Printed.Tokens.{tokens-print}
 use Rattle.json.proofs.Printed.Trees.{value-json_tokens, ArePrintable-json_tokens}
 use Rattle.json.proofs.Printed.Decimals.{IsNumber-decimal}
 use Rattle.serde_json.specs.Data.{Num, unsigned, negative, float, Data, null, boolean, number, string, array, object, Items, no_items, item}
-use Rattle.serde_json.specs.Read.{read, of_items, max_depth}
+use Rattle.json.specs.Token.{Token}
+use Rattle.serde_json.specs.Read.{read, of_json, of_items, max_depth}
 use Rattle.serde_json.specs.View.{items_of}
 use Rattle.serde_json.specs.Written.{outline, items_outline, has_float, items_have_float, comma_if, items_text}
 use Rattle.serde_json.proofs.Numbers.{number_of-decimal}
-use Rattle.serde_json.proofs.Reading.{whole}
 use Rattle.serde_json.proofs.Texts.{print-outline}
 use Rattle.host_keep.specs.RecordText.{AreLong, number_data, row_data, row_text}
 
@@ -54,6 +54,10 @@ tokens_row : (ns : List ℕ) → AreLong ns → tokens (row_text ns) ≡ json_to
 unfolding row_text
 tokens_row ns h =
     ap tokens (sym (print-outline (row_data ns))) ∙ tokens-print (json_tokens (outline (row_data ns))) (ArePrintable-json_tokens (outline (row_data ns)) (printable ns h))
+
+-- what a whole text is read as
+abbrev whole : Option (json.Json × List Token) → Option Data
+whole o = option_and_then of_json (option_and_then (λ p. json.if_last p.0 p.1) o)
 
 pub read_row : (ns : List ℕ) → AreLong ns → read (row_text ns) ≡ Some (row_data ns)
 read_row ns h =
@@ -119,8 +123,25 @@ row_values-row_data (n ∷ ns) = ap (λ ms. n ∷ ms) (row_values-row_data ns)
 pub same_data : (ns ms : List ℕ) → row_data ns ≡ row_data ms → ns ≡ ms
 same_data ns ms e = sym (row_values-row_data ns) ∙ ap row_values e ∙ row_values-row_data ms
 
-same_some : (d e : Data) → Some d ≡ Some e → d ≡ e
+pub same_some : (d e : Data) → Some d ≡ Some e → d ≡ e
 same_some d e h = cc
 
 pub same_row : (ns ms : List ℕ) → AreLong ns → AreLong ms → row_text ns ≡ row_text ms → ns ≡ ms
 same_row ns ms h k e = same_data ns ms (same_some _ _ (sym (read_row ns h) ∙ ap read e ∙ read_row ms k))
+
+-- ---- what a reader makes of the text of a row
+
+pub read_as : (bytes ns : List ℕ) (d : Data) → read bytes ≡ Some d → bytes ≡ row_text ns → AreLong ns → d ≡ row_data ns
+read_as bytes ns d r e h = same_some d (row_data ns) (sym r ∙ ap read e ∙ read_row ns h)
+
+none_some : (d : Data) → (let o : Option Data = None in o) ≡ Some d → ⊥
+none_some d e = cc
+
+pub read_is_not_none : (bytes ns : List ℕ) → read bytes ≡ None → bytes ≡ row_text ns → AreLong ns → ⊥
+read_is_not_none bytes ns r e h = none_some (row_data ns) (sym r ∙ ap read e ∙ read_row ns h)
+
+pub utf8_as : (bytes ns : List ℕ) → bytes ≡ row_text ns → AreLong ns → IsUtf8 bytes
+utf8_as bytes ns e h = subst IsUtf8 (sym e) (utf8_row ns h)
+
+pub not_true : IsTrue false → ⊥
+not_true e = cc

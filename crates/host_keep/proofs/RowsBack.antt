@@ -1,5 +1,5 @@
 -- The numbers of a record are those of that record alone.
-use Rattle.std.proofs.Common.{◌≡◌, ℕ, zero, suc, ◌+◌, ◌^◌, ◌<◌, ◌≤◌, List, [], ◌∷◌, length, get_or, Bool, true, false, Result, Ok, Err, nat_lt, nat_le, ◌&&◌, refl, sym, ap, ◌∙◌, arith, lt-ltb, le-leb}
+use Rattle.std.proofs.Common.{◌≡◌, ℕ, zero, suc, ◌+◌, ◌^◌, ◌<◌, ◌≤◌, List, [], ◌∷◌, length, get_or, Bool, true, false, Result, Ok, Err, nat_lt, nat_le, ◌&&◌, refl, sym, ap, subst, ◌∙◌, arith, lt-ltb, le-leb}
 use Rattle.std.proofs.lemmas.Bool.Decides.{nat_tests}
 use Rattle.std.proofs.lemmas.Bool.{and_from}
 use Rattle.zw_order.specs.declared.order.Word.{Word}
@@ -10,11 +10,11 @@ use Rattle.zw_order.specs.declared.order.Order.{Order}
 use Rattle.host_keep.specs.Status.{status_byte}
 use Rattle.host_keep.specs.Rows.{what_numbers, numbers_of, flag_number, IsNode, AreBytes, IsWord, IsWhat, IsOrder, IsRecord}
 use Rattle.host_keep.specs.RecordText.{AreLong, IsTextOf, row_text}
-use Rattle.host_keep.specs.RowReading.{◌>>=◌, where_ok, byte_in, node_in, end_in, short_in, long_in, flag_in, status_in, number_at, bytes_in, bytes_at, nonce_at, setpoint_at, config_at, bulk_at, member_at, comfort_at, what_by, what_at, accepted_at, classes_at, begun_at, final_at, given_at, seen_at, record_at}
+use Rattle.host_keep.specs.RowReading.{◌>>=◌, Gives, where_ok, byte_in, node_in, end_in, short_in, long_in, flag_in, status_in, number_at, bytes_in, bytes_at, nonce_at, setpoint_at, config_at, bulk_at, member_at, comfort_at, what_by, what_at, accepted_at, classes_at, begun_at, final_at, given_at, seen_at, record_at}
 use Rattle.host_keep.specs.declared.final_status.FinalStatus.{FinalStatus}
 use Rattle.host_keep.specs.declared.final_status.FinalStatus.TheVariants.{NoSupport, Fail, Success}
 use Rattle.host_keep.specs.declared.reading.RecordFault.{RecordFault}
-use Rattle.host_keep.specs.declared.reading.RecordFault.TheVariants.{Bad}
+use Rattle.host_keep.specs.declared.reading.RecordFault.TheVariants.{Bad, NoMemory}
 use Rattle.host_keep.specs.declared.record.Record.{Record}
 use Rattle.host_keep.specs.declared.record.Record.TheVariants.{Accepted, Joined, Classes, Begun, Final, Cancelled, Given, Spent, Seen}
 use Rattle.host_keep.proofs.RowTexts.{same_row}
@@ -209,3 +209,27 @@ pub one_record : (one other : Record) (text : List ℕ) → IsTextOf one text �
 one_record one other text p q =
     let rows = same_row (numbers_of one) (numbers_of other) (numbers_long one p.in_range) (numbers_long other q.in_range) (sym p.text ∙ q.text) in
     same_ok one other (sym (record_back one p.in_range) ∙ ap record_at rows ∙ record_back other q.in_range)
+
+-- ---- what is found of a text
+
+-- a fault that is not Bad is want of memory
+pub not_bad : {A : Type 0} (fault : RecordFault) (kept : Record) → ((let r : Result A RecordFault = Err fault in r) ≡ Err Bad → ⊥) → Gives {X = Record} (Err fault) (Ok kept)
+not_bad Bad kept h = absurd (h refl)
+not_bad NoMemory kept h = tt
+
+-- numbers of a record are found to be it
+pub gives_kept : (found : Result Record RecordFault) (kept : Record) (ns : List ℕ) → IsRecord kept → ns ≡ numbers_of kept → Gives found (record_at ns) → Gives found (Ok kept)
+gives_kept found kept ns h e g = subst (λ r. Gives found r) (ap record_at e ∙ record_back kept h) g
+
+-- and written as that text
+pub written_again : (found kept : Record) (ns text bytes : List ℕ) → IsTextOf kept bytes → ns ≡ numbers_of kept → Gives (Ok found) (record_at ns) → IsTextOf found text → text ≡ bytes
+written_again found kept ns text bytes t e g w =
+    let same = same_ok kept found (gives_kept (Ok found) kept ns t.in_range e g) in
+    w.text ∙ ap (λ r. row_text (numbers_of r)) (sym same) ∙ sym t.text
+
+ok_not_err : (kept : Record) → (let r : Result Record RecordFault = Ok kept in r) ≡ Err Bad → ⊥
+ok_not_err kept e = cc
+
+-- a text that is bad is of no record
+pub bad_is_none : (result : Result Record RecordFault) (bytes : List ℕ) → ((kept : Record) → IsTextOf kept bytes → Gives result (Ok kept)) → result ≡ Err Bad → (kept : Record) → IsTextOf kept bytes → ⊥
+bad_is_none result bytes only e kept t = ok_not_err kept (subst (λ r. Gives r (Ok kept)) e (only kept t))

@@ -1,6 +1,6 @@
 //! A keeper over memory, of which chosen calls fail. It serves tests.
 
-ghost use Rattle.std.specs.Prelude.{◌≡◌, ◌↔◌, ◌+◌, ◌<◌, ◌≤◌, [], ◌∷◌, ◌++◌, length, false, Err, Some, IfOk, IsTrue, OnOk, OnErr, Contains};
+ghost use Rattle.std.specs.Prelude.{◌≡◌, ◌↔◌, ◌+◌, ◌<◌, ◌≤◌, [], ◌∷◌, ◌++◌, length, slice_get, false, Err, Some, IfOk, IsTrue, OnOk, OnErr, Contains};
 ghost use Rattle.zw_base.specs.Faults.{Rose, raised};
 ghost use Rattle.host_keep.specs.Keeping.{OptAdds, IsKeptAt};
 
@@ -48,6 +48,7 @@ impl MemoryKeeper {
         ensures chosen { IsTrue result ↔ Contains self.old.failing (raised self.old.calls) }
         ensures failed { IsTrue result → self.new ≡ record self.old { calls = raised self.old.calls; faults = raised self.old.faults } }
         ensures called { result ≡ false → self.new ≡ record self.old { calls = raised self.old.calls } }
+        ensures never_falls { self.old.faults ≤ self.new.faults }
     {
         self.calls = self.calls.saturating_add(1);
         let fails = self.failing.as_slice().contains(&self.calls);
@@ -56,6 +57,14 @@ impl MemoryKeeper {
         }
         fails
     }
+}
+
+/// A copy of the record at that place.
+pub(crate) fn copy_at(alloc: Global, records: &[Bytes], at: usize) -> Result<Bytes, NoMemory>
+    requires { at < length records.now }
+    ensures { IfOk result (λ copy. slice_get records.now at ≡ Some copy) }
+{
+    Bytes::from_slice(alloc, records[at].as_slice())
 }
 
 impl Keeper for MemoryKeeper {
@@ -117,7 +126,7 @@ impl Keeper for MemoryKeeper {
         if self.fails() {
             return Err(KeepFault::Failed);
         }
-        let found = Bytes::from_slice(alloc, self.records.as_slice()[at as usize].as_slice())?;
+        let found = copy_at(alloc, self.records.as_slice(), at as usize)?;
         self.reads = self.reads.saturating_add(1);
         Ok(found)
     }

@@ -5,6 +5,7 @@ ghost use Rattle.zw_base.specs.Faults.{Rose, raised};
 ghost use Rattle.host_keep.specs.Keeping.{OptAdds, IsKeptAt};
 
 use crate::keeper::{KeepFault, Keeper};
+use crate::memory_keeper::copy_at;
 use std::alloc::Global;
 use std::marker::Model;
 use zw_base::{Bytes, List};
@@ -81,7 +82,7 @@ impl Keeper for PlainKeeper {
         ensures failed { result ≡ Err KeepFault.Failed → Rose 0 0 }
         ensures never_fails { ¬ (result ≡ Err KeepFault.Failed) }
     {
-        let found = Bytes::from_slice(alloc, self.records.as_slice()[at as usize].as_slice())?;
+        let found = copy_at(alloc, self.records.as_slice(), at as usize)?;
         self.reads = self.reads.saturating_add(1);
         Ok(found)
     }

@@ -3,6 +3,7 @@
 ghost use Rattle.std.specs.Prelude.{◌≡◌, ◌≢◌, ℕ, ◌^◌, ◌<◌, List, All, IfOk, Ok, Err};
 ghost use Rattle.host_keep.specs.declared.record.Record.{Record as TheRecord};
 ghost use Rattle.host_keep.specs.RecordText.{IsTextOf, IsNoText, AreLong, row_data, row_text};
+ghost use Rattle.host_keep.specs.RowReading.{Gives};
 ghost use Rattle.serde_json.specs.View.{view};
 
 use crate::record::Record;
@@ -86,10 +87,9 @@ fn numbers_in(alloc: Global, value: &Value) -> Result<Vec<u64>, RecordFault>
 
 /// The record that a text is the text of. Its numbers are found first; then the text has to be the one that the record
 /// found is written as, so that no blank, no leading zero and no further number is taken.
-pub fn read_record(alloc: Global, bytes: &[u8]) -> Result<Record, RecordFault>
+fn find_record(alloc: Global, bytes: &[u8]) -> Result<Record, RecordFault>
     ensures found { IfOk result (λ found. IsTextOf found bytes.now) }
-    ensures only { (kept : TheRecord) → IsTextOf kept bytes.now → IfOk result (λ found. found ≡ kept) }
-    ensures bad { result ≡ Err RecordFault.Bad → IsNoText bytes.now }
+    ensures only { (kept : TheRecord) → IsTextOf kept bytes.now → Gives result (Ok kept) }
 {
     let value = parse(alloc, bytes)?;
     let numbers = numbers_in(alloc, &value)?;
@@ -100,4 +100,16 @@ pub fn read_record(alloc: Global, bytes: &[u8]) -> Result<Record, RecordFault>
     } else {
         Err(RecordFault::Bad)
     }
+}
+
+/// The record that a text is the text of.
+pub fn read_record(alloc: Global, bytes: &[u8]) -> Result<Record, RecordFault>
+    // What is found has this text.
+    ensures found { IfOk result (λ found. IsTextOf found bytes.now) }
+    // What has this text is found, unless there was no memory.
+    ensures only { (kept : TheRecord) → IsTextOf kept bytes.now → Gives result (Ok kept) }
+    // Bad is exactly what is the text of no record.
+    ensures bad { result ≡ Err RecordFault.Bad → IsNoText bytes.now }
+{
+    find_record(alloc, bytes)
 }
