@@ -30,7 +30,7 @@ so_far_one at numbers done i b h is so = record {
   all = so.all
       ∙ ap (λ xs. bytes_in xs >>= λ rest. Ok (done ++ rest)) (front numbers i h)
       ∙ ap (λ x. (x >>= λ byte. (bytes_in (drop (i + 1) numbers) >>= λ bytes. Ok (byte ∷ bytes))) >>= λ rest. Ok (done ++ rest)) is
-      ∙ one_more (bytes_in (drop (i + 1) numbers)) done b
+      ∙ one_more (bytes_in (drop (i + 1) numbers)) done b;
 }
 
 pub so_far_bad : (at : ℕ) (numbers done : List ℕ) (i : ℕ) → i < length numbers → byte_in (get_or numbers i 0) ≡ Err Bad → IsSoFar at numbers done i → bytes_in (drop at numbers) ≡ Err Bad

@@ -1,5 +1,5 @@
 -- The numbers of a JSON array, one after another.
-use Rattle.std.proofs.Common.{◌≡◌, ℕ, zero, suc, ◌+◌, ◌<◌, ◌≤◌, List, [], ◌∷◌, ◌++◌, length, get_or, take, map, Some, option_and_then, refl, sym, ap, ◌∙◌, arith, add-one}
+use Rattle.std.proofs.Common.{◌≡◌, ℕ, zero, suc, ◌+◌, ◌<◌, ◌≤◌, List, [], ◌∷◌, ◌++◌, length, get_or, take, map, Option, Some, None, option_and_then, refl, sym, ap, ◌∙◌, arith, add-one}
 use Rattle.serde_json.specs.Data.{Data, Items, no_items, item, array}
 use Rattle.serde_json.specs.Find.{as_array, as_number, as_u64}
 use Rattle.serde_json.specs.View.{items_of}
@@ -49,3 +49,19 @@ pub found_more : {V : Type 0} (f : V → Data) (vs : List V) (ns found : List �
     → found ++ n ∷ [] ≡ take (i + 1) ns
 found_more f vs ns found i n e h so is =
     ap (λ xs. xs ++ n ∷ []) so ∙ ap (λ m. take i ns ++ m ∷ []) is ∙ sym (take_more ns i (omega (arith, same_length f vs ns e)))
+
+pub none_number : (n : ℕ) → (let o : Option ℕ = None in o) ≡ Some n → ⊥
+none_number n e = cc
+
+pub same_number : (m n : ℕ) → Some m ≡ Some n → m ≡ n
+same_number m n e = cc
+
+take_past : (ns : List ℕ) (i : ℕ) → length ns ≤ i → take i ns ≡ ns
+take_past [] zero h = refl
+take_past [] (suc i) h = refl
+take_past (n ∷ ns) zero h = absurd (omega arith)
+take_past (n ∷ ns) (suc i) h = ap (λ ms. n ∷ ms) (take_past ns i (omega arith))
+
+-- all numbers are found
+pub found_all : {V : Type 0} (f : V → Data) (vs : List V) (ns : List ℕ) (i : ℕ) → map f vs ≡ map number_data ns → length vs ≤ i → take i ns ≡ ns
+found_all f vs ns i e h = take_past ns i (omega (arith, same_length f vs ns e))

@@ -2,6 +2,8 @@
 use Rattle.std.proofs.Common.{◌≡◌, ℕ, zero, suc, ◌+◌, ◌^◌, ◌<◌, ◌≤◌, List, [], ◌∷◌, length, get_or, Bool, true, false, Result, Ok, Err, nat_lt, nat_le, ◌&&◌, refl, sym, ap, subst, ◌∙◌, arith, lt-ltb, le-leb}
 use Rattle.std.proofs.lemmas.Bool.Decides.{nat_tests}
 use Rattle.std.proofs.lemmas.Bool.{and_from}
+use Rattle.std.proofs.lemmas.Slice.Eq.{bytes_eq-Decides}
+use Rattle.std.specs.Str.{bytes_eq}
 use Rattle.zw_order.specs.declared.order.Word.{Word}
 use Rattle.zw_order.specs.declared.order.Word.TheVariants.{On, Off, Level}
 use Rattle.zw_order.specs.declared.order.What.{What}
@@ -233,3 +235,10 @@ ok_not_err kept e = cc
 -- a text that is bad is of no record
 pub bad_is_none : (result : Result Record RecordFault) (bytes : List ℕ) → ((kept : Record) → IsTextOf kept bytes → Gives result (Ok kept)) → result ≡ Err Bad → (kept : Record) → IsTextOf kept bytes → ⊥
 bad_is_none result bytes only e kept t = ok_not_err kept (subst (λ r. Gives r (Ok kept)) e (only kept t))
+
+true_is_not_false : (b : Bool) → b ≡ true → false ≡ b → ⊥
+true_is_not_false b p q = cc
+
+-- equal texts compare so
+pub never_differ : (xs ys : List ℕ) → xs ≡ ys → false ≡ bytes_eq xs ys → ⊥
+never_differ xs ys e h = true_is_not_false (bytes_eq xs ys) ((bytes_eq-Decides xs ys).1 e) h

@@ -19,8 +19,8 @@ known_of node = record { joined = node.joined; classes = classes_said node.inter
 abbrev pub properties_with : Kept → Order → ℕ
 properties_with kept order =
     distinct_count same_property (
-      properties_of (settings (actuator_of (listed_by (node_of kept order.node).interview)) order)
-      ++ kept_properties kept order.node)
+    properties_of (settings (actuator_of (listed_by (node_of kept order.node).interview)) order)
+    ++ kept_properties kept order.node)
 
 -- the rules by which an order is refused let it be taken, with the next number
 abbrev pub may_take : Kept → ℕ → Order → Bool

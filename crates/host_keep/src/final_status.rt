@@ -1,6 +1,5 @@
 //! How a session ended.
 
-
 /// The status that ended a session (Supervision Report).
 #[derive(Clone, Copy, Debug, PartialEq, Eq)]
 pub enum FinalStatus {

@@ -8,9 +8,14 @@ use zw_order::Order;
 #[derive(Debug, Drop)]
 pub enum Record {
     /// The order was taken as the command of that number.
-    Accepted { command: u32, order: Order },
+    Accepted {
+        command: u32,
+        order: Order,
+    },
     /// The node joined.
-    Joined { node: NodeId },
+    Joined {
+        node: NodeId,
+    },
     /// The node was interviewed: whether it hears at all times, and which classes it lists.
     Classes {
         node: NodeId,
@@ -30,7 +35,9 @@ pub enum Record {
         status: FinalStatus,
     },
     /// The command was cancelled while it waited.
-    Cancelled { command: u32 },
+    Cancelled {
+        command: u32,
+    },
     /// The node was given a nonce, the `given`-th, which is live.
     Given {
         node: NodeId,
@@ -38,7 +45,12 @@ pub enum Record {
         nonce: [u8; 8],
     },
     /// The live nonce of the node was spent.
-    Spent { node: NodeId },
+    Spent {
+        node: NodeId,
+    },
     /// So many nonces of the node were seen.
-    Seen { node: NodeId, seen: u64 },
+    Seen {
+        node: NodeId,
+        seen: u64,
+    },
 }

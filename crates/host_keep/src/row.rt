@@ -6,8 +6,8 @@ ghost use Rattle.zw_order.specs.declared.order.What.TheVariants as what;
 
 use crate::final_status::FinalStatus;
 use crate::kinds::{
-    ACCEPTED, ASSOCIATE, BEGUN, BULK, CANCELLED, CLASSES, COMFORT, CONFIG, DISSOCIATE, FINAL, GIVEN,
-    INTERVAL, JOINED, LEVEL, MODE, OFF, ON, SEEN, SETPOINT, SPENT,
+    ACCEPTED, ASSOCIATE, BEGUN, BULK, CANCELLED, CLASSES, COMFORT, CONFIG, DISSOCIATE, FINAL,
+    GIVEN, INTERVAL, JOINED, LEVEL, MODE, OFF, ON, SEEN, SETPOINT, SPENT,
 };
 use crate::reading::RecordFault;
 use crate::record::Record;

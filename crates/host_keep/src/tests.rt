@@ -27,7 +27,11 @@ fn expect_row(rt: &impl Abort, alloc: Global, text: &str) -> Result<(), Fail> {
 }
 
 fn expect_bad(rt: &impl Abort, alloc: Global, text: &str) {
-    assert_eq!(rt; read_record(alloc, text.as_bytes()).err(), Some(RecordFault::Bad), "{text}");
+    assert_eq!(rt;
+        read_record(alloc, text.as_bytes()).err(),
+        Some(RecordFault::Bad),
+        "{text}"
+    );
 }
 
 fn expect_text(rt: &impl Abort, alloc: Global, kept: Record, want: &str) -> Result<(), Fail> {
@@ -185,7 +189,10 @@ fn other_texts_are_bad(rt: HostRuntime) -> Result<(), Fail> {
     for row in rows {
         expect_bad(&rt, alloc, row);
     }
-    assert_eq!(rt; read_record(alloc, &[0x5B, 0xFF, 0x5D]).err(), Some(RecordFault::Bad));
+    assert_eq!(rt;
+        read_record(alloc, &[0x5B, 0xFF, 0x5D]).err(),
+        Some(RecordFault::Bad)
+    );
     Ok(())
 }
 

@@ -6,8 +6,8 @@ ghost use Rattle.host_keep.specs.Rows.{what_numbers, numbers_of, flag_number, Ar
 ghost use Rattle.host_keep.specs.RecordText.{IsTextOf, number_data, row_data, row_text};
 
 use crate::kinds::{
-    ACCEPTED, ASSOCIATE, BEGUN, BULK, CANCELLED, CLASSES, COMFORT, CONFIG, DISSOCIATE, FINAL, GIVEN,
-    INTERVAL, JOINED, LEVEL, MODE, OFF, ON, SEEN, SETPOINT, SPENT,
+    ACCEPTED, ASSOCIATE, BEGUN, BULK, CANCELLED, CLASSES, COMFORT, CONFIG, DISSOCIATE, FINAL,
+    GIVEN, INTERVAL, JOINED, LEVEL, MODE, OFF, ON, SEEN, SETPOINT, SPENT,
 };
 use crate::record::Record;
 use serde_json::Value;
@@ -63,9 +63,7 @@ fn put_what(numbers: &mut Vec<u64>, what: &What) -> Result<(), AllocError>
         What::Dissociate { group, member } => {
             numbers.extend_from_slice(&[DISSOCIATE, u64::from(*group), number_of(*member)])?
         }
-        What::Interval(seconds) => {
-            numbers.extend_from_slice(&[INTERVAL, u64::from(*seconds)])?
-        }
+        What::Interval(seconds) => { numbers.extend_from_slice(&[INTERVAL, u64::from(*seconds)])? }
         What::Comfort { mode, kind, tenths } => numbers.extend_from_slice(&[
             COMFORT,
             u64::from(*mode),
@@ -113,12 +111,7 @@ fn numbers_of(alloc: Global, kept: &Record) -> Result<Vec<u64>, AllocError>
             node,
             session,
             command,
-        } => numbers.extend_from_slice(&[
-            BEGUN,
-            number_of(*node),
-            *session,
-            u64::from(*command),
-        ])?,
+        } => numbers.extend_from_slice(&[BEGUN, number_of(*node), *session, u64::from(*command)])?,
         Record::Final {
             node,
             session,

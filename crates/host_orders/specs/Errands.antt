@@ -50,19 +50,19 @@ sendable_of classes =
 -- what refuses it, of a node with these classes
 unfoldable pub sendable_refusal : List ℕ → ℕ → Word → Option Refused
 sendable_refusal classes queued word = first_some (
-  secured classes
-  ∷ unsupported classes (class_of (sendable_of classes) ∷ [])
-  ∷ unless (not (is_bad_word (sendable_of classes) word)) BadValue
-  ∷ queue_full queued
-  ∷ [])
+    secured classes
+    ∷ unsupported classes (class_of (sendable_of classes) ∷ [])
+    ∷ unless (not (is_bad_word (sendable_of classes) word)) BadValue
+    ∷ queue_full queued
+    ∷ [])
 
 -- and of any node
 unfoldable pub send_refusal : Known → ℕ → Word → Option Refused
 send_refusal known queued word = first_some (
-  unless known.joined NotJoined
-  ∷ unless (is_some known.classes) NotInterviewed
-  ∷ sendable_refusal (classes_of known) queued word
-  ∷ [])
+    unless known.joined NotJoined
+    ∷ unless (is_some known.classes) NotInterviewed
+    ∷ sendable_refusal (classes_of known) queued word
+    ∷ [])
 
 -- what is sent
 abbrev pub send_text : List ℕ → Word → List ℕ
@@ -98,18 +98,18 @@ get_command Sensor = 0x31 ∷ 4 ∷ []
 -- what refuses it, of a node with these classes
 unfoldable pub gettable_refusal : List ℕ → ℕ → ℕ → Option Refused
 gettable_refusal classes queued end = first_some (
-  secured classes
-  ∷ unsupported classes (gettable_class (gettable_of classes) ∷ channel_class end)
-  ∷ queue_full queued
-  ∷ [])
+    secured classes
+    ∷ unsupported classes (gettable_class (gettable_of classes) ∷ channel_class end)
+    ∷ queue_full queued
+    ∷ [])
 
 -- and of any node
 unfoldable pub get_refusal : Known → ℕ → ℕ → Option Refused
 get_refusal known queued end = first_some (
-  unless known.joined NotJoined
-  ∷ unless (is_some known.classes) NotInterviewed
-  ∷ gettable_refusal (classes_of known) queued end
-  ∷ [])
+    unless known.joined NotJoined
+    ∷ unless (is_some known.classes) NotInterviewed
+    ∷ gettable_refusal (classes_of known) queued end
+    ∷ [])
 
 -- what is sent
 abbrev pub get_text : List ℕ → ℕ → List ℕ

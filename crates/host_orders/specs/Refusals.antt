@@ -119,10 +119,10 @@ known_refusal classes waiting order = first_some (rules_for classes waiting orde
 -- what a host answers before it looks at the properties
 unfoldable pub first_refusal : Known → Order → Option Refused
 first_refusal known order = first_some (
-  unless known.joined NotJoined
-  ∷ unless (is_some known.classes) NotInterviewed
-  ∷ known_refusal (classes_of known) known.waiting order
-  ∷ [])
+    unless known.joined NotJoined
+    ∷ unless (is_some known.classes) NotInterviewed
+    ∷ known_refusal (classes_of known) known.waiting order
+    ∷ [])
 
 -- and after it did: the node would have so many properties with those that the order sets
 abbrev pub refusal_or : Option Refused → ℕ → Option Refused

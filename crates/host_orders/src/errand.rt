@@ -123,7 +123,11 @@ fn plain(alloc: Global, classes: &[u8], end: EndPoint, command: Bytes) -> Result
     ensures err { IfErr result (λ refused. refused ≡ Refused.NoMemory) }
 {
     let channel = ends_of(end);
-    let len = if channel.is_some() { command.len() + 4 } else { command.len() };
+    let len = if channel.is_some() {
+        command.len() + 4
+    } else {
+        command.len()
+    };
     let plan = Plan {
         batch: false,
         session: None,

@@ -10,9 +10,7 @@ ghost use Rattle.host_orders.specs.declared.refused.Refused.TheVariants as refus
 use crate::actuator::{Actuator, lists};
 use crate::carriage::Carriage;
 use crate::refused::Refused;
-use crate::wrapping::{
-    MAX_PAYLOAD, SECURITY, TRANSPORT, outer_for, supervised_len, wrapped_len,
-};
+use crate::wrapping::{MAX_PAYLOAD, SECURITY, TRANSPORT, outer_for, supervised_len, wrapped_len};
 use zw_base::Bytes;
 use zw_order::{Order, What, Word};
 

@@ -24,6 +24,5 @@ pub use refused::Refused;
 pub use setting::{properties_of, settings};
 pub use wrapping::write_message;
 
-
 #[cfg(test)]
 mod tests;

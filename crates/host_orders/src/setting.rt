@@ -107,11 +107,7 @@ fn put_all(
 }
 
 /// The settings of an order whose values are in their ranges, in the order of properties.
-pub fn settings(
-    alloc: Global,
-    actuator: Actuator,
-    order: &Order,
-) -> Result<List<Setting>, NoMemory>
+pub fn settings(alloc: Global, actuator: Actuator, order: &Order) -> Result<List<Setting>, NoMemory>
     requires { is_bad actuator order.now.what ≡ false }
     ensures { IfOk result (λ made. made.items ≡ settings actuator order.now) }
 {

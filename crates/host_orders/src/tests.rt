@@ -1,6 +1,9 @@
 //! Orders, with ample memory. The bytes are written out by hand from the tables of docs/ORDERS.md.
 
-use crate::{Actuator, Carriage, Form, Gettable, Refused, get_payload, judge, send_payload, settings, write_message};
+use crate::{
+    Actuator, Carriage, Form, Gettable, Refused, get_payload, judge, send_payload, settings,
+    write_message,
+};
 use encap::Outer;
 use std::alloc::Global;
 use std::process::Abort;
@@ -9,13 +12,21 @@ use zw_base::{Bytes, EndPoint, Name, NodeId, Property, Setting, read_end, read_n
 use zw_order::{Order, What, Word};
 
 const SWITCH: [u8; 3] = [0x25, 0x85, 0x6C];
+
 const DIMMER: [u8; 4] = [0x26, 0x85, 0x6C, 0x56];
+
 const LOCK: [u8; 3] = [0x62, 0x98, 0x6C];
+
 const THERMOSTAT: [u8; 5] = [0x40, 0x43, 0x8F, 0x85, 0x6C];
+
 const STRIP: [u8; 3] = [0x25, 0x60, 0x6C];
+
 const CONFIGURABLE: [u8; 3] = [0x70, 0x55, 0x6C];
+
 const PLAIN_CONFIGURABLE: [u8; 2] = [0x70, 0x6C];
+
 const SENSOR: [u8; 4] = [0x31, 0x80, 0x84, 0x6C];
+
 const RELAY: [u8; 2] = [0x25, 0x56];
 
 fn node(rt: &impl Abort, number: u8) -> NodeId {
@@ -222,14 +233,23 @@ fn settings_are_in_the_order_of_properties(rt: HostRuntime) -> Result<(), Fail> 
 fn plain_messages_are_judged_and_made(rt: HostRuntime) -> Result<(), Fail> {
     let alloc = rt.alloc();
     let relay = listed(alloc, &RELAY)?;
-    let sent = send_payload(alloc, true, &relay, 63, Word::On).ok().expect(&rt, "sent");
+    let sent = send_payload(alloc, true, &relay, 63, Word::On)
+        .ok()
+        .expect(&rt, "sent");
     let want = [0x56, 0x01, 0x25, 0x01, 0xFF, 0x1F, 0x3A];
     assert_eq!(rt; sent.bytes(), want.as_slice());
     let strip = listed(alloc, &STRIP)?;
-    let asked = get_payload(alloc, true, &strip, 0, end(&rt, 2)).ok().expect(&rt, "asked");
-    assert_eq!(rt; asked.bytes(), [0x60, 0x0D, 0x00, 0x02, 0x25, 0x02].as_slice());
+    let asked = get_payload(alloc, true, &strip, 0, end(&rt, 2))
+        .ok()
+        .expect(&rt, "asked");
+    assert_eq!(rt;
+        asked.bytes(),
+        [0x60, 0x0D, 0x00, 0x02, 0x25, 0x02].as_slice()
+    );
     let sensor = listed(alloc, &SENSOR)?;
-    let asked = get_payload(alloc, true, &sensor, 0, EndPoint::root()).ok().expect(&rt, "asked");
+    let asked = get_payload(alloc, true, &sensor, 0, EndPoint::root())
+        .ok()
+        .expect(&rt, "asked");
     assert_eq!(rt; asked.bytes(), [0x31, 0x04].as_slice());
     assert_eq!(rt; Gettable::of(&SENSOR), Gettable::Sensor);
     let lock = listed(alloc, &LOCK)?;

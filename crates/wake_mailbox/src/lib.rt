@@ -10,6 +10,4 @@ mod mailbox;
 #[cfg(test)]
 mod tests;
 
-pub use mailbox::{
-    CAPACITY, Full, HOLD_TICKS, Mailbox, NotWaiting, a_hold_lasts_a_hundred_ticks,
-};
+pub use mailbox::{CAPACITY, Full, HOLD_TICKS, Mailbox, NotWaiting, a_hold_lasts_a_hundred_ticks};
