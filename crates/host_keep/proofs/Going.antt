@@ -1,5 +1,5 @@
 -- Records, one after another.
-use Rattle.std.proofs.Common.{◌≡◌, ◌≢◌, ℕ, zero, suc, ◌<◌, ◌≤◌, List, [], ◌∷◌, ◌++◌, length, take, get_or, Bool, true, false, Option, Some, None, option_map, refl, sym, ap, ◌∙◌, subst, arith}
+use Rattle.std.proofs.Common.{◌≡◌, ◌≢◌, ℕ, zero, suc, ◌<◌, ◌≤◌, List, [], ◌∷◌, ◌++◌, length, take, get_or, Bool, true, false, if◌then◌else◌, Option, Some, None, option_map, refl, sym, ap, ◌∙◌, subst, arith}
 use Rattle.std.specs.Prelude.{slice_get}
 use Rattle.host_keep.specs.Kept.{Kept, after, after_all, first_kept, kept_of}
 use Rattle.host_keep.specs.Legal.{is_legal, first_illegal, AreLegal, AreTextsOf, Give, IsFirstBad}
@@ -19,8 +19,7 @@ none_of None e = refl
 none_of (Some n) e = cc
 
 abbrev step : Bool → Option ℕ → Option ℕ
-step true rest = option_map suc rest
-step false rest = Some 0
+step legal rest = if legal then option_map suc rest else Some 0
 
 step_none : (b : Bool) (rest : Option ℕ) → step b rest ≡ None → (b ≡ true) × (rest ≡ None)
 step_none true rest e = (refl, none_of rest e)

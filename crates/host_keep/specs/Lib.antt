@@ -6,3 +6,4 @@ pub mod Keeping
 pub mod Shelf
 pub mod Kept
 pub mod Legal
+pub mod Worked

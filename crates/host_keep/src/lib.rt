@@ -15,6 +15,7 @@ mod plain_keeper;
 mod reading;
 mod record;
 mod row;
+mod worked;
 mod writing;
 
 pub use final_status::FinalStatus;
@@ -24,6 +25,7 @@ pub use memory_keeper::MemoryKeeper;
 pub use plain_keeper::PlainKeeper;
 pub use reading::{RecordFault, read_record};
 pub use record::Record;
+pub use worked::worked_records;
 pub use writing::write_record;
 
 #[cfg(test)]
