@@ -1,6 +1,6 @@
 -- Messages without Supervision that a user asks for: a Set that is not reported, and a Get (Z-Wave Application Command
 -- Class Specification; which class is taken and what is refused is this project's own rule).
-use Rattle.std.specs.Prelude.{◌≡◌, ℕ, ◌≤◌, ◌⊎◌, nat_le, not, if◌then◌else◌, Bool, false, List, [], ◌∷◌, length, slice_index, Option, Some, None, is_some, Result, Ok, Err}
+use Rattle.std.specs.Prelude.{◌≡◌, ℕ, ◌≤◌, ◌⊎◌, nat_le, not, if◌then◌else◌, false, List, [], ◌∷◌, length, slice_index, Option, Some, None, is_some, Result, Ok, Err}
 use Rattle.zw_order.specs.declared.order.Word.{Word}
 use Rattle.class_core.specs.declared.message.CoreMessage.TheVariants.{SwitchBinaryGet, SwitchMultilevelGet, DoorLockOperationGet, ThermostatModeGet}
 use Rattle.class_core.specs.Spelling.{form}

@@ -1,5 +1,4 @@
 use Rattle.std.proofs.Common.{◌≡◌, take}
-use Rattle.class_fields.specs.Ranges.{Numbers}
 use Rattle.class_fields.specs.declared.number.Size.TheVariants.{One}
 use Rattle.host_orders.proofs.messages.one_byte_each.Given as goal
 

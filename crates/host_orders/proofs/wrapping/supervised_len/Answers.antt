@@ -1,4 +1,4 @@
-use Rattle.std.proofs.Common.{◌≡◌, ℕ, ◌+◌, length, sym, subst, arith}
+use Rattle.std.proofs.Common.{◌≡◌, ◌+◌, length, sym, subst, arith}
 use Rattle.encap.specs.Written.{batched_form}
 use Rattle.zw_order.specs.declared.order.What.{What}
 use Rattle.host_orders.specs.Messages.{commands_of, is_batch}
