@@ -8,7 +8,7 @@ use Rattle.first_world.proofs.world.World.answer.Goals as goal
 
 pub loop-at-preserved : goal.loop-at-preserved
 loop-at-preserved c =
-    let at : slice_get c.args.replies.now c.loop-at.at ≡ Some c.in-Some.reply.now = sym c.get.ensures ∙ ap option_copied c.in-Some.is in
+    let at : slice_get c.args.replies.now c.loop-at.at ≡ Some c.in-Some.reply.now = sym c.get.ensures.value ∙ ap option_copied c.in-Some.is in
     let to : c.loop-at.self.controller ≡ c.args.self.now.controller = ap (λ (w : World). w.controller) c.loop-at.invariant.others in
     let fits : AllFit c.args.replies.now → length c.in-Some.reply.now ≤ 46 = λ all. all c.loop-at.at c.in-Some.reply.now at in
     record {
