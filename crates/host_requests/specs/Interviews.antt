@@ -15,7 +15,7 @@ pub record Brought : Type 0 where
 -- both, where both are there
 abbrev pub brought_of : Option ℕ → Option ℕ → Option Brought
 brought_of (Some node) (Some capability) = Some (record { node = node; capability = capability })
-brought_of node capability = None
+brought_of asked said = None
 
 -- what the last request that ended has brought: the first of an interview, at its response, brings the byte of its node; every
 -- other end brings nothing
