@@ -9,9 +9,12 @@ use Rattle.class_info.specs.declared.message.InfoMessage.TheVariants.{Core, Sens
 use Rattle.class_info.specs.InfoSpelling.{cells, form, Spells, HasLength, IsInRange}
 use Rattle.class_info.proofs.OwnLaws.{has_wholes}
 
-has_more : (more : Bool) (session : ℕ) → session < 64 → HasParts (part 7 1 (flag more) ∷ part 0 6 session ∷ []) (byte_of (part 7 1 (flag more) ∷ part 0 6 session ∷ []))
-has_more true session lt = (omega arith, (omega arith, tt))
-has_more false session lt = (omega arith, (omega arith, tt))
+has_flags : (more wake_request : Bool) (session : ℕ) → session < 64
+    → HasParts (part 7 1 (flag more) ∷ part 6 1 (flag wake_request) ∷ part 0 6 session ∷ []) (byte_of (part 7 1 (flag more) ∷ part 6 1 (flag wake_request) ∷ part 0 6 session ∷ []))
+has_flags true true session lt = (omega arith, (omega arith, (omega arith, tt)))
+has_flags true false session lt = (omega arith, (omega arith, (omega arith, tt)))
+has_flags false true session lt = (omega arith, (omega arith, (omega arith, tt)))
+has_flags false false session lt = (omega arith, (omega arith, (omega arith, tt)))
 
 has_all : (m : InfoMessage) → IsInRange m → HasAll (cells m)
 has_all (Core m) h = core_has_all m h
@@ -36,7 +39,7 @@ has_all VersionGet h = (tt, (tt, tt))
 has_all (VersionReport a b c d f) h = (tt, (tt, (tt, (tt, (tt, (tt, (tt, tt)))))))
 has_all (VersionClassGet class) h = (tt, (tt, (tt, tt)))
 has_all (VersionClassReport class version) h = (tt, (tt, (tt, (tt, tt))))
-has_all (SupervisionReport more session status duration) h = (tt, (tt, (has_more more session h, (tt, (tt, tt)))))
+has_all (SupervisionReport more wake_request session status duration) h = (tt, (tt, (has_flags more wake_request session h, (tt, (tt, tt)))))
 has_all NonceGet h = (tt, (tt, tt))
 has_all (NonceReport nonce) h = (tt, (tt, has_wholes nonce))
 has_all (TransportRequest session offset) h = (tt, (tt, ((omega arith, (omega arith, tt)), (tt, tt))))
@@ -67,7 +70,7 @@ has_length VersionGet h = tt
 has_length (VersionReport a b c d f) h = tt
 has_length (VersionClassGet a) h = tt
 has_length (VersionClassReport a b) h = tt
-has_length (SupervisionReport a b c d) h = tt
+has_length (SupervisionReport a b c d f) h = tt
 has_length NonceGet h = tt
 has_length (TransportRequest a b) h = tt
 has_length (TransportComplete a) h = tt

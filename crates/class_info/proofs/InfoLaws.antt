@@ -15,6 +15,7 @@ use Rattle.class_core.specs.MessageReading.{wake_up_by as core_wake_up_by, assoc
 use Rattle.class_core.proofs.MessageLaws.{by_class, takes as core_takes, again as core_again}
 use Rattle.class_info.specs.declared.message.InfoMessage.{InfoMessage}
 use Rattle.class_info.specs.declared.message.InfoMessage.TheVariants.{Core, SensorBinaryGet, SensorBinaryReport, SensorMultilevelGet, SensorMultilevelReport, NotificationReport, ManufacturerSpecificGet, ManufacturerSpecificReport, BatteryGet, BatteryReport, WakeUpIntervalGet, WakeUpIntervalReport, WakeUpNotification, WakeUpNoMoreInformation, AssociationGet, AssociationReport, AssociationGroupingsGet, AssociationGroupingsReport, VersionGet, VersionReport, VersionClassGet, VersionClassReport, SupervisionReport, NonceGet, NonceReport, TransportRequest, TransportComplete, TransportWait}
+use Rattle.class_fields.specs.Fields.{flag}
 use Rattle.class_info.specs.Values.{is_battery}
 use Rattle.class_info.specs.InfoSpelling.{Spells}
 use Rattle.class_info.specs.InfoReading.{status_at, nonce_at, sensor_binary_by, sensor_report_at, sensor_multilevel_by, notification_at, notification_by, manufacturer_at, manufacturer_by, battery_by, interval_report_at, wake_up_by, association_report_at, association_by, version_report_at, version_class_at, version_by, supervision_report_at, supervision_by, security_by, transport_request_at, transport_by, own_by, own_at, shared_by, shared_at, beside, info_at}
@@ -85,12 +86,14 @@ supervision_report_takes : (bytes : List ℕ) (m : InfoMessage) → Headed bytes
 unfolding supervision_report_at
 supervision_report_takes bytes m h e =
     let a = bind_ok (flag_at 7 2 bytes) _ m e in
-    let b = bind_ok (bits_at 0 6 2 bytes) _ m a.2 in
+    let w = bind_ok (flag_at 6 2 bytes) _ m a.2 in
+    let b = bind_ok (bits_at 0 6 2 bytes) _ m w.2 in
     let c = bind_ok (status_at 3 bytes) _ m b.2 in
-    let d = made_of (byte_at 4 bytes) (λ x. SupervisionReport a.0 b.0 c.0 x) m c.2 in
+    let d = made_of (byte_at 4 bytes) (λ x. SupervisionReport a.0 w.0 b.0 c.0 x) m c.2 in
     let more = flag_takes 7 2 bytes a.0 a.1 in
+    let wake = flag_takes 6 2 bytes w.0 w.1 in
     let session = bits_takes 0 6 2 bytes b.0 b.1 in
-    subst (λ (x : InfoMessage). Spells x bytes) d.2 (tt, (h.class_is, (h.command_is, ((more.byte, more.stands, (more.has, (has_of 0 6 2 bytes b.0 more.byte session more.stands, tt))), (status_takes 3 bytes c.0 c.1, (byte_takes 4 bytes d.0 d.1, tt))))))
+    subst (λ (x : InfoMessage). Spells x bytes) d.2 (tt, (h.class_is, (h.command_is, ((more.byte, more.stands, (more.has, (has_of 6 1 2 bytes (flag w.0) more.byte wake more.stands, (has_of 0 6 2 bytes b.0 more.byte session more.stands, tt)))), (status_takes 3 bytes c.0 c.1, (byte_takes 4 bytes d.0 d.1, tt))))))
 
 transport_request_takes : (bytes : List ℕ) (m : InfoMessage) → IsBytes bytes → Headed bytes 0x55 0xC8 → transport_request_at bytes ≡ Ok m → Spells m bytes
 unfolding transport_request_at
@@ -369,7 +372,7 @@ again bytes VersionGet s = own_row bytes 0x86 s.1.0 refl ∙ rw (byte_again 1 by
 again bytes (VersionReport a b c d f) s = own_row bytes 0x86 s.1.0 refl ∙ rw (byte_again 1 bytes 0x12 s.1.1.0, byte_again 2 bytes a s.1.1.1.0, byte_again 3 bytes b s.1.1.1.1.0, byte_again 4 bytes c s.1.1.1.1.1.0, byte_again 5 bytes d s.1.1.1.1.1.1.0, byte_again 6 bytes f s.1.1.1.1.1.1.1.0) refl
 again bytes (VersionClassGet a) s = own_row bytes 0x86 s.1.0 refl ∙ rw (byte_again 1 bytes 0x13 s.1.1.0, byte_again 2 bytes a s.1.1.1.0) refl
 again bytes (VersionClassReport a b) s = own_row bytes 0x86 s.1.0 refl ∙ rw (byte_again 1 bytes 0x14 s.1.1.0, byte_again 2 bytes a s.1.1.1.0, byte_again 3 bytes b s.1.1.1.1.0) refl
-again bytes (SupervisionReport m k v d) s = own_row bytes 0x6C s.1.0 refl ∙ rw (byte_again 1 bytes 2 s.1.1.0, flag_again 7 2 bytes s.1.1.1.0.0 m s.1.1.1.0.1 s.1.1.1.0.2.0, bits_again 0 6 2 bytes s.1.1.1.0.0 k s.1.1.1.0.1 s.1.1.1.0.2.1.0, status_again 3 bytes v s.1.1.1.1.0, byte_again 4 bytes d s.1.1.1.1.1.0) refl
+again bytes (SupervisionReport m w k v d) s = own_row bytes 0x6C s.1.0 refl ∙ rw (byte_again 1 bytes 2 s.1.1.0, flag_again 7 2 bytes s.1.1.1.0.0 m s.1.1.1.0.1 s.1.1.1.0.2.0, flag_again 6 2 bytes s.1.1.1.0.0 w s.1.1.1.0.1 s.1.1.1.0.2.1.0, bits_again 0 6 2 bytes s.1.1.1.0.0 k s.1.1.1.0.1 s.1.1.1.0.2.1.1.0, status_again 3 bytes v s.1.1.1.1.0, byte_again 4 bytes d s.1.1.1.1.1.0) refl
 again bytes NonceGet s = own_row bytes 0x98 s.1.0 refl ∙ rw (byte_again 1 bytes 0x40 s.1.1.0) refl
 again bytes (NonceReport ns) s =
     let within : 2 ≤ length bytes = omega (arith, slice_get_within bytes 1 0x80 s.1.1.0) in

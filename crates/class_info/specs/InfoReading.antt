@@ -145,10 +145,11 @@ version_by bytes command =
 unfoldable pub supervision_report_at : List ℕ → Result InfoMessage ClassFault
 supervision_report_at bytes = do
   more ← flag_at 7 2 bytes
+  wake_request ← flag_at 6 2 bytes
   session ← bits_at 0 6 2 bytes
   status ← status_at 3 bytes
   duration ← byte_at 4 bytes
-  Ok (SupervisionReport more session status duration)
+  Ok (SupervisionReport more wake_request session status duration)
 
 -- Supervision, by its command
 abbrev pub supervision_by : List ℕ → ℕ → Result InfoMessage ClassFault

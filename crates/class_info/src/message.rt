@@ -71,9 +71,11 @@ pub enum InfoMessage {
         class: u8,
         version: u8,
     },
-    /// `more` says that a later report follows; `duration` is the byte of the time until it.
+    /// `more` says that a later report follows; `wake_request` asks to keep a node awake (version 2); `duration` is the
+    /// byte of the time until the later report.
     SupervisionReport {
         more: bool,
+        wake_request: bool,
         session: SessionId,
         status: ReportStatus,
         duration: u8,

@@ -1,7 +1,7 @@
 //! The fields that these classes alone have, each read at its offset from the class byte.
 
 ghost use Rattle.std.specs.Prelude.{◌≡◌};
-ghost use Rattle.class_fields.specs.Reading.{bits_at, limited_at};
+ghost use Rattle.class_fields.specs.Reading.{bits_at, flag_at, limited_at};
 ghost use Rattle.class_info.specs.Values.{is_battery};
 ghost use Rattle.class_info.specs.InfoReading.{nonce_at, status_at};
 
@@ -37,6 +37,14 @@ pub(crate) fn report_status(bytes: &[u8], at: u8) -> Result<ReportStatus, ClassF
         SUCCESS => Ok(ReportStatus::Success),
         _ => Err(ClassFault::BadValue(u16::from(at))),
     }
+}
+
+/// Bit 6 of the byte at an offset.
+#[tactic(auto, unfolding(class_fields::specs::Reading::bits_at, class_fields::specs::Reading::flag_at))]
+pub(crate) fn bit_six(bytes: &[u8], at: u8) -> Result<bool, ClassFault>
+    ensures { result ≡ flag_at 6 at bytes.now }
+{
+    Ok(byte(bytes, at)? / 64 % 2 == 1)
 }
 
 /// The session in the low six bits of the byte at an offset.

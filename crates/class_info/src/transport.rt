@@ -6,7 +6,7 @@ ghost use Rattle.class_fields.specs.Reading.{in_class};
 ghost use Rattle.class_info.specs.InfoReading.{supervision_by, security_by, transport_by, transport_request_at};
 
 use crate::message::InfoMessage;
-use crate::own_fields::{nonce, report_status, session_id, transport_id};
+use crate::own_fields::{bit_six, nonce, report_status, session_id, transport_id};
 use crate::session::SegmentOffset;
 use class_fields::ClassFault;
 use class_fields::fields::{byte, high_bit};
@@ -37,6 +37,7 @@ pub(crate) fn read_supervision(bytes: &[u8]) -> Result<InfoMessage, ClassFault>
     match byte(bytes, 1)? {
         SUPERVISION_REPORT => Ok(InfoMessage::SupervisionReport {
             more: high_bit(bytes, 2)?,
+            wake_request: bit_six(bytes, 2)?,
             session: session_id(bytes, 2)?,
             status: report_status(bytes, 3)?,
             duration: byte(bytes, 4)?,

@@ -65,13 +65,15 @@ fn head(message: &InfoMessage) -> [u8; 2]
     }
 }
 
-/// A byte with a flag in bit 7 and a session in bits 5 to 0.
-fn more_and_session(more: bool, session: SessionId) -> u8
-    ensures value { result ≡ byte_of (part 7 1 (flag more) ∷ part 0 6 session ∷ []) }
+/// A byte with flags in bits 7 and 6 and a session in bits 5 to 0.
+fn flags_and_session(more: bool, wake_request: bool, session: SessionId) -> u8
+    ensures value { result ≡ byte_of (part 7 1 (flag more) ∷ part 6 1 (flag wake_request) ∷ part 0 6 session ∷ []) }
     ensures range { session < 64 }
 {
     let number = session.number();
-    if more { 128 + number } else { number }
+    let more = if more { 128 } else { 0 };
+    let wake_request = if wake_request { 64 } else { 0 };
+    more + wake_request + number
 }
 
 /// Adds the bytes of a nonce.
@@ -139,10 +141,17 @@ fn put_fields(out: &mut Bytes, message: &InfoMessage) -> Result<(), NoMemory>
         InfoMessage::VersionClassReport { class, version } => out.extend(&[*class, *version]),
         InfoMessage::SupervisionReport {
             more,
+            wake_request,
             session,
             status,
             duration,
-        } => { out.extend(&[more_and_session(*more, *session), status.byte(), *duration]) }
+        } => {
+            out.extend(&[
+                flags_and_session(*more, *wake_request, *session),
+                status.byte(),
+                *duration,
+            ])
+        }
         InfoMessage::NonceReport { nonce } => put_nonce(out, nonce),
         InfoMessage::TransportRequest { session, offset } => {
             let offset = offset.number();

@@ -29,7 +29,7 @@ record Clear (bytes : List ℕ) : Type 0 where
   channel : ¬ IsMultiChannel bytes
   crc16 : ¬ IsCrc16 bytes
 
-command_of : (within : Bool) (commands : List (List ℕ)) (inner : List ℕ) → commands ≡ inner ∷ [] → AllCommands within commands → IsCommand within inner
+pub command_of : (within : Bool) (commands : List (List ℕ)) (inner : List ℕ) → commands ≡ inner ∷ [] → AllCommands within commands → IsCommand within inner
 command_of within commands inner one all =
     let here : AllCommands within (inner ∷ []) = subst (λ (x : List (List ℕ)). AllCommands within x) one all in here.0
 
@@ -80,7 +80,7 @@ supervision_off_of : (session : Option Supervised) (inner bytes : List ℕ) → 
 supervision_off_of None inner bytes same clear = (subst (λ (x : List ℕ). ¬ IsSupervision x) (sym same) clear, sym same)
 supervision_off_of (Some session) inner bytes is clear = is
 
-peels_of : (plan : Plan) (commands : List (List ℕ)) (bytes : List ℕ) (wraps : Wraps plan commands bytes)
+pub peels_of : (plan : Plan) (commands : List (List ℕ)) (bytes : List ℕ) (wraps : Wraps plan commands bytes)
     → Peels (is_crc16 plan.outer) plan.channel plan.session wraps.batched bytes
 peels_of plan commands bytes wraps =
     let clear : Clear wraps.batched = batched_clear plan.batch (is_within plan) commands wraps.batched wraps.plain wraps.batches in
@@ -99,7 +99,7 @@ peels_of plan commands bytes wraps =
 length-with_check : (front : List ℕ) → length (with_check front) ≡ length front + 2
 length-with_check front = length-append front (crc front / 256 ∷ crc front % 256 ∷ [])
 
-front-with_check : (front : List ℕ) → take (length (with_check front) - 2) (with_check front) ≡ front
+pub front-with_check : (front : List ℕ) → take (length (with_check front) - 2) (with_check front) ≡ front
 front-with_check front =
     let len = length-with_check front in
     let same : length (with_check front) - 2 ≡ length front = omega arith in
@@ -125,7 +125,7 @@ crc16_same inner inner' e =
     sym (front-with_check (86 ∷ 1 ∷ inner)) ∙ ap (λ (x : List ℕ). take (length x - 2) x) e ∙ front-with_check (86 ∷ 1 ∷ inner') in
     ap (drop 2) fronts
 
-crc16_begins : (inner bytes : List ℕ) → bytes ≡ crc16_text inner → IsCrc16 bytes
+pub crc16_begins : (inner bytes : List ℕ) → bytes ≡ crc16_text inner → IsCrc16 bytes
 crc16_begins inner bytes e = subst (λ (x : List ℕ). IsCrc16 x) (sym e)
     (record { long = omega (arith, length-with_check (86 ∷ 1 ∷ inner)); class_is = refl; command_is = refl })
 
@@ -135,7 +135,7 @@ same_crc16 true false inner inner' bytes off off' = absurd (off'.0 (crc16_begins
 same_crc16 false true inner inner' bytes off off' = absurd (off.0 (crc16_begins inner' bytes off'))
 same_crc16 false false inner inner' bytes off off' = (refl, off.1 ∙ sym off'.1)
 
-channel_begins : (ends : Ends) (inner bytes : List ℕ) → IsChannelOf ends inner bytes → IsMultiChannel bytes
+pub channel_begins : (ends : Ends) (inner bytes : List ℕ) → IsChannelOf ends inner bytes → IsMultiChannel bytes
 channel_begins ends inner bytes is = subst (λ (x : List ℕ). IsMultiChannel x) (sym is.text) (record { long = omega arith; class_is = refl; command_is = refl })
 
 same_ends : (ends ends' : Ends) → ends.source ≡ ends'.source → ends.target ≡ ends'.target → ends ≡ ends'
@@ -156,7 +156,7 @@ same_channel (Some ends) None inner inner' bytes off off' = absurd (off'.0 (chan
 same_channel None (Some ends') inner inner' bytes off off' = absurd (off.0 (channel_begins ends' inner' bytes off'))
 same_channel None None inner inner' bytes off off' = (refl, off.1 ∙ sym off'.1)
 
-supervision_begins : (session : Supervised) (inner bytes : List ℕ) → IsSupervisionOf session inner bytes → IsSupervision bytes
+pub supervision_begins : (session : Supervised) (inner bytes : List ℕ) → IsSupervisionOf session inner bytes → IsSupervision bytes
 supervision_begins session inner bytes is = subst (λ (x : List ℕ). IsSupervision x) (sym is.text) (record { long = omega arith; class_is = refl; command_is = refl })
 
 same_bit : (a b : Bool) → (IsTrue a → IsTrue b) → (IsTrue b → IsTrue a) → a ≡ b

@@ -3,3 +3,4 @@ pub mod OpenLemmas
 pub mod WrapLemmas
 pub mod ExactLemmas
 pub mod FormLemmas
+pub mod OpenedLemmas

@@ -2,7 +2,7 @@
 //! out: Multi Command, Supervision Get, Multi Channel, CRC-16.
 //!
 //! `wrap` writes what a plan says, and `unpack` gives the plan and the commands back.
-//! The definitions stand in `specs/`: `Begins`, `Wraps`, `Faults`.
+//! The definitions stand in `specs/`: `Begins`, `Wraps`, `Opening`, `Faults`.
 #![tactic(auto)]
 
 mod batch;

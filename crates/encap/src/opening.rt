@@ -4,6 +4,7 @@ ghost use Rattle.std.specs.Prelude.{◌≡◌, ℕ, ◌≤◌, ◌↔◌, [], �
 ghost use Rattle.encap.specs.Begins.{IsMultiCommand};
 ghost use Rattle.encap.specs.Wraps.{Wraps, IsBatchOf, IsCommand, AllCommands, has_outer_wrap};
 ghost use Rattle.encap.specs.Layers.{Peels, outer_of, seen_of};
+ghost use Rattle.encap.specs.Opening.{opened_at, OpensAs};
 ghost use Rattle.encap.specs.declared.plan.Plan.{Plan};
 ghost use Rattle.encap.specs.Faults.{IsOuterFault, MayAnswer, MayAnswerAlone, MayAnswerBatch, MayAnswerInner};
 
@@ -28,6 +29,8 @@ pub fn unpack(alloc: Global, bytes: &[u8]) -> Result<Opened, WrapFault>
     ensures always { (plan : Plan) (commands : Items (Items ℕ)) → Wraps plan commands bytes.now
         → IfErr result (λ fault. fault ≡ WrapFault.NoMemory) }
     ensures fault { IfErr result (λ fault. MayAnswer bytes.now fault) }
+    // the same as a function of the bytes
+    ensures exact { OpensAs result (opened_at bytes.now) }
 {
     take_apart(alloc, bytes)
 }

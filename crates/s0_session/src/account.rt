@@ -13,7 +13,7 @@ impl Account {
     ghost use Rattle.s0_session.specs.Nonces.{unused, nonce_given, after_give, nonce_spent, after_spend};
 
     /// No nonce was given.
-    pub(crate) fn new() -> Account
+    pub fn new() -> Account
         ensures { result ≡ unused }
     {
         Account {
@@ -30,7 +30,7 @@ impl Account {
     }
 
     /// The live nonce, or a new one, which is live then.
-    pub(crate) fn give(&mut self, drawn: [u8; 8]) -> [u8; 8]
+    pub fn give(&mut self, drawn: [u8; 8]) -> [u8; 8]
         requires { self.old.given + 1 < 2 ^ 64 }
         ensures answer { result ≡ nonce_given self.old drawn }
         ensures after { self.new ≡ after_give self.old drawn }
@@ -46,7 +46,7 @@ impl Account {
     }
 
     /// The live nonce, if it has that first byte; it is live no more.
-    pub(crate) fn spend(&mut self, first: u8) -> Option<[u8; 8]>
+    pub fn spend(&mut self, first: u8) -> Option<[u8; 8]>
         ensures answer { result ≡ nonce_spent self.old first }
         ensures named { IfSome result (λ nonce. slice_index nonce 0 ≡ first) }
         ensures after { self.new ≡ after_spend self.old first }

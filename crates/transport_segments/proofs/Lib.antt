@@ -4,3 +4,4 @@ pub mod KeptLemmas
 pub mod PartLemmas
 pub mod RunLemmas
 pub mod AgreeLemmas
+pub mod TakingLemmas

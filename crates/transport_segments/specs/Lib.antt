@@ -4,4 +4,5 @@ pub mod Faults
 pub mod Places
 pub mod Kept
 pub mod Reassembly
+pub mod Taking
 pub mod Runs

@@ -6,6 +6,7 @@ ghost use Rattle.transport_segments.specs.Faults.{IsSound, MayAnswer};
 ghost use Rattle.transport_segments.specs.Places.{written, IsFull};
 ghost use Rattle.transport_segments.specs.Kept.{Empty, Partial, kept_len, with_payload};
 ghost use Rattle.transport_segments.specs.Reassembly.{Takes, Answers, opened, places_with};
+ghost use Rattle.transport_segments.specs.Taking.{taken_at, TakesAs, CompletesAs};
 
 use crate::SegmentFault;
 use crate::places::{append_present, forget, is_full, least_missing, write};
@@ -73,6 +74,19 @@ impl Assembler {
         ensures fault { IfErr result (λ fault. MayAnswer bytes.now fault) }
         ensures unchanged { IfErr result (λ fault. self.new ≡ self.old) }
         ensures to_most { OnOk result (kept_len self.new ≤ 512) }
+        // the answer as a function of what is kept and the segment
+        ensures exact { TakesAs result (taken_at self.old bytes.now) }
+    {
+        self.take_one(bytes)
+    }
+
+    /// The same.
+    fn take_one(&mut self, bytes: &[u8]) -> Result<Taken, SegmentFault>
+        ensures sound { IfOk result (λ taken. IsSound bytes.now) }
+        ensures taken { IfOk result (λ taken. Takes self.old bytes.now taken self.new) }
+        ensures fault { IfErr result (λ fault. MayAnswer bytes.now fault) }
+        ensures unchanged { IfErr result (λ fault. self.new ≡ self.old) }
+        ensures to_most { OnOk result (kept_len self.new ≤ 512) }
     {
         let segment = judge(bytes)?;
         if let Some(datagram) = self.joined_with(&segment)? {
@@ -81,6 +95,17 @@ impl Assembler {
         }
         self.keep(&segment);
         Ok(answer(&self.places[..self.size]))
+    }
+
+    /// The datagram that this segment completes, where it does. Nothing is taken.
+    pub fn completes(&self, bytes: &[u8]) -> Result<Option<Bytes>, SegmentFault>
+        ensures exact { CompletesAs result (taken_at self.now bytes.now) }
+    {
+        let segment = match judge(bytes) {
+            Ok(segment) => segment,
+            Err(fault) => return Err(fault),
+        };
+        Ok(self.joined_with(&segment)?)
     }
 
     /// The datagram, where no byte is missing with this segment.
