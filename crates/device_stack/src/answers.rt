@@ -1,6 +1,6 @@
 //! How a device words its answers.
 
-ghost use Rattle.std.specs.Prelude.{◌≡◌, ◌<◌, ◌≤◌, length, [], ◌∷◌, IfOk};
+ghost use Rattle.std.specs.Prelude.{◌≡◌, false, ◌<◌, ◌≤◌, length, [], ◌∷◌, IfOk};
 ghost use Rattle.supervision.specs.Session.{wire_id};
 ghost use Rattle.device_stack.specs.Answers.{report_status, asks_to_wake, status_report, final_report, swapped, answer_plan, worded};
 ghost use Rattle.device_stack.specs.Worded.{IsAnswer, IsShort, IsPayload};
@@ -79,8 +79,8 @@ pub fn answering(plan: &Plan) -> Plan
 
 /// A message in the wraps of an answer.
 pub fn word(alloc: Global, plan: &Plan, message: &InfoMessage) -> Result<Bytes, NoMemory>
-    requires alone { plan.now.batch ≡ Bool.false }
-    requires unsupervised { plan.now.session ≡ Option.None }
+    requires alone { plan.now.batch ≡ false }
+    requires unsupervised { plan.now.session ≡ None }
     requires answer { IsAnswer message.now }
     ensures value { IfOk result (λ text. text ≡ worded plan.now message.now) }
     ensures short { IfOk result (λ text. IsShort text) }

@@ -9,7 +9,8 @@ ghost use Rattle.encap.specs.Opening.{Message};
 ghost use Rattle.encap.specs.Written.{only_of};
 ghost use Rattle.transport_segments.specs.Kept.{Empty};
 ghost use Rattle.device_stack.specs.State.{value_of, last_level_of};
-ghost use Rattle.device_stack.specs.Answers.{answer_plan, worded};
+ghost use Rattle.device_stack.specs.Answers.{answer_plan, worded, status_report};
+ghost use Rattle.device_stack.specs.Judging.{judged_set};
 ghost use Rattle.device_stack.specs.Effects.{end_of, set_plainly, telling, effect_alone, effect_in_session, effect_by, effect_of, session_taken, late_answer, takes, after_effect, answer_of};
 ghost use Rattle.device_stack.specs.Worded.{IsDue, IsShort};
 
@@ -99,8 +100,8 @@ impl Stack {
 
     /// What a message without Supervision does.
     fn effect_unsupervised(&self, opened: &Opened) -> Result<Effect, NoMemory>
-        ensures value { IfOk result (λ effect. effect ≡ effect_by self.now opened.now.plan opened.now.commands.items Option.None) }
-        ensures due { IfOk result (λ effect. IsDue self.now Option.None effect) }
+        ensures value { IfOk result (λ effect. effect ≡ effect_by self.now opened.now.plan opened.now.commands.items None) }
+        ensures due { IfOk result (λ effect. IsDue self.now None effect) }
     {
         if opened.plan.batch {
             return Ok(Effect::Ignores);
@@ -114,7 +115,7 @@ impl Stack {
     /// What one command does that is not supervised.
     fn effect_of_command(&self, end: EndPoint, command: &[u8]) -> Result<Effect, NoMemory>
         ensures value { IfOk result (λ effect. effect ≡ effect_alone self.now end (info_at command.now)) }
-        ensures due { IfOk result (λ effect. IsDue self.now Option.None effect) }
+        ensures due { IfOk result (λ effect. IsDue self.now None effect) }
     {
         match class_info::read(self.alloc, command) {
             Ok(message) => self.effect_of_message(end, &message),
@@ -126,7 +127,7 @@ impl Stack {
     /// What one message does.
     fn effect_of_message(&self, end: EndPoint, message: &InfoMessage) -> Result<Effect, NoMemory>
         ensures value { IfOk result (λ effect. effect ≡ effect_alone self.now end (Ok message.now)) }
-        ensures due { IfOk result (λ effect. IsDue self.now Option.None effect) }
+        ensures due { IfOk result (λ effect. IsDue self.now None effect) }
     {
         match message {
             InfoMessage::Core(message @ CoreMessage::SwitchBinarySet { .. }) => {
@@ -148,8 +149,8 @@ impl Stack {
 
     /// What a Set does that is not supervised.
     fn effect_of_set(&self, end: EndPoint, message: &CoreMessage) -> Result<Effect, NoMemory>
-        ensures value { IfOk result (λ effect. effect ≡ set_plainly self.now.kind end (Rattle.device_stack.specs.Judging.judged_set self.now.kind (value_of self.now) (last_level_of self.now) end message.now)) }
-        ensures due { IfOk result (λ effect. IsDue self.now Option.None effect) }
+        ensures value { IfOk result (λ effect. effect ≡ set_plainly self.now.kind end (judged_set self.now.kind (value_of self.now) (last_level_of self.now) end message.now)) }
+        ensures due { IfOk result (λ effect. IsDue self.now None effect) }
     {
         let bench = Bench {
             alloc: self.alloc,
@@ -187,7 +188,7 @@ impl Stack {
     /// The text that tells a status.
     fn status_text(&self, plan: &Plan, asked: Supervised, status: u8) -> Result<Option<Bytes>, NoMemory>
         requires { asked.id < 64 }
-        ensures value { IfOk result (λ text. text ≡ Some (worded (answer_plan plan.now) (Rattle.device_stack.specs.Answers.status_report self.now asked status))) }
+        ensures value { IfOk result (λ text. text ≡ Some (worded (answer_plan plan.now) (status_report self.now asked status))) }
         ensures short { IfOk result (λ text. IfSome text IsShort) }
     {
         let report = self.status_report(asked, status);

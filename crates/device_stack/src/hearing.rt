@@ -1,6 +1,7 @@
 //! How a payload is brought down to a message, and the answer is brought up again.
 
 ghost use Rattle.std.specs.Prelude.{◌≡◌, [], IfOk, IfSome, OnOk, OnErr, All};
+ghost use Rattle.std.specs.Option.{option_map};
 ghost use Rattle.encap.specs.Opening.{Message, opened_at};
 ghost use Rattle.device_stack.specs.Hearing.{answers, answers_bytes, hears_openly, hears_by, hears};
 ghost use Rattle.device_stack.specs.Worded.{IsShort, IsPayload};
@@ -15,7 +16,7 @@ use zw_base::{Bytes, NoMemory, Replies};
 impl Stack {
     /// The message in these bytes, where there is one.
     pub(crate) fn unpacked(&self, bytes: &[u8]) -> Result<Option<Opened>, NoMemory>
-        ensures { IfOk result (λ opened. Rattle.std.specs.Option.option_map (λ opened. record { plan = opened.plan; commands = opened.commands.items }) opened ≡ opened_at bytes.now) }
+        ensures { IfOk result (λ opened. option_map (λ opened. record { plan = opened.plan; commands = opened.commands.items }) opened ≡ opened_at bytes.now) }
     {
         if bytes.len() > MOST {
             return Err(NoMemory);

@@ -1,6 +1,7 @@
 //! The journal of a device: the changes that it made.
 
 ghost use Rattle.std.specs.Prelude.{◌≡◌, ℕ, [], ◌∷◌, ◌++◌, length, slice_get, IfOk, OnOk, OnErr};
+ghost use Rattle.device_stack.specs.Cache.{first_value};
 ghost use Rattle.device_stack.specs.Values.{value_after, level_after};
 
 use crate::Change;
@@ -64,7 +65,7 @@ impl Journal {
     pub fn value(&self, property: Property) -> u32
         ensures { result ≡ value_after self.now property 0 }
     {
-        first_value(self.values.as_slice(), property)
+        value_in(self.values.as_slice(), property)
     }
 
     /// The last level above 0, in per cent.
@@ -96,8 +97,8 @@ impl Journal {
 }
 
 /// The value of the first setting of a property, or 0.
-fn first_value(settings: &[Setting], property: Property) -> u32
-    ensures { result ≡ Rattle.device_stack.specs.Cache.first_value settings.now property }
+fn value_in(settings: &[Setting], property: Property) -> u32
+    ensures { result ≡ first_value settings.now property }
 {
     for setting in settings {
         if is_same(setting.property, property) {

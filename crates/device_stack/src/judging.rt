@@ -2,9 +2,10 @@
 
 ghost use Rattle.std.specs.Prelude.{◌≡◌, ℕ, ◌+◌, ◌≤◌, [], ◌∷◌, length, IfOk, Ok, Err};
 ghost use Rattle.zw_base.specs.declared.property.Property.{Property as TheProperty};
+ghost use Rattle.supervision.specs.Session.{IsStatus};
 ghost use Rattle.class_info.specs.InfoReading.{info_at};
 ghost use Rattle.device_stack.specs.Values.{value_by, value_after, level_after};
-ghost use Rattle.device_stack.specs.Judging.{setting_of, where_listed, where_inside, is_setpoint, in_tenths, configured, memberships, member_count, judged_members, judged_set, judged, judged_all, judged_message, status_of};
+ghost use Rattle.device_stack.specs.Judging.{setting_of, level_meant, where_listed, where_inside, is_setpoint, in_tenths, configured, memberships, member_count, judged_members, judged_set, judged, judged_all, judged_message, status_of};
 
 use crate::journal::Journal;
 use crate::kind::{
@@ -53,7 +54,7 @@ impl Verdict {
     /// The status that the device keeps of a session with this verdict.
     pub fn status(&self) -> u8
         ensures value { result ≡ status_of self.now }
-        ensures known { Rattle.supervision.specs.Session.IsStatus result }
+        ensures known { IsStatus result }
     {
         match self {
             Verdict::NoSupport => NO_SUPPORT,
@@ -201,7 +202,7 @@ impl Bench<'_> {
 
     /// A level, which takes time.
     fn judge_level(&self, level: u8) -> Result<Verdict, NoMemory>
-        ensures { IfOk result (λ verdict. verdict ≡ where_listed self.now.kind 0x26 (Verdict.Works (setting_of self.now.end Name.Level (Rattle.device_stack.specs.Judging.level_meant (level_after self.now.journal.now 99) level) ∷ []))) }
+        ensures { IfOk result (λ verdict. verdict ≡ where_listed self.now.kind 0x26 (Verdict.Works (setting_of self.now.end Name.Level (level_meant (level_after self.now.journal.now 99) level) ∷ []))) }
     {
         let value = if level == LAST_LEVEL {
             self.journal.last_level()

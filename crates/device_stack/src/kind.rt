@@ -1,7 +1,7 @@
 //! The kinds of devices.
 
 ghost use Rattle.std.specs.Prelude.{◌≡◌, ◌<◌};
-ghost use Rattle.device_stack.specs.Kind.{listens, classes_of, lists, has_end, main_name_of, tells, property_count, property_at};
+ghost use Rattle.device_stack.specs.Kind.{listens, classes_of, lists, has_end, main_name_of, tells, property_count, property_at, root_property, member_of};
 
 use zw_base::{EndPoint, Name, NodeId, Property, read_end, read_node};
 
@@ -183,7 +183,7 @@ impl Kind {
 
 /// A property of the device itself.
 pub fn root(name: Name) -> Property
-    ensures { result ≡ Rattle.device_stack.specs.Kind.root_property name }
+    ensures { result ≡ root_property name }
 {
     Property {
         end: EndPoint::root(),
@@ -221,7 +221,7 @@ fn socket(at: u16) -> Property
 fn member(number: u16) -> Property
     requires from_one { 0 < number }
     requires to_max { number < 233 }
-    ensures { result ≡ Rattle.device_stack.specs.Kind.member_of number }
+    ensures { result ≡ member_of number }
 {
     root(Name::Member(GROUP, node(number as u8)))
 }

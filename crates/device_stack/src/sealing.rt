@@ -3,6 +3,7 @@
 ghost use Rattle.std.specs.Prelude.{◌≡◌, ◌-◌, ◌≤◌, [], length, slice_index, IfOk, OnOk, OnErr, All, Some};
 ghost use Rattle.encap.specs.Opening.{opened_at};
 ghost use Rattle.class_info.specs.InfoReading.{info_at};
+ghost use Rattle.class_info.specs.InfoSpelling.{form};
 ghost use Rattle.device_stack.specs.Sealing.{keys_of, unsealed_at};
 ghost use Rattle.device_stack.specs.Hearing.{hears_securely, hears_sealed, hears_for, hears_plain, hears_inside, hears_nonces, gives_nonce, takes_nonce};
 ghost use Rattle.device_stack.specs.Worded.{IsPayload};
@@ -183,7 +184,7 @@ impl Stack {
 
 /// The report of a nonce.
 fn nonce_report(nonce: &[u8; 8]) -> Payload
-    ensures value { result ≡ Rattle.class_info.specs.InfoSpelling.form (InfoMessage.NonceReport nonce.now) }
+    ensures value { result ≡ form (InfoMessage.NonceReport nonce.now) }
     ensures size { IsPayload result }
 {
     let mut bytes = [0; 10];

@@ -1,14 +1,16 @@
 //! How a device hears in segments.
 
 ghost use Rattle.std.specs.Prelude.{◌≡◌, ◌+◌, ◌<◌, ◌^◌, [], ℕ, List, IfOk, OnOk, OnErr, All, Some, IsTrue};
+ghost use Rattle.class_info.specs.InfoSpelling.{form};
 ghost use Rattle.transport_segments.specs.Segment.{id_of, IsSegment};
 ghost use Rattle.transport_segments.specs.Taking.{taken_at};
-ghost use Rattle.device_stack.specs.Hearing.{hears_in_segments, hears_segment, assembles, acknowledged, repeats_segment, hears_openly};
+ghost use Rattle.device_stack.specs.Hearing.{segment_session as session_of_segments, hears_in_segments, hears_segment, assembles, acknowledged, repeats_segment, hears_openly};
 ghost use Rattle.device_stack.specs.Worded.{IsPayload};
 
 use crate::Stack;
 use crate::answers::payload as payload_of;
 use crate::kind::TRANSPORT_SERVICE;
+use class_info::InfoMessage;
 use encap::Supervised;
 use supervision::session_id;
 use transport_segments::{SegmentFault, Taken, ends_datagram, segment_id};
@@ -25,7 +27,7 @@ const TRANSPORT_IDS: u64 = 16;
 
 /// The session of segments on the wire.
 fn segment_session(session: u64) -> u8
-    ensures value { result ≡ Rattle.device_stack.specs.Hearing.segment_session session }
+    ensures value { result ≡ session_of_segments session }
     ensures range { result < 16 }
 {
     (session % TRANSPORT_IDS) as u8
@@ -34,7 +36,7 @@ fn segment_session(session: u64) -> u8
 /// That a datagram is whole.
 fn complete(id: u8) -> Payload
     requires { id < 16 }
-    ensures value { result ≡ Rattle.class_info.specs.InfoSpelling.form (class_info::InfoMessage.TransportComplete id) }
+    ensures value { result ≡ form (InfoMessage.TransportComplete id) }
     ensures size { IsPayload result }
 {
     payload_of(&[TRANSPORT_SERVICE, COMPLETE, id * 16])
@@ -44,7 +46,7 @@ fn complete(id: u8) -> Payload
 fn request(id: u8, offset: u16) -> Payload
     requires id { id < 16 }
     requires offset { offset < 2048 }
-    ensures value { result ≡ Rattle.class_info.specs.InfoSpelling.form (class_info::InfoMessage.TransportRequest id offset) }
+    ensures value { result ≡ form (InfoMessage.TransportRequest id offset) }
     ensures size { IsPayload result }
 {
     payload_of(&[

@@ -2,6 +2,7 @@
 
 ghost use Rattle.std.specs.Prelude.{◌≡◌, ℕ, ◌≤◌, ◌<◌, length, IfOk, OnOk, OnErr, vec_len, slice_index_or};
 ghost use Rattle.device_stack.specs.Settings.{property_cmp, with_setting, merged};
+ghost use Rattle.device_stack.specs.Places.{IsAfter, IsNotAfter};
 ghost use Rattle.device_stack.specs.Values.{value_by, level_by, level_property};
 ghost use Rattle.zw_base.specs.PropertyOrder.{same_property};
 
@@ -57,8 +58,8 @@ pub fn level_with(settings: &[Setting], before: u32) -> u32
 /// The place of the first setting whose property does not come before this one, or their number.
 fn place_of(settings: &[Setting], property: Property) -> usize
     ensures within { result ≤ length settings.now }
-    ensures before { (k : ℕ) → k < result → Rattle.device_stack.specs.Places.IsAfter settings.now property k }
-    ensures here { result < length settings.now → Rattle.device_stack.specs.Places.IsNotAfter settings.now property result }
+    ensures before { (k : ℕ) → k < result → IsAfter settings.now property k }
+    ensures here { result < length settings.now → IsNotAfter settings.now property result }
 {
     for (i, setting) in settings.iter().enumerate() {
         match compare(property, setting.property) {

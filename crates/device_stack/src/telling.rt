@@ -1,6 +1,6 @@
 //! What a device tells of its values.
 
-ghost use Rattle.std.specs.Prelude.{◌≡◌, ◌≤◌, length, IfOk, IfSome, take};
+ghost use Rattle.std.specs.Prelude.{◌≡◌, ◌%◌, min, ◌≤◌, length, IfOk, IfSome, take};
 ghost use Rattle.device_stack.specs.Values.{value_after};
 ghost use Rattle.device_stack.specs.Telling.{report_of, asked_name_core, asked_name, members_of, value_told, told};
 ghost use Rattle.device_stack.specs.Worded.{IsAnswer};
@@ -68,7 +68,7 @@ pub fn report(name: Name, value: u32) -> Option<InfoMessage>
 
 /// A level of at most 99 per cent.
 fn level(value: u32) -> Level
-    ensures { result ≡ Rattle.std.specs.Prelude.min value 99 }
+    ensures { result ≡ min value 99 }
 {
     match Level::of(value.min(FULL_LEVEL) as u8) {
         Some(level) => level,
@@ -78,7 +78,7 @@ fn level(value: u32) -> Level
 
 /// The mode in the low five bits.
 fn mode(value: u32) -> Mode
-    ensures { result ≡ Rattle.std.specs.Prelude.◌%◌ value 32 }
+    ensures { result ≡ value % 32 }
 {
     match Mode::of((value % 32) as u8) {
         Some(mode) => mode,
@@ -88,7 +88,7 @@ fn mode(value: u32) -> Mode
 
 /// The kind of setpoint in the low four bits.
 fn setpoint_kind(kind: u8) -> SetpointKind
-    ensures { result ≡ Rattle.std.specs.Prelude.◌%◌ kind 16 }
+    ensures { result ≡ kind % 16 }
 {
     match SetpointKind::of(kind % 16) {
         Some(kind) => kind,
@@ -98,14 +98,14 @@ fn setpoint_kind(kind: u8) -> SetpointKind
 
 /// A number of tenths, in two bytes.
 fn tenths(value: u32) -> Decimal
-    ensures { result ≡ record { precision = 1; scale = 0; number = Number.Two (Rattle.std.specs.Prelude.◌%◌ value 65536) } }
+    ensures { result ≡ record { precision = 1; scale = 0; number = Number.Two (value % 65536) } }
 {
     Decimal::new(1, 0, Number::Two((value % 65536) as u16))
 }
 
 /// Seconds in three bytes.
 fn seconds(value: u32) -> Seconds
-    ensures { result ≡ Rattle.std.specs.Prelude.◌%◌ value 16777216 }
+    ensures { result ≡ value % 16777216 }
 {
     match Seconds::of(value % 16_777_216) {
         Some(seconds) => seconds,

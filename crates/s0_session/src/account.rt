@@ -23,7 +23,7 @@ impl Account {
     }
 
     /// How many nonces were given.
-    pub(crate) fn given(&self) -> u64
+    pub fn given(&self) -> u64
         ensures { result ≡ self.now.given }
     {
         self.given
