@@ -1,7 +1,6 @@
 -- How a device judges the commands of a session (this project's own kinds; the commands are those of the Z-Wave
 -- Application and Management Command Class Specifications).
 use Rattle.std.specs.Prelude.{ℕ, suc, ◌+◌, Bool, true, false, ◌==◌, ◌&&◌, ◌||◌, not, nat_le, nat_lt, if◌then◌else◌, List, [], ◌∷◌, length, map, count_by, Result, Ok, Err, Option, Some, None}
-use Rattle.std.specs.List.{range_with_len}
 use Rattle.zw_base.specs.declared.property.Name.{Name}
 use Rattle.zw_base.specs.declared.property.Name.TheVariants as names
 use Rattle.zw_base.specs.declared.property.Property.{Property}
@@ -21,7 +20,7 @@ use Rattle.device_stack.specs.declared.kind.Kind.{Kind}
 use Rattle.device_stack.specs.declared.kind.Kind.TheVariants.{Dimmer}
 use Rattle.device_stack.specs.declared.verdict.Verdict.{Verdict}
 use Rattle.device_stack.specs.declared.verdict.Verdict.TheVariants.{NoSupport, Fails, Makes, Works}
-use Rattle.device_stack.specs.Kind.{lists, has_end}
+use Rattle.device_stack.specs.Kind.{lists, has_end, all_nodes}
 use Rattle.device_stack.specs.Values.{value_by}
 use Rattle.device_stack.specs.Settings.{merged}
 
@@ -60,13 +59,17 @@ abbrev pub memberships : ℕ → ℕ → List ℕ → List Setting
 memberships end value [] = []
 memberships end value (node ∷ nodes) = setting_of end (names.Member 1 node) value ∷ memberships end value nodes
 
+-- whether a node is a member of group 1 by these values and settings
+abbrev pub is_member : (Property → ℕ) → List Setting → ℕ → ℕ → Bool
+is_member values settings end node =
+    not (value_by settings (record { end = end; name = names.Member 1 node }) (values (record { end = end; name = names.Member 1 node })) == 0)
+
 -- how many members group 1 has by these values and settings
-abbrev pub member_count : (Property → ℕ) → List Setting → ℕ → ℕ
-member_count values settings end =
-    count_by (λ node. not (value_by settings (record { end = end; name = names.Member 1 node }) (values (record { end = end; name = names.Member 1 node })) == 0)) (range_with_len 1 232)
+unfoldable pub member_count : (Property → ℕ) → List Setting → ℕ → ℕ
+member_count values settings end = count_by (is_member values settings end) all_nodes
 
 -- group 1 alone, at least one node, and at most five members after the command
-abbrev pub judged_members : (Property → ℕ) → ℕ → ℕ → ℕ → List ℕ → Verdict
+unfoldable pub judged_members : (Property → ℕ) → ℕ → ℕ → ℕ → List ℕ → Verdict
 judged_members values end value group nodes =
     let settings = memberships end value nodes in
     where_inside ((group == 1) && nat_lt 0 (length nodes) && nat_le (member_count values settings end) 5) settings

@@ -1,7 +1,6 @@
 -- What a device tells of its values (Z-Wave Application and Management Command Class Specifications; which kind tells what
 -- is this project's own rule).
 use Rattle.std.specs.Prelude.{ℕ, ◌%◌, ◌^◌, ◌<◌, ◌≤◌, Bool, ◌==◌, ◌&&◌, ◌||◌, not, nat_le, if◌then◌else◌, min, List, take, length, filter, Option, Some, None}
-use Rattle.std.specs.List.{range_with_len}
 use Rattle.std.specs.Option.{option_and_then}
 use Rattle.zw_base.specs.declared.property.Name.{Name}
 use Rattle.zw_base.specs.declared.property.Name.TheVariants as names
@@ -15,7 +14,7 @@ use Rattle.class_core.specs.declared.message.CoreMessage.TheVariants.{SwitchBina
 use Rattle.class_info.specs.declared.message.InfoMessage.{InfoMessage}
 use Rattle.class_info.specs.declared.message.InfoMessage.TheVariants.{Core, SensorMultilevelGet, SensorMultilevelReport, BatteryGet, BatteryReport, WakeUpIntervalGet, WakeUpIntervalReport, AssociationGet, AssociationReport}
 use Rattle.device_stack.specs.declared.kind.Kind.{Kind}
-use Rattle.device_stack.specs.Kind.{lists, tells, has_end}
+use Rattle.device_stack.specs.Kind.{lists, tells, has_end, all_nodes}
 use Rattle.device_stack.specs.State.{host_node}
 
 -- the report of a value, in the fields of its report: what these cannot say is cut off, and never comes
@@ -48,10 +47,13 @@ asked_name BatteryGet = Some names.Battery
 asked_name WakeUpIntervalGet = Some names.Interval
 asked_name _ = None
 
+-- whether a node is a member of a group by these values
+abbrev pub is_member_of : (Property → ℕ) → ℕ → ℕ → ℕ → Bool
+is_member_of values end group node = not (values (record { end = end; name = names.Member group node }) == 0)
+
 -- the members of a group, in order
-abbrev pub members_of : (Property → ℕ) → ℕ → ℕ → List ℕ
-members_of values end group =
-    filter (λ node. not (values (record { end = end; name = names.Member group node }) == 0)) (range_with_len 1 232)
+unfoldable pub members_of : (Property → ℕ) → ℕ → ℕ → List ℕ
+members_of values end group = filter (is_member_of values end group) all_nodes
 
 -- the report of a value of that end point, where the kind tells it
 abbrev pub value_told : Kind → (Property → ℕ) → ℕ → Name → Option InfoMessage

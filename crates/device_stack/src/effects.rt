@@ -177,11 +177,17 @@ impl Stack {
         ensures value { IfOk result (λ text. text ≡ option_map (worded (answer_plan plan.now)) (answer_of self.now plan.now effect.now)) }
         ensures short { IfOk result (λ text. IfSome text IsShort) }
     {
-        match (effect, plan.session) {
-            (Effect::Tells(report), _) => Ok(Some(word(self.alloc, &answering(plan), report)?)),
-            (Effect::Repeats(status), Some(asked)) => self.status_text(plan, asked, *status),
-            (Effect::Takes(verdict), Some(asked)) => self.status_text(plan, asked, verdict.status()),
-            _ => Ok(None),
+        match effect {
+            Effect::Tells(report) => Ok(Some(word(self.alloc, &answering(plan), report)?)),
+            Effect::Repeats(status) => match plan.session {
+                Some(asked) => self.status_text(plan, asked, *status),
+                None => unreachable!(),
+            },
+            Effect::Takes(verdict) => match plan.session {
+                Some(asked) => self.status_text(plan, asked, verdict.status()),
+                None => unreachable!(),
+            },
+            Effect::Ignores | Effect::Sleeps | Effect::Sets(_) => Ok(None),
         }
     }
 
@@ -201,17 +207,20 @@ impl Stack {
         ensures ok { OnOk result (self.new ≡ after_effect self.old plan.now effect) }
         ensures err { OnErr result (self.new ≡ self.old) }
     {
-        match (effect, plan.session) {
-            (Effect::Sleeps, _) => {
+        match effect {
+            Effect::Sleeps => {
                 self.awake = false;
                 Ok(())
             }
-            (Effect::Sets(settings), _) => self.journal.make(Change {
+            Effect::Sets(settings) => self.journal.make(Change {
                 by: By::Plain,
                 settings,
             }),
-            (Effect::Takes(verdict), Some(asked)) => self.take(plan, asked, verdict),
-            _ => Ok(()),
+            Effect::Takes(verdict) => match plan.session {
+                Some(asked) => self.take(plan, asked, verdict),
+                None => unreachable!(),
+            },
+            Effect::Ignores | Effect::Tells(_) | Effect::Repeats(_) => Ok(()),
         }
     }
 

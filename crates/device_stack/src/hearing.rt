@@ -29,6 +29,7 @@ impl Stack {
     }
 
     /// Takes a message out of its wraps, and gives the text that answers it.
+    #[tactic(auto, unfolding(crate::specs::Hearing::answers, crate::specs::Effects::effect_of))]
     pub(crate) fn answer(&mut self, opened: &Opened) -> Result<Option<Bytes>, NoMemory>
         ensures value { IfOk result (λ text. text ≡ (answers self.old (record { plan = opened.now.plan; commands = opened.now.commands.items })).answer) }
         ensures ok { OnOk result (self.new ≡ (answers self.old (record { plan = opened.now.plan; commands = opened.now.commands.items })).device) }
@@ -42,6 +43,7 @@ impl Stack {
     }
 
     /// The same of bytes that may be a message.
+    #[tactic(auto, unfolding(crate::specs::Hearing::answers_bytes))]
     pub(crate) fn answer_bytes(&mut self, bytes: &[u8]) -> Result<Option<Bytes>, NoMemory>
         ensures value { IfOk result (λ text. text ≡ (answers_bytes self.old bytes.now).answer) }
         ensures ok { OnOk result (self.new ≡ (answers_bytes self.old bytes.now).device) }
@@ -55,6 +57,7 @@ impl Stack {
     }
 
     /// Hears a message that is not sealed.
+    #[tactic(auto, unfolding(crate::specs::Hearing::hears_openly))]
     pub(crate) fn hear_openly(&mut self, payload: &[u8], out: &mut Replies) -> Result<(), NoMemory>
         requires { out.old ≡ [] }
         ensures ok { OnOk result (self.new ≡ (hears_openly self.old payload.now).device) }
@@ -91,6 +94,7 @@ impl Stack {
     }
 
     /// Hears a payload: a device that sleeps hears nothing. What is sent is put into `out`.
+    #[tactic(auto, unfolding(crate::specs::Hearing::hears))]
     pub fn hear(&mut self, payload: &[u8], drawn: [u8; 8], out: &mut Replies) -> Result<(), NoMemory>
         requires { out.old ≡ [] }
         ensures ok { OnOk result (self.new ≡ (hears self.old payload.now drawn).device) }

@@ -62,8 +62,8 @@ impl Journal {
     }
 
     /// The value of a property: what the last change with a setting of it gave, and 0 before one.
-    pub fn value(&self, property: Property) -> u32
-        ensures { result ≡ value_after self.now property 0 }
+    pub fn value(&self, property: &Property) -> u32
+        ensures { result ≡ value_after self.now property.now 0 }
     {
         value_in(self.values.as_slice(), property)
     }
@@ -97,11 +97,11 @@ impl Journal {
 }
 
 /// The value of the first setting of a property, or 0.
-fn value_in(settings: &[Setting], property: Property) -> u32
-    ensures { result ≡ first_value settings.now property }
+fn value_in(settings: &[Setting], property: &Property) -> u32
+    ensures { result ≡ first_value settings.now property.now }
 {
     for setting in settings {
-        if is_same(setting.property, property) {
+        if is_same(&setting.property, property) {
             return setting.value;
         }
     }

@@ -146,13 +146,14 @@ fn members(alloc: Global, end: EndPoint, value: u32, nodes: &[NodeId]) -> Result
 
 impl Bench<'_> {
     /// The value of a property, if the commands before were made.
-    fn value(&self, property: Property) -> u32
-        ensures { result ≡ value_by self.now.made.now property (value_after self.now.journal.now property 0) }
+    fn value(&self, property: &Property) -> u32
+        ensures { result ≡ value_by self.now.made.now property.now (value_after self.now.journal.now property.now 0) }
     {
         value_with(self.made, property, self.journal.value(property))
     }
 
     /// How many members the group has with these settings besides.
+    #[tactic(auto, unfolding(crate::specs::Judging::member_count))]
     fn count(&self, settings: &[Setting]) -> u16
         ensures value { result ≡ member_count (λ property. value_by self.now.made.now property (value_after self.now.journal.now property 0)) settings.now self.now.end }
         ensures small { result ≤ 232 }
@@ -163,7 +164,7 @@ impl Bench<'_> {
                 end: self.end,
                 name: Name::Member(GROUP, node(before + 1)),
             };
-            if value_with(settings, property, self.value(property)) != 0 {
+            if value_with(settings, &property, self.value(&property)) != 0 {
                 count += 1;
             }
         }
@@ -171,6 +172,7 @@ impl Bench<'_> {
     }
 
     /// Members of a group that are set or removed.
+    #[tactic(auto, unfolding(crate::specs::Judging::judged_members))]
     fn judge_members(&self, value: u32, group: u8, nodes: &[NodeId]) -> Result<Verdict, NoMemory>
         ensures { IfOk result (λ verdict. verdict ≡ judged_members (λ property. value_by self.now.made.now property (value_after self.now.journal.now property 0)) self.now.end value group nodes.now) }
     {
@@ -272,20 +274,27 @@ impl Bench<'_> {
     }
 }
 
+/// A command after those that make these settings.
+fn judge_next(alloc: Global, kind: Kind, journal: &Journal, end: EndPoint, made: &[Setting], command: &[u8]) -> Result<Verdict, NoMemory>
+    ensures { IfOk result (λ verdict. verdict ≡ judged kind (λ property. value_by made.now property (value_after journal.now property 0)) (level_after journal.now 99) end (info_at command.now)) }
+{
+    let bench = Bench {
+        alloc,
+        kind,
+        journal,
+        made,
+        end,
+    };
+    bench.judge(command)
+}
+
 /// The commands of a message together, each judged as if those before it were made.
 fn judge_all(alloc: Global, kind: Kind, journal: &Journal, end: EndPoint, commands: &[Bytes]) -> Result<Verdict, NoMemory>
     ensures { IfOk result (λ verdict. verdict ≡ judged_all kind (λ property. value_after journal.now property 0) (level_after journal.now 99) end [] commands.now) }
 {
     let mut made = Sequence::new(alloc);
     for command in commands {
-        let bench = Bench {
-            alloc,
-            kind,
-            journal,
-            made: made.as_slice(),
-            end,
-        };
-        match bench.judge(command.as_slice())? {
+        match judge_next(alloc, kind, journal, end, made.as_slice(), command.as_slice())? {
             Verdict::Makes(settings) => {
                 made = merge(alloc, made.as_slice(), settings.as_slice())?;
             }

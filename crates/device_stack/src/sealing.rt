@@ -60,6 +60,7 @@ fn open(
 
 impl Stack {
     /// Hears what comes to a lock.
+    #[tactic(auto, unfolding(crate::specs::Hearing::hears_securely))]
     pub(crate) fn hear_securely(&mut self, payload: &[u8], drawn: [u8; 8], out: &mut Replies) -> Result<(), NoMemory>
         requires { out.old ≡ [] }
         ensures ok { OnOk result (self.new ≡ (hears_securely self.old payload.now drawn).device) }
@@ -112,6 +113,7 @@ impl Stack {
     }
 
     /// Hears a Security message: the nonce that it names is spent, whether it opens or not.
+    #[tactic(auto, unfolding(crate::specs::Hearing::hears_sealed))]
     fn hear_sealed(&mut self, payload: &[u8], out: &mut Replies) -> Result<(), NoMemory>
         requires empty { out.old ≡ [] }
         requires class { slice_index payload.now 0 ≡ 0x98 }

@@ -59,6 +59,7 @@ fn request(id: u8, offset: u16) -> Payload
 
 impl Stack {
     /// Hears a payload that may be a segment.
+    #[tactic(auto, unfolding(crate::specs::Hearing::hears_in_segments))]
     pub(crate) fn hear_in_segments(&mut self, payload: &[u8], out: &mut Replies) -> Result<(), NoMemory>
         requires { out.old ≡ [] }
         ensures ok { OnOk result (self.new ≡ (hears_in_segments self.old payload.now).device) }
@@ -74,6 +75,7 @@ impl Stack {
     }
 
     /// Hears a segment of that session.
+    #[tactic(auto, unfolding(crate::specs::Hearing::hears_segment))]
     fn hear_segment(&mut self, id: u8, segment: &[u8], out: &mut Replies) -> Result<(), NoMemory>
         requires empty { out.old ≡ [] }
         requires segment { IsSegment segment.now }

@@ -12,16 +12,16 @@ use std::cmp::Ordering;
 use zw_base::{Name, NoMemory, Property, Sequence, Setting, properties_in_order};
 
 /// How two properties are ordered.
-pub fn compare(first: Property, second: Property) -> Ordering
-    ensures { result ≡ property_cmp first second }
+pub fn compare(first: &Property, second: &Property) -> Ordering
+    ensures { result ≡ property_cmp first.now second.now }
 {
-    properties_in_order(first, second);
-    first.cmp(&second)
+    properties_in_order(*first, *second);
+    first.cmp(second)
 }
 
 /// Whether two properties are the same one.
-pub fn is_same(first: Property, second: Property) -> bool
-    ensures { result ≡ same_property first second }
+pub fn is_same(first: &Property, second: &Property) -> bool
+    ensures { result ≡ same_property first.now second.now }
 {
     match compare(first, second) {
         Ordering::Equal => true,
@@ -30,12 +30,12 @@ pub fn is_same(first: Property, second: Property) -> bool
 }
 
 /// The value that settings give a property, or the one before.
-pub fn value_with(settings: &[Setting], property: Property, before: u32) -> u32
-    ensures { result ≡ value_by settings.now property before }
+pub fn value_with(settings: &[Setting], property: &Property, before: u32) -> u32
+    ensures { result ≡ value_by settings.now property.now before }
 {
     let mut value = before;
     for setting in settings {
-        if is_same(setting.property, property) {
+        if is_same(&setting.property, property) {
             value = setting.value;
         }
     }
@@ -47,8 +47,9 @@ pub fn level_with(settings: &[Setting], before: u32) -> u32
     ensures { result ≡ level_by settings.now before }
 {
     let mut level = before;
+    let of_level = root(Name::Level);
     for setting in settings {
-        if is_same(setting.property, root(Name::Level)) && setting.value > 0 {
+        if is_same(&setting.property, &of_level) && setting.value > 0 {
             level = setting.value;
         }
     }
@@ -56,13 +57,13 @@ pub fn level_with(settings: &[Setting], before: u32) -> u32
 }
 
 /// The place of the first setting whose property does not come before this one, or their number.
-fn place_of(settings: &[Setting], property: Property) -> usize
+fn place_of(settings: &[Setting], property: &Property) -> usize
     ensures within { result ≤ length settings.now }
-    ensures before { (k : ℕ) → k < result → IsAfter settings.now property k }
-    ensures here { result < length settings.now → IsNotAfter settings.now property result }
+    ensures before { (k : ℕ) → k < result → IsAfter settings.now property.now k }
+    ensures here { result < length settings.now → IsNotAfter settings.now property.now result }
 {
     for (i, setting) in settings.iter().enumerate() {
-        match compare(property, setting.property) {
+        match compare(property, &setting.property) {
             Ordering::Greater => {}
             Ordering::Less | Ordering::Equal => return i,
         }
@@ -74,8 +75,8 @@ fn place_of(settings: &[Setting], property: Property) -> usize
 fn place(settings: &mut Vec<Setting>, setting: Setting) -> Result<(), NoMemory>
     ensures { OnOk result (settings.new.items ≡ with_setting settings.old.items setting) }
 {
-    let at = place_of(settings.as_slice(), setting.property);
-    if at < settings.len() && is_same(setting.property, settings[at].property) {
+    let at = place_of(settings.as_slice(), &setting.property);
+    if at < settings.len() && is_same(&setting.property, &settings[at].property) {
         settings[at] = setting;
     } else {
         settings.insert(at, setting)?;

@@ -162,7 +162,7 @@ fn members(alloc: Global, journal: &Journal, end: EndPoint, group: u8) -> Result
             end,
             name: Name::Member(group, member),
         };
-        if journal.value(property) != 0 && nodes.len() < usize::from(MAX_MEMBERS) {
+        if journal.value(&property) != 0 && nodes.len() < usize::from(MAX_MEMBERS) {
             nodes.push(member)?;
         }
     }
@@ -170,12 +170,12 @@ fn members(alloc: Global, journal: &Journal, end: EndPoint, group: u8) -> Result
 }
 
 /// The report of a value of that end point, where the kind tells it.
-pub fn tell_value(kind: Kind, journal: &Journal, end: EndPoint, name: Name) -> Option<InfoMessage>
-    ensures value { result ≡ value_told kind (λ property. value_after journal.now property 0) end name }
+pub fn tell_value(kind: Kind, journal: &Journal, end: EndPoint, name: &Name) -> Option<InfoMessage>
+    ensures value { result ≡ value_told kind (λ property. value_after journal.now property 0) end name.now }
     ensures answer { IfSome result (λ report. IsAnswer report) }
 {
-    if kind.tells(name) {
-        report(name, journal.value(Property { end, name }))
+    if kind.tells(*name) {
+        report(*name, journal.value(&Property { end, name: *name }))
     } else {
         None
     }
@@ -209,7 +209,7 @@ pub fn tell(alloc: Global, kind: Kind, journal: &Journal, end: EndPoint, message
         return Ok(None);
     }
     match asked(message) {
-        Some(name) => Ok(tell_value(kind, journal, end, name)),
+        Some(name) => Ok(tell_value(kind, journal, end, &name)),
         None => Ok(None),
     }
 }

@@ -76,6 +76,7 @@ impl Stack {
     }
 
     /// A tick of 100 ms passes.
+    #[tactic(auto, unfolding(crate::specs::Ticking::ticked))]
     pub fn tick(&mut self, out: &mut Replies) -> Result<(), NoMemory>
         requires { out.old ≡ [] }
         ensures ok { OnOk result (self.new ≡ (ticked self.old).device) }
@@ -130,6 +131,7 @@ impl Stack {
     }
 
     /// Somebody wakes the device: where it does not listen, it is awake and says so.
+    #[tactic(auto, unfolding(crate::specs::Ticking::woken))]
     pub fn wake(&mut self, out: &mut Replies) -> Result<(), NoMemory>
         requires { out.old ≡ [] }
         ensures ok { OnOk result (self.new ≡ (woken self.old).device) }
@@ -147,6 +149,7 @@ impl Stack {
     }
 
     /// Somebody sets the main property by hand. What is told of it is put into `out`.
+    #[tactic(auto, unfolding(crate::specs::Ticking::set_by_hand))]
     pub fn set_by_hand(&mut self, value: u8, out: &mut Replies) -> Result<(), NoMemory>
         requires { out.old ≡ [] }
         ensures ok { OnOk result (self.new ≡ (set_by_hand self.old value).device) }
@@ -185,13 +188,14 @@ impl Stack {
     }
 
     /// The main property and the others that are not 0, in the order of properties, with their values.
+    #[tactic(auto, unfolding(crate::specs::Showing::shown_of))]
     pub fn show(&self, alloc: Global) -> Result<List<Setting>, NoMemory>
         ensures { IfOk result (λ shown. shown.items ≡ shown_of self.now) }
     {
         let mut shown = List::new(alloc);
         for at in 0..self.kind.property_count() {
             let property = self.kind.property(at);
-            if let Some(setting) = self.shown(property) {
+            if let Some(setting) = self.shown(&property) {
                 shown.push(setting)?;
             }
         }
@@ -199,12 +203,15 @@ impl Stack {
     }
 
     /// A property with its value, if it is shown.
-    fn shown(&self, property: Property) -> Option<Setting>
-        ensures { result ≡ shown_at self.now property }
+    fn shown(&self, property: &Property) -> Option<Setting>
+        ensures { result ≡ shown_at self.now property.now }
     {
         let value = self.journal.value(property);
-        if is_same(property, root(self.kind.main_name())) || value != 0 {
-            Some(Setting { property, value })
+        if is_same(property, &root(self.kind.main_name())) || value != 0 {
+            Some(Setting {
+                property: *property,
+                value,
+            })
         } else {
             None
         }
