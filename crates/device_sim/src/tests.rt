@@ -60,10 +60,18 @@ fn play<D: Device>(rt: &impl Abort, alloc: Global, device: &mut D, steps: &[Step
     let mut out = Replies::new(alloc).expect(rt, "memory");
     for (i, step) in steps.iter().enumerate() {
         happens(rt, device, step.what, &mut out);
-        assert_eq!(rt; usize::from(out.len()), step.sent.len(), "replies at step {i}");
+        assert_eq!(rt;
+            usize::from(out.len()),
+            step.sent.len(),
+            "replies at step {i}"
+        );
         for (k, want) in step.sent.iter().enumerate() {
             assert!(rt; k < 8);
-            assert_eq!(rt; out.get(k as u8).expect(rt, "a reply"), *want, "reply {k} at step {i}");
+            assert_eq!(rt;
+                out.get(k as u8).expect(rt, "a reply"),
+                *want,
+                "reply {k} at step {i}"
+            );
         }
         assert_eq!(rt; device.changes(), step.changes, "changes at step {i}");
     }
@@ -78,7 +86,13 @@ fn shows<D: Device>(rt: &impl Abort, alloc: Global, device: &D, want: &[(u8, Nam
             end: end(rt, *place),
             name: *name,
         };
-        assert_eq!(rt; *setting, Setting { property, value: *value });
+        assert_eq!(rt;
+            *setting,
+            Setting {
+                property,
+                value: *value
+            }
+        );
     }
 }
 
@@ -90,31 +104,104 @@ fn a_switch_takes_each_session_once(rt: HostRuntime) -> Result<(), Fail> {
     let mut device = make_switch(alloc, node(&rt, 2), KEY)?;
     shows(&rt, alloc, &device, &[(0, Name::Switch, 0)]);
     let steps = [
-        Step { what: GET_1, sent: &[&[0x6C, 2, 1, 0xFF, 0]], changes: 1 },
-        Step { what: GET_1, sent: &[&[0x6C, 2, 1, 0xFF, 0]], changes: 1 },
-        Step { what: Do::Hear(&[0x6C, 1, 3, 3, 0x25, 1, 0xFF]), sent: &[], changes: 1 },
-        Step { what: Do::Hear(&[0x25, 2]), sent: &[&[0x25, 3, 0xFF]], changes: 1 },
-        Step { what: Do::Hear(&[0x25, 1, 0]), sent: &[], changes: 1 },
-        Step { what: Do::Hear(&[0x6C, 1, 2, 4, 0x85, 1, 1, 10]), sent: &[&[0x6C, 2, 2, 0xFF, 0]], changes: 2 },
-        Step { what: Do::Hear(&[0x85, 2, 1]), sent: &[&[0x85, 3, 1, 5, 0, 10]], changes: 2 },
-        Step { what: Do::Hear(&[0x85, 2, 7]), sent: &[&[0x85, 3, 7, 5, 0]], changes: 2 },
-        Step { what: Do::Hear(&[0x6C, 1, 3, 8, 0x85, 1, 1, 1, 2, 3, 4, 5]), sent: &[&[0x6C, 2, 3, 2, 0]], changes: 2 },
-        Step { what: Do::Hear(&[0x6C, 1, 4, 2, 0x25, 2]), sent: &[&[0x6C, 2, 4, 0, 0]], changes: 2 },
-        Step { what: Do::Hear(&[0x6C, 1, 5, 3, 0x25, 1, 7]), sent: &[&[0x6C, 2, 5, 0, 0]], changes: 2 },
-        Step { what: Do::Hear(&[0x6C, 1, 6, 3, 0x85, 1, 1]), sent: &[&[0x6C, 2, 6, 2, 0]], changes: 2 },
-        Step { what: Do::Hear(&[0x6C, 1, 7, 5, 0x85, 1, 1, 7, 3]), sent: &[&[0x6C, 2, 7, 0xFF, 0]], changes: 3 },
-        Step { what: Do::Set(0), sent: &[&[0x25, 3, 0]], changes: 4 },
-        Step { what: Do::Wake, sent: &[], changes: 4 },
-        Step { what: Do::Ticks(300), sent: &[], changes: 4 },
-        Step { what: Do::Hear(&[0x56, 1, 0x25, 2, 0xC6, 0x31]), sent: &[], changes: 4 },
+        Step {
+            what: GET_1,
+            sent: &[&[0x6C, 2, 1, 0xFF, 0]],
+            changes: 1,
+        },
+        Step {
+            what: GET_1,
+            sent: &[&[0x6C, 2, 1, 0xFF, 0]],
+            changes: 1,
+        },
+        Step {
+            what: Do::Hear(&[0x6C, 1, 3, 3, 0x25, 1, 0xFF]),
+            sent: &[],
+            changes: 1,
+        },
+        Step {
+            what: Do::Hear(&[0x25, 2]),
+            sent: &[&[0x25, 3, 0xFF]],
+            changes: 1,
+        },
+        Step {
+            what: Do::Hear(&[0x25, 1, 0]),
+            sent: &[],
+            changes: 1,
+        },
+        Step {
+            what: Do::Hear(&[0x6C, 1, 2, 4, 0x85, 1, 1, 10]),
+            sent: &[&[0x6C, 2, 2, 0xFF, 0]],
+            changes: 2,
+        },
+        Step {
+            what: Do::Hear(&[0x85, 2, 1]),
+            sent: &[&[0x85, 3, 1, 5, 0, 10]],
+            changes: 2,
+        },
+        Step {
+            what: Do::Hear(&[0x85, 2, 7]),
+            sent: &[&[0x85, 3, 7, 5, 0]],
+            changes: 2,
+        },
+        Step {
+            what: Do::Hear(&[0x6C, 1, 3, 8, 0x85, 1, 1, 1, 2, 3, 4, 5]),
+            sent: &[&[0x6C, 2, 3, 2, 0]],
+            changes: 2,
+        },
+        Step {
+            what: Do::Hear(&[0x6C, 1, 4, 2, 0x25, 2]),
+            sent: &[&[0x6C, 2, 4, 0, 0]],
+            changes: 2,
+        },
+        Step {
+            what: Do::Hear(&[0x6C, 1, 5, 3, 0x25, 1, 7]),
+            sent: &[&[0x6C, 2, 5, 0, 0]],
+            changes: 2,
+        },
+        Step {
+            what: Do::Hear(&[0x6C, 1, 6, 3, 0x85, 1, 1]),
+            sent: &[&[0x6C, 2, 6, 2, 0]],
+            changes: 2,
+        },
+        Step {
+            what: Do::Hear(&[0x6C, 1, 7, 5, 0x85, 1, 1, 7, 3]),
+            sent: &[&[0x6C, 2, 7, 0xFF, 0]],
+            changes: 3,
+        },
+        Step {
+            what: Do::Set(0),
+            sent: &[&[0x25, 3, 0]],
+            changes: 4,
+        },
+        Step {
+            what: Do::Wake,
+            sent: &[],
+            changes: 4,
+        },
+        Step {
+            what: Do::Ticks(300),
+            sent: &[],
+            changes: 4,
+        },
+        Step {
+            what: Do::Hear(&[0x56, 1, 0x25, 2, 0xC6, 0x31]),
+            sent: &[],
+            changes: 4,
+        },
     ];
     play(&rt, alloc, &mut device, &steps);
-    shows(&rt, alloc, &device, &[
-        (0, Name::Switch, 0),
-        (0, Name::Member(1, node(&rt, 3)), 1),
-        (0, Name::Member(1, node(&rt, 7)), 1),
-        (0, Name::Member(1, node(&rt, 10)), 1),
-    ]);
+    shows(
+        &rt,
+        alloc,
+        &device,
+        &[
+            (0, Name::Switch, 0),
+            (0, Name::Member(1, node(&rt, 3)), 1),
+            (0, Name::Member(1, node(&rt, 7)), 1),
+            (0, Name::Member(1, node(&rt, 10)), 1),
+        ],
+    );
     assert_eq!(rt; device.node().number(), 2);
     assert!(rt; device.awake());
     let profile = device.profile(alloc)?;
@@ -133,27 +220,95 @@ fn a_dimmer_works_for_five_ticks(rt: HostRuntime) -> Result<(), Fail> {
     let mut device = make_dimmer(alloc, node(&rt, 3), KEY)?;
     let get: Do<'_> = Do::Hear(&[0x6C, 1, 0x81, 3, 0x26, 1, 0x28]);
     let steps = [
-        Step { what: get, sent: &[&[0x6C, 2, 0x81, 1, 1]], changes: 0 },
-        Step { what: Do::Ticks(3), sent: &[], changes: 0 },
-        Step { what: get, sent: &[&[0x6C, 2, 0x81, 1, 1]], changes: 0 },
-        Step { what: Do::Hear(&[0x6C, 1, 2, 3, 0x26, 1, 0]), sent: &[], changes: 0 },
-        Step { what: Do::Ticks(1), sent: &[], changes: 0 },
-        Step { what: Do::Ticks(1), sent: &[&[0x6C, 2, 1, 0xFF, 0]], changes: 1 },
-        Step { what: get, sent: &[&[0x6C, 2, 1, 0xFF, 0]], changes: 1 },
-        Step { what: Do::Hear(&[0x26, 2]), sent: &[&[0x26, 3, 40]], changes: 1 },
-        Step { what: Do::Hear(&[0x6C, 1, 2, 3, 0x26, 1, 0]), sent: &[&[0x6C, 2, 2, 1, 1]], changes: 1 },
-        Step { what: Do::Ticks(6), sent: &[], changes: 2 },
-        Step { what: Do::Hear(&[0x6C, 1, 3, 3, 0x26, 1, 0xFF]), sent: &[&[0x6C, 2, 3, 1, 1]], changes: 2 },
-        Step { what: Do::Ticks(5), sent: &[], changes: 3 },
-        Step { what: Do::Hear(&[0x26, 2]), sent: &[&[0x26, 3, 40]], changes: 3 },
-        Step { what: Do::Hear(&[0x6C, 1, 0x84, 4, 0x85, 1, 1, 2]), sent: &[&[0x6C, 2, 4, 0xFF, 0]], changes: 4 },
-        Step { what: Do::Set(200), sent: &[&[0x26, 3, 99]], changes: 5 },
+        Step {
+            what: get,
+            sent: &[&[0x6C, 2, 0x81, 1, 1]],
+            changes: 0,
+        },
+        Step {
+            what: Do::Ticks(3),
+            sent: &[],
+            changes: 0,
+        },
+        Step {
+            what: get,
+            sent: &[&[0x6C, 2, 0x81, 1, 1]],
+            changes: 0,
+        },
+        Step {
+            what: Do::Hear(&[0x6C, 1, 2, 3, 0x26, 1, 0]),
+            sent: &[],
+            changes: 0,
+        },
+        Step {
+            what: Do::Ticks(1),
+            sent: &[],
+            changes: 0,
+        },
+        Step {
+            what: Do::Ticks(1),
+            sent: &[&[0x6C, 2, 1, 0xFF, 0]],
+            changes: 1,
+        },
+        Step {
+            what: get,
+            sent: &[&[0x6C, 2, 1, 0xFF, 0]],
+            changes: 1,
+        },
+        Step {
+            what: Do::Hear(&[0x26, 2]),
+            sent: &[&[0x26, 3, 40]],
+            changes: 1,
+        },
+        Step {
+            what: Do::Hear(&[0x6C, 1, 2, 3, 0x26, 1, 0]),
+            sent: &[&[0x6C, 2, 2, 1, 1]],
+            changes: 1,
+        },
+        Step {
+            what: Do::Ticks(6),
+            sent: &[],
+            changes: 2,
+        },
+        Step {
+            what: Do::Hear(&[0x6C, 1, 3, 3, 0x26, 1, 0xFF]),
+            sent: &[&[0x6C, 2, 3, 1, 1]],
+            changes: 2,
+        },
+        Step {
+            what: Do::Ticks(5),
+            sent: &[],
+            changes: 3,
+        },
+        Step {
+            what: Do::Hear(&[0x26, 2]),
+            sent: &[&[0x26, 3, 40]],
+            changes: 3,
+        },
+        Step {
+            what: Do::Hear(&[0x6C, 1, 0x84, 4, 0x85, 1, 1, 2]),
+            sent: &[&[0x6C, 2, 4, 0xFF, 0]],
+            changes: 4,
+        },
+        Step {
+            what: Do::Set(200),
+            sent: &[&[0x26, 3, 99]],
+            changes: 5,
+        },
     ];
     play(&rt, alloc, &mut device, &steps);
     let mut other = make_dimmer(alloc, node(&rt, 11), KEY)?;
     let steps = [
-        Step { what: Do::Hear(&[0x6C, 1, 1, 3, 0x26, 1, 0xFF]), sent: &[&[0x6C, 2, 1, 1, 1]], changes: 0 },
-        Step { what: Do::Ticks(5), sent: &[], changes: 1 },
+        Step {
+            what: Do::Hear(&[0x6C, 1, 1, 3, 0x26, 1, 0xFF]),
+            sent: &[&[0x6C, 2, 1, 1, 1]],
+            changes: 0,
+        },
+        Step {
+            what: Do::Ticks(5),
+            sent: &[],
+            changes: 1,
+        },
     ];
     play(&rt, alloc, &mut other, &steps);
     shows(&rt, alloc, &other, &[(0, Name::Level, 99)]);
@@ -167,26 +322,87 @@ fn a_lock_speaks_sealed(rt: HostRuntime) -> Result<(), Fail> {
     let nonce = [1, 0xD1, 0xD2, 0xD3, 0xD4, 0xD5, 0xD6, 0xD7];
     let own = [9; 8];
     let host = [1, 2, 3, 4, 5, 6, 7, 8];
-    let there = SealEnds { sender: node(&rt, 1), receiver: node(&rt, 4) };
-    let back = SealEnds { sender: node(&rt, 4), receiver: node(&rt, 1) };
+    let there = SealEnds {
+        sender: node(&rt, 1),
+        receiver: node(&rt, 4),
+    };
+    let back = SealEnds {
+        sender: node(&rt, 4),
+        receiver: node(&rt, 1),
+    };
     let keys = keys(KEY);
-    let sealed = seal(alloc, &keys, own, nonce, &there, &[0x6C, 1, 1, 3, 0x62, 1, 0xFF])?;
+    let sealed = seal(
+        alloc,
+        &keys,
+        own,
+        nonce,
+        &there,
+        &[0x6C, 1, 1, 3, 0x62, 1, 0xFF],
+    )?;
     let answer = seal(alloc, &keys, DRAWN, host, &back, &[0x6C, 2, 1, 0xFF, 0])?;
     let report = [0x98, 0x80, 1, 0xD1, 0xD2, 0xD3, 0xD4, 0xD5, 0xD6, 0xD7];
     let offer = [0x98, 0x80, 1, 2, 3, 4, 5, 6, 7, 8];
     let steps = [
-        Step { what: Do::Hear(&[0x6C, 1, 1, 3, 0x62, 1, 0xFF]), sent: &[], changes: 0 },
-        Step { what: Do::Hear(&[0x62, 2]), sent: &[], changes: 0 },
-        Step { what: Do::Hear(sealed.as_slice()), sent: &[], changes: 0 },
-        Step { what: Do::Hear(&[0x98, 0x40]), sent: &[&report], changes: 0 },
-        Step { what: Do::Hear(&[0x98, 0x40]), sent: &[&report], changes: 0 },
-        Step { what: Do::Hear(&offer), sent: &[], changes: 0 },
-        Step { what: Do::Hear(sealed.as_slice()), sent: &[&[0x98, 0x40]], changes: 1 },
-        Step { what: Do::Hear(sealed.as_slice()), sent: &[], changes: 1 },
-        Step { what: Do::Hear(&[0x98, 0x80, 7, 2, 3, 4, 5, 6, 7, 8]), sent: &[], changes: 1 },
-        Step { what: Do::Hear(&offer), sent: &[answer.as_slice()], changes: 1 },
-        Step { what: Do::Hear(&offer), sent: &[], changes: 1 },
-        Step { what: Do::Set(0), sent: &[], changes: 2 },
+        Step {
+            what: Do::Hear(&[0x6C, 1, 1, 3, 0x62, 1, 0xFF]),
+            sent: &[],
+            changes: 0,
+        },
+        Step {
+            what: Do::Hear(&[0x62, 2]),
+            sent: &[],
+            changes: 0,
+        },
+        Step {
+            what: Do::Hear(sealed.as_slice()),
+            sent: &[],
+            changes: 0,
+        },
+        Step {
+            what: Do::Hear(&[0x98, 0x40]),
+            sent: &[&report],
+            changes: 0,
+        },
+        Step {
+            what: Do::Hear(&[0x98, 0x40]),
+            sent: &[&report],
+            changes: 0,
+        },
+        Step {
+            what: Do::Hear(&offer),
+            sent: &[],
+            changes: 0,
+        },
+        Step {
+            what: Do::Hear(sealed.as_slice()),
+            sent: &[&[0x98, 0x40]],
+            changes: 1,
+        },
+        Step {
+            what: Do::Hear(sealed.as_slice()),
+            sent: &[],
+            changes: 1,
+        },
+        Step {
+            what: Do::Hear(&[0x98, 0x80, 7, 2, 3, 4, 5, 6, 7, 8]),
+            sent: &[],
+            changes: 1,
+        },
+        Step {
+            what: Do::Hear(&offer),
+            sent: &[answer.as_slice()],
+            changes: 1,
+        },
+        Step {
+            what: Do::Hear(&offer),
+            sent: &[],
+            changes: 1,
+        },
+        Step {
+            what: Do::Set(0),
+            sent: &[],
+            changes: 2,
+        },
     ];
     play(&rt, alloc, &mut device, &steps);
     shows(&rt, alloc, &device, &[(0, Name::Lock, 0)]);
@@ -199,27 +415,92 @@ fn a_sensor_sleeps(rt: HostRuntime) -> Result<(), Fail> {
     let mut device = make_sensor(alloc, node(&rt, 5), KEY)?;
     let interval = Do::Hear(&[0x6C, 1, 1, 6, 0x84, 4, 0, 0x0E, 0x10, 1]);
     let steps = [
-        Step { what: Do::Ticks(200), sent: &[], changes: 0 },
-        Step { what: interval, sent: &[], changes: 0 },
-        Step { what: Do::Wake, sent: &[&[0x84, 7]], changes: 0 },
-        Step { what: interval, sent: &[&[0x6C, 2, 1, 0xFF, 0]], changes: 1 },
-        Step { what: Do::Hear(&[0x84, 5]), sent: &[&[0x84, 6, 0, 0x0E, 0x10, 1]], changes: 1 },
-        Step { what: Do::Hear(&[0x80, 2]), sent: &[&[0x80, 3, 100]], changes: 1 },
-        Step { what: Do::Hear(&[0x31, 4]), sent: &[&[0x31, 5, 1, 0x22, 0, 0]], changes: 1 },
-        Step { what: Do::Set(21), sent: &[&[0x31, 5, 1, 0x22, 0, 21]], changes: 2 },
-        Step { what: Do::Ticks(199), sent: &[], changes: 2 },
-        Step { what: Do::Hear(&[0x6C, 1, 2, 6, 0x84, 4, 0, 0, 9, 2]), sent: &[&[0x6C, 2, 2, 2, 0]], changes: 2 },
-        Step { what: Do::Hear(&[0x84, 8]), sent: &[], changes: 2 },
-        Step { what: Do::Hear(&[0x31, 4]), sent: &[], changes: 2 },
-        Step { what: Do::Set(3), sent: &[], changes: 3 },
+        Step {
+            what: Do::Ticks(200),
+            sent: &[],
+            changes: 0,
+        },
+        Step {
+            what: interval,
+            sent: &[],
+            changes: 0,
+        },
+        Step {
+            what: Do::Wake,
+            sent: &[&[0x84, 7]],
+            changes: 0,
+        },
+        Step {
+            what: interval,
+            sent: &[&[0x6C, 2, 1, 0xFF, 0]],
+            changes: 1,
+        },
+        Step {
+            what: Do::Hear(&[0x84, 5]),
+            sent: &[&[0x84, 6, 0, 0x0E, 0x10, 1]],
+            changes: 1,
+        },
+        Step {
+            what: Do::Hear(&[0x80, 2]),
+            sent: &[&[0x80, 3, 100]],
+            changes: 1,
+        },
+        Step {
+            what: Do::Hear(&[0x31, 4]),
+            sent: &[&[0x31, 5, 1, 0x22, 0, 0]],
+            changes: 1,
+        },
+        Step {
+            what: Do::Set(21),
+            sent: &[&[0x31, 5, 1, 0x22, 0, 21]],
+            changes: 2,
+        },
+        Step {
+            what: Do::Ticks(199),
+            sent: &[],
+            changes: 2,
+        },
+        Step {
+            what: Do::Hear(&[0x6C, 1, 2, 6, 0x84, 4, 0, 0, 9, 2]),
+            sent: &[&[0x6C, 2, 2, 2, 0]],
+            changes: 2,
+        },
+        Step {
+            what: Do::Hear(&[0x84, 8]),
+            sent: &[],
+            changes: 2,
+        },
+        Step {
+            what: Do::Hear(&[0x31, 4]),
+            sent: &[],
+            changes: 2,
+        },
+        Step {
+            what: Do::Set(3),
+            sent: &[],
+            changes: 3,
+        },
     ];
     play(&rt, alloc, &mut device, &steps);
-    shows(&rt, alloc, &device, &[(0, Name::Interval, 3600), (0, Name::Sensor, 3)]);
+    shows(
+        &rt,
+        alloc,
+        &device,
+        &[(0, Name::Interval, 3600), (0, Name::Sensor, 3)],
+    );
     assert!(rt; !device.profile(alloc)?.listening);
     let mut version_2 = make_sensor(alloc, node(&rt, 101), KEY)?;
     let steps = [
-        Step { what: Do::Hear(&[0x6C, 1, 1, 6, 0x84, 4, 0, 1, 0x2C, 1]), sent: &[&[0x6C, 2, 0x41, 0xFF, 0]], changes: 1 },
-        Step { what: Do::Hear(&[0x6C, 1, 1, 6, 0x84, 4, 0, 1, 0x2C, 1]), sent: &[&[0x6C, 2, 0x41, 0xFF, 0]], changes: 1 },
+        Step {
+            what: Do::Hear(&[0x6C, 1, 1, 6, 0x84, 4, 0, 1, 0x2C, 1]),
+            sent: &[&[0x6C, 2, 0x41, 0xFF, 0]],
+            changes: 1,
+        },
+        Step {
+            what: Do::Hear(&[0x6C, 1, 1, 6, 0x84, 4, 0, 1, 0x2C, 1]),
+            sent: &[&[0x6C, 2, 0x41, 0xFF, 0]],
+            changes: 1,
+        },
     ];
     play(&rt, alloc, &mut version_2, &steps);
     Ok(())
@@ -229,26 +510,89 @@ fn a_sensor_sleeps(rt: HostRuntime) -> Result<(), Fail> {
 fn a_thermostat_takes_batches(rt: HostRuntime) -> Result<(), Fail> {
     let alloc = rt.alloc();
     let mut device = make_thermostat(alloc, node(&rt, 6), KEY)?;
-    let comfort = [0x6C, 1, 1, 0x0E, 0x8F, 1, 2, 3, 0x40, 1, 1, 6, 0x43, 1, 1, 0x22, 0, 0xD7];
-    let half = [0x6C, 1, 2, 0x0E, 0x8F, 1, 2, 3, 0x40, 1, 2, 6, 0x43, 1, 1, 0x22, 0, 0x20];
+    let comfort = [
+        0x6C, 1, 1, 0x0E, 0x8F, 1, 2, 3, 0x40, 1, 1, 6, 0x43, 1, 1, 0x22, 0, 0xD7,
+    ];
+    let half = [
+        0x6C, 1, 2, 0x0E, 0x8F, 1, 2, 3, 0x40, 1, 2, 6, 0x43, 1, 1, 0x22, 0, 0x20,
+    ];
     let empty = [0x6C, 1, 3, 3, 0x8F, 1, 0];
-    let twice = [0x6C, 1, 4, 0x0E, 0x8F, 1, 2, 6, 0x43, 1, 2, 0x22, 0, 0xF0, 3, 0x40, 1, 0];
-    let six = [0x6C, 1, 5, 0x13, 0x8F, 1, 2, 6, 0x85, 1, 1, 1, 2, 3, 7, 0x85, 1, 1, 4, 5, 6, 7, 0];
+    let twice = [
+        0x6C, 1, 4, 0x0E, 0x8F, 1, 2, 6, 0x43, 1, 2, 0x22, 0, 0xF0, 3, 0x40, 1, 0,
+    ];
+    let six = [
+        0x6C, 1, 5, 0x13, 0x8F, 1, 2, 6, 0x85, 1, 1, 1, 2, 3, 7, 0x85, 1, 1, 4, 5, 6, 7, 0,
+    ];
     let steps = [
-        Step { what: Do::Hear(&comfort), sent: &[&[0x6C, 2, 1, 0xFF, 0]], changes: 1 },
-        Step { what: Do::Hear(&half), sent: &[&[0x6C, 2, 2, 2, 0]], changes: 1 },
-        Step { what: Do::Hear(&empty), sent: &[&[0x6C, 2, 3, 0, 0]], changes: 1 },
-        Step { what: Do::Hear(&twice), sent: &[&[0x6C, 2, 4, 0xFF, 0]], changes: 2 },
-        Step { what: Do::Hear(&[0x6C, 1, 5, 0x12, 0x8F, 1, 2, 6, 0x85, 1, 1, 1, 2, 3, 7, 0x85, 1, 1, 4, 5, 6, 7]), sent: &[&[0x6C, 2, 5, 2, 0]], changes: 2 },
-        Step { what: Do::Hear(&six), sent: &[], changes: 2 },
-        Step { what: Do::Hear(&[0x40, 2]), sent: &[&[0x40, 3, 0]], changes: 2 },
-        Step { what: Do::Hear(&[0x43, 2, 1]), sent: &[&[0x43, 3, 1, 0x22, 0, 0xD7]], changes: 2 },
-        Step { what: Do::Hear(&[0x43, 2, 3]), sent: &[], changes: 2 },
-        Step { what: Do::Hear(&[0x8F, 1, 1, 2, 0x40, 2]), sent: &[], changes: 2 },
-        Step { what: Do::Set(5), sent: &[&[0x40, 3, 2]], changes: 3 },
+        Step {
+            what: Do::Hear(&comfort),
+            sent: &[&[0x6C, 2, 1, 0xFF, 0]],
+            changes: 1,
+        },
+        Step {
+            what: Do::Hear(&half),
+            sent: &[&[0x6C, 2, 2, 2, 0]],
+            changes: 1,
+        },
+        Step {
+            what: Do::Hear(&empty),
+            sent: &[&[0x6C, 2, 3, 0, 0]],
+            changes: 1,
+        },
+        Step {
+            what: Do::Hear(&twice),
+            sent: &[&[0x6C, 2, 4, 0xFF, 0]],
+            changes: 2,
+        },
+        Step {
+            what: Do::Hear(&[
+                0x6C, 1, 5, 0x12, 0x8F, 1, 2, 6, 0x85, 1, 1, 1, 2, 3, 7, 0x85, 1, 1, 4, 5, 6, 7,
+            ]),
+            sent: &[&[0x6C, 2, 5, 2, 0]],
+            changes: 2,
+        },
+        Step {
+            what: Do::Hear(&six),
+            sent: &[],
+            changes: 2,
+        },
+        Step {
+            what: Do::Hear(&[0x40, 2]),
+            sent: &[&[0x40, 3, 0]],
+            changes: 2,
+        },
+        Step {
+            what: Do::Hear(&[0x43, 2, 1]),
+            sent: &[&[0x43, 3, 1, 0x22, 0, 0xD7]],
+            changes: 2,
+        },
+        Step {
+            what: Do::Hear(&[0x43, 2, 3]),
+            sent: &[],
+            changes: 2,
+        },
+        Step {
+            what: Do::Hear(&[0x8F, 1, 1, 2, 0x40, 2]),
+            sent: &[],
+            changes: 2,
+        },
+        Step {
+            what: Do::Set(5),
+            sent: &[&[0x40, 3, 2]],
+            changes: 3,
+        },
     ];
     play(&rt, alloc, &mut device, &steps);
-    shows(&rt, alloc, &device, &[(0, Name::Mode, 2), (0, Name::Setpoint(1), 215), (0, Name::Setpoint(2), 240)]);
+    shows(
+        &rt,
+        alloc,
+        &device,
+        &[
+            (0, Name::Mode, 2),
+            (0, Name::Setpoint(1), 215),
+            (0, Name::Setpoint(2), 240),
+        ],
+    );
     let change = device.change(alloc, 1)?.expect(&rt, "a change");
     assert_eq!(rt; change.settings.len(), 2);
     assert_eq!(rt; change.settings.as_slice()[0].property.name, Name::Mode);
@@ -260,15 +604,44 @@ fn a_strip_has_end_points(rt: HostRuntime) -> Result<(), Fail> {
     let alloc = rt.alloc();
     let mut device = make_strip(alloc, node(&rt, 7), KEY)?;
     let steps = [
-        Step { what: Do::Hear(&[0x60, 0x0D, 0, 3, 0x6C, 1, 1, 3, 0x25, 1, 0xFF]), sent: &[&[0x60, 0x0D, 3, 0, 0x6C, 2, 1, 0xFF, 0]], changes: 1 },
-        Step { what: Do::Hear(&[0x60, 0x0D, 0, 9, 0x6C, 1, 2, 3, 0x25, 1, 0xFF]), sent: &[&[0x60, 0x0D, 9, 0, 0x6C, 2, 2, 0, 0]], changes: 1 },
-        Step { what: Do::Hear(&[0x60, 0x0D, 0, 3, 0x25, 2]), sent: &[&[0x60, 0x0D, 3, 0, 0x25, 3, 0xFF]], changes: 1 },
-        Step { what: Do::Hear(&[0x60, 0x0D, 0, 5, 0x25, 2]), sent: &[], changes: 1 },
-        Step { what: Do::Hear(&[0x25, 2]), sent: &[&[0x25, 3, 0]], changes: 1 },
-        Step { what: Do::Set(1), sent: &[&[0x25, 3, 0xFF]], changes: 2 },
+        Step {
+            what: Do::Hear(&[0x60, 0x0D, 0, 3, 0x6C, 1, 1, 3, 0x25, 1, 0xFF]),
+            sent: &[&[0x60, 0x0D, 3, 0, 0x6C, 2, 1, 0xFF, 0]],
+            changes: 1,
+        },
+        Step {
+            what: Do::Hear(&[0x60, 0x0D, 0, 9, 0x6C, 1, 2, 3, 0x25, 1, 0xFF]),
+            sent: &[&[0x60, 0x0D, 9, 0, 0x6C, 2, 2, 0, 0]],
+            changes: 1,
+        },
+        Step {
+            what: Do::Hear(&[0x60, 0x0D, 0, 3, 0x25, 2]),
+            sent: &[&[0x60, 0x0D, 3, 0, 0x25, 3, 0xFF]],
+            changes: 1,
+        },
+        Step {
+            what: Do::Hear(&[0x60, 0x0D, 0, 5, 0x25, 2]),
+            sent: &[],
+            changes: 1,
+        },
+        Step {
+            what: Do::Hear(&[0x25, 2]),
+            sent: &[&[0x25, 3, 0]],
+            changes: 1,
+        },
+        Step {
+            what: Do::Set(1),
+            sent: &[&[0x25, 3, 0xFF]],
+            changes: 2,
+        },
     ];
     play(&rt, alloc, &mut device, &steps);
-    shows(&rt, alloc, &device, &[(0, Name::Switch, 255), (3, Name::Switch, 255)]);
+    shows(
+        &rt,
+        alloc,
+        &device,
+        &[(0, Name::Switch, 255), (3, Name::Switch, 255)],
+    );
     Ok(())
 }
 
@@ -276,25 +649,79 @@ fn a_strip_has_end_points(rt: HostRuntime) -> Result<(), Fail> {
 fn parameters_come_in_segments(rt: HostRuntime) -> Result<(), Fail> {
     let alloc = rt.alloc();
     let mut device = make_config(alloc, node(&rt, 8), KEY)?;
-    let first = b"\x55\xC0\xD2\x10\x6C\x01\x01\xCE\x70\x07\x00\x00\xC8\x01\x01\x01\x01\x01\x01\x01\x01\x01\x01\x01\x01\x01\x01\x01\x01\x01\x01\x01\x01\x01\x01\x01\x01\x01\x01\x01\x01\x01\x01\xD0\xBB";
-    let second = b"\x55\xE0\xD2\x10\x27\x01\x01\x01\x01\x01\x01\x01\x01\x01\x01\x01\x01\x01\x01\x01\x01\x01\x01\x01\x01\x01\x01\x01\x01\x01\x01\x01\x01\x01\x01\x01\x01\x01\x01\x01\x01\x01\x01\x01\x49\xBB";
-    let third = b"\x55\xE0\xD2\x10\x4E\x01\x01\x01\x01\x01\x01\x01\x01\x01\x01\x01\x01\x01\x01\x01\x01\x01\x01\x01\x01\x01\x01\x01\x01\x01\x01\x01\x01\x01\x01\x01\x01\x01\x01\x01\x01\x01\x01\x01\x9B\xFC";
-    let fourth = b"\x55\xE0\xD2\x10\x75\x01\x01\x01\x01\x01\x01\x01\x01\x01\x01\x01\x01\x01\x01\x01\x01\x01\x01\x01\x01\x01\x01\x01\x01\x01\x01\x01\x01\x01\x01\x01\x01\x01\x01\x01\x01\x01\x01\x01\xA1\x64";
-    let fifth = b"\x55\xE0\xD2\x10\x9C\x01\x01\x01\x01\x01\x01\x01\x01\x01\x01\x01\x01\x01\x01\x01\x01\x01\x01\x01\x01\x01\x01\x01\x01\x01\x01\x01\x01\x01\x01\x01\x01\x01\x01\x01\x01\x01\x01\x01\x2F\x53";
-    let sixth = b"\x55\xE0\xD2\x10\xC3\x01\x01\x01\x01\x01\x01\x01\x01\x01\x01\x01\x01\x01\x01\x01\x48\xA8";
+    let first =
+        b"\x55\xC0\xD2\x10\x6C\x01\x01\xCE\x70\x07\x00\x00\xC8\x01\x01\x01\x01\x01\x01\x01\x01\x01\x01\x01\x01\x01\x01\x01\x01\x01\x01\x01\x01\x01\x01\x01\x01\x01\x01\x01\x01\x01\x01\xD0\xBB";
+    let second =
+        b"\x55\xE0\xD2\x10\x27\x01\x01\x01\x01\x01\x01\x01\x01\x01\x01\x01\x01\x01\x01\x01\x01\x01\x01\x01\x01\x01\x01\x01\x01\x01\x01\x01\x01\x01\x01\x01\x01\x01\x01\x01\x01\x01\x01\x01\x49\xBB";
+    let third =
+        b"\x55\xE0\xD2\x10\x4E\x01\x01\x01\x01\x01\x01\x01\x01\x01\x01\x01\x01\x01\x01\x01\x01\x01\x01\x01\x01\x01\x01\x01\x01\x01\x01\x01\x01\x01\x01\x01\x01\x01\x01\x01\x01\x01\x01\x01\x9B\xFC";
+    let fourth =
+        b"\x55\xE0\xD2\x10\x75\x01\x01\x01\x01\x01\x01\x01\x01\x01\x01\x01\x01\x01\x01\x01\x01\x01\x01\x01\x01\x01\x01\x01\x01\x01\x01\x01\x01\x01\x01\x01\x01\x01\x01\x01\x01\x01\x01\x01\xA1\x64";
+    let fifth =
+        b"\x55\xE0\xD2\x10\x9C\x01\x01\x01\x01\x01\x01\x01\x01\x01\x01\x01\x01\x01\x01\x01\x01\x01\x01\x01\x01\x01\x01\x01\x01\x01\x01\x01\x01\x01\x01\x01\x01\x01\x01\x01\x01\x01\x01\x01\x2F\x53";
+    let sixth =
+        b"\x55\xE0\xD2\x10\xC3\x01\x01\x01\x01\x01\x01\x01\x01\x01\x01\x01\x01\x01\x01\x01\x48\xA8";
     let steps = [
-        Step { what: Do::Hear(first), sent: &[], changes: 0 },
-        Step { what: Do::Hear(second), sent: &[], changes: 0 },
-        Step { what: Do::Hear(fourth), sent: &[], changes: 0 },
-        Step { what: Do::Hear(fifth), sent: &[], changes: 0 },
-        Step { what: Do::Hear(sixth), sent: &[&[0x55, 0xC8, 0x10, 0x4E]], changes: 0 },
-        Step { what: Do::Hear(third), sent: &[&[0x55, 0xE8, 0x10], &[0x6C, 2, 1, 0xFF, 0]], changes: 1 },
-        Step { what: Do::Hear(third), sent: &[], changes: 1 },
-        Step { what: Do::Hear(sixth), sent: &[&[0x55, 0xE8, 0x10], &[0x6C, 2, 1, 0xFF, 0]], changes: 1 },
-        Step { what: Do::Hear(&[0x70, 5, 7]), sent: &[&[0x70, 6, 7, 4, 0, 0, 0, 1]], changes: 1 },
-        Step { what: Do::Hear(&[0x6C, 1, 2, 8, 0x70, 4, 7, 4, 0, 0, 5, 0xDC]), sent: &[&[0x6C, 2, 2, 0xFF, 0]], changes: 2 },
-        Step { what: Do::Hear(&[0x6C, 1, 3, 8, 0x70, 4, 7, 0x84, 0, 0, 5, 0xDC]), sent: &[&[0x6C, 2, 3, 2, 0]], changes: 2 },
-        Step { what: Do::Set(9), sent: &[], changes: 3 },
+        Step {
+            what: Do::Hear(first),
+            sent: &[],
+            changes: 0,
+        },
+        Step {
+            what: Do::Hear(second),
+            sent: &[],
+            changes: 0,
+        },
+        Step {
+            what: Do::Hear(fourth),
+            sent: &[],
+            changes: 0,
+        },
+        Step {
+            what: Do::Hear(fifth),
+            sent: &[],
+            changes: 0,
+        },
+        Step {
+            what: Do::Hear(sixth),
+            sent: &[&[0x55, 0xC8, 0x10, 0x4E]],
+            changes: 0,
+        },
+        Step {
+            what: Do::Hear(third),
+            sent: &[&[0x55, 0xE8, 0x10], &[0x6C, 2, 1, 0xFF, 0]],
+            changes: 1,
+        },
+        Step {
+            what: Do::Hear(third),
+            sent: &[],
+            changes: 1,
+        },
+        Step {
+            what: Do::Hear(sixth),
+            sent: &[&[0x55, 0xE8, 0x10], &[0x6C, 2, 1, 0xFF, 0]],
+            changes: 1,
+        },
+        Step {
+            what: Do::Hear(&[0x70, 5, 7]),
+            sent: &[&[0x70, 6, 7, 4, 0, 0, 0, 1]],
+            changes: 1,
+        },
+        Step {
+            what: Do::Hear(&[0x6C, 1, 2, 8, 0x70, 4, 7, 4, 0, 0, 5, 0xDC]),
+            sent: &[&[0x6C, 2, 2, 0xFF, 0]],
+            changes: 2,
+        },
+        Step {
+            what: Do::Hear(&[0x6C, 1, 3, 8, 0x70, 4, 7, 0x84, 0, 0, 5, 0xDC]),
+            sent: &[&[0x6C, 2, 3, 2, 0]],
+            changes: 2,
+        },
+        Step {
+            what: Do::Set(9),
+            sent: &[],
+            changes: 3,
+        },
     ];
     play(&rt, alloc, &mut device, &steps);
     let change = device.change(alloc, 0)?.expect(&rt, "a change");
@@ -310,13 +737,41 @@ fn a_relay_knows_no_supervision(rt: HostRuntime) -> Result<(), Fail> {
     let alloc = rt.alloc();
     let mut device = make_relay(alloc, node(&rt, 9), KEY)?;
     let steps = [
-        Step { what: Do::Hear(&[0x56, 1, 0x25, 1, 0xFF, 0x1F, 0x3A]), sent: &[], changes: 1 },
-        Step { what: GET_1, sent: &[], changes: 1 },
-        Step { what: Do::Hear(&[0x8F, 1, 1, 3, 0x25, 1, 0]), sent: &[], changes: 1 },
-        Step { what: Do::Hear(&[0x25, 1, 0]), sent: &[], changes: 2 },
-        Step { what: Do::Hear(&[0x60, 0x0D, 0, 1, 0x25, 1, 0xFF]), sent: &[], changes: 2 },
-        Step { what: Do::Hear(&[0x25, 2]), sent: &[&[0x25, 3, 0]], changes: 2 },
-        Step { what: Do::Set(1), sent: &[&[0x25, 3, 0xFF]], changes: 3 },
+        Step {
+            what: Do::Hear(&[0x56, 1, 0x25, 1, 0xFF, 0x1F, 0x3A]),
+            sent: &[],
+            changes: 1,
+        },
+        Step {
+            what: GET_1,
+            sent: &[],
+            changes: 1,
+        },
+        Step {
+            what: Do::Hear(&[0x8F, 1, 1, 3, 0x25, 1, 0]),
+            sent: &[],
+            changes: 1,
+        },
+        Step {
+            what: Do::Hear(&[0x25, 1, 0]),
+            sent: &[],
+            changes: 2,
+        },
+        Step {
+            what: Do::Hear(&[0x60, 0x0D, 0, 1, 0x25, 1, 0xFF]),
+            sent: &[],
+            changes: 2,
+        },
+        Step {
+            what: Do::Hear(&[0x25, 2]),
+            sent: &[&[0x25, 3, 0]],
+            changes: 2,
+        },
+        Step {
+            what: Do::Set(1),
+            sent: &[&[0x25, 3, 0xFF]],
+            changes: 3,
+        },
     ];
     play(&rt, alloc, &mut device, &steps);
     let change = device.change(alloc, 0)?.expect(&rt, "a change");
@@ -354,13 +809,22 @@ fn survives<D: Device>(rt: &impl Abort, alloc: Global, mut device: D) {
         assert_eq!(rt; out.len(), 0, "to {payload:?}");
     }
     for session in 1..=5u8 {
-        happens(rt, &mut device, Do::Hear(&[0x6C, 1, session, 1, 0]), &mut out);
+        happens(
+            rt,
+            &mut device,
+            Do::Hear(&[0x6C, 1, session, 1, 0]),
+            &mut out,
+        );
     }
     for later in 0..64u8 {
-        happens(rt, &mut device, Do::Hear(&[0x6C, 1, 63 - later, 1, 0]), &mut out);
+        happens(
+            rt,
+            &mut device,
+            Do::Hear(&[0x6C, 1, 63 - later, 1, 0]),
+            &mut out,
+        );
     }
     assert_eq!(rt; device.changes(), 0);
-
 }
 
 #[test]
@@ -382,9 +846,17 @@ fn a_starved_device_finds_no_memory_once(rt: HostRuntime) -> Result<(), Fail> {
     let alloc = rt.alloc();
     let mut device = Starved::new(make_switch(alloc, node(&rt, 2), KEY)?, 1);
     let mut out = Replies::new(alloc)?;
-    assert!(rt; device.hear(&[0x6C, 1, 1, 3, 0x25, 1, 0xFF], DRAWN, &mut out).is_err());
+    assert!(rt;
+        device
+            .hear(&[0x6C, 1, 1, 3, 0x25, 1, 0xFF], DRAWN, &mut out)
+            .is_err()
+    );
     assert_eq!(rt; device.changes(), 0);
-    let steps = [Step { what: GET_1, sent: &[&[0x6C, 2, 1, 0xFF, 0]], changes: 1 }];
+    let steps = [Step {
+        what: GET_1,
+        sent: &[&[0x6C, 2, 1, 0xFF, 0]],
+        changes: 1,
+    }];
     play(&rt, alloc, &mut device, &steps);
     Ok(())
 }
@@ -400,7 +872,10 @@ fn a_recorder_keeps_what_was_heard(rt: HostRuntime) -> Result<(), Fail> {
     assert!(rt; device.hear(&[1], DRAWN, &mut out).is_err());
     device.hear(&[2], DRAWN, &mut out)?;
     assert_eq!(rt; device.heard(), 2);
-    assert_eq!(rt; device.payload(0).expect(&rt, "a payload"), [0x25, 2].as_slice());
+    assert_eq!(rt;
+        device.payload(0).expect(&rt, "a payload"),
+        [0x25, 2].as_slice()
+    );
     assert_eq!(rt; device.payload(1).expect(&rt, "a payload"), [2].as_slice());
     assert!(rt; device.payload(2).is_none());
     Ok(())

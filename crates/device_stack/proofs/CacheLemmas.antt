@@ -37,17 +37,20 @@ pub first_value-with_setting : (settings : List Setting) (setting : Setting) (pr
     → first_value (with_setting settings setting) property
       ≡ (if same_property setting.property property then setting.value else first_value settings property)
 first_value-with_setting [] setting property = refl
-first_value-with_setting (first ∷ settings) setting property = by (property_cmp setting.property first.property) refl
+first_value-with_setting (first ∷ settings) setting property =
+    by (property_cmp setting.property first.property) (first_value-with_setting settings setting property) refl
   where
-    by : (o : Ordering) → property_cmp setting.property first.property ≡ o
+    by : (o : Ordering)
+        → first_value (with_setting settings setting) property ≡ (if same_property setting.property property then setting.value else first_value settings property)
+        → property_cmp setting.property first.property ≡ o
         → first_value (by_order o (setting ∷ first ∷ settings) (setting ∷ settings) (first ∷ with_setting settings setting)) property
           ≡ (if same_property setting.property property then setting.value else first_value (first ∷ settings) property)
-    by Less e = refl
-    by Equal e =
+    by Less more e = refl
+    by Equal more e =
         hidden (same_property setting.property property) (same_property first.property property) setting.value (first_value settings property) first.value
             (same_laws.congr setting.property first.property property (ap is_eq e))
-    by Greater e =
-        ap (λ (n : ℕ). either (same_property first.property property) first.value n) (first_value-with_setting settings setting property)
+    by Greater more e =
+        ap (λ (n : ℕ). either (same_property first.property property) first.value n) more
         ∙ apart (same_property setting.property property) (same_property first.property property) setting.value (first_value settings property) first.value
             (λ p q.
             let back : same_property property first.property ≡ true = same_laws.symm property first.property ∙ q in

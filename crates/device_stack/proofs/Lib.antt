@@ -1,3 +1,4 @@
 pub mod ListLemmas
 pub mod CacheLemmas
 pub mod PlaceLemmas
+pub mod WordedLemmas

@@ -47,18 +47,22 @@ set_plainly kind end (Works settings) = Ignores
 set_plainly kind end Fails = Ignores
 set_plainly kind end NoSupport = Ignores
 
+-- what a command does that asks for nothing
+abbrev pub effect_untold : State → ℕ → InfoMessage → Effect
+effect_untold device end (Core (SwitchBinarySet value)) =
+    set_plainly device.kind end (judged_set device.kind (value_of device) (last_level_of device) end (SwitchBinarySet value))
+effect_untold device end WakeUpNoMoreInformation =
+    if not (listens device.kind) && has_end device.kind end then Sleeps else Ignores
+effect_untold device end _ = Ignores
+
 -- what answers a Get, if anything does
-abbrev pub telling : Option InfoMessage → Effect
-telling (Some report) = Tells report
-telling None = Ignores
+abbrev pub telling : Option InfoMessage → Effect → Effect
+telling (Some report) other = Tells report
+telling None other = other
 
 -- one command that is not supervised
 abbrev pub effect_alone : State → ℕ → Result InfoMessage ClassFault → Effect
-effect_alone device end (Ok (Core (SwitchBinarySet value))) =
-    set_plainly device.kind end (judged_set device.kind (value_of device) (last_level_of device) end (SwitchBinarySet value))
-effect_alone device end (Ok WakeUpNoMoreInformation) =
-    if not (listens device.kind) && has_end device.kind end then Sleeps else Ignores
-effect_alone device end (Ok message) = telling (told device.kind (value_of device) end message)
+effect_alone device end (Ok message) = telling (told device.kind (value_of device) end message) (effect_untold device end message)
 effect_alone device end (Err fault) = Ignores
 
 -- commands of a session
@@ -85,9 +89,9 @@ session_taken device verdict = record device {
   reassembly = Empty;
 }
 
--- where the end of the work is to be told, how
+-- where the end of the work is to be told, the wraps of what asked for it
 abbrev pub late_answer : Plan → Supervised → Option Plan
-late_answer plan asked = if asked.updates then Some (answer_plan plan) else None
+late_answer plan asked = if asked.updates then Some plan else None
 
 -- the device after it took the next session with that verdict
 abbrev pub takes : State → Plan → Supervised → Verdict → State

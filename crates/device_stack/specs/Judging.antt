@@ -117,7 +117,7 @@ judged_all kind values last end made (command ∷ commands) =
     by NoSupport go_on = NoSupport
 
 -- the commands of a message to an end point: that must be there, and a batch must be one that the kind takes
-abbrev pub judged_message : Kind → (Property → ℕ) → ℕ → ℕ → Bool → List (List ℕ) → Verdict
+unfoldable pub judged_message : Kind → (Property → ℕ) → ℕ → ℕ → Bool → List (List ℕ) → Verdict
 judged_message kind values last end batch commands =
     if not (has_end kind end) then NoSupport
     else if batch && (not (lists kind 0x8F) || (length commands == 0)) then NoSupport

@@ -1,6 +1,6 @@
 -- What is known of each kind of device (this project's own choice of kinds; the classes are those of the Z-Wave
 -- Application, Management and Transport-Encapsulation Command Class Specifications).
-use Rattle.std.specs.Prelude.{ℕ, ◌-◌, List, [], ◌∷◌, Bool, true, false, ◌==◌, ◌||◌, nat_le, nat_lt, if◌then◌else◌}
+use Rattle.std.specs.Prelude.{ℕ, ◌+◌, ◌-◌, List, [], ◌∷◌, Bool, true, false, ◌==◌, ◌||◌, nat_le, nat_lt, if◌then◌else◌}
 use Rattle.std.specs.List.{list_any, range_with_len}
 use Rattle.zw_base.specs.declared.property.Name.{Name}
 use Rattle.zw_base.specs.declared.property.Name.TheVariants as names
@@ -80,9 +80,13 @@ tells _ _ = false
 abbrev pub member_of : ℕ → Property
 member_of node = root_property (names.Member 1 node)
 
+-- the nodes after one, in order
+unfoldable pub nodes_from : ℕ → List ℕ
+nodes_from before = range_with_len (before + 1) (232 - before)
+
 -- the nodes that may be members, in order
-unfoldable pub all_nodes : List ℕ
-all_nodes = range_with_len 1 232
+abbrev pub all_nodes : List ℕ
+all_nodes = nodes_from 0
 
 -- how many properties may be shown of it
 abbrev pub property_count : Kind → ℕ

@@ -61,7 +61,7 @@ value_told kind values end name =
     if tells kind name then report_of name (values (record { end = end; name = name })) else None
 
 -- the report that a Get at an end point is answered with
-abbrev pub told : Kind → (Property → ℕ) → ℕ → InfoMessage → Option InfoMessage
+unfoldable pub told : Kind → (Property → ℕ) → ℕ → InfoMessage → Option InfoMessage
 told kind values end (AssociationGet group) =
     if has_end kind end && lists kind 0x85 then Some (AssociationReport group 5 0 (take 5 (members_of values end group))) else None
 told kind values end message =

@@ -1,6 +1,6 @@
 -- What a tick, a wake-up and a value set by hand make of a device (this project's own kinds; Wake Up Notification is that
 -- of the Z-Wave Management Command Class Specification).
-use Rattle.std.specs.Prelude.{ℕ, ◌+◌, ◌-◌, ◌%◌, Bool, true, false, ◌==◌, ◌&&◌, ◌||◌, not, nat_le, if◌then◌else◌, min, List, [], ◌∷◌, Option, Some, None}
+use Rattle.std.specs.Prelude.{ℕ, ◌+◌, ◌-◌, ◌%◌, Bool, true, false, ◌==◌, ◌&&◌, ◌||◌, not, nat_lt, if◌then◌else◌, min, List, [], ◌∷◌, Option, Some, None}
 use Rattle.std.specs.Option.{option_map, option_to_list}
 use Rattle.zw_base.specs.declared.property.Name.{Name}
 use Rattle.zw_base.specs.declared.property.Name.TheVariants as names
@@ -19,7 +19,7 @@ use Rattle.device_stack.specs.Kind.{listens, main_name_of, tells}
 use Rattle.device_stack.specs.State.{State, Outcome, silent, idle, with_change}
 use Rattle.device_stack.specs.Judging.{setting_of}
 use Rattle.device_stack.specs.Telling.{report_of}
-use Rattle.device_stack.specs.Answers.{final_report, worded}
+use Rattle.device_stack.specs.Answers.{final_report, answer_plan, worded}
 
 -- ---- a tick
 
@@ -31,7 +31,7 @@ awake_ticks = 200
 abbrev pub aged : State → State
 aged device = record device {
   clock = device.clock + 1;
-  awake = device.awake && (listens device.kind || not (nat_le (device.active_at + awake_ticks) (device.clock + 1)));
+  awake = device.awake && (listens device.kind || nat_lt (device.clock + 1 - device.active_at) awake_ticks);
 }
 
 -- the work is done: its change is made, and told where that was asked for
@@ -40,7 +40,7 @@ works_out device = record {
   device = with_change
       (record device { sessions = finished device.sessions SUCCESS; work_left = 0; work = idle })
       (Session device.sessions.taken) device.work.settings;
-  replies = option_to_list (option_map (λ plan. worded plan (final_report device)) device.work.answer);
+  replies = option_to_list (option_map (λ plan. worded (answer_plan plan) (final_report device)) device.work.answer);
 }
 
 unfoldable pub ticked : State → Outcome

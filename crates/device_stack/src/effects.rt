@@ -11,7 +11,7 @@ ghost use Rattle.transport_segments.specs.Kept.{Empty};
 ghost use Rattle.device_stack.specs.State.{value_of, last_level_of};
 ghost use Rattle.device_stack.specs.Answers.{answer_plan, worded, status_report};
 ghost use Rattle.device_stack.specs.Judging.{judged_set};
-ghost use Rattle.device_stack.specs.Effects.{end_of, set_plainly, telling, effect_alone, effect_in_session, effect_by, effect_of, session_taken, late_answer, takes, after_effect, answer_of};
+ghost use Rattle.device_stack.specs.Effects.{end_of, set_plainly, telling, effect_untold, effect_alone, effect_in_session, effect_by, effect_of, session_taken, late_answer, takes, after_effect, answer_of};
 ghost use Rattle.device_stack.specs.Worded.{IsDue, IsShort};
 
 use crate::answers::{answering, word};
@@ -129,6 +129,17 @@ impl Stack {
         ensures value { IfOk result (λ effect. effect ≡ effect_alone self.now end (Ok message.now)) }
         ensures due { IfOk result (λ effect. IsDue self.now None effect) }
     {
+        match tell(self.alloc, self.kind, &self.journal, end, message)? {
+            Some(report) => Ok(Effect::Tells(report)),
+            None => self.effect_untold(end, message),
+        }
+    }
+
+    /// What one message does that asks for nothing.
+    fn effect_untold(&self, end: EndPoint, message: &InfoMessage) -> Result<Effect, NoMemory>
+        ensures value { IfOk result (λ effect. effect ≡ effect_untold self.now end message.now) }
+        ensures due { IfOk result (λ effect. IsDue self.now None effect) }
+    {
         match message {
             InfoMessage::Core(message @ CoreMessage::SwitchBinarySet { .. }) => {
                 self.effect_of_set(end, message)
@@ -140,10 +151,7 @@ impl Stack {
                     Ok(Effect::Ignores)
                 }
             }
-            _ => match tell(self.alloc, self.kind, &self.journal, end, message)? {
-                Some(report) => Ok(Effect::Tells(report)),
-                None => Ok(Effect::Ignores),
-            },
+            _ => Ok(Effect::Ignores),
         }
     }
 
@@ -239,7 +247,7 @@ impl Stack {
             }
             Verdict::Works(settings) => {
                 let answer = if asked.updates {
-                    Some(answering(plan))
+                    Some(*plan)
                 } else {
                     None
                 };

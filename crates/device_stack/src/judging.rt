@@ -1,6 +1,6 @@
 //! How the commands of a session are judged.
 
-ghost use Rattle.std.specs.Prelude.{◌≡◌, ℕ, ◌+◌, ◌≤◌, [], ◌∷◌, length, IfOk, Ok, Err};
+ghost use Rattle.std.specs.Prelude.{◌≡◌, ℕ, ◌+◌, ◌≤◌, [], ◌∷◌, ◌++◌, length, IfOk, OnOk, Ok, Err};
 ghost use Rattle.zw_base.specs.declared.property.Property.{Property as TheProperty};
 ghost use Rattle.supervision.specs.Session.{IsStatus};
 ghost use Rattle.class_info.specs.InfoReading.{info_at};
@@ -120,6 +120,20 @@ fn is_in_tenths(number: Number) -> bool
     }
 }
 
+/// Adds a parameter.
+fn add_parameter(settings: &mut Sequence<Setting>, end: EndPoint, parameter: u8, value: u32) -> Result<(), NoMemory>
+    ensures { OnOk result (settings.new ≡ settings.old ++ setting_of end (Name.Config parameter) value ∷ []) }
+{
+    settings.push(setting(end, Name::Config(parameter), value))
+}
+
+/// Adds a member.
+fn add_member(settings: &mut Sequence<Setting>, end: EndPoint, node: NodeId, value: u32) -> Result<(), NoMemory>
+    ensures { OnOk result (settings.new ≡ settings.old ++ setting_of end (Name.Member 1 node) value ∷ []) }
+{
+    settings.push(setting(end, Name::Member(GROUP, node), value))
+}
+
 /// The parameters from one on.
 fn parameters(alloc: Global, end: EndPoint, first: u16, values: &[u32]) -> Result<Sequence<Setting>, NoMemory>
     requires { first + length values.now ≤ 256 }
@@ -127,8 +141,7 @@ fn parameters(alloc: Global, end: EndPoint, first: u16, values: &[u32]) -> Resul
 {
     let mut settings = Sequence::new(alloc);
     for (i, value) in values.iter().enumerate() {
-        let parameter = (usize::from(first) + i) as u8;
-        settings.push(setting(end, Name::Config(parameter), *value))?;
+        add_parameter(&mut settings, end, (usize::from(first) + i) as u8, *value)?;
     }
     Ok(settings)
 }
@@ -139,7 +152,7 @@ fn members(alloc: Global, end: EndPoint, value: u32, nodes: &[NodeId]) -> Result
 {
     let mut settings = Sequence::new(alloc);
     for node in nodes {
-        settings.push(setting(end, Name::Member(GROUP, *node), value))?;
+        add_member(&mut settings, end, *node, value)?;
     }
     Ok(settings)
 }
@@ -305,6 +318,7 @@ fn judge_all(alloc: Global, kind: Kind, journal: &Journal, end: EndPoint, comman
 }
 
 /// The commands of a message to an end point.
+#[tactic(auto, unfolding(crate::specs::Judging::judged_message))]
 pub fn judge_message(alloc: Global, kind: Kind, journal: &Journal, end: EndPoint, batch: bool, commands: &[Bytes]) -> Result<Verdict, NoMemory>
     ensures { IfOk result (λ verdict. verdict ≡ judged_message kind (λ property. value_after journal.now property 0) (level_after journal.now 99) end batch commands.now) }
 {

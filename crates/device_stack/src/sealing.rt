@@ -25,9 +25,6 @@ const MESSAGE: u8 = 0x81;
 /// Nonce Get.
 const NONCE_GET: u8 = 0x40;
 
-/// Nonce Report.
-const NONCE_REPORT: u8 = 0x80;
-
 /// The bytes of the shortest Security message.
 const SHORTEST: usize = 20;
 
@@ -92,8 +89,11 @@ impl Stack {
         if self.given.given() == u64::MAX {
             return Err(NoMemory);
         }
-        let nonce = self.given.give(drawn);
-        out.push(nonce_report(&nonce));
+        let mut given = self.given;
+        let nonce = given.give(drawn);
+        let report = nonce_report(self.alloc, nonce)?;
+        self.given = given;
+        out.push(report);
         Ok(())
     }
 
@@ -185,13 +185,10 @@ impl Stack {
 }
 
 /// The report of a nonce.
-fn nonce_report(nonce: &[u8; 8]) -> Payload
-    ensures value { result ≡ form (InfoMessage.NonceReport nonce.now) }
-    ensures size { IsPayload result }
+fn nonce_report(alloc: Global, nonce: [u8; 8]) -> Result<Payload, NoMemory>
+    ensures value { IfOk result (λ payload. payload ≡ form (InfoMessage.NonceReport nonce)) }
+    ensures size { IfOk result (λ payload. IsPayload payload) }
 {
-    let mut bytes = [0; 10];
-    bytes[0] = SECURITY;
-    bytes[1] = NONCE_REPORT;
-    bytes[2..].copy_from_slice(nonce);
-    payload(&bytes)
+    let text = class_info::write(alloc, &InfoMessage::NonceReport { nonce })?;
+    Ok(payload(text.as_slice()))
 }

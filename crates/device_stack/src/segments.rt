@@ -119,6 +119,7 @@ impl Stack {
     }
 
     /// Hears a whole datagram.
+    #[tactic(auto, unfolding(crate::specs::Hearing::hears_openly))]
     fn hear_whole(&mut self, id: u8, datagram: &[u8], out: &mut Replies) -> Result<(), NoMemory>
         requires empty { out.old ≡ [] }
         requires range { id < 16 }
@@ -138,6 +139,7 @@ impl Stack {
     }
 
     /// Keeps a segment that completes nothing.
+    #[tactic(auto, unfolding(transport_segments::specs::Taking::kept_after))]
     fn keep(&mut self, id: u8, segment: &[u8], out: &mut Replies) -> Result<(), NoMemory>
         requires empty { out.old ≡ [] }
         requires range { id < 16 }

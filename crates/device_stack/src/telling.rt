@@ -182,6 +182,7 @@ pub fn tell_value(kind: Kind, journal: &Journal, end: EndPoint, name: &Name) -> 
 }
 
 /// The report of the members of a group, where the kind has groups.
+#[tactic(auto, unfolding(crate::specs::Telling::told))]
 fn tell_members(alloc: Global, kind: Kind, journal: &Journal, end: EndPoint, group: u8) -> Result<Option<InfoMessage>, NoMemory>
     ensures value { IfOk result (λ report. report ≡ told kind (λ property. value_after journal.now property 0) end (InfoMessage.AssociationGet group)) }
     ensures answer { IfOk result (λ report. IfSome report (λ report. IsAnswer report)) }
@@ -198,6 +199,7 @@ fn tell_members(alloc: Global, kind: Kind, journal: &Journal, end: EndPoint, gro
 }
 
 /// The report that a Get at an end point is answered with.
+#[tactic(auto, unfolding(crate::specs::Telling::told))]
 pub fn tell(alloc: Global, kind: Kind, journal: &Journal, end: EndPoint, message: &InfoMessage) -> Result<Option<InfoMessage>, NoMemory>
     ensures value { IfOk result (λ report. report ≡ told kind (λ property. value_after journal.now property 0) end message.now) }
     ensures answer { IfOk result (λ report. IfSome report (λ report. IsAnswer report)) }

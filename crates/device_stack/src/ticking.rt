@@ -1,14 +1,15 @@
 //! Ticks, wake-ups, values set by hand, and what is shown.
 
-ghost use Rattle.std.specs.Prelude.{◌≡◌, ◌+◌, ◌<◌, ◌^◌, [], IfOk, IfSome, OnOk, OnErr, All};
-ghost use Rattle.std.specs.Option.{option_map};
+ghost use Rattle.std.specs.Prelude.{◌≡◌, ◌+◌, ◌++◌, ◌<◌, ◌^◌, [], IfOk, IfSome, OnOk, OnErr, All};
+ghost use Rattle.std.specs.Option.{option_map, option_to_list};
 ghost use Rattle.class_info.specs.InfoSpelling.{form};
-ghost use Rattle.device_stack.specs.Answers.{worded, final_report};
+ghost use Rattle.device_stack.specs.Kind.{property_count, property_at};
+ghost use Rattle.device_stack.specs.Answers.{worded, answer_plan, final_report};
 ghost use Rattle.device_stack.specs.Ticking.{aged, works_out, ticked, woken, by_hand, main_told, set_by_hand};
 ghost use Rattle.device_stack.specs.Showing.{shown_of, shown_at};
 ghost use Rattle.device_stack.specs.Worded.{IsShort, IsPayload};
 
-use crate::answers::{payload as payload_of, word};
+use crate::answers::{answering, payload as payload_of, word};
 use crate::judging::one;
 use crate::kind::{WAKE_UP, root};
 use crate::settings::is_same;
@@ -63,7 +64,7 @@ impl Stack {
         requires { self.now.clock + 1 < 2 ^ 64 }
         ensures { result ≡ (aged self.now).awake }
     {
-        self.awake && (self.kind.listens() || self.clock + 1 < self.active_at.saturating_add(AWAKE_TICKS))
+        self.awake && (self.kind.listens() || (self.clock + 1).saturating_sub(self.active_at) < AWAKE_TICKS)
     }
 
     /// One tick more on the clock.
@@ -99,11 +100,11 @@ impl Stack {
 
     /// The text that tells the end of the work, where that was asked for.
     fn final_text(&self) -> Result<Option<Bytes>, NoMemory>
-        ensures value { IfOk result (λ text. text ≡ option_map (λ plan. worded plan (final_report self.now)) self.now.work.answer) }
+        ensures value { IfOk result (λ text. text ≡ option_map (λ plan. worded (answer_plan plan) (final_report self.now)) self.now.work.answer) }
         ensures short { IfOk result (λ text. IfSome text IsShort) }
     {
         match self.work.answer {
-            Some(plan) => Ok(Some(word(self.alloc, &plan, &self.final_report())?)),
+            Some(plan) => Ok(Some(word(self.alloc, &answering(&plan), &self.final_report())?)),
             None => Ok(None),
         }
     }
@@ -158,9 +159,8 @@ impl Stack {
         ensures err { OnErr result (self.new ≡ self.old) }
         ensures err_replies { OnErr result (out.new ≡ []) }
     {
-        let name = self.kind.main_name();
-        let value = value_by_hand(name, value);
-        let settings = one(self.alloc, EndPoint::root(), name, value)?;
+        let value = value_by_hand(self.kind.main_name(), value);
+        let settings = one(self.alloc, EndPoint::root(), self.kind.main_name(), value)?;
         let text = self.main_text(value)?;
         self.journal.make(Change {
             by: By::Local,
@@ -194,12 +194,21 @@ impl Stack {
     {
         let mut shown = List::new(alloc);
         for at in 0..self.kind.property_count() {
-            let property = self.kind.property(at);
-            if let Some(setting) = self.shown(&property) {
-                shown.push(setting)?;
-            }
+            self.show_one(at, &mut shown)?;
         }
         Ok(shown)
+    }
+
+    /// Adds the property at that place, if it is shown.
+    fn show_one(&self, at: u16, shown: &mut List<Setting>) -> Result<(), NoMemory>
+        requires { at < property_count self.now.kind }
+        ensures { OnOk result (shown.new.items ≡ shown.old.items ++ option_to_list (shown_at self.now (property_at self.now.kind at))) }
+    {
+        let property = self.kind.property(at);
+        match self.shown(&property) {
+            Some(setting) => shown.push(setting),
+            None => Ok(()),
+        }
     }
 
     /// A property with its value, if it is shown.

@@ -6,8 +6,8 @@ use encap::Plan;
 use std::alloc::Global;
 use zw_base::{Sequence, Setting};
 
-/// What a device is at, until it is done: the settings that it makes then, and the wraps of the report where one is asked
-/// for.
+/// What a device is at, until it is done: the settings that it makes then, and the wraps of the message where a report
+/// is asked for.
 #[derive(Debug, Drop)]
 pub struct Work {
     pub settings: Sequence<Setting>,

@@ -34,11 +34,11 @@ is_false false d h = refl
 begins_decides : (bytes : List ℕ) (class command : ℕ) → Decides (begins_with bytes class command) (Begins bytes class command)
 begins_decides bytes class command =
     Decides-like (begins_with bytes class command)
-        (λ p. record { long = p.0.0; class_is = p.0.1; command_is = p.1 })
-        (λ b. ((b.long, b.class_is), b.command_is))
-        (Decides-and (nat_le 2 (length bytes) && (slice_index bytes 0 == class)) (slice_index bytes 1 == command)
-            (Decides-and (nat_le 2 (length bytes)) (slice_index bytes 0 == class) (leb_decides 2 (length bytes)) (Decides-eqb (slice_index bytes 0) class))
-            (Decides-eqb (slice_index bytes 1) command))
+    (λ p. record { long = p.0.0; class_is = p.0.1; command_is = p.1 })
+    (λ b. ((b.long, b.class_is), b.command_is))
+    (Decides-and (nat_le 2 (length bytes) && (slice_index bytes 0 == class)) (slice_index bytes 1 == command)
+    (Decides-and (nat_le 2 (length bytes)) (slice_index bytes 0 == class) (leb_decides 2 (length bytes)) (Decides-eqb (slice_index bytes 0) class))
+    (Decides-eqb (slice_index bytes 1) command))
 
 range_decides : (low high n : ℕ) → Decides (nat_le low n && nat_lt n high) ((low ≤ n) × (n < high))
 range_decides low high n = Decides-and (nat_le low n) (nat_lt n high) (leb_decides low n) (Decides-ltb n high)
@@ -47,11 +47,11 @@ segment_decides : (bytes : List ℕ) → Decides (begins_segment bytes) (IsTrans
 segment_decides bytes =
     let at : ℕ = slice_index bytes 1 in
     Decides-like (begins_segment bytes)
-        (λ p. record { long = p.0.0; class_is = p.0.1; command_is = p.1 })
-        (λ b. ((b.long, b.class_is), b.command_is))
-        (Decides-and (nat_le 2 (length bytes) && (slice_index bytes 0 == 85)) ((nat_le 192 at && nat_lt at 200) || (nat_le 224 at && nat_lt at 232))
-            (Decides-and (nat_le 2 (length bytes)) (slice_index bytes 0 == 85) (leb_decides 2 (length bytes)) (Decides-eqb (slice_index bytes 0) 85))
-            (Decides-or (nat_le 192 at && nat_lt at 200) (nat_le 224 at && nat_lt at 232) (range_decides 192 200 at) (range_decides 224 232 at)))
+    (λ p. record { long = p.0.0; class_is = p.0.1; command_is = p.1 })
+    (λ b. ((b.long, b.class_is), b.command_is))
+    (Decides-and (nat_le 2 (length bytes) && (slice_index bytes 0 == 85)) ((nat_le 192 at && nat_lt at 200) || (nat_le 224 at && nat_lt at 232))
+    (Decides-and (nat_le 2 (length bytes)) (slice_index bytes 0 == 85) (leb_decides 2 (length bytes)) (Decides-eqb (slice_index bytes 0) 85))
+    (Decides-or (nat_le 192 at && nat_lt at 200) (nat_le 224 at && nat_lt at 232) (range_decides 192 200 at) (range_decides 224 232 at)))
 
 encapsulation_decides : (within : Bool) (bytes : List ℕ) → Decides (is_encapsulation within bytes) (IsMisplaced within bytes)
 encapsulation_decides within bytes =
@@ -61,15 +61,15 @@ encapsulation_decides within bytes =
     let crc = begins_with bytes 86 1 in
     let sealed = begins_with bytes 152 129 in
     Decides-or (batch || (supervision || (channel || crc))) (within && (sealed || begins_segment bytes))
-        (Decides-or batch (supervision || (channel || crc)) (begins_decides bytes 143 1)
-            (Decides-or supervision (channel || crc) (begins_decides bytes 108 1) (Decides-or channel crc (begins_decides bytes 96 13) (begins_decides bytes 86 1))))
-        (Decides-and within (sealed || begins_segment bytes) (λ e. e, λ e. e) (Decides-or sealed (begins_segment bytes) (begins_decides bytes 152 129) (segment_decides bytes)))
+    (Decides-or batch (supervision || (channel || crc)) (begins_decides bytes 143 1)
+    (Decides-or supervision (channel || crc) (begins_decides bytes 108 1) (Decides-or channel crc (begins_decides bytes 96 13) (begins_decides bytes 86 1))))
+    (Decides-and within (sealed || begins_segment bytes) (λ e. e, λ e. e) (Decides-or sealed (begins_segment bytes) (begins_decides bytes 152 129) (segment_decides bytes)))
 
 command_decides : (within : Bool) (bytes : List ℕ) → Decides (is_command within bytes) (IsCommand within bytes)
 command_decides within bytes =
     Decides-like (is_command within bytes) (λ p. record { some = p.0; placed = p.1 }) (λ c. (c.some, c.placed))
-        (Decides-and (nat_le 1 (length bytes)) (not (is_encapsulation within bytes)) (leb_decides 1 (length bytes))
-            (Decides-not (is_encapsulation within bytes) (encapsulation_decides within bytes)))
+    (Decides-and (nat_le 1 (length bytes)) (not (is_encapsulation within bytes)) (leb_decides 1 (length bytes))
+    (Decides-not (is_encapsulation within bytes) (encapsulation_decides within bytes)))
 
 fit_decides : (commands : List (List ℕ)) → Decides (list_all (λ command. nat_le (length command) 255) commands) (AllFit commands)
 fit_decides [] = (λ e. tt, λ h. refl)
@@ -113,11 +113,11 @@ crc16_there true inner bytes off =
     let is : crc_inner bytes ≡ inner = crc_inner_is inner bytes off in
     let text : bytes ≡ crc16_text (crc_inner bytes) = off ∙ ap (λ (x : List ℕ). crc16_text x) (sym is) in
     choose (begins_with bytes 86 1) (bytes_eq bytes (crc16_text (crc_inner bytes))) (record { wrap = true; inner = crc_inner bytes }) (record { wrap = false; inner = bytes })
-        ((begins_decides bytes 86 1).1 (crc16_begins inner bytes off)) ((bytes_eq-Decides bytes (crc16_text (crc_inner bytes))).1 text)
+    ((begins_decides bytes 86 1).1 (crc16_begins inner bytes off)) ((bytes_eq-Decides bytes (crc16_text (crc_inner bytes))).1 text)
     ∙ ap (λ (x : List ℕ). let p : Peeled Bool = record { wrap = true; inner = x } in Some p) is
 crc16_there false inner bytes off =
     leave (begins_with bytes 86 1) (bytes_eq bytes (crc16_text (crc_inner bytes))) (record { wrap = true; inner = crc_inner bytes }) (record { wrap = false; inner = bytes })
-        (is_false (begins_with bytes 86 1) (begins_decides bytes 86 1) off.0)
+    (is_false (begins_with bytes 86 1) (begins_decides bytes 86 1) off.0)
     ∙ ap (λ (x : List ℕ). let p : Peeled Bool = record { wrap = false; inner = x } in Some p) (sym off.1)
 
 crc16_back : (bytes : List ℕ) (p : Peeled Bool) → crc16_opened bytes ≡ Some p → TakesCrc16Off p.wrap p.inner bytes
@@ -134,8 +134,8 @@ channel_test_decides : (bytes : List ℕ) → Decides (channel_test bytes)
     (((slice_index bytes 2 < 256) × (slice_index bytes 3 < 128)) × (bytes ≡ 96 ∷ 13 ∷ slice_index bytes 2 ∷ slice_index bytes 3 ∷ drop 4 bytes))
 channel_test_decides bytes =
     Decides-and (nat_lt (slice_index bytes 2) 256 && nat_lt (slice_index bytes 3) 128) (bytes_eq bytes (96 ∷ 13 ∷ slice_index bytes 2 ∷ slice_index bytes 3 ∷ drop 4 bytes))
-        (Decides-and (nat_lt (slice_index bytes 2) 256) (nat_lt (slice_index bytes 3) 128) (Decides-ltb (slice_index bytes 2) 256) (Decides-ltb (slice_index bytes 3) 128))
-        (bytes_eq-Decides bytes (96 ∷ 13 ∷ slice_index bytes 2 ∷ slice_index bytes 3 ∷ drop 4 bytes))
+    (Decides-and (nat_lt (slice_index bytes 2) 256) (nat_lt (slice_index bytes 3) 128) (Decides-ltb (slice_index bytes 2) 256) (Decides-ltb (slice_index bytes 3) 128))
+    (bytes_eq-Decides bytes (96 ∷ 13 ∷ slice_index bytes 2 ∷ slice_index bytes 3 ∷ drop 4 bytes))
 
 channel_there : (wrap : Option Ends) (inner bytes : List ℕ) → TakesChannelOff wrap inner bytes → channel_opened bytes ≡ Some (record { wrap = wrap; inner = inner })
 channel_there (Some ends) inner bytes off =
@@ -147,13 +147,13 @@ channel_there (Some ends) inner bytes off =
     let high : slice_index bytes 3 < 128 = rw to off.target in
     let source : slice_index bytes 2 % 128 ≡ ends.source = ap (λ (n : ℕ). n % 128) from ∙ off.source in
     choose (begins_with bytes 96 13) (channel_test bytes) (record { wrap = Some (ends_in bytes); inner = drop 4 bytes }) (record { wrap = None; inner = bytes })
-        ((begins_decides bytes 96 13).1 (channel_begins ends inner bytes off)) ((channel_test_decides bytes).1 ((low, high), text))
+    ((begins_decides bytes 96 13).1 (channel_begins ends inner bytes off)) ((channel_test_decides bytes).1 ((low, high), text))
     ∙ ap (λ (n : ℕ). let e : Ends = record { source = n; target = slice_index bytes 3 } in let p : Peeled (Option Ends) = record { wrap = Some e; inner = drop 4 bytes } in Some p) source
     ∙ ap (λ (n : ℕ). let e : Ends = record { source = ends.source; target = n } in let p : Peeled (Option Ends) = record { wrap = Some e; inner = drop 4 bytes } in Some p) to
     ∙ ap (λ (x : List ℕ). let p : Peeled (Option Ends) = record { wrap = Some ends; inner = x } in Some p) is
 channel_there None inner bytes off =
     leave (begins_with bytes 96 13) (channel_test bytes) (record { wrap = Some (ends_in bytes); inner = drop 4 bytes }) (record { wrap = None; inner = bytes })
-        (is_false (begins_with bytes 96 13) (begins_decides bytes 96 13) off.0)
+    (is_false (begins_with bytes 96 13) (begins_decides bytes 96 13) off.0)
     ∙ ap (λ (x : List ℕ). let p : Peeled (Option Ends) = record { wrap = None; inner = x } in Some p) (sym off.1)
 
 channel_back : (bytes : List ℕ) (p : Peeled (Option Ends)) → channel_opened bytes ≡ Some p → TakesChannelOff p.wrap p.inner bytes
@@ -162,7 +162,7 @@ channel_back bytes p e =
       | inl h ↦
           let t = (channel_test_decides bytes).0 h.1 in
           subst (λ (x : Peeled (Option Ends)). TakesChannelOff x.wrap x.inner bytes) h.2
-              (record { from = slice_index bytes 2; is_byte = t.0.0; source = refl; target = t.0.1; text = t.1 })
+          (record { from = slice_index bytes 2; is_byte = t.0.0; source = refl; target = t.0.1; text = t.1 })
       | inr h ↦ subst (λ (x : Peeled (Option Ends)). TakesChannelOff x.wrap x.inner bytes) h.1 (not_from_Decides (begins_with bytes 96 13) (begins_decides bytes 96 13) h.0, refl)
     ]
 
@@ -173,8 +173,8 @@ session_test_decides : (bytes : List ℕ) → Decides (session_test bytes)
     (((slice_index bytes 2 < 256) × (length (drop 4 bytes) ≤ 255)) × (bytes ≡ 108 ∷ 1 ∷ slice_index bytes 2 ∷ length (drop 4 bytes) ∷ drop 4 bytes))
 session_test_decides bytes =
     Decides-and (nat_lt (slice_index bytes 2) 256 && nat_le (length (drop 4 bytes)) 255) (bytes_eq bytes (108 ∷ 1 ∷ slice_index bytes 2 ∷ length (drop 4 bytes) ∷ drop 4 bytes))
-        (Decides-and (nat_lt (slice_index bytes 2) 256) (nat_le (length (drop 4 bytes)) 255) (Decides-ltb (slice_index bytes 2) 256) (leb_decides (length (drop 4 bytes)) 255))
-        (bytes_eq-Decides bytes (108 ∷ 1 ∷ slice_index bytes 2 ∷ length (drop 4 bytes) ∷ drop 4 bytes))
+    (Decides-and (nat_lt (slice_index bytes 2) 256) (nat_le (length (drop 4 bytes)) 255) (Decides-ltb (slice_index bytes 2) 256) (leb_decides (length (drop 4 bytes)) 255))
+    (bytes_eq-Decides bytes (108 ∷ 1 ∷ slice_index bytes 2 ∷ length (drop 4 bytes) ∷ drop 4 bytes))
 
 bit_is : (b : Bool) (n : ℕ) → (IsTrue b → 128 ≤ n) × (128 ≤ n → IsTrue b) → nat_le 128 n ≡ b
 bit_is true n h = (leb_decides 128 n).1 (h.0 refl)
@@ -190,13 +190,13 @@ supervision_there (Some session) inner bytes off =
     let updates : nat_le 128 (slice_index bytes 2) ≡ session.updates = rw flags (bit_is session.updates off.flags off.updates) in
     let id : slice_index bytes 2 % 64 ≡ session.id = ap (λ (n : ℕ). n % 64) flags ∙ off.id in
     choose (begins_with bytes 108 1) (session_test bytes) (record { wrap = Some (session_in bytes); inner = drop 4 bytes }) (record { wrap = None; inner = bytes })
-        ((begins_decides bytes 108 1).1 (supervision_begins session inner bytes off)) ((session_test_decides bytes).1 ((low, short), text))
+    ((begins_decides bytes 108 1).1 (supervision_begins session inner bytes off)) ((session_test_decides bytes).1 ((low, short), text))
     ∙ ap (λ (b : Bool). let s : Supervised = record { updates = b; id = slice_index bytes 2 % 64 } in let p : Peeled (Option Supervised) = record { wrap = Some s; inner = drop 4 bytes } in Some p) updates
     ∙ ap (λ (n : ℕ). let s : Supervised = record { updates = session.updates; id = n } in let p : Peeled (Option Supervised) = record { wrap = Some s; inner = drop 4 bytes } in Some p) id
     ∙ ap (λ (x : List ℕ). let p : Peeled (Option Supervised) = record { wrap = Some session; inner = x } in Some p) is
 supervision_there None inner bytes off =
     leave (begins_with bytes 108 1) (session_test bytes) (record { wrap = Some (session_in bytes); inner = drop 4 bytes }) (record { wrap = None; inner = bytes })
-        (is_false (begins_with bytes 108 1) (begins_decides bytes 108 1) off.0)
+    (is_false (begins_with bytes 108 1) (begins_decides bytes 108 1) off.0)
     ∙ ap (λ (x : List ℕ). let p : Peeled (Option Supervised) = record { wrap = None; inner = x } in Some p) (sym off.1)
 
 supervision_back : (bytes : List ℕ) (p : Peeled (Option Supervised)) → supervision_opened bytes ≡ Some p → TakesSupervisionOff p.wrap p.inner bytes
@@ -205,7 +205,7 @@ supervision_back bytes p e =
       | inl h ↦
           let t = (session_test_decides bytes).0 h.1 in
           subst (λ (x : Peeled (Option Supervised)). TakesSupervisionOff x.wrap x.inner bytes) h.2
-              (record { flags = slice_index bytes 2; is_byte = t.0.0; updates = leb_decides 128 (slice_index bytes 2); id = refl; len = t.0.1; text = t.1 })
+          (record { flags = slice_index bytes 2; is_byte = t.0.0; updates = leb_decides 128 (slice_index bytes 2); id = refl; len = t.0.1; text = t.1 })
       | inr h ↦ subst (λ (x : Peeled (Option Supervised)). TakesSupervisionOff x.wrap x.inner bytes) h.1 (not_from_Decides (begins_with bytes 108 1) (begins_decides bytes 108 1) h.0, refl)
     ]
 
@@ -215,7 +215,7 @@ cut_off_listed : (commands : List (List ℕ)) → cut_off (length commands) (lis
 cut_off_listed [] = refl
 cut_off_listed (command ∷ commands) =
     let front : take (length command) (command ++ listed commands) ≡ command =
-        take-append-le (length command) command (listed commands) (omega arith) ∙ take_all (length command) command (omega arith) in
+    take-append-le (length command) command (listed commands) (omega arith) ∙ take_all (length command) command (omega arith) in
     let rest : drop (length command) (command ++ listed commands) ≡ listed commands = drop-front command (listed commands) in
     rw (front, rest, cut_off_listed commands) refl
   where
@@ -234,15 +234,15 @@ batch_test bytes commands =
 batch_test_decides : (bytes : List ℕ) (commands : List (List ℕ)) → Decides (batch_test bytes commands) (IsBatchOf commands bytes × AllCommands true commands)
 batch_test_decides bytes commands =
     Decides-like (batch_test bytes commands)
-        (λ p. (record { count = p.0.0.0; fit = p.0.0.1; text = p.1 }, p.0.1))
-        (λ b. (((b.0.count, b.0.fit), b.1), b.0.text))
-        (Decides-and
-            (nat_le (length commands) 255 && list_all (λ command. nat_le (length command) 255) commands && list_all (is_command true) commands)
-            (bytes_eq bytes (143 ∷ 1 ∷ length commands ∷ listed commands))
-            (Decides-and (nat_le (length commands) 255 && list_all (λ command. nat_le (length command) 255) commands) (list_all (is_command true) commands)
-                (Decides-and (nat_le (length commands) 255) (list_all (λ command. nat_le (length command) 255) commands) (leb_decides (length commands) 255) (fit_decides commands))
-                (all_decides commands))
-            (bytes_eq-Decides bytes (143 ∷ 1 ∷ length commands ∷ listed commands)))
+    (λ p. (record { count = p.0.0.0; fit = p.0.0.1; text = p.1 }, p.0.1))
+    (λ b. (((b.0.count, b.0.fit), b.1), b.0.text))
+    (Decides-and
+    (nat_le (length commands) 255 && list_all (λ command. nat_le (length command) 255) commands && list_all (is_command true) commands)
+    (bytes_eq bytes (143 ∷ 1 ∷ length commands ∷ listed commands))
+    (Decides-and (nat_le (length commands) 255 && list_all (λ command. nat_le (length command) 255) commands) (list_all (is_command true) commands)
+    (Decides-and (nat_le (length commands) 255) (list_all (λ command. nat_le (length command) 255) commands) (leb_decides (length commands) 255) (fit_decides commands))
+    (all_decides commands))
+    (bytes_eq-Decides bytes (143 ∷ 1 ∷ length commands ∷ listed commands)))
 
 batch_begins : (commands : List (List ℕ)) (bytes : List ℕ) → IsBatchOf commands bytes → IsMultiCommand bytes
 batch_begins commands bytes is = subst (λ (x : List ℕ). IsMultiCommand x) (sym is.text) (record { long = omega arith; class_is = refl; command_is = refl })
@@ -291,7 +291,7 @@ inside_back within false s false bytes found commands db ds dc e = no_some comma
 commands_back : (within : Bool) (bytes : List ℕ) (commands : List (List ℕ)) → commands_opened within bytes ≡ Some commands → Inside within bytes commands
 commands_back within bytes commands e =
     inside_back within (begins_with bytes 143 1) (batch_test bytes (batch_commands bytes)) (is_command within bytes) bytes (batch_commands bytes) commands
-        (begins_decides bytes 143 1) (batch_test_decides bytes (batch_commands bytes)) (command_decides within bytes) e
+    (begins_decides bytes 143 1) (batch_test_decides bytes (batch_commands bytes)) (command_decides within bytes) e
 
 -- ---- the whole message
 
@@ -315,10 +315,14 @@ unfolding opened_at
 opened_there plan commands bytes wraps =
     let peels = peels_of plan commands bytes wraps in
     let b = batched_there plan (has_outer_wrap (is_crc16 plan.outer) plan.channel plan.session) commands wraps.batched refl wraps.plain wraps.batches in
-    rw (crc16_there (is_crc16 plan.outer) peels.checked bytes peels.crc16_off, channel_there plan.channel peels.addressed peels.checked peels.channel_off,
-        supervision_there plan.session wraps.batched peels.addressed peels.supervision_off, b.0)
-        (ap (λ (x : Bool). let p : Plan = record { batch = x; session = plan.session; channel = plan.channel; outer = outer_of (is_crc16 plan.outer) } in
-            let m : Message = record { plan = p; commands = commands } in Some m) b.1)
+    rw (
+      crc16_there (is_crc16 plan.outer) peels.checked bytes peels.crc16_off,
+      channel_there plan.channel peels.addressed peels.checked peels.channel_off,
+      supervision_there plan.session wraps.batched peels.addressed peels.supervision_off,
+      b.0,
+    )
+    (ap (λ (x : Bool). let p : Plan = record { batch = x; session = plan.session; channel = plan.channel; outer = outer_of (is_crc16 plan.outer) } in
+    let m : Message = record { plan = p; commands = commands } in Some m) b.1)
 
 -- where a step gave a value, it came from one
 from_step : {A B : Type 0} (o : Option A) (f : A → Option B) (b : B) → option_and_then f o ≡ Some b → (a : A) × (o ≡ Some a) × (f a ≡ Some b)
@@ -342,8 +346,8 @@ opened_back bytes m e =
     } in
     let same = some_same _ m found.2 in
     subst (λ (x : Message). Wraps x.plan x.commands bytes) same
-        (opens (begins_with d.0.inner 143 1) a.0.wrap (has_outer_wrap a.0.wrap b.0.wrap d.0.wrap) b.0.wrap d.0.wrap (outer_of a.0.wrap) d.0.inner bytes found.0
-            peels ((begins_decides d.0.inner 143 1).0, (begins_decides d.0.inner 143 1).1) refl refl inside.of_batch inside.of_one)
+    (opens (begins_with d.0.inner 143 1) a.0.wrap (has_outer_wrap a.0.wrap b.0.wrap d.0.wrap) b.0.wrap d.0.wrap (outer_of a.0.wrap) d.0.inner bytes found.0
+    peels ((begins_decides d.0.inner 143 1).0, (begins_decides d.0.inner 143 1).1) refl refl inside.of_batch inside.of_one)
 
 -- a fault comes only where no message is opened
 none_opened : (bytes : List ℕ) → ((m : Message) → opened_at bytes ≡ Some m → ⊥) → opened_at bytes ≡ None

@@ -61,8 +61,8 @@ channel_opened bytes =
     let inner = drop 4 bytes in
     if begins_with bytes 96 13
     then (if nat_lt (slice_index bytes 2) 256 && nat_lt (slice_index bytes 3) 128
-            && bytes_eq bytes (96 ∷ 13 ∷ slice_index bytes 2 ∷ slice_index bytes 3 ∷ inner)
-        then Some (record { wrap = Some (ends_in bytes); inner = inner }) else None)
+    && bytes_eq bytes (96 ∷ 13 ∷ slice_index bytes 2 ∷ slice_index bytes 3 ∷ inner)
+    then Some (record { wrap = Some (ends_in bytes); inner = inner }) else None)
     else Some (record { wrap = None; inner = bytes })
 
 -- the session in the text of Supervision
@@ -75,8 +75,8 @@ supervision_opened bytes =
     let inner = drop 4 bytes in
     if begins_with bytes 108 1
     then (if nat_lt (slice_index bytes 2) 256 && nat_le (length inner) 255
-            && bytes_eq bytes (108 ∷ 1 ∷ slice_index bytes 2 ∷ length inner ∷ inner)
-        then Some (record { wrap = Some (session_in bytes); inner = inner }) else None)
+    && bytes_eq bytes (108 ∷ 1 ∷ slice_index bytes 2 ∷ length inner ∷ inner)
+    then Some (record { wrap = Some (session_in bytes); inner = inner }) else None)
     else Some (record { wrap = None; inner = bytes })
 
 -- so many commands, each cut off by the length before it
@@ -90,7 +90,7 @@ abbrev pub batch_opened : List ℕ → Option (List (List ℕ))
 batch_opened bytes =
     let commands = cut_off (slice_index bytes 2) (drop 3 bytes) in
     if nat_le (length commands) 255 && list_all (λ command. nat_le (length command) 255) commands
-        && list_all (is_command true) commands && bytes_eq bytes (143 ∷ 1 ∷ length commands ∷ listed commands)
+    && list_all (is_command true) commands && bytes_eq bytes (143 ∷ 1 ∷ length commands ∷ listed commands)
     then Some commands else None
 
 -- what stands inside the outer wraps: a batch, or a command alone
@@ -118,8 +118,8 @@ opened_at bytes =
     option_and_then (λ (addressed : Peeled (Option Ends)).
     option_and_then (λ (supervised : Peeled (Option Supervised)).
     option_and_then (with_commands checked addressed supervised)
-        (commands_opened (has_outer_wrap checked.wrap addressed.wrap supervised.wrap) supervised.inner))
-        (supervision_opened addressed.inner)) (channel_opened checked.inner)) (crc16_opened bytes)
+    (commands_opened (has_outer_wrap checked.wrap addressed.wrap supervised.wrap) supervised.inner))
+    (supervision_opened addressed.inner)) (channel_opened checked.inner)) (crc16_opened bytes)
 
 -- what is answered is that message, unless there was no memory
 abbrev pub OpensAs : Result Opened WrapFault → Option Message → Type 0

@@ -32,10 +32,10 @@ segment_decides bytes =
     let first = (nat_le 192 at && nat_lt at 200) && nat_le 7 (length bytes) in
     let later = (nat_le 224 at && nat_lt at 232) && nat_le 8 (length bytes) in
     Decides-like (is_segment bytes) (λ p. record { of_class = p.0; of_command = p.1 }) (λ s. (s.of_class, s.of_command))
-        (Decides-and (slice_index bytes 0 == 85) (first || later) (Decides-eqb (slice_index bytes 0) 85)
-            (Decides-or first later
-                (Decides-and (nat_le 192 at && nat_lt at 200) (nat_le 7 (length bytes)) (range_decides 192 200 at) (leb_decides 7 (length bytes)))
-                (Decides-and (nat_le 224 at && nat_lt at 232) (nat_le 8 (length bytes)) (range_decides 224 232 at) (leb_decides 8 (length bytes)))))
+    (Decides-and (slice_index bytes 0 == 85) (first || later) (Decides-eqb (slice_index bytes 0) 85)
+    (Decides-or first later
+    (Decides-and (nat_le 192 at && nat_lt at 200) (nat_le 7 (length bytes)) (range_decides 192 200 at) (leb_decides 7 (length bytes)))
+    (Decides-and (nat_le 224 at && nat_lt at 232) (nat_le 8 (length bytes)) (range_decides 224 232 at) (leb_decides 8 (length bytes)))))
 
 sound_decides : (bytes : List ℕ) → Decides (is_sound bytes) (IsSound bytes)
 sound_decides bytes =
@@ -46,24 +46,24 @@ sound_decides bytes =
     let most = nat_le (size_of bytes) 512 in
     let inside = nat_le (offset_of bytes + length (payload_of bytes)) (size_of bytes) in
     Decides-like (is_sound bytes)
-        (λ p. record {
-          sized = record {
-            plain = record { intact = record { segment = p.0.0.0.0.0; check = p.0.0.0.0.1 }; extension = p.0.0.0.1 };
-            from_one = p.0.0.1;
-            to_most = p.0.1;
-          };
-          inside = p.1;
-        })
-        (λ s. (((((s.sized.plain.intact.segment, s.sized.plain.intact.check), s.sized.plain.extension), s.sized.from_one), s.sized.to_most), s.inside))
-        (Decides-and (segment && check && extension && some && most) inside
-            (Decides-and (segment && check && extension && some) most
-                (Decides-and (segment && check && extension) some
-                    (Decides-and (segment && check) extension
-                        (Decides-and segment check (segment_decides bytes) (Decides-eqb (check_of bytes) (crc (covered_of bytes))))
-                        (Decides-eqb (extension_of bytes) 0))
-                    (leb_decides 1 (size_of bytes)))
-                (leb_decides (size_of bytes) 512))
-            (leb_decides (offset_of bytes + length (payload_of bytes)) (size_of bytes)))
+    (λ p. record {
+      sized = record {
+        plain = record { intact = record { segment = p.0.0.0.0.0; check = p.0.0.0.0.1 }; extension = p.0.0.0.1 };
+        from_one = p.0.0.1;
+        to_most = p.0.1;
+      };
+      inside = p.1;
+    })
+    (λ s. (((((s.sized.plain.intact.segment, s.sized.plain.intact.check), s.sized.plain.extension), s.sized.from_one), s.sized.to_most), s.inside))
+    (Decides-and (segment && check && extension && some && most) inside
+    (Decides-and (segment && check && extension && some) most
+    (Decides-and (segment && check && extension) some
+    (Decides-and (segment && check) extension
+    (Decides-and segment check (segment_decides bytes) (Decides-eqb (check_of bytes) (crc (covered_of bytes))))
+    (Decides-eqb (extension_of bytes) 0))
+    (leb_decides 1 (size_of bytes)))
+    (leb_decides (size_of bytes) 512))
+    (leb_decides (offset_of bytes + length (payload_of bytes)) (size_of bytes)))
 
 not_sound : (bytes : List ℕ) (fault : SegmentFault) → IsFaultOf bytes fault → ¬ IsSound bytes
 not_sound bytes Short is s = is s.sized.plain.intact.segment
@@ -73,7 +73,7 @@ not_sound bytes (BadSize size) is s =
     let low : 1 ≤ size_of bytes = s.sized.from_one in
     let high : size_of bytes ≤ 512 = s.sized.to_most in
     let same : size ≡ size_of bytes = is.1 in
-    elim is.2 [ | inl none ↦ absurd (omega arith) | inr more ↦ absurd (omega arith) ]
+    elim is.2 [ inl none ↦ absurd (omega arith) | inr more ↦ absurd (omega arith) ]
 not_sound bytes (BadOffset offset) is s =
     let inside : offset_of bytes + length (payload_of bytes) ≤ size_of bytes = s.inside in
     let past : size_of bytes < offset + length (payload_of bytes) = is.2 in
@@ -192,10 +192,10 @@ pub completes_by : (kept : Reassembly) (bytes : List ℕ) (joined : Option (List
 completes_by kept bytes joined id size offset payload sound i s o p is =
     let by : (x : List (Option ℕ)) → Type 0 = λ x. MatchOption joined (¬ IsFull x) (λ datagram. x ≡ map Some datagram) in
     let same : places_with kept id size offset payload ≡ places_after kept bytes =
-        ap (λ (n : ℕ). places_with kept n size offset payload) i
-        ∙ ap (λ (n : ℕ). places_with kept (id_of bytes) n offset payload) s
-        ∙ ap (λ (n : ℕ). places_with kept (id_of bytes) (size_of bytes) n payload) o
-        ∙ ap (λ (x : List ℕ). places_with kept (id_of bytes) (size_of bytes) (offset_of bytes) x) p in
+    ap (λ (n : ℕ). places_with kept n size offset payload) i
+    ∙ ap (λ (n : ℕ). places_with kept (id_of bytes) n offset payload) s
+    ∙ ap (λ (n : ℕ). places_with kept (id_of bytes) (size_of bytes) n payload) o
+    ∙ ap (λ (x : List ℕ). places_with kept (id_of bytes) (size_of bytes) (offset_of bytes) x) p in
     completes_exactly kept bytes joined sound (subst by same is)
 
 pub completes_fault : (kept : Reassembly) (bytes : List ℕ) (fault : SegmentFault) → IsFaultOf bytes fault → CompletesAs (Err fault) (taken_at kept bytes)

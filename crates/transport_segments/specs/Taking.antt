@@ -16,7 +16,7 @@ abbrev pub is_segment : List ℕ → Bool
 is_segment bytes =
     (slice_index bytes 0 == 85)
     && (((nat_le 192 (slice_index bytes 1) && nat_lt (slice_index bytes 1) 200) && nat_le 7 (length bytes))
-        || ((nat_le 224 (slice_index bytes 1) && nat_lt (slice_index bytes 1) 232) && nat_le 8 (length bytes)))
+    || ((nat_le 224 (slice_index bytes 1) && nat_lt (slice_index bytes 1) 232) && nat_le 8 (length bytes)))
 
 -- a segment without fault
 abbrev pub is_sound : List ℕ → Bool

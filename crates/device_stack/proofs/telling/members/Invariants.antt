@@ -1,7 +1,6 @@
 use Rattle.std.proofs.Common.{◌≡◌, ◌+◌, ◌-◌, ◌≤◌, ◌++◌, take, length}
 use Rattle.std.specs.Prelude.{filter}
-use Rattle.std.specs.List.{range_with_len}
-use Rattle.device_stack.specs.Kind.{all_nodes}
+use Rattle.device_stack.specs.Kind.{all_nodes, nodes_from}
 use Rattle.device_stack.specs.Values.{value_after}
 use Rattle.device_stack.specs.Telling.{is_member_of}
 use Rattle.device_stack.proofs.telling.members.Given as goal
@@ -9,7 +8,7 @@ use Rattle.device_stack.proofs.telling.members.Given as goal
 abbrev pub invariant-loop-before : goal.invariant-loop-before
 invariant-loop-before l = record {
   found :
-      take 5 (l.nodes ++ filter (is_member_of (λ property. value_after l.journal property 0) l.end l.group) (range_with_len (1 + l.before) (232 - l.before)))
+      take 5 (l.nodes ++ filter (is_member_of (λ property. value_after l.journal property 0) l.end l.group) (nodes_from l.before))
       ≡ take 5 (filter (is_member_of (λ property. value_after l.journal property 0) l.end l.group) all_nodes);
   few : length l.nodes ≤ 5;
 }

@@ -8,5 +8,5 @@ pub returns : goal.returns
 returns c = record {
   exact =
       completes_by c.args.self.now c.args.bytes.now c.in_ok-joined_with.field-0 c.in-Ok.segment.id c.in-Ok.segment.size c.in-Ok.segment.offset c.in-Ok.segment.payload.now
-          c.in-Ok.ensures.sound c.in-Ok.ensures.id c.in-Ok.ensures.size c.in-Ok.ensures.offset c.in-Ok.ensures.payload c.in_ok-joined_with.ensures;
+      c.in-Ok.ensures.sound c.in-Ok.ensures.id c.in-Ok.ensures.size c.in-Ok.ensures.offset c.in-Ok.ensures.payload c.in_ok-joined_with.ensures;
 }
