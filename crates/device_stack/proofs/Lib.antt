@@ -2,3 +2,5 @@ pub mod ListLemmas
 pub mod CacheLemmas
 pub mod PlaceLemmas
 pub mod WordedLemmas
+pub mod SealingLemmas
+pub mod JudgingLemmas

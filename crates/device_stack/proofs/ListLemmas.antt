@@ -1,8 +1,10 @@
 -- What is left of a list that is gone through.
 use Rattle.std.proofs.Common.{◌≡◌, ℕ, zero, suc, ◌+◌, ◌-◌, ◌<◌, ◌≤◌, List, [], ◌∷◌, ◌++◌, length, take, drop, Bool, true, false, refl, sym, ◌∙◌, ap, arith, append_assoc}
-use Rattle.std.specs.Prelude.{Option, Some, None, filter, count_by, cond, not, ◌==◌, ◌≢◌}
+use Rattle.std.specs.Prelude.{Option, Some, None, filter, count_by, fold, cond, not, ◌==◌, ◌≢◌}
 use Rattle.std.specs.List.{range_with_len, filter_map}
 use Rattle.device_stack.specs.Kind.{nodes_from}
+use Rattle.std.specs.Bool.{Decides}
+use Rattle.std.proofs.lemmas.Bool.Decides.{Decides-eqb}
 use Rattle.std.proofs.lemmas.List.{drop_more, take-append-le, take_all}
 
 -- one number more of a range
@@ -27,17 +29,27 @@ pub nodes_done : nodes_from 232 ≡ []
 unfolding nodes_from
 nodes_done = refl
 
+count_from : (p : ℕ → Bool) (start : ℕ) (xs : List ℕ) → fold (λ a x. a + cond (p x) 1 0) start xs ≡ start + count_by p xs
+count_from p start [] = omega arith
+count_from p start (x ∷ xs) =
+    let here = count_from p (start + cond (p x) 1 0) xs in
+    let there : count_by p (x ∷ xs) ≡ (0 + cond (p x) 1 0) + count_by p xs = count_from p (0 + cond (p x) 1 0) xs in
+    here ∙ omega (arith, there)
+
+count_cons : (p : ℕ → Bool) (x : ℕ) (xs : List ℕ) → count_by p (x ∷ xs) ≡ cond (p x) 1 0 + count_by p xs
+count_cons p x xs = count_from p (0 + cond (p x) 1 0) xs ∙ omega arith
+
 pub count_in : (p : ℕ → Bool) (before count total : ℕ) → before < 232 → p (before + 1) ≡ true
     → count + count_by p (nodes_from before) ≡ total → (count + 1) + count_by p (nodes_from (before + 1)) ≡ total
 count_in p before count total less in_it is =
-    let more : count_by p (nodes_from before) ≡ cond (p (before + 1)) 1 0 + count_by p (nodes_from (before + 1)) = ap (count_by p) (nodes_more before less) in
+    let more : count_by p (nodes_from before) ≡ cond (p (before + 1)) 1 0 + count_by p (nodes_from (before + 1)) = ap (count_by p) (nodes_more before less) ∙ count_cons p (before + 1) (nodes_from (before + 1)) in
     let one : cond (p (before + 1)) 1 0 ≡ 1 = ap (λ (b : Bool). cond b 1 0) in_it in
     omega (arith, more, one)
 
 pub count_out : (p : ℕ → Bool) (before count total : ℕ) → before < 232 → p (before + 1) ≡ false
     → count + count_by p (nodes_from before) ≡ total → count + count_by p (nodes_from (before + 1)) ≡ total
 count_out p before count total less out is =
-    let more : count_by p (nodes_from before) ≡ cond (p (before + 1)) 1 0 + count_by p (nodes_from (before + 1)) = ap (count_by p) (nodes_more before less) in
+    let more : count_by p (nodes_from before) ≡ cond (p (before + 1)) 1 0 + count_by p (nodes_from (before + 1)) = ap (count_by p) (nodes_more before less) ∙ count_cons p (before + 1) (nodes_from (before + 1)) in
     let none : cond (p (before + 1)) 1 0 ≡ 0 = ap (λ (b : Bool). cond b 1 0) out in
     omega (arith, more, none)
 
@@ -46,9 +58,12 @@ count_done p count total is =
     let none : count_by p (nodes_from 232) ≡ 0 = ap (count_by p) nodes_done in
     omega (arith, none)
 
+is_false : {P : Type 0} (r : Bool) → Decides r P → (¬ P) → r ≡ false
+is_false true d h = absurd (h (d.0 refl))
+is_false false d h = refl
+
 pub not_zero : (n : ℕ) → n ≢ 0 → not (n == 0) ≡ true
-not_zero zero h = absurd (h refl)
-not_zero (suc n) h = refl
+not_zero n h = ap not (is_false (n == 0) (Decides-eqb n 0) h)
 
 pub is_zero : (n : ℕ) → n ≡ 0 → not (n == 0) ≡ false
 is_zero n e = ap (λ (k : ℕ). not (k == 0)) e

@@ -120,41 +120,28 @@ fn is_in_tenths(number: Number) -> bool
     }
 }
 
-/// Adds a parameter.
-fn add_parameter(settings: &mut Sequence<Setting>, end: EndPoint, parameter: u8, value: u32) -> Result<(), NoMemory>
-    ensures { OnOk result (settings.new ≡ settings.old ++ setting_of end (Name.Config parameter) value ∷ []) }
-{
-    settings.push(setting(end, Name::Config(parameter), value))
-}
-
-/// Adds a member.
-fn add_member(settings: &mut Sequence<Setting>, end: EndPoint, node: NodeId, value: u32) -> Result<(), NoMemory>
-    ensures { OnOk result (settings.new ≡ settings.old ++ setting_of end (Name.Member 1 node) value ∷ []) }
-{
-    settings.push(setting(end, Name::Member(GROUP, node), value))
-}
-
 /// The parameters from one on.
 fn parameters(alloc: Global, end: EndPoint, first: u16, values: &[u32]) -> Result<Sequence<Setting>, NoMemory>
     requires { first + length values.now ≤ 256 }
     ensures { IfOk result (λ settings. settings ≡ configured end first values.now) }
 {
-    let mut settings = Sequence::new(alloc);
+    let mut settings = Vec::new(alloc);
     for (i, value) in values.iter().enumerate() {
-        add_parameter(&mut settings, end, (usize::from(first) + i) as u8, *value)?;
+        let parameter = (usize::from(first) + i) as u8;
+        settings.push(setting(end, Name::Config(parameter), *value))?;
     }
-    Ok(settings)
+    Sequence::from_slice(alloc, settings.as_slice())
 }
 
 /// The nodes as members of the group, or as members no longer.
 fn members(alloc: Global, end: EndPoint, value: u32, nodes: &[NodeId]) -> Result<Sequence<Setting>, NoMemory>
     ensures { IfOk result (λ settings. settings ≡ memberships end value nodes.now) }
 {
-    let mut settings = Sequence::new(alloc);
+    let mut settings = Vec::new(alloc);
     for node in nodes {
-        add_member(&mut settings, end, *node, value)?;
+        settings.push(setting(end, Name::Member(GROUP, *node), value))?;
     }
-    Ok(settings)
+    Sequence::from_slice(alloc, settings.as_slice())
 }
 
 impl Bench<'_> {

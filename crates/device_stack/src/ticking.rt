@@ -192,23 +192,24 @@ impl Stack {
     pub fn show(&self, alloc: Global) -> Result<List<Setting>, NoMemory>
         ensures { IfOk result (λ shown. shown.items ≡ shown_of self.now) }
     {
-        let mut shown = List::new(alloc);
+        let mut shown = Vec::new(alloc);
         for at in 0..self.kind.property_count() {
             self.show_one(at, &mut shown)?;
         }
-        Ok(shown)
+        List::from_slice(alloc, shown.as_slice())
     }
 
     /// Adds the property at that place, if it is shown.
-    fn show_one(&self, at: u16, shown: &mut List<Setting>) -> Result<(), NoMemory>
+    fn show_one(&self, at: u16, shown: &mut Vec<Setting>) -> Result<(), NoMemory>
         requires { at < property_count self.now.kind }
         ensures { OnOk result (shown.new.items ≡ shown.old.items ++ option_to_list (shown_at self.now (property_at self.now.kind at))) }
     {
         let property = self.kind.property(at);
         match self.shown(&property) {
-            Some(setting) => shown.push(setting),
-            None => Ok(()),
+            Some(setting) => shown.push(setting)?,
+            None => {}
         }
+        Ok(())
     }
 
     /// A property with its value, if it is shown.

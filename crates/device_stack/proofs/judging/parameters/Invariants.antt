@@ -3,4 +3,4 @@ use Rattle.device_stack.specs.Judging.{configured}
 use Rattle.device_stack.proofs.judging.parameters.Given as goal
 
 abbrev pub invariant-loop-i : goal.invariant-loop-i
-invariant-loop-i l = l.settings ++ configured l.end (l.first + l.i) (drop l.i l.values) ≡ configured l.end l.first l.values
+invariant-loop-i l = l.settings.items ++ configured l.end (l.first + l.i) (drop l.i l.values) ≡ configured l.end l.first l.values
