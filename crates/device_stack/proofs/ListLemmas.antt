@@ -43,14 +43,14 @@ pub count_in : (p : ℕ → Bool) (before count total : ℕ) → before < 232 �
     → count + count_by p (nodes_from before) ≡ total → (count + 1) + count_by p (nodes_from (before + 1)) ≡ total
 count_in p before count total less in_it is =
     let more : count_by p (nodes_from before) ≡ cond (p (before + 1)) 1 0 + count_by p (nodes_from (before + 1)) = ap (count_by p) (nodes_more before less) ∙ count_cons p (before + 1) (nodes_from (before + 1)) in
-    let one : cond (p (before + 1)) 1 0 ≡ 1 = ap (λ (b : Bool). cond b 1 0) in_it in
+    let one : ◌≡◌ {A = ℕ} (cond (p (before + 1)) 1 0) 1 = ap (λ (b : Bool). cond b 1 0) in_it in
     omega (arith, more, one)
 
 pub count_out : (p : ℕ → Bool) (before count total : ℕ) → before < 232 → p (before + 1) ≡ false
     → count + count_by p (nodes_from before) ≡ total → count + count_by p (nodes_from (before + 1)) ≡ total
 count_out p before count total less out is =
     let more : count_by p (nodes_from before) ≡ cond (p (before + 1)) 1 0 + count_by p (nodes_from (before + 1)) = ap (count_by p) (nodes_more before less) ∙ count_cons p (before + 1) (nodes_from (before + 1)) in
-    let none : cond (p (before + 1)) 1 0 ≡ 0 = ap (λ (b : Bool). cond b 1 0) out in
+    let none : ◌≡◌ {A = ℕ} (cond (p (before + 1)) 1 0) 0 = ap (λ (b : Bool). cond b 1 0) out in
     omega (arith, more, none)
 
 pub count_done : (p : ℕ → Bool) (count total : ℕ) → count + count_by p (nodes_from 232) ≡ total → count ≡ total
