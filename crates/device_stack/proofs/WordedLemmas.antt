@@ -45,7 +45,7 @@ pub record IsText (text : List ℕ) : Type 0 where
 
 length-nodes : (ns : List ℕ) → length (written (nodes ns)) ≡ length ns
 length-nodes [] = refl
-length-nodes (n ∷ ns) = ap (λ (k : ℕ). k + 1) (length-nodes ns)
+length-nodes (n ∷ ns) = ap suc (length-nodes ns)
 
 text_of : (a b : ℕ) (rest : List ℕ) → length rest ≤ 8 → is_plain a b ≡ true → IsText (a ∷ b ∷ rest)
 text_of a b rest few plain = record { some = omega arith; ten = omega arith; placed = placed_by a b rest plain }
