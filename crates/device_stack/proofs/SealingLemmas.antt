@@ -1,6 +1,6 @@
 -- What opens is what the function says, and so is what is sealed.
 use Rattle.std.proofs.Common.{◌≡◌, ◌≢◌, ℕ, ◌+◌, ◌-◌, ◌≤◌, ◌<◌, List, [], ◌∷◌, ◌++◌, length, take, drop, Bool, true, false, refl, sym, ◌∙◌, ap, subst, arith, length-drop}
-use Rattle.std.specs.Prelude.{Option, Some, None, nat_le, slice_index, ◌==◌, ◌&&◌}
+use Rattle.std.specs.Prelude.{Option, Some, None, nat_le, replicate, slice_index, ◌==◌, ◌&&◌}
 use Rattle.std.specs.Bool.{Decides}
 use Rattle.std.specs.Str.{bytes_eq}
 use Rattle.std.proofs.lemmas.Bool.Decides.{Decides-eqb, Decides-and, Decides-like, nat_tests}
@@ -10,7 +10,7 @@ use Rattle.aes_block.specs.Cipher.{aes}
 use Rattle.s0_crypto.specs.declared.key_pair.Keys.{Keys}
 use Rattle.s0_crypto.specs.declared.ends.SealEnds.{SealEnds}
 use Rattle.s0_crypto.specs.Seal.{Seals, code_of}
-use Rattle.s0_crypto.specs.Opening.{nonce_in, code_wanted, code_in, sequence_in, IsGood}
+use Rattle.s0_crypto.specs.Opening.{nonce_in, code_wanted, code_in, sequence_in, IsGood, IsBadlyCoded, HasOtherSequence}
 use Rattle.s0_crypto.proofs.OpeningLemmas.{good_from_seals, seals_from_parts, header_of}
 use Rattle.s0_session.specs.Sending.{Sending, taken_from, SealsPending}
 use Rattle.device_stack.specs.State.{State, Outcome}
@@ -43,10 +43,18 @@ pub stays_shut : (keys : Keys) (nonce : List ℕ) (ends : SealEnds) (bytes : Lis
 unfolding unsealed_at
 stays_shut keys nonce ends bytes bad = sym (rw (is_false (is_good keys nonce ends bytes) (good_decides keys nonce ends bytes) bad) refl)
 
-pub same_keys : (keys : Keys) (key : List ℕ) → keys.encrypt ≡ (keys_of key).encrypt → keys.code ≡ (keys_of key).code → keys ≡ keys_of key
+-- a message with another code, or with another sequence byte, stays shut
+pub badly_coded : (keys : Keys) (nonce : List ℕ) (ends : SealEnds) (bytes want got : List ℕ) → IsBadlyCoded keys nonce ends bytes want got → None ≡ unsealed_at keys nonce ends bytes
+badly_coded keys nonce ends bytes want got b = stays_shut keys nonce ends bytes (λ g. b.differ (b.is_wanted ∙ g.coded.code ∙ sym b.is_got))
+
+pub other_sequence : (keys : Keys) (nonce : List ℕ) (ends : SealEnds) (bytes : List ℕ) (byte : ℕ) → HasOtherSequence keys nonce ends bytes byte → None ≡ unsealed_at keys nonce ends bytes
+other_sequence keys nonce ends bytes byte s = stays_shut keys nonce ends bytes (λ g. s.not_zero (s.is_sequence ∙ g.zero))
+
+pub same_keys : (keys : Keys) (key : List ℕ) → keys.encrypt ≡ aes key (replicate 16 0xAA) → keys.code ≡ aes key (replicate 16 0x55) → keys ≡ keys_of key
+unfolding keys_of
 same_keys keys key e k =
     ap (λ (x : List ℕ). let made : Keys = record { encrypt = x; code = keys.code } in made) e
-    ∙ ap (λ (x : List ℕ). let made : Keys = record { encrypt = (keys_of key).encrypt; code = x } in made) k
+    ∙ ap (λ (x : List ℕ). let made : Keys = record { encrypt = aes key (replicate 16 0xAA); code = x } in made) k
 
 pub opened_is : (keys : Keys) (nonce : List ℕ) (ends : SealEnds) (bytes plain : List ℕ) → 20 ≤ length bytes → slice_index bytes 0 ≡ 0x98 → slice_index bytes 1 ≡ 0x81
     → slice_index bytes (length bytes - 9) ≡ slice_index nonce 0 → Seals keys (nonce_in bytes) nonce ends plain bytes

@@ -51,7 +51,9 @@ fn open(
     match unseal(alloc, &keys(key), nonce, ends, bytes) {
         Ok(plain) => Ok(Some(plain)),
         Err(SealFault::NoMemory) => Err(NoMemory),
-        Err(_) => Ok(None),
+        Err(SealFault::Short) => Ok(None),
+        Err(SealFault::BadCode { .. }) => Ok(None),
+        Err(SealFault::Sequence(_)) => Ok(None),
     }
 }
 
@@ -106,9 +108,10 @@ impl Stack {
         ensures err { OnErr result (self.new ≡ self.old) }
         ensures err_replies { OnErr result (out.new ≡ []) }
     {
-        if let Some(message) = self.sealing.offer(&keys(self.key), nonce, drawn)? {
-            out.push(payload(message.as_slice()));
-        }
+        let Some(message) = self.sealing.offer(&keys(self.key), nonce, drawn)? else {
+            return Ok(());
+        };
+        out.push(payload(message.as_slice()));
         Ok(())
     }
 

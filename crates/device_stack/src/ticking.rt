@@ -1,9 +1,9 @@
 //! Ticks, wake-ups, values set by hand, and what is shown.
 
-ghost use Rattle.std.specs.Prelude.{◌≡◌, ◌+◌, ◌++◌, ◌<◌, ◌^◌, [], IfOk, IfSome, OnOk, OnErr, All};
-ghost use Rattle.std.specs.Option.{option_map, option_to_list};
+ghost use Rattle.std.specs.Prelude.{◌≡◌, ◌+◌, ◌<◌, ◌^◌, [], IfOk, IfSome, OnOk, OnErr, All};
+ghost use Rattle.std.specs.Option.{option_map};
 ghost use Rattle.class_info.specs.InfoSpelling.{form};
-ghost use Rattle.device_stack.specs.Kind.{property_count, property_at};
+ghost use Rattle.device_stack.specs.Kind.{main_name_of};
 ghost use Rattle.device_stack.specs.Answers.{worded, answer_plan, final_report};
 ghost use Rattle.device_stack.specs.Ticking.{aged, works_out, ticked, woken, by_hand, main_told, set_by_hand};
 ghost use Rattle.device_stack.specs.Showing.{shown_of, shown_at};
@@ -192,32 +192,25 @@ impl Stack {
     pub fn show(&self, alloc: Global) -> Result<List<Setting>, NoMemory>
         ensures { IfOk result (λ shown. shown.items ≡ shown_of self.now) }
     {
-        let mut shown = Vec::new(alloc);
+        let main = self.kind.main_name();
+        let mut shown = List::new(alloc);
         for at in 0..self.kind.property_count() {
-            self.show_one(at, &mut shown)?;
+            let property = self.kind.property(at);
+            match self.shown(main, &property) {
+                Some(setting) => shown.push(setting)?,
+                None => {}
+            }
         }
-        List::from_slice(alloc, shown.as_slice())
+        Ok(shown)
     }
 
-    /// Adds the property at that place, if it is shown.
-    fn show_one(&self, at: u16, shown: &mut Vec<Setting>) -> Result<(), NoMemory>
-        requires { at < property_count self.now.kind }
-        ensures { OnOk result (shown.new.items ≡ shown.old.items ++ option_to_list (shown_at self.now (property_at self.now.kind at))) }
-    {
-        let property = self.kind.property(at);
-        match self.shown(&property) {
-            Some(setting) => shown.push(setting)?,
-            None => {}
-        }
-        Ok(())
-    }
-
-    /// A property with its value, if it is shown.
-    fn shown(&self, property: &Property) -> Option<Setting>
+    /// A property with its value, if it is shown of a device with that main property.
+    fn shown(&self, main: Name, property: &Property) -> Option<Setting>
+        requires { main ≡ main_name_of self.now.kind }
         ensures { result ≡ shown_at self.now property.now }
     {
         let value = self.journal.value(property);
-        if is_same(property, &root(self.kind.main_name())) || value != 0 {
+        if is_same(property, &root(main)) || value != 0 {
             Some(Setting {
                 property: *property,
                 value,
