@@ -13,7 +13,7 @@ use Rattle.s0_crypto.specs.Seal.{Seals, code_of}
 use Rattle.s0_crypto.specs.Opening.{nonce_in, code_wanted, code_in, sequence_in, IsGood, IsBadlyCoded, HasOtherSequence}
 use Rattle.s0_crypto.proofs.OpeningLemmas.{good_from_seals, seals_from_parts, header_of}
 use Rattle.s0_session.specs.Sending.{Sending, taken_from, SealsPending}
-use Rattle.device_stack.specs.State.{State, Outcome}
+use Rattle.device_stack.specs.State.{State, Outcome, silent}
 use Rattle.device_stack.specs.Sealing.{keys_of, plain_in, is_good, unsealed_at, sealed_text}
 use Rattle.device_stack.specs.Hearing.{seals_for, takes_nonce}
 
@@ -84,3 +84,12 @@ takes_as device keys nonce drawn bytes now k s =
     ∙ ap (λ (b : Option (List ℕ)). seals_for device nonce drawn (Some now.seen) b) s.was_pending
     ∙ ap (λ (x : Sending). let o : Outcome = record { device = record device { sealing = x }; replies = sealed_text (keys_of device.key) drawn nonce device.sealing.ends s.plain ∷ [] } in o) (sym s.after)
     ∙ ap (λ (x : List ℕ). let o : Outcome = record { device = record device { sealing = now }; replies = x ∷ [] } in o) (sym text)
+
+-- one that is not taken: nothing is sent
+pub takes_none : (device : State) (nonce drawn : List ℕ) → taken_from device.sealing.pending device.sealing.seen (slice_index nonce 0) ≡ None
+    → takes_nonce device nonce drawn ≡ silent device
+takes_none device nonce drawn e = ap (λ (a : Option ℕ). seals_for device nonce drawn a device.sealing.pending) e
+
+pub none_of : {A : Type 0} (o : Option A) → ((x : A) → o ≡ Some x → ⊥) → o ≡ None
+none_of (Some x) h = absurd (h x refl)
+none_of None h = refl

@@ -1,5 +1,6 @@
 -- How long the payloads of Security 0 are.
-use Rattle.std.proofs.Common.{◌≡◌, ℕ, zero, suc, ◌+◌, ◌/◌, ◌≤◌, List, [], ◌∷◌, ◌++◌, length, slice_index, refl, sym, ◌∙◌, ap, subst, arith, length-append}
+use Rattle.std.proofs.Common.{◌≡◌, ℕ, zero, suc, ◌+◌, ◌/◌, ◌<◌, ◌≤◌, List, [], ◌∷◌, ◌++◌, length, slice_index, refl, sym, ◌∙◌, ap, subst, arith, length-append}
+use Rattle.std.specs.Prelude.{All, slice_index_or}
 use Rattle.std.proofs.lemmas.List.{length-take-le}
 use Rattle.aes_block.specs.Cipher.{aes, add_round_key}
 use Rattle.s0_crypto.specs.declared.key_pair.Keys.{Keys}
@@ -46,3 +47,11 @@ sealed_payload keys own nonce ends plain bytes eight short s =
     let all : length bytes ≡ suc (suc (length (own ++ (s.cipher_text ++ slice_index nonce 0 ∷ code_of keys (own ++ nonce) ends s.cipher_text)))) = ap length s.layout in
     let few = short.short in
     record { some = omega arith; short = omega arith }
+
+-- one payload alone
+pub only_payload : (bytes : List ℕ) (out : List (List ℕ)) → out ≡ bytes ∷ [] → IsPayload bytes → All IsPayload out
+only_payload bytes out e is = subst (λ (x : List (List ℕ)). All IsPayload x) (sym e) (λ k d less. by k d less)
+  where
+    by : (k : ℕ) (d : List ℕ) → k < length (bytes ∷ []) → IsPayload (slice_index_or (bytes ∷ []) k d)
+    by zero d less = is
+    by (suc k) d less = absurd (omega arith)

@@ -108,6 +108,7 @@ impl Stack {
         ensures err { OnErr result (self.new ≡ self.old) }
         ensures err_replies { OnErr result (out.new ≡ []) }
     {
+        let _eight = nonce_len(&drawn);
         let Some(message) = self.sealing.offer(&keys(self.key), nonce, drawn)? else {
             return Ok(());
         };
@@ -185,6 +186,14 @@ impl Stack {
         }
         Ok(())
     }
+}
+
+/// How many bytes a nonce has.
+fn nonce_len(nonce: &[u8; 8]) -> usize
+    ensures { length nonce.now ≡ 8 }
+{
+    let bytes: &[u8] = nonce;
+    bytes.len()
 }
 
 /// The report of a nonce.

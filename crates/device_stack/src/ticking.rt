@@ -196,7 +196,7 @@ impl Stack {
         let mut shown = List::new(alloc);
         for at in 0..self.kind.property_count() {
             let property = self.kind.property(at);
-            match self.shown(main, &property) {
+            match self.shown(&main, &property) {
                 Some(setting) => shown.push(setting)?,
                 None => {}
             }
@@ -205,12 +205,12 @@ impl Stack {
     }
 
     /// A property with its value, if it is shown of a device with that main property.
-    fn shown(&self, main: Name, property: &Property) -> Option<Setting>
-        requires { main ≡ main_name_of self.now.kind }
+    fn shown(&self, main: &Name, property: &Property) -> Option<Setting>
+        requires { main.now ≡ main_name_of self.now.kind }
         ensures { result ≡ shown_at self.now property.now }
     {
         let value = self.journal.value(property);
-        if is_same(property, &root(main)) || value != 0 {
+        if is_same(property, &root(*main)) || value != 0 {
             Some(Setting {
                 property: *property,
                 value,
