@@ -13,7 +13,7 @@ pub payload-requires : goal.payload-requires
 payload-requires c =
     let s : SealsPending c.self.inside.sealing c.keys.result c.args.drawn c.args.nonce c.in-Some.message c.offer.new.self =
         c.in_ok-message.ensures.sealed c.in-Some.message (ap Ok c.in-Some.is) in
-    let p = sealed_payload c.keys.result c.args.drawn c.args.nonce c.self.inside.sealing.ends s.plain c.in-Some.message c.nonce_len-_eight.ensures (c.self.invariant s.plain s.was_pending) s.seals in
+    let p = sealed_payload c.keys.result c.args.drawn c.args.nonce c.self.inside.sealing.ends s.plain c.in-Some.message c.nonce_len-eight.ensures (c.self.invariant s.plain s.was_pending) s.seals in
     omega (arith, p.short, ap length c.as_slice.ensures)
 
 pub invariant_of-self-2 : goal.invariant_of-self-2
@@ -47,4 +47,4 @@ returns-clause-sizes c =
         c.in_ok-message.ensures.sealed c.in-Some.message (ap Ok c.in-Some.is) in
     only_payload c.in-Some.message c.push.new.self
         (c.push.ensures ∙ ap (λ (o : List (List ℕ)). o ++ c.payload.result ∷ []) c.requires ∙ ap (λ (b : List ℕ). b ∷ []) (c.payload.ensures ∙ c.as_slice.ensures))
-        (sealed_payload c.keys.result c.args.drawn c.args.nonce c.self.inside.sealing.ends s.plain c.in-Some.message c.nonce_len-_eight.ensures (c.self.invariant s.plain s.was_pending) s.seals)
+        (sealed_payload c.keys.result c.args.drawn c.args.nonce c.self.inside.sealing.ends s.plain c.in-Some.message c.nonce_len-eight.ensures (c.self.invariant s.plain s.was_pending) s.seals)
