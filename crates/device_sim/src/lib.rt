@@ -10,7 +10,7 @@
 
 mod device;
 mod kinds;
-mod laws;
+pub mod laws;
 mod profile;
 mod recorder;
 mod simulated;
