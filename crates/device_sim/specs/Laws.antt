@@ -60,15 +60,16 @@ IsTicked old new = ((new.journal ≡ old.journal) × (new.sessions ≡ old.sessi
 
 -- ---- what holds of every journal
 
+-- the number of a session that made a change, before others
+abbrev pub with_number : By → List ℕ → List ℕ
+with_number (Session number) more = number ∷ more
+with_number Plain more = more
+with_number Local more = more
+
 -- the sessions that made changes, in their order
 abbrev pub numbers : List Change → List ℕ
 numbers [] = []
-numbers (change ∷ changes) = by change.by
-  where
-    by : By → List ℕ
-    by (Session number) = number ∷ numbers changes
-    by Plain = numbers changes
-    by Local = numbers changes
+numbers (change ∷ changes) = with_number change.by (numbers changes)
 
 -- numbers that rise strictly, above the lower bound and not above the upper one
 abbrev pub Rises : ℕ → List ℕ → ℕ → Type 0

@@ -10,7 +10,7 @@
 
 mod device;
 mod kinds;
-pub mod laws;
+mod laws;
 mod profile;
 mod recorder;
 mod simulated;
@@ -24,6 +24,7 @@ pub use kinds::{
     Configurable, Dimmer, Lock, Relay, Sensor, Strip, Switch, Thermostat, make_config, make_dimmer,
     make_lock, make_relay, make_sensor, make_strip, make_switch, make_thermostat,
 };
+pub use laws::{nonces_are_spent, sessions_rise, when_changes_come};
 pub use profile::Profile;
 pub use recorder::Recorder;
 pub use simulated::Simulated;
