@@ -9,8 +9,6 @@ mod field;
 mod key_schedule;
 mod state;
 mod substitution;
-#[cfg(test)]
-mod tests;
 
 pub use cipher::Aes128;
 pub use field::inverses_exist;

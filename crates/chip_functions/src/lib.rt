@@ -30,6 +30,3 @@ pub use reading::{read_notice, read_request, read_response};
 pub use request::{Request, TRANSMIT_OPTIONS};
 pub use response::{REFUSED, Response};
 pub use writing::{write_notice, write_request, write_response};
-
-#[cfg(test)]
-mod tests;

@@ -26,6 +26,3 @@ pub use class_fields::{
 pub use message::CoreMessage;
 pub use reading::{one_message, read};
 pub use writing::{head, put_fields, write};
-
-#[cfg(test)]
-mod tests;

@@ -26,6 +26,3 @@ pub use number::{Number, Size};
 pub use number_list::NumberList;
 pub use small::{Mode, Seconds, SetpointKind};
 pub use switch::{LockMode, Switch};
-
-#[cfg(test)]
-mod tests;

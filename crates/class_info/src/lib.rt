@@ -24,6 +24,3 @@ pub use reading::{one_message, read};
 pub use report_status::ReportStatus;
 pub use session::{SegmentOffset, SessionId, TransportId};
 pub use writing::write;
-
-#[cfg(test)]
-mod tests;

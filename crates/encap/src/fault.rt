@@ -36,25 +36,3 @@ impl From<NoMemory> for WrapFault {
         WrapFault::NoMemory
     }
 }
-
-#[cfg(test)]
-mod tests {
-    use super::*;
-
-    #[test]
-    fn shows_its_name(rt: HostRuntime) -> Result<(), std::test::Fail> {
-        let table = [
-            (WrapFault::OutOfOrder(0x60), "outoforder"),
-            (WrapFault::Length { said: 1, got: 0 }, "length"),
-            (WrapFault::BadCrc { want: 1, got: 2 }, "badcrc"),
-            (WrapFault::TooLong(256), "toolong"),
-            (WrapFault::BitAddress, "bitaddress"),
-            (WrapFault::NoMemory, "nomemory"),
-        ];
-        for (fault, want) in table {
-            let text = format!(in rt.alloc(); "{fault}")?;
-            assert_eq!(rt; text.as_str(), want);
-        }
-        Ok(())
-    }
-}

@@ -11,8 +11,6 @@ mod fault;
 mod layers;
 mod opening;
 mod plan;
-#[cfg(test)]
-mod tests;
 mod wrappable;
 mod wrapping;
 

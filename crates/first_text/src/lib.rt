@@ -13,8 +13,6 @@ mod laws;
 mod line;
 mod print;
 mod read;
-#[cfg(test)]
-mod tests;
 
 pub use entry::{Ended, Entry, Outcome, Refusal, Side};
 pub use fault::{LineFault, ReadLineFault};

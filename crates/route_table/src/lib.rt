@@ -11,6 +11,3 @@ mod table;
 
 pub use route::{MAX_REPEATERS, Route};
 pub use table::RouteTable;
-
-#[cfg(test)]
-mod tests;

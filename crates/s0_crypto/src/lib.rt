@@ -14,8 +14,6 @@ mod key_stream;
 mod network_keys;
 mod opening;
 mod sealing;
-#[cfg(test)]
-mod tests;
 
 pub use ends::SealEnds;
 pub use fault::SealFault;

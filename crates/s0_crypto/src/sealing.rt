@@ -1,6 +1,6 @@
 //! Sealing.
 
-ghost use Rattle.std.specs.Prelude.{◌≡◌, ◌≤◌, ◌∷◌, ◌++◌, length, IfOk};
+ghost use Rattle.std.specs.Prelude.{◌≡◌, ◌≤◌, ◌+◌, ◌∷◌, ◌++◌, length, IfOk};
 ghost use Rattle.s0_crypto.specs.Modes.{ofb};
 ghost use Rattle.s0_crypto.specs.Seal.{Seals};
 
@@ -41,7 +41,8 @@ pub fn seal(
     plain: &[u8],
 ) -> Result<Bytes, NoMemory>
     requires { length plain.now ≤ 26 }
-    ensures { IfOk result (λ bytes. Seals keys.now sender_nonce receiver_nonce ends.now plain.now bytes) }
+    ensures seals { IfOk result (λ bytes. Seals keys.now sender_nonce receiver_nonce ends.now plain.now bytes) }
+    ensures short { IfOk result (λ bytes. length bytes ≤ length plain.now + 20) }
 {
     let vector = join(&sender_nonce, &receiver_nonce);
     let text = encipher(alloc, &keys.encrypt, &vector, plain)?;

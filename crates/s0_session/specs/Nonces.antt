@@ -1,6 +1,7 @@
 -- The nonces that one side gives, by node (Z-Wave Security 0 Command Class: Nonce Get and Nonce Report; the counts are
 -- this project's own rule, docs/SECURITY.md).
-use Rattle.std.specs.Prelude.{ℕ, ◌+◌, ◌%◌, ◌==◌, if◌then◌else◌, Option, Some, None, List, ◌∷◌, drop, slice_index, slice_index_or}
+use Rattle.std.specs.Prelude.{◌≡◌, ◌<◌, ℕ, ◌+◌, ◌%◌, ◌==◌, if◌then◌else◌, Option, Some, None, List, ◌∷◌, drop, slice_index, slice_index_or}
+use Rattle.std.specs.Option.{ForSome}
 use Rattle.s0_session.specs.declared.account.Account.{Account}
 
 -- an account of which no nonce was given
@@ -59,3 +60,11 @@ nonce_spent account first = with_first account.live first
 -- the account after a message named a first byte: the nonce with it is live no more
 abbrev pub after_spend : Account → ℕ → Account
 after_spend account first = record { given = account.given; live = live_after account.live first }
+
+-- the account that was kept: so many nonces were given, and this one is live
+abbrev pub restored_account : ℕ → Option (List ℕ) → Account
+restored_account given live = record { given = given; live = live }
+
+-- a live nonce was given: it has the first byte that the count has
+abbrev pub IsRestorable : ℕ → Option (List ℕ) → Type 0
+IsRestorable given live = ForSome live (λ nonce. (0 < given) × (slice_index nonce 0 ≡ given % 256))

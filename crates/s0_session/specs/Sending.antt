@@ -25,6 +25,12 @@ taken_from None seen first = None
 abbrev pub taken : Sending → ℕ → Option ℕ
 taken state first = taken_from state.pending state.seen first
 
+-- bytes seal the pending plain text for a nonce
+pub record WouldSeal (state : Sending) (keys : Keys) (own_nonce nonce bytes : List ℕ) : Type 0 where
+  pub plain : List ℕ
+  pub is_pending : state.pending ≡ Some plain
+  pub seals : Seals keys own_nonce nonce state.ends plain bytes
+
 -- a nonce is taken: the pending plain text is sealed for it, and is pending no longer
 pub record SealsPending (old : Sending) (keys : Keys) (own_nonce nonce bytes : List ℕ) (new : Sending) : Type 0 where
   pub plain : List ℕ

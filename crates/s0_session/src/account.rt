@@ -10,7 +10,7 @@ pub struct Account {
 }
 
 impl Account {
-    ghost use Rattle.s0_session.specs.Nonces.{unused, nonce_given, after_give, nonce_spent, after_spend};
+    ghost use Rattle.s0_session.specs.Nonces.{unused, nonce_given, after_give, nonce_spent, after_spend, restored_account};
 
     /// No nonce was given.
     pub fn new() -> Account
@@ -22,11 +22,25 @@ impl Account {
         }
     }
 
+    /// So many nonces were given, and this one is live.
+    pub(crate) fn restored(given: u64, live: Option<[u8; 8]>) -> Account
+        ensures { result ≡ restored_account given live }
+    {
+        Account { given, live }
+    }
+
     /// How many nonces were given.
     pub fn given(&self) -> u64
         ensures { result ≡ self.now.given }
     {
         self.given
+    }
+
+    /// The nonce that is live.
+    pub(crate) fn live(&self) -> Option<[u8; 8]>
+        ensures { result ≡ self.now.live }
+    {
+        self.live
     }
 
     /// The live nonce, or a new one, which is live then.

@@ -1,7 +1,7 @@
 //! The nonces that one side gives, by node.
 
 ghost use Rattle.std.specs.Prelude.{◌≡◌, ◌+◌, ◌^◌, ◌<◌, replicate, slice_index, slice_set, IfOk, IfSome};
-ghost use Rattle.s0_session.specs.Nonces.{unused, account_of, given_of, nonce_given, after_give, nonce_spent, after_spend};
+ghost use Rattle.s0_session.specs.Nonces.{unused, account_of, given_of, live_of, nonce_given, after_give, nonce_spent, after_spend, restored_account, IsRestorable};
 
 use crate::Account;
 use std::alloc::Global;
@@ -67,5 +67,21 @@ impl NonceBook {
     {
         let peer = peer.number() as usize;
         self.accounts[peer].given()
+    }
+    /// The nonce of a node that is live.
+    pub fn live(&self, peer: NodeId) -> Option<[u8; 8]>
+        ensures { result ≡ live_of self.now peer }
+    {
+        let peer = peer.number() as usize;
+        self.accounts[peer].live()
+    }
+
+    /// Sets what was kept of a node: how many nonces were given to it, and the one that is live.
+    pub fn restore(&mut self, peer: NodeId, given: u64, live: Option<[u8; 8]>)
+        requires { IsRestorable given live }
+        ensures { self.new ≡ slice_set self.old peer (restored_account given live) }
+    {
+        let peer = peer.number() as usize;
+        self.accounts[peer] = Account::restored(given, live);
     }
 }

@@ -9,8 +9,6 @@ mod account;
 mod book;
 mod calls;
 mod sender;
-#[cfg(test)]
-mod tests;
 
 pub use account::Account;
 pub use book::NonceBook;

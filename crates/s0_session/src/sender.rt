@@ -1,7 +1,7 @@
 //! Plain texts that wait for a nonce of their receiver.
 
-ghost use Rattle.std.specs.Prelude.{◌≡◌, ◌≤◌, ◌^◌, ◌<◌, ◌↔◌, Option, Some, None, List, ℕ, length, slice_index, IfOk, OnErr};
-ghost use Rattle.s0_session.specs.Sending.{seen_after, taken, SealsPending};
+ghost use Rattle.std.specs.Prelude.{◌≡◌, ◌≤◌, ◌^◌, ◌<◌, ◌↔◌, Option, Some, None, IsSome, IsTrue, List, ℕ, length, slice_index, IfOk, OnErr};
+ghost use Rattle.s0_session.specs.Sending.{seen_after, taken, SealsPending, WouldSeal};
 
 use s0_crypto::{Keys, SealEnds, seal};
 use std::alloc::Global;
@@ -82,15 +82,51 @@ impl Sender {
         ensures sealed { (bytes : List ℕ) → result ≡ Ok (Some bytes) → SealsPending self.old keys.now drawn nonce bytes self.new }
         ensures err { OnErr result (self.new ≡ self.old) }
     {
+        let Some(seen) = self.count_at(nonce[0])? else {
+            return Ok(None);
+        };
+        let Some(bytes) = self.seal_pending(keys, nonce, drawn)? else {
+            return Ok(None);
+        };
+        self.seen = seen;
+        self.pending = None;
+        Ok(Some(bytes))
+    }
+
+    /// Whether a plain text is pending.
+    pub fn is_pending(&self) -> bool
+        ensures { IsTrue result ↔ IsSome self.now.pending }
+    {
+        self.pending.is_some()
+    }
+
+    /// How many nonces count as seen once one with that first byte is taken, where it would be.
+    pub fn count_at(&self, first: u8) -> Result<Option<u64>, NoMemory>
+        ensures ok { IfOk result (λ after. after ≡ taken self.now first) }
+        ensures err { OnErr result (taken self.now first ≡ Some (2 ^ 64)) }
+    {
+        if self.pending.is_none() {
+            return Ok(None);
+        }
+        count_after(self.seen, first)
+    }
+
+    /// The message that seals the pending plain text under a nonce of the receiver and `drawn`, the sender's own. It
+    /// stays pending.
+    pub fn seal_pending(
+        &self,
+        keys: &Keys,
+        nonce: [u8; 8],
+        drawn: [u8; 8],
+    ) -> Result<Option<Bytes>, NoMemory>
+        ensures nothing { (result ≡ Ok None) ↔ (self.now.pending ≡ None) }
+        ensures sealed { (bytes : List ℕ) → result ≡ Ok (Some bytes) → WouldSeal self.now keys.now drawn nonce bytes }
+        ensures short { (bytes : List ℕ) → result ≡ Ok (Some bytes) → length bytes ≤ 46 }
+    {
         let Some(plain) = &self.pending else {
             return Ok(None);
         };
-        let Some(seen) = count_after(self.seen, nonce[0])? else {
-            return Ok(None);
-        };
         let bytes = seal(self.alloc, keys, drawn, nonce, &self.ends, plain.as_slice())?;
-        self.seen = seen;
-        self.pending = None;
         Ok(Some(bytes))
     }
 
@@ -99,5 +135,18 @@ impl Sender {
         ensures { self.new ≡ record self.old { pending = None } }
     {
         let _dropped = self.pending.take();
+    }
+    /// How many nonces of the receiver were seen.
+    pub fn seen(&self) -> u64
+        ensures { result ≡ self.now.seen }
+    {
+        self.seen
+    }
+
+    /// Sets how many nonces of the receiver were seen.
+    pub fn restore(&mut self, count: u64)
+        ensures { self.new ≡ record self.old { seen = count } }
+    {
+        self.seen = count;
     }
 }

@@ -56,6 +56,20 @@ impl Decoder {
         }
     }
 
+    /// A decoder with the same unfinished frame. It takes no memory.
+    pub fn copy(&self) -> Decoder
+        ensures state { result ≡ self.now }
+        ensures is_rest { IsRest result }
+    {
+        Decoder {
+            alloc: self.alloc,
+            held: self.held,
+            len: self.len,
+            sum: self.sum,
+            ticks: self.ticks,
+        }
+    }
+
     /// The number of bytes of the unfinished frame, 0 to 256.
     pub fn rest(&self) -> u16
         ensures bytes { result ≡ length self.now.bytes }

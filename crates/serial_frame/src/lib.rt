@@ -18,6 +18,3 @@ pub use frame::{Frame, Kind, MAX_BODY};
 pub use item::{Item, Refusal};
 pub use law::{one_byte_changed, one_reading, one_splitting};
 pub use unit::{ACK, CAN, NAK, SOF, Unit, encode};
-
-#[cfg(test)]
-mod tests;

@@ -24,7 +24,7 @@ ticks_after-append ticks [] b = refl
 ticks_after-append ticks (item ∷ a) [] = refl
 ticks_after-append ticks (item ∷ a) (other ∷ b) = refl
 
-feeds-append : (old : Rest) (a : List ℕ) (mid : Rest) (i : List Item) (b : List ℕ) (new : Rest) (j : List Item) → Feeds old a mid i → Feeds mid b new j → Feeds old (a ++ b) new (i ++ j)
+pub feeds-append : (old : Rest) (a : List ℕ) (mid : Rest) (i : List Item) (b : List ℕ) (new : Rest) (j : List Item) → Feeds old a mid i → Feeds mid b new j → Feeds old (a ++ b) new (i ++ j)
 feeds-append old a mid i b new j first later =
     record {
       reads = subst (λ (t : List ℕ). Reads t (i ++ j) new.bytes) (append_assoc old.bytes a b) (reads-append (old.bytes ++ a) i mid.bytes b j new.bytes first.reads later.reads);

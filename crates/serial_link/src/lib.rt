@@ -13,6 +13,3 @@ mod turn;
 pub use link::Link;
 pub use out::{LinkOut, SubmitFault};
 pub use turn::Turn;
-
-#[cfg(test)]
-mod tests;

@@ -1,8 +1,9 @@
 //! One side of the serial link.
 
-ghost use Rattle.std.specs.Prelude.{◌≡◌, ◌↔◌, ◌+◌, ◌-◌, ◌^◌, ◌<◌, ◌≤◌, ◌++◌, [], ◌∷◌, false, nat_lt, IsTrue, IfOk, OnOk, OnErr};
-ghost use Rattle.serial_frame.specs.Stream.{mark, after_tick};
-ghost use Rattle.serial_link.specs.State.{fresh, IsBusy, IsTurn, answer, turn_heard, outs_heard, collisions_after, hear_all, tick_side, submitted_link};
+ghost use Rattle.std.specs.Prelude.{◌≡◌, ◌↔◌, ◌+◌, ◌-◌, ◌^◌, ◌<◌, ◌≤◌, ◌++◌, [], ◌∷◌, false, nat_lt, length, IsTrue, IfOk, OnOk, OnErr, OnSome};
+ghost use Rattle.serial_frame.specs.Stream.{mark, after_tick, IsRest, FeedsOne};
+ghost use Rattle.serial_link.specs.State;
+ghost use Rattle.serial_link.specs.State.{copy_due, fresh, IsBusy, IsTurn, answer, turn_heard, outs_heard, collisions_after, hear_all, tick_side, submitted_link};
 ghost use Rattle.serial_link.specs.Rules.{Obeys, KeepsRules, outs_of, asked};
 ghost use Rattle.serial_link.specs.Calls.{Takes, OnlyTakes, TakesFront, TakesOne, submit_step, aborted_at, tick_steps};
 
@@ -142,6 +143,82 @@ impl Link {
         }
         turn::tick(&mut self.turn, copy, out);
         Ok(())
+    }
+}
+
+// Events whose memory the caller takes first: these calls put nothing out, and the caller writes what is due.
+impl Link {
+    /// True exactly where the next good frame is to be answered CAN.
+    pub fn collides(&self) -> bool
+        ensures { result ≡ nat_lt 0 self.now.side.collisions }
+    {
+        self.collisions > 0
+    }
+
+    /// What is unfinished of the other side.
+    pub fn decoder(&self) -> Decoder
+        ensures state { result ≡ self.now.decoder }
+        ensures is_rest { IsRest result }
+    {
+        self.decoder.copy()
+    }
+
+    /// Goes back to what was unfinished before an item that is not heard now.
+    pub fn go_back(&mut self, decoder: Decoder)
+        requires { IsRest decoder }
+        ensures { self.new ≡ record self.old { decoder = decoder } }
+    {
+        self.decoder = decoder;
+    }
+
+    /// Takes the bytes up to the end of the first item, which is to be heard, or all of them. The answer is that item
+    /// and the bytes that were not taken.
+    pub fn next_item<'a>(&mut self, piece: &'a [u8]) -> Result<(Option<Item>, &'a [u8]), NoMemory>
+        ensures feeds { IfOk result (λ found. FeedsOne self.old.decoder piece.now self.new.decoder found.0 found.1.now) }
+        ensures shorter { IfOk result (λ found. OnSome found.0 (length found.1.now < length piece.now)) }
+        ensures side { self.new.side ≡ self.old.side }
+        ensures err { OnErr result (self.new ≡ self.old) }
+    {
+        self.decoder.next_item(piece)
+    }
+
+    /// An item is heard.
+    pub fn heard(&mut self, item: &Item)
+        ensures { self.new ≡ record self.old { side = State.hear self.old.side item.now } }
+    {
+        match item {
+            Item::Good(Unit::Ack) => self.turn = Turn::Idle,
+            Item::Good(Unit::Nak) | Item::Good(Unit::Can) => self.turn.end_refused(),
+            Item::Good(Unit::Framed(_)) => self.collisions = self.collisions.saturating_sub(1),
+            Item::Refused(_) => {}
+        }
+    }
+
+    /// Submits a frame, of which the caller writes the first copy.
+    pub fn begin(&mut self, frame: Frame)
+        requires { ¬ IsBusy self.old.side.turn }
+        ensures { self.new ≡ submitted_link self.old frame }
+    {
+        self.turn = Turn::Copied {
+            frame,
+            copies: 1,
+            ticks: 0,
+        };
+    }
+
+    /// The copy that the next tick writes.
+    pub fn next_copy(&self) -> Result<Option<Frame>, NoMemory>
+        ensures { IfOk result (λ copy. copy ≡ copy_due self.now.side.turn) }
+    {
+        turn::next_copy(self.alloc, &self.turn)
+    }
+
+    /// A tick passes. The caller writes the copy that is due.
+    pub fn ticked(&mut self)
+        ensures { self.new ≡ record { decoder = after_tick self.old.decoder; side = tick_side self.old.side } }
+    {
+        self.decoder.tick();
+        self.turn.tick();
     }
 }
 

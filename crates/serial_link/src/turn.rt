@@ -40,6 +40,39 @@ impl Turn {
     {
         !matches!(self, Turn::Idle)
     }
+
+    /// NAK or CAN ends a copy, and means nothing in a pause.
+    pub(crate) fn end_refused(&mut self)
+        requires { IsTurn self.old }
+        ensures turn { self.new ≡ turn_refused self.old }
+        ensures valid { IsTurn self.new }
+    {
+        *self = match mem::replace(self, Turn::Idle) {
+            Turn::Copied { frame, copies, .. } => end_copy(frame, copies),
+            other => other,
+        };
+    }
+
+    /// A tick passes.
+    pub(crate) fn tick(&mut self)
+        requires { IsTurn self.old }
+        ensures turn { self.new ≡ turn_ticked self.old }
+        ensures valid { IsTurn self.new }
+    {
+        *self = match mem::replace(self, Turn::Idle) {
+            Turn::Idle => Turn::Idle,
+            Turn::Copied {
+                frame,
+                copies,
+                ticks,
+            } => tick_copy(frame, copies, ticks),
+            Turn::Paused {
+                frame,
+                copies,
+                ticks,
+            } => tick_pause(frame, copies, ticks),
+        };
+    }
 }
 
 /// The pause after so many copies.
@@ -73,30 +106,37 @@ pub(crate) fn refuse(turn: &mut Turn, out: &mut List<LinkOut>)
     ensures valid { IsTurn turn.new }
     ensures outs { out.new.items ≡ out.old.items ++ outs_refused turn.old }
 {
-    *turn = match mem::replace(turn, Turn::Idle) {
-        Turn::Copied { frame, copies, .. } => end_copy(frame, copies, out),
-        other => other,
-    };
+    if let Turn::Copied { copies, .. } = turn {
+        tell_end(*copies, out);
+    }
+    turn.end_refused();
 }
 
-/// A copy ended without ACK.
-fn end_copy(frame: Frame, copies: u8, out: &mut List<LinkOut>) -> Turn
+/// A copy ends without ACK, which is told of the last one.
+fn tell_end(copies: u8, out: &mut List<LinkOut>)
+    requires { 0 < out.old.room }
+    ensures { out.new.items ≡ out.old.items ++ outs_ended copies }
+{
+    if copies == MAX_COPIES {
+        out.put(LinkOut::Failed(copies));
+    }
+}
+
+/// What follows a copy that ended without ACK.
+fn end_copy(frame: Frame, copies: u8) -> Turn
     requires some { 1 ≤ copies }
     requires few { copies ≤ 4 }
-    requires room { 0 < out.old.room }
     ensures turn { result ≡ turn_ended frame copies }
     ensures valid { IsTurn result }
-    ensures outs { out.new.items ≡ out.old.items ++ outs_ended copies }
 {
-    if copies < MAX_COPIES {
-        return Turn::Paused {
-            frame,
-            copies,
-            ticks: 0,
-        };
+    if copies == MAX_COPIES {
+        return Turn::Idle;
     }
-    out.put(LinkOut::Failed(copies));
-    Turn::Idle
+    Turn::Paused {
+        frame,
+        copies,
+        ticks: 0,
+    }
 }
 
 /// A tick, with the copy that it writes.
@@ -108,19 +148,25 @@ pub(crate) fn tick(turn: &mut Turn, copy: Option<Frame>, out: &mut List<LinkOut>
     ensures valid { IsTurn turn.new }
     ensures outs { out.new.items ≡ out.old.items ++ outs_ticked turn.old }
 {
-    *turn = match mem::replace(turn, Turn::Idle) {
-        Turn::Idle => Turn::Idle,
-        Turn::Copied {
-            frame,
-            copies,
-            ticks,
-        } => tick_copy(frame, copies, ticks, out),
-        Turn::Paused {
-            frame,
-            copies,
-            ticks,
-        } => tick_pause(frame, copies, ticks, copy, out),
-    };
+    tell_tick(turn, copy, out);
+    turn.tick();
+}
+
+/// What is put out at a tick, with the copy that it writes.
+fn tell_tick(turn: &Turn, copy: Option<Frame>, out: &mut List<LinkOut>)
+    requires valid { IsTurn turn.now }
+    requires copy { copy ≡ copy_due turn.now }
+    requires room { 0 < out.old.room }
+    ensures { out.new.items ≡ out.old.items ++ outs_ticked turn.now }
+{
+    match turn {
+        Turn::Copied { copies, ticks, .. } if *ticks + 1 == COPY_TICKS => tell_end(*copies, out),
+        _ => {
+            if let Some(copy) = copy {
+                out.put(LinkOut::Write(Unit::Framed(copy)));
+            }
+        }
+    }
 }
 
 /// The copy that the next tick writes, if its pause ends then.
@@ -139,15 +185,13 @@ pub(crate) fn next_copy(alloc: Global, turn: &Turn) -> Result<Option<Frame>, NoM
 }
 
 /// A tick while a copy waits for ACK.
-fn tick_copy(frame: Frame, copies: u8, ticks: u8, out: &mut List<LinkOut>) -> Turn
+fn tick_copy(frame: Frame, copies: u8, ticks: u8) -> Turn
     requires valid { IsTurn (Turn.Copied frame copies ticks) }
-    requires room { 0 < out.old.room }
     ensures turn { result ≡ turn_ticked (Turn.Copied frame copies ticks) }
     ensures valid { IsTurn result }
-    ensures outs { out.new.items ≡ out.old.items ++ outs_ticked (Turn.Copied frame copies ticks) }
 {
     if ticks + 1 == COPY_TICKS {
-        return end_copy(frame, copies, out);
+        return end_copy(frame, copies);
     }
     Turn::Copied {
         frame,
@@ -157,33 +201,21 @@ fn tick_copy(frame: Frame, copies: u8, ticks: u8, out: &mut List<LinkOut>) -> Tu
 }
 
 /// A tick in a pause.
-fn tick_pause(
-    frame: Frame,
-    copies: u8,
-    ticks: u8,
-    copy: Option<Frame>,
-    out: &mut List<LinkOut>,
-) -> Turn
+fn tick_pause(frame: Frame, copies: u8, ticks: u8) -> Turn
     requires valid { IsTurn (Turn.Paused frame copies ticks) }
-    requires copy { copy ≡ copy_due (Turn.Paused frame copies ticks) }
-    requires room { 0 < out.old.room }
     ensures turn { result ≡ turn_ticked (Turn.Paused frame copies ticks) }
     ensures valid { IsTurn result }
-    ensures outs { out.new.items ≡ out.old.items ++ outs_ticked (Turn.Paused frame copies ticks) }
 {
-    match copy {
-        Some(copy) => {
-            out.put(LinkOut::Write(Unit::Framed(copy)));
-            Turn::Copied {
-                frame,
-                copies: copies + 1,
-                ticks: 0,
-            }
-        }
-        None => Turn::Paused {
+    if ticks + 1 == pause_after(copies) {
+        return Turn::Copied {
             frame,
-            copies,
-            ticks: ticks + 1,
-        },
+            copies: copies + 1,
+            ticks: 0,
+        };
+    }
+    Turn::Paused {
+        frame,
+        copies,
+        ticks: ticks + 1,
     }
 }

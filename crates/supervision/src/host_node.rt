@@ -80,9 +80,20 @@ impl HostNode {
         ensures book { self.new.book ≡ self.old.book }
         ensures ok { OnOk result (0 < self.new.room) }
         ensures full { OnErr result (self.old.room ≡ 0) }
+        ensures grows { self.old.room ≤ self.new.room }
         ensures err { OnErr result (self.new ≡ self.old) }
     {
         self.commands.reserve(1)?;
+        Ok(())
+    }
+
+    /// Makes room for so many more sessions.
+    pub fn reserve_for(&mut self, sessions: usize) -> Result<(), NoMemory>
+        ensures book { self.new.book ≡ self.old.book }
+        ensures ok { OnOk result (sessions ≤ self.new.room) }
+        ensures err { OnErr result (self.new ≡ self.old) }
+    {
+        self.commands.reserve(sessions)?;
         Ok(())
     }
 
@@ -94,8 +105,9 @@ impl HostNode {
             (result ≡ Err (BeginFault.StillBegun session)) ↔ (open_session self.old.book ≡ Some session) }
         ensures err { OnErr result (self.new ≡ self.old) }
 
-        // After `reserve` it cannot fail for want of memory.
+        // After `reserve` it cannot fail for want of memory, and it takes up one place.
         ensures room { 0 < self.old.room → result ≢ Err BeginFault.NoMemory }
+        ensures places { self.old.room ≤ self.new.room + 1 }
     {
         if let Some(session) = self.current() {
             return Err(BeginFault::StillBegun(session));

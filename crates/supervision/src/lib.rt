@@ -12,8 +12,6 @@ mod device_book;
 mod host_node;
 mod laws;
 mod session;
-#[cfg(test)]
-mod tests;
 
 pub use device_book::{DeviceBook, Heard};
 pub use host_node::{BeginFault, HostNode, MAX_ATTEMPTS, Told};

@@ -12,8 +12,6 @@ mod fault;
 mod laws;
 mod places;
 mod segment;
-#[cfg(test)]
-mod tests;
 
 pub use assembler::{Assembler, Taken};
 pub use cutting::{SEGMENT_LEN, cut};

@@ -10,8 +10,6 @@ mod entries;
 mod json;
 mod store;
 mod stored;
-#[cfg(test)]
-mod tests;
 
 pub use store::{MAX_PROPERTIES, Store};
 pub use stored::{Held, StoreFault, Stored};

@@ -1,7 +1,7 @@
 //! A queue of command numbers that is bounded.
 
-ghost use Rattle.std.specs.Prelude.{◌≡◌, ◌++◌, ◌∷◌, [], ◌<◌, ◌≤◌, ◌↔◌, length, slice_get, drop, Contains, ◌==◌, position, IsSome, IsTrue, IsOk, IsErr, IfOk, OnOk, OnErr};
-ghost use Rattle.wake_mailbox.specs.Mailbox.{nothing_waits, holding, TakesOut};
+ghost use Rattle.std.specs.Prelude.{◌≡◌, ℕ, ◌-◌, ◌++◌, ◌∷◌, [], ◌<◌, ◌≤◌, ◌↔◌, length, slice_get, drop, Contains, ◌==◌, position, IsSome, IsTrue, IsOk, IsErr, IfOk, OnOk, OnErr};
+ghost use Rattle.wake_mailbox.specs.Mailbox.{last_of, without_last, nothing_waits, holding, counting, ticked, ticked_by, TakesOut, Waiting as TheWaiting};
 
 use std::alloc::Global;
 use std::marker::Model;
@@ -9,6 +9,9 @@ use zw_base::NoMemory;
 
 /// The most commands that wait for one node.
 pub const CAPACITY: usize = 16;
+
+/// How many ticks of 100 ms a node is held awake.
+pub const HOLD_TICKS: u8 = 100;
 
 /// Sixteen commands wait already.
 #[derive(Clone, Copy, Debug, PartialEq, Eq)]
@@ -18,20 +21,22 @@ pub struct Full;
 #[derive(Clone, Copy, Debug, PartialEq, Eq)]
 pub struct NotWaiting;
 
-/// The commands that wait for a node, by number, and whether the node counts as awake. Contracts see the two.
+/// The commands that wait for a node, by number, whether the node counts as awake, and for how many more ticks it is held
+/// awake. Contracts see the three.
 #[derive(Debug, Drop)]
 pub struct Mailbox {
     commands: Vec<u32>,
     awake: bool,
+    hold: u8,
 }
 
 impl Model for Mailbox {
     ghost use Rattle.std.specs.Prelude.{◌≤◌, vec_len, vec_capacity};
-    ghost use Rattle.wake_mailbox.specs.Mailbox.{Waiting};
+    ghost use Rattle.wake_mailbox.specs.Mailbox.{last_of, without_last, Waiting};
 
     ghost Value = { Waiting };
 
-    ghost view = { λ m. record { commands = m.commands.items; awake = m.awake } };
+    ghost view = { λ m. record { commands = m.commands.items; awake = m.awake; hold = m.hold } };
 
     ghost invariant = { λ m. (vec_len m.commands ≤ 16) × (16 ≤ vec_capacity m.commands) };
 }
@@ -44,6 +49,7 @@ impl Mailbox {
         Ok(Mailbox {
             commands: Vec::with_capacity(alloc, CAPACITY)?,
             awake: false,
+            hold: 0,
         })
     }
 
@@ -85,6 +91,7 @@ impl Mailbox {
         ensures ok { OnOk result (TakesOut self.old.commands self.new.commands command) }
         ensures err { OnErr result (self.new.commands ≡ self.old.commands) }
         ensures awake { self.new.awake ≡ self.old.awake }
+        ensures hold { self.new.hold ≡ self.old.hold }
     {
         match place_of(&self.commands, command) {
             Some(place) => {
@@ -93,6 +100,21 @@ impl Mailbox {
             }
             None => Err(NotWaiting),
         }
+    }
+
+    /// Takes out the command that was put last.
+    pub fn take_back(&mut self) -> Option<u32>
+        ensures last { result ≡ last_of self.old.commands }
+        ensures rest { self.new ≡ holding self.old (without_last self.old.commands) }
+    {
+        self.commands.pop()
+    }
+
+    /// Whether that command waits.
+    pub fn waits(&self, command: u32) -> bool
+        ensures { IsTrue result ↔ Contains self.now.commands command }
+    {
+        place_of(&self.commands, command).is_some()
     }
 
     /// How many commands wait, 0 to 16.
@@ -110,11 +132,14 @@ impl Mailbox {
         self.commands.is_empty()
     }
 
-    /// Counts the node as awake or asleep from now on.
+    /// Counts the node as awake or asleep from now on. Where it is asleep it is held no longer.
     pub fn set_awake(&mut self, awake: bool)
-        ensures { self.new ≡ record self.old { awake = awake } }
+        ensures { self.new ≡ counting self.old awake }
     {
         self.awake = awake;
+        if !awake {
+            self.hold = 0;
+        }
     }
 
     /// Whether the node counts as awake.
@@ -122,6 +147,27 @@ impl Mailbox {
         ensures { result ≡ self.now.awake }
     {
         self.awake
+    }
+
+    /// Holds the node awake for the next hundred ticks.
+    pub fn hold(&mut self)
+        ensures { self.new ≡ record self.old { hold = HOLD_TICKS } }
+    {
+        self.hold = HOLD_TICKS;
+    }
+
+    /// Counts one tick of 100 ms.
+    pub fn tick(&mut self)
+        ensures { self.new ≡ ticked self.old }
+    {
+        self.hold = self.hold.saturating_sub(1);
+    }
+
+    /// Whether the node is held awake.
+    pub fn is_held(&self) -> bool
+        ensures { IsTrue result ↔ (0 < self.now.hold) }
+    {
+        self.hold > 0
     }
 }
 
@@ -132,3 +178,12 @@ fn place_of(commands: &[u32], command: u32) -> Option<usize>
 {
     commands.iter().position(|waiting| *waiting == command)
 }
+
+/// A hold lasts until its hundredth tick: whatever was held before, so many ticks later the node is held exactly where
+/// they are fewer than a hundred.
+pub fn a_hold_lasts_a_hundred_ticks()
+    ensures left { (mailbox : TheWaiting) (ticks : ℕ)
+        → (ticked_by ticks (record mailbox { hold = HOLD_TICKS })).hold ≡ HOLD_TICKS - ticks }
+    ensures held { (mailbox : TheWaiting) (ticks : ℕ)
+        → (0 < (ticked_by ticks (record mailbox { hold = HOLD_TICKS })).hold) ↔ (ticks < HOLD_TICKS) }
+{}

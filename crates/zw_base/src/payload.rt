@@ -1,6 +1,6 @@
 //! Payloads of radio frames, and the replies that a device gives in one call.
 
-ghost use Rattle.std.specs.Prelude.{◌≡◌, ℕ, List as Items, [], ◌∷◌, ◌++◌, ◌<◌, ◌≤◌, length, slice_get, IfOk, IsTrue, ◌↔◌};
+ghost use Rattle.std.specs.Prelude.{◌≡◌, ℕ, List as Items, [], ◌∷◌, ◌++◌, ◌<◌, ◌≤◌, length, slice_get, IfOk, IfSome, IsTrue, ◌↔◌};
 ghost use Rattle.std.specs.Option.{SomeIff, option_copied};
 
 use crate::{List, NoMemory};
@@ -93,7 +93,8 @@ impl Replies {
 
     /// The payload at that place, counted from 0.
     pub fn get(&self, at: u8) -> Option<&[u8]>
-        ensures { option_copied result ≡ slice_get self.now at }
+        ensures value { option_copied result ≡ slice_get self.now at }
+        ensures to_max { IfSome result (λ payload. length payload.now ≤ 46) }
     {
         match self.payloads.as_slice().get(at as usize) {
             Some(payload) => Some(payload.bytes()),

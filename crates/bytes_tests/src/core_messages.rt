@@ -1,0 +1,96 @@
+//! Rows both ways, what is ignored, and the first fault, as tables.
+
+mod tables;
+
+use crate::parts::{pair, part};
+use class_core::{read, write};
+use class_fields::ClassFault;
+use std::alloc::Global;
+use std::test::*;
+use tables::{FAULTS, LOOSE, ROWS};
+use zw_base::Bytes;
+
+/// The written form of what the bytes spell.
+fn again(alloc: Global, bytes: &[u8]) -> Result<Bytes, ClassFault> {
+    let message = read(alloc, bytes)?;
+    Ok(write(alloc, &message)?)
+}
+
+fn fault(told: &[u8]) -> Option<ClassFault> {
+    match told {
+        [0] => Some(ClassFault::Empty),
+        [1, class] => Some(ClassFault::UnknownClass(*class)),
+        [2, class, command] => Some(ClassFault::UnknownCommand(*class, *command)),
+        [3, need] => Some(ClassFault::Short(u16::from(*need))),
+        [4, at] => Some(ClassFault::BadValue(u16::from(*at))),
+        _ => None,
+    }
+}
+
+#[test]
+fn rows_both_ways(rt: HostRuntime) -> Result<(), Fail> {
+    let mut table: &[u8] = ROWS;
+    for _ in 0..ROWS.len() {
+        let Some((row, rest)) = part(table) else {
+            break;
+        };
+        let form = again(rt.alloc(), row)?;
+        assert_eq!(rt; form.as_slice(), row);
+        table = rest;
+    }
+    assert!(rt; table.is_empty());
+    Ok(())
+}
+
+#[test]
+fn what_is_ignored(rt: HostRuntime) -> Result<(), Fail> {
+    let mut table: &[u8] = LOOSE;
+    for _ in 0..LOOSE.len() {
+        let Some((row, form, rest)) = pair(table) else {
+            break;
+        };
+        let written = again(rt.alloc(), row)?;
+        assert_eq!(rt; written.as_slice(), form);
+        table = rest;
+    }
+    assert!(rt; table.is_empty());
+    Ok(())
+}
+
+#[test]
+fn first_fault(rt: HostRuntime) {
+    let mut table: &[u8] = FAULTS;
+    for _ in 0..FAULTS.len() {
+        let Some((row, told, rest)) = pair(table) else {
+            break;
+        };
+        let found = read(rt.alloc(), row).err();
+        assert!(rt; found.is_some());
+        assert_eq!(rt; found, fault(told));
+        table = rest;
+    }
+    assert!(rt; table.is_empty());
+}
+
+/// The longest message that is no list of nodes: 255 numbers of four bytes.
+fn bulk() -> [u8; 1026] {
+    let mut bulk = [1; 1026];
+    bulk[..6].copy_from_slice(b"\x70\x07\x01\x01\xFF\x04");
+    bulk
+}
+
+/// The fault of the bytes without the last one.
+fn fault_of_front(alloc: Global, bytes: &[u8]) -> Option<ClassFault> {
+    let (_last, front) = bytes.split_last()?;
+    read(alloc, front).err()
+}
+
+#[test]
+fn greatest_bulk(rt: HostRuntime) -> Result<(), Fail> {
+    let bulk = bulk();
+    let form = again(rt.alloc(), &bulk)?;
+    assert!(rt; form.as_slice() == bulk.as_slice());
+    let short = fault_of_front(rt.alloc(), &bulk);
+    assert!(rt; short == Some(ClassFault::Short(1026)));
+    Ok(())
+}

@@ -1,0 +1,275 @@
+//! Links driven by hand: what is put out, unit by unit.
+
+use serial_frame::{Frame, Kind, Refusal, Unit, encode};
+use serial_link::*;
+use std::alloc::Global;
+use std::test::Fail;
+use zw_base::{Bytes, List, NoMemory};
+
+/// What a test expects to be put out.
+enum Want {
+    Write(&'static [u8]),
+    Got(u8),
+    Sent,
+    Failed,
+    Bad(Refusal),
+}
+
+/// The request that tests submit, and its bytes.
+const REQUEST: [u8; 5] = [0x01, 0x03, 0x00, 0x15, 0xe9];
+
+fn request(alloc: Global) -> Frame {
+    Frame {
+        kind: Kind::Request,
+        func: 0x15,
+        body: Bytes::new(alloc),
+    }
+}
+
+fn writes(alloc: Global, unit: &Unit, text: &[u8]) -> Result<bool, NoMemory> {
+    Ok(encode(alloc, unit)?.as_slice() == text)
+}
+
+fn is_wanted(alloc: Global, out: &LinkOut, want: &Want) -> Result<bool, NoMemory> {
+    Ok(match (out, want) {
+        (LinkOut::Write(unit), Want::Write(text)) => writes(alloc, unit, text)?,
+        (LinkOut::Got(frame), Want::Got(func)) => frame.func == *func,
+        (LinkOut::Sent, Want::Sent) => true,
+        (LinkOut::Failed(copies), Want::Failed) => *copies == 4,
+        (LinkOut::Bad(refusal), Want::Bad(wanted)) => refusal == wanted,
+        _ => false,
+    })
+}
+
+/// Whether that is all that was put out. It is forgotten.
+fn was_put_out(alloc: Global, out: &mut List<LinkOut>, wants: &[Want]) -> Result<bool, NoMemory> {
+    let mut same = out.len() == wants.len();
+    for (one, want) in out.as_slice().iter().zip(wants) {
+        same = is_wanted(alloc, one, want)? && same;
+    }
+    out.clear();
+    Ok(same)
+}
+
+/// What a test does to a link.
+enum Act {
+    Submit,
+    Feed(&'static [u8]),
+    Tick(u8),
+}
+
+/// What is done, and what is put out at it and stands after it.
+struct Row {
+    act: Act,
+    outs: &'static [Want],
+    busy: bool,
+}
+
+const ROWS: [Row; 27] = [
+    // answers
+    Row {
+        act: Act::Feed(&[0x01, 0x03, 0x00, 0x15, 0xe9]),
+        outs: &[Want::Write(&[0x06]), Want::Got(0x15)],
+        busy: false,
+    },
+    // one byte of a request was changed on the way
+    Row {
+        act: Act::Feed(&[
+            0x01, 0x0e, 0x00, 0x13, 0x02, 0x06, 0x6c, 0x01, 0x01, 0x03, 0x25, 0x01, 0xff, 0x25,
+            0x01, 0x77,
+        ]),
+        outs: &[
+            Want::Write(&[0x15]),
+            Want::Bad(Refusal::BadSum {
+                want: 0x76,
+                got: 0x77,
+            }),
+        ],
+        busy: false,
+    },
+    Row {
+        act: Act::Feed(&[0x01, 0x03, 0x02, 0x15, 0xeb]),
+        outs: &[Want::Write(&[0x15]), Want::Bad(Refusal::BadKind(2))],
+        busy: false,
+    },
+    Row {
+        act: Act::Feed(&[0x01, 0x02, 0x00]),
+        outs: &[
+            Want::Bad(Refusal::BadLength(2)),
+            Want::Bad(Refusal::Stray(0)),
+        ],
+        busy: false,
+    },
+    // nothing is outstanding
+    Row {
+        act: Act::Feed(&[0x06, 0x15, 0x18]),
+        outs: &[],
+        busy: false,
+    },
+    // the first copy ends by its fifteenth tick, the second by NAK, the third by CAN
+    Row {
+        act: Act::Submit,
+        outs: &[Want::Write(&REQUEST)],
+        busy: true,
+    },
+    Row {
+        act: Act::Submit,
+        outs: &[],
+        busy: true,
+    },
+    Row {
+        act: Act::Tick(15),
+        outs: &[],
+        busy: true,
+    },
+    Row {
+        act: Act::Tick(1),
+        outs: &[Want::Write(&REQUEST)],
+        busy: true,
+    },
+    Row {
+        act: Act::Feed(&[0x15]),
+        outs: &[],
+        busy: true,
+    },
+    Row {
+        act: Act::Tick(10),
+        outs: &[],
+        busy: true,
+    },
+    Row {
+        act: Act::Tick(1),
+        outs: &[Want::Write(&REQUEST)],
+        busy: true,
+    },
+    Row {
+        act: Act::Feed(&[0x18, 0x15]),
+        outs: &[],
+        busy: true,
+    },
+    Row {
+        act: Act::Tick(20),
+        outs: &[],
+        busy: true,
+    },
+    Row {
+        act: Act::Tick(1),
+        outs: &[Want::Write(&REQUEST)],
+        busy: true,
+    },
+    Row {
+        act: Act::Tick(14),
+        outs: &[],
+        busy: true,
+    },
+    Row {
+        act: Act::Tick(1),
+        outs: &[Want::Failed],
+        busy: false,
+    },
+    // ACK in a pause
+    Row {
+        act: Act::Submit,
+        outs: &[Want::Write(&REQUEST)],
+        busy: true,
+    },
+    Row {
+        act: Act::Feed(&[0x15, 0x06]),
+        outs: &[Want::Sent],
+        busy: false,
+    },
+    // a frame of the other side is answered while a copy waits
+    Row {
+        act: Act::Submit,
+        outs: &[Want::Write(&REQUEST)],
+        busy: true,
+    },
+    Row {
+        act: Act::Feed(&REQUEST),
+        outs: &[Want::Write(&[0x06]), Want::Got(0x15)],
+        busy: true,
+    },
+    Row {
+        act: Act::Feed(&[0x06]),
+        outs: &[Want::Sent],
+        busy: false,
+    },
+    // an unfinished frame is forgotten at its fifteenth tick
+    Row {
+        act: Act::Feed(&[0x01, 0x03]),
+        outs: &[],
+        busy: false,
+    },
+    Row {
+        act: Act::Tick(14),
+        outs: &[],
+        busy: false,
+    },
+    Row {
+        act: Act::Tick(1),
+        outs: &[Want::Bad(Refusal::Aborted)],
+        busy: false,
+    },
+    Row {
+        act: Act::Tick(40),
+        outs: &[],
+        busy: false,
+    },
+    Row {
+        act: Act::Feed(&[]),
+        outs: &[],
+        busy: false,
+    },
+];
+
+fn perform(
+    alloc: Global,
+    link: &mut Link,
+    out: &mut List<LinkOut>,
+    act: &Act,
+) -> Result<(), NoMemory> {
+    match act {
+        Act::Submit => {
+            if link.submit(request(alloc), out) == Err(SubmitFault::NoMemory) {
+                return Err(NoMemory);
+            }
+        }
+        Act::Feed(piece) => link.feed(piece, out)?,
+        Act::Tick(ticks) => {
+            for _ in 0..*ticks {
+                link.tick(out)?;
+            }
+        }
+    }
+    Ok(())
+}
+
+#[test]
+fn exchange(rt: HostRuntime) -> Result<(), Fail> {
+    let mut out = List::new(rt.alloc());
+    let mut link = Link::new(rt.alloc())?;
+    for (row, number) in ROWS.iter().zip(1..100u8) {
+        perform(rt.alloc(), &mut link, &mut out, &row.act)?;
+        let same = was_put_out(rt.alloc(), &mut out, row.outs)?;
+        assert!(rt; same && link.is_busy() == row.busy, "row {number}");
+    }
+    Ok(())
+}
+
+#[test]
+fn collision(rt: HostRuntime) -> Result<(), Fail> {
+    let mut out = List::new(rt.alloc());
+    let mut link = Link::new(rt.alloc())?;
+    link.collide();
+    link.feed(&REQUEST, &mut out)?;
+    let cancels = was_put_out(rt.alloc(), &mut out, &[Want::Write(&[0x18])])?;
+    assert!(rt; cancels);
+    link.feed(&REQUEST, &mut out)?;
+    let answers = was_put_out(
+        rt.alloc(),
+        &mut out,
+        &[Want::Write(&[0x06]), Want::Got(0x15)],
+    )?;
+    assert!(rt; answers);
+    Ok(())
+}

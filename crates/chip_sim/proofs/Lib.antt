@@ -1,0 +1,8 @@
+pub mod Calls
+pub mod Doing
+pub mod Feeding
+pub mod Histories
+pub mod Links
+pub mod Masks
+pub mod Ports
+pub mod Steps

@@ -1,0 +1,14 @@
+use Rattle.std.proofs.Common.{◌≡◌, ℕ, List, ◌++◌, length}
+use Rattle.chip_sim.specs.State.{ChipParts}
+use Rattle.chip_sim.specs.Did.{Fed}
+use Rattle.chip_sim.specs.declared.out.ChipOut.{ChipOut}
+use Rattle.chip_sim.proofs.chip.Chip.feed.Given as goal
+
+-- what is taken from here on is taken from the beginning on
+abbrev pub invariant-loop-rest : goal.invariant-loop-rest
+invariant-loop-rest l =
+    (front : List ℕ) × (l.fn.piece ≡ front ++ l.left) × ((bytes : List ℕ) (new : ChipParts) (all : List ChipOut) →
+    Fed l.self bytes new l.out.items all → Fed l.fn.self (front ++ bytes) new l.fn.out.items all)
+
+abbrev pub decreases-loop-rest : goal.decreases-loop-rest
+decreases-loop-rest l = length l.left

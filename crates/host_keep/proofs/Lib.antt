@@ -1,0 +1,5 @@
+mod RowTexts
+mod RowsBack
+mod BytesSoFar
+mod NumbersFound
+mod Going

@@ -1,0 +1,87 @@
+//! Keepers: where a host's records go, and come back from.
+
+ghost use Rattle.std.specs.Prelude.{◌≡◌, ℕ, ◌+◌, ◌<◌, ◌≤◌, List as Items, [], ◌∷◌, Option, Some, length, IfOk, OnOk, OnErr, Err};
+ghost use Rattle.zw_base.specs.Faults.{Rose, raised};
+ghost use Rattle.host_keep.specs.Keeping.{OptAdds, IsKeptAt, Kept, added};
+
+use std::alloc::Global;
+use zw_base::{Bytes, NoMemory};
+
+/// Why a keeper did not do what it was asked. Its records are as before.
+#[derive(Clone, Copy, Debug, PartialEq, Eq)]
+pub enum KeepFault {
+    /// It failed, and counted that.
+    Failed,
+    /// There was no memory.
+    NoMemory,
+}
+
+impl From<NoMemory> for KeepFault {
+    ghost use Rattle.std.specs.Prelude.{◌≡◌};
+    ghost use Rattle.host_keep.specs.declared.keeper.KeepFault.TheVariants.{NoMemory as no_memory};
+
+    ghost from_gives = { λ _ e. e ≡ no_memory };
+
+    fn from(_error: NoMemory) -> KeepFault {
+        KeepFault::NoMemory
+    }
+}
+
+/// What keeps records, in the order in which they were added.
+pub trait Keeper {
+    /// How many records there are.
+    ghost number: { Self → ℕ };
+
+    /// The records, where the keeper tells them.
+    ghost records: { Self → Option (Items (Items ℕ)) };
+
+    /// How often it failed, up to the greatest u64.
+    ghost faults: { Self → ℕ };
+
+    /// How many records were read, up to the greatest u64.
+    ghost reads: { Self → ℕ };
+
+    /// Adds a record at the end.
+    fn append(&mut self, bytes: &[u8]) -> Result<(), KeepFault>
+        ensures added { OnOk result (number self.new ≡ number self.old + 1) }
+        ensures records { OnOk result (OptAdds (records self.old) (records self.new) (bytes.now ∷ [])) }
+        ensures not_added { OnErr result (number self.new ≡ number self.old) }
+        ensures unchanged { OnErr result (OptAdds (records self.old) (records self.new) []) }
+        ensures reads { reads self.new ≡ reads self.old }
+        ensures never_falls { faults self.old ≤ faults self.new }
+        ensures failed { result ≡ Err KeepFault.Failed → Rose (faults self.old) (faults self.new) };
+
+    /// How many records there are.
+    fn count(&self) -> u64
+        ensures { result ≡ number self.now };
+
+    /// The record at that place, from 0.
+    fn read(&mut self, alloc: Global, at: u64) -> Result<Bytes, KeepFault>
+        requires { at < number self.old }
+        ensures found { IfOk result (λ bytes. IsKeptAt (records self.old) at bytes) }
+        ensures number { number self.new ≡ number self.old }
+        ensures records { OptAdds (records self.old) (records self.new) [] }
+        ensures reads { OnOk result (reads self.new ≡ raised (reads self.old)) }
+        ensures not_read { OnErr result (reads self.new ≡ reads self.old) }
+        ensures never_falls { faults self.old ≤ faults self.new }
+        ensures failed { result ≡ Err KeepFault.Failed → Rose (faults self.old) (faults self.new) };
+
+    /// The records that are told are as many as there are.
+    ghost tells_all: { (keeper : Self) (told : Items (Items ℕ)) → records keeper ≡ Some told → number keeper ≡ length told };
+}
+
+/// Has a record kept, and answers whether it was: where it was not, the keeper failed.
+pub fn keep<K: Keeper>(keeper: &mut K, bytes: &[u8]) -> Result<bool, NoMemory>
+    ensures kept { IfOk result (λ kept. Kept kept bytes.now (K.records keeper.old) (K.records keeper.new) (K.faults keeper.old) (K.faults keeper.new)) }
+    ensures added { IfOk result (λ kept. K.number keeper.new ≡ K.number keeper.old + added kept) }
+    ensures unchanged { OnErr result (OptAdds (K.records keeper.old) (K.records keeper.new) []) }
+    ensures not_added { OnErr result (K.number keeper.new ≡ K.number keeper.old) }
+    ensures reads { K.reads keeper.new ≡ K.reads keeper.old }
+    ensures never_falls { K.faults keeper.old ≤ K.faults keeper.new }
+{
+    match keeper.append(bytes) {
+        Ok(()) => Ok(true),
+        Err(KeepFault::Failed) => Ok(false),
+        Err(KeepFault::NoMemory) => Err(NoMemory),
+    }
+}

@@ -1,0 +1,32 @@
+//! What a host keeps so as not to forget it: its records, their texts, and the keeper that holds them.
+//!
+//! It promises that a record's text is read as that record and no other text is; that a keeper adds a record or leaves
+//! all as it was; and it says what records in their order give, and which record may follow them.
+//! The definitions stand in `specs/`: `Rows` for the numbers of a record, `RecordText` for its text, `RowReading` for reading it,
+//! `Keeping` and `Shelf` for keepers, `Kept` for what records give, `Legal` for which may follow.
+#![tactic(auto)]
+
+mod final_status;
+mod keeper;
+mod kinds;
+mod laws;
+mod memory_keeper;
+mod plain_keeper;
+mod reading;
+mod record;
+mod row;
+mod worked;
+mod writing;
+
+pub use final_status::FinalStatus;
+pub use keeper::{KeepFault, Keeper, keep};
+pub use laws::{a_text_is_of_one_record, records_go_on, texts_give_one_thing};
+pub use memory_keeper::MemoryKeeper;
+pub use plain_keeper::PlainKeeper;
+pub use reading::{RecordFault, read_record};
+pub use record::Record;
+pub use worked::worked_records;
+pub use writing::write_record;
+
+#[cfg(test)]
+mod tests;

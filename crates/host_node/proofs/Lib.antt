@@ -1,0 +1,4 @@
+mod Keeps
+mod Quiet
+mod Recorded
+mod Lists

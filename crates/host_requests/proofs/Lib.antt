@@ -1,0 +1,4 @@
+pub mod Purposes
+pub mod Keeping
+pub mod Ending
+pub mod Handing

@@ -1,0 +1,8 @@
+use Rattle.host_requests.proofs.Keeping.{kept, kept_all}
+use Rattle.host_requests.proofs.laws.what_holds.Goals as goal
+
+pub returns-clause-step : goal.returns-clause-step
+returns-clause-step c = kept
+
+pub returns-clause-all : goal.returns-clause-all
+returns-clause-all c = kept_all

@@ -1,0 +1,4 @@
+pub mod Lists
+pub mod Replies
+pub mod Unique
+pub mod Doing

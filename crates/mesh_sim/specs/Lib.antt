@@ -1,0 +1,5 @@
+pub mod Faults
+pub mod Routes
+pub mod Air
+pub mod Fates
+pub mod Steps

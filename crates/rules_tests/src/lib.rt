@@ -1,0 +1,23 @@
+//! Tests of the crates that keep rules: sessions, mailboxes, values, routes, nonces, and the cipher and the seals beneath
+//! them, against vectors that were made outside this project or worked by hand.
+//!
+//! A crate that has tests is proved once with them and once without. So the crates below have none, and this one, which
+//! promises nothing, has theirs. Each public call is called here once with ample memory.
+#![tactic(auto)]
+
+#[cfg(test)]
+mod blocks;
+#[cfg(test)]
+mod mailbox;
+#[cfg(test)]
+mod nodes;
+#[cfg(test)]
+mod nonces;
+#[cfg(test)]
+mod routes;
+#[cfg(test)]
+mod seals;
+#[cfg(test)]
+mod sessions;
+#[cfg(test)]
+mod store;

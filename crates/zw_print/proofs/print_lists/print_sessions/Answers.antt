@@ -1,0 +1,8 @@
+-- The words of the entry, joined.
+use Rattle.std.proofs.Common.{◌≡◌, ◌++◌, ◌∷◌, codes, decimal, ◌∙◌, sym, rules}
+use Rattle.zw_print.specs.Lists.{list_text}
+use Rattle.zw_print.proofs.Joined.{join-sessions}
+use Rattle.zw_print.proofs.print_lists.print_sessions.Goals as goal
+
+pub returns : goal.returns
+returns c = cc (join-sessions c.args.node c.args.sessions.now, c.in_ok-text.ensures, c.in_ok-bytes.ensures)

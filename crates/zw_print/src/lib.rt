@@ -1,0 +1,12 @@
+//! Printing the entries of a transcript.
+//!
+//! It promises that `print_entry` gives exactly the text of the entry, which `zw_text` defines in `specs/Entry`.
+#![tactic(auto)]
+
+mod print;
+mod print_lists;
+mod print_parts;
+#[cfg(test)]
+mod tests;
+
+pub use print::print_entry;

@@ -1,0 +1,4 @@
+pub mod Line
+pub mod Entry
+pub mod Fits
+pub mod Transcript
