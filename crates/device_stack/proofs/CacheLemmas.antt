@@ -2,7 +2,7 @@
 use Rattle.std.proofs.Common.{◌≡◌, ℕ, List, [], ◌∷◌, ◌++◌, Bool, true, false, refl, sym, ◌∙◌, ap}
 use Rattle.std.specs.Prelude.{if◌then◌else◌}
 use Rattle.std.specs.Cmp.{IsEquivalence}
-use Rattle.std.specs.Ordering.{nat_cmp, is_eq}
+use Rattle.std.specs.Ordering.{is_eq}
 use Rattle.std.specs.declared.cmp.Ordering.{Ordering}
 use Rattle.std.specs.declared.cmp.Ordering.TheVariants.{Less, Equal, Greater}
 use Rattle.std.proofs.lemmas.Cmp.{nat_list_cmp_total, on_total, eq_by_cmp_equiv}
@@ -35,7 +35,7 @@ apart false false x y z h = refl
 
 pub first_value-with_setting : (settings : List Setting) (setting : Setting) (property : Property)
     → first_value (with_setting settings setting) property
-      ≡ (if same_property setting.property property then setting.value else first_value settings property)
+    ≡ (if same_property setting.property property then setting.value else first_value settings property)
 first_value-with_setting [] setting property = refl
 first_value-with_setting (first ∷ settings) setting property =
     by (property_cmp setting.property first.property) (first_value-with_setting settings setting property) refl
@@ -44,20 +44,20 @@ first_value-with_setting (first ∷ settings) setting property =
         → first_value (with_setting settings setting) property ≡ (if same_property setting.property property then setting.value else first_value settings property)
         → property_cmp setting.property first.property ≡ o
         → first_value (by_order o (setting ∷ first ∷ settings) (setting ∷ settings) (first ∷ with_setting settings setting)) property
-          ≡ (if same_property setting.property property then setting.value else first_value (first ∷ settings) property)
+        ≡ (if same_property setting.property property then setting.value else first_value (first ∷ settings) property)
     by Less more e = refl
     by Equal more e =
         hidden (same_property setting.property property) (same_property first.property property) setting.value (first_value settings property) first.value
-            (same_laws.congr setting.property first.property property (ap is_eq e))
+        (same_laws.congr setting.property first.property property (ap is_eq e))
     by Greater more e =
         ap (λ (n : ℕ). either (same_property first.property property) first.value n) more
         ∙ apart (same_property setting.property property) (same_property first.property property) setting.value (first_value settings property) first.value
-            (λ p q.
-            let back : same_property property first.property ≡ true = same_laws.symm property first.property ∙ q in
-            let forth : same_property property setting.property ≡ true = same_laws.symm property setting.property ∙ p in
-            let same : same_property setting.property first.property ≡ true = sym (same_laws.congr property setting.property first.property forth) ∙ back in
-            let not_same : same_property setting.property first.property ≡ false = ap is_eq e in
-            absurd (cc))
+        (λ p q.
+        let back : same_property property first.property ≡ true = same_laws.symm property first.property ∙ q in
+        let forth : same_property property setting.property ≡ true = same_laws.symm property setting.property ∙ p in
+        let same : same_property setting.property first.property ≡ true = sym (same_laws.congr property setting.property first.property forth) ∙ back in
+        let not_same : same_property setting.property first.property ≡ false = ap is_eq e in
+        absurd (cc))
 
 pub first_value-merged : (settings more : List Setting) (property : Property)
     → first_value (merged settings more) property ≡ value_by more property (first_value settings property)

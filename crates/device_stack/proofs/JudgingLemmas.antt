@@ -4,7 +4,6 @@ use Rattle.zw_base.specs.declared.property.Property.{Property}
 use Rattle.zw_base.specs.declared.property.Setting.{Setting}
 use Rattle.class_info.specs.InfoReading.{info_at}
 use Rattle.device_stack.specs.declared.kind.Kind.{Kind}
-use Rattle.device_stack.specs.declared.verdict.Verdict.{Verdict}
 use Rattle.device_stack.specs.declared.verdict.Verdict.TheVariants.{Makes}
 use Rattle.device_stack.specs.Values.{value_by}
 use Rattle.device_stack.specs.Settings.{merged}

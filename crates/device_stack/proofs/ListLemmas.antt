@@ -1,11 +1,11 @@
 -- What is left of a list that is gone through.
-use Rattle.std.proofs.Common.{◌≡◌, ℕ, zero, suc, ◌+◌, ◌-◌, ◌<◌, ◌≤◌, List, [], ◌∷◌, ◌++◌, length, take, drop, Bool, true, false, refl, sym, ◌∙◌, ap, arith, append_assoc}
+use Rattle.std.proofs.Common.{◌≡◌, ℕ, suc, ◌+◌, ◌-◌, ◌<◌, ◌≤◌, List, [], ◌∷◌, ◌++◌, length, take, Bool, true, false, refl, sym, ◌∙◌, ap, arith, append_assoc}
 use Rattle.std.specs.Prelude.{Option, Some, None, filter, count_by, fold, cond, not, ◌==◌, ◌≢◌}
 use Rattle.std.specs.List.{range_with_len, filter_map}
 use Rattle.device_stack.specs.Kind.{nodes_from}
 use Rattle.std.specs.Bool.{Decides}
 use Rattle.std.proofs.lemmas.Bool.Decides.{Decides-eqb}
-use Rattle.std.proofs.lemmas.List.{drop_more, take-append-le, take_all}
+use Rattle.std.proofs.lemmas.List.{take-append-le, take_all}
 
 -- one number more of a range
 pub range_more : (from n at : ℕ) → at < n → range_with_len (from + at) (n - at) ≡ (from + at) ∷ range_with_len (from + (at + 1)) (n - (at + 1))
@@ -76,7 +76,7 @@ pub members_in : (p : ℕ → Bool) (before : ℕ) (found total : List ℕ) → 
     → take 5 (found ++ filter p (nodes_from before)) ≡ total → take 5 ((found ++ (before + 1) ∷ []) ++ filter p (nodes_from (before + 1))) ≡ total
 members_in p before found total less in_it is =
     let more : filter p (nodes_from before) ≡ (before + 1) ∷ filter p (nodes_from (before + 1)) =
-        ap (filter p) (nodes_more before less) ∙ ap (λ (b : Bool). cond b ((before + 1) ∷ filter p (nodes_from (before + 1))) (filter p (nodes_from (before + 1)))) in_it in
+    ap (filter p) (nodes_more before less) ∙ ap (λ (b : Bool). cond b ((before + 1) ∷ filter p (nodes_from (before + 1))) (filter p (nodes_from (before + 1)))) in_it in
     ap (take 5) (append_assoc found ((before + 1) ∷ []) (filter p (nodes_from (before + 1))) ∙ ap (λ (x : List ℕ). found ++ x) (sym more)) ∙ is
 
 -- with one that is none
@@ -84,7 +84,7 @@ pub members_out : (p : ℕ → Bool) (before : ℕ) (found total : List ℕ) →
     → take 5 (found ++ filter p (nodes_from before)) ≡ total → take 5 (found ++ filter p (nodes_from (before + 1))) ≡ total
 members_out p before found total less out is =
     let more : filter p (nodes_from before) ≡ filter p (nodes_from (before + 1)) =
-        ap (filter p) (nodes_more before less) ∙ ap (λ (b : Bool). cond b ((before + 1) ∷ filter p (nodes_from (before + 1))) (filter p (nodes_from (before + 1)))) out in
+    ap (filter p) (nodes_more before less) ∙ ap (λ (b : Bool). cond b ((before + 1) ∷ filter p (nodes_from (before + 1))) (filter p (nodes_from (before + 1)))) out in
     ap (λ (x : List ℕ). take 5 (found ++ x)) (sym more) ∙ is
 
 -- with five of them no more are named

@@ -1,6 +1,6 @@
 -- A setting at its place.
-use Rattle.std.proofs.Common.{◌≡◌, ◌≢◌, ℕ, zero, suc, ◌+◌, ◌<◌, ◌≤◌, List, [], ◌∷◌, length, Bool, true, false, Some, refl, sym, ◌∙◌, ap, arith}
-use Rattle.std.specs.Prelude.{slice_get, slice_set, insert, slice_index_or}
+use Rattle.std.proofs.Common.{◌≡◌, ◌≢◌, ℕ, zero, suc, ◌<◌, ◌≤◌, List, [], ◌∷◌, length, true, false, Some, refl, sym, ap, arith}
+use Rattle.std.specs.Prelude.{slice_get, slice_set, insert}
 use Rattle.std.specs.Ordering.{is_eq}
 use Rattle.std.specs.declared.cmp.Ordering.{Ordering}
 use Rattle.std.specs.declared.cmp.Ordering.TheVariants.{Less, Equal, Greater}
@@ -34,7 +34,7 @@ put_new [] setting zero within before here other = refl
 put_new [] setting (suc at) within before here other = absurd (omega arith)
 put_new (first ∷ settings) setting zero within before here other =
     sym (not_greater (property_cmp setting.property first.property) setting first settings (first ∷ with_setting settings setting)
-        (here (omega arith) first refl) (other first refl))
+    (here (omega arith) first refl) (other first refl))
 put_new (first ∷ settings) setting (suc at) within before here other =
     let after : property_cmp setting.property first.property ≡ Greater = before zero (omega arith) first refl in
     let rest = put_new settings setting at (omega arith) (below first settings setting.property at before) (λ less. here (omega arith)) other in

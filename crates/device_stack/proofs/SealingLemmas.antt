@@ -1,5 +1,5 @@
 -- What opens is what the function says, and so is what is sealed.
-use Rattle.std.proofs.Common.{◌≡◌, ◌≢◌, ℕ, ◌+◌, ◌-◌, ◌≤◌, ◌<◌, List, [], ◌∷◌, ◌++◌, length, take, drop, Bool, true, false, refl, sym, ◌∙◌, ap, subst, arith, length-drop}
+use Rattle.std.proofs.Common.{◌≡◌, ℕ, ◌-◌, ◌≤◌, List, [], ◌∷◌, ◌++◌, length, Bool, true, false, refl, sym, ◌∙◌, ap, arith, length-drop}
 use Rattle.std.specs.Prelude.{Option, Some, None, nat_le, replicate, slice_index, ◌==◌, ◌&&◌}
 use Rattle.std.specs.Bool.{Decides}
 use Rattle.std.specs.Str.{bytes_eq}
@@ -23,12 +23,12 @@ leb_decides a b = (λ e. grind (arith, nat_tests), λ h. grind (arith, nat_tests
 good_decides : (keys : Keys) (nonce : List ℕ) (ends : SealEnds) (bytes : List ℕ) → Decides (is_good keys nonce ends bytes) (IsGood keys nonce ends bytes)
 good_decides keys nonce ends bytes =
     Decides-like (is_good keys nonce ends bytes)
-        (λ p. record { coded = record { long = p.0.0; code = p.0.1 }; zero = p.1 })
-        (λ g. ((g.coded.long, g.coded.code), g.zero))
-        (Decides-and (nat_le 20 (length bytes) && bytes_eq (code_wanted keys nonce ends bytes) (code_in bytes)) (sequence_in keys nonce bytes == 0)
-            (Decides-and (nat_le 20 (length bytes)) (bytes_eq (code_wanted keys nonce ends bytes) (code_in bytes))
-                (leb_decides 20 (length bytes)) (bytes_eq-Decides (code_wanted keys nonce ends bytes) (code_in bytes)))
-            (Decides-eqb (sequence_in keys nonce bytes) 0))
+    (λ p. record { coded = record { long = p.0.0; code = p.0.1 }; zero = p.1 })
+    (λ g. ((g.coded.long, g.coded.code), g.zero))
+    (Decides-and (nat_le 20 (length bytes) && bytes_eq (code_wanted keys nonce ends bytes) (code_in bytes)) (sequence_in keys nonce bytes == 0)
+    (Decides-and (nat_le 20 (length bytes)) (bytes_eq (code_wanted keys nonce ends bytes) (code_in bytes))
+    (leb_decides 20 (length bytes)) (bytes_eq-Decides (code_wanted keys nonce ends bytes) (code_in bytes)))
+    (Decides-eqb (sequence_in keys nonce bytes) 0))
 
 opens_to : (keys : Keys) (nonce : List ℕ) (ends : SealEnds) (bytes : List ℕ) → IsGood keys nonce ends bytes
     → unsealed_at keys nonce ends bytes ≡ Some (plain_in keys nonce bytes)
@@ -79,7 +79,7 @@ pub takes_as : (device : State) (keys : Keys) (nonce drawn bytes : List ℕ) (no
     → takes_nonce device nonce drawn ≡ record { device = record device { sealing = now }; replies = bytes ∷ [] }
 takes_as device keys nonce drawn bytes now k s =
     let text : bytes ≡ sealed_text (keys_of device.key) drawn nonce device.sealing.ends s.plain =
-        sealed_is keys drawn nonce device.sealing.ends s.plain bytes s.seals ∙ ap (λ (x : Keys). sealed_text x drawn nonce device.sealing.ends s.plain) k in
+    sealed_is keys drawn nonce device.sealing.ends s.plain bytes s.seals ∙ ap (λ (x : Keys). sealed_text x drawn nonce device.sealing.ends s.plain) k in
     ap (λ (a : Option ℕ). seals_for device nonce drawn a device.sealing.pending) s.counts
     ∙ ap (λ (b : Option (List ℕ)). seals_for device nonce drawn (Some now.seen) b) s.was_pending
     ∙ ap (λ (x : Sending). let o : Outcome = record { device = record device { sealing = x }; replies = sealed_text (keys_of device.key) drawn nonce device.sealing.ends s.plain ∷ [] } in o) (sym s.after)

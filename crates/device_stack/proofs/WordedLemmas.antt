@@ -1,20 +1,18 @@
 -- Answers are short, and no encapsulations.
-use Rattle.std.proofs.Common.{◌≡◌, ℕ, zero, suc, ◌+◌, ◌/◌, ◌%◌, ◌<◌, ◌≤◌, ◌⊎◌, inl, inr, List, [], ◌∷◌, ◌++◌, length, Bool, true, false, refl, sym, ◌∙◌, ap, subst, arith, length-append}
-use Rattle.std.specs.Prelude.{Option, Some, None, not, ◌==◌, ◌&&◌, IsTrue, slice_get, slice_index}
-use Rattle.std.proofs.lemmas.Option.{slice_get_within}
+use Rattle.std.proofs.Common.{◌≡◌, ℕ, zero, suc, ◌+◌, ◌/◌, ◌%◌, ◌<◌, ◌≤◌, inl, inr, List, [], ◌∷◌, length, Bool, true, false, refl, sym, ◌∙◌, ap, subst, arith, length-append}
+use Rattle.std.specs.Prelude.{Option, Some, None, not, ◌==◌, ◌&&◌, slice_get}
 use Rattle.zw_base.specs.Crc.{crc}
 use Rattle.class_fields.specs.Cell.{written}
 use Rattle.class_fields.specs.Fields.{nodes}
 use Rattle.class_fields.specs.declared.number.Number.{Number}
 use Rattle.class_fields.specs.declared.number.Number.TheVariants.{One, Two, Four}
-use Rattle.class_core.specs.declared.message.CoreMessage.{CoreMessage}
 use Rattle.class_core.specs.declared.message.CoreMessage.TheVariants.{SwitchBinaryReport, SwitchMultilevelReport, ThermostatModeReport, ThermostatSetpointReport, ConfigurationReport}
 use Rattle.class_info.specs.declared.message.InfoMessage.{InfoMessage}
 use Rattle.class_info.specs.declared.message.InfoMessage.TheVariants.{Core, SensorMultilevelReport, BatteryReport, WakeUpIntervalReport, AssociationReport, SupervisionReport}
 use Rattle.class_info.specs.InfoSpelling.{form}
 use Rattle.encap.specs.Begins.{IsMisplaced}
-use Rattle.encap.specs.Wraps.{IsCommand, AllCommands, is_within, crc16_text, with_check}
-use Rattle.encap.specs.Written.{written_form, addressed_form, checked_form, IsWrappable, AreShort}
+use Rattle.encap.specs.Wraps.{IsCommand, AllCommands, is_within}
+use Rattle.encap.specs.Written.{addressed_form, checked_form, IsWrappable, AreShort}
 use Rattle.encap.specs.declared.plan.Plan.{Plan}
 use Rattle.encap.specs.declared.plan.Ends.{Ends}
 use Rattle.encap.specs.declared.plan.Outer.{Outer}

@@ -2,7 +2,7 @@
 -- Channel, CRC-16; Z-Wave Security 0; that a sensor from node 101 on asks to be kept awake is this project's own rule).
 use Rattle.std.specs.Prelude.{ℕ, Bool, false, ◌==◌, ◌&&◌, not, nat_le, if◌then◌else◌, List, [], ◌∷◌, Option, Some, None}
 use Rattle.supervision.specs.Session.{wire_id}
-use Rattle.supervision.specs.declared.session.TheConstants.{WORKING, SUCCESS}
+use Rattle.supervision.specs.declared.session.TheConstants.{WORKING}
 use Rattle.class_info.specs.declared.message.InfoMessage.{InfoMessage}
 use Rattle.class_info.specs.declared.message.InfoMessage.TheVariants.{SupervisionReport}
 use Rattle.class_info.specs.declared.report_status.ReportStatus.{ReportStatus}
@@ -12,8 +12,6 @@ use Rattle.encap.specs.Written.{written_form}
 use Rattle.encap.specs.declared.plan.Plan.{Plan}
 use Rattle.encap.specs.declared.plan.Ends.{Ends}
 use Rattle.encap.specs.declared.plan.Supervised.{Supervised}
-use Rattle.device_stack.specs.declared.kind.Kind.{Kind}
-use Rattle.device_stack.specs.declared.kind.Kind.TheVariants.{Sensor}
 use Rattle.device_stack.specs.Kind.{listens}
 use Rattle.device_stack.specs.State.{State}
 

@@ -1,14 +1,11 @@
 -- What a message does to a device, once it is out of its wraps (this project's own kinds; the once-only rule is that of
 -- the crate supervision).
-use Rattle.std.specs.Prelude.{ℕ, ◌+◌, Bool, true, false, ◌==◌, ◌&&◌, not, if◌then◌else◌, List, [], ◌∷◌, Result, Ok, Err, Option, Some, None}
+use Rattle.std.specs.Prelude.{ℕ, ◌+◌, false, ◌&&◌, not, if◌then◌else◌, List, Result, Ok, Err, Option, Some, None}
 use Rattle.zw_base.specs.declared.property.By.TheVariants.{Session, Plain}
-use Rattle.zw_base.specs.declared.property.Property.{Property}
-use Rattle.zw_base.specs.declared.property.Setting.{Setting}
-use Rattle.supervision.specs.Device.{Taken, heard_of}
+use Rattle.supervision.specs.Device.{heard_of}
 use Rattle.supervision.specs.declared.device_book.Heard.{Heard}
 use Rattle.supervision.specs.declared.device_book.Heard.TheVariants.{New, Again, Old}
 use Rattle.class_fields.specs.declared.fault.ClassFault.{ClassFault}
-use Rattle.class_core.specs.declared.message.CoreMessage.{CoreMessage}
 use Rattle.class_core.specs.declared.message.CoreMessage.TheVariants.{SwitchBinarySet}
 use Rattle.class_info.specs.declared.message.InfoMessage.{InfoMessage}
 use Rattle.class_info.specs.declared.message.InfoMessage.TheVariants.{Core, WakeUpNoMoreInformation}
@@ -20,16 +17,15 @@ use Rattle.encap.specs.declared.plan.Ends.{Ends}
 use Rattle.encap.specs.declared.plan.Supervised.{Supervised}
 use Rattle.transport_segments.specs.Kept.{Empty}
 use Rattle.device_stack.specs.declared.kind.Kind.{Kind}
-use Rattle.device_stack.specs.declared.kind.Kind.TheVariants.{Relay}
 use Rattle.device_stack.specs.declared.effect.Effect.{Effect}
 use Rattle.device_stack.specs.declared.effect.Effect.TheVariants.{Ignores, Sleeps, Tells, Sets, Repeats, Takes}
 use Rattle.device_stack.specs.declared.verdict.Verdict.{Verdict}
 use Rattle.device_stack.specs.declared.verdict.Verdict.TheVariants.{NoSupport, Fails, Makes, Works}
 use Rattle.device_stack.specs.Kind.{listens, lists, has_end}
 use Rattle.device_stack.specs.State.{State, value_of, last_level_of, with_change}
-use Rattle.device_stack.specs.Judging.{setting_of, judged_message, judged_set, status_of}
+use Rattle.device_stack.specs.Judging.{judged_message, judged_set, status_of}
 use Rattle.device_stack.specs.Telling.{told}
-use Rattle.device_stack.specs.Answers.{status_report, answer_plan, worded}
+use Rattle.device_stack.specs.Answers.{status_report}
 
 -- the end point that a message is for
 abbrev pub end_of : Option Ends → ℕ

@@ -1,8 +1,7 @@
 -- What a payload makes of a device: how it is brought down to a message, and how the answer is brought up again (Z-Wave
 -- Transport-Encapsulation Command Class Specification: Transport Service, Security 0).
-use Rattle.std.specs.Prelude.{ℕ, ◌+◌, ◌-◌, ◌%◌, Bool, false, ◌==◌, ◌&&◌, nat_lt, if◌then◌else◌, List, [], ◌∷◌, length, slice_index, Result, Ok, Err, Option, Some, None}
+use Rattle.std.specs.Prelude.{ℕ, ◌+◌, ◌-◌, ◌%◌, false, ◌==◌, ◌&&◌, nat_lt, if◌then◌else◌, List, [], ◌∷◌, length, slice_index, Result, Ok, Err, Option, Some, None}
 use Rattle.std.specs.Option.{option_map, option_to_list}
-use Rattle.zw_base.specs.declared.property.Property.{Property}
 use Rattle.supervision.specs.Session.{wire_id}
 use Rattle.device_stack.specs.Sealing.{unsealed_at, sealed_text, keys_of}
 use Rattle.s0_session.specs.Nonces.{nonce_given, after_give, nonce_spent, after_spend}
@@ -13,17 +12,14 @@ use Rattle.class_info.specs.declared.message.InfoMessage.TheVariants.{NonceGet, 
 use Rattle.class_info.specs.InfoReading.{info_at}
 use Rattle.class_info.specs.InfoSpelling.{form}
 use Rattle.encap.specs.Opening.{Message, begins_with, opened_at}
-use Rattle.encap.specs.declared.plan.Plan.{Plan}
-use Rattle.encap.specs.declared.plan.Supervised.{Supervised}
-use Rattle.encap.specs.declared.plan.Outer.TheVariants as outers
 use Rattle.encap.specs.Wraps.{is_crc16}
 use Rattle.transport_segments.specs.Segment.{id_of}
 use Rattle.transport_segments.specs.Taking.{is_segment, ends_its_datagram, taken_at, kept_after}
-use Rattle.transport_segments.specs.Kept.{Reassembly, Empty}
+use Rattle.transport_segments.specs.Kept.{Empty}
 use Rattle.transport_segments.specs.declared.assembler.Taken.{Taken}
 use Rattle.transport_segments.specs.declared.assembler.Taken.TheVariants.{Kept, Need, Whole}
 use Rattle.device_stack.specs.declared.kind.Kind.{Kind}
-use Rattle.device_stack.specs.declared.kind.Kind.TheVariants.{Relay, Switch, Dimmer, Lock, Sensor, Thermostat, Strip, Configurable}
+use Rattle.device_stack.specs.declared.kind.Kind.TheVariants.{Lock, Configurable}
 use Rattle.device_stack.specs.State.{State, Outcome, silent}
 use Rattle.device_stack.specs.Answers.{status_report, answer_plan, worded}
 use Rattle.device_stack.specs.Effects.{effect_of, after_effect, answer_of}

@@ -1,12 +1,12 @@
 -- How a device judges the commands of a session (this project's own kinds; the commands are those of the Z-Wave
 -- Application and Management Command Class Specifications).
-use Rattle.std.specs.Prelude.{ℕ, suc, ◌+◌, Bool, true, false, ◌==◌, ◌&&◌, ◌||◌, not, nat_le, nat_lt, if◌then◌else◌, List, [], ◌∷◌, length, map, count_by, Result, Ok, Err, Option, Some, None}
+use Rattle.std.specs.Prelude.{ℕ, suc, ◌+◌, Bool, false, ◌==◌, ◌&&◌, ◌||◌, not, nat_le, nat_lt, if◌then◌else◌, List, [], ◌∷◌, length, count_by, Result, Ok, Err}
 use Rattle.zw_base.specs.declared.property.Name.{Name}
 use Rattle.zw_base.specs.declared.property.Name.TheVariants as names
 use Rattle.zw_base.specs.declared.property.Property.{Property}
 use Rattle.zw_base.specs.declared.property.Setting.{Setting}
 use Rattle.supervision.specs.declared.session.TheConstants.{NO_SUPPORT, WORKING, FAIL, SUCCESS}
-use Rattle.class_fields.specs.Ranges.{Scaled, Numbers, value_of as number_of}
+use Rattle.class_fields.specs.Ranges.{Scaled, value_of as number_of}
 use Rattle.class_fields.specs.Fields.{switch_byte, lock_byte}
 use Rattle.class_fields.specs.declared.number.Number.{Number}
 use Rattle.class_fields.specs.declared.number.Number.TheVariants.{One, Two, Four}
@@ -17,7 +17,6 @@ use Rattle.class_info.specs.declared.message.InfoMessage.{InfoMessage}
 use Rattle.class_info.specs.declared.message.InfoMessage.TheVariants.{Core}
 use Rattle.class_info.specs.InfoReading.{info_at}
 use Rattle.device_stack.specs.declared.kind.Kind.{Kind}
-use Rattle.device_stack.specs.declared.kind.Kind.TheVariants.{Dimmer}
 use Rattle.device_stack.specs.declared.verdict.Verdict.{Verdict}
 use Rattle.device_stack.specs.declared.verdict.Verdict.TheVariants.{NoSupport, Fails, Makes, Works}
 use Rattle.device_stack.specs.Kind.{lists, has_end, all_nodes}
@@ -108,7 +107,7 @@ abbrev pub judged_all : Kind → (Property → ℕ) → ℕ → ℕ → List Set
 judged_all kind values last end made [] = Makes made
 judged_all kind values last end made (command ∷ commands) =
     by (judged kind (λ property. value_by made property (values property)) last end (info_at command))
-        (λ settings. judged_all kind values last end (merged made settings) commands)
+    (λ settings. judged_all kind values last end (merged made settings) commands)
   where
     by : Verdict → (List Setting → Verdict) → Verdict
     by (Makes settings) go_on = go_on settings

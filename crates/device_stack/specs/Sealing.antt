@@ -35,4 +35,4 @@ cipher_text_of keys own nonce plain = ofb keys.encrypt (own ++ nonce) (0 ∷ pla
 unfoldable pub sealed_text : Keys → List ℕ → List ℕ → SealEnds → List ℕ → List ℕ
 sealed_text keys own nonce ends plain =
     0x98 ∷ 0x81 ∷ (own ++ (cipher_text_of keys own nonce plain
-        ++ slice_index nonce 0 ∷ code_of keys (own ++ nonce) ends (cipher_text_of keys own nonce plain)))
+    ++ slice_index nonce 0 ∷ code_of keys (own ++ nonce) ends (cipher_text_of keys own nonce plain)))

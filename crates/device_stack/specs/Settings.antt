@@ -23,7 +23,7 @@ abbrev pub with_setting : List Setting → Setting → List Setting
 with_setting [] setting = setting ∷ []
 with_setting (first ∷ settings) setting =
     by_order (property_cmp setting.property first.property)
-        (setting ∷ first ∷ settings) (setting ∷ settings) (first ∷ with_setting settings setting)
+    (setting ∷ first ∷ settings) (setting ∷ settings) (first ∷ with_setting settings setting)
 
 -- the settings with these put in one after another
 abbrev pub merged : List Setting → List Setting → List Setting

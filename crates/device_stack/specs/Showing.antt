@@ -1,5 +1,5 @@
 -- What is shown of a device (this project's own rule).
-use Rattle.std.specs.Prelude.{ℕ, Bool, ◌==◌, ◌||◌, not, if◌then◌else◌, List, Option, Some, None}
+use Rattle.std.specs.Prelude.{◌==◌, ◌||◌, not, if◌then◌else◌, List, Option, Some, None}
 use Rattle.std.specs.List.{range_with_len, filter_map}
 use Rattle.zw_base.specs.PropertyOrder.{same_property}
 use Rattle.zw_base.specs.declared.property.Property.{Property}

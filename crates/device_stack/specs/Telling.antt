@@ -1,13 +1,11 @@
 -- What a device tells of its values (Z-Wave Application and Management Command Class Specifications; which kind tells what
 -- is this project's own rule).
-use Rattle.std.specs.Prelude.{ℕ, ◌%◌, ◌^◌, ◌<◌, ◌≤◌, Bool, ◌==◌, ◌&&◌, ◌||◌, not, nat_le, if◌then◌else◌, min, List, take, length, filter, Option, Some, None}
+use Rattle.std.specs.Prelude.{ℕ, ◌%◌, Bool, ◌==◌, ◌&&◌, not, if◌then◌else◌, min, List, take, filter, Option, Some, None}
 use Rattle.std.specs.Option.{option_and_then}
 use Rattle.zw_base.specs.declared.property.Name.{Name}
 use Rattle.zw_base.specs.declared.property.Name.TheVariants as names
 use Rattle.zw_base.specs.declared.property.Property.{Property}
-use Rattle.class_fields.specs.Ranges.{Scaled}
 use Rattle.class_fields.specs.declared.number.Number.TheVariants.{Two, Four}
-use Rattle.class_fields.specs.declared.switch.Switch.{Switch}
 use Rattle.class_fields.specs.declared.switch.Switch.TheVariants.{On, Off}
 use Rattle.class_core.specs.declared.message.CoreMessage.{CoreMessage}
 use Rattle.class_core.specs.declared.message.CoreMessage.TheVariants.{SwitchBinaryGet, SwitchBinaryReport, SwitchMultilevelGet, SwitchMultilevelReport, ThermostatModeGet, ThermostatModeReport, ThermostatSetpointGet, ThermostatSetpointReport, ConfigurationGet, ConfigurationReport}

@@ -1,18 +1,15 @@
 -- What a tick, a wake-up and a value set by hand make of a device (this project's own kinds; Wake Up Notification is that
 -- of the Z-Wave Management Command Class Specification).
-use Rattle.std.specs.Prelude.{ℕ, ◌+◌, ◌-◌, ◌%◌, Bool, true, false, ◌==◌, ◌&&◌, ◌||◌, not, nat_lt, if◌then◌else◌, min, List, [], ◌∷◌, Option, Some, None}
+use Rattle.std.specs.Prelude.{ℕ, ◌+◌, ◌-◌, ◌%◌, Bool, true, false, ◌==◌, ◌&&◌, ◌||◌, nat_lt, if◌then◌else◌, min, [], ◌∷◌, Option, None}
 use Rattle.std.specs.Option.{option_map, option_to_list}
 use Rattle.zw_base.specs.declared.property.Name.{Name}
 use Rattle.zw_base.specs.declared.property.Name.TheVariants as names
-use Rattle.zw_base.specs.declared.property.Property.{Property}
-use Rattle.zw_base.specs.declared.property.Setting.{Setting}
 use Rattle.zw_base.specs.declared.property.By.TheVariants.{Session, Local}
 use Rattle.supervision.specs.Device.{finished}
 use Rattle.supervision.specs.declared.session.TheConstants.{SUCCESS}
 use Rattle.class_info.specs.declared.message.InfoMessage.{InfoMessage}
 use Rattle.class_info.specs.declared.message.InfoMessage.TheVariants.{WakeUpNotification}
 use Rattle.class_info.specs.InfoSpelling.{form}
-use Rattle.encap.specs.declared.plan.Plan.{Plan}
 use Rattle.device_stack.specs.declared.kind.Kind.{Kind}
 use Rattle.device_stack.specs.declared.kind.Kind.TheVariants.{Configurable}
 use Rattle.device_stack.specs.Kind.{listens, main_name_of, tells}

@@ -3,8 +3,6 @@ use Rattle.std.specs.Prelude.{ℕ, ◌+◌, ◌^◌, ◌<◌, ◌≤◌, List, l
 use Rattle.supervision.specs.Device.{is_new}
 use Rattle.class_core.specs.declared.message.CoreMessage.{CoreMessage}
 use Rattle.class_core.specs.declared.message.CoreMessage.TheVariants.{SwitchBinaryReport, SwitchMultilevelReport, ThermostatModeReport, ThermostatSetpointReport, ConfigurationReport}
-use Rattle.class_fields.specs.Ranges.{size_of}
-use Rattle.class_fields.specs.declared.number.Number.TheVariants.{One, Two, Four}
 use Rattle.class_info.specs.declared.message.InfoMessage.{InfoMessage}
 use Rattle.class_info.specs.declared.message.InfoMessage.TheVariants.{Core, SensorMultilevelReport, BatteryReport, WakeUpIntervalReport, AssociationReport, SupervisionReport}
 use Rattle.encap.specs.declared.plan.Supervised.{Supervised}

@@ -25,7 +25,7 @@ use crate::{Change, Stack};
 use class_core::{ClassFault, CoreMessage};
 use class_info::InfoMessage;
 use encap::{Ends, Opened, Plan, Supervised};
-use supervision::{DeviceBook, session_id, WORKING};
+use supervision::{DeviceBook, WORKING, session_id};
 use zw_base::{By, Bytes, EndPoint, NoMemory};
 
 /// How many ticks the work of a dimmer takes.
@@ -180,7 +180,11 @@ impl Stack {
     }
 
     /// The text that answers a message with this plan and effect.
-    pub(crate) fn answer_text(&self, plan: &Plan, effect: &Effect) -> Result<Option<Bytes>, NoMemory>
+    pub(crate) fn answer_text(
+        &self,
+        plan: &Plan,
+        effect: &Effect,
+    ) -> Result<Option<Bytes>, NoMemory>
         requires { IsDue self.now plan.now.session effect.now }
         ensures value { IfOk result (λ text. text ≡ option_map (worded (answer_plan plan.now)) (answer_of self.now plan.now effect.now)) }
         ensures short { IfOk result (λ text. IfSome text IsShort) }
@@ -200,7 +204,12 @@ impl Stack {
     }
 
     /// The text that tells a status.
-    fn status_text(&self, plan: &Plan, asked: Supervised, status: u8) -> Result<Option<Bytes>, NoMemory>
+    fn status_text(
+        &self,
+        plan: &Plan,
+        asked: Supervised,
+        status: u8,
+    ) -> Result<Option<Bytes>, NoMemory>
         requires { asked.id < 64 }
         ensures value { IfOk result (λ text. text ≡ Some (worded (answer_plan plan.now) (status_report self.now asked status))) }
         ensures short { IfOk result (λ text. IfSome text IsShort) }
@@ -246,11 +255,7 @@ impl Stack {
                 self.journal.make(Change { by, settings })?;
             }
             Verdict::Works(settings) => {
-                let answer = if asked.updates {
-                    Some(*plan)
-                } else {
-                    None
-                };
+                let answer = if asked.updates { Some(*plan) } else { None };
                 self.work = Work { settings, answer };
                 self.work_left = WORK_TICKS;
             }

@@ -73,7 +73,12 @@ impl Stack {
     }
 
     /// Hears a payload, by kind.
-    fn hear_by_kind(&mut self, payload: &[u8], drawn: [u8; 8], out: &mut Replies) -> Result<(), NoMemory>
+    fn hear_by_kind(
+        &mut self,
+        payload: &[u8],
+        drawn: [u8; 8],
+        out: &mut Replies,
+    ) -> Result<(), NoMemory>
         requires { out.old ≡ [] }
         ensures ok { OnOk result (self.new ≡ (hears_by self.old.kind self.old payload.now drawn).device) }
         ensures replies { OnOk result (out.new ≡ (hears_by self.old.kind self.old payload.now drawn).replies) }
@@ -95,7 +100,12 @@ impl Stack {
 
     /// Hears a payload: a device that sleeps hears nothing. What is sent is put into `out`.
     #[tactic(auto, unfolding(crate::specs::Hearing::hears))]
-    pub fn hear(&mut self, payload: &[u8], drawn: [u8; 8], out: &mut Replies) -> Result<(), NoMemory>
+    pub fn hear(
+        &mut self,
+        payload: &[u8],
+        drawn: [u8; 8],
+        out: &mut Replies,
+    ) -> Result<(), NoMemory>
         requires { out.old ≡ [] }
         ensures ok { OnOk result (self.new ≡ (hears self.old payload.now drawn).device) }
         ensures replies { OnOk result (out.new ≡ (hears self.old payload.now drawn).replies) }

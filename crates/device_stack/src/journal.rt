@@ -53,7 +53,11 @@ impl Journal {
         ensures ok { OnOk result (self.new ≡ self.old ++ change ∷ []) }
         ensures err { OnErr result (self.new ≡ self.old) }
     {
-        let values = merge(self.alloc, self.values.as_slice(), change.settings.as_slice())?;
+        let values = merge(
+            self.alloc,
+            self.values.as_slice(),
+            change.settings.as_slice(),
+        )?;
         let level = level_with(change.settings.as_slice(), self.last_level);
         self.changes.push(change)?;
         self.values = values;

@@ -25,6 +25,7 @@ const MAX_MODE: u8 = 2;
 
 /// The least and the greatest setpoint, in tenths of a degree Celsius.
 const MIN_TENTHS: u16 = 50;
+
 const MAX_TENTHS: u16 = 350;
 
 /// How many parameters there are.
@@ -98,7 +99,12 @@ pub fn setting(end: EndPoint, name: Name, value: u32) -> Setting
 }
 
 /// That setting alone.
-pub fn one(alloc: Global, end: EndPoint, name: Name, value: u32) -> Result<Sequence<Setting>, NoMemory>
+pub fn one(
+    alloc: Global,
+    end: EndPoint,
+    name: Name,
+    value: u32,
+) -> Result<Sequence<Setting>, NoMemory>
     ensures { IfOk result (λ settings. settings ≡ setting_of end name value ∷ []) }
 {
     Sequence::from_slice(alloc, &[setting(end, name, value)])
@@ -108,7 +114,10 @@ pub fn one(alloc: Global, end: EndPoint, name: Name, value: u32) -> Result<Seque
 fn is_inside(kind: u8, value: Decimal) -> bool
     ensures { result ≡ is_setpoint kind value }
 {
-    (kind == 1 || kind == 2) && value.precision() == 1 && value.scale() == 0 && is_in_tenths(value.number())
+    (kind == 1 || kind == 2)
+        && value.precision() == 1
+        && value.scale() == 0
+        && is_in_tenths(value.number())
 }
 
 fn is_in_tenths(number: Number) -> bool
@@ -121,7 +130,12 @@ fn is_in_tenths(number: Number) -> bool
 }
 
 /// The parameters from one on.
-fn parameters(alloc: Global, end: EndPoint, first: u16, values: &[u32]) -> Result<Sequence<Setting>, NoMemory>
+fn parameters(
+    alloc: Global,
+    end: EndPoint,
+    first: u16,
+    values: &[u32],
+) -> Result<Sequence<Setting>, NoMemory>
     requires { first + length values.now ≤ 256 }
     ensures { IfOk result (λ settings. settings ≡ configured end first values.now) }
 {
@@ -134,7 +148,12 @@ fn parameters(alloc: Global, end: EndPoint, first: u16, values: &[u32]) -> Resul
 }
 
 /// The nodes as members of the group, or as members no longer.
-fn members(alloc: Global, end: EndPoint, value: u32, nodes: &[NodeId]) -> Result<Sequence<Setting>, NoMemory>
+fn members(
+    alloc: Global,
+    end: EndPoint,
+    value: u32,
+    nodes: &[NodeId],
+) -> Result<Sequence<Setting>, NoMemory>
     ensures { IfOk result (λ settings. settings ≡ memberships end value nodes.now) }
 {
     let mut settings = Vec::new(alloc);
@@ -177,12 +196,19 @@ impl Bench<'_> {
         ensures { IfOk result (λ verdict. verdict ≡ judged_members (λ property. value_by self.now.made.now property (value_after self.now.journal.now property 0)) self.now.end value group nodes.now) }
     {
         let settings = members(self.alloc, self.end, value, nodes)?;
-        let inside = group == GROUP && !nodes.is_empty() && self.count(settings.as_slice()) <= MAX_MEMBERS;
+        let inside = group == GROUP
+            && !nodes.is_empty()
+            && self.count(settings.as_slice()) <= MAX_MEMBERS;
         Ok(if_inside(inside, settings))
     }
 
     /// Parameters in a row.
-    fn judge_bulk(&self, first: u16, default: bool, values: &NumberList) -> Result<Verdict, NoMemory>
+    fn judge_bulk(
+        &self,
+        first: u16,
+        default: bool,
+        values: &NumberList,
+    ) -> Result<Verdict, NoMemory>
         ensures { IfOk result (λ verdict. verdict ≡ judged_set self.now.kind (λ property. value_by self.now.made.now property (value_after self.now.journal.now property 0)) (level_after self.now.journal.now 99) self.now.end (CoreMessage.ConfigurationBulkSet first default values.now)) }
     {
         if !self.kind.lists(CONFIGURATION) {
@@ -195,7 +221,13 @@ impl Bench<'_> {
     }
 
     /// One setting, if its value is inside.
-    fn judge_one(&self, class: u8, inside: bool, name: Name, value: u32) -> Result<Verdict, NoMemory>
+    fn judge_one(
+        &self,
+        class: u8,
+        inside: bool,
+        name: Name,
+        value: u32,
+    ) -> Result<Verdict, NoMemory>
         ensures { IfOk result (λ verdict. verdict ≡ where_listed self.now.kind class (where_inside inside (setting_of self.now.end name value ∷ []))) }
     {
         let settings = one(self.alloc, self.end, name, value)?;
@@ -226,12 +258,22 @@ impl Bench<'_> {
             CoreMessage::SwitchMultilevelSet { level } => self.judge_level(level.byte()),
             CoreMessage::ThermostatModeSet { mode } => {
                 let mode = mode.number();
-                self.judge_one(THERMOSTAT_MODE, mode <= MAX_MODE, Name::Mode, u32::from(mode))
+                self.judge_one(
+                    THERMOSTAT_MODE,
+                    mode <= MAX_MODE,
+                    Name::Mode,
+                    u32::from(mode),
+                )
             }
             CoreMessage::ThermostatSetpointSet { kind, value } => {
                 let kind = kind.number();
                 let inside = is_inside(kind, *value);
-                self.judge_one(THERMOSTAT_SETPOINT, inside, Name::Setpoint(kind), value.number().value())
+                self.judge_one(
+                    THERMOSTAT_SETPOINT,
+                    inside,
+                    Name::Setpoint(kind),
+                    value.number().value(),
+                )
             }
             CoreMessage::DoorLockOperationSet { mode } => {
                 self.judge_one(DOOR_LOCK, true, Name::Lock, u32::from(mode.byte()))
@@ -240,7 +282,14 @@ impl Bench<'_> {
                 parameter,
                 default,
                 value,
-            } => { self.judge_one(CONFIGURATION, !*default, Name::Config(*parameter), value.value()) }
+            } => {
+                self.judge_one(
+                    CONFIGURATION,
+                    !*default,
+                    Name::Config(*parameter),
+                    value.value(),
+                )
+            }
             CoreMessage::ConfigurationBulkSet {
                 offset,
                 default,
@@ -255,7 +304,12 @@ impl Bench<'_> {
                 Ok(if_listed(self.kind, ASSOCIATION, verdict))
             }
             CoreMessage::WakeUpIntervalSet { seconds, target } => {
-                self.judge_one(WAKE_UP, target.number() == 1, Name::Interval, seconds.number())
+                self.judge_one(
+                    WAKE_UP,
+                    target.number() == 1,
+                    Name::Interval,
+                    seconds.number(),
+                )
             }
             _ => Ok(Verdict::NoSupport),
         }
@@ -275,7 +329,14 @@ impl Bench<'_> {
 }
 
 /// A command after those that make these settings.
-fn judge_next(alloc: Global, kind: Kind, journal: &Journal, end: EndPoint, made: &[Setting], command: &[u8]) -> Result<Verdict, NoMemory>
+fn judge_next(
+    alloc: Global,
+    kind: Kind,
+    journal: &Journal,
+    end: EndPoint,
+    made: &[Setting],
+    command: &[u8],
+) -> Result<Verdict, NoMemory>
     ensures { IfOk result (λ verdict. verdict ≡ judged kind (λ property. value_by made.now property (value_after journal.now property 0)) (level_after journal.now 99) end (info_at command.now)) }
 {
     let bench = Bench {
@@ -289,12 +350,25 @@ fn judge_next(alloc: Global, kind: Kind, journal: &Journal, end: EndPoint, made:
 }
 
 /// The commands of a message together, each judged as if those before it were made.
-fn judge_all(alloc: Global, kind: Kind, journal: &Journal, end: EndPoint, commands: &[Bytes]) -> Result<Verdict, NoMemory>
+fn judge_all(
+    alloc: Global,
+    kind: Kind,
+    journal: &Journal,
+    end: EndPoint,
+    commands: &[Bytes],
+) -> Result<Verdict, NoMemory>
     ensures { IfOk result (λ verdict. verdict ≡ judged_all kind (λ property. value_after journal.now property 0) (level_after journal.now 99) end [] commands.now) }
 {
     let mut made = Sequence::new(alloc);
     for command in commands {
-        match judge_next(alloc, kind, journal, end, made.as_slice(), command.as_slice())? {
+        match judge_next(
+            alloc,
+            kind,
+            journal,
+            end,
+            made.as_slice(),
+            command.as_slice(),
+        )? {
             Verdict::Makes(settings) => {
                 made = merge(alloc, made.as_slice(), settings.as_slice())?;
             }
@@ -306,7 +380,14 @@ fn judge_all(alloc: Global, kind: Kind, journal: &Journal, end: EndPoint, comman
 
 /// The commands of a message to an end point.
 #[tactic(auto, unfolding(crate::specs::Judging::judged_message))]
-pub fn judge_message(alloc: Global, kind: Kind, journal: &Journal, end: EndPoint, batch: bool, commands: &[Bytes]) -> Result<Verdict, NoMemory>
+pub fn judge_message(
+    alloc: Global,
+    kind: Kind,
+    journal: &Journal,
+    end: EndPoint,
+    batch: bool,
+    commands: &[Bytes],
+) -> Result<Verdict, NoMemory>
     ensures { IfOk result (λ verdict. verdict ≡ judged_message kind (λ property. value_after journal.now property 0) (level_after journal.now 99) end batch commands.now) }
 {
     if !kind.has_end(end) {

@@ -7,20 +7,35 @@ use zw_base::{EndPoint, Name, NodeId, Property, read_end, read_node};
 
 /// Binary Switch (Z-Wave Application Command Class Specification), as the other classes in its specification.
 pub const SWITCH_BINARY: u8 = 0x25;
+
 pub const SWITCH_MULTILEVEL: u8 = 0x26;
+
 pub const SENSOR_MULTILEVEL: u8 = 0x31;
+
 pub const THERMOSTAT_MODE: u8 = 0x40;
+
 pub const THERMOSTAT_SETPOINT: u8 = 0x43;
+
 pub const TRANSPORT_SERVICE: u8 = 0x55;
+
 pub const CRC16: u8 = 0x56;
+
 pub const MULTI_CHANNEL: u8 = 0x60;
+
 pub const DOOR_LOCK: u8 = 0x62;
+
 pub const SUPERVISION: u8 = 0x6C;
+
 pub const CONFIGURATION: u8 = 0x70;
+
 pub const BATTERY: u8 = 0x80;
+
 pub const WAKE_UP: u8 = 0x84;
+
 pub const ASSOCIATION: u8 = 0x85;
+
 pub const MULTI_COMMAND: u8 = 0x8F;
+
 pub const SECURITY: u8 = 0x98;
 
 /// The greatest end point of a strip.

@@ -60,7 +60,12 @@ fn open(
 impl Stack {
     /// Hears what comes to a lock.
     #[tactic(auto, unfolding(crate::specs::Hearing::hears_securely))]
-    pub(crate) fn hear_securely(&mut self, payload: &[u8], drawn: [u8; 8], out: &mut Replies) -> Result<(), NoMemory>
+    pub(crate) fn hear_securely(
+        &mut self,
+        payload: &[u8],
+        drawn: [u8; 8],
+        out: &mut Replies,
+    ) -> Result<(), NoMemory>
         requires { out.old ≡ [] }
         ensures ok { OnOk result (self.new ≡ (hears_securely self.old payload.now drawn).device) }
         ensures replies { OnOk result (out.new ≡ (hears_securely self.old payload.now drawn).replies) }
@@ -100,7 +105,12 @@ impl Stack {
     }
 
     /// Seals the pending answer for a nonce of the host.
-    fn take_nonce(&mut self, nonce: [u8; 8], drawn: [u8; 8], out: &mut Replies) -> Result<(), NoMemory>
+    fn take_nonce(
+        &mut self,
+        nonce: [u8; 8],
+        drawn: [u8; 8],
+        out: &mut Replies,
+    ) -> Result<(), NoMemory>
         requires { out.old ≡ [] }
         ensures ok { OnOk result (self.new ≡ (takes_nonce self.old nonce drawn).device) }
         ensures replies { OnOk result (out.new ≡ (takes_nonce self.old nonce drawn).replies) }
@@ -143,7 +153,12 @@ impl Stack {
     }
 
     /// Hears a Security message for a nonce that was live.
-    fn hear_for(&mut self, payload: &[u8], nonce: [u8; 8], out: &mut Replies) -> Result<(), NoMemory>
+    fn hear_for(
+        &mut self,
+        payload: &[u8],
+        nonce: [u8; 8],
+        out: &mut Replies,
+    ) -> Result<(), NoMemory>
         requires empty { out.old ≡ [] }
         requires long { 20 ≤ length payload.now }
         requires class { slice_index payload.now 0 ≡ 0x98 }

@@ -60,7 +60,11 @@ fn request(id: u8, offset: u16) -> Payload
 impl Stack {
     /// Hears a payload that may be a segment.
     #[tactic(auto, unfolding(crate::specs::Hearing::hears_in_segments))]
-    pub(crate) fn hear_in_segments(&mut self, payload: &[u8], out: &mut Replies) -> Result<(), NoMemory>
+    pub(crate) fn hear_in_segments(
+        &mut self,
+        payload: &[u8],
+        out: &mut Replies,
+    ) -> Result<(), NoMemory>
         requires { out.old ≡ [] }
         ensures ok { OnOk result (self.new ≡ (hears_in_segments self.old payload.now).device) }
         ensures replies { OnOk result (out.new ≡ (hears_in_segments self.old payload.now).replies) }

@@ -85,7 +85,11 @@ fn place(settings: &mut Vec<Setting>, setting: Setting) -> Result<(), NoMemory>
 }
 
 /// The settings with more of them put in one after another.
-pub fn merge(alloc: Global, settings: &[Setting], more: &[Setting]) -> Result<Sequence<Setting>, NoMemory>
+pub fn merge(
+    alloc: Global,
+    settings: &[Setting],
+    more: &[Setting],
+) -> Result<Sequence<Setting>, NoMemory>
     ensures { IfOk result (λ all. all ≡ merged settings.now more.now) }
 {
     let mut all = Vec::from_slice(alloc, settings)?;

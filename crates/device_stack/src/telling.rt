@@ -7,7 +7,9 @@ ghost use Rattle.device_stack.specs.Worded.{IsAnswer};
 
 use crate::journal::Journal;
 use crate::kind::{ASSOCIATION, Kind, node};
-use class_core::{CoreMessage, Decimal, Level, Mode, NodeList, Number, Seconds, SetpointKind, Switch};
+use class_core::{
+    CoreMessage, Decimal, Level, Mode, NodeList, Number, Seconds, SetpointKind, Switch,
+};
 use class_info::{BatteryLevel, InfoMessage};
 use std::alloc::Global;
 use zw_base::{EndPoint, Name, NoMemory, Property};
@@ -183,7 +185,13 @@ pub fn tell_value(kind: Kind, journal: &Journal, end: EndPoint, name: &Name) -> 
 
 /// The report of the members of a group, where the kind has groups.
 #[tactic(auto, unfolding(crate::specs::Telling::told))]
-fn tell_members(alloc: Global, kind: Kind, journal: &Journal, end: EndPoint, group: u8) -> Result<Option<InfoMessage>, NoMemory>
+fn tell_members(
+    alloc: Global,
+    kind: Kind,
+    journal: &Journal,
+    end: EndPoint,
+    group: u8,
+) -> Result<Option<InfoMessage>, NoMemory>
     ensures value { IfOk result (λ report. report ≡ told kind (λ property. value_after journal.now property 0) end (InfoMessage.AssociationGet group)) }
     ensures answer { IfOk result (λ report. IfSome report (λ report. IsAnswer report)) }
 {
@@ -200,7 +208,13 @@ fn tell_members(alloc: Global, kind: Kind, journal: &Journal, end: EndPoint, gro
 
 /// The report that a Get at an end point is answered with.
 #[tactic(auto, unfolding(crate::specs::Telling::told))]
-pub fn tell(alloc: Global, kind: Kind, journal: &Journal, end: EndPoint, message: &InfoMessage) -> Result<Option<InfoMessage>, NoMemory>
+pub fn tell(
+    alloc: Global,
+    kind: Kind,
+    journal: &Journal,
+    end: EndPoint,
+    message: &InfoMessage,
+) -> Result<Option<InfoMessage>, NoMemory>
     ensures value { IfOk result (λ report. report ≡ told kind (λ property. value_after journal.now property 0) end message.now) }
     ensures answer { IfOk result (λ report. IfSome report (λ report. IsAnswer report)) }
 {

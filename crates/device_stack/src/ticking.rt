@@ -40,13 +40,7 @@ fn value_by_hand(name: Name, value: u8) -> u32
     ensures { result ≡ by_hand name value }
 {
     match name {
-        Name::Switch | Name::Lock => {
-            if value == 0 {
-                0
-            } else {
-                ON
-            }
-        }
+        Name::Switch | Name::Lock => { if value == 0 { 0 } else { ON } }
         Name::Level => u32::from(value.min(FULL_LEVEL)),
         Name::Mode => u32::from(value % MODES),
         Name::Setpoint(_)
@@ -64,7 +58,9 @@ impl Stack {
         requires { self.now.clock + 1 < 2 ^ 64 }
         ensures { result ≡ (aged self.now).awake }
     {
-        self.awake && (self.kind.listens() || (self.clock + 1).saturating_sub(self.active_at) < AWAKE_TICKS)
+        self.awake
+            && (self.kind.listens()
+                || (self.clock + 1).saturating_sub(self.active_at) < AWAKE_TICKS)
     }
 
     /// One tick more on the clock.

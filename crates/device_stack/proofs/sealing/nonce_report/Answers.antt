@@ -1,6 +1,4 @@
-use Rattle.std.proofs.Common.{◌≡◌, ℕ, List, length, ◌∙◌, ap, arith}
-use Rattle.class_info.specs.InfoSpelling.{form}
-use Rattle.class_info.specs.declared.message.InfoMessage.TheVariants.{NonceReport}
+use Rattle.std.proofs.Common.{◌∙◌}
 use Rattle.device_stack.proofs.SizeLemmas.{nonce_payload}
 use Rattle.device_stack.proofs.sealing.nonce_report.Goals as goal
 

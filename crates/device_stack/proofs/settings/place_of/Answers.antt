@@ -10,5 +10,5 @@ loop-i-preserved c =
     below_more (λ k. IsAfter c.args.settings.now c.args.property.now k) c.loop-i.i c.loop-i.invariant
     (λ setting e.
     let same : c.index-settings-i.result ≡ setting =
-        c.index-settings-i.is ∙ get_or_from_slice_get c.args.settings.now c.loop-i.i setting c.index-settings-i.result e in
+    c.index-settings-i.is ∙ get_or_from_slice_get c.args.settings.now c.loop-i.i setting c.index-settings-i.result e in
     ap (λ (x : Setting). property_cmp c.args.property.now x.property) (sym same) ∙ sym c.in-Greater.ensures)

@@ -1,4 +1,4 @@
-use Rattle.std.proofs.Common.{◌≡◌, ◌+◌, ◌<◌, ◌≤◌, ◌++◌, ◌∷◌, [], ℕ, List, take, length, Bool, true, false, sym, ◌∙◌, ap, subst, arith, length-append}
+use Rattle.std.proofs.Common.{◌≡◌, ◌+◌, ◌<◌, ◌≤◌, ◌++◌, ◌∷◌, [], ℕ, List, take, length, Bool, sym, ◌∙◌, ap, subst, arith, length-append}
 use Rattle.std.specs.Prelude.{filter, not, ◌==◌}
 use Rattle.zw_base.specs.declared.property.Name.TheVariants as names
 use Rattle.zw_base.specs.declared.property.Property.{Property}
@@ -21,7 +21,7 @@ loop-before-preserved c =
     elim c.if-value-ne0.branch [
       | then-value-ne0+then-len-from+in_ok-push w ↦
           let more : c.if-value-ne0.nodes ≡ c.loop-before.nodes ++ (c.loop-before.before + 1) ∷ [] =
-              w.nodes-is ∙ w.in_ok-push.ensures.ok ∙ ap (λ (n : ℕ). c.loop-before.nodes ++ n ∷ []) c.node-member.ensures in
+          w.nodes-is ∙ w.in_ok-push.ensures.ok ∙ ap (λ (n : ℕ). c.loop-before.nodes ++ n ∷ []) c.node-member.ensures in
           record {
             found =
                 ap (λ (x : List ℕ). take 5 (x ++ filter p (nodes_from (c.loop-before.before + 1)))) more
@@ -32,21 +32,21 @@ loop-before-preserved c =
                 omega (arith, w.len.ensures, w.from.ensures);
           }
       | else-value-ne0 w ↦ elim w.else-value-ne0.branch [
-          | else-value-ne0-via-then-value-ne0+else-len-from v ↦
-              let five : length c.loop-before.nodes ≡ 5 = omega (arith, v.len.ensures, v.from.ensures, c.loop-before.invariant.few) in
-              record {
-                found =
-                    ap (λ (x : List ℕ). take 5 (x ++ filter p (nodes_from (c.loop-before.before + 1)))) w.nodes-is
-                    ∙ members_full p c.loop-before.before c.loop-before.nodes all five c.loop-before.invariant.found;
-                few = subst (λ (x : List ℕ). length x ≤ 5) (sym w.nodes-is) c.loop-before.invariant.few;
-              }
-          | else-value-ne0-via-else-value-ne0 v ↦ record {
+        | else-value-ne0-via-then-value-ne0+else-len-from v ↦
+            let five : length c.loop-before.nodes ≡ 5 = omega (arith, v.len.ensures, v.from.ensures, c.loop-before.invariant.few) in
+            record {
               found =
                   ap (λ (x : List ℕ). take 5 (x ++ filter p (nodes_from (c.loop-before.before + 1)))) w.nodes-is
-                  ∙ members_out p c.loop-before.before c.loop-before.nodes all less (sym tests ∙ is_zero c.value.result v.if-value-ne0.false) c.loop-before.invariant.found;
+                  ∙ members_full p c.loop-before.before c.loop-before.nodes all five c.loop-before.invariant.found;
               few = subst (λ (x : List ℕ). length x ≤ 5) (sym w.nodes-is) c.loop-before.invariant.few;
             }
-        ]
+        | else-value-ne0-via-else-value-ne0 v ↦ record {
+          found =
+              ap (λ (x : List ℕ). take 5 (x ++ filter p (nodes_from (c.loop-before.before + 1)))) w.nodes-is
+              ∙ members_out p c.loop-before.before c.loop-before.nodes all less (sym tests ∙ is_zero c.value.result v.if-value-ne0.false) c.loop-before.invariant.found;
+          few = subst (λ (x : List ℕ). length x ≤ 5) (sym w.nodes-is) c.loop-before.invariant.few;
+        }
+      ]
     ]
 
 pub returns-clause-value : goal.returns-clause-value
@@ -56,4 +56,4 @@ returns-clause-value c =
     let p : ℕ → Bool = is_member_of values c.args.end c.args.group in
     let full : 232 ≡ c.loop-before.before = omega arith in
     members_done p c.loop-before.nodes (take 5 (filter p all_nodes)) c.loop-before.invariant.few
-        (ap (λ (n : ℕ). take 5 (c.loop-before.nodes ++ filter p (nodes_from n))) full ∙ c.loop-before.invariant.found)
+    (ap (λ (n : ℕ). take 5 (c.loop-before.nodes ++ filter p (nodes_from n))) full ∙ c.loop-before.invariant.found)

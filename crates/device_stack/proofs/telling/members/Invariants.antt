@@ -1,4 +1,4 @@
-use Rattle.std.proofs.Common.{◌≡◌, ◌+◌, ◌-◌, ◌≤◌, ◌++◌, take, length}
+use Rattle.std.proofs.Common.{◌≡◌, ◌≤◌, ◌++◌, take, length}
 use Rattle.std.specs.Prelude.{filter}
 use Rattle.device_stack.specs.Kind.{all_nodes, nodes_from}
 use Rattle.device_stack.specs.Values.{value_after}

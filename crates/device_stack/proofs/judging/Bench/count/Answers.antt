@@ -1,4 +1,4 @@
-use Rattle.std.proofs.Common.{◌≡◌, ◌+◌, ◌<◌, ℕ, Bool, true, false, sym, ◌∙◌, ap, arith}
+use Rattle.std.proofs.Common.{◌≡◌, ◌+◌, ◌<◌, ℕ, Bool, sym, ◌∙◌, ap, arith}
 use Rattle.std.specs.Prelude.{count_by, not, ◌==◌}
 use Rattle.zw_base.specs.declared.property.Name.TheVariants as names
 use Rattle.zw_base.specs.declared.property.Property.{Property}
@@ -16,23 +16,23 @@ loop-before-preserved c =
     let p : ℕ → Bool = is_member values c.args.settings.now c.args.self.now.end in
     let less : c.loop-before.before < 232 = omega arith in
     let value : c.value_with.result ≡ value_by c.args.settings.now (at (c.loop-before.before + 1)) (values (at (c.loop-before.before + 1))) =
-        c.value_with.ensures
-        ∙ ap (λ (x : ℕ). value_by c.args.settings.now (at c.node.result) x) c.value.ensures
-        ∙ ap (λ (n : ℕ). value_by c.args.settings.now (at n) (values (at n))) c.node.ensures in
+    c.value_with.ensures
+    ∙ ap (λ (x : ℕ). value_by c.args.settings.now (at c.node.result) x) c.value.ensures
+    ∙ ap (λ (n : ℕ). value_by c.args.settings.now (at n) (values (at n))) c.node.ensures in
     let tests : not (c.value_with.result == 0) ≡ p (c.loop-before.before + 1) = ap (λ (v : ℕ). not (v == 0)) value in
     elim c.if-value_with-ne0.branch [
       | then-value_with-ne0 w ↦ record {
-          counted =
-              ap (λ (n : ℕ). n + count_by p (nodes_from (c.loop-before.before + 1))) w.count-is
-              ∙ count_in p c.loop-before.before c.loop-before.count (count_by p all_nodes) less (sym tests ∙ not_zero c.value_with.result w.if-value_with-ne0.true) c.loop-before.invariant.counted;
-          small = omega arith;
-        }
+        counted =
+            ap (λ (n : ℕ). n + count_by p (nodes_from (c.loop-before.before + 1))) w.count-is
+            ∙ count_in p c.loop-before.before c.loop-before.count (count_by p all_nodes) less (sym tests ∙ not_zero c.value_with.result w.if-value_with-ne0.true) c.loop-before.invariant.counted;
+        small = omega arith;
+      }
       | else-value_with-ne0 w ↦ record {
-          counted =
-              ap (λ (n : ℕ). n + count_by p (nodes_from (c.loop-before.before + 1))) w.count-is
-              ∙ count_out p c.loop-before.before c.loop-before.count (count_by p all_nodes) less (sym tests ∙ is_zero c.value_with.result w.if-value_with-ne0.false) c.loop-before.invariant.counted;
-          small = omega arith;
-        }
+        counted =
+            ap (λ (n : ℕ). n + count_by p (nodes_from (c.loop-before.before + 1))) w.count-is
+            ∙ count_out p c.loop-before.before c.loop-before.count (count_by p all_nodes) less (sym tests ∙ is_zero c.value_with.result w.if-value_with-ne0.false) c.loop-before.invariant.counted;
+        small = omega arith;
+      }
     ]
 
 pub returns-clause-value : goal.returns-clause-value

@@ -1,4 +1,4 @@
-use Rattle.std.proofs.Common.{◌≡◌, ◌+◌, ◌-◌, ◌≤◌}
+use Rattle.std.proofs.Common.{◌≡◌, ◌+◌, ◌≤◌}
 use Rattle.std.specs.Prelude.{count_by}
 use Rattle.device_stack.specs.Kind.{all_nodes, nodes_from}
 use Rattle.device_stack.specs.Values.{value_by, value_after}

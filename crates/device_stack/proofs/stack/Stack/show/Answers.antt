@@ -1,5 +1,5 @@
-use Rattle.std.proofs.Common.{◌≡◌, ℕ, ◌+◌, ◌-◌, ◌<◌, List, [], ◌∷◌, ◌++◌, sym, ◌∙◌, ap, arith}
-use Rattle.std.specs.Prelude.{Option, Some, None}
+use Rattle.std.proofs.Common.{◌≡◌, ℕ, ◌+◌, ◌-◌, ◌<◌, List, ◌++◌, sym, ◌∙◌, ap, arith}
+use Rattle.std.specs.Prelude.{Option}
 use Rattle.std.specs.List.{range_with_len, filter_map}
 use Rattle.zw_base.specs.declared.property.Property.{Property}
 use Rattle.zw_base.specs.declared.property.Setting.{Setting}
@@ -19,8 +19,8 @@ loop-at-preserved c =
     let counted : c.property_count-at-end.result ≡ n = c.property_count-at-end.ensures ∙ ap (λ (s : State). property_count s.kind) c.self.view_is in
     let less : c.loop-at.at < n = omega (arith, c.loop-at-test.true, counted) in
     let here : c.shown.result ≡ f c.loop-at.at =
-        c.shown.ensures
-        ∙ ap (λ (p : Property). shown_at c.args.self.now p) (c.property-property.ensures ∙ ap (λ (s : State). property_at s.kind c.loop-at.at) c.self.view_is) in
+    c.shown.ensures
+    ∙ ap (λ (p : Property). shown_at c.args.self.now p) (c.property-property.ensures ∙ ap (λ (s : State). property_at s.kind c.loop-at.at) c.self.view_is) in
     elim c.match-shown.branch [
       | in-Some+in_ok-push-in-Some w ↦
           ap (λ (x : List Setting). x ++ rest) (ap (λ x. x.items) w.shown-is ∙ w.in_ok-push-in-Some.ensures.ok)
