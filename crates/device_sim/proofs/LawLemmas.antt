@@ -1,7 +1,6 @@
 -- What one event does to journal and sessions, step by step through the definition.
-use Rattle.std.proofs.Common.{◌≡◌, ◌≢◌, ℕ, zero, suc, ◌+◌, ◌-◌, ◌≤◌, ◌<◌, ◌⊎◌, inl, inr, List, [], ◌∷◌, length, Bool, true, false, Ok, Err, Result, refl, sym, ◌∙◌, ap, subst, arith}
+use Rattle.std.proofs.Common.{◌≡◌, ◌≢◌, ℕ, ◌+◌, inl, inr, List, length, Bool, true, false, Ok, Err, Result, refl, subst}
 use Rattle.std.specs.Prelude.{Option, Some, None, ◌==◌, ◌&&◌, not, nat_lt, slice_index, if◌then◌else◌}
-use Rattle.zw_base.specs.declared.property.Setting.{Setting}
 use Rattle.supervision.specs.Session.{wire_id}
 use Rattle.supervision.specs.Device.{Taken, is_new, is_again, heard_of}
 use Rattle.supervision.specs.declared.device_book.Heard.TheVariants as heard
@@ -30,13 +29,13 @@ use Rattle.device_stack.specs.declared.effect.Effect.TheVariants.{Ignores, Sleep
 use Rattle.device_stack.specs.declared.verdict.Verdict.{Verdict}
 use Rattle.device_stack.specs.declared.verdict.Verdict.TheVariants.{NoSupport, Fails, Makes, Works}
 use Rattle.device_stack.specs.Kind.{listens, lists, has_end}
-use Rattle.device_stack.specs.State.{State, Outcome, silent, value_of, last_level_of}
+use Rattle.device_stack.specs.State.{State, silent, value_of, last_level_of}
 use Rattle.device_stack.specs.Judging.{judged_set}
 use Rattle.device_stack.specs.Telling.{told}
 use Rattle.device_stack.specs.Sealing.{keys_of, unsealed_at}
 use Rattle.device_stack.specs.Effects.{end_of, set_plainly, effect_untold, telling, effect_alone, effect_in_session, effect_by, effect_of, takes, after_effect}
-use Rattle.device_stack.specs.Hearing.{Answered, answers, answers_opened, answers_bytes, hears_openly, nonce_named, sent_sealed, hears_inside, hears_plain, hears_for, hears_sealed, seals_for, takes_nonce, hears_nonces, hears_securely, segment_session, assembles, repeats_segment, hears_segment, hears_in_segments, hears_by, active, hears}
-use Rattle.device_sim.specs.Event.{DeviceEvent, Hears, Ticks, Wakes, Sets, outcome_of, device_after}
+use Rattle.device_stack.specs.Hearing.{Answered, answers, answers_opened, answers_bytes, hears_openly, nonce_named, sent_sealed, hears_inside, hears_plain, hears_for, hears_sealed, seals_for, hears_nonces, hears_securely, segment_session, assembles, repeats_segment, hears_segment, hears_in_segments, hears_by, active, hears}
+use Rattle.device_sim.specs.Event.{Hears, Sets, outcome_of, device_after}
 use Rattle.device_sim.specs.Laws.{IsHeard}
 
 -- ---- a session is taken only by a device that is not at work
@@ -96,10 +95,12 @@ by_free device plan commands (Some asked) = supervised (lists device.kind 0x6C)
     again : (b : Bool) → IsFree device (effect_in_session device plan commands (if b then heard.Again device.sessions.status else heard.Old))
     again true = tt
     again false = tt
+
     new : (b : Bool) → is_new device.sessions asked.id ≡ b
         → IsFree device (effect_in_session device plan commands (if b then heard.New (device.sessions.taken + 1) else (if is_again device.sessions asked.id then heard.Again device.sessions.status else heard.Old)))
     new true e = not_working device.sessions asked.id e
     new false e = again (is_again device.sessions asked.id)
+
     supervised : (b : Bool) → IsFree device (if b then effect_in_session device plan commands (heard_of device.sessions asked.id) else Ignores)
     supervised true = new (is_new device.sessions asked.id) refl
     supervised false = tt
@@ -213,6 +214,7 @@ segment_as device segment = next (id_of segment == segment_session (device.sessi
     last : (b : Bool) → IsHeard device (if b then repeats_segment device segment else silent device).device
     last true = inl (refl, (refl, refl))
     last false = inl (refl, (refl, refl))
+
     next : (b : Bool) → IsHeard device (if b then assembles device segment (taken_at device.reassembly segment)
         else if nat_lt 0 device.sessions.taken && (id_of segment == segment_session device.sessions.taken) && ends_its_datagram segment
         then repeats_segment device segment else silent device).device

@@ -1,5 +1,5 @@
 -- A nonce that is named is spent.
-use Rattle.std.proofs.Common.{◌≡◌, ℕ, ◌≤◌, List, length, Bool, true, false, refl, sym, ◌∙◌, ap, subst, arith}
+use Rattle.std.proofs.Common.{◌≡◌, ℕ, ◌≤◌, List, length, Bool, true, false, refl, sym, subst, arith}
 use Rattle.std.specs.Prelude.{Option, Some, None, nat_lt, if◌then◌else◌}
 use Rattle.std.proofs.lemmas.Bool.Decides.{nat_tests}
 use Rattle.class_info.specs.InfoReading.{info_at}
@@ -7,7 +7,6 @@ use Rattle.encap.specs.Opening.{Message, begins_with, opened_at}
 use Rattle.encap.specs.Wraps.{is_crc16}
 use Rattle.encap.specs.declared.plan.Plan.{Plan}
 use Rattle.encap.specs.declared.plan.Supervised.{Supervised}
-use Rattle.s0_session.specs.declared.account.Account.{Account}
 use Rattle.s0_session.specs.Nonces.{after_spend, nonce_spent}
 use Rattle.device_stack.specs.declared.kind.Kind.{Kind}
 use Rattle.device_stack.specs.declared.kind.Kind.TheVariants.{Lock}
@@ -15,11 +14,11 @@ use Rattle.device_stack.specs.declared.effect.Effect.{Effect}
 use Rattle.device_stack.specs.declared.effect.Effect.TheVariants.{Ignores, Sleeps, Tells, Sets, Repeats, Takes}
 use Rattle.device_stack.specs.declared.verdict.Verdict.{Verdict}
 use Rattle.device_stack.specs.declared.verdict.Verdict.TheVariants.{NoSupport, Fails, Makes, Works}
-use Rattle.device_stack.specs.State.{State, Outcome, silent}
+use Rattle.device_stack.specs.State.{State, silent}
 use Rattle.device_stack.specs.Sealing.{keys_of, unsealed_at}
 use Rattle.device_stack.specs.Effects.{effect_of, takes, after_effect}
 use Rattle.device_stack.specs.Hearing.{Answered, answers, nonce_named, sent_sealed, hears_inside, hears_plain, hears_for, hears_sealed, hears_nonces, hears_securely, hears_by, active, hears}
-use Rattle.device_sim.specs.Event.{DeviceEvent, Hears, outcome_of, device_after}
+use Rattle.device_sim.specs.Event.{Hears, outcome_of, device_after}
 
 takes_given : (device : State) (plan : Plan) (asked : Supervised) (verdict : Verdict) → (takes device plan asked verdict).given ≡ device.given
 takes_given device plan asked (Makes settings) = refl
@@ -93,6 +92,7 @@ named_is_spent device payload drawn lock awake begins long = awake_as device.awa
     lock_as : (kind : Kind) → kind ≡ Lock → (hears_by kind (active device) payload drawn).device.given ≡ after_spend device.given (nonce_named payload)
     lock_as kind e = subst (λ (k : Kind). (hears_by k (active device) payload drawn).device.given ≡ after_spend device.given (nonce_named payload)) (sym e)
         (securely_spent (active device) payload drawn begins long)
+
     awake_as : (b : Bool) → b ≡ true → (if b then hears_by device.kind (active device) payload drawn else silent device).device.given ≡ after_spend device.given (nonce_named payload)
     awake_as true e = lock_as device.kind lock
     awake_as false e = let bad : false ≡ true = e in absurd (cc)

@@ -1,5 +1,5 @@
 -- The sessions of changes rise, event by event.
-use Rattle.std.proofs.Common.{◌≡◌, ◌≢◌, ℕ, zero, suc, ◌+◌, ◌-◌, ◌≤◌, ◌<◌, ◌⊎◌, inl, inr, List, [], ◌∷◌, ◌++◌, Bool, true, false, refl, sym, ◌∙◌, ap, subst, arith}
+use Rattle.std.proofs.Common.{◌≡◌, ◌≢◌, ℕ, zero, suc, ◌+◌, ◌-◌, ◌≤◌, ◌<◌, inl, inr, List, [], ◌∷◌, ◌++◌, Bool, true, false, refl, sym, ◌∙◌, ap, subst, arith}
 use Rattle.std.specs.Prelude.{◌==◌, if◌then◌else◌}
 use Rattle.std.proofs.lemmas.Bool.Decides.{nat_tests}
 use Rattle.class_info.specs.declared.message.InfoMessage.TheVariants.{WakeUpNotification}
@@ -13,11 +13,11 @@ use Rattle.device_stack.specs.declared.kind.Kind.{Kind}
 use Rattle.device_stack.specs.declared.verdict.Verdict.{Verdict}
 use Rattle.device_stack.specs.declared.verdict.Verdict.TheVariants.{NoSupport, Fails, Makes, Works}
 use Rattle.device_stack.specs.Kind.{listens, main_name_of}
-use Rattle.device_stack.specs.State.{State, Outcome, silent, fresh}
+use Rattle.device_stack.specs.State.{State, silent, fresh}
 use Rattle.device_stack.specs.Judging.{setting_of, status_of}
 use Rattle.device_stack.specs.Ticking.{aged, works_out, ticked, woken, by_hand, set_by_hand}
 use Rattle.device_sim.specs.Event.{DeviceEvent, Hears, Ticks, Wakes, Sets, outcome_of, device_after}
-use Rattle.device_sim.specs.Laws.{IsChanged, IsUntaken, IsMade, IsTaken, IsObeyed, IsHeard, IsWorkedOut, IsTicked, with_number, numbers, Rises, done, IsInOrder}
+use Rattle.device_sim.specs.Laws.{IsChanged, IsUntaken, IsMade, IsHeard, IsTicked, with_number, numbers, Rises, done, IsInOrder}
 use Rattle.device_sim.proofs.LawLemmas.{heard_as}
 
 -- ---- a tick, a wake-up, by hand
@@ -79,14 +79,14 @@ by_session : (journal journal' : List Change) (number : ℕ) (settings : List Se
     → Rises 0 (numbers journal) high → high < number → Rises 0 (numbers journal') number
 by_session journal journal' number settings high e is more =
     subst (λ (ns : List ℕ). Rises 0 ns number) (sym (ap numbers e ∙ numbers_append journal (record { by = Session number; settings = settings } ∷ [])))
-        (rises_on 0 (numbers journal) high number is more)
+    (rises_on 0 (numbers journal) high number is more)
 
 by_none : (journal journal' : List Change) (by : By) (settings : List Setting) (high : ℕ) → with_number by [] ≡ [] → IsChanged journal by settings journal'
     → Rises 0 (numbers journal) high → Rises 0 (numbers journal') high
 by_none journal journal' by settings high none e is =
     subst (λ (ns : List ℕ). Rises 0 ns high)
-        (sym (ap numbers e ∙ numbers_append journal (record { by = by; settings = settings } ∷ []) ∙ ap (λ (ns : List ℕ). numbers journal ++ ns) none ∙ nothing_more (numbers journal)))
-        is
+    (sym (ap numbers e ∙ numbers_append journal (record { by = by; settings = settings } ∷ []) ∙ ap (λ (ns : List ℕ). numbers journal ++ ns) none ∙ nothing_more (numbers journal)))
+    is
 
 -- ---- how many are done
 
@@ -175,7 +175,7 @@ ticks_in_order device false true n l is =
     let some : 0 < device.work_left = omega arith in
     let first : 0 < device.sessions.taken = (is.working some).1 in
     let before : Rises 0 (numbers device.journal) (device.sessions.taken - 1) =
-        subst (λ (h : ℕ). Rises 0 (numbers device.journal) h) (at_work device.work_left device.sessions.taken some) (parts device is).rising in
+    subst (λ (h : ℕ). Rises 0 (numbers device.journal) h) (at_work device.work_left device.sessions.taken some) (parts device is).rising in
     record {
       rising = by_session device.journal (works_out (aged device)).device.journal device.sessions.taken device.work.settings (device.sessions.taken - 1) refl before (omega arith);
       working = λ none. absurd (omega arith);
@@ -185,7 +185,7 @@ ticks_in_order device false false n l is =
     let some : 0 < device.work_left = omega arith in
     let less : 0 < device.work_left - 1 = omega arith in
     let same : done_by device.work_left device.sessions.taken ≡ done_by (device.work_left - 1) device.sessions.taken =
-        at_work device.work_left device.sessions.taken some ∙ sym (at_work (device.work_left - 1) device.sessions.taken less) in
+    at_work device.work_left device.sessions.taken some ∙ sym (at_work (device.work_left - 1) device.sessions.taken less) in
     whole (record (aged device) { work_left = device.work_left - 1 }) (record {
       rising = subst (λ (h : ℕ). Rises 0 (numbers device.journal) h) same (parts device is).rising;
       working = λ more. is.working some;

@@ -11,12 +11,9 @@
 mod device;
 mod kinds;
 mod laws;
-mod profile;
 mod recorder;
 mod simulated;
 mod starved;
-#[cfg(test)]
-mod tests;
 
 pub use device::Device;
 pub use device_stack::{Change, Kind};
@@ -25,7 +22,7 @@ pub use kinds::{
     make_lock, make_relay, make_sensor, make_strip, make_switch, make_thermostat,
 };
 pub use laws::{nonces_are_spent, sessions_rise, when_changes_come};
-pub use profile::Profile;
 pub use recorder::Recorder;
 pub use simulated::Simulated;
 pub use starved::Starved;
+pub use zw_base::Profile;

@@ -1,6 +1,6 @@
 //! Each kind called through its bound, with the bytes of worked scenarios; hostile payloads; the wrappers.
 
-use crate::{
+use device_sim::{
     Device, Recorder, Starved, make_config, make_dimmer, make_lock, make_relay, make_sensor,
     make_strip, make_switch, make_thermostat,
 };
