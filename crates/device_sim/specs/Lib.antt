@@ -1,3 +1,4 @@
 pub mod Kind
 pub mod State
 pub mod Event
+pub mod Laws

@@ -1,8 +1,10 @@
 //! The trait of the simulated devices.
 
-ghost use Rattle.std.specs.Prelude.{◌≡◌, ℕ, ◌<◌, ◌≤◌, [], List, length, slice_get, IfOk, OnOk, OnErr};
+ghost use Rattle.std.specs.Prelude.{◌≡◌, ℕ, ◌<◌, ◌≤◌, [], List, All, length, slice_get, IfOk, OnOk, OnErr};
 ghost use Rattle.device_sim.specs.Kind.{listens, classes_of};
 ghost use Rattle.device_sim.specs.State.{State};
+ghost use Rattle.device_stack.specs.Showing.{shown_of};
+ghost use Rattle.device_stack.specs.Worded.{IsPayload};
 ghost use Rattle.device_sim.specs.Event.{DeviceEvent, Hears, Ticks, Wakes, Sets, device_after, device_replies};
 
 use crate::{Change, Profile};
@@ -32,6 +34,7 @@ pub trait Device: Drop {
         requires { out.old ≡ [] }
         ensures ok { OnOk result (state self.new ≡ device_after (state self.old) (Hears payload.now drawn)) }
         ensures replies { OnOk result (out.new ≡ device_replies (state self.old) (Hears payload.now drawn)) }
+        ensures sizes { OnOk result (All IsPayload out.new) }
         ensures err { OnErr result (state self.new ≡ state self.old) }
         ensures err_replies { OnErr result (out.new ≡ []) };
 
@@ -40,6 +43,7 @@ pub trait Device: Drop {
         requires { out.old ≡ [] }
         ensures ok { OnOk result (state self.new ≡ device_after (state self.old) (Ticks drawn)) }
         ensures replies { OnOk result (out.new ≡ device_replies (state self.old) (Ticks drawn)) }
+        ensures sizes { OnOk result (All IsPayload out.new) }
         ensures err { OnErr result (state self.new ≡ state self.old) }
         ensures err_replies { OnErr result (out.new ≡ []) };
 
@@ -48,6 +52,7 @@ pub trait Device: Drop {
         requires { out.old ≡ [] }
         ensures ok { OnOk result (state self.new ≡ device_after (state self.old) Wakes) }
         ensures replies { OnOk result (out.new ≡ device_replies (state self.old) Wakes) }
+        ensures sizes { OnOk result (All IsPayload out.new) }
         ensures err { OnErr result (state self.new ≡ state self.old) }
         ensures err_replies { OnErr result (out.new ≡ []) };
 
@@ -56,11 +61,13 @@ pub trait Device: Drop {
         requires { out.old ≡ [] }
         ensures ok { OnOk result (state self.new ≡ device_after (state self.old) (Sets value)) }
         ensures replies { OnOk result (out.new ≡ device_replies (state self.old) (Sets value)) }
+        ensures sizes { OnOk result (All IsPayload out.new) }
         ensures err { OnErr result (state self.new ≡ state self.old) }
         ensures err_replies { OnErr result (out.new ≡ []) };
 
     /// The main property and the others that are not 0, in the order of properties, with their values.
-    fn show(&self, alloc: Global) -> Result<List<Setting>, NoMemory>;
+    fn show(&self, alloc: Global) -> Result<List<Setting>, NoMemory>
+        ensures { IfOk result (λ shown. shown.items ≡ shown_of (state self.now)) };
 
     /// How many changes it made.
     fn changes(&self) -> u64

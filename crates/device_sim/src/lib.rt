@@ -2,13 +2,27 @@
 //! change made by hand.
 //!
 //! `Device` is the trait of all kinds. Its contract says each answer and each new state exactly, as a function of the
-//! state before. A call that finds no memory leaves the device as it was. The definitions stand in `specs/`.
+//! state before. A call that finds no memory leaves the device as it was. The eight kinds are made by `make_switch` to
+//! `make_relay`; `Starved` and `Recorder` own a device of any kind and are devices themselves.
+//! The definitions stand in `specs/`: `Kind` and `State` are those of `device_stack`, `Event` says what may happen.
+//! The laws that follow from them alone are in `laws`.
 #![tactic(auto)]
 
-mod change;
 mod device;
-mod kind;
+mod kinds;
+mod laws;
+mod recorder;
+mod simulated;
+mod starved;
 
-pub use change::Change;
 pub use device::Device;
-pub use kind::{Kind, Profile};
+pub use device_stack::{Change, Kind};
+pub use kinds::{
+    Configurable, Dimmer, Lock, Relay, Sensor, Strip, Switch, Thermostat, make_config, make_dimmer,
+    make_lock, make_relay, make_sensor, make_strip, make_switch, make_thermostat,
+};
+pub use laws::{nonces_are_spent, sessions_rise, when_changes_come};
+pub use recorder::Recorder;
+pub use simulated::Simulated;
+pub use starved::Starved;
+pub use zw_base::Profile;

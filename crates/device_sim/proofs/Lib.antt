@@ -1,0 +1,3 @@
+pub mod LawLemmas
+pub mod OrderLemmas
+pub mod NonceLemmas

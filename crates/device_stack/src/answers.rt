@@ -1,0 +1,142 @@
+//! How a device words its answers.
+
+ghost use Rattle.std.specs.Prelude.{◌≡◌, false, ◌<◌, ◌≤◌, length, [], ◌∷◌, IfOk};
+ghost use Rattle.supervision.specs.Session.{wire_id};
+ghost use Rattle.device_stack.specs.Answers.{report_status, asks_to_wake, status_report, final_report, swapped, answer_plan, worded};
+ghost use Rattle.device_stack.specs.Worded.{IsAnswer, IsShort, IsPayload};
+
+use crate::Stack;
+use class_info::{InfoMessage, ReportStatus, SessionId};
+use encap::{Ends, Plan, Supervised, wrap};
+use std::alloc::Global;
+use supervision::{FAIL, NO_SUPPORT, WORKING, session_id};
+use zw_base::{Bytes, List, NoMemory, Payload};
+
+/// The first node whose sensors ask to be kept awake.
+const FIRST_OF_VERSION_2: u8 = 101;
+
+/// The byte of the time until a later report, in seconds.
+const WORK_SECONDS: u8 = 1;
+
+/// These bytes as a payload.
+pub fn payload(bytes: &[u8]) -> Payload
+    requires { length bytes.now ≤ 46 }
+    ensures { result ≡ bytes.now }
+{
+    match Payload::of(bytes) {
+        Some(payload) => payload,
+        None => unreachable!(),
+    }
+}
+
+/// The status that a device keeps, as a report carries it.
+fn status_of(status: u8) -> ReportStatus
+    ensures { result ≡ report_status status }
+{
+    match status {
+        NO_SUPPORT => ReportStatus::NoSupport,
+        WORKING => ReportStatus::Working,
+        FAIL => ReportStatus::Fail,
+        _ => ReportStatus::Success,
+    }
+}
+
+/// The id of a session.
+fn session(id: u8) -> SessionId
+    requires { id < 64 }
+    ensures { result ≡ id }
+{
+    match SessionId::of(id) {
+        Some(session) => session,
+        None => unreachable!(),
+    }
+}
+
+/// The end points the other way round.
+fn swap(channel: Option<Ends>) -> Option<Ends>
+    ensures { result ≡ swapped channel }
+{
+    match channel {
+        Some(ends) => Some(Ends {
+            source: ends.target,
+            target: ends.source,
+        }),
+        None => None,
+    }
+}
+
+/// The wraps of the answer to a message with these wraps.
+pub fn answering(plan: &Plan) -> Plan
+    ensures { result ≡ answer_plan plan.now }
+{
+    Plan {
+        batch: false,
+        session: None,
+        channel: swap(plan.channel),
+        outer: plan.outer,
+    }
+}
+
+/// A message in the wraps of an answer.
+pub fn word(alloc: Global, plan: &Plan, message: &InfoMessage) -> Result<Bytes, NoMemory>
+    requires alone { plan.now.batch ≡ false }
+    requires unsupervised { plan.now.session ≡ None }
+    requires answer { IsAnswer message.now }
+    ensures value { IfOk result (λ text. text ≡ worded plan.now message.now) }
+    ensures short { IfOk result (λ text. IsShort text) }
+{
+    let mut commands = List::new(alloc);
+    commands.push(class_info::write(alloc, message)?)?;
+    match wrap(alloc, plan, &commands) {
+        Ok(text) => Ok(text),
+        Err(_) => Err(NoMemory),
+    }
+}
+
+impl Stack {
+    /// Whether it asks with each final status to be kept awake.
+    fn asks_to_wake(&self) -> bool
+        ensures { result ≡ asks_to_wake self.now }
+    {
+        !self.kind.listens() && self.node.number() >= FIRST_OF_VERSION_2
+    }
+
+    /// The report of a status that answers a Get.
+    pub(crate) fn status_report(&self, asked: Supervised, status: u8) -> InfoMessage
+        requires { asked.id < 64 }
+        ensures value { result ≡ status_report self.now asked status }
+        ensures answer { IsAnswer result }
+    {
+        let session = session(asked.id);
+        if status == WORKING {
+            return InfoMessage::SupervisionReport {
+                more: asked.updates,
+                wake_request: false,
+                session,
+                status: ReportStatus::Working,
+                duration: WORK_SECONDS,
+            };
+        }
+        InfoMessage::SupervisionReport {
+            more: false,
+            wake_request: self.asks_to_wake(),
+            session,
+            status: status_of(status),
+            duration: 0,
+        }
+    }
+
+    /// The report of the end of the work of the last session taken.
+    pub(crate) fn final_report(&self) -> InfoMessage
+        ensures value { result ≡ final_report self.now }
+        ensures answer { IsAnswer result }
+    {
+        InfoMessage::SupervisionReport {
+            more: false,
+            wake_request: self.asks_to_wake(),
+            session: session(session_id(self.sessions.taken())),
+            status: ReportStatus::Success,
+            duration: 0,
+        }
+    }
+}

@@ -1,0 +1,221 @@
+//! How a lock opens and seals messages.
+
+ghost use Rattle.std.specs.Prelude.{◌≡◌, ◌-◌, ◌≤◌, [], length, slice_index, IfOk, OnOk, OnErr, All, Some};
+ghost use Rattle.encap.specs.Opening.{opened_at};
+ghost use Rattle.class_info.specs.InfoReading.{info_at};
+ghost use Rattle.class_info.specs.InfoSpelling.{form};
+ghost use Rattle.device_stack.specs.Sealing.{keys_of, unsealed_at};
+ghost use Rattle.device_stack.specs.Hearing.{hears_securely, hears_sealed, hears_for, hears_plain, hears_inside, hears_nonces, gives_nonce, takes_nonce};
+ghost use Rattle.device_stack.specs.Worded.{IsPayload};
+
+use crate::Stack;
+use crate::answers::payload;
+use crate::kind::{SECURITY, node};
+use crate::stack::HOST;
+use class_core::ClassFault;
+use class_info::InfoMessage;
+use encap::{Outer, WrapFault};
+use s0_crypto::{SealEnds, SealFault, keys, unseal};
+use std::alloc::Global;
+use zw_base::{Bytes, NoMemory, Payload, Replies};
+
+/// The command of a Security message.
+const MESSAGE: u8 = 0x81;
+
+/// Nonce Get.
+const NONCE_GET: u8 = 0x40;
+
+/// The bytes of the shortest Security message.
+const SHORTEST: usize = 20;
+
+/// Where a message names a nonce, counted from its end.
+const NAMED: usize = 9;
+
+/// The most bytes that are opened.
+pub(crate) const MOST: usize = 65_534;
+
+/// The plain text of a message for a nonce of its receiver, where it opens.
+fn open(
+    alloc: Global,
+    key: [u8; 16],
+    nonce: [u8; 8],
+    ends: &SealEnds,
+    bytes: &[u8],
+) -> Result<Option<Bytes>, NoMemory>
+    requires long { 20 ≤ length bytes.now }
+    requires class { slice_index bytes.now 0 ≡ 0x98 }
+    requires command { slice_index bytes.now 1 ≡ 0x81 }
+    requires named { slice_index bytes.now (length bytes.now - 9) ≡ slice_index nonce 0 }
+    ensures { IfOk result (λ plain. plain ≡ unsealed_at (keys_of key) nonce ends.now bytes.now) }
+{
+    match unseal(alloc, &keys(key), nonce, ends, bytes) {
+        Ok(plain) => Ok(Some(plain)),
+        Err(SealFault::NoMemory) => Err(NoMemory),
+        Err(SealFault::Short) => Ok(None),
+        Err(SealFault::BadCode { .. }) => Ok(None),
+        Err(SealFault::Sequence(_)) => Ok(None),
+    }
+}
+
+impl Stack {
+    /// Hears what comes to a lock.
+    #[tactic(auto, unfolding(crate::specs::Hearing::hears_securely))]
+    pub(crate) fn hear_securely(
+        &mut self,
+        payload: &[u8],
+        drawn: [u8; 8],
+        out: &mut Replies,
+    ) -> Result<(), NoMemory>
+        requires { out.old ≡ [] }
+        ensures ok { OnOk result (self.new ≡ (hears_securely self.old payload.now drawn).device) }
+        ensures replies { OnOk result (out.new ≡ (hears_securely self.old payload.now drawn).replies) }
+        ensures sizes { OnOk result (All IsPayload out.new) }
+        ensures err { OnErr result (self.new ≡ self.old) }
+        ensures err_replies { OnErr result (out.new ≡ []) }
+    {
+        if payload.len() >= 2 && payload[0] == SECURITY && payload[1] == MESSAGE {
+            return self.hear_sealed(payload, out);
+        }
+        match class_info::read(self.alloc, payload) {
+            Ok(InfoMessage::NonceGet) => self.give_nonce(drawn, out),
+            Ok(InfoMessage::NonceReport { nonce }) => self.take_nonce(nonce, drawn, out),
+            Err(ClassFault::NoMemory) => Err(NoMemory),
+            Ok(_) | Err(_) => Ok(()),
+        }
+    }
+
+    /// Gives the host a nonce.
+    fn give_nonce(&mut self, drawn: [u8; 8], out: &mut Replies) -> Result<(), NoMemory>
+        requires { out.old ≡ [] }
+        ensures ok { OnOk result (self.new ≡ (gives_nonce self.old drawn).device) }
+        ensures replies { OnOk result (out.new ≡ (gives_nonce self.old drawn).replies) }
+        ensures sizes { OnOk result (All IsPayload out.new) }
+        ensures err { OnErr result (self.new ≡ self.old) }
+        ensures err_replies { OnErr result (out.new ≡ []) }
+    {
+        if self.given.given() == u64::MAX {
+            return Err(NoMemory);
+        }
+        let mut given = self.given;
+        let nonce = given.give(drawn);
+        let report = nonce_report(self.alloc, nonce)?;
+        self.given = given;
+        out.push(report);
+        Ok(())
+    }
+
+    /// Seals the pending answer for a nonce of the host.
+    fn take_nonce(
+        &mut self,
+        nonce: [u8; 8],
+        drawn: [u8; 8],
+        out: &mut Replies,
+    ) -> Result<(), NoMemory>
+        requires { out.old ≡ [] }
+        ensures ok { OnOk result (self.new ≡ (takes_nonce self.old nonce drawn).device) }
+        ensures replies { OnOk result (out.new ≡ (takes_nonce self.old nonce drawn).replies) }
+        ensures sizes { OnOk result (All IsPayload out.new) }
+        ensures err { OnErr result (self.new ≡ self.old) }
+        ensures err_replies { OnErr result (out.new ≡ []) }
+    {
+        let _eight = nonce_len(&drawn);
+        let Some(message) = self.sealing.offer(&keys(self.key), nonce, drawn)? else {
+            return Ok(());
+        };
+        out.push(payload(message.as_slice()));
+        Ok(())
+    }
+
+    /// Hears a Security message: the nonce that it names is spent, whether it opens or not.
+    #[tactic(auto, unfolding(crate::specs::Hearing::hears_sealed))]
+    fn hear_sealed(&mut self, payload: &[u8], out: &mut Replies) -> Result<(), NoMemory>
+        requires empty { out.old ≡ [] }
+        requires class { slice_index payload.now 0 ≡ 0x98 }
+        requires command { slice_index payload.now 1 ≡ 0x81 }
+        ensures ok { OnOk result (self.new ≡ (hears_sealed self.old payload.now).device) }
+        ensures replies { OnOk result (out.new ≡ (hears_sealed self.old payload.now).replies) }
+        ensures sizes { OnOk result (All IsPayload out.new) }
+        ensures err { OnErr result (self.new ≡ self.old) }
+        ensures err_replies { OnErr result (out.new ≡ []) }
+    {
+        if payload.len() < SHORTEST {
+            return Ok(());
+        }
+        let before = self.given;
+        let Some(nonce) = self.given.spend(payload[payload.len() - NAMED]) else {
+            return Ok(());
+        };
+        let heard = self.hear_for(payload, nonce, out);
+        if heard.is_err() {
+            self.given = before;
+        }
+        heard
+    }
+
+    /// Hears a Security message for a nonce that was live.
+    fn hear_for(
+        &mut self,
+        payload: &[u8],
+        nonce: [u8; 8],
+        out: &mut Replies,
+    ) -> Result<(), NoMemory>
+        requires empty { out.old ≡ [] }
+        requires long { 20 ≤ length payload.now }
+        requires class { slice_index payload.now 0 ≡ 0x98 }
+        requires command { slice_index payload.now 1 ≡ 0x81 }
+        requires named { slice_index payload.now (length payload.now - 9) ≡ slice_index nonce 0 }
+        ensures ok { OnOk result (self.new ≡ (hears_for self.old payload.now (Some nonce)).device) }
+        ensures replies { OnOk result (out.new ≡ (hears_for self.old payload.now (Some nonce)).replies) }
+        ensures sizes { OnOk result (All IsPayload out.new) }
+        ensures err { OnErr result (self.new ≡ self.old) }
+        ensures err_replies { OnErr result (out.new ≡ []) }
+    {
+        let ends = SealEnds {
+            sender: node(HOST),
+            receiver: self.node,
+        };
+        match open(self.alloc, self.key, nonce, &ends, payload)? {
+            Some(plain) => self.hear_inside(plain.as_slice(), out),
+            None => Ok(()),
+        }
+    }
+
+    /// Hears what was sealed. The answer waits for a nonce of the host, which is asked for.
+    fn hear_inside(&mut self, plain: &[u8], out: &mut Replies) -> Result<(), NoMemory>
+        requires empty { out.old ≡ [] }
+        ensures ok { OnOk result (self.new ≡ (hears_inside self.old (opened_at plain.now)).device) }
+        ensures replies { OnOk result (out.new ≡ (hears_inside self.old (opened_at plain.now)).replies) }
+        ensures sizes { OnOk result (All IsPayload out.new) }
+        ensures err { OnErr result (self.new ≡ self.old) }
+        ensures err_replies { OnErr result (out.new ≡ []) }
+    {
+        let Some(opened) = self.unpacked(plain)? else {
+            return Ok(());
+        };
+        if opened.plan.outer == Outer::Crc16 {
+            return Ok(());
+        }
+        if let Some(answer) = self.answer(&opened)? {
+            self.sealing.ask(answer);
+            out.push(payload(&[SECURITY, NONCE_GET]));
+        }
+        Ok(())
+    }
+}
+
+/// How many bytes a nonce has.
+fn nonce_len(nonce: &[u8; 8]) -> usize
+    ensures { length nonce.now ≡ 8 }
+{
+    let bytes: &[u8] = nonce;
+    bytes.len()
+}
+
+/// The report of a nonce.
+fn nonce_report(alloc: Global, nonce: [u8; 8]) -> Result<Payload, NoMemory>
+    ensures value { IfOk result (λ payload. payload ≡ form (InfoMessage.NonceReport nonce)) }
+    ensures size { IfOk result (λ payload. IsPayload payload) }
+{
+    let text = class_info::write(alloc, &InfoMessage::NonceReport { nonce })?;
+    Ok(payload(text.as_slice()))
+}

@@ -1,0 +1,190 @@
+//! How a device hears in segments.
+
+ghost use Rattle.std.specs.Prelude.{◌≡◌, ◌+◌, ◌<◌, ◌^◌, [], ℕ, List, IfOk, OnOk, OnErr, All, Some, IsTrue};
+ghost use Rattle.class_info.specs.InfoSpelling.{form};
+ghost use Rattle.transport_segments.specs.Segment.{id_of, IsSegment};
+ghost use Rattle.transport_segments.specs.Taking.{taken_at};
+ghost use Rattle.device_stack.specs.Hearing.{segment_session as session_of_segments, hears_in_segments, hears_segment, assembles, acknowledged, repeats_segment, hears_openly};
+ghost use Rattle.device_stack.specs.Worded.{IsPayload};
+
+use crate::Stack;
+use crate::answers::payload as payload_of;
+use crate::kind::TRANSPORT_SERVICE;
+use class_info::InfoMessage;
+use encap::Supervised;
+use supervision::session_id;
+use transport_segments::{SegmentFault, Taken, ends_datagram, segment_id};
+use zw_base::{NoMemory, Payload, Replies};
+
+/// Segment Request.
+const REQUEST: u8 = 0xC8;
+
+/// Segment Complete.
+const COMPLETE: u8 = 0xE8;
+
+/// How many sessions of segments the wire tells apart.
+const TRANSPORT_IDS: u64 = 16;
+
+/// The session of segments on the wire.
+fn segment_session(session: u64) -> u8
+    ensures value { result ≡ session_of_segments session }
+    ensures range { result < 16 }
+{
+    (session % TRANSPORT_IDS) as u8
+}
+
+/// That a datagram is whole.
+fn complete(id: u8) -> Payload
+    requires { id < 16 }
+    ensures value { result ≡ form (InfoMessage.TransportComplete id) }
+    ensures size { IsPayload result }
+{
+    payload_of(&[TRANSPORT_SERVICE, COMPLETE, id * 16])
+}
+
+/// That a segment is missing.
+fn request(id: u8, offset: u16) -> Payload
+    requires id { id < 16 }
+    requires offset { offset < 2048 }
+    ensures value { result ≡ form (InfoMessage.TransportRequest id offset) }
+    ensures size { IsPayload result }
+{
+    payload_of(&[
+        TRANSPORT_SERVICE,
+        REQUEST,
+        id * 16 + (offset / 256) as u8,
+        (offset % 256) as u8,
+    ])
+}
+
+impl Stack {
+    /// Hears a payload that may be a segment.
+    #[tactic(auto, unfolding(crate::specs::Hearing::hears_in_segments))]
+    pub(crate) fn hear_in_segments(
+        &mut self,
+        payload: &[u8],
+        out: &mut Replies,
+    ) -> Result<(), NoMemory>
+        requires { out.old ≡ [] }
+        ensures ok { OnOk result (self.new ≡ (hears_in_segments self.old payload.now).device) }
+        ensures replies { OnOk result (out.new ≡ (hears_in_segments self.old payload.now).replies) }
+        ensures sizes { OnOk result (All IsPayload out.new) }
+        ensures err { OnErr result (self.new ≡ self.old) }
+        ensures err_replies { OnErr result (out.new ≡ []) }
+    {
+        match segment_id(payload) {
+            Some(id) => self.hear_segment(id, payload, out),
+            None => self.hear_openly(payload, out),
+        }
+    }
+
+    /// Hears a segment of that session.
+    #[tactic(auto, unfolding(crate::specs::Hearing::hears_segment))]
+    fn hear_segment(&mut self, id: u8, segment: &[u8], out: &mut Replies) -> Result<(), NoMemory>
+        requires empty { out.old ≡ [] }
+        requires segment { IsSegment segment.now }
+        requires id { id ≡ id_of segment.now }
+        ensures ok { OnOk result (self.new ≡ (hears_segment self.old segment.now).device) }
+        ensures replies { OnOk result (out.new ≡ (hears_segment self.old segment.now).replies) }
+        ensures sizes { OnOk result (All IsPayload out.new) }
+        ensures err { OnErr result (self.new ≡ self.old) }
+        ensures err_replies { OnErr result (out.new ≡ []) }
+    {
+        let taken = self.sessions.taken();
+        if taken == u64::MAX {
+            return Err(NoMemory);
+        }
+        if id == segment_session(taken + 1) {
+            return self.assemble(id, segment, out);
+        }
+        if taken > 0 && id == segment_session(taken) && ends_datagram(segment) == Some(true) {
+            return self.repeat_segment(id, out);
+        }
+        Ok(())
+    }
+
+    /// Keeps a segment of the session that comes next, and hears the datagram that it completes.
+    fn assemble(&mut self, id: u8, segment: &[u8], out: &mut Replies) -> Result<(), NoMemory>
+        requires empty { out.old ≡ [] }
+        requires range { id < 16 }
+        requires id { id ≡ id_of segment.now }
+        ensures ok { OnOk result (self.new ≡ (assembles self.old segment.now (taken_at self.old.reassembly segment.now)).device) }
+        ensures replies { OnOk result (out.new ≡ (assembles self.old segment.now (taken_at self.old.reassembly segment.now)).replies) }
+        ensures sizes { OnOk result (All IsPayload out.new) }
+        ensures err { OnErr result (self.new ≡ self.old) }
+        ensures err_replies { OnErr result (out.new ≡ []) }
+    {
+        match self.reassembly.completes(segment) {
+            Ok(Some(datagram)) => self.hear_whole(id, datagram.as_slice(), out),
+            Ok(None) => self.keep(id, segment, out),
+            Err(SegmentFault::NoMemory) => Err(NoMemory),
+            Err(_) => Ok(()),
+        }
+    }
+
+    /// Hears a whole datagram.
+    #[tactic(auto, unfolding(crate::specs::Hearing::hears_openly))]
+    fn hear_whole(&mut self, id: u8, datagram: &[u8], out: &mut Replies) -> Result<(), NoMemory>
+        requires empty { out.old ≡ [] }
+        requires range { id < 16 }
+        ensures ok { OnOk result (self.new ≡ (acknowledged id (hears_openly self.old datagram.now)).device) }
+        ensures replies { OnOk result (out.new ≡ (acknowledged id (hears_openly self.old datagram.now)).replies) }
+        ensures sizes { OnOk result (All IsPayload out.new) }
+        ensures err { OnErr result (self.new ≡ self.old) }
+        ensures err_replies { OnErr result (out.new ≡ []) }
+    {
+        let answer = self.answer_bytes(datagram)?;
+        self.reassembly.clear();
+        out.push(complete(id));
+        if let Some(text) = answer {
+            out.push(payload_of(text.as_slice()));
+        }
+        Ok(())
+    }
+
+    /// Keeps a segment that completes nothing.
+    #[tactic(auto, unfolding(transport_segments::specs::Taking::kept_after))]
+    fn keep(&mut self, id: u8, segment: &[u8], out: &mut Replies) -> Result<(), NoMemory>
+        requires empty { out.old ≡ [] }
+        requires range { id < 16 }
+        requires id { id ≡ id_of segment.now }
+        requires part { (datagram : List ℕ) → taken_at self.old.reassembly segment.now ≡ Some (Taken.Whole datagram) → ⊥ }
+        ensures ok { OnOk result (self.new ≡ (assembles self.old segment.now (taken_at self.old.reassembly segment.now)).device) }
+        ensures replies { OnOk result (out.new ≡ (assembles self.old segment.now (taken_at self.old.reassembly segment.now)).replies) }
+        ensures sizes { OnOk result (All IsPayload out.new) }
+        ensures err { OnErr result (self.new ≡ self.old) }
+        ensures err_replies { OnErr result (out.new ≡ []) }
+    {
+        match self.reassembly.take(segment) {
+            Ok(Taken::Need(at)) => {
+                out.push(request(id, at));
+                Ok(())
+            }
+            Ok(Taken::Kept) => Ok(()),
+            Ok(Taken::Whole(_)) => unreachable!(),
+            Err(SegmentFault::NoMemory) => Err(NoMemory),
+            Err(_) => Ok(()),
+        }
+    }
+
+    /// Answers the last segment of the last session taken again.
+    fn repeat_segment(&mut self, id: u8, out: &mut Replies) -> Result<(), NoMemory>
+        requires empty { out.old ≡ [] }
+        requires range { id < 16 }
+        ensures ok { OnOk result (self.new ≡ self.old) }
+        ensures replies { (segment : List ℕ) → id ≡ id_of segment → OnOk result (out.new ≡ (repeats_segment self.old segment).replies) }
+        ensures sizes { OnOk result (All IsPayload out.new) }
+        ensures err { OnErr result (self.new ≡ self.old) }
+        ensures err_replies { OnErr result (out.new ≡ []) }
+    {
+        let asked = Supervised {
+            updates: false,
+            id: session_id(self.sessions.taken()),
+        };
+        let report = self.status_report(asked, self.sessions.status());
+        let text = class_info::write(self.alloc, &report)?;
+        out.push(complete(id));
+        out.push(payload_of(text.as_slice()));
+        Ok(())
+    }
+}
