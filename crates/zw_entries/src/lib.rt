@@ -1,0 +1,9 @@
+//! Reading the entries of a transcript.
+//!
+//! It promises that no two entries, and no two transcripts, have one text.
+//! The text of an entry is that of `zw_text`, in `specs/Entry`; which entries there are is said in `specs/Fits`.
+#![tactic(auto)]
+
+mod laws;
+
+pub use laws::{entries_without_feed, one_entry_each, one_transcript_each};
