@@ -1,8 +1,7 @@
 -- Each entry is found again from its text, so that no two have the same; and no text of an entry has a line feed.
-use Rattle.std.proofs.Common.{◌≡◌, ℕ, zero, suc, ◌+◌, ◌<◌, ◌≤◌, ◌^◌, eqb, Bool, true, false, cond, not, ◌&&◌, Option, List, [], ◌∷◌, ◌++◌, get_or, drop, codes, decimal, bytes_eq, count_by, arith, ap, ap₂, refl, ◌∙◌, sym}
+use Rattle.std.proofs.Common.{◌≡◌, ℕ, zero, suc, ◌+◌, ◌<◌, ◌≤◌, ◌^◌, eqb, ltb, le-ltb, length, Bool, true, false, cond, not, ◌&&◌, Option, List, [], ◌∷◌, ◌++◌, get_or, drop, codes, decimal, bytes_eq, count_by, arith, ap, ap₂, refl, ◌∙◌, sym}
 use Rattle.std.specs.List.{AllByRecursion, join_with_byte, list_all}
 use Rattle.std.proofs.lemmas.Bool.{and_from}
-use Rattle.std.proofs.lemmas.List.Splits.{join_with_byte-slice_split}
 use Rattle.std.proofs.lemmas.List.Sums.{sum_by-cons}
 use Rattle.hex.specs.Hex.{encode_upper}
 use Rattle.zw_base.specs.declared.property.By.{By}
@@ -26,54 +25,32 @@ use Rattle.zw_text.specs.declared.entry.Entry.TheVariants.{Said, Accepted, Refus
 use Rattle.zw_words.specs.Texts.{side_word}
 use Rattle.zw_text.specs.Entry.{by_word, done_word, ended_word, ends_word, entry_text, entry_words, failed_word, fault_word, number_word, number_words, property_word, refusal_words}
 use Rattle.zw_text.specs.Fits.{AreBytes, EntryFits, IsByte, IsEight, IsFour, IsNode, IsOneLine, RefusalFits, SettingFits, feeds}
-use Rattle.zw_entries.proofs.Pieces.{Lacks, Solid, all-lack, but_last, hex-back, hex-solid, hex_back, lacks-append, last_of, number-back, number-lacks, number-solid, number_back, parts, parts-at, parts-joined, parts-none}
-use Rattle.zw_entries.proofs.Words.{at, side_back, side-back, side-solid, ended_back, ended-back, ended-solid, done_back, done-back, done-solid, fault_back, fault-back, fault-solid, failed_back, failed-back, failed-solid, node64, byte64, two64, four64, each, first-digit, by_back, by-back, by-solid, some_number, option_back, option-back, option-solid, numbers_back, maps-back, numbers-back, but-last-numbers, last-numbers, maps-solid, numbers-solid, name_back, name-back, unslashed, name-lacks, solid_byte, name-solid, make_property, property_of, property_back, end64, property-back, property-solid, make_setting, setting_back, setting-back}
+use Rattle.zw_entries.specs.Reading.{air_back, at, back, but_last, by_back, byte_back, class_back, command_back, done_back, eight_back, end_back, ended_back, failed_back, fate_back, fault_back, first_byte, four_back, hex_back, last_of, node_back, node_row_back, node_word_back, nodes_back, numbers_back, option_back, parts, payload_back, property_back, refusal_back, refused_back, setting_back, side_back, side_row_back, text_back, text_of, two_back, unit_back, valued_back, value_back}
+use Rattle.zw_entries.proofs.Pieces.{Lacks, Solid, all-lack, hex-back, hex-solid, lacks-append, number-lacks, number-solid, parts-at, parts-joined, parts-none}
+use Rattle.zw_entries.proofs.Words.{side-back, side-solid, ended-back, ended-solid, done-back, done-solid, fault-back, fault-solid, failed-back, failed-solid, node64, byte64, two64, four64, each, first-digit, eight-back, four-back, two-back, byte-back, end-back, node-back, by-back, by-solid, option-back, option-solid, maps-back, listed-back, nodes-back, numbers-back, but-last-numbers, last-numbers, maps-solid, numbers-solid, name-back, unslashed, name-lacks, solid_byte, name-solid, end64, property-back, property-solid, setting-back}
 
 -- ---- refusals
 
-abbrev refusal_back : List (List ℕ) → Refusal
-refusal_back ws =
-    cond (bytes_eq (at 0 ws) (codes "notjoined")) NotJoined
-    (cond (bytes_eq (at 0 ws) (codes "notinterviewed")) NotInterviewed
-    (cond (bytes_eq (at 0 ws) (codes "unsupported")) (Unsupported (get_or (hex_back (at 1 ws)) 0 0))
-    (cond (bytes_eq (at 0 ws) (codes "badvalue")) BadValue
-    (cond (bytes_eq (at 0 ws) (codes "unsupervised")) Unsupervised
-    (cond (bytes_eq (at 0 ws) (codes "toolong")) (TooLong (number_back (at 1 ws)))
-    (cond (bytes_eq (at 0 ws) (codes "mailboxfull")) (MailboxFull (number_back (at 1 ws)))
-    (cond (bytes_eq (at 0 ws) (codes "storefull")) (StoreFull (number_back (at 1 ws)))
-    (cond (bytes_eq (at 0 ws) (codes "secured")) Secured
-    (cond (bytes_eq (at 0 ws) (codes "queuefull")) (QueueIsFull (number_back (at 1 ws)))
-    (cond (bytes_eq (at 0 ws) (codes "alreadyjoined")) AlreadyJoined
-    (cond (bytes_eq (at 0 ws) (codes "keeperfault")) KeeperFault
-    (cond (bytes_eq (at 0 ws) (codes "notwaiting")) (NotWaiting (number_back (at 1 ws)))
-    (cond (bytes_eq (at 0 ws) (codes "neversent")) NeverSent
-    (cond (bytes_eq (at 0 ws) (codes "forgotten")) Forgotten
-    (cond (bytes_eq (at 0 ws) (codes "stale")) (Stale (number_back (at 1 ws)))
-    (cond (bytes_eq (at 0 ws) (codes "nodevice")) NoDevice
-    (BadRecord (number_back (at 1 ws)))))))))))))))))))
-
-first_byte : List ℕ → ℕ
-first_byte bytes = get_or bytes 0 0
-
-refusal-back : (r : Refusal) → RefusalFits r → refusal_back (refusal_words r) ≡ r
-refusal-back NotJoined fits = refl
-refusal-back NotInterviewed fits = refl
-refusal-back (Unsupported class) fits = ap (λ (bytes : List ℕ). Unsupported (get_or bytes 0 0)) (hex-back (class ∷ []) (fits, tt))
-refusal-back BadValue fits = refl
-refusal-back Unsupervised fits = refl
-refusal-back (TooLong n) fits = ap TooLong (number-back n (two64 n fits))
-refusal-back (MailboxFull n) fits = ap MailboxFull (number-back n (byte64 n fits))
-refusal-back (StoreFull n) fits = ap StoreFull (number-back n (two64 n fits))
-refusal-back Secured fits = refl
-refusal-back (QueueIsFull n) fits = ap QueueIsFull (number-back n (byte64 n fits))
-refusal-back AlreadyJoined fits = refl
-refusal-back KeeperFault fits = refl
-refusal-back (NotWaiting n) fits = ap NotWaiting (number-back n (four64 n fits))
-refusal-back NeverSent fits = refl
-refusal-back Forgotten fits = refl
-refusal-back (Stale n) fits = ap Stale (number-back n fits)
-refusal-back NoDevice fits = refl
-refusal-back (BadRecord n) fits = ap BadRecord (number-back n fits)
+refused-back : (r : Refusal) → RefusalFits r → refused_back (codes "refused" ∷ refusal_words r) ≡ Refused r
+unfolding refused_back refusal_back valued_back class_back
+refused-back NotJoined fits = refl
+refused-back NotInterviewed fits = refl
+refused-back (Unsupported class) fits = ap (λ (bytes : List ℕ). Refused (Unsupported (get_or bytes 0 0))) (hex-back (class ∷ []) (fits, tt))
+refused-back BadValue fits = refl
+refused-back Unsupervised fits = refl
+refused-back (TooLong n) fits = ap (λ x. Refused (TooLong x)) (two-back n fits)
+refused-back (MailboxFull n) fits = ap (λ x. Refused (MailboxFull x)) (byte-back n fits)
+refused-back (StoreFull n) fits = ap (λ x. Refused (StoreFull x)) (two-back n fits)
+refused-back Secured fits = refl
+refused-back (QueueIsFull n) fits = ap (λ x. Refused (QueueIsFull x)) (byte-back n fits)
+refused-back AlreadyJoined fits = refl
+refused-back KeeperFault fits = refl
+refused-back (NotWaiting n) fits = ap (λ x. Refused (NotWaiting x)) (four-back n fits)
+refused-back NeverSent fits = refl
+refused-back Forgotten fits = refl
+refused-back (Stale n) fits = ap (λ x. Refused (Stale x)) (eight-back n fits)
+refused-back NoDevice fits = refl
+refused-back (BadRecord n) fits = ap (λ x. Refused (BadRecord x)) (eight-back n fits)
 
 refusal-solid : (r : Refusal) → RefusalFits r → AllByRecursion Solid (refusal_words r)
 refusal-solid NotJoined fits = (refl, tt)
@@ -98,73 +75,24 @@ refusal-solid (BadRecord n) fits = (refl, (number-solid n fits, tt))
 -- ---- the two ends of a frame
 
 abbrev ends_parts : List (List ℕ) → (frame : ℕ) → List ℕ → List ℕ → Entry
-ends_parts ps frame repeaters payload = Air frame (number_back (at 0 ps)) (number_back (at 1 ps)) repeaters payload
+ends_parts ps frame repeaters payload = Air frame (node_back (at 0 ps)) (node_back (at 1 ps)) repeaters payload
 
 ends-back : (a b frame : ℕ) (repeaters payload : List ℕ) → IsNode a → IsNode b → ends_parts (parts 62 (ends_word a b)) frame repeaters payload ≡ Air frame a b repeaters payload
 ends-back a b frame repeaters payload low high =
     ap (λ (ps : List (List ℕ)). ends_parts ps frame repeaters payload) (parts-joined 62 (decimal a) (decimal b ∷ []) (number-lacks 62 a (omega arith) (node64 a low), (number-lacks 62 b (omega arith) (node64 b high), tt)))
-    ∙ ap₂ (λ (x y : ℕ). Air frame x y repeaters payload) (number-back a (node64 a low)) (number-back b (node64 b high))
+    ∙ ap₂ (λ (x y : ℕ). Air frame x y repeaters payload) (node-back a low) (node-back b high)
+
+payload-back : (p : List ℕ) → AreBytes p → length p ≤ 46 → payload_back (encode_upper p) ≡ p
+unfolding payload_back
+payload-back p are short =
+    ap (λ (bytes : List ℕ). cond (ltb 46 (length bytes)) [] bytes) (hex-back p are)
+    ∙ ap (λ t. cond t [] p) (le-ltb 46 (length p) short)
 
 ends-solid : (a b : ℕ) → IsNode a → IsNode b → Solid (ends_word a b)
 ends-solid a b low high =
     lacks-append solid_byte (decimal a) (codes ">" ++ decimal b) (number-solid a (node64 a low)) (number-solid b (node64 b high))
 
 -- ---- entries
-
-abbrev with_node : List (List ℕ) → (ℕ → Entry) → Entry
-with_node ws make = make (number_back (at 0 ws))
-
--- the entry of a first word and of those behind it
-abbrev row_back : List ℕ → List (List ℕ) → Entry
-row_back w ws =
-    cond (bytes_eq w (codes ">")) (Said (join_with_byte 32 ws))
-    (cond (bytes_eq w (codes "json")) (Json (join_with_byte 32 ws))
-    (cond (bytes_eq w (codes "accepted")) (Accepted (number_back (at 0 ws)) (number_back (at 2 ws)))
-    (cond (bytes_eq w (codes "refused")) (Refused (refusal_back ws))
-    (cond (bytes_eq w (codes "begin")) (Begin (number_back (at 0 ws)) (number_back (at 1 ws)) (number_back (at 2 ws)))
-    (cond (bytes_eq w (codes "h")) (Written Host (hex_back (at 0 ws)))
-    (cond (bytes_eq w (codes "c")) (Written Chip (hex_back (at 0 ws)))
-    (cond (bytes_eq w (codes "dropped")) (Dropped (side_back (at 0 ws)))
-    (cond (bytes_eq w (codes "garbled")) (Garbled (side_back (at 0 ws)) (hex_back (at 1 ws)))
-    (cond (bytes_eq w (codes "overrun")) (Overrun (side_back (at 0 ws)))
-    (cond (bytes_eq w (codes "air")) (ends_parts (parts 62 (at 1 ws)) (number_back (at 0 ws)) (numbers_back (but_last (drop 3 ws))) (hex_back (last_of (drop 3 ws))))
-    (cond (bytes_eq w (codes "heard")) (Heard (number_back (at 0 ws)))
-    (cond (bytes_eq w (codes "lost")) (Lost (number_back (at 0 ws)))
-    (cond (bytes_eq w (codes "unheard")) (Unheard (number_back (at 0 ws)))
-    (cond (bytes_eq w (codes "dev")) (Dev (number_back (at 0 ws)) (by_back (at 1 ws)) (setting_back (at 2 ws) (at 3 ws)))
-    (cond (bytes_eq w (codes "forget")) (Forget (number_back (at 0 ws)) (number_back (at 1 ws)))
-    (cond (bytes_eq w (codes "out")) (Out (number_back (at 0 ws)) (ended_back (at 1 ws)))
-    (cond (bytes_eq w (codes "store")) (Store (number_back (at 0 ws)) (setting_back (at 1 ws) (at 2 ws)))
-    (cond (bytes_eq w (codes "report")) (Report (number_back (at 0 ws)) (setting_back (at 1 ws) (at 2 ws)))
-    (cond (bytes_eq w (codes "unstored")) (Unstored (number_back (at 0 ws)) (property_back (at 1 ws)))
-    (cond (bytes_eq w (codes "old")) (Old (number_back (at 0 ws)) (number_back (at 1 ws)))
-    (cond (bytes_eq w (codes "unread")) (Unread (number_back (at 0 ws)) (hex_back (at 1 ws)))
-    (cond (bytes_eq w (codes "awake")) (Awake (number_back (at 0 ws)))
-    (cond (bytes_eq w (codes "asleep")) (Asleep (number_back (at 0 ws)))
-    (cond (bytes_eq w (codes "interviewed")) (Interviewed (number_back (at 0 ws)))
-    (cond (bytes_eq w (codes "interview")) (InterviewFailed (number_back (at 0 ws)))
-    (cond (bytes_eq w (codes "done")) (Done (number_back (at 0 ws)) (done_back (at 1 ws)))
-    (cond (bytes_eq w (codes "neighbours")) (Neighbours (number_back (at 0 ws)) (numbers_back (drop 1 ws)))
-    (cond (bytes_eq w (codes "failed")) (Failed (number_back (at 0 ws)) (failed_back (at 1 ws)))
-    (cond (bytes_eq w (codes "chipfull")) ChipFull
-    (cond (bytes_eq w (codes "queuefull")) (QueueFull (number_back (at 0 ws)))
-    (cond (bytes_eq w (codes "device")) (Device (number_back (at 0 ws)) (setting_back (at 1 ws) (at 2 ws)))
-    (cond (bytes_eq w (codes "held")) (Held (number_back (at 0 ws)))
-    (cond (bytes_eq w (codes "cleared")) (Cleared (side_back (at 0 ws)) (number_back (at 1 ws)))
-    (cond (bytes_eq w (codes "unkept")) (Unkept (number_back (at 0 ws)))
-    (cond (bytes_eq w (codes "t")) (Time (number_back (at 0 ws)))
-    (cond (bytes_eq w (codes "end")) (TableEnd (number_back (at 0 ws)))
-    (cond (bytes_eq w (codes "node")) (TableNode (number_back (at 0 ws)) (numbers_back (drop 2 ws)))
-    (cond (bytes_eq w (codes "value")) (TableValue (number_back (at 0 ws)) (property_back (at 1 ws)) (option_back (at 3 ws)) (option_back (at 5 ws)))
-    (BadLine (number_back (at 0 ws)) (fault_back (at 1 ws)))))))))))))))))))))))))))))))))))))))))
-
-abbrev pub back : List (List ℕ) → Entry
-back [] = ChipFull
-back (w ∷ ws) = row_back w ws
-
--- the entry of a text
-abbrev pub text_back : List ℕ → Entry
-text_back text = back (parts 32 text)
 
 -- ---- each of them
 
@@ -178,13 +106,13 @@ join-lacks [] lack = refl
 join-lacks (x ∷ []) lack = lack.0
 join-lacks (x ∷ y ∷ xs) lack = lacks-append (λ b. not (eqb b 10)) x (32 ∷ join_with_byte 32 (y ∷ xs)) lack.0 (join-lacks (y ∷ xs) lack.1)
 
-by_words : (e : Entry) (w : List ℕ) (ws : List (List ℕ)) → entry_words e ≡ w ∷ ws → AllByRecursion Solid (w ∷ ws) → row_back w ws ≡ e → Taken e
+by_words : (e : Entry) (w : List ℕ) (ws : List (List ℕ)) → entry_words e ≡ w ∷ ws → AllByRecursion Solid (w ∷ ws) → text_of (join_with_byte 32 (w ∷ ws)) (w ∷ ws) ≡ e → Taken e
 unfolding entry_text
 by_words e w ws are solid found =
     record {
       comes =
-          ap (λ (vs : List (List ℕ)). back (parts 32 (join_with_byte 32 vs))) are
-          ∙ ap back (parts-joined 32 w ws (all-lack 32 (omega arith) (w ∷ ws) solid))
+          ap (λ (vs : List (List ℕ)). text_back (join_with_byte 32 vs)) are
+          ∙ ap (text_of (join_with_byte 32 (w ∷ ws))) (parts-joined 32 w ws (all-lack 32 (omega arith) (w ∷ ws) solid))
           ∙ found;
       feedless = λ one.
         ap (λ (vs : List (List ℕ)). list_all (λ b. not (eqb b 10)) (join_with_byte 32 vs)) are
@@ -204,14 +132,14 @@ no-feeds (b ∷ bs) none = step b bs none (λ rest. no-feeds bs rest) (eqb b 10)
         and_from (not (eqb b 10)) (list_all (λ x. not (eqb x 10)) bs) (ap not e)
         (further (omega (arith, sum_by-cons (λ y. cond (eqb y 10) 1 0) b bs, ap one_if e, none)))
 
-free : (e : Entry) (w text : List ℕ) → entry_words e ≡ w ∷ text ∷ [] → Solid w → (IsOneLine e → feeds text ≡ 0) → ((ws : List (List ℕ)) → join_with_byte 32 ws ≡ text → row_back w ws ≡ e) → Taken e
+free : (e : Entry) (w text : List ℕ) → entry_words e ≡ w ∷ text ∷ [] → Solid w → (IsOneLine e → feeds text ≡ 0) → ((ws : List (List ℕ)) → text_of (w ++ (32 ∷ text)) (w ∷ ws) ≡ e) → Taken e
 unfolding entry_text
 free e w text are solid one found =
     record {
       comes =
-          ap (λ (vs : List (List ℕ)). back (parts 32 (join_with_byte 32 vs))) are
-          ∙ ap back (parts-at 32 w text ((all-lack 32 (omega arith) (w ∷ []) (solid, tt)).0))
-          ∙ found (parts 32 text) (join_with_byte-slice_split 32 text);
+          ap (λ (vs : List (List ℕ)). text_back (join_with_byte 32 vs)) are
+          ∙ ap (text_of (w ++ (32 ∷ text))) (parts-at 32 w text ((all-lack 32 (omega arith) (w ∷ []) (solid, tt)).0))
+          ∙ found (parts 32 text);
       feedless = λ is.
         ap (λ (vs : List (List ℕ)). list_all (λ b. not (eqb b 10)) (join_with_byte 32 vs)) are
         ∙ join-lacks (w ∷ text ∷ []) ((all-lack 10 (omega arith) (w ∷ []) (solid, tt)).0, (no-feeds text (one is), tt));
@@ -221,67 +149,68 @@ num : (n : ℕ) → IsEight n → Solid (decimal n)
 num n fits = number-solid n fits
 
 pub taken : (e : Entry) → EntryFits e → Taken e
-taken (Said text) fits = free (Said text) (codes ">") text refl refl (λ one. one) (λ ws e. ap Said e)
-taken (Json text) fits = free (Json text) (codes "json") text refl refl (λ one. one) (λ ws e. ap Json e)
+unfolding text_of back unit_back node_word_back node_row_back value_back fate_back side_row_back command_back air_back
+taken (Said text) fits = free (Said text) (codes ">") text refl refl (λ one. one) (λ ws. refl)
+taken (Json text) fits = free (Json text) (codes "json") text refl refl (λ one. one) (λ ws. refl)
 taken (Accepted c n) fits =
     by_words (Accepted c n) _ _ refl (refl, (num c (four64 c fits.0), (refl, (num n (node64 n fits.1), tt))))
-    (ap₂ Accepted (number-back c (four64 c fits.0)) (number-back n (node64 n fits.1)))
-taken (Refused r) fits = by_words (Refused r) _ _ refl (refl, refusal-solid r fits) (ap Refused (refusal-back r fits))
+    (ap₂ Accepted (four-back c fits.0) (node-back n fits.1))
+taken (Refused r) fits = by_words (Refused r) _ _ refl (refl, refusal-solid r fits) (refused-back r fits)
 taken (Begin n s c) fits =
     by_words (Begin n s c) _ _ refl (refl, (num n (node64 n fits.0), (num s fits.1, (num c (four64 c fits.2), tt))))
-    (ap (λ x. Begin x (number_back (decimal s)) (number_back (decimal c))) (number-back n (node64 n fits.0)) ∙ ap₂ (Begin n) (number-back s fits.1) (number-back c (four64 c fits.2)))
+    (ap (λ x. Begin x (eight_back (decimal s)) (four_back (decimal c))) (node-back n fits.0) ∙ ap₂ (Begin n) (eight-back s fits.1) (four-back c fits.2))
 taken (Written Host unit) fits = by_words (Written Host unit) _ _ refl (refl, (hex-solid unit fits, tt)) (ap (Written Host) (hex-back unit fits))
 taken (Written Chip unit) fits = by_words (Written Chip unit) _ _ refl (refl, (hex-solid unit fits, tt)) (ap (Written Chip) (hex-back unit fits))
 taken (Dropped side) fits = by_words (Dropped side) _ _ refl (refl, (side-solid side, tt)) (ap Dropped (side-back side))
 taken (Garbled side unit) fits = by_words (Garbled side unit) _ _ refl (refl, (side-solid side, (hex-solid unit fits, tt))) (ap₂ Garbled (side-back side) (hex-back unit fits))
 taken (Overrun side) fits = by_words (Overrun side) _ _ refl (refl, (side-solid side, tt)) (ap Overrun (side-back side))
 taken (Air i a b r p) fits =
-    let repeaters = each IsNode IsEight node64 r fits.3 in
-    by_words (Air i a b r p) _ _ refl (refl, (num i fits.0, (ends-solid a b fits.1 fits.2, (refl, numbers-solid r (encode_upper p ∷ []) repeaters (hex-solid p fits.4, tt)))))
-    (ends-back a b (number_back (decimal i)) (numbers_back (but_last (number_words r (encode_upper p ∷ [])))) (hex_back (last_of (number_words r (encode_upper p ∷ [])))) fits.1 fits.2
-    ∙ ap (λ x. Air x a b (numbers_back (but_last (number_words r (encode_upper p ∷ [])))) (hex_back (last_of (number_words r (encode_upper p ∷ []))))) (number-back i fits.0)
-    ∙ ap₂ (Air i a b) (ap numbers_back (but-last-numbers r (encode_upper p)) ∙ numbers-back r repeaters) (ap hex_back (last-numbers r (encode_upper p)) ∙ hex-back p fits.4))
-taken (Heard i) fits = by_words (Heard i) _ _ refl (refl, (num i fits, tt)) (ap Heard (number-back i fits))
-taken (Lost i) fits = by_words (Lost i) _ _ refl (refl, (num i fits, tt)) (ap Lost (number-back i fits))
-taken (Unheard i) fits = by_words (Unheard i) _ _ refl (refl, (num i fits, tt)) (ap Unheard (number-back i fits))
+    let ws = number_words r (encode_upper p ∷ []) in
+    by_words (Air i a b r p) _ _ refl (refl, (num i fits.0, (ends-solid a b fits.1 fits.2, (refl, numbers-solid r (encode_upper p ∷ []) (each IsNode IsEight node64 r fits.3) (hex-solid p fits.4, tt)))))
+    (ends-back a b (eight_back (decimal i)) (nodes_back (but_last ws)) (payload_back (last_of ws)) fits.1 fits.2
+    ∙ ap (λ x. Air x a b (nodes_back (but_last ws)) (payload_back (last_of ws))) (eight-back i fits.0)
+    ∙ ap₂ (Air i a b) (ap nodes_back (but-last-numbers r (encode_upper p)) ∙ nodes-back r fits.3) (ap payload_back (last-numbers r (encode_upper p)) ∙ payload-back p fits.4 fits.5))
+taken (Heard i) fits = by_words (Heard i) _ _ refl (refl, (num i fits, tt)) (ap Heard (eight-back i fits))
+taken (Lost i) fits = by_words (Lost i) _ _ refl (refl, (num i fits, tt)) (ap Lost (eight-back i fits))
+taken (Unheard i) fits = by_words (Unheard i) _ _ refl (refl, (num i fits, tt)) (ap Unheard (eight-back i fits))
 taken (Dev n by s) fits =
     by_words (Dev n by s) _ _ refl (refl, (num n (node64 n fits.0), (by-solid by fits.1, (property-solid s.property fits.2.0, (num s.value (four64 s.value fits.2.1), tt)))))
-    (ap (λ x. Dev x (by_back (by_word by)) (setting_back (property_word s.property) (decimal s.value))) (number-back n (node64 n fits.0)) ∙ ap₂ (Dev n) (by-back by fits.1) (setting-back s fits.2))
+    (ap (λ x. Dev x (by_back (by_word by)) (setting_back (property_word s.property) (decimal s.value))) (node-back n fits.0) ∙ ap₂ (Dev n) (by-back by fits.1) (setting-back s fits.2))
 taken (Forget a b) fits =
-    by_words (Forget a b) _ _ refl (refl, (num a (node64 a fits.0), (num b (node64 b fits.1), tt))) (ap₂ Forget (number-back a (node64 a fits.0)) (number-back b (node64 b fits.1)))
-taken (Out c e) fits = by_words (Out c e) _ _ refl (refl, (num c (four64 c fits), (ended-solid e, tt))) (ap₂ Out (number-back c (four64 c fits)) (ended-back e))
+    by_words (Forget a b) _ _ refl (refl, (num a (node64 a fits.0), (num b (node64 b fits.1), tt))) (ap₂ Forget (node-back a fits.0) (node-back b fits.1))
+taken (Out c e) fits = by_words (Out c e) _ _ refl (refl, (num c (four64 c fits), (ended-solid e, tt))) (ap₂ Out (four-back c fits) (ended-back e))
 taken (Store n s) fits =
     by_words (Store n s) _ _ refl (refl, (num n (node64 n fits.0), (property-solid s.property fits.1.0, (num s.value (four64 s.value fits.1.1), tt))))
-    (ap₂ Store (number-back n (node64 n fits.0)) (setting-back s fits.1))
+    (ap₂ Store (node-back n fits.0) (setting-back s fits.1))
 taken (Report n s) fits =
     by_words (Report n s) _ _ refl (refl, (num n (node64 n fits.0), (property-solid s.property fits.1.0, (num s.value (four64 s.value fits.1.1), tt))))
-    (ap₂ Report (number-back n (node64 n fits.0)) (setting-back s fits.1))
-taken (Unstored n p) fits = by_words (Unstored n p) _ _ refl (refl, (num n (node64 n fits.0), (property-solid p fits.1, tt))) (ap₂ Unstored (number-back n (node64 n fits.0)) (property-back p fits.1))
-taken (Old n i) fits = by_words (Old n i) _ _ refl (refl, (num n (node64 n fits.0), (num i (byte64 i fits.1), tt))) (ap₂ Old (number-back n (node64 n fits.0)) (number-back i (byte64 i fits.1)))
-taken (Unread n p) fits = by_words (Unread n p) _ _ refl (refl, (num n (node64 n fits.0), (hex-solid p fits.1, tt))) (ap₂ Unread (number-back n (node64 n fits.0)) (hex-back p fits.1))
-taken (Awake n) fits = by_words (Awake n) _ _ refl (refl, (num n (node64 n fits), tt)) (ap Awake (number-back n (node64 n fits)))
-taken (Asleep n) fits = by_words (Asleep n) _ _ refl (refl, (num n (node64 n fits), tt)) (ap Asleep (number-back n (node64 n fits)))
-taken (Interviewed n) fits = by_words (Interviewed n) _ _ refl (refl, (num n (node64 n fits), tt)) (ap Interviewed (number-back n (node64 n fits)))
-taken (InterviewFailed n) fits = by_words (InterviewFailed n) _ _ refl (refl, (num n (node64 n fits), (refl, tt))) (ap InterviewFailed (number-back n (node64 n fits)))
-taken (Done n d) fits = by_words (Done n d) _ _ refl (refl, (num n (node64 n fits), (done-solid d, tt))) (ap₂ Done (number-back n (node64 n fits)) (done-back d))
+    (ap₂ Report (node-back n fits.0) (setting-back s fits.1))
+taken (Unstored n p) fits = by_words (Unstored n p) _ _ refl (refl, (num n (node64 n fits.0), (property-solid p fits.1, tt))) (ap₂ Unstored (node-back n fits.0) (property-back p fits.1))
+taken (Old n i) fits = by_words (Old n i) _ _ refl (refl, (num n (node64 n fits.0), (num i (byte64 i fits.1), tt))) (ap₂ Old (node-back n fits.0) (byte-back i fits.1))
+taken (Unread n p) fits = by_words (Unread n p) _ _ refl (refl, (num n (node64 n fits.0), (hex-solid p fits.1, tt))) (ap₂ Unread (node-back n fits.0) (hex-back p fits.1))
+taken (Awake n) fits = by_words (Awake n) _ _ refl (refl, (num n (node64 n fits), tt)) (ap Awake (node-back n fits))
+taken (Asleep n) fits = by_words (Asleep n) _ _ refl (refl, (num n (node64 n fits), tt)) (ap Asleep (node-back n fits))
+taken (Interviewed n) fits = by_words (Interviewed n) _ _ refl (refl, (num n (node64 n fits), tt)) (ap Interviewed (node-back n fits))
+taken (InterviewFailed n) fits = by_words (InterviewFailed n) _ _ refl (refl, (num n (node64 n fits), (refl, tt))) (ap InterviewFailed (node-back n fits))
+taken (Done n d) fits = by_words (Done n d) _ _ refl (refl, (num n (node64 n fits), (done-solid d, tt))) (ap₂ Done (node-back n fits) (done-back d))
 taken (Neighbours n list) fits =
     let nodes = each IsNode IsEight node64 list fits.1 in
-    by_words (Neighbours n list) _ _ refl (refl, (num n (node64 n fits.0), numbers-solid list [] nodes tt)) (ap₂ Neighbours (number-back n (node64 n fits.0)) (numbers-back list nodes))
-taken (Failed n b) fits = by_words (Failed n b) _ _ refl (refl, (num n (node64 n fits), (failed-solid b, tt))) (ap₂ Failed (number-back n (node64 n fits)) (failed-back b))
+    by_words (Neighbours n list) _ _ refl (refl, (num n (node64 n fits.0), numbers-solid list [] nodes tt)) (ap₂ Neighbours (node-back n fits.0) (nodes-back list fits.1))
+taken (Failed n b) fits = by_words (Failed n b) _ _ refl (refl, (num n (node64 n fits), (failed-solid b, tt))) (ap₂ Failed (node-back n fits) (failed-back b))
 taken ChipFull fits = by_words ChipFull _ _ refl (refl, tt) refl
-taken (QueueFull n) fits = by_words (QueueFull n) _ _ refl (refl, (num n (node64 n fits), tt)) (ap QueueFull (number-back n (node64 n fits)))
+taken (QueueFull n) fits = by_words (QueueFull n) _ _ refl (refl, (num n (node64 n fits), tt)) (ap QueueFull (node-back n fits))
 taken (Device n s) fits =
     by_words (Device n s) _ _ refl (refl, (num n (node64 n fits.0), (property-solid s.property fits.1.0, (num s.value (four64 s.value fits.1.1), tt))))
-    (ap₂ Device (number-back n (node64 n fits.0)) (setting-back s fits.1))
-taken (Held n) fits = by_words (Held n) _ _ refl (refl, (num n (node64 n fits), tt)) (ap Held (number-back n (node64 n fits)))
-taken (Cleared side k) fits = by_words (Cleared side k) _ _ refl (refl, (side-solid side, (num k fits, tt))) (ap₂ Cleared (side-back side) (number-back k fits))
-taken (Unkept n) fits = by_words (Unkept n) _ _ refl (refl, (num n (node64 n fits), tt)) (ap Unkept (number-back n (node64 n fits)))
-taken (Time i) fits = by_words (Time i) _ _ refl (refl, (num i fits, tt)) (ap Time (number-back i fits))
-taken (TableEnd i) fits = by_words (TableEnd i) _ _ refl (refl, (num i fits, tt)) (ap TableEnd (number-back i fits))
+    (ap₂ Device (node-back n fits.0) (setting-back s fits.1))
+taken (Held n) fits = by_words (Held n) _ _ refl (refl, (num n (node64 n fits), tt)) (ap Held (node-back n fits))
+taken (Cleared side k) fits = by_words (Cleared side k) _ _ refl (refl, (side-solid side, (num k fits, tt))) (ap₂ Cleared (side-back side) (eight-back k fits))
+taken (Unkept n) fits = by_words (Unkept n) _ _ refl (refl, (num n (node64 n fits), tt)) (ap Unkept (node-back n fits))
+taken (Time i) fits = by_words (Time i) _ _ refl (refl, (num i fits, tt)) (ap Time (eight-back i fits))
+taken (TableEnd i) fits = by_words (TableEnd i) _ _ refl (refl, (num i fits, tt)) (ap TableEnd (eight-back i fits))
 taken (TableNode n list) fits =
     let numbers = each IsFour IsEight four64 list fits.1 in
-    by_words (TableNode n list) _ _ refl (refl, (num n (node64 n fits.0), (refl, numbers-solid list [] numbers tt))) (ap₂ TableNode (number-back n (node64 n fits.0)) (numbers-back list numbers))
+    by_words (TableNode n list) _ _ refl (refl, (num n (node64 n fits.0), (refl, numbers-solid list [] numbers tt))) (ap₂ TableNode (node-back n fits.0) (numbers-back list fits.1))
 taken (TableValue n p c h) fits =
     by_words (TableValue n p c h) _ _ refl (refl, (num n (node64 n fits.0), (property-solid p fits.1, (refl, (option-solid c fits.2, (refl, (option-solid h fits.3, tt)))))))
-    (ap₂ (λ x q. TableValue x q (option_back (number_word c)) (option_back (number_word h))) (number-back n (node64 n fits.0)) (property-back p fits.1) ∙ ap₂ (TableValue n p) (option-back c fits.2) (option-back h fits.3))
-taken (BadLine i f) fits = by_words (BadLine i f) _ _ refl (refl, (num i (four64 i fits), (fault-solid f, tt))) (ap₂ BadLine (number-back i (four64 i fits)) (fault-back f))
+    (ap₂ (λ x q. TableValue x q (option_back (number_word c)) (option_back (number_word h))) (node-back n fits.0) (property-back p fits.1) ∙ ap₂ (TableValue n p) (option-back c fits.2) (option-back h fits.3))
+taken (BadLine i f) fits = by_words (BadLine i f) _ _ refl (refl, (num i (four64 i fits), (fault-solid f, tt))) (ap₂ BadLine (four-back i fits) (fault-back f))

@@ -6,9 +6,10 @@ use Rattle.std.proofs.lemmas.List.Sums.{sum_by-cons}
 use Rattle.zw_text.specs.Entry.{entry_text, transcript_text}
 use Rattle.zw_text.specs.Fits.{EntryFits, IsOneLine, feeds}
 use Rattle.zw_text.specs.declared.entry.Entry.{Entry}
+use Rattle.zw_entries.specs.Reading.{parts, text_back}
 use Rattle.zw_entries.specs.Lines.{IsLine, AreLines}
-use Rattle.zw_entries.proofs.Pieces.{Lacks, not_that, but-last, but_last, parts, parts-at, parts-none}
-use Rattle.zw_entries.proofs.Back.{one_if, taken, text_back}
+use Rattle.zw_entries.proofs.Pieces.{Lacks, not_that, parts-at}
+use Rattle.zw_entries.proofs.Back.{one_if, taken}
 
 pub one-entry : (first second : Entry) → EntryFits first → EntryFits second → entry_text first ≡ entry_text second → first ≡ second
 one-entry first second a b same = sym (taken first a).comes ∙ ap text_back same ∙ (taken second b).comes
@@ -25,14 +26,25 @@ entries-of : (entries : List Entry) → AreLines entries → map text_back (map 
 entries-of [] are = refl
 entries-of (e ∷ es) are = ap₂ ◌∷◌ (taken e are.0.0).comes (entries-of es are.1)
 
+-- all but the last
+abbrev front : {A : Type 0} → List A → List A
+front [] = []
+front (x ∷ []) = []
+front (x ∷ y ∷ xs) = x ∷ front (y ∷ xs)
+
+front-of : {A : Type 0} (xs : List A) (x : A) → front (xs ++ (x ∷ [])) ≡ xs
+front-of [] x = refl
+front-of (a ∷ []) x = refl
+front-of {A} (a ∷ b ∷ xs) x = ap (λ (ys : List A). a ∷ ys) (front-of (b ∷ xs) x)
+
 -- the entries of a text
 abbrev transcript_back : List ℕ → List Entry
-transcript_back text = map text_back (but_last (parts 10 text))
+transcript_back text = map text_back (front (parts 10 text))
 
 again : (entries : List Entry) → AreLines entries → transcript_back (transcript_text entries) ≡ entries
 again entries are =
-    ap (λ (ps : List (List ℕ)). map text_back (but_last ps)) (parts-of entries are)
-    ∙ ap (map text_back) (but-last (map entry_text entries) [])
+    ap (λ (ps : List (List ℕ)). map text_back (front ps)) (parts-of entries are)
+    ∙ ap (map text_back) (front-of (map entry_text entries) [])
     ∙ entries-of entries are
 
 pub one-transcript : (first second : List Entry) → AreLines first → AreLines second → transcript_text first ≡ transcript_text second → first ≡ second
@@ -47,3 +59,11 @@ feeds-none (b ∷ bs) lacks =
 
 pub without-feed : (entry : Entry) → EntryFits entry → IsOneLine entry → feeds (entry_text entry) ≡ 0
 without-feed entry fits one = feeds-none (entry_text entry) ((taken entry fits).feedless one)
+
+-- what a text is taken for, where it is that of an entry
+pub read-again : (text : List ℕ) (found entry : Entry) → found ≡ text_back text → EntryFits entry → text ≡ entry_text entry → found ≡ entry
+read-again text found entry is fits same = is ∙ ap text_back same ∙ (taken entry fits).comes
+
+-- it is then printed as that text
+pub read-printed : (text printed : List ℕ) (found entry : Entry) → found ≡ text_back text → printed ≡ entry_text found → EntryFits entry → text ≡ entry_text entry → printed ≡ text
+read-printed text printed found entry is prints fits same = prints ∙ ap entry_text (read-again text found entry is fits same) ∙ sym same

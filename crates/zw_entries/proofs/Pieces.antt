@@ -2,7 +2,9 @@
 use Rattle.std.proofs.Common.{◌≡◌, ℕ, zero, suc, ◌+◌, ◌-◌, ◌*◌, ◌/◌, ◌%◌, ◌<◌, ◌≤◌, ◌^◌, eqb, ltb, Bool, true, false, not, ◌&&◌, Result, Ok, Err, List, [], ◌∷◌, ◌++◌, length, get_or, map, codes, decimal, All, arith, ap, refl, rules, ◌∙◌, sym, eq-eqb, eqb-true, ne_eqb, lt-ltb, ltb-true}
 use Rattle.std.specs.List.{AllByRecursion, join_with_byte, list_all, slice_split}
 use Rattle.std.specs.Char.{is_ascii_digit}
-use Rattle.std.specs.Str.Parse.{digits_value}
+use Rattle.std.proofs.Common.{take, length-append, Bor}
+use Rattle.std.proofs.Math.Seq.{take-append_seam}
+use Rattle.zw_entries.specs.Reading.{at, but_last, hex_back, last_of, ok_or_none, parts}
 use Rattle.std.proofs.lemmas.Bool.{and_from, and_parts, leb-true}
 use Rattle.std.proofs.lemmas.Fmt.{decimal_is_IsNumeral}
 use Rattle.std.proofs.lemmas.List.Elements.{All-from_recursion, recursion_from_All}
@@ -11,10 +13,6 @@ use Rattle.std.proofs.lemmas.Str.Parse.{digit_at}
 use Rattle.hex.specs.Hex.{decode_of, encode_upper, encode_with, upper_digits}
 use Rattle.hex.specs.declared.error.FromHexError.{FromHexError}
 use Rattle.hex.proofs.HexLemmas.{decode_of-encode_upper}
-
--- the parts of a text between bytes c
-abbrev pub parts : ℕ → List ℕ → List (List ℕ)
-parts c text = slice_split (λ b. eqb b c) text
 
 -- a text in which each byte is another than c
 abbrev pub Lacks : ℕ → List ℕ → Type 0
@@ -73,13 +71,6 @@ all-lack c low (w ∷ ws) solid = (solid-lacks c low w solid.0, all-lack c low w
 
 -- ---- numbers
 
--- the number of a text
-abbrev pub number_back : List ℕ → ℕ
-number_back text = digits_value 10 text
-
-pub number-back : (n : ℕ) → n < 2 ^ 64 → number_back (decimal n) ≡ n
-number-back n small = (decimal_is_IsNumeral n small).1
-
 -- a test that digits pass
 digits-pass : (p : ℕ → Bool) → ((b : ℕ) → 48 ≤ b → b ≤ 57 → p b ≡ true) → (text : List ℕ) → ((k : ℕ) → k < length text → (48 ≤ get_or text k 0) × (get_or text k 0 ≤ 57)) → list_all p text ≡ true
 digits-pass p good [] in_range = refl
@@ -105,20 +96,13 @@ slash-lacks n small =
 
 -- ---- hex
 
-abbrev ok_or_none : Result (List ℕ) FromHexError → List ℕ
-ok_or_none (Ok bytes) = bytes
-ok_or_none (Err fault) = []
-
--- the bytes of a text in hex
-abbrev pub hex_back : List ℕ → List ℕ
-hex_back text = ok_or_none (decode_of text)
-
 below : (bytes : List ℕ) → AllByRecursion (λ n. n < 256) bytes → (i : ℕ) → get_or bytes i 0 < 256
 below [] are i = omega arith
 below (b ∷ bs) are zero = are.0
 below (b ∷ bs) are (suc i) = below bs are.1 i
 
 pub hex-back : (bytes : List ℕ) → AllByRecursion (λ n. n < 256) bytes → hex_back (encode_upper bytes) ≡ bytes
+unfolding hex_back
 hex-back bytes are = ap ok_or_none (decode_of-encode_upper bytes (below bytes are))
 
 -- each digit is solid
@@ -152,24 +136,32 @@ hex-solid (b ∷ bs) are =
 
 -- ---- lists
 
--- all but the last
-abbrev pub but_last : {A : Type 0} → List A → List A
-but_last [] = []
-but_last (x ∷ []) = []
-but_last (x ∷ y ∷ xs) = x ∷ but_last (y ∷ xs)
+pub but-last : (xs : List (List ℕ)) (x : List ℕ) → but_last (xs ++ (x ∷ [])) ≡ xs
+but-last xs x =
+    let short : length (xs ++ (x ∷ [])) - 1 ≡ length xs = omega (arith, length-append xs (x ∷ [])) in
+    ap (λ n. take n (xs ++ (x ∷ []))) short ∙ take-append_seam xs (x ∷ [])
 
--- the last, or none of a word
-abbrev pub last_of : List (List ℕ) → List ℕ
-last_of [] = []
-last_of (x ∷ []) = x
-last_of (x ∷ y ∷ xs) = last_of (y ∷ xs)
-
-pub but-last : {A : Type 0} (xs : List A) (x : A) → but_last (xs ++ (x ∷ [])) ≡ xs
-but-last [] x = refl
-but-last (a ∷ []) x = refl
-but-last {A} (a ∷ b ∷ xs) x = ap (λ (ys : List A). a ∷ ys) (but-last (b ∷ xs) x)
+at-end : (xs : List (List ℕ)) (x : List ℕ) → at (length xs) (xs ++ (x ∷ [])) ≡ x
+at-end [] x = refl
+at-end (a ∷ xs) x = at-end xs x
 
 pub last-of : (xs : List (List ℕ)) (x : List ℕ) → last_of (xs ++ (x ∷ [])) ≡ x
-last-of [] x = refl
-last-of (a ∷ []) x = refl
-last-of (a ∷ b ∷ xs) x = last-of (b ∷ xs) x
+last-of xs x =
+    let short : length (xs ++ (x ∷ [])) - 1 ≡ length xs = omega (arith, length-append xs (x ∷ [])) in
+    ap (λ n. at n (xs ++ (x ∷ []))) short ∙ at-end xs x
+
+-- what words say, but the last
+take-over : {A B : Type 0} (f : A → B) (n : ℕ) (xs : List A) → map f (take n xs) ≡ take n (map f xs)
+take-over f zero [] = refl
+take-over f zero (x ∷ xs) = refl
+take-over f (suc n) [] = refl
+take-over {A} {B} f (suc n) (x ∷ xs) = ap (λ (ys : List B). f x ∷ ys) (take-over f n xs)
+
+length-over : {A B : Type 0} (f : A → B) (xs : List A) → length (map f xs) ≡ length xs
+length-over f [] = refl
+length-over f (x ∷ xs) = omega (arith, length-over f xs)
+
+pub front-over : (words : List (Bor (List ℕ))) → map (λ x. x.now) (take (length words - 1) words) ≡ but_last (map (λ x. x.now) words)
+front-over words =
+    take-over (λ x. x.now) (length words - 1) words
+    ∙ ap (λ n. take (n - 1) (map (λ x. x.now) words)) (sym (length-over (λ x. x.now) words))

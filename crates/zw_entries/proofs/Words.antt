@@ -29,21 +29,16 @@ use Rattle.zw_text.specs.declared.entry.Entry.TheVariants.{Said, Accepted, Refus
 use Rattle.zw_words.specs.Texts.{side_word}
 use Rattle.zw_text.specs.Entry.{by_word, done_word, ended_word, ends_word, entry_text, entry_words, failed_word, fault_word, name_word, number_word, number_words, property_word, refusal_words}
 use Rattle.zw_text.specs.Fits.{AreBytes, ByFits, EntryFits, IsByte, IsEight, IsFour, IsNode, IsOneLine, IsTwo, NameFits, OptionFits, PropertyFits, RefusalFits, SettingFits, feeds}
-use Rattle.zw_entries.proofs.Pieces.{Lacks, Solid, all-lack, but-last, but_last, hex-back, hex-solid, hex_back, lacks-append, last-of, last_of, number-back, number-lacks, number-solid, number_back, parts, parts-at, parts-joined, parts-none, slash-lacks, solid-lacks}
+use Rattle.std.specs.Prelude.{unwrap_or}
+use Rattle.zw_words.specs.Forms.{between_in, node_in, number_in}
+use Rattle.zw_words.proofs.FormLaws.{between_again, number_again}
+use Rattle.zw_entries.specs.Reading.{at, but_last, by_back, byte_back, done_back, eight_back, end_back, ended_back, failed_back, fault_back, first_byte, four_back, last_of, make_property, make_setting, name_back, node_back, nodes_back, numbers_back, option_back, parts, property_back, setting_back, side_back, some_number, two_back, unless_none}
+use Rattle.zw_entries.proofs.Pieces.{Lacks, Solid, but-last, lacks-append, last-of, number-lacks, number-solid, parts-joined, slash-lacks}
 
 -- ---- what words stand for
 
--- the word at a place
-abbrev pub at : ℕ → List (List ℕ) → List ℕ
-at k ws = get_or ws k []
-
-abbrev pub is_code : List ℕ → List ℕ → Bool
-is_code word text = bytes_eq word text
-
-abbrev pub side_back : List ℕ → Side
-side_back w = cond (bytes_eq w (codes "h")) Host Chip
-
 pub side-back : (s : Side) → side_back (side_word s) ≡ s
+unfolding side_back
 side-back Host = refl
 side-back Chip = refl
 
@@ -51,14 +46,8 @@ pub side-solid : (s : Side) → Solid (side_word s)
 side-solid Host = refl
 side-solid Chip = refl
 
-abbrev pub ended_back : List ℕ → Ended
-ended_back w =
-    cond (bytes_eq w (codes "success")) Success
-    (cond (bytes_eq w (codes "fail")) Fail
-    (cond (bytes_eq w (codes "nosupport")) NoSupport
-    (cond (bytes_eq w (codes "unanswered")) Unanswered Cancelled)))
-
 pub ended-back : (e : Ended) → ended_back (ended_word e) ≡ e
+unfolding ended_back
 ended-back Success = refl
 ended-back Fail = refl
 ended-back NoSupport = refl
@@ -72,17 +61,8 @@ ended-solid NoSupport = refl
 ended-solid Unanswered = refl
 ended-solid Cancelled = refl
 
-abbrev pub done_back : List ℕ → HowDone
-done_back w =
-    cond (bytes_eq w (codes "ok")) Delivered
-    (cond (bytes_eq w (codes "noack")) NoAck
-    (cond (bytes_eq w (codes "fail")) DoneFail
-    (cond (bytes_eq w (codes "notidle")) NotIdle
-    (cond (bytes_eq w (codes "noroute")) NoRoute
-    (cond (bytes_eq w (codes "refused")) DoneRefused
-    (cond (bytes_eq w (codes "silent")) Silent LinkFailed))))))
-
 pub done-back : (d : HowDone) → done_back (done_word d) ≡ d
+unfolding done_back
 done-back Delivered = refl
 done-back NoAck = refl
 done-back DoneFail = refl
@@ -102,14 +82,8 @@ done-solid DoneRefused = refl
 done-solid Silent = refl
 done-solid LinkFailed = refl
 
-abbrev pub fault_back : List ℕ → LineFault
-fault_back w =
-    cond (bytes_eq w (codes "Unknown")) Unknown
-    (cond (bytes_eq w (codes "Missing")) Missing
-    (cond (bytes_eq w (codes "Number")) Number
-    (cond (bytes_eq w (codes "Extra")) Extra LineTooLong)))
-
 pub fault-back : (f : LineFault) → fault_back (fault_word f) ≡ f
+unfolding fault_back
 fault-back Unknown = refl
 fault-back Missing = refl
 fault-back Number = refl
@@ -123,10 +97,8 @@ fault-solid Number = refl
 fault-solid Extra = refl
 fault-solid LineTooLong = refl
 
-abbrev pub failed_back : List ℕ → Bool
-failed_back w = bytes_eq w (codes "yes")
-
 pub failed-back : (b : Bool) → failed_back (failed_word b) ≡ b
+unfolding failed_back
 failed-back true = refl
 failed-back false = refl
 
@@ -158,15 +130,39 @@ first-digit n small =
     let is = (decimal_is_IsNumeral n small).0 in
     let digit = digit_at (decimal n) 0 is.1 is.0 in (omega (arith, digit), omega (arith, digit))
 
+-- ---- numbers of each size
+
+pub eight-back : (n : ℕ) → IsEight n → eight_back (decimal n) ≡ n
+unfolding eight_back
+eight-back n fits = ap (λ (o : Option ℕ). unwrap_or o 0) (number_again n fits)
+
+pub four-back : (n : ℕ) → IsFour n → four_back (decimal n) ≡ n
+unfolding four_back
+four-back n fits = ap (λ (o : Option ℕ). unwrap_or o 0) (between_again 0 4294967295 n (omega arith) (omega (arith, fits)) (omega (arith, fits)))
+
+pub two-back : (n : ℕ) → IsTwo n → two_back (decimal n) ≡ n
+unfolding two_back
+two-back n fits = ap (λ (o : Option ℕ). unwrap_or o 0) (between_again 0 65535 n (omega arith) (omega (arith, fits)) (omega (arith, fits)))
+
+pub byte-back : (n : ℕ) → IsByte n → byte_back (decimal n) ≡ n
+unfolding byte_back
+byte-back n fits = ap (λ (o : Option ℕ). unwrap_or o 0) (between_again 0 255 n (omega arith) (omega (arith, fits)) (omega (arith, fits)))
+
+pub end-back : (n : ℕ) → n ≤ 127 → end_back (decimal n) ≡ n
+unfolding end_back
+end-back n fits = ap (λ (o : Option ℕ). unwrap_or o 0) (between_again 0 127 n (omega arith) fits (omega (arith, fits)))
+
+pub node-back : (n : ℕ) → IsNode n → node_back (decimal n) ≡ n
+unfolding node_back
+node-back n fits = ap (λ (o : Option ℕ). unwrap_or o 1) (between_again 1 232 n fits.0 fits.1 (omega (arith, fits.1)))
+
 -- ---- what made a change
 
-abbrev pub by_back : List ℕ → By
-by_back w = cond (ltb 57 (get_or w 0 0)) (cond (bytes_eq w (codes "local")) Local Plain) (Session (number_back w))
-
 pub by-back : (b : By) → ByFits b → by_back (by_word b) ≡ b
+unfolding by_back
 by-back (Session s) fits =
-    ap (λ t. cond t (cond (bytes_eq (decimal s) (codes "local")) Local Plain) (Session (number_back (decimal s)))) (le-ltb 57 (get_or (decimal s) 0 0) (first-digit s fits).1)
-    ∙ ap Session (number-back s fits)
+    ap (λ t. cond t (cond (bytes_eq (decimal s) (codes "local")) Local Plain) (Session (eight_back (decimal s)))) (le-ltb 57 (get_or (decimal s) 0 0) (first-digit s fits).1)
+    ∙ ap Session (eight-back s fits)
 by-back Local fits = refl
 by-back Plain fits = refl
 
@@ -177,17 +173,12 @@ by-solid Plain fits = refl
 
 -- ---- a number, or `-`
 
-abbrev pub some_number : ℕ → Option ℕ
-some_number n = Some n
-
-abbrev pub option_back : List ℕ → Option ℕ
-option_back w = cond (ltb (get_or w 0 0) 48) None (some_number (number_back w))
-
 pub option-back : (o : Option ℕ) → OptionFits o → option_back (number_word o) ≡ o
+unfolding option_back
 option-back None fits = refl
 option-back (Some n) fits =
-    ap (λ t. cond t None (some_number (number_back (decimal n)))) (le-ltb (get_or (decimal n) 0 0) 48 (first-digit n (four64 n fits)).0)
-    ∙ ap some_number (number-back n (four64 n fits))
+    ap (λ t. cond t None (some_number (four_back (decimal n)))) (le-ltb (get_or (decimal n) 0 0) 48 (first-digit n (four64 n fits)).0)
+    ∙ ap some_number (four-back n fits)
 
 pub option-solid : (o : Option ℕ) → OptionFits o → Solid (number_word o)
 option-solid None fits = refl
@@ -195,18 +186,23 @@ option-solid (Some n) fits = number-solid n (four64 n fits)
 
 -- ---- numbers, or `-`
 
-abbrev pub numbers_back : List (List ℕ) → List ℕ
-numbers_back ws = cond (ltb (get_or (get_or ws 0 []) 0 0) 48) [] (map number_back ws)
+pub maps-back : (f : List ℕ → ℕ) (P : ℕ → Type 0) → ((n : ℕ) → P n → f (decimal n) ≡ n) → (ns : List ℕ) → AllByRecursion P ns → map f (map decimal ns) ≡ ns
+maps-back f P law [] fit = refl
+maps-back f P law (n ∷ ns) fit = ap₂ ◌∷◌ (law n fit.0) (maps-back f P law ns fit.1)
 
-pub maps-back : (ns : List ℕ) → AllByRecursion IsEight ns → map number_back (map decimal ns) ≡ ns
-maps-back [] fit = refl
-maps-back (n ∷ ns) fit = ap₂ ◌∷◌ (number-back n fit.0) (maps-back ns fit.1)
+pub listed-back : (f : List ℕ → ℕ) (P : ℕ → Type 0) → ((n : ℕ) → P n → n < 2 ^ 64) → ((n : ℕ) → P n → f (decimal n) ≡ n) → (ns : List ℕ) → AllByRecursion P ns → unless_none (number_words ns []) (map f (number_words ns [])) ≡ ns
+listed-back f P small law [] fit = refl
+listed-back f P small law (n ∷ ns) fit =
+    ap (λ t. cond t [] (map f (decimal n ∷ map decimal ns ++ []))) (le-ltb (get_or (decimal n) 0 0) 48 (first-digit n (small n fit.0)).0)
+    ∙ ap₂ ◌∷◌ (law n fit.0) (ap (map f) (append-nil (map decimal ns)) ∙ maps-back f P law ns fit.1)
 
-pub numbers-back : (ns : List ℕ) → AllByRecursion IsEight ns → numbers_back (number_words ns []) ≡ ns
-numbers-back [] fit = refl
-numbers-back (n ∷ ns) fit =
-    ap (λ t. cond t [] (map number_back (decimal n ∷ map decimal ns ++ []))) (le-ltb (get_or (decimal n) 0 0) 48 (first-digit n fit.0).0)
-    ∙ ap₂ ◌∷◌ (number-back n fit.0) (ap (map number_back) (append-nil (map decimal ns)) ∙ maps-back ns fit.1)
+pub nodes-back : (ns : List ℕ) → AllByRecursion IsNode ns → nodes_back (number_words ns []) ≡ ns
+unfolding nodes_back
+nodes-back ns fit = listed-back node_back IsNode node64 node-back ns fit
+
+pub numbers-back : (ns : List ℕ) → AllByRecursion IsFour ns → numbers_back (number_words ns []) ≡ ns
+unfolding numbers_back
+numbers-back ns fit = listed-back four_back IsFour four64 four-back ns fit
 
 -- numbers before a last word
 pub but-last-numbers : (ns : List ℕ) (x : List ℕ) → but_last (number_words ns (x ∷ [])) ≡ number_words ns []
@@ -228,8 +224,9 @@ numbers-solid (n ∷ ns) rest fit solid = (number-solid n fit.0, maps-solid ns r
 
 -- ---- properties
 
-abbrev pub name_back : List (List ℕ) → Name
-name_back ps =
+-- the name of the parts of its word
+abbrev name_of : List (List ℕ) → Name
+name_of ps =
     cond (bytes_eq (at 0 ps) (codes "switch")) Switch
     (cond (bytes_eq (at 0 ps) (codes "level")) Level
     (cond (bytes_eq (at 0 ps) (codes "lock")) Lock
@@ -237,24 +234,25 @@ name_back ps =
     (cond (bytes_eq (at 0 ps) (codes "interval")) Interval
     (cond (bytes_eq (at 0 ps) (codes "sensor")) Sensor
     (cond (bytes_eq (at 0 ps) (codes "battery")) Battery
-    (cond (bytes_eq (at 0 ps) (codes "setpoint")) (Setpoint (number_back (at 1 ps)))
-    (cond (bytes_eq (at 0 ps) (codes "config")) (Config (number_back (at 1 ps)))
-    (Member (number_back (at 1 ps)) (number_back (at 2 ps)))))))))))
+    (cond (bytes_eq (at 0 ps) (codes "setpoint")) (Setpoint (byte_back (at 1 ps)))
+    (cond (bytes_eq (at 0 ps) (codes "config")) (Config (byte_back (at 1 ps)))
+    (Member (byte_back (at 1 ps)) (node_back (at 2 ps)))))))))))
 
-pub name-back : (n : Name) → NameFits n → name_back (parts 58 (name_word n)) ≡ n
+pub name-back : (n : Name) → NameFits n → name_back (name_word n) ≡ n
+unfolding name_back
 name-back Switch fits = refl
 name-back Level fits = refl
 name-back Lock fits = refl
 name-back Mode fits = refl
 name-back (Setpoint kind) fits =
-    ap name_back (parts-joined 58 (codes "setpoint") (decimal kind ∷ []) (refl, (number-lacks 58 kind (omega arith) (byte64 kind fits), tt)))
-    ∙ ap Setpoint (number-back kind (byte64 kind fits))
+    ap name_of (parts-joined 58 (codes "setpoint") (decimal kind ∷ []) (refl, (number-lacks 58 kind (omega arith) (byte64 kind fits), tt)))
+    ∙ ap Setpoint (byte-back kind fits)
 name-back (Config parameter) fits =
-    ap name_back (parts-joined 58 (codes "config") (decimal parameter ∷ []) (refl, (number-lacks 58 parameter (omega arith) (byte64 parameter fits), tt)))
-    ∙ ap Config (number-back parameter (byte64 parameter fits))
+    ap name_of (parts-joined 58 (codes "config") (decimal parameter ∷ []) (refl, (number-lacks 58 parameter (omega arith) (byte64 parameter fits), tt)))
+    ∙ ap Config (byte-back parameter fits)
 name-back (Member group node) fits =
-    ap name_back (parts-joined 58 (codes "member") (decimal group ∷ decimal node ∷ []) (refl, (number-lacks 58 group (omega arith) (byte64 group fits.0), (number-lacks 58 node (omega arith) (node64 node fits.1), tt))))
-    ∙ ap₂ Member (number-back group (byte64 group fits.0)) (number-back node (node64 node fits.1))
+    ap name_of (parts-joined 58 (codes "member") (decimal group ∷ decimal node ∷ []) (refl, (number-lacks 58 group (omega arith) (byte64 group fits.0), (number-lacks 58 node (omega arith) (node64 node fits.1), tt))))
+    ∙ ap₂ Member (byte-back group fits.0) (node-back node fits.1)
 name-back Interval fits = refl
 name-back Sensor fits = refl
 name-back Battery fits = refl
@@ -293,32 +291,23 @@ name-solid Interval fits = refl
 name-solid Sensor fits = refl
 name-solid Battery fits = refl
 
-abbrev pub make_property : ℕ → Name → Property
-make_property e n = record { end = e; name = n }
-
-abbrev pub property_of : List (List ℕ) → Property
-property_of ps = make_property (number_back (at 0 ps)) (name_back (parts 58 (at 1 ps)))
-
-abbrev pub property_back : List ℕ → Property
-property_back w = property_of (parts 47 w)
-
 pub end64 : (p : Property) → PropertyFits p → p.end < 2 ^ 64
 end64 p fits = omega (arith, fits.0)
 
+-- the property of the parts of its word
+abbrev property_of : List (List ℕ) → Property
+property_of ps = make_property (end_back (at 0 ps)) (name_back (at 1 ps))
+
 pub property-back : (p : Property) → PropertyFits p → property_back (property_word p) ≡ p
+unfolding property_back
 property-back p fits =
     ap property_of (parts-joined 47 (decimal p.end) (name_word p.name ∷ []) (slash-lacks p.end (end64 p fits), (name-lacks p.name fits.1, tt)))
-    ∙ ap₂ make_property (number-back p.end (end64 p fits)) (name-back p.name fits.1)
+    ∙ ap₂ make_property (end-back p.end fits.0) (name-back p.name fits.1)
 
 pub property-solid : (p : Property) → PropertyFits p → Solid (property_word p)
 property-solid p fits =
     lacks-append solid_byte (decimal p.end) (codes "/" ++ name_word p.name) (number-solid p.end (end64 p fits)) (name-solid p.name fits.1)
 
-abbrev pub make_setting : Property → ℕ → Setting
-make_setting p v = record { property = p; value = v }
-
-abbrev pub setting_back : List ℕ → List ℕ → Setting
-setting_back p v = make_setting (property_back p) (number_back v)
-
 pub setting-back : (s : Setting) → SettingFits s → setting_back (property_word s.property) (decimal s.value) ≡ s
-setting-back s fits = ap₂ make_setting (property-back s.property fits.0) (number-back s.value (four64 s.value fits.1))
+unfolding setting_back
+setting-back s fits = ap₂ make_setting (property-back s.property fits.0) (four-back s.value fits.1)
