@@ -1,0 +1,16 @@
+//! Reading the entries of a transcript.
+//!
+//! It promises that no two entries, and no two transcripts, have one text, and that the text of an entry is read as it.
+//! The text of an entry is that of `zw_text`, in `specs/Entry`; which entries there are is said in `specs/Fits`.
+#![tactic(auto)]
+
+mod laws;
+mod lists;
+mod parts;
+mod read;
+mod rows;
+#[cfg(test)]
+mod tests;
+
+pub use laws::{entries_without_feed, one_entry_each, one_transcript_each};
+pub use read::{EntryFault, read_entry};
