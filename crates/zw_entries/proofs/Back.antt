@@ -1,33 +1,19 @@
 -- Each entry is found again from its text, so that no two have the same; and no text of an entry has a line feed.
-use Rattle.std.proofs.Common.{◌≡◌, ℕ, zero, suc, ◌+◌, ◌<◌, ◌≤◌, ◌^◌, eqb, ltb, le-ltb, length, Bool, true, false, cond, not, ◌&&◌, Option, List, [], ◌∷◌, ◌++◌, get_or, drop, codes, decimal, bytes_eq, count_by, arith, ap, ap₂, refl, ◌∙◌, sym}
+use Rattle.std.proofs.Common.{◌≡◌, ℕ, ◌≤◌, eqb, ltb, le-ltb, length, Bool, true, false, cond, not, List, [], ◌∷◌, ◌++◌, get_or, codes, decimal, arith, ap, ap₂, refl, ◌∙◌}
 use Rattle.std.specs.List.{AllByRecursion, join_with_byte, list_all}
 use Rattle.std.proofs.lemmas.Bool.{and_from}
 use Rattle.std.proofs.lemmas.List.Sums.{sum_by-cons}
 use Rattle.hex.specs.Hex.{encode_upper}
-use Rattle.zw_base.specs.declared.property.By.{By}
-use Rattle.zw_base.specs.declared.property.By.TheVariants.{Session, Local, Plain}
-use Rattle.zw_base.specs.declared.property.Name.{Name}
-use Rattle.zw_base.specs.declared.property.Name.TheVariants.{Switch, Level, Lock, Mode, Setpoint, Config, Member, Interval, Sensor, Battery}
-use Rattle.zw_base.specs.declared.property.Property.{Property}
-use Rattle.zw_base.specs.declared.property.Setting.{Setting}
-use Rattle.zw_words.specs.declared.fault.LineFault.{LineFault}
-use Rattle.zw_words.specs.declared.fault.LineFault.TheVariants.{Unknown, Missing, Number, Extra, TooLong as LineTooLong}
-use Rattle.zw_words.specs.declared.side.Side.{Side}
 use Rattle.zw_words.specs.declared.side.Side.TheVariants.{Host, Chip}
-use Rattle.zw_text.specs.declared.entry.Ended.{Ended}
-use Rattle.zw_text.specs.declared.entry.Ended.TheVariants.{Success, Fail, NoSupport, Unanswered, Cancelled}
-use Rattle.zw_text.specs.declared.entry.Done.{Done as HowDone}
-use Rattle.zw_text.specs.declared.entry.Done.TheVariants.{Delivered, NoAck, Fail as DoneFail, NotIdle, NoRoute, Refused as DoneRefused, Silent, LinkFailed}
 use Rattle.zw_text.specs.declared.entry.Refusal.{Refusal}
 use Rattle.zw_text.specs.declared.entry.Refusal.TheVariants.{NotJoined, NotInterviewed, Unsupported, BadValue, Unsupervised, TooLong, MailboxFull, StoreFull, Secured, QueueFull as QueueIsFull, AlreadyJoined, KeeperFault, NotWaiting, NeverSent, Forgotten, Stale, NoDevice, BadRecord}
 use Rattle.zw_text.specs.declared.entry.Entry.{Entry}
 use Rattle.zw_text.specs.declared.entry.Entry.TheVariants.{Said, Accepted, Refused, Begin, Written, Dropped, Garbled, Overrun, Air, Heard, Lost, Unheard, Dev, Forget, Out, Store, Report, Unstored, Old, Unread, Awake, Asleep, Interviewed, InterviewFailed, Done, Neighbours, Failed, ChipFull, QueueFull, Device, Json, Held, Cleared, Unkept, Time, TableEnd, TableNode, TableValue, BadLine}
-use Rattle.zw_words.specs.Texts.{side_word}
-use Rattle.zw_text.specs.Entry.{by_word, done_word, ended_word, ends_word, entry_text, entry_words, failed_word, fault_word, number_word, number_words, property_word, refusal_words}
-use Rattle.zw_text.specs.Fits.{AreBytes, EntryFits, IsByte, IsEight, IsFour, IsNode, IsOneLine, RefusalFits, SettingFits, feeds}
-use Rattle.zw_entries.specs.Reading.{air_back, at, back, but_last, by_back, byte_back, class_back, command_back, done_back, eight_back, end_back, ended_back, failed_back, fate_back, fault_back, first_byte, four_back, hex_back, last_of, node_back, node_row_back, node_word_back, nodes_back, numbers_back, option_back, parts, payload_back, property_back, refusal_back, refused_back, setting_back, side_back, side_row_back, text_back, text_of, two_back, unit_back, valued_back, value_back}
-use Rattle.zw_entries.proofs.Pieces.{Lacks, Solid, all-lack, hex-back, hex-solid, lacks-append, number-lacks, number-solid, parts-at, parts-joined, parts-none}
-use Rattle.zw_entries.proofs.Words.{side-back, side-solid, ended-back, ended-solid, done-back, done-solid, fault-back, fault-solid, failed-back, failed-solid, node64, byte64, two64, four64, each, first-digit, eight-back, four-back, two-back, byte-back, end-back, node-back, by-back, by-solid, option-back, option-solid, maps-back, listed-back, nodes-back, numbers-back, but-last-numbers, last-numbers, maps-solid, numbers-solid, name-back, unslashed, name-lacks, solid_byte, name-solid, end64, property-back, property-solid, setting-back}
+use Rattle.zw_text.specs.Entry.{by_word, ends_word, entry_text, entry_words, number_word, number_words, property_word, refusal_words}
+use Rattle.zw_text.specs.Fits.{AreBytes, EntryFits, IsEight, IsFour, IsNode, IsOneLine, RefusalFits, feeds}
+use Rattle.zw_entries.specs.Reading.{air_back, at, back, but_last, by_back, class_back, command_back, eight_back, fate_back, four_back, last_of, node_back, node_row_back, node_word_back, nodes_back, option_back, parts, payload_back, refusal_back, refused_back, setting_back, side_row_back, text_back, text_of, unit_back, valued_back, value_back}
+use Rattle.zw_entries.proofs.Pieces.{Lacks, Solid, all-lack, hex-back, hex-solid, lacks-append, number-lacks, number-solid, parts-at, parts-joined}
+use Rattle.zw_entries.proofs.Words.{side-back, side-solid, ended-back, ended-solid, done-back, done-solid, fault-back, fault-solid, failed-back, failed-solid, node64, byte64, two64, four64, each, eight-back, four-back, two-back, byte-back, node-back, by-back, by-solid, option-back, option-solid, nodes-back, numbers-back, but-last-numbers, last-numbers, numbers-solid, solid_byte, property-back, property-solid, setting-back}
 
 -- ---- refusals
 
@@ -115,8 +101,8 @@ by_words e w ws are solid found =
           ∙ ap (text_of (join_with_byte 32 (w ∷ ws))) (parts-joined 32 w ws (all-lack 32 (omega arith) (w ∷ ws) solid))
           ∙ found;
       feedless = λ one.
-        ap (λ (vs : List (List ℕ)). list_all (λ b. not (eqb b 10)) (join_with_byte 32 vs)) are
-        ∙ join-lacks (w ∷ ws) (all-lack 10 (omega arith) (w ∷ ws) solid);
+          ap (λ (vs : List (List ℕ)). list_all (λ b. not (eqb b 10)) (join_with_byte 32 vs)) are
+          ∙ join-lacks (w ∷ ws) (all-lack 10 (omega arith) (w ∷ ws) solid);
     }
 
 abbrev pub one_if : Bool → ℕ
@@ -141,8 +127,8 @@ free e w text are solid one found =
           ∙ ap (text_of (w ++ (32 ∷ text))) (parts-at 32 w text ((all-lack 32 (omega arith) (w ∷ []) (solid, tt)).0))
           ∙ found (parts 32 text);
       feedless = λ is.
-        ap (λ (vs : List (List ℕ)). list_all (λ b. not (eqb b 10)) (join_with_byte 32 vs)) are
-        ∙ join-lacks (w ∷ text ∷ []) ((all-lack 10 (omega arith) (w ∷ []) (solid, tt)).0, (no-feeds text (one is), tt));
+          ap (λ (vs : List (List ℕ)). list_all (λ b. not (eqb b 10)) (join_with_byte 32 vs)) are
+          ∙ join-lacks (w ∷ text ∷ []) ((all-lack 10 (omega arith) (w ∷ []) (solid, tt)).0, (no-feeds text (one is), tt));
     }
 
 num : (n : ℕ) → IsEight n → Solid (decimal n)

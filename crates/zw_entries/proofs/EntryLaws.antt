@@ -1,13 +1,13 @@
 -- No two entries have one text, and no two transcripts.
 use Rattle.std.proofs.Common.{◌≡◌, ℕ, cond, eqb, not, List, [], ◌∷◌, ◌++◌, map, arith, ap, ap₂, refl, ◌∙◌, sym, append_assoc}
-use Rattle.std.specs.List.{AllByRecursion, list_all}
+use Rattle.std.specs.List.{list_all}
 use Rattle.std.proofs.lemmas.Bool.{and_parts}
 use Rattle.std.proofs.lemmas.List.Sums.{sum_by-cons}
 use Rattle.zw_text.specs.Entry.{entry_text, transcript_text}
 use Rattle.zw_text.specs.Fits.{EntryFits, IsOneLine, feeds}
 use Rattle.zw_text.specs.declared.entry.Entry.{Entry}
 use Rattle.zw_entries.specs.Reading.{parts, text_back}
-use Rattle.zw_entries.specs.Lines.{IsLine, AreLines}
+use Rattle.zw_entries.specs.Lines.{AreLines}
 use Rattle.zw_entries.proofs.Pieces.{Lacks, not_that, parts-at}
 use Rattle.zw_entries.proofs.Back.{one_if, taken}
 

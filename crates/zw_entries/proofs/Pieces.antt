@@ -1,17 +1,15 @@
 -- Texts that are joined by a byte, and what words they come apart into.
-use Rattle.std.proofs.Common.{◌≡◌, ℕ, zero, suc, ◌+◌, ◌-◌, ◌*◌, ◌/◌, ◌%◌, ◌<◌, ◌≤◌, ◌^◌, eqb, ltb, Bool, true, false, not, ◌&&◌, Result, Ok, Err, List, [], ◌∷◌, ◌++◌, length, get_or, map, codes, decimal, All, arith, ap, refl, rules, ◌∙◌, sym, eq-eqb, eqb-true, ne_eqb, lt-ltb, ltb-true}
-use Rattle.std.specs.List.{AllByRecursion, join_with_byte, list_all, slice_split}
-use Rattle.std.specs.Char.{is_ascii_digit}
+use Rattle.std.proofs.Common.{◌≡◌, ℕ, zero, suc, ◌-◌, ◌/◌, ◌%◌, ◌<◌, ◌≤◌, ◌^◌, eqb, ltb, Bool, true, false, not, List, [], ◌∷◌, ◌++◌, length, get_or, map, decimal, arith, ap, refl, ◌∙◌, sym, eq-eqb, ne_eqb, lt-ltb, ltb-true}
+use Rattle.std.specs.List.{AllByRecursion, join_with_byte, list_all}
 use Rattle.std.proofs.Common.{take, length-append, Bor}
 use Rattle.std.proofs.Math.Seq.{take-append_seam}
 use Rattle.zw_entries.specs.Reading.{at, but_last, hex_back, last_of, ok_or_none, parts}
-use Rattle.std.proofs.lemmas.Bool.{and_from, and_parts, leb-true}
+use Rattle.std.proofs.lemmas.Bool.{and_from, and_parts}
 use Rattle.std.proofs.lemmas.Fmt.{decimal_is_IsNumeral}
-use Rattle.std.proofs.lemmas.List.Elements.{All-from_recursion, recursion_from_All}
+use Rattle.std.proofs.lemmas.List.Elements.{All-from_recursion}
 use Rattle.std.proofs.lemmas.List.Splits.{slice_split_at, slice_split_none}
 use Rattle.std.proofs.lemmas.Str.Parse.{digit_at}
-use Rattle.hex.specs.Hex.{decode_of, encode_upper, encode_with, upper_digits}
-use Rattle.hex.specs.declared.error.FromHexError.{FromHexError}
+use Rattle.hex.specs.Hex.{encode_upper, encode_with, upper_digits}
 use Rattle.hex.proofs.HexLemmas.{decode_of-encode_upper}
 
 -- a text in which each byte is another than c

@@ -1,13 +1,9 @@
 -- What entry has a text: each entry is found again from its text, so that no two have the same. It is by words here, and
 -- it tells nothing of a text that no entry has.
-use Rattle.std.proofs.Common.{◌≡◌, ℕ, zero, suc, ◌+◌, ◌<◌, ◌≤◌, ◌^◌, eqb, ltb, Bool, true, false, cond, not, ◌&&◌, Option, Some, None, List, [], ◌∷◌, ◌++◌, length, get_or, drop, map, codes, decimal, bytes_eq, count_by, arith, ap, ap₂, refl, ◌∙◌, sym, append-nil, le-ltb, lt-ltb}
-use Rattle.std.specs.List.{AllByRecursion, join_with_byte, list_all}
-use Rattle.std.proofs.lemmas.Bool.{and_from}
+use Rattle.std.proofs.Common.{◌≡◌, ℕ, ◌<◌, ◌≤◌, ◌^◌, eqb, ltb, Bool, true, false, cond, not, Option, Some, None, List, [], ◌∷◌, ◌++◌, get_or, map, codes, decimal, bytes_eq, arith, ap, ap₂, refl, ◌∙◌, sym, append-nil, le-ltb}
+use Rattle.std.specs.List.{AllByRecursion}
 use Rattle.std.proofs.lemmas.Fmt.{decimal_is_IsNumeral}
-use Rattle.std.proofs.lemmas.List.Splits.{join_with_byte-slice_split}
-use Rattle.std.proofs.lemmas.List.Sums.{sum_by-cons}
 use Rattle.std.proofs.lemmas.Str.Parse.{digit_at}
-use Rattle.hex.specs.Hex.{encode_upper}
 use Rattle.zw_base.specs.declared.property.By.{By}
 use Rattle.zw_base.specs.declared.property.By.TheVariants.{Session, Local, Plain}
 use Rattle.zw_base.specs.declared.property.Name.{Name}
@@ -22,17 +18,12 @@ use Rattle.zw_text.specs.declared.entry.Ended.{Ended}
 use Rattle.zw_text.specs.declared.entry.Ended.TheVariants.{Success, Fail, NoSupport, Unanswered, Cancelled}
 use Rattle.zw_text.specs.declared.entry.Done.{Done as HowDone}
 use Rattle.zw_text.specs.declared.entry.Done.TheVariants.{Delivered, NoAck, Fail as DoneFail, NotIdle, NoRoute, Refused as DoneRefused, Silent, LinkFailed}
-use Rattle.zw_text.specs.declared.entry.Refusal.{Refusal}
-use Rattle.zw_text.specs.declared.entry.Refusal.TheVariants.{NotJoined, NotInterviewed, Unsupported, BadValue, Unsupervised, TooLong, MailboxFull, StoreFull, Secured, QueueFull as QueueIsFull, AlreadyJoined, KeeperFault, NotWaiting, NeverSent, Forgotten, Stale, NoDevice, BadRecord}
-use Rattle.zw_text.specs.declared.entry.Entry.{Entry}
-use Rattle.zw_text.specs.declared.entry.Entry.TheVariants.{Said, Accepted, Refused, Begin, Written, Dropped, Garbled, Overrun, Air, Heard, Lost, Unheard, Dev, Forget, Out, Store, Report, Unstored, Old, Unread, Awake, Asleep, Interviewed, InterviewFailed, Done, Neighbours, Failed, ChipFull, QueueFull, Device, Json, Held, Cleared, Unkept, Time, TableEnd, TableNode, TableValue, BadLine}
 use Rattle.zw_words.specs.Texts.{side_word}
-use Rattle.zw_text.specs.Entry.{by_word, done_word, ended_word, ends_word, entry_text, entry_words, failed_word, fault_word, name_word, number_word, number_words, property_word, refusal_words}
-use Rattle.zw_text.specs.Fits.{AreBytes, ByFits, EntryFits, IsByte, IsEight, IsFour, IsNode, IsOneLine, IsTwo, NameFits, OptionFits, PropertyFits, RefusalFits, SettingFits, feeds}
+use Rattle.zw_text.specs.Entry.{by_word, done_word, ended_word, failed_word, fault_word, name_word, number_word, number_words, property_word}
+use Rattle.zw_text.specs.Fits.{ByFits, IsByte, IsEight, IsFour, IsNode, IsTwo, NameFits, OptionFits, PropertyFits, SettingFits}
 use Rattle.std.specs.Prelude.{unwrap_or}
-use Rattle.zw_words.specs.Forms.{between_in, node_in, number_in}
 use Rattle.zw_words.proofs.FormLaws.{between_again, number_again}
-use Rattle.zw_entries.specs.Reading.{at, but_last, by_back, byte_back, done_back, eight_back, end_back, ended_back, failed_back, fault_back, first_byte, four_back, last_of, make_property, make_setting, name_back, node_back, nodes_back, numbers_back, option_back, parts, property_back, setting_back, side_back, some_number, two_back, unless_none}
+use Rattle.zw_entries.specs.Reading.{at, but_last, by_back, byte_back, done_back, eight_back, end_back, ended_back, failed_back, fault_back, four_back, last_of, make_property, make_setting, name_back, node_back, nodes_back, numbers_back, option_back, property_back, setting_back, side_back, some_number, two_back, unless_none}
 use Rattle.zw_entries.proofs.Pieces.{Lacks, Solid, but-last, lacks-append, last-of, number-lacks, number-solid, parts-joined, slash-lacks}
 
 -- ---- what words stand for

@@ -11,6 +11,7 @@ use zw_text::Entry;
 
 /// Where the text begins, behind `>` and behind `json`.
 const SAID: usize = 2;
+
 const JSON: usize = 5;
 
 /// The entry that the text is taken for.

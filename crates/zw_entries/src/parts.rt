@@ -9,7 +9,9 @@ ghost use Rattle.zw_entries.specs.Reading.{at, parts, eight_back, four_back, two
 
 use hex::FromHexError;
 use std::alloc::{AllocError, Global};
-use zw_base::{By, Bytes, EndPoint, Name, NoMemory, NodeId, Payload, Property, read_end, read_node};
+use zw_base::{
+    By, Bytes, EndPoint, Name, NoMemory, NodeId, Payload, Property, read_end, read_node,
+};
 use zw_text::{Done, Ended, LineFault, Side};
 use zw_words::{node_of, number_between, number_of};
 
@@ -18,6 +20,7 @@ const MAX_END: u32 = 127;
 
 /// The greatest byte, and the greatest number of two bytes.
 const MAX_BYTE: u32 = 255;
+
 const MAX_TWO: u32 = 65_535;
 
 /// The part of that place, counted from 0, between such bytes.

@@ -1,5 +1,5 @@
 -- What the text is taken for is the one entry that has it, and then it is printed as the text.
-use Rattle.std.proofs.Common.{◌≡◌, ◌∙◌, sym, bytes_eq, true≢false}
+use Rattle.std.proofs.Common.{◌≡◌, ◌∙◌, sym, true≢false}
 use Rattle.std.proofs.lemmas.Slice.Eq.{bytes_eq-Decides}
 use Rattle.zw_entries.proofs.EntryLaws.{read-again, read-printed}
 use Rattle.zw_entries.proofs.read.read_entry.Goals as goal

@@ -1,7 +1,5 @@
 -- The words of the entry, joined.
-use Rattle.std.proofs.Common.{◌≡◌, ◌++◌, ◌∷◌, codes, decimal, ◌∙◌, sym, rules}
 use Rattle.hex.specs.Hex.{encode_upper}
-use Rattle.zw_print.specs.Lists.{list_text}
 use Rattle.zw_print.proofs.Joined.{join-air}
 use Rattle.zw_print.proofs.print_lists.print_air.Goals as goal
 

@@ -1,6 +1,5 @@
 -- The words of the entry, joined.
-use Rattle.std.proofs.Common.{◌≡◌, ◌++◌, ◌∷◌, codes, decimal, ◌∙◌, sym, rules}
-use Rattle.zw_print.specs.Lists.{list_text}
+use Rattle.std.proofs.Common.{codes}
 use Rattle.zw_print.proofs.Joined.{join-list}
 use Rattle.zw_print.proofs.print_lists.print_neighbours.Goals as goal
 

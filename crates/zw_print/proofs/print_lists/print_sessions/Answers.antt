@@ -1,6 +1,4 @@
 -- The words of the entry, joined.
-use Rattle.std.proofs.Common.{◌≡◌, ◌++◌, ◌∷◌, codes, decimal, ◌∙◌, sym, rules}
-use Rattle.zw_print.specs.Lists.{list_text}
 use Rattle.zw_print.proofs.Joined.{join-sessions}
 use Rattle.zw_print.proofs.print_lists.print_sessions.Goals as goal
 
