@@ -12,8 +12,6 @@ mod frame;
 mod frames;
 mod laws;
 mod peer;
-#[cfg(test)]
-mod tests;
 
 pub use ages::{
     MAX_LATER_FRAMES, MAX_LATER_SESSIONS, MAX_LATER_SESSIONS_OF_SEGMENTS, MAX_NEW_NONCES, Refusal,

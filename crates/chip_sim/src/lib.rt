@@ -21,6 +21,3 @@ pub use chip::Chip;
 pub use laws::{rules_of_events, rules_of_histories};
 pub use out::{ChipOut, Sending};
 pub use waiting::MAX_WAITING;
-
-#[cfg(test)]
-mod tests;

@@ -27,6 +27,3 @@ pub use reading::{RecordFault, read_record};
 pub use record::Record;
 pub use worked::worked_records;
 pub use writing::write_record;
-
-#[cfg(test)]
-mod tests;

@@ -13,8 +13,6 @@ mod devices;
 mod event;
 mod fate;
 mod repeats;
-#[cfg(test)]
-mod tests;
 
 pub use air::Air;
 pub use event::{AirEvent, RepeatFault, TRANSMIT_NO_ACK, TRANSMIT_OK};
