@@ -14,8 +14,6 @@ mod run;
 mod status;
 #[cfg(test)]
 mod tests;
-#[cfg(test)]
-mod texts;
 
 use crate::chacha::ChaChaDraw;
 use crate::run::run;
