@@ -23,6 +23,3 @@ pub use laws::{
 pub use line::{Line, Word};
 pub use print::print_entry;
 pub use read::read_line;
-
-#[cfg(test)]
-mod tests;

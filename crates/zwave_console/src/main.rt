@@ -14,6 +14,8 @@ mod run;
 mod status;
 #[cfg(test)]
 mod tests;
+#[cfg(test)]
+mod texts;
 
 use crate::chacha::ChaChaDraw;
 use crate::run::run;
