@@ -117,6 +117,13 @@ impl Node {
         }
     }
 
+    /// The same, as it is kept.
+    pub fn class_list(&self) -> &Option<Bytes>
+        ensures { result.now ≡ self.now.classes }
+    {
+        &self.classes
+    }
+
     /// Whether its class list has that class.
     pub fn lists(&self, class: u8) -> bool
         ensures { IsTrue result ↔ Lists self.now.classes class }
@@ -242,6 +249,13 @@ impl Node {
         ensures { result ≡ self.now.next_segment }
     {
         self.next_segment
+    }
+
+    /// How many segments the running attempt has, 0 where its message is not cut.
+    pub fn segments(&self) -> u8
+        ensures { result ≡ self.now.segments }
+    {
+        self.segments
     }
 
     /// The sealed text that the running attempt has not given yet, at most 46 bytes.

@@ -94,6 +94,14 @@ impl<T> List<T> {
         self.values.clear();
     }
 
+    /// The items, to be used up.
+    pub fn into_items(self) -> Vec<T>
+        ensures { result.items ≡ self.items }
+    {
+        let List { values } = self;
+        values
+    }
+
     pub fn as_slice(&self) -> &[T]
         ensures { result.now ≡ self.now.items }
     {

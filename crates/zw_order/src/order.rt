@@ -1,6 +1,9 @@
 //! The order: a node, an end point of it, and what is asked.
 
-use zw_base::{Bytes, EndPoint, NodeId};
+ghost use Rattle.std.specs.Prelude.{◌≡◌, IfOk};
+
+use std::alloc::Global;
+use zw_base::{Bytes, EndPoint, NoMemory, NodeId};
 
 /// A value in words: all the way on or off, or a level.
 #[derive(Clone, Copy, Debug, PartialEq, Eq)]
@@ -40,4 +43,55 @@ pub struct Order {
     pub node: NodeId,
     pub end: EndPoint,
     pub what: What,
+}
+
+impl What {
+    /// The same asked again.
+    pub fn copy(&self, alloc: Global) -> Result<What, NoMemory>
+        ensures { IfOk result (λ copy. copy ≡ self.now) }
+    {
+        Ok(match self {
+            What::Value(word) => What::Value(*word),
+            What::Mode(mode) => What::Mode(*mode),
+            What::Setpoint { kind, tenths } => What::Setpoint {
+                kind: *kind,
+                tenths: *tenths,
+            },
+            What::Config { param, value } => What::Config {
+                param: *param,
+                value: *value,
+            },
+            What::Bulk { offset, values } => What::Bulk {
+                offset: *offset,
+                values: Bytes::from_slice(alloc, values.as_slice())?,
+            },
+            What::Associate { group, member } => What::Associate {
+                group: *group,
+                member: *member,
+            },
+            What::Dissociate { group, member } => What::Dissociate {
+                group: *group,
+                member: *member,
+            },
+            What::Interval(seconds) => What::Interval(*seconds),
+            What::Comfort { mode, kind, tenths } => What::Comfort {
+                mode: *mode,
+                kind: *kind,
+                tenths: *tenths,
+            },
+        })
+    }
+}
+
+impl Order {
+    /// The same order again.
+    pub fn copy(&self, alloc: Global) -> Result<Order, NoMemory>
+        ensures { IfOk result (λ copy. copy ≡ self.now) }
+    {
+        Ok(Order {
+            node: self.node,
+            end: self.end,
+            what: self.what.copy(alloc)?,
+        })
+    }
 }
