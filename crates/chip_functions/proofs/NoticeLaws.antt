@@ -1,22 +1,24 @@
 -- A notice that is read is spelled so, and one that is spelled so is read.
-use Rattle.std.proofs.Common.{◌≡◌, ℕ, suc, ◌+◌, ◌-◌, ◌≤◌, ◌<◌, Bool, true, false, cond, eqb, ltb, List, [], ◌∷◌, ◌++◌, length, Option, Some, None, Result, Ok, Err, refl, sym, ap, subst, ◌∙◌, append_assoc, arith}
-use Rattle.std.proofs.lemmas.Bool.{eqb-true, ltb-false, le-ltb}
+use Rattle.std.proofs.Common.{◌≡◌, ℕ, ◌+◌, ◌≤◌, cond, eqb, List, [], ◌∷◌, ◌++◌, length, Some, Ok, Err, refl, sym, subst}
 use Rattle.chip_functions.specs.declared.fault.BodyFault.{BodyFault}
 use Rattle.chip_functions.specs.declared.fault.BodyFault.TheVariants.{UnknownFunction, BadField}
-use Rattle.chip_functions.specs.declared.function.TheConstants.{APPLICATION_COMMAND_HANDLER, SEND_DATA, APPLICATION_UPDATE}
+use Rattle.chip_functions.specs.declared.function.TheConstants.{APPLICATION_COMMAND_HANDLER, SEND_DATA, ADD_NODE, APPLICATION_UPDATE}
 use Rattle.chip_functions.specs.declared.notice.TransmitStatus.{TransmitStatus}
 use Rattle.chip_functions.specs.declared.notice.TransmitStatus.TheVariants.{CompleteOk, NoAck, Fail, NotIdle, NoRoute}
 use Rattle.chip_functions.specs.declared.notice.Update.{Update}
 use Rattle.chip_functions.specs.declared.notice.Update.TheVariants.{Received, RequestFailed}
 use Rattle.chip_functions.specs.declared.notice.Notice.{Notice}
-use Rattle.chip_functions.specs.declared.notice.Notice.TheVariants.{ApplicationCommandHandler, SendData, ApplicationUpdate}
-use Rattle.chip_functions.specs.declared.notice.TheConstants.{DEVICE_CLASSES, UPDATE_RECEIVED, UPDATE_FAILED}
+use Rattle.chip_functions.specs.declared.notice.Notice.TheVariants.{ApplicationCommandHandler, SendData, AddNode, ApplicationUpdate}
+use Rattle.chip_functions.specs.declared.notice.TheConstants.{UPDATE_RECEIVED, UPDATE_FAILED}
 use Rattle.chip_functions.specs.Mask.{IsBytes}
-use Rattle.chip_functions.specs.Place.{Place, Reading, IsFaultFrom, IsBodyFault, ◌>>=◌, start_of, byte_from, piece_from}
-use Rattle.chip_functions.specs.Field.{Field, IsNode, coded, read_as}
-use Rattle.chip_functions.specs.Notice.{handler, status_code, status_of, callback, classes_of, classes, received, request_failed, update_spelling, received_at, request_failed_at, update, notice_function, notice_body, HasNoticeRow, IsUpdate, IsNotice, IsNoticeBody, handler_at, callback_at, update_at, notice_at, notice_of}
-use Rattle.chip_functions.proofs.FieldLaws.{Takes, Takes-then, Reads, Lawful, bind_ok, bind_err, guard_ok, guard_err, no_fault, err_is, fault_back, bad_here, ok_is, as_faults, byte_takes, byte_again, byte_faults, byte_step, byte_lawful, piece_lawful, then_lawful, node_lawful, mark_lawful, counted_lawful, coded_lawful}
-use Rattle.chip_functions.proofs.RowLaws.{reads_to, no_row, some_is, none_is, row_cases, row_takes, ReadsOn, row_again, IsFaultOf, row_faults, unknown, body_fault}
+use Rattle.chip_functions.specs.Place.{Place, IsFaultFrom, IsBodyFault, start_of, byte_from}
+use Rattle.chip_functions.specs.Field.{IsNode}
+use Rattle.chip_functions.specs.Classes.{Classes}
+use Rattle.chip_functions.specs.Notice.{handler, status_code, status_of, callback, received, request_failed, received_at, request_failed_at, update, notice_function, notice_body, HasNoticeRow, IsUpdate, IsNotice, IsNoticeBody, handler_at, callback_at, add_notice_at, update_at, notice_at, notice_of}
+use Rattle.chip_functions.proofs.FieldLaws.{Takes, Takes-then, Reads, Lawful, bind_ok, bind_err, no_fault, err_is, fault_back, bad_here, ok_is, as_faults, byte_takes, byte_again, byte_faults, byte_step, byte_lawful, then_lawful, node_lawful, mark_lawful, counted_lawful, coded_lawful}
+use Rattle.chip_functions.proofs.RowLaws.{no_row, some_is, none_is, row_cases, row_takes, ReadsOn, row_again, IsFaultOf, row_faults, unknown, body_fault}
+use Rattle.chip_functions.proofs.ClassesLaws.{classes_lawful}
+use Rattle.chip_functions.proofs.AddNodeLaws.{add_notice_lawful}
 
 handler_lawful : Lawful handler (λ x. Unit {0} × (IsNode x.1.0 × (1 ≤ length x.1.1)))
 handler_lawful = then_lawful byte_lawful (then_lawful node_lawful (counted_lawful 1))
@@ -41,42 +43,8 @@ status_there b x e =
 callback_lawful : Lawful callback (λ _. Unit {0} × Unit {0})
 callback_lawful = then_lawful byte_lawful (coded_lawful status_code status_of (λ _. Unit {0}) status_back status_there)
 
--- the device classes and the command classes behind their length
-abbrev Classes : Type 0
-Classes = ℕ × (ℕ × (ℕ × List ℕ))
-
-classes_of_lawful : (len : ℕ) → Lawful (classes_of len) (λ x. Unit {0} × (Unit {0} × (Unit {0} × (length x.1.1.1 ≡ len - DEVICE_CLASSES))))
-classes_of_lawful len = then_lawful byte_lawful (then_lawful byte_lawful (then_lawful byte_lawful (piece_lawful (len - DEVICE_CLASSES))))
-
-classes_takes : (p : Place) (x : Classes) (q : Place) → IsBytes p.rest → classes.read p ≡ Ok (x, q) → Takes p q (classes.spell x) × Unit {0}
-classes_takes p x q fits e =
-    let n = bind_ok (byte_from p.before p.rest) (λ n. cond (ltb n.0 DEVICE_CLASSES) (Err (BadField p.before)) ((classes_of n.0).read n.1)) (x, q) e in
-    let t = byte_takes p.before p.rest n.0.0 n.0.1 fits n.1 in
-    let g = guard_ok (ltb n.0.0 DEVICE_CLASSES) (BadField p.before) ((classes_of n.0.0).read n.0.1) (x, q) n.2 in
-    let u = (classes_of_lawful n.0.0).takes n.0.1 x q t.1 g.1 in
-    let len : n.0.0 ≡ length x.1.1.1 + DEVICE_CLASSES = omega (arith, u.1.1.1.1, ltb-false _ _ g.0) in
-    let text = x.0 ∷ x.1.0 ∷ x.1.1.0 ∷ x.1.1.1 in
-    let whole : Takes p q (n.0.0 ∷ text) = Takes-then p n.0.1 q (n.0.0 ∷ []) text (byte_step p n.0.1 n.0.0 t) u.0 in
-    (subst (λ (k : ℕ). Takes p q (k ∷ text)) len whole, tt)
-
-classes_again : (x : Classes) (p : Place) (rest : List ℕ) → Unit {0} → p.rest ≡ classes.spell x ++ rest → Reads classes x p rest
-classes_again x p rest fits e =
-    let len = length x.1.1.1 + DEVICE_CLASSES in
-    let text = x.0 ∷ x.1.0 ∷ x.1.1.0 ∷ x.1.1.1 in
-    let after : Place = record { before = p.before + 1; rest = text ++ rest } in
-    let enough : ltb len DEVICE_CLASSES ≡ false = le-ltb len DEVICE_CLASSES (omega arith) in
-    let r = (classes_of_lawful len).again x after rest (tt, (tt, (tt, omega arith))) refl in
-    record { place = r.place; is = rw (byte_again p len (text ++ rest) e, enough) r.is; after = r.after }
-
-classes_faults : (p : Place) (fault : BodyFault) → IsBytes p.rest → classes.read p ≡ Err fault → IsFaultFrom p fault
-classes_faults p fault fits e =
-    bind_err (byte_from p.before p.rest) (λ n. cond (ltb n.0 DEVICE_CLASSES) (Err (BadField p.before)) ((classes_of n.0).read n.1)) fault e (λ h. byte_faults p.before p.rest fault h) (λ n h f.
-    let t = byte_takes p.before p.rest n.0 n.1 fits h in
-    let s = byte_step p n.1 n.0 t in
-    guard_err (ltb n.0 DEVICE_CLASSES) (BadField p.before) ((classes_of n.0).read n.1) fault f (λ same. bad_here p n.0 n.1.rest fault t.0 same) (λ _ k. fault_back p n.1 fault s.moves s.sum ((classes_of_lawful n.0).faults n.1 fault t.1 k)))
-
 received_lawful : Lawful received (λ x. IsNode x.0 × Unit {0})
-received_lawful = then_lawful node_lawful (record { takes = classes_takes; again = classes_again; faults = classes_faults })
+received_lawful = then_lawful node_lawful classes_lawful
 
 request_failed_lawful : Lawful request_failed (λ _. Unit {0} × Unit {0})
 request_failed_lawful = then_lawful (mark_lawful 0) (mark_lawful 0)
@@ -126,17 +94,19 @@ record IsRow (func : ℕ) (p q : Place) (v : Notice) : Type 0 where
   row : IsNotice v
 
 notice_takes : (func : ℕ) (p q : Place) (v : Notice) → IsBytes p.rest → notice_at func p ≡ Ok (v, q) → IsRow func p q v
-unfolding notice_at handler_at callback_at update_at
+unfolding notice_at handler_at callback_at add_notice_at update_at
 notice_takes func p q v fits e =
     row_cases func APPLICATION_COMMAND_HANDLER _ _ _ e (λ f h. row_takes handler_lawful _ p q v (IsRow func p q) fits (λ x t g. record { function = f; takes = t; row = (g.1.0, g.1.1) }) h) (λ e.
     row_cases func SEND_DATA _ _ _ e (λ f h. row_takes callback_lawful _ p q v (IsRow func p q) fits (λ x t g. record { function = f; takes = t; row = tt }) h) (λ e.
+    row_cases func ADD_NODE _ _ _ e (λ f h. row_takes add_notice_lawful _ p q v (IsRow func p q) fits (λ x t g. record { function = f; takes = t; row = g.1.1 }) h) (λ e.
     row_cases func APPLICATION_UPDATE _ _ _ e (λ f h. row_takes update_lawful _ p q v (IsRow func p q) fits (λ x t g. record { function = f; takes = t; row = g }) h) (λ e.
-    absurd (no_row (UnknownFunction func) v q e))))
+    absurd (no_row (UnknownFunction func) v q e)))))
 
 notice_reads : (v : Notice) (p : Place) (rest : List ℕ) → IsNotice v → p.rest ≡ notice_body v ++ rest → ReadsOn (notice_at (notice_function v) p) v rest
-unfolding notice_at handler_at callback_at update_at
+unfolding notice_at handler_at callback_at add_notice_at update_at
 notice_reads (ApplicationCommandHandler status source payload) p rest row e = row_again handler_lawful _ (status, (source, payload)) p rest (tt, (row.0, row.1)) e
 notice_reads (SendData id status) p rest row e = row_again callback_lawful _ (id, status) p rest (tt, tt) e
+notice_reads (AddNode id status said) p rest row e = row_again add_notice_lawful _ (id, (status, said)) p rest (tt, (tt, row)) e
 notice_reads (ApplicationUpdate u) p rest row e = row_again update_lawful _ u p rest row e
 
 -- what is read is spelled so, and a tail may follow
@@ -155,12 +125,13 @@ notice_only func body v h =
     rw h.function (rw r.is refl)
 
 notice_faults : (func : ℕ) (p : Place) (fault : BodyFault) → IsBytes p.rest → notice_at func p ≡ Err fault → IsFaultOf func p fault
-unfolding notice_at handler_at callback_at update_at
+unfolding notice_at handler_at callback_at add_notice_at update_at
 notice_faults func p fault fits e =
     row_cases func APPLICATION_COMMAND_HANDLER _ _ _ e (λ f h. row_faults handler_lawful _ func p fault fits h) (λ e.
     row_cases func SEND_DATA _ _ _ e (λ f h. row_faults callback_lawful _ func p fault fits h) (λ e.
+    row_cases func ADD_NODE _ _ _ e (λ f h. row_faults add_notice_lawful _ func p fault fits h) (λ e.
     row_cases func APPLICATION_UPDATE _ _ _ e (λ f h. row_faults update_lawful _ func p fault fits h) (λ e.
-    unknown {V = Notice} func p fault e)))
+    unknown {V = Notice} func p fault e))))
 
 -- a fault tells the bytes that there are, or names one of them
 pub notice_fault : (func : ℕ) (body : List ℕ) (fault : BodyFault) → IsBytes body → notice_of func body ≡ Err fault → IsBodyFault func body fault
@@ -174,4 +145,5 @@ notice_fault func body fault fits e =
 pub row_of_notice : (v : Notice) → IsNotice v → HasNoticeRow v
 row_of_notice (ApplicationCommandHandler status source payload) h = h.1
 row_of_notice (SendData id status) h = tt
+row_of_notice (AddNode id status said) h = tt
 row_of_notice (ApplicationUpdate u) h = tt

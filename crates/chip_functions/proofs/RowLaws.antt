@@ -1,5 +1,5 @@
 -- What serves the rows of every direction.
-use Rattle.std.proofs.Common.{◌≡◌, ℕ, Bool, true, false, cond, eqb, List, [], ◌∷◌, ◌++◌, Option, Some, None, Result, Ok, Err, refl, sym, ap, subst, ◌∙◌, ◌+◌, ◌⊎◌, inl, inr, length, arith}
+use Rattle.std.proofs.Common.{◌≡◌, ℕ, Bool, true, false, cond, eqb, List, [], ◌∷◌, ◌++◌, Some, None, Result, Ok, Err, refl, sym, subst, ◌+◌, ◌⊎◌, inl, inr, length, arith}
 use Rattle.std.specs.Prelude.{IfOk, IfErr}
 use Rattle.std.proofs.lemmas.Bool.{eqb-true}
 use Rattle.chip_functions.specs.declared.fault.BodyFault.{BodyFault}
@@ -7,7 +7,7 @@ use Rattle.chip_functions.specs.declared.fault.BodyFault.TheVariants.{UnknownFun
 use Rattle.chip_functions.specs.Mask.{IsBytes}
 use Rattle.chip_functions.specs.Place.{Place, Reading, Gives, IsFaultFrom, IsBodyFault, start_of, ended_from}
 use Rattle.chip_functions.specs.Field.{Field, read_as}
-use Rattle.chip_functions.proofs.FieldLaws.{Takes, Reads, Lawful, as_takes, as_faults, failed, err_is, no_fault}
+use Rattle.chip_functions.proofs.FieldLaws.{Takes, Lawful, as_takes, as_faults, failed, err_is, no_fault}
 
 -- a reading that went well
 abbrev pub reads_to : {V : Type 0} → V → Place → Reading V
@@ -24,13 +24,14 @@ some_is v w e = cc
 pub none_is : {V : Type 0} (v : V) → None ≡ Some v → ⊥
 none_is v e = cc
 
-if_cases : {A R : Type 0} (b : Bool) (x y z : A) → cond b x y ≡ z → (b ≡ true → x ≡ z → R) → (y ≡ z → R) → R
+-- a test holds or not
+pub if_cases : {A R : Type 0} (b : Bool) (x y z : A) → cond b x y ≡ z → (b ≡ true → x ≡ z → R) → (b ≡ false → y ≡ z → R) → R
 if_cases true x y z e hit miss = hit refl e
-if_cases false x y z e hit miss = miss e
+if_cases false x y z e hit miss = miss refl e
 
 -- a function is the one of a row, or is sought further
 pub row_cases : {A R : Type 0} (func code : ℕ) (x y z : A) → cond (eqb func code) x y ≡ z → (func ≡ code → x ≡ z → R) → (y ≡ z → R) → R
-row_cases func code x y z e hit miss = if_cases (eqb func code) x y z e (λ t. hit (eqb-true func code t)) miss
+row_cases func code x y z e hit miss = if_cases (eqb func code) x y z e (λ t. hit (eqb-true func code t)) (λ _. miss)
 
 -- a value of a row holds what each value made of its fields holds
 pub row_takes : {A V : Type 0} {field : Field A} {F : A → Type 0} (law : Lawful field F) (make : A → V) (p q : Place) (v : V) (P : V → Type 0) → IsBytes p.rest → ((x : A) → Takes p q (field.spell x) → F x → P (make x)) → read_as make (field.read p) ≡ Ok (v, q) → P v

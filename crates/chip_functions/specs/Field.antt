@@ -1,7 +1,7 @@
 -- The fields that bodies are made of. Each has one spelling, and is read from left to right.
-use Rattle.std.specs.Prelude.{ℕ, ◌+◌, ◌-◌, ◌≤◌, Bool, true, false, List, [], ◌∷◌, ◌++◌, length, Option, Some, None, Ok, Err, nat_lt, nat_le, ◌==◌, ◌&&◌, if◌then◌else◌}
-use Rattle.std.specs.Int.{Width, w16, w32, byte_len, to_be_bytes, from_be_bytes}
-use Rattle.chip_functions.specs.declared.fault.BodyFault.TheVariants.{Short, BadField}
+use Rattle.std.specs.Prelude.{ℕ, ◌≤◌, List, [], ◌∷◌, ◌++◌, length, Option, Some, None, Ok, Err, nat_lt, nat_le, ◌==◌, ◌&&◌, if◌then◌else◌}
+use Rattle.std.specs.Int.{Width, byte_len, to_be_bytes, from_be_bytes}
+use Rattle.chip_functions.specs.declared.fault.BodyFault.TheVariants.{BadField}
 use Rattle.chip_functions.specs.declared.mask.TheConstants.{MASK_BYTES}
 use Rattle.chip_functions.specs.Mask.{nodes_of, mask_of}
 use Rattle.chip_functions.specs.Place.{Place, Reading, ◌>>=◌, byte_from, piece_from, found_at}

@@ -2,6 +2,8 @@ pub mod Place
 pub mod Seen
 pub mod Field
 pub mod Mask
+pub mod Classes
+pub mod AddNode
 pub mod Request
 pub mod Response
 pub mod Notice

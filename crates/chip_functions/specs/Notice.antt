@@ -1,18 +1,20 @@
 -- Notices of the chip (Serial API: Host Application Programming Guide; that an ApplicationUpdate has one of two
 -- statuses, and that a tail is ignored, are this project's own rules).
-use Rattle.std.specs.Prelude.{◌≡◌, ℕ, ◌+◌, ◌-◌, ◌<◌, ◌≤◌, ◌^◌, List, [], ◌∷◌, ◌++◌, length, Option, Some, None, Result, Ok, Err, nat_lt, ◌==◌, if◌then◌else◌}
+use Rattle.std.specs.Prelude.{◌≡◌, ℕ, ◌≤◌, List, ◌∷◌, ◌++◌, length, Option, Some, None, Result, Ok, Err, ◌==◌, if◌then◌else◌}
 use Rattle.chip_functions.specs.declared.fault.BodyFault.{BodyFault}
 use Rattle.chip_functions.specs.declared.fault.BodyFault.TheVariants.{UnknownFunction, BadField}
-use Rattle.chip_functions.specs.declared.function.TheConstants.{APPLICATION_COMMAND_HANDLER, SEND_DATA, APPLICATION_UPDATE}
+use Rattle.chip_functions.specs.declared.function.TheConstants.{APPLICATION_COMMAND_HANDLER, SEND_DATA, ADD_NODE, APPLICATION_UPDATE}
 use Rattle.chip_functions.specs.declared.notice.TransmitStatus.{TransmitStatus}
 use Rattle.chip_functions.specs.declared.notice.TransmitStatus.TheVariants.{CompleteOk, NoAck, Fail, NotIdle, NoRoute}
 use Rattle.chip_functions.specs.declared.notice.Update.{Update}
 use Rattle.chip_functions.specs.declared.notice.Update.TheVariants.{Received, RequestFailed}
 use Rattle.chip_functions.specs.declared.notice.Notice.{Notice}
-use Rattle.chip_functions.specs.declared.notice.Notice.TheVariants.{ApplicationCommandHandler, SendData, ApplicationUpdate}
-use Rattle.chip_functions.specs.declared.notice.TheConstants.{DEVICE_CLASSES, UPDATE_RECEIVED, UPDATE_FAILED}
-use Rattle.chip_functions.specs.Place.{Place, Reading, ◌>>=◌, start_of, byte_from, piece_from}
-use Rattle.chip_functions.specs.Field.{Field, byte, piece, IsNode, node, mark, counted, coded, ◌then◌, read_as}
+use Rattle.chip_functions.specs.declared.notice.Notice.TheVariants.{ApplicationCommandHandler, SendData, AddNode, ApplicationUpdate}
+use Rattle.chip_functions.specs.declared.notice.TheConstants.{UPDATE_RECEIVED, UPDATE_FAILED}
+use Rattle.chip_functions.specs.Place.{Place, Reading, ◌>>=◌, start_of, byte_from}
+use Rattle.chip_functions.specs.Field.{Field, byte, IsNode, node, mark, counted, coded, ◌then◌, read_as}
+use Rattle.chip_functions.specs.Classes.{Classes, classes}
+use Rattle.chip_functions.specs.AddNode.{add_notice, IsAdded}
 
 -- an ApplicationCommandHandler: the status of its receipt, the source, and a payload of at least one byte behind its length
 abbrev pub handler : Field (ℕ × (ℕ × List ℕ))
@@ -40,19 +42,8 @@ status_of b =
 abbrev pub callback : Field (ℕ × TransmitStatus)
 callback = byte then coded status_code status_of
 
--- basic, generic and specific device class and the command classes, so many bytes in all
-abbrev pub classes_of : ℕ → Field (ℕ × (ℕ × (ℕ × List ℕ)))
-classes_of len = byte then byte then byte then piece (len - DEVICE_CLASSES)
-
--- these behind their length
-abbrev pub classes : Field (ℕ × (ℕ × (ℕ × List ℕ)))
-classes = record {
-  spell = λ x. (length x.1.1.1 + DEVICE_CLASSES) ∷ (classes_of (length x.1.1.1 + DEVICE_CLASSES)).spell x;
-  read = λ p. byte_from p.before p.rest >>= λ n. if nat_lt n.0 DEVICE_CLASSES then Err (BadField p.before) else (classes_of n.0).read n.1;
-}
-
 -- the information of a node
-abbrev pub received : Field (ℕ × (ℕ × (ℕ × (ℕ × List ℕ))))
+abbrev pub received : Field (ℕ × Classes)
 received = node then classes
 
 -- no node and no information
@@ -85,18 +76,21 @@ update = record {
 abbrev pub notice_function : Notice → ℕ
 notice_function (ApplicationCommandHandler status source payload) = APPLICATION_COMMAND_HANDLER
 notice_function (SendData id status) = SEND_DATA
+notice_function (AddNode id status said) = ADD_NODE
 notice_function (ApplicationUpdate u) = APPLICATION_UPDATE
 
 -- the written form of a notice
 abbrev pub notice_body : Notice → List ℕ
 notice_body (ApplicationCommandHandler status source payload) = handler.spell (status, (source, payload))
 notice_body (SendData id status) = callback.spell (id, status)
+notice_body (AddNode id status said) = add_notice.spell (id, (status, said))
 notice_body (ApplicationUpdate u) = update.spell u
 
 -- what a row asks of a notice beside the types of its fields: a payload is not empty
 abbrev pub HasNoticeRow : Notice → Type 0
 HasNoticeRow (ApplicationCommandHandler status source payload) = 1 ≤ length payload
 HasNoticeRow (SendData id status) = Unit {0}
+HasNoticeRow (AddNode id status said) = Unit {0}
 HasNoticeRow (ApplicationUpdate u) = Unit {0}
 
 -- a notice that a row has
@@ -107,6 +101,7 @@ IsUpdate RequestFailed = Unit {0}
 abbrev pub IsNotice : Notice → Type 0
 IsNotice (ApplicationCommandHandler status source payload) = IsNode source × (1 ≤ length payload)
 IsNotice (SendData id status) = Unit {0}
+IsNotice (AddNode id status said) = IsAdded said
 IsNotice (ApplicationUpdate u) = IsUpdate u
 
 -- the body of that function begins with the notice
@@ -123,6 +118,9 @@ handler_at p = read_as (λ x. ApplicationCommandHandler x.0 x.1.0 x.1.1) (handle
 unfoldable pub callback_at : Place → Reading Notice
 callback_at p = read_as (λ x. SendData x.0 x.1) (callback.read p)
 
+unfoldable pub add_notice_at : Place → Reading Notice
+add_notice_at p = read_as (λ x. AddNode x.0 x.1.0 x.1.1) (add_notice.read p)
+
 unfoldable pub update_at : Place → Reading Notice
 update_at p = read_as (λ u. ApplicationUpdate u) (update.read p)
 
@@ -131,6 +129,7 @@ unfoldable pub notice_at : ℕ → Place → Reading Notice
 notice_at func p =
     if func == APPLICATION_COMMAND_HANDLER then handler_at p else
     if func == SEND_DATA then callback_at p else
+    if func == ADD_NODE then add_notice_at p else
     if func == APPLICATION_UPDATE then update_at p else
     Err (UnknownFunction func)
 

@@ -1,12 +1,13 @@
 -- Requests of the host (Serial API: Host Application Programming Guide; the range of a callback id is this project's own rule).
-use Rattle.std.specs.Prelude.{◌≡◌, ℕ, ◌<◌, ◌≤◌, ◌^◌, List, [], ◌∷◌, length, Result, Ok, Err, ◌==◌, if◌then◌else◌}
+use Rattle.std.specs.Prelude.{◌≡◌, ℕ, ◌≤◌, List, [], length, Result, Ok, Err, ◌==◌, if◌then◌else◌}
 use Rattle.chip_functions.specs.declared.fault.BodyFault.{BodyFault}
 use Rattle.chip_functions.specs.declared.fault.BodyFault.TheVariants.{UnknownFunction}
-use Rattle.chip_functions.specs.declared.function.TheConstants.{GET_INIT_DATA, GET_CAPABILITIES, SEND_DATA, GET_VERSION, SEND_DATA_ABORT, MEMORY_GET_ID, GET_NODE_PROTOCOL_INFO, REQUEST_NODE_INFO, IS_FAILED_NODE, GET_ROUTING_INFO}
+use Rattle.chip_functions.specs.declared.function.TheConstants.{GET_INIT_DATA, GET_CAPABILITIES, SEND_DATA, GET_VERSION, SEND_DATA_ABORT, MEMORY_GET_ID, GET_NODE_PROTOCOL_INFO, ADD_NODE, REQUEST_NODE_INFO, IS_FAILED_NODE, GET_ROUTING_INFO}
 use Rattle.chip_functions.specs.declared.request.Request.{Request}
-use Rattle.chip_functions.specs.declared.request.Request.TheVariants.{GetInitData, GetCapabilities, SendData, GetVersion, SendDataAbort, MemoryGetId, GetNodeProtocolInfo, RequestNodeInfo, IsFailedNode, GetRoutingInfo}
+use Rattle.chip_functions.specs.declared.request.Request.TheVariants.{GetInitData, GetCapabilities, SendData, GetVersion, SendDataAbort, MemoryGetId, GetNodeProtocolInfo, AddNode, RequestNodeInfo, IsFailedNode, GetRoutingInfo}
 use Rattle.chip_functions.specs.Place.{Place, Reading, ◌>>=◌, start_of, ended_from}
 use Rattle.chip_functions.specs.Field.{Field, byte, byte_within, IsNode, node, counted, ◌then◌, read_as}
+use Rattle.chip_functions.specs.AddNode.{add_request}
 
 -- a SendData: the node, a payload of at least one byte behind its length, the options and a callback id that is not 0
 abbrev pub send_data : Field (ℕ × (List ℕ × (ℕ × ℕ)))
@@ -25,6 +26,7 @@ request_function GetVersion = GET_VERSION
 request_function SendDataAbort = SEND_DATA_ABORT
 request_function MemoryGetId = MEMORY_GET_ID
 request_function (GetNodeProtocolInfo n) = GET_NODE_PROTOCOL_INFO
+request_function (AddNode mode id) = ADD_NODE
 request_function (RequestNodeInfo n) = REQUEST_NODE_INFO
 request_function (IsFailedNode n) = IS_FAILED_NODE
 request_function (GetRoutingInfo n x y z) = GET_ROUTING_INFO
@@ -38,6 +40,7 @@ request_body GetVersion = []
 request_body SendDataAbort = []
 request_body MemoryGetId = []
 request_body (GetNodeProtocolInfo n) = node.spell n
+request_body (AddNode mode id) = add_request.spell (mode, id)
 request_body (RequestNodeInfo n) = node.spell n
 request_body (IsFailedNode n) = node.spell n
 request_body (GetRoutingInfo n x y z) = get_routing_info.spell (n, (x, (y, z)))
@@ -51,6 +54,7 @@ HasRequestRow GetVersion = Unit {0}
 HasRequestRow SendDataAbort = Unit {0}
 HasRequestRow MemoryGetId = Unit {0}
 HasRequestRow (GetNodeProtocolInfo n) = Unit {0}
+HasRequestRow (AddNode mode id) = 1 ≤ id
 HasRequestRow (RequestNodeInfo n) = Unit {0}
 HasRequestRow (IsFailedNode n) = Unit {0}
 HasRequestRow (GetRoutingInfo n x y z) = Unit {0}
@@ -64,6 +68,7 @@ IsRequest GetVersion = Unit {0}
 IsRequest SendDataAbort = Unit {0}
 IsRequest MemoryGetId = Unit {0}
 IsRequest (GetNodeProtocolInfo n) = IsNode n
+IsRequest (AddNode mode id) = (1 ≤ id) × (id ≤ 255)
 IsRequest (RequestNodeInfo n) = IsNode n
 IsRequest (IsFailedNode n) = IsNode n
 IsRequest (GetRoutingInfo n x y z) = IsNode n
@@ -81,6 +86,9 @@ send_data_at p = read_as (λ x. SendData x.0 x.1.0 x.1.1.0 x.1.1.1) (send_data.r
 unfoldable pub get_routing_info_at : Place → Reading Request
 get_routing_info_at p = read_as (λ x. GetRoutingInfo x.0 x.1.0 x.1.1.0 x.1.1.1) (get_routing_info.read p)
 
+unfoldable pub add_request_at : Place → Reading Request
+add_request_at p = read_as (λ x. AddNode x.0 x.1) (add_request.read p)
+
 -- the request of a function at a place
 unfoldable pub request_at : ℕ → Place → Reading Request
 request_at func p =
@@ -91,6 +99,7 @@ request_at func p =
     if func == SEND_DATA_ABORT then Ok (SendDataAbort, p) else
     if func == MEMORY_GET_ID then Ok (MemoryGetId, p) else
     if func == GET_NODE_PROTOCOL_INFO then read_as (λ n. GetNodeProtocolInfo n) (node.read p) else
+    if func == ADD_NODE then add_request_at p else
     if func == REQUEST_NODE_INFO then read_as (λ n. RequestNodeInfo n) (node.read p) else
     if func == IS_FAILED_NODE then read_as (λ n. IsFailedNode n) (node.read p) else
     if func == GET_ROUTING_INFO then get_routing_info_at p else

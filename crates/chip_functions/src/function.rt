@@ -16,6 +16,8 @@ pub const MEMORY_GET_ID: u8 = 0x20;
 
 pub const GET_NODE_PROTOCOL_INFO: u8 = 0x41;
 
+pub const ADD_NODE: u8 = 0x4A;
+
 pub const APPLICATION_UPDATE: u8 = 0x49;
 
 pub const REQUEST_NODE_INFO: u8 = 0x60;

@@ -3,9 +3,10 @@
 //! It promises that a value is written in the one written form of its row, and that bytes are read exactly where a
 //! row relates them to a value, with that value, and else with the first fault from the left.
 //! The definitions stand in `specs/`: `Place` and `Field` (fields of a body), `Mask` (nodes in bits), and the rows,
-//! one file a direction: `Request`, `Response` and `Notice`.
+//! one file a direction: `Request`, `Response` and `Notice`, with `Classes` and `AddNode` for what they share.
 #![tactic(auto)]
 
+mod add_node;
 mod fault;
 mod function;
 mod laws;
@@ -17,9 +18,10 @@ mod request;
 mod response;
 mod writing;
 
+pub use add_node::{AddMode, AddStatus, AddedNode};
 pub use fault::BodyFault;
 pub use function::{
-    APPLICATION_COMMAND_HANDLER, APPLICATION_UPDATE, GET_CAPABILITIES, GET_INIT_DATA,
+    ADD_NODE, APPLICATION_COMMAND_HANDLER, APPLICATION_UPDATE, GET_CAPABILITIES, GET_INIT_DATA,
     GET_NODE_PROTOCOL_INFO, GET_ROUTING_INFO, GET_VERSION, IS_FAILED_NODE, MEMORY_GET_ID,
     REQUEST_NODE_INFO, SEND_DATA, SEND_DATA_ABORT,
 };

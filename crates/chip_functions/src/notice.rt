@@ -1,5 +1,6 @@
 //! What the chip tells the host unasked, or after a request has ended.
 
+use crate::{AddStatus, AddedNode};
 use zw_base::{Bytes, NodeId};
 
 /// The status of an ApplicationUpdate with the node's information.
@@ -85,6 +86,12 @@ pub enum Notice {
     SendData {
         callback_id: u8,
         status: TransmitStatus,
+    },
+    /// How far the adding has come that the request with that id began.
+    AddNode {
+        callback_id: u8,
+        status: AddStatus,
+        added: AddedNode,
     },
     ApplicationUpdate {
         update: Update,

@@ -3,7 +3,7 @@
 ghost use Rattle.std.specs.Prelude.{◌≡◌, ℕ, ◌+◌, ◌<◌, ◌≤◌, length, IfOk, OnOk};
 
 use crate::mask::MASK_BYTES;
-use crate::{BodyFault, NodeMask, TransmitStatus};
+use crate::{AddMode, AddStatus, BodyFault, NodeMask, TransmitStatus};
 use std::alloc::Global;
 use zw_base::{Bytes, NodeId, read_node};
 
@@ -22,6 +22,7 @@ impl<'a> Place<'a> {
     ghost use Rattle.chip_functions.specs.Field.{byte, piece, node, byte_within, counted, mark, number, mask, coded};
     ghost use Rattle.chip_functions.specs.Response.{failed_code, failed_of};
     ghost use Rattle.chip_functions.specs.Notice.{status_code, status_of};
+    ghost use Rattle.chip_functions.specs.AddNode.{mode_code, mode_of, status_code as add_code, status_of as add_status_of};
     ghost use Rattle.std.specs.Int.{w16, w32};
     ghost use Rattle.chip_functions.specs.Seen.{place_of};
 
@@ -169,6 +170,32 @@ impl<'a> Place<'a> {
     {
         let before = self.before;
         match TransmitStatus::of(self.byte()?) {
+            Some(status) => Ok(status),
+            None => Err(BodyFault::BadField(before)),
+        }
+    }
+
+    /// The mode of an AddNode.
+    pub fn add_mode(&mut self) -> Result<AddMode, BodyFault>
+        requires { self.old.before ≤ FAR }
+        ensures value { Gives (λ x. (x, place_of self.new)) result ((coded mode_code mode_of).read (place_of self.old)) }
+        ensures moved { OnOk result (self.new.before ≤ self.old.before + 1) }
+    {
+        let before = self.before;
+        match AddMode::of(self.byte()?) {
+            Some(mode) => Ok(mode),
+            None => Err(BodyFault::BadField(before)),
+        }
+    }
+
+    /// The status of an AddNode.
+    pub fn add_status(&mut self) -> Result<AddStatus, BodyFault>
+        requires { self.old.before ≤ FAR }
+        ensures value { Gives (λ x. (x, place_of self.new)) result ((coded add_code add_status_of).read (place_of self.old)) }
+        ensures moved { OnOk result (self.new.before ≤ self.old.before + 1) }
+    {
+        let before = self.before;
+        match AddStatus::of(self.byte()?) {
             Some(status) => Ok(status),
             None => Err(BodyFault::BadField(before)),
         }

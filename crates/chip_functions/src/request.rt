@@ -1,5 +1,6 @@
 //! What the host asks of the chip.
 
+use crate::AddMode;
 use zw_base::{Bytes, NodeId};
 
 /// The options that the host sends every SendData with (this project's own choice): acknowledge, auto route, explore.
@@ -22,6 +23,11 @@ pub enum Request {
     MemoryGetId,
     GetNodeProtocolInfo {
         node: NodeId,
+    },
+    /// Begins or ends the adding of nodes. The callback id is 1 to 255.
+    AddNode {
+        mode: AddMode,
+        callback_id: u8,
     },
     RequestNodeInfo {
         node: NodeId,

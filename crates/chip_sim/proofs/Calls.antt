@@ -8,7 +8,7 @@ use Rattle.serial_frame.specs.declared.item.Item.{Item}
 use Rattle.serial_frame.specs.declared.item.Item.TheVariants.{Good, Refused}
 use Rattle.serial_frame.specs.declared.unit.Unit.TheVariants.{Ack, Nak, Can, Framed}
 use Rattle.chip_functions.specs.declared.request.Request.{Request}
-use Rattle.chip_functions.specs.declared.request.Request.TheVariants.{GetInitData, GetCapabilities, SendData, GetVersion, SendDataAbort, MemoryGetId, GetNodeProtocolInfo, RequestNodeInfo, IsFailedNode, GetRoutingInfo}
+use Rattle.chip_functions.specs.declared.request.Request.TheVariants.{GetInitData, GetCapabilities, SendData, GetVersion, SendDataAbort, MemoryGetId, GetNodeProtocolInfo, AddNode, RequestNodeInfo, IsFailedNode, GetRoutingInfo}
 use Rattle.chip_functions.specs.declared.notice.TransmitStatus.{TransmitStatus}
 use Rattle.chip_sim.specs.Nodes.{is_marked}
 use Rattle.chip_sim.specs.State.{ChipState}
@@ -72,6 +72,7 @@ callbacks_request SendDataAbort s =
     ∙ ap (λ (o : Option Sending). map sending_of (calls_of true s.sending) ++ listed o) (sym (sending_stopped (given_if s (reply_to s SendDataAbort)).sending (given_if s (reply_to s SendDataAbort)) refl))
 callbacks_request MemoryGetId s = append-nil (listed s.sending)
 callbacks_request (GetNodeProtocolInfo n) s = append-nil (listed s.sending)
+callbacks_request (AddNode mode id) s = append-nil (listed s.sending)
 callbacks_request (RequestNodeInfo n) s = append-nil (listed s.sending)
 callbacks_request (IsFailedNode n) s = append-nil (listed s.sending)
 callbacks_request (GetRoutingInfo n x y z) s = append-nil (listed s.sending)
@@ -133,6 +134,7 @@ calls_request GetVersion s = append-nil (replicate s.aborted true)
 calls_request SendDataAbort s = calls_abort s (reply_to s SendDataAbort)
 calls_request MemoryGetId s = append-nil (replicate s.aborted true)
 calls_request (GetNodeProtocolInfo n) s = append-nil (replicate s.aborted true)
+calls_request (AddNode mode id) s = append-nil (replicate s.aborted true)
 calls_request (RequestNodeInfo n) s = append-nil (replicate s.aborted true)
 calls_request (IsFailedNode n) s = append-nil (replicate s.aborted true)
 calls_request (GetRoutingInfo n x y z) s = append-nil (replicate s.aborted true)

@@ -21,7 +21,7 @@ use Rattle.serial_link.proofs.Counting.{outs_of-append}
 use Rattle.serial_link.proofs.Keeping.{side_hears_all, side_ticks_after, side_submits, side_asks}
 use Rattle.route_table.specs.declared.route.Route.{Route}
 use Rattle.chip_functions.specs.declared.request.Request.{Request}
-use Rattle.chip_functions.specs.declared.request.Request.TheVariants.{GetInitData, GetCapabilities, SendData, GetVersion, SendDataAbort, MemoryGetId, GetNodeProtocolInfo, RequestNodeInfo, IsFailedNode, GetRoutingInfo}
+use Rattle.chip_functions.specs.declared.request.Request.TheVariants.{GetInitData, GetCapabilities, SendData, GetVersion, SendDataAbort, MemoryGetId, GetNodeProtocolInfo, AddNode, RequestNodeInfo, IsFailedNode, GetRoutingInfo}
 use Rattle.chip_functions.specs.declared.notice.TransmitStatus.{TransmitStatus}
 use Rattle.chip_sim.specs.Waiting.{PortState, is_full, queued, queued_outs, next_at, served, served_outs, ticked, written}
 use Rattle.chip_sim.specs.State.{ChipState}
@@ -161,6 +161,7 @@ units_performed GetVersion s way = refl
 units_performed SendDataAbort s way = refl
 units_performed MemoryGetId s way = refl
 units_performed (GetNodeProtocolInfo n) s way = refl
+units_performed (AddNode mode id) s way = refl
 units_performed (RequestNodeInfo n) s way = refl
 units_performed (IsFailedNode n) s way = refl
 units_performed (GetRoutingInfo n x y z) s way = refl

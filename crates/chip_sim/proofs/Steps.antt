@@ -10,7 +10,7 @@ use Rattle.serial_frame.specs.declared.item.Refusal.TheVariants.{Stray, BadLengt
 use Rattle.serial_frame.specs.declared.unit.Unit.TheVariants.{Ack, Nak, Can, Framed}
 use Rattle.serial_link.specs.State.{copy_due}
 use Rattle.chip_functions.specs.declared.request.Request.{Request}
-use Rattle.chip_functions.specs.declared.request.Request.TheVariants.{GetInitData, GetCapabilities, SendData, GetVersion, SendDataAbort, MemoryGetId, GetNodeProtocolInfo, RequestNodeInfo, IsFailedNode, GetRoutingInfo}
+use Rattle.chip_functions.specs.declared.request.Request.TheVariants.{GetInitData, GetCapabilities, SendData, GetVersion, SendDataAbort, MemoryGetId, GetNodeProtocolInfo, AddNode, RequestNodeInfo, IsFailedNode, GetRoutingInfo}
 use Rattle.chip_functions.specs.declared.notice.TransmitStatus.{TransmitStatus}
 use Rattle.route_table.specs.declared.route.Route.{Route}
 use Rattle.chip_sim.specs.Waiting.{PortState, is_full, ticked, next_at, written}
@@ -45,6 +45,7 @@ port_performed GetVersion s = refl
 port_performed SendDataAbort s = port_stopped s.sending s
 port_performed MemoryGetId s = refl
 port_performed (GetNodeProtocolInfo n) s = refl
+port_performed (AddNode mode id) s = refl
 port_performed (RequestNodeInfo n) s = refl
 port_performed (IsFailedNode n) s = refl
 port_performed (GetRoutingInfo n x y z) s = refl
@@ -161,6 +162,7 @@ drop_performed GetVersion s way = refl
 drop_performed SendDataAbort s way = refl
 drop_performed MemoryGetId s way = refl
 drop_performed (GetNodeProtocolInfo n) s way = refl
+drop_performed (AddNode mode id) s way = refl
 drop_performed (RequestNodeInfo n) s way = refl
 drop_performed (IsFailedNode n) s way = refl
 drop_performed (GetRoutingInfo n x y z) s way = refl

@@ -15,7 +15,7 @@ use Rattle.route_table.specs.declared.route.Route.{Route}
 use Rattle.chip_functions.specs.Request.{request_of}
 use Rattle.chip_functions.specs.declared.fault.BodyFault.{BodyFault}
 use Rattle.chip_functions.specs.declared.request.Request.{Request}
-use Rattle.chip_functions.specs.declared.request.Request.TheVariants.{GetInitData, GetCapabilities, SendData, GetVersion, SendDataAbort, MemoryGetId, GetNodeProtocolInfo, RequestNodeInfo, IsFailedNode, GetRoutingInfo}
+use Rattle.chip_functions.specs.declared.request.Request.TheVariants.{GetInitData, GetCapabilities, SendData, GetVersion, SendDataAbort, MemoryGetId, GetNodeProtocolInfo, AddNode, RequestNodeInfo, IsFailedNode, GetRoutingInfo}
 use Rattle.chip_functions.specs.declared.response.Response.TheVariants.{SendData as SendDataAnswer, RequestNodeInfo as NodeInfoAnswer, IsFailedNode as FailedNode}
 use Rattle.chip_functions.specs.declared.notice.Notice.TheVariants.{SendData as SendDataCallback}
 use Rattle.chip_functions.specs.declared.notice.TransmitStatus.{TransmitStatus}
@@ -123,6 +123,7 @@ IsInformation GetVersion = Unit {0}
 IsInformation SendDataAbort = ⊥
 IsInformation MemoryGetId = Unit {0}
 IsInformation (GetNodeProtocolInfo n) = Unit {0}
+IsInformation (AddNode mode id) = ⊥
 IsInformation (RequestNodeInfo n) = Unit {0}
 IsInformation (IsFailedNode n) = Unit {0}
 IsInformation (GetRoutingInfo n x y z) = Unit {0}
@@ -136,6 +137,7 @@ reply_to s GetVersion = Some (response_frame version)
 reply_to s SendDataAbort = abort_frame s.sending
 reply_to s MemoryGetId = Some (response_frame memory_id)
 reply_to s (GetNodeProtocolInfo n) = Some (response_frame (protocol_info s n))
+reply_to s (AddNode mode id) = None
 reply_to s (RequestNodeInfo n) = Some (response_frame (NodeInfoAnswer 1))
 reply_to s (IsFailedNode n) = Some (response_frame (FailedNode (is_marked s.failing n)))
 reply_to s (GetRoutingInfo n x y z) = Some (response_frame (routing_info s n))
@@ -158,6 +160,7 @@ performed GetVersion s = s
 performed SendDataAbort s = stopped s.sending s
 performed MemoryGetId s = s
 performed (GetNodeProtocolInfo n) s = s
+performed (AddNode mode id) s = s
 performed (RequestNodeInfo n) s = s
 performed (IsFailedNode n) s = s
 performed (GetRoutingInfo n x y z) s = s
@@ -170,6 +173,7 @@ performed_outs GetVersion s way = []
 performed_outs SendDataAbort s way = []
 performed_outs MemoryGetId s way = []
 performed_outs (GetNodeProtocolInfo n) s way = []
+performed_outs (AddNode mode id) s way = []
 performed_outs (RequestNodeInfo n) s way = AskInfo n ∷ []
 performed_outs (IsFailedNode n) s way = []
 performed_outs (GetRoutingInfo n x y z) s way = []
@@ -197,6 +201,7 @@ HasWay (Some GetVersion) s way = way ≡ None
 HasWay (Some SendDataAbort) s way = way ≡ None
 HasWay (Some MemoryGetId) s way = way ≡ None
 HasWay (Some (GetNodeProtocolInfo n)) s way = way ≡ None
+HasWay (Some (AddNode mode id)) s way = way ≡ None
 HasWay (Some (RequestNodeInfo n)) s way = way ≡ None
 HasWay (Some (IsFailedNode n)) s way = way ≡ None
 HasWay (Some (GetRoutingInfo n x y z)) s way = way ≡ None

@@ -7,7 +7,7 @@ use Rattle.serial_link.specs.declared.turn.Turn.{Turn}
 use Rattle.serial_link.specs.declared.turn.Turn.TheVariants.{Idle, Copied, Paused}
 use Rattle.route_table.specs.declared.route.Route.{Route}
 use Rattle.chip_functions.specs.declared.request.Request.{Request}
-use Rattle.chip_functions.specs.declared.request.Request.TheVariants.{GetInitData, GetCapabilities, SendData, GetVersion, SendDataAbort, MemoryGetId, GetNodeProtocolInfo, RequestNodeInfo, IsFailedNode, GetRoutingInfo}
+use Rattle.chip_functions.specs.declared.request.Request.TheVariants.{GetInitData, GetCapabilities, SendData, GetVersion, SendDataAbort, MemoryGetId, GetNodeProtocolInfo, AddNode, RequestNodeInfo, IsFailedNode, GetRoutingInfo}
 use Rattle.chip_functions.specs.declared.notice.Notice.TheVariants.{ApplicationCommandHandler, ApplicationUpdate}
 use Rattle.chip_functions.specs.declared.notice.TransmitStatus.{TransmitStatus}
 use Rattle.chip_sim.specs.Waiting.{PortState, is_full, next_at, ticked}
@@ -105,6 +105,7 @@ requested_taken (Some GetVersion) s = []
 requested_taken (Some SendDataAbort) s = []
 requested_taken (Some MemoryGetId) s = []
 requested_taken (Some (GetNodeProtocolInfo n)) s = []
+requested_taken (Some (AddNode mode id)) s = []
 requested_taken (Some (RequestNodeInfo n)) s = []
 requested_taken (Some (IsFailedNode n)) s = []
 requested_taken (Some (GetRoutingInfo n x y z)) s = []
@@ -143,6 +144,7 @@ requested_calls (Some GetVersion) s = []
 requested_calls (Some SendDataAbort) s = calls_of true s.sending
 requested_calls (Some MemoryGetId) s = []
 requested_calls (Some (GetNodeProtocolInfo n)) s = []
+requested_calls (Some (AddNode mode id)) s = []
 requested_calls (Some (RequestNodeInfo n)) s = []
 requested_calls (Some (IsFailedNode n)) s = []
 requested_calls (Some (GetRoutingInfo n x y z)) s = []
@@ -208,6 +210,7 @@ requested_starts (Some GetVersion) s way = []
 requested_starts (Some SendDataAbort) s way = []
 requested_starts (Some MemoryGetId) s way = []
 requested_starts (Some (GetNodeProtocolInfo n)) s way = []
+requested_starts (Some (AddNode mode id)) s way = []
 requested_starts (Some (RequestNodeInfo n)) s way = []
 requested_starts (Some (IsFailedNode n)) s way = []
 requested_starts (Some (GetRoutingInfo n x y z)) s way = []
@@ -237,6 +240,7 @@ requested_asks (Some GetVersion) = []
 requested_asks (Some SendDataAbort) = []
 requested_asks (Some MemoryGetId) = []
 requested_asks (Some (GetNodeProtocolInfo n)) = []
+requested_asks (Some (AddNode mode id)) = []
 requested_asks (Some (RequestNodeInfo n)) = AskInfo n ∷ []
 requested_asks (Some (IsFailedNode n)) = []
 requested_asks (Some (GetRoutingInfo n x y z)) = []

@@ -44,6 +44,15 @@ fn request_fields(rt: HostRuntime) -> Result<(), Fail> {
         matches!(&value, Request::GetRoutingInfo { node, remove_bad: 2, remove_non_repeaters: 3, function_id: 4 }
         if node.number() == 1);
     assert!(rt; known);
+    let value = read_request(rt.alloc(), ADD_NODE, &[5, 7])?;
+    let known = matches!(
+        &value,
+        Request::AddNode {
+            mode: AddMode::Stop,
+            callback_id: 7
+        }
+    );
+    assert!(rt; known);
     Ok(())
 }
 
@@ -129,6 +138,13 @@ fn notice_fields(rt: HostRuntime) -> Result<(), Fail> {
     let value = read_notice(rt.alloc(), APPLICATION_UPDATE, &[0x84, 2, 4, 5, 6, 7, 8])?;
     let known = matches!(&value, Notice::ApplicationUpdate {
             update: Update::Received { node, basic: 5, generic: 6, specific: 7, classes },
+        } if node.number() == 2 && classes.as_slice() == [8].as_slice());
+    assert!(rt; known);
+    let value = read_notice(rt.alloc(), ADD_NODE, &[9, 3, 2, 4, 5, 6, 7, 8])?;
+    let known = matches!(&value, Notice::AddNode {
+            callback_id: 9,
+            status: AddStatus::AddingSlave,
+            added: AddedNode::Described { node, basic: 5, generic: 6, specific: 7, classes },
         } if node.number() == 2 && classes.as_slice() == [8].as_slice());
     assert!(rt; known);
     Ok(())

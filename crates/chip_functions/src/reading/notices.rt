@@ -1,17 +1,19 @@
 //! Notices, as the host reads them.
 
-ghost use Rattle.std.specs.Prelude.{◌≡◌, ℕ, ◌≤◌, IfOk, IfErr};
+ghost use Rattle.std.specs.Prelude.{◌≡◌, ℕ, ◌+◌, ◌≤◌, IfOk, IfErr, OnOk};
 ghost use Rattle.chip_functions.specs.Place.{Gives, IsBodyFault};
 ghost use Rattle.chip_functions.specs.Seen.{place_of};
-ghost use Rattle.chip_functions.specs.Notice.{handler_at, callback_at, received_at, request_failed_at, update, update_at, IsNoticeBody, notice_at, notice_of};
+ghost use Rattle.chip_functions.specs.Notice.{handler_at, callback_at, add_notice_at, received_at, request_failed_at, update, update_at, IsNoticeBody, notice_at, notice_of};
+ghost use Rattle.chip_functions.specs.AddNode.{added, unnamed_at, named_at};
+ghost use Rattle.chip_functions.specs.Classes.{classes_after};
 ghost use Rattle.chip_functions.specs.declared.notice.Notice.{Notice};
 
-use crate::function::{APPLICATION_COMMAND_HANDLER, APPLICATION_UPDATE, SEND_DATA};
+use crate::function::{ADD_NODE, APPLICATION_COMMAND_HANDLER, APPLICATION_UPDATE, SEND_DATA};
 use crate::notice::{DEVICE_CLASSES, UPDATE_FAILED, UPDATE_RECEIVED};
 use crate::place::Place;
-use crate::{BodyFault, Notice, Update};
+use crate::{AddedNode, BodyFault, Notice, Update};
 use std::alloc::Global;
-use zw_base::Bytes;
+use zw_base::{Bytes, NodeId, read_node};
 
 #[tactic(auto, unfolding(crate::specs::Notice::handler_at))]
 fn handler(alloc: Global, place: &mut Place) -> Result<Notice, BodyFault>
@@ -60,6 +62,69 @@ fn received(alloc: Global, place: &mut Place) -> Result<Update, BodyFault>
     })
 }
 
+/// After the length 0 nothing follows.
+#[tactic(auto, unfolding(crate::specs::AddNode::unnamed_at))]
+fn unnamed(place: &mut Place) -> Result<AddedNode, BodyFault>
+    requires { place.old.before ≤ 4 }
+    ensures { Gives (λ x. (x, place_of place.new)) result (unnamed_at (place_of place.old)) }
+{
+    place.mark(0)?;
+    Ok(AddedNode::Unnamed)
+}
+
+#[tactic(auto, unfolding(crate::specs::AddNode::named_at))]
+fn named(alloc: Global, node: NodeId, place: &mut Place) -> Result<AddedNode, BodyFault>
+    requires { place.old.before ≤ 4 }
+    ensures { Gives (λ x. (x, place_of place.new)) result (named_at node (place_of place.old)) }
+{
+    let before = place.before;
+    let len = place.byte()?;
+    if len == 0 {
+        return Ok(AddedNode::Named { node });
+    }
+    if len < DEVICE_CLASSES {
+        return Err(BodyFault::BadField(before));
+    }
+    let basic = place.byte()?;
+    let generic = place.byte()?;
+    let specific = place.byte()?;
+    let classes = Bytes::from_slice(alloc, place.piece(len - DEVICE_CLASSES)?)?;
+    Ok(AddedNode::Described {
+        node,
+        basic,
+        generic,
+        specific,
+        classes,
+    })
+}
+
+fn added(alloc: Global, place: &mut Place) -> Result<AddedNode, BodyFault>
+    requires { place.old.before ≤ 3 }
+    ensures { Gives (λ x. (x, place_of place.new)) result (added.read (place_of place.old)) }
+{
+    let before = place.before;
+    let number = place.byte()?;
+    if number == 0 {
+        return unnamed(place);
+    }
+    match read_node(number) {
+        Some(node) => named(alloc, node, place),
+        None => Err(BodyFault::BadField(before)),
+    }
+}
+
+#[tactic(auto, unfolding(crate::specs::Notice::add_notice_at))]
+fn add_notice(alloc: Global, place: &mut Place) -> Result<Notice, BodyFault>
+    requires { place.old.before ≡ 0 }
+    ensures { Gives (λ x. (x, place_of place.new)) result (add_notice_at (place_of place.old)) }
+{
+    Ok(Notice::AddNode {
+        callback_id: place.byte()?,
+        status: place.add_status()?,
+        added: added(alloc, place)?,
+    })
+}
+
 #[tactic(auto, unfolding(crate::specs::Notice::request_failed_at))]
 fn request_failed(place: &mut Place) -> Result<Update, BodyFault>
     requires { place.old.before ≤ 1 }
@@ -89,6 +154,7 @@ fn notice(alloc: Global, func: u8, place: &mut Place) -> Result<Notice, BodyFaul
     match func {
         APPLICATION_COMMAND_HANDLER => handler(alloc, place),
         SEND_DATA => callback(place),
+        ADD_NODE => add_notice(alloc, place),
         APPLICATION_UPDATE => Ok(Notice::ApplicationUpdate {
             update: update(alloc, place)?,
         }),

@@ -3,12 +3,12 @@
 ghost use Rattle.std.specs.Prelude.{◌≡◌, ℕ, IfOk, IfErr};
 ghost use Rattle.chip_functions.specs.Place.{Gives, IsBodyFault};
 ghost use Rattle.chip_functions.specs.Seen.{place_of};
-ghost use Rattle.chip_functions.specs.Request.{send_data_at, get_routing_info_at, IsRequestBody, request_at, request_of};
+ghost use Rattle.chip_functions.specs.Request.{send_data_at, add_request_at, get_routing_info_at, IsRequestBody, request_at, request_of};
 ghost use Rattle.chip_functions.specs.declared.request.Request.{Request};
 
 use crate::function::{
-    GET_CAPABILITIES, GET_INIT_DATA, GET_NODE_PROTOCOL_INFO, GET_ROUTING_INFO, GET_VERSION,
-    IS_FAILED_NODE, MEMORY_GET_ID, REQUEST_NODE_INFO, SEND_DATA, SEND_DATA_ABORT,
+    ADD_NODE, GET_CAPABILITIES, GET_INIT_DATA, GET_NODE_PROTOCOL_INFO, GET_ROUTING_INFO,
+    GET_VERSION, IS_FAILED_NODE, MEMORY_GET_ID, REQUEST_NODE_INFO, SEND_DATA, SEND_DATA_ABORT,
 };
 use crate::place::Place;
 use crate::{BodyFault, Request};
@@ -28,6 +28,17 @@ fn send_data(alloc: Global, place: &mut Place) -> Result<Request, BodyFault>
         payload,
         options,
         callback_id,
+    })
+}
+
+#[tactic(auto, unfolding(crate::specs::Request::add_request_at))]
+fn add_request(place: &mut Place) -> Result<Request, BodyFault>
+    requires { place.old.before ≡ 0 }
+    ensures { Gives (λ x. (x, place_of place.new)) result (add_request_at (place_of place.old)) }
+{
+    Ok(Request::AddNode {
+        mode: place.add_mode()?,
+        callback_id: place.callback_id()?,
     })
 }
 
@@ -59,6 +70,7 @@ fn request(alloc: Global, func: u8, place: &mut Place) -> Result<Request, BodyFa
         GET_NODE_PROTOCOL_INFO => Ok(Request::GetNodeProtocolInfo {
             node: place.node()?,
         }),
+        ADD_NODE => add_request(place),
         REQUEST_NODE_INFO => Ok(Request::RequestNodeInfo {
             node: place.node()?,
         }),

@@ -2,12 +2,14 @@
 
 ghost use Rattle.std.specs.Prelude.{◌≡◌, ◌≤◌, length, IfOk};
 ghost use Rattle.serial_frame.specs.declared.frame.Kind.TheVariants.{Request as of_request};
-ghost use Rattle.chip_functions.specs.Notice.{handler, classes, update, notice_function, notice_body, HasNoticeRow, IsUpdate, IsNotice, IsNoticeBody};
+ghost use Rattle.chip_functions.specs.Notice.{handler, update, notice_function, notice_body, HasNoticeRow, IsUpdate, IsNotice, IsNoticeBody};
+ghost use Rattle.chip_functions.specs.Classes.{classes};
+ghost use Rattle.chip_functions.specs.AddNode.{add_notice, added, IsAdded};
 ghost use Rattle.chip_functions.specs.Field.{IsNode};
 
-use crate::function::{APPLICATION_COMMAND_HANDLER, APPLICATION_UPDATE, SEND_DATA};
+use crate::function::{ADD_NODE, APPLICATION_COMMAND_HANDLER, APPLICATION_UPDATE, SEND_DATA};
 use crate::notice::{DEVICE_CLASSES, UPDATE_FAILED, UPDATE_RECEIVED};
-use crate::{Notice, Update};
+use crate::{AddStatus, AddedNode, Notice, Update};
 use serial_frame::{Frame, Kind};
 use std::alloc::Global;
 use zw_base::{Bytes, NoMemory, NodeId};
@@ -18,6 +20,7 @@ fn function(value: &Notice) -> u8
     match value {
         Notice::ApplicationCommandHandler { .. } => APPLICATION_COMMAND_HANDLER,
         Notice::SendData { .. } => SEND_DATA,
+        Notice::AddNode { .. } => ADD_NODE,
         Notice::ApplicationUpdate { .. } => APPLICATION_UPDATE,
     }
 }
@@ -62,6 +65,46 @@ fn update(alloc: Global, value: &Update) -> Result<Bytes, NoMemory>
     }
 }
 
+fn add_notice(
+    alloc: Global,
+    callback_id: u8,
+    status: AddStatus,
+    said: &AddedNode,
+) -> Result<Bytes, NoMemory>
+    requires { length (added.spell said.now) ≤ 250 }
+    ensures body { IfOk result (λ body. body ≡ add_notice.spell (callback_id, (status, said.now))) }
+    ensures row { IsAdded said.now }
+{
+    let status = status.code();
+    match said {
+        AddedNode::Unnamed => Bytes::from_slice(alloc, &[callback_id, status, 0, 0]),
+        AddedNode::Named { node } => {
+            Bytes::from_slice(alloc, &[callback_id, status, node.number(), 0])
+        }
+        AddedNode::Described {
+            node,
+            basic,
+            generic,
+            specific,
+            classes,
+        } => {
+            let len = classes.len() as u8 + DEVICE_CLASSES;
+            let front = [
+                callback_id,
+                status,
+                node.number(),
+                len,
+                *basic,
+                *generic,
+                *specific,
+            ];
+            let mut body = Bytes::from_slice(alloc, &front)?;
+            body.extend(classes.as_slice())?;
+            Ok(body)
+        }
+    }
+}
+
 fn body(alloc: Global, value: &Notice) -> Result<Bytes, NoMemory>
     requires { length (notice_body value.now) ≤ 252 }
     ensures body { IfOk result (λ body. body ≡ notice_body value.now) }
@@ -77,6 +120,11 @@ fn body(alloc: Global, value: &Notice) -> Result<Bytes, NoMemory>
             callback_id,
             status,
         } => Bytes::from_slice(alloc, &[*callback_id, status.code()]),
+        Notice::AddNode {
+            callback_id,
+            status,
+            added,
+        } => add_notice(alloc, *callback_id, *status, added),
         Notice::ApplicationUpdate { update: value } => update(alloc, value),
     }
 }

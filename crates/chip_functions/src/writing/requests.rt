@@ -7,8 +7,8 @@ ghost use Rattle.chip_functions.specs.Field.{IsNode};
 
 use crate::Request;
 use crate::function::{
-    GET_CAPABILITIES, GET_INIT_DATA, GET_NODE_PROTOCOL_INFO, GET_ROUTING_INFO, GET_VERSION,
-    IS_FAILED_NODE, MEMORY_GET_ID, REQUEST_NODE_INFO, SEND_DATA, SEND_DATA_ABORT,
+    ADD_NODE, GET_CAPABILITIES, GET_INIT_DATA, GET_NODE_PROTOCOL_INFO, GET_ROUTING_INFO,
+    GET_VERSION, IS_FAILED_NODE, MEMORY_GET_ID, REQUEST_NODE_INFO, SEND_DATA, SEND_DATA_ABORT,
 };
 use serial_frame::{Frame, Kind};
 use std::alloc::Global;
@@ -25,6 +25,7 @@ fn function(value: &Request) -> u8
         Request::SendDataAbort => SEND_DATA_ABORT,
         Request::MemoryGetId => MEMORY_GET_ID,
         Request::GetNodeProtocolInfo { .. } => GET_NODE_PROTOCOL_INFO,
+        Request::AddNode { .. } => ADD_NODE,
         Request::RequestNodeInfo { .. } => REQUEST_NODE_INFO,
         Request::IsFailedNode { .. } => IS_FAILED_NODE,
         Request::GetRoutingInfo { .. } => GET_ROUTING_INFO,
@@ -68,6 +69,9 @@ fn body(alloc: Global, value: &Request) -> Result<Bytes, NoMemory>
         Request::GetNodeProtocolInfo { node }
         | Request::RequestNodeInfo { node }
         | Request::IsFailedNode { node } => Bytes::from_slice(alloc, &[node.number()]),
+        Request::AddNode { mode, callback_id } => {
+            Bytes::from_slice(alloc, &[mode.code(), *callback_id])
+        }
         Request::GetRoutingInfo {
             node,
             remove_bad,

@@ -1,4 +1,4 @@
-use Rattle.std.proofs.Common.{◌∙◌, ap, arith}
+use Rattle.std.proofs.Common.{◌∙◌, ap}
 use Rattle.chip_functions.specs.Mask.{with_node}
 use Rattle.chip_functions.proofs.MaskLemmas.{with_bit-nodes}
 use Rattle.chip_functions.proofs.mask.NodeMask.insert.Goals as goal

@@ -1,5 +1,5 @@
-use Rattle.std.proofs.Common.{◌≡◌, ◌∙◌, ◌++◌, List, ℕ, subst, arith, ap, cond}
-use Rattle.chip_functions.specs.Mask.{AreNodes, is_among}
+use Rattle.std.proofs.Common.{◌≡◌, ◌∙◌, subst, arith, ap}
+use Rattle.chip_functions.specs.Mask.{AreNodes}
 use Rattle.chip_functions.proofs.MaskLemmas.{are_nodes, all_below, next_below, nodes_below}
 use Rattle.chip_functions.proofs.mask.NodeMask.nodes.Goals as goal
 
