@@ -1,5 +1,5 @@
 -- What holds of all nodes holds after an event of one of them.
-use Rattle.std.proofs.Common.{◌≡◌, ◌≢◌, ℕ, ◌+◌, ◌-◌, ◌<◌, ◌≤◌, ◌==◌, ◌&&◌, nat_lt, Bool, true, false, if◌then◌else◌, Option, Some, None, List, length, get_or, set, slice_index_or, map, refl, sym, ap, subst, ◌∙◌, inl, inr, arith}
+use Rattle.std.proofs.Common.{◌≡◌, ℕ, ◌+◌, ◌-◌, ◌<◌, ◌≤◌, ◌==◌, ◌&&◌, nat_lt, Bool, true, false, if◌then◌else◌, Option, Some, None, List, length, get_or, set, slice_index_or, map, refl, sym, ap, subst, ◌∙◌, inl, inr, arith}
 use Rattle.std.proofs.lemmas.Bool.{cases_eq, cases_lt}
 use Rattle.std.proofs.lemmas.List.{get_or_default, get_or_past, get_or-set_same, get_or-set_other, length-set, map-set}
 use Rattle.supervision.specs.Host.{told_of}
@@ -11,12 +11,12 @@ use Rattle.host_node.specs.declared.attempt.Moment.{Moment}
 use Rattle.host_node.specs.declared.attempt.Moment.TheVariants.{BetweenTicks}
 use Rattle.host_node.specs.State.{NodeState, unknown, is_idle, is_running, is_up, is_open, has_waiting, has_work, needs_tick, wants_no_more}
 use Rattle.host_node.specs.Steps.{with_again, with_wait, new_series, next_due, series_over, after_occasion, without_attempt, asleep, after_sleep, after_no_more, tried_again, after_attempts, after_attempt_end, after_sign, after_told, after_again, after_again_tick, after_attempt_tick, after_hold_tick, as_recorded}
-use Rattle.host_node.specs.Events.{NodeEvent, after, May}
+use Rattle.host_node.specs.Events.{NodeEvent, after}
 use Rattle.host_node.specs.Events.NodeEvent.{Joins, Interviews, Puts, Takes_back, Accepts, Cancels, Begins, Blocks, Starts, Gives_segment, Gives_text, Succeeds, Takes_nonce, Restores_seen, Ends_attempt, Reports, Holds, Notifies, Sleeps, Queues_no_more, Drops_no_more, Ends_no_more, Ticks, Restarts}
 use Rattle.host_node.specs.Facts.{NodeFacts}
 use Rattle.host_nodes.specs.State.{node_of, nodes_after}
 use Rattle.host_nodes.specs.Facts.{NodesFacts}
-use Rattle.host_nodes.specs.Inside.{IsAgendaOf, IsNodes, followed}
+use Rattle.host_nodes.specs.Inside.{IsNodes, followed}
 use Rattle.host_nodes.specs.Marks.{is_marked}
 use Rattle.host_nodes.specs.Search.{least_above, next_of}
 use Rattle.host_nodes.proofs.Searches.{least_by_same}

@@ -1,5 +1,5 @@
 -- Nodes of which nothing is known.
-use Rattle.std.proofs.Common.{◌≡◌, ℕ, zero, suc, ◌+◌, ◌-◌, ◌<◌, ◌≤◌, Bool, false, List, [], ◌∷◌, ◌++◌, length, get_or, map, replicate, refl, sym, ap, subst, ◌∙◌, arith, rules}
+use Rattle.std.proofs.Common.{◌≡◌, ℕ, zero, suc, ◌+◌, ◌-◌, ◌<◌, ◌≤◌, Bool, false, List, [], ◌∷◌, ◌++◌, length, map, replicate, refl, sym, ap, subst, ◌∙◌, arith, rules}
 use Rattle.host_node.specs.State.{NodeState, unknown, has_work, needs_tick, wants_no_more}
 use Rattle.host_node.specs.Facts.{NodeFacts}
 use Rattle.host_nodes.specs.State.{node_of, unknown_from, unknown_nodes}

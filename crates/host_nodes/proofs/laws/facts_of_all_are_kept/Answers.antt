@@ -1,5 +1,4 @@
 -- What one node keeps, all keep.
-use Rattle.host_node.specs.Events.{after}
 use Rattle.host_nodes.specs.State.{node_of}
 use Rattle.host_nodes.proofs.Lists.{unknown_facts}
 use Rattle.host_nodes.proofs.Follows.{each_keeps}

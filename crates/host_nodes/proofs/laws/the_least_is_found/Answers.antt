@@ -1,5 +1,5 @@
 -- The least node above a number is the first that passes of those from the next number on.
-use Rattle.std.proofs.Common.{◌<◌, ◌≤◌, arith}
+use Rattle.std.proofs.Common.{arith}
 use Rattle.host_nodes.proofs.Searches.{what_is_least, where_is_none}
 use Rattle.host_nodes.proofs.laws.the_least_is_found.Goals as goal
 

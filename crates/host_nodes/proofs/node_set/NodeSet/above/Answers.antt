@@ -1,7 +1,6 @@
 -- The first bit above the number, word by word.
-use Rattle.std.proofs.Common.{◌≡◌, ◌+◌, ◌*◌, ◌/◌, ◌%◌, ◌^◌, ◌<◌, ◌≤◌, Some, get_or, w64, sym, ap, ◌∙◌, arith}
-use Rattle.std.specs.Int.{trailing_zeros}
-use Rattle.host_nodes.proofs.Words.{Passed, RestHas, rest_has, rest_has_none, passed_word, passed_rest, passed_all, some_where, is_some_of}
+use Rattle.std.proofs.Common.{sym, ◌∙◌, arith}
+use Rattle.host_nodes.proofs.Words.{rest_has, rest_has_none, passed_word, passed_rest, passed_all, some_where, is_some_of}
 use Rattle.host_nodes.proofs.node_set.NodeSet.above.Goals as goal
 
 pub overflow_add-from-then-rest-ne0 : goal.overflow_add-from-then-rest-ne0

@@ -1,5 +1,5 @@
 -- One bit is put in or taken out.
-use Rattle.std.proofs.Common.{◌≡◌, ◌≤◌, length, set, ap, ◌∙◌, sym, arith}
+use Rattle.std.proofs.Common.{arith}
 use Rattle.host_nodes.proofs.Words.{put_in, taken_out, marks_with, has_nodes_with}
 use Rattle.host_nodes.proofs.node_set.NodeSet.set.Goals as goal
 

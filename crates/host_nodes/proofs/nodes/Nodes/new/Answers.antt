@@ -1,5 +1,5 @@
 -- Nothing is known of the nodes that are made.
-use Rattle.std.proofs.Common.{◌≡◌, ◌<◌, ◌≤◌, Some, arith}
+use Rattle.std.proofs.Common.{◌<◌, arith}
 use Rattle.host_nodes.proofs.Words.{some_where, value_of}
 use Rattle.host_nodes.proofs.Lists.{made_one_more, all_made, all_new}
 use Rattle.host_nodes.proofs.nodes.Nodes.new.Goals as goal
