@@ -1,0 +1,4 @@
+pub mod Printed
+pub mod LineLaws
+pub mod Ends
+pub mod Rows
