@@ -2,3 +2,4 @@ pub mod Printed
 pub mod LineLaws
 pub mod Ends
 pub mod Rows
+pub mod Facts

@@ -3,3 +3,4 @@ pub mod Entry
 pub mod State
 pub mod Steps
 pub mod Inside
+pub mod Flow

@@ -9,6 +9,7 @@
 
 mod entry;
 mod frame;
+mod laws;
 mod line;
 mod node_flow;
 mod print;
@@ -17,6 +18,7 @@ mod world;
 
 pub use entry::{EventEntry, EventRefusal};
 pub use frame::{Content, Frame, Notice};
+pub use laws::events_flow;
 pub use line::EventLine;
 pub use print::print_event;
 pub use read::read_event;

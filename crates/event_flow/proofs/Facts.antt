@@ -1,0 +1,98 @@
+-- What holds of a node and of the frames between it and the host after every line, and how each thing that happens keeps it.
+use Rattle.std.proofs.Common.{◌≡◌, ◌≢◌, ℕ, zero, suc, ◌+◌, ◌-◌, ◌<◌, ◌≤◌, ◌⊎◌, Bool, true, false, Option, Some, None, List, [], ◌∷◌, ◌++◌, length, ap, refl, sym, subst, ◌∙◌, inl, inr, arith, length-append, append_assoc}
+use Rattle.std.specs.Prelude.{if◌then◌else◌, slice_get, is_none, nat_lt, min}
+use Rattle.std.specs.List.{flat_map}
+use Rattle.std.proofs.lemmas.Bool.Decides.{nat_tests}
+use Rattle.std.proofs.lemmas.Option.{slice_get-get_or, slice_get_within}
+use Rattle.supervision.specs.Session.{wire_id}
+use Rattle.supervision.specs.Host.{HostBook, begun_of, open_session, command_at, begins, told_of, after_report}
+use Rattle.supervision.specs.Device.{Taken, heard_of, after_get, finished}
+use Rattle.supervision.specs.Ends.{Get, Report, EndsAgree, GetFits, ReportFits}
+use Rattle.supervision.specs.declared.session.TheConstants.{SUCCESS, WORKING}
+use Rattle.supervision.specs.declared.host_node.Told.TheVariants.{Final}
+use Rattle.supervision.specs.declared.device_book.Heard.TheVariants.{New, Again as Repeated}
+use Rattle.supervision.proofs.EndsLemmas.{all_taken, open_session-Some, heard_of-New, heard_of-Again, told_of-Final, after_report-Final, IsTaken, get_in_time, get_near, report_near, report_in_time, EndsAgree-begins, EndsAgree-heard, EndsAgree-finished, EndsAgree-reported, GetFits-sent, GetFits-begins, ReportFits-sent, ReportFits-begins, ReportFits-heard, ReportFits-finished}
+use Rattle.event_flow.specs.declared.frame.Notice.{Notice}
+use Rattle.event_flow.specs.declared.frame.Content.{Content}
+use Rattle.event_flow.specs.declared.frame.Content.TheVariants.{Event as EventContent, Receipt}
+use Rattle.event_flow.specs.declared.frame.Frame.{Frame}
+use Rattle.event_flow.specs.declared.node_flow.TheConstants.{EVENT}
+use Rattle.event_flow.specs.State.{NodeState, known_count, unknown_count, may_begin, event_frame, receipt_frame, last_event, later_of}
+use Rattle.event_flow.specs.Steps.{with_begun, with_queued, with_known, with_taken}
+use Rattle.event_flow.specs.Flow.{IsFront, count_up}
+
+-- what a frame that was sent still says: an event is that of its session, and an answer is of a session that the host took
+abbrev pub FitsBy : NodeState → ℕ → ℕ → Content → Type 0
+FitsBy n session begun (EventContent notice) =
+    (command : ℕ) × GetFits n.device.commands (record { session = session; command = command; begun = begun }) × (slice_get n.queued (session - 1) ≡ Some notice)
+FitsBy n session begun Receipt = ReportFits (begun_of n.device) n.host (record { session = session; status = SUCCESS; begun = begun })
+
+abbrev pub FrameFits : NodeState → Frame → Type 0
+FrameFits n frame = FitsBy n frame.session frame.begun frame.content
+
+-- what holds of a node, whether or not a session may begin
+pub record Loose (n : NodeState) : Type 0 where
+  pub agrees : EndsAgree n.device n.host
+  pub success : n.host.status ≡ SUCCESS
+  pub counted : n.host.taken ≡ length n.taken
+  pub front : IsFront n.taken n.queued
+  pub begun : begun_of n.device ≤ length n.queued
+  pub few : unknown_count n ≤ 16
+
+-- what holds of a node between two lines
+pub record NodeInv (n : NodeState) : Type 0 where
+  pub loose : Loose n
+  pub settled : may_begin n ≡ false
+
+-- each frame that fits goes on to fit
+abbrev pub Keeps : NodeState → NodeState → Type 0
+Keeps n after = (frame : Frame) → FrameFits n frame → FrameFits after frame
+
+-- ---- open sessions
+
+pub option_cases : (o : Option ℕ) → (o ≡ None) ⊎ ((x : ℕ) × (o ≡ Some x))
+option_cases None = inl refl
+option_cases (Some x) = inr (x, refl)
+
+pub known-none : (n : NodeState) → open_session n.device ≡ None → known_count n ≡ begun_of n.device
+known-none n e = rw (known_count, e) refl
+
+pub known-open : (n : NodeState) (session : ℕ) → open_session n.device ≡ Some session → known_count n ≡ session - 1
+known-open n session e = rw (known_count, e) refl
+
+open-push : (commands : List ℕ) (command : ℕ) → open_session (record { commands = commands ++ command ∷ []; outcome = None; attempts = 0 }) ≡ Some (length commands + 1)
+open-push [] command = refl
+open-push (c ∷ cs) command = ap (λ k. Some k) (length-append (c ∷ cs) (command ∷ []))
+
+-- no event is known that the host did not take
+pub known_taken : (n : NodeState) → Loose n → known_count n ≤ length n.taken
+known_taken n loose =
+    elim (option_cases (open_session n.device)) [
+      | inl none ↦
+          let known = known-none n none in
+          let all = all_taken n.device n.host loose.agrees none in
+          omega (arith, known, all, loose.counted)
+      | inr one ↦
+          let known = known-open n one.0 one.1 in
+          let last = (open_session-Some n.device one.0 one.1).0 in
+          omega (arith, known, last, loose.counted, loose.agrees.one_behind)
+    ]
+
+-- how many sessions have begun
+pub begun_count : (n : NodeState) → NodeInv n → begun_of n.device ≡ min (length n.queued) (known_count n + 1)
+begun_count n inv =
+    elim (option_cases (open_session n.device)) [
+      | inl none ↦
+          let known = known-none n none in
+          let all : length n.queued ≤ begun_of n.device = all_begun n none inv.settled in
+          let within : begun_of n.device ≤ length n.queued = inv.loose.begun in
+          omega (arith, known, all, within)
+      | inr one ↦
+          let known = known-open n one.0 one.1 in
+          let last = open_session-Some n.device one.0 one.1 in
+          let within : begun_of n.device ≤ length n.queued = inv.loose.begun in
+          omega (arith, known, last.0, last.1, within)
+    ]
+  where
+    all_begun : (n : NodeState) → open_session n.device ≡ None → may_begin n ≡ false → length n.queued ≤ begun_of n.device
+    all_begun n none settled = grind (arith, nat_tests)
