@@ -60,7 +60,7 @@ known-none n e = rw (known_count, e) refl
 pub known-open : (n : NodeState) (session : ℕ) → open_session n.device ≡ Some session → known_count n ≡ session - 1
 known-open n session e = rw (known_count, e) refl
 
-open-push : (commands : List ℕ) (command : ℕ) → open_session (record { commands = commands ++ command ∷ []; outcome = None; attempts = 0 }) ≡ Some (length commands + 1)
+pub open-push : (commands : List ℕ) (command : ℕ) → open_session (record { commands = commands ++ command ∷ []; outcome = None; attempts = 0 }) ≡ Some (length commands + 1)
 open-push [] command = refl
 open-push (c ∷ cs) command = ap (λ k. Some k) (length-append (c ∷ cs) (command ∷ []))
 
@@ -78,6 +78,10 @@ known_taken n loose =
           omega (arith, known, last, loose.counted, loose.agrees.one_behind)
     ]
 
+-- where no session is open, all events have had theirs
+pub all_begun : (n : NodeState) → open_session n.device ≡ None → may_begin n ≡ false → length n.queued ≤ begun_of n.device
+all_begun n none settled = grind (arith, nat_tests)
+
 -- how many sessions have begun
 pub begun_count : (n : NodeState) → NodeInv n → begun_of n.device ≡ min (length n.queued) (known_count n + 1)
 begun_count n inv =
@@ -93,6 +97,3 @@ begun_count n inv =
           let within : begun_of n.device ≤ length n.queued = inv.loose.begun in
           omega (arith, known, last.0, last.1, within)
     ]
-  where
-    all_begun : (n : NodeState) → open_session n.device ≡ None → may_begin n ≡ false → length n.queued ≤ begun_of n.device
-    all_begun n none settled = grind (arith, nat_tests)

@@ -3,3 +3,8 @@ pub mod LineLaws
 pub mod Ends
 pub mod Rows
 pub mod Facts
+pub mod Moves
+pub mod Stepped
+pub mod Whole
+pub mod Refusals
+pub mod FlowLaws
