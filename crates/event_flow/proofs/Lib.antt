@@ -8,3 +8,4 @@ pub mod Stepped
 pub mod Whole
 pub mod Refusals
 pub mod FlowLaws
+pub mod Arrivals

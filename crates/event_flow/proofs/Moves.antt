@@ -136,7 +136,7 @@ new-next n session begun notice loose fits fresh named e =
     record { number = omega (arith, next, loose.counted); more = rest.0; queued = loose.front.1 ∙ ap (λ xs. n.taken ++ xs) rest.1 }
 
 -- the host's book after a new one
-new-host : (n : NodeState) (id named : ℕ) → heard_of n.host id ≡ New named → after_get n.host id ≡ record { taken = n.host.taken + 1; status = WORKING }
+pub new-host : (n : NodeState) (id named : ℕ) → heard_of n.host id ≡ New named → after_get n.host id ≡ record { taken = n.host.taken + 1; status = WORKING }
 new-host n id named e = (heard_of-New n.host id named e).after
 
 pub taken-loose : (n : NodeState) (session begun : ℕ) (notice : Notice) → Loose n → FitsBy n session begun (EventContent notice) → begun_of n.device ≤ begun + 61 → (named : ℕ) → heard_of n.host (wire_id session) ≡ New named → Loose (with_taken n (wire_id session) notice)

@@ -1,5 +1,5 @@
 -- What holds of every transcript of events, said of its lines and entries alone. All of it is this project's own rule.
-use Rattle.std.specs.Prelude.{◌≡◌, ℕ, zero, suc, ◌+◌, ◌-◌, ◌≤◌, ◌==◌, nat_le, min, if◌then◌else◌, Option, Some, None, List, [], ◌∷◌, ◌++◌, length, slice_get}
+use Rattle.std.specs.Prelude.{◌≡◌, ℕ, zero, suc, ◌+◌, ◌-◌, ◌<◌, ◌≤◌, ◌==◌, nat_le, min, if◌then◌else◌, Option, Some, None, List, [], ◌∷◌, ◌++◌, length, slice_get}
 use Rattle.std.specs.List.{flat_map}
 use Rattle.zw_text.specs.Line.{IsNode}
 use Rattle.event_flow.specs.declared.node_flow.TheConstants.{MOST_UNKNOWN, STALE_AGE}
@@ -10,7 +10,10 @@ use Rattle.event_flow.specs.declared.entry.EventRefusal.TheVariants.{Full, Idle,
 use Rattle.event_flow.specs.declared.entry.EventEntry.{EventEntry}
 use Rattle.event_flow.specs.declared.entry.EventEntry.TheVariants.{Refused, Queued, Frame, Taken, Known, Old, TableNode}
 use Rattle.event_flow.specs.declared.frame.Notice.{Notice}
-use Rattle.event_flow.specs.State.{FlowState}
+use Rattle.supervision.specs.Host.{open_session}
+use Rattle.event_flow.specs.declared.frame.Frame.{Frame as SentFrame}
+use Rattle.event_flow.specs.declared.frame.Content.TheVariants.{Event as EventContent, Receipt}
+use Rattle.event_flow.specs.State.{FlowState, node_of, frame_at, later_of}
 use Rattle.event_flow.specs.Steps.{after, entries}
 
 -- a line that was run, and what was entered at it
@@ -146,3 +149,17 @@ pub record FlowOf (node : ℕ) (T : List Ran) : Type 0 where
 pub record Flow (T : List Ran) : Type 0 where
   pub nodes : (node : ℕ) → IsNode 1 node → FlowOf node T
   pub refusals : (before rest : List Ran) (ran : Ran) → T ≡ before ++ ran ∷ rest → refusal_in ran.entries ≡ refusal_of before ran.line
+
+-- the frame of that number is that of the next event that the host has to take of its node, and is not stale
+pub record IsNextEvent (w : FlowState) (number : ℕ) (frame : SentFrame) (notice : Notice) : Type 0 where
+  pub found : frame_at w.frames number ≡ Some frame
+  pub carries : frame.content ≡ EventContent notice
+  pub next : frame.session ≡ length (node_of w.nodes frame.node).taken + 1
+  pub fresh : later_of (node_of w.nodes frame.node) frame < STALE_AGE
+
+-- the frame of that number is the answer to the open session of its node, and is not stale
+pub record IsAnswer (w : FlowState) (number : ℕ) (frame : SentFrame) : Type 0 where
+  pub found : frame_at w.frames number ≡ Some frame
+  pub carries : frame.content ≡ Receipt
+  pub is_open : open_session (node_of w.nodes frame.node).device ≡ Some frame.session
+  pub fresh : later_of (node_of w.nodes frame.node) frame < STALE_AGE

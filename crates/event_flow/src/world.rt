@@ -1,9 +1,11 @@
 //! The events of all devices, and the frames between them and the host.
 
-ghost use Rattle.std.specs.Prelude.{◌≡◌, ℕ, ◌+◌, ◌-◌, ◌≤◌, ◌<◌, ◌++◌, length, slice_set, IfOk, OnOk, OnErr, Ok};
+ghost use Rattle.std.specs.Prelude.{◌≡◌, ◌+◌, ◌-◌, ◌≤◌, ◌<◌, List as Items, [], ◌∷◌, ◌++◌, length, All, IfOk, OnOk, OnErr};
 ghost use Rattle.std.specs.Option.{option_copied};
-ghost use Rattle.event_flow.specs.State.{all_silent, frame_at, node_of};
-ghost use Rattle.event_flow.specs.Steps.{after, at_node, delivered, entries, frame_entries, happens, listed, queues, repeats, row_by, rows_from, table_of};
+ghost use Rattle.event_flow.specs.State.{all_silent, frame_at};
+ghost use Rattle.event_flow.specs.Steps.{after, delivered, entries, frame_entries, happens, listed, row_by, table_of};
+ghost use Rattle.event_flow.specs.Flow.{Flow, NamesNode, after_all, run};
+ghost use Rattle.event_flow.specs.declared.line.EventLine.{EventLine as AnyLine};
 
 use crate::frame::{Effect, Frame, Notice, entry_of};
 use crate::node_flow::NodeFlow;
@@ -51,6 +53,19 @@ impl EventWorld {
 
     /// Runs one line, and enters what it brings about.
     pub fn step(&mut self, line: &EventLine, out: &mut List<EventEntry>) -> Result<(), NoMemory>
+        ensures ok { OnOk result (self.new ≡ after self.old line.now) }
+        ensures entries { OnOk result (out.new.items ≡ out.old.items ++ entries self.old line.now) }
+        ensures err { OnErr result (self.new ≡ self.old) }
+        ensures no_entries { OnErr result (out.new.items ≡ out.old.items) }
+
+        // After these lines from the start, the transcript with this line too flows, and the world is the one after it.
+        ensures flow { (lines : Items AnyLine) → All NamesNode (lines ++ line.now ∷ []) → self.old ≡ after_all all_silent lines →
+            OnOk result (Flow (run all_silent (lines ++ line.now ∷ [])) × (self.new ≡ after_all all_silent (lines ++ line.now ∷ []))) }
+    {
+        self.run_line(line, out)
+    }
+
+    fn run_line(&mut self, line: &EventLine, out: &mut List<EventEntry>) -> Result<(), NoMemory>
         ensures ok { OnOk result (self.new ≡ after self.old line.now) }
         ensures entries { OnOk result (out.new.items ≡ out.old.items ++ entries self.old line.now) }
         ensures err { OnErr result (self.new ≡ self.old) }
