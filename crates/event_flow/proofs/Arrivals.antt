@@ -1,10 +1,10 @@
 -- What a delivery gives while the frame is fresh.
-use Rattle.std.proofs.Common.{◌≡◌, ℕ, ◌+◌, ◌-◌, ◌<◌, Bool, true, false, cond, Option, Some, None, List, [], ◌∷◌, ◌++◌, length, ap, refl, sym, subst, ◌∙◌, arith}
+use Rattle.std.proofs.Common.{◌≡◌, ℕ, ◌+◌, ◌-◌, ◌<◌, Bool, true, false, cond, Some, None, List, [], ◌∷◌, ◌++◌, length, ap, refl, sym, subst, ◌∙◌, arith}
 use Rattle.std.specs.Prelude.{if◌then◌else◌, nat_le, slice_get, All, OnOk, Result, Ok, Err}
 use Rattle.zw_base.specs.declared.memory.NoMemory.{NoMemory}
 use Rattle.std.proofs.lemmas.Bool.Decides.{nat_tests}
 use Rattle.supervision.specs.Session.{wire_id}
-use Rattle.supervision.specs.Host.{HostBook, begun_of, open_session, told_of}
+use Rattle.supervision.specs.Host.{HostBook, open_session, told_of}
 use Rattle.supervision.specs.Device.{Taken as Book, heard_of, after_get}
 use Rattle.supervision.specs.declared.session.TheConstants.{SUCCESS}
 use Rattle.supervision.specs.declared.host_node.Told.TheVariants.{Final}
@@ -15,15 +15,14 @@ use Rattle.event_flow.specs.declared.entry.EventEntry.{EventEntry}
 use Rattle.event_flow.specs.declared.entry.EventEntry.TheVariants.{Frame as FrameEntry, Taken, Known}
 use Rattle.event_flow.specs.declared.entry.EventRefusal.TheVariants.{Stale}
 use Rattle.event_flow.specs.declared.frame.Notice.{Notice}
-use Rattle.event_flow.specs.declared.frame.Content.{Content}
-use Rattle.event_flow.specs.declared.frame.Content.TheVariants.{Event as EventContent, Receipt}
+use Rattle.event_flow.specs.declared.frame.Content.TheVariants.{Event as EventContent}
 use Rattle.event_flow.specs.declared.frame.Frame.{Frame}
 use Rattle.event_flow.specs.State.{NodeState, FlowState, node_of, all_silent, later_of, may_begin, event_frame}
-use Rattle.event_flow.specs.Steps.{Done, after, does, refuses, goes_on, with_begun, with_known, with_taken, host_hears, device_hears, hears_by, delivers, delivered, entries, listed, frame_entries}
+use Rattle.event_flow.specs.Steps.{Done, after, does, refuses, goes_on, with_begun, with_known, host_hears, device_hears, hears_by, delivers, delivered, entries, listed, frame_entries}
 use Rattle.event_flow.specs.Flow.{Flow, NamesNode, IsNextEvent, IsAnswer, run, after_all}
-use Rattle.event_flow.proofs.Facts.{FitsBy, FrameFits, NodeInv}
-use Rattle.event_flow.proofs.Moves.{new-next, new-host}
-use Rattle.event_flow.proofs.Whole.{Facts, Fits, Facts-start, frame-there}
+use Rattle.event_flow.proofs.Facts.{FitsBy, NodeInv}
+use Rattle.event_flow.proofs.Moves.{new-host}
+use Rattle.event_flow.proofs.Whole.{Facts-start, frame-there}
 use Rattle.event_flow.proofs.FlowLaws.{Facts-run, flows}
 
 -- what is done and sent at a node is entered so
@@ -95,14 +94,15 @@ pub answer-known :
 answer-known lines good number frame is =
     let w : FlowState = after_all all_silent lines in
     let n : NodeState = node_of w.nodes frame.node in
-    let first = goes_on-first w frame.node (with_known n (wire_id frame.session)) (Known frame.node frame.session) in
-    (first.0,
+    let first = goes_on-first w frame.node (with_known n (wire_id frame.session)) (Known frame.node frame.session) in (
+      first.0,
       ap (λ found. listed (delivered w.nodes found).effect.enters ++ frame_entries (length w.frames) (delivered w.nodes found).effect.sends) is.found
-      ∙ ap (shown_done w)
+          ∙ ap (shown_done w)
           (fresh-heard n frame is.fresh
           ∙ ap (hears_by frame.node n (wire_id frame.session)) is.carries
           ∙ ap (device_hears frame.node n (wire_id frame.session)) (told-final n.device frame.session is.is_open))
-      ∙ first.1)
+          ∙ first.1,
+    )
 
 -- ---- one line more
 

@@ -1,10 +1,9 @@
 -- What an open session and a known event say of the sessions begun.
-use Rattle.std.proofs.Common.{◌≡◌, ◌≢◌, ℕ, ◌≤◌, ◌<◌, ◌-◌, ◌+◌, Option, Some, None, Ok, Err, IsOk, List, length, refl, arith}
+use Rattle.std.proofs.Common.{◌≡◌, ◌≢◌, ℕ, ◌≤◌, Some, None, Ok, Err, IsOk, refl, arith}
 use Rattle.std.specs.declared.result.Result.{Result}
 use Rattle.supervision.specs.declared.host_node.BeginFault.{BeginFault}
 use Rattle.supervision.specs.declared.host_node.BeginFault.TheVariants.{StillBegun, NoMemory}
-use Rattle.supervision.specs.Host.{HostBook, begun_of, open_session}
-use Rattle.supervision.proofs.EndsLemmas.{open_session-Some}
+use Rattle.supervision.specs.Host.{begun_of}
 use Rattle.event_flow.specs.State.{NodeState, known_count}
 
 -- a result that is neither error

@@ -1,25 +1,16 @@
 -- What holds of a node and of the frames between it and the host after every line, and how each thing that happens keeps it.
-use Rattle.std.proofs.Common.{◌≡◌, ◌≢◌, ℕ, zero, suc, ◌+◌, ◌-◌, ◌<◌, ◌≤◌, ◌⊎◌, Bool, true, false, Option, Some, None, List, [], ◌∷◌, ◌++◌, length, ap, refl, sym, subst, ◌∙◌, inl, inr, arith, length-append, append_assoc}
-use Rattle.std.specs.Prelude.{if◌then◌else◌, slice_get, is_none, nat_lt, min}
-use Rattle.std.specs.List.{flat_map}
+use Rattle.std.proofs.Common.{◌≡◌, ℕ, ◌+◌, ◌-◌, ◌≤◌, ◌⊎◌, false, Option, Some, None, List, [], ◌∷◌, ◌++◌, length, ap, refl, inl, inr, arith, length-append}
+use Rattle.std.specs.Prelude.{slice_get, min}
 use Rattle.std.proofs.lemmas.Bool.Decides.{nat_tests}
-use Rattle.std.proofs.lemmas.Option.{slice_get-get_or, slice_get_within}
-use Rattle.supervision.specs.Session.{wire_id}
-use Rattle.supervision.specs.Host.{HostBook, begun_of, open_session, command_at, begins, told_of, after_report}
-use Rattle.supervision.specs.Device.{Taken, heard_of, after_get, finished}
-use Rattle.supervision.specs.Ends.{Get, Report, EndsAgree, GetFits, ReportFits}
-use Rattle.supervision.specs.declared.session.TheConstants.{SUCCESS, WORKING}
-use Rattle.supervision.specs.declared.host_node.Told.TheVariants.{Final}
-use Rattle.supervision.specs.declared.device_book.Heard.TheVariants.{New, Again as Repeated}
-use Rattle.supervision.proofs.EndsLemmas.{all_taken, open_session-Some, heard_of-New, heard_of-Again, told_of-Final, after_report-Final, IsTaken, get_in_time, get_near, report_near, report_in_time, EndsAgree-begins, EndsAgree-heard, EndsAgree-finished, EndsAgree-reported, GetFits-sent, GetFits-begins, ReportFits-sent, ReportFits-begins, ReportFits-heard, ReportFits-finished}
-use Rattle.event_flow.specs.declared.frame.Notice.{Notice}
+use Rattle.supervision.specs.Host.{begun_of, open_session}
+use Rattle.supervision.specs.Ends.{EndsAgree, GetFits, ReportFits}
+use Rattle.supervision.specs.declared.session.TheConstants.{SUCCESS}
+use Rattle.supervision.proofs.EndsLemmas.{all_taken, open_session-Some}
 use Rattle.event_flow.specs.declared.frame.Content.{Content}
 use Rattle.event_flow.specs.declared.frame.Content.TheVariants.{Event as EventContent, Receipt}
 use Rattle.event_flow.specs.declared.frame.Frame.{Frame}
-use Rattle.event_flow.specs.declared.node_flow.TheConstants.{EVENT}
-use Rattle.event_flow.specs.State.{NodeState, known_count, unknown_count, may_begin, event_frame, receipt_frame, last_event, later_of}
-use Rattle.event_flow.specs.Steps.{with_begun, with_queued, with_known, with_taken}
-use Rattle.event_flow.specs.Flow.{IsFront, count_up}
+use Rattle.event_flow.specs.State.{NodeState, known_count, unknown_count, may_begin}
+use Rattle.event_flow.specs.Flow.{IsFront}
 
 -- what a frame that was sent still says: an event is that of its session, and an answer is of a session that the host took
 abbrev pub FitsBy : NodeState → ℕ → ℕ → Content → Type 0

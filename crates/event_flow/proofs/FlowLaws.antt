@@ -1,11 +1,11 @@
 -- What holds after every list of lines.
-use Rattle.std.proofs.Common.{◌≡◌, ℕ, suc, ◌+◌, ◌<◌, ◌≤◌, List, [], ◌∷◌, ◌++◌, length, ap, refl, sym, subst, ◌∙◌, arith, append_assoc, append-nil}
+use Rattle.std.proofs.Common.{◌≡◌, ℕ, suc, ◌≤◌, List, [], ◌∷◌, ◌++◌, length, ap, sym, subst, ◌∙◌, arith, append_assoc, append-nil}
 use Rattle.std.specs.Prelude.{All}
 use Rattle.zw_text.specs.Line.{IsNode}
 use Rattle.event_flow.specs.declared.line.EventLine.{EventLine}
 use Rattle.event_flow.specs.State.{FlowState, NodeState, node_of, all_silent, known_count}
 use Rattle.event_flow.specs.Steps.{after, entries}
-use Rattle.event_flow.specs.Flow.{Ran, NamesNode, IsFront, FlowOf, Flow, run, after_all, count_up, queued_in, taken_in, numbers_in, known_in, refusal_in, refusal_of}
+use Rattle.event_flow.specs.Flow.{Ran, NamesNode, FlowOf, Flow, run, after_all, count_up, taken_in, known_in, refusal_in, refusal_of}
 use Rattle.event_flow.proofs.Facts.{NodeInv, known_taken}
 use Rattle.event_flow.proofs.Whole.{Facts, Told, Facts-line, Facts-start, length-count_up}
 use Rattle.event_flow.proofs.Refusals.{line-refusal}

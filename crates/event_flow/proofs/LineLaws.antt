@@ -1,11 +1,10 @@
 -- Texts of lines: what is read is the text's line, and a line's text is read as that line.
-use Rattle.std.proofs.Common.{◌≡◌, ℕ, ◌≤◌, ◌^◌, Bool, true, false, ltb, Option, Some, None, Result, Ok, Err, List, [], ◌∷◌, length, codes, decimal, ap, refl, ◌∙◌, sym, subst, ◌⊎◌, inl, inr, lit<, arith}
+use Rattle.std.proofs.Common.{◌≡◌, ℕ, ◌≤◌, true, false, ltb, Option, Some, None, Result, Ok, Err, List, [], ◌∷◌, length, codes, decimal, ap, refl, ◌∙◌, sym, subst, ◌⊎◌, inl, inr, lit<, arith}
 use Rattle.std.specs.Prelude.{IfOk, MatchOption, bytes_eq}
 use Rattle.std.proofs.lemmas.Bool.{le-ltb, ltb-false}
 use Rattle.std.proofs.lemmas.Slice.Eq.{bytes_eq-Decides}
 use Rattle.zw_words.specs.declared.fault.LineFault.TheVariants.{Unknown, TooLong}
 use Rattle.zw_words.specs.declared.fault.ReadLineFault.{ReadLineFault}
-use Rattle.zw_words.specs.declared.fault.ReadLineFault.TheVariants.{Bad, NoMemory}
 use Rattle.zw_words.specs.Words.{is_remark, line_words, without_return, words}
 use Rattle.zw_words.specs.Forms.{between_in}
 use Rattle.zw_words.specs.Fields.{◌>>=◌, Gives, last, make, next, of_words}

@@ -1,25 +1,23 @@
 -- How each thing that happens at a node keeps what holds of it.
-use Rattle.std.proofs.Common.{◌≡◌, ◌≢◌, ℕ, zero, suc, ◌+◌, ◌-◌, ◌<◌, ◌≤◌, ◌⊎◌, Bool, true, false, Option, Some, None, List, [], ◌∷◌, ◌++◌, length, ap, refl, sym, subst, ◌∙◌, inl, inr, arith, length-append, append_assoc}
-use Rattle.std.specs.Prelude.{if◌then◌else◌, ◌&&◌, slice_get, slice_index_or, is_none, nat_lt, min}
+use Rattle.std.proofs.Common.{◌≡◌, ℕ, zero, suc, ◌+◌, ◌-◌, ◌<◌, ◌≤◌, Bool, true, false, Option, Some, None, List, [], ◌∷◌, ◌++◌, length, ap, refl, sym, subst, ◌∙◌, arith, length-append, append_assoc}
+use Rattle.std.specs.Prelude.{◌&&◌, slice_get, slice_index_or, is_none}
 use Rattle.std.proofs.lemmas.Bool.Decides.{nat_tests}
-use Rattle.std.proofs.lemmas.Option.{slice_get-get_or, slice_get_within}
+use Rattle.std.proofs.lemmas.Option.{slice_get-get_or}
 use Rattle.supervision.specs.Session.{wire_id}
-use Rattle.supervision.specs.Host.{HostBook, begun_of, open_session, command_at, begins, told_of, after_report}
-use Rattle.supervision.specs.Device.{Taken, heard_of, after_get, finished}
-use Rattle.supervision.specs.Ends.{Get, Report, EndsAgree, GetFits, ReportFits}
+use Rattle.supervision.specs.Host.{HostBook, begun_of, open_session, command_at, told_of}
+use Rattle.supervision.specs.Device.{Taken, heard_of, after_get}
+use Rattle.supervision.specs.Ends.{Get, Report, ReportFits}
 use Rattle.supervision.specs.declared.session.TheConstants.{SUCCESS, WORKING}
 use Rattle.supervision.specs.declared.host_node.Told.TheVariants.{Final}
-use Rattle.supervision.specs.declared.device_book.Heard.TheVariants.{New, Again as Repeated}
-use Rattle.supervision.proofs.EndsLemmas.{all_taken, open_session-Some, heard_of-New, heard_of-Again, told_of-Final, after_report-Final, IsTaken, GetNames, ReportNames, get_in_time, get_near, report_near, report_in_time, EndsAgree-begins, EndsAgree-heard, EndsAgree-finished, EndsAgree-reported, GetFits-sent, GetFits-begins, ReportFits-sent, ReportFits-begins, ReportFits-heard, ReportFits-finished}
+use Rattle.supervision.specs.declared.device_book.Heard.TheVariants.{New}
+use Rattle.supervision.proofs.EndsLemmas.{open_session-Some, heard_of-New, told_of-Final, after_report-Final, GetNames, get_in_time, get_near, report_near, EndsAgree-begins, EndsAgree-heard, EndsAgree-finished, EndsAgree-reported, GetFits-sent, GetFits-begins, ReportFits-sent, ReportFits-begins, ReportFits-heard, ReportFits-finished}
 use Rattle.event_flow.specs.declared.frame.Notice.{Notice}
 use Rattle.event_flow.specs.declared.frame.Content.{Content}
 use Rattle.event_flow.specs.declared.frame.Content.TheVariants.{Event as EventContent, Receipt}
-use Rattle.event_flow.specs.declared.frame.Frame.{Frame}
 use Rattle.event_flow.specs.declared.node_flow.TheConstants.{EVENT}
-use Rattle.event_flow.specs.State.{NodeState, known_count, unknown_count, may_begin, event_frame, receipt_frame, last_event, later_of}
+use Rattle.event_flow.specs.State.{NodeState, known_count, unknown_count, may_begin, event_frame, receipt_frame}
 use Rattle.event_flow.specs.Steps.{with_begun, with_queued, with_known, with_taken}
-use Rattle.event_flow.specs.Flow.{IsFront, count_up}
-use Rattle.event_flow.proofs.Facts.{FitsBy, FrameFits, Loose, NodeInv, Keeps, option_cases, known-none, known-open, open-push}
+use Rattle.event_flow.proofs.Facts.{FitsBy, FrameFits, Loose, NodeInv, Keeps, known-none, known-open, open-push}
 
 -- ---- an event is queued
 
@@ -106,10 +104,10 @@ last_command commands before e = ap (command_at commands) e ∙ slice_get-get_or
 -- the frame of the last session that has begun
 pub event-fits : (node : ℕ) (n : NodeState) → 0 < begun_of n.device → begun_of n.device ≤ length n.queued → FrameFits n (event_frame node n)
 event-fits node n some within = (
-      slice_index_or n.device.commands (length n.device.commands - 1) 0,
-      GetFits-sent n.device.commands (length n.device.commands) _ (last_command n.device.commands (length n.device.commands - 1) (omega (arith, some))) (omega arith),
-      slice_get-get_or n.queued (begun_of n.device - 1) (record { kind = 0; level = 0 }) (omega (arith, some, within)),
-    )
+  slice_index_or n.device.commands (length n.device.commands - 1) 0,
+  GetFits-sent n.device.commands (length n.device.commands) _ (last_command n.device.commands (length n.device.commands - 1) (omega (arith, some))) (omega arith),
+  slice_get-get_or n.queued (begun_of n.device - 1) (record { kind = 0; level = 0 }) (omega (arith, some, within)),
+)
 
 -- ---- the host hears
 

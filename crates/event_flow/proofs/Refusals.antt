@@ -1,10 +1,10 @@
 -- Each refusal is the one that the transcript before the line asks for.
-use Rattle.std.proofs.Common.{◌≡◌, ◌≢◌, ℕ, zero, suc, ◌+◌, ◌-◌, ◌<◌, ◌≤◌, Bool, true, false, cond, Option, Some, None, List, [], ◌∷◌, ◌++◌, length, ap, refl, sym, subst, ◌∙◌, inl, inr, arith}
-use Rattle.std.specs.Prelude.{if◌then◌else◌, ◌==◌, slice_get, is_none, nat_le, nat_lt, map}
+use Rattle.std.proofs.Common.{◌≡◌, ℕ, zero, suc, ◌+◌, ◌-◌, ◌<◌, ◌≤◌, Bool, true, false, Option, Some, None, List, [], ◌∷◌, ◌++◌, length, ap, refl, sym, subst, ◌∙◌, inl, inr, arith}
+use Rattle.std.specs.Prelude.{if◌then◌else◌, ◌==◌, slice_get, is_none, nat_le, map}
 use Rattle.std.proofs.lemmas.Bool.Decides.{nat_tests}
 use Rattle.supervision.specs.Session.{wire_id}
 use Rattle.supervision.specs.Host.{begun_of, open_session, told_of}
-use Rattle.supervision.specs.Device.{Taken as Book, heard_of}
+use Rattle.supervision.specs.Device.{heard_of}
 use Rattle.supervision.specs.declared.session.TheConstants.{SUCCESS}
 use Rattle.supervision.specs.declared.host_node.Told.{Told as Answer}
 use Rattle.supervision.specs.declared.host_node.Told.TheVariants.{Final, Working, Old as Unasked}
@@ -16,16 +16,15 @@ use Rattle.event_flow.specs.declared.line.EventLine.TheVariants.{Event, Again, D
 use Rattle.event_flow.specs.declared.entry.EventEntry.{EventEntry}
 use Rattle.event_flow.specs.declared.entry.EventEntry.TheVariants.{Refused, Queued, Frame as FrameEntry, Taken, Known, Old, TableNode}
 use Rattle.event_flow.specs.declared.entry.EventRefusal.{EventRefusal}
-use Rattle.event_flow.specs.declared.entry.EventRefusal.TheVariants.{Full, Idle, NeverSent, Stale}
-use Rattle.event_flow.specs.declared.frame.Notice.{Notice}
+use Rattle.event_flow.specs.declared.entry.EventRefusal.TheVariants.{Full, Idle, Stale}
 use Rattle.event_flow.specs.declared.frame.Content.{Content}
 use Rattle.event_flow.specs.declared.frame.Content.TheVariants.{Event as EventContent, Receipt}
 use Rattle.event_flow.specs.declared.frame.Frame.{Frame}
 use Rattle.event_flow.specs.State.{NodeState, FlowState, node_of, known_count, unknown_count, may_begin, event_frame, later_of, frame_at}
 use Rattle.event_flow.specs.Steps.{does, refuses, goes_on, with_begun, with_queued, with_known, queues, repeats, host_hears, device_hears, hears_by, delivers, delivered, entries, listed, frame_entries}
-use Rattle.event_flow.specs.Flow.{Ran, NamesNode, Sent, begun_in, queued_in, known_in, sent_at, sent_from, delivery_refusal, refusal_of, refusal_in}
+use Rattle.event_flow.specs.Flow.{Ran, NamesNode, Sent, begun_in, queued_in, known_in, sent_at, delivery_refusal, refusal_of, refusal_in}
 use Rattle.event_flow.proofs.Facts.{NodeInv, option_cases, known-none, known-open, all_begun}
-use Rattle.event_flow.proofs.Whole.{Facts, Fits, Told, sent_of, frame-there, length-count_up, told-begun}
+use Rattle.event_flow.proofs.Whole.{Facts, Told, sent_of, frame-there, length-count_up, told-begun}
 
 -- frames are no refusals
 refusal-entries : (enters : Option EventEntry) (before : ℕ) (sends : Option Frame) → refusal_in (listed enters ++ frame_entries before sends) ≡ refusal_in (listed enters)

@@ -1,6 +1,6 @@
 -- What a line makes of its node, and what its entries say of it.
-use Rattle.std.proofs.Common.{◌≡◌, ◌≢◌, ℕ, zero, suc, ◌+◌, ◌-◌, ◌<◌, ◌≤◌, ◌⊎◌, Bool, true, false, cond, Option, Some, None, List, [], ◌∷◌, ◌++◌, length, ap, refl, sym, subst, ◌∙◌, inl, inr, arith, length-append, append_assoc, append-nil}
-use Rattle.std.specs.Prelude.{if◌then◌else◌, ◌&&◌, ◌==◌, slice_get, is_none, nat_le, nat_lt, min}
+use Rattle.std.proofs.Common.{◌≡◌, ◌≢◌, ℕ, suc, ◌+◌, ◌<◌, ◌≤◌, Bool, true, false, cond, Option, Some, None, List, [], ◌∷◌, ◌++◌, length, ap, refl, sym, subst, ◌∙◌, inl, inr, arith, length-append, append-nil}
+use Rattle.std.specs.Prelude.{if◌then◌else◌, ◌==◌, is_none, nat_le}
 use Rattle.std.specs.List.{flat_map}
 use Rattle.std.proofs.lemmas.Bool.Decides.{nat_tests}
 use Rattle.supervision.specs.Session.{wire_id}
@@ -15,7 +15,7 @@ use Rattle.supervision.proofs.EndsLemmas.{heard_of-Again, open_session-Some}
 use Rattle.event_flow.specs.declared.line.EventLine.{EventLine}
 use Rattle.event_flow.specs.declared.line.EventLine.TheVariants.{Event, Again, Deliver}
 use Rattle.event_flow.specs.declared.entry.EventEntry.{EventEntry}
-use Rattle.event_flow.specs.declared.entry.EventEntry.TheVariants.{Refused, Queued, Frame as FrameEntry, Taken, Known, Old, TableNode}
+use Rattle.event_flow.specs.declared.entry.EventEntry.TheVariants.{Refused, Queued, Taken, Known, Old}
 use Rattle.event_flow.specs.declared.entry.EventRefusal.{EventRefusal}
 use Rattle.event_flow.specs.declared.entry.EventRefusal.TheVariants.{Full, Idle, Stale}
 use Rattle.event_flow.specs.declared.frame.Notice.{Notice}
@@ -24,7 +24,7 @@ use Rattle.event_flow.specs.declared.frame.Content.TheVariants.{Event as EventCo
 use Rattle.event_flow.specs.declared.frame.Frame.{Frame}
 use Rattle.event_flow.specs.State.{NodeState, known_count, unknown_count, may_begin, event_frame, receipt_frame, later_of}
 use Rattle.event_flow.specs.Steps.{Done, does, refuses, goes_on, with_begun, with_queued, with_known, with_taken, queues, repeats, host_hears, device_hears, hears_by, delivers, listed}
-use Rattle.event_flow.specs.Flow.{Ran, sent_by, count_up, of_node, event_of, queued_event, taken_event, queued_number, known_number}
+use Rattle.event_flow.specs.Flow.{Ran, sent_by, count_up, of_node, queued_event, taken_event, queued_number, known_number}
 use Rattle.event_flow.proofs.Facts.{FitsBy, FrameFits, Loose, NodeInv, Keeps, option_cases}
 use Rattle.event_flow.proofs.Moves.{queued-loose, queued-keeps, begun-known, begun-inv, begun-keeps, event-fits, taken-loose, taken-keeps, receipt-fits, IsKnown, known-counts, known-loose, known-keeps}
 

@@ -1,6 +1,6 @@
 -- What holds of all nodes and frames after every line, and what the transcript so far says of them.
-use Rattle.std.proofs.Common.{◌≡◌, ◌≢◌, ℕ, zero, suc, ◌+◌, ◌-◌, ◌<◌, ◌≤◌, ◌⊎◌, Bool, true, false, cond, Option, Some, None, List, [], ◌∷◌, ◌++◌, length, ap, refl, sym, subst, ◌∙◌, inl, inr, arith, length-append, append_assoc, append-nil, get_or-set_same, get_or-set_other, length-set, replicate, lit≤}
-use Rattle.std.specs.Prelude.{if◌then◌else◌, ◌==◌, slice_get, slice_set, is_none, nat_le, min, map, All}
+use Rattle.std.proofs.Common.{◌≡◌, ◌≢◌, ℕ, zero, suc, ◌+◌, ◌-◌, ◌≤◌, ◌⊎◌, Bool, true, false, Option, Some, None, List, [], ◌∷◌, ◌++◌, length, ap, refl, sym, subst, ◌∙◌, inl, inr, arith, length-append, append_assoc, append-nil, get_or-set_same, get_or-set_other, length-set, replicate, lit≤}
+use Rattle.std.specs.Prelude.{if◌then◌else◌, ◌==◌, slice_get, slice_set, min, map}
 use Rattle.std.specs.List.{flat_map}
 use Rattle.std.proofs.lemmas.Grind.{flat_map-append}
 use Rattle.std.proofs.lemmas.List.{map-append, get_or-replicate, length-replicate}
@@ -18,10 +18,10 @@ use Rattle.event_flow.specs.declared.frame.Content.TheVariants.{Event as EventCo
 use Rattle.event_flow.specs.declared.frame.Frame.{Frame}
 use Rattle.event_flow.specs.declared.frame.Effect.{Effect}
 use Rattle.event_flow.specs.State.{NodeState, FlowState, node_of, silent, all_silent, known_count, frame_at, sender_of, receiver_of, payload_of, sender_by, receiver_by}
-use Rattle.event_flow.specs.Steps.{Done, Happened, does, at_node, delivered, happens, after, entries, listed, frame_entries, queues, repeats, delivers}
-use Rattle.event_flow.specs.Flow.{Ran, NamesNode, IsFront, Sent, count_up, queued_event, queued_in, taken_event, queued_number, known_number, shown, taken_in, numbers_in, known_in, begun_in, device_end, sent_by, sent_from}
-use Rattle.event_flow.proofs.Facts.{FrameFits, Loose, NodeInv, Keeps, begun_count}
-use Rattle.event_flow.proofs.Stepped.{NodeStep, SaysNothing, SendFits, Shows, queues-step, repeats-step, delivers-step, shows-nothing, says-refused}
+use Rattle.event_flow.specs.Steps.{Done, delivered, after, entries, listed, frame_entries, queues, repeats, delivers}
+use Rattle.event_flow.specs.Flow.{Ran, NamesNode, Sent, count_up, queued_event, queued_in, taken_event, queued_number, known_number, taken_in, numbers_in, known_in, begun_in, device_end, sent_by, sent_from}
+use Rattle.event_flow.proofs.Facts.{FrameFits, Loose, NodeInv, begun_count}
+use Rattle.event_flow.proofs.Stepped.{NodeStep, SendFits, Shows, queues-step, repeats-step, delivers-step, shows-nothing, says-refused}
 
 -- what the transcript says of a node is what the node is
 pub record Told (node : ℕ) (T : List Ran) (n : NodeState) : Type 0 where
@@ -123,7 +123,6 @@ same_or_not a b = by_test (a == b) refl
     by_test : (t : Bool) → (a == b) ≡ t → (a ≡ b) ⊎ (a ≢ b)
     by_test true e = inl (grind (arith, nat_tests))
     by_test false e = inr (λ same. grind (arith, nat_tests))
-
 
 -- ---- frames
 
@@ -242,9 +241,9 @@ Facts-at T w node line done facts there step =
           sent-more [] T (ran_of w line done.effect)
           ∙ ap (λ xs. xs ++ flat_map (sent_by U) (ran_of w line done.effect).entries) facts.sent
           ∙ ap (λ xs. map sent_of w.frames ++ xs)
-              (flat_map-append (sent_by U) (listed done.effect.enters) (frame_entries (length w.frames) done.effect.sends)
-              ∙ ap (λ xs. xs ++ flat_map (sent_by U) (frame_entries (length w.frames) done.effect.sends)) (step.shows.frames U)
-              ∙ sent-entries node U done.node (length w.frames) done.effect.sends told step.inv step.sends)
+          (flat_map-append (sent_by U) (listed done.effect.enters) (frame_entries (length w.frames) done.effect.sends)
+          ∙ ap (λ xs. xs ++ flat_map (sent_by U) (frame_entries (length w.frames) done.effect.sends)) (step.shows.frames U)
+          ∙ sent-entries node U done.node (length w.frames) done.effect.sends told step.inv step.sends)
           ∙ sym (map-append sent_of w.frames (listed done.effect.sends));
       frames = λ place frame e.
           elim (frame-cases w.frames done.effect.sends place frame e) [

@@ -1,7 +1,7 @@
 -- The text of each entry of a transcript of events: its words with one space between two. All of it is this project's own
 -- rule.
-use Rattle.std.specs.Prelude.{ℕ, List, [], ◌∷◌, ◌++◌, codes, decimal}
-use Rattle.std.specs.List.{flat_map, join_with_byte}
+use Rattle.std.specs.Prelude.{ℕ, List, [], ◌∷◌, codes, decimal}
+use Rattle.std.specs.List.{join_with_byte}
 use Rattle.hex.specs.Hex.{encode_upper}
 use Rattle.zw_text.specs.Entry.{ends_word}
 use Rattle.event_flow.specs.declared.entry.EventRefusal.{EventRefusal}

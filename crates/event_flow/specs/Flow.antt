@@ -8,7 +8,7 @@ use Rattle.event_flow.specs.declared.line.EventLine.TheVariants.{Event, Again, D
 use Rattle.event_flow.specs.declared.entry.EventRefusal.{EventRefusal}
 use Rattle.event_flow.specs.declared.entry.EventRefusal.TheVariants.{Full, Idle, NeverSent, Stale}
 use Rattle.event_flow.specs.declared.entry.EventEntry.{EventEntry}
-use Rattle.event_flow.specs.declared.entry.EventEntry.TheVariants.{Refused, Queued, Frame, Taken, Known, Old, TableNode}
+use Rattle.event_flow.specs.declared.entry.EventEntry.TheVariants.{Refused, Queued, Frame, Taken, Known}
 use Rattle.event_flow.specs.declared.frame.Notice.{Notice}
 use Rattle.supervision.specs.Host.{open_session}
 use Rattle.event_flow.specs.declared.frame.Frame.{Frame as SentFrame}

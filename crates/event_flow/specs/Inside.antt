@@ -1,7 +1,7 @@
 -- What a node and the world are to their callers, and what they keep true of their fields.
-use Rattle.std.specs.Prelude.{◌≡◌, ℕ, ◌+◌, ◌≤◌, length}
+use Rattle.std.specs.Prelude.{◌≡◌, ◌+◌, ◌≤◌, length}
 use Rattle.supervision.specs.Host.{begun_of}
-use Rattle.event_flow.specs.State.{NodeState, FlowState}
+use Rattle.event_flow.specs.State.{NodeState}
 use Rattle.event_flow.specs.declared.node_flow.NodeFlow.TheInside.{Inside}
 
 abbrev pub state_of : Inside → NodeState

@@ -19,9 +19,14 @@ pub enum EventRefusal {
 #[derive(Debug, Drop)]
 pub enum EventEntry {
     /// The line had no effect.
-    Refused { refusal: EventRefusal },
+    Refused {
+        refusal: EventRefusal,
+    },
     /// The event waits at its device, and has this number there, from 1 on.
-    Queued { node: NodeId, number: u64 },
+    Queued {
+        node: NodeId,
+        number: u64,
+    },
     /// A frame was sent; frames are numbered from 1 on.
     Frame {
         frame: u64,
@@ -30,11 +35,21 @@ pub enum EventEntry {
         payload: Payload,
     },
     /// The host took an event of the node.
-    Taken { node: NodeId, kind: u8, level: u8 },
+    Taken {
+        node: NodeId,
+        kind: u8,
+        level: u8,
+    },
     /// The device knows that its event of this number was taken.
-    Known { node: NodeId, number: u64 },
+    Known {
+        node: NodeId,
+        number: u64,
+    },
     /// A frame with this session id was ignored by whom it was for.
-    Old { node: NodeId, id: u8 },
+    Old {
+        node: NodeId,
+        id: u8,
+    },
     /// The line of a node in the table: how many events were queued, taken and known.
     TableNode {
         node: NodeId,

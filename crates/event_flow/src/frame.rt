@@ -9,9 +9,13 @@ use zw_base::{NodeId, Payload, read_node};
 
 /// The classes and commands of a frame (Supervision Command Class; Notification Command Class).
 const SUPERVISION: u8 = 0x6C;
+
 const SUPERVISION_GET: u8 = 0x01;
+
 const SUPERVISION_REPORT: u8 = 0x02;
+
 const NOTIFICATION: u8 = 0x71;
+
 const NOTIFICATION_REPORT: u8 = 0x05;
 
 /// The bytes of a Notification Report.
@@ -105,8 +109,7 @@ pub fn payload(frame: &Frame) -> Payload
             id,
             SUCCESS,
             NO_DURATION,
-        ])
-        .unwrap(),
+        ]).unwrap(),
     }
 }
 

@@ -14,6 +14,8 @@ mod line;
 mod node_flow;
 mod print;
 mod read;
+#[cfg(test)]
+mod tests;
 mod world;
 
 pub use entry::{EventEntry, EventRefusal};

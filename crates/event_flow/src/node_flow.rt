@@ -129,9 +129,7 @@ impl NodeFlow {
         ensures node { self.new ≡ (goes_on node self.old enters).node }
         ensures effect { result ≡ (goes_on node self.old enters).effect }
     {
-        if self.device.current().is_some()
-            || self.device.sessions() >= self.queued.len() as u64
-        {
+        if self.device.current().is_some() || self.device.sessions() >= self.queued.len() as u64 {
             return effect(Some(enters), None);
         }
         self.begin();
@@ -237,7 +235,13 @@ impl NodeFlow {
     {
         match self.device.report(id, SUCCESS) {
             Told::Final(session) => {
-                self.go_on(node, EventEntry::Known { node, number: session })
+                self.go_on(
+                    node,
+                    EventEntry::Known {
+                        node,
+                        number: session,
+                    },
+                )
             }
             Told::Working | Told::Old => effect(Some(EventEntry::Old { node, id }), None),
         }

@@ -108,11 +108,7 @@ fn node_at(place: usize) -> NodeId
 }
 
 /// What a line brings about.
-fn happen(
-    nodes: &mut Vec<NodeFlow>,
-    frames: &[Frame],
-    line: &EventLine,
-) -> Result<Effect, NoMemory>
+fn happen(nodes: &mut Vec<NodeFlow>, frames: &[Frame], line: &EventLine) -> Result<Effect, NoMemory>
     requires { length nodes.old.items ≡ 232 }
     ensures nodes { OnOk result (nodes.new.items ≡ (happens nodes.old.items frames.now line.now).nodes) }
     ensures effect { IfOk result (λ effect. effect ≡ (happens nodes.old.items frames.now line.now).effect) }

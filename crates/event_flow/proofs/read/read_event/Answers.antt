@@ -1,5 +1,4 @@
 -- What the text is read as decides, both ways.
-use Rattle.std.specs.Prelude.{IfOk, MatchOption}
 use Rattle.event_flow.proofs.LineLaws.{answers, found_answer}
 use Rattle.event_flow.proofs.read.read_event.Goals as goal
 

@@ -1,5 +1,5 @@
 -- Fewer than 16 events have no session yet, so there is room for that many and one more.
-use Rattle.std.proofs.Common.{◌≡◌, ◌<◌, ◌≤◌, ◌-◌, ◌+◌, ℕ, length, ap, arith, length-append, ◌∙◌}
+use Rattle.std.proofs.Common.{◌≡◌, ◌<◌, ◌≤◌, ◌+◌, length, ap, arith, length-append, ◌∙◌}
 use Rattle.supervision.specs.Host.{begun_of}
 use Rattle.event_flow.specs.State.{known_count, unknown_count}
 use Rattle.event_flow.specs.Inside.{state_of}

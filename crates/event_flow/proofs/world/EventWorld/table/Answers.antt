@@ -1,5 +1,5 @@
 -- One more row, for which there is room.
-use Rattle.std.proofs.Common.{◌≡◌, arith, sym}
+use Rattle.std.proofs.Common.{arith, sym}
 use Rattle.std.proofs.lemmas.Option.{slice_get_read}
 use Rattle.event_flow.proofs.Rows.{row-added}
 use Rattle.event_flow.proofs.world.EventWorld.table.Goals as goal
