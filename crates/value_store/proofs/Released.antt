@@ -1,20 +1,20 @@
 -- What is found once properties of a node were reserved or released, and that releasing what was missing undoes reserving.
-use Rattle.std.proofs.Common.{◌≡◌, ℕ, suc, ◌≤◌, Bool, true, false, not, cond, ◌&&◌, ◌||◌, T, eqb, if◌then◌else◌, List, [], ◌∷◌, ◌++◌, length, Option, Some, None, is_some, unwrap_or, refl, sym, ap, subst, ◌∙◌, arith, append_assoc, true≢false}
+use Rattle.std.proofs.Common.{◌≡◌, ℕ, ◌≤◌, Bool, true, false, not, cond, ◌&&◌, ◌||◌, eqb, if◌then◌else◌, List, [], ◌∷◌, ◌++◌, length, Option, Some, None, is_some, refl, sym, ap, subst, ◌∙◌, arith, append_assoc, true≢false}
 use Rattle.std.specs.Ordering.{is_eq}
 use Rattle.std.specs.declared.cmp.Ordering.TheVariants.{Equal}
-use Rattle.std.specs.List.{filter_map, cons_option}
+use Rattle.std.specs.List.{cons_option}
 use Rattle.std.specs.FinMap as map
-use Rattle.std.specs.FinMap.{find, get-insert, get-retain_keys, get_tied, same_map, same_entries_map, entries-from_sorted}
+use Rattle.std.specs.FinMap.{find, get-insert, get-retain_keys, get_tied, same_map}
 use Rattle.std.specs.FinMap.Entries.{where_key, is_sorted-where_key, find-where_key}
 use Rattle.std.proofs.lemmas.Bool.{eqb-true}
 use Rattle.zw_base.specs.PropertyOrder.{same_property}
 use Rattle.zw_base.specs.declared.property.Property.{Property}
 use Rattle.value_store.specs.declared.stored.Stored.{Stored}
-use Rattle.value_store.specs.Values.{Key, Values, Reserves, is_among, is_other, key_cmp, missing_by, missing_of, no_value, property_at, releasing, reserving, stored_of}
+use Rattle.value_store.specs.Values.{Key, Values, Reserves, is_among, is_other, key_cmp, missing_by, missing_of, property_at, releasing, reserving, stored_of}
 use Rattle.value_store.specs.Entries.{Entries, IsInOrder, IsWithinLimit, properties_among}
 use Rattle.value_store.proofs.Keys.{key_exact, key_total, property_exact}
 use Rattle.value_store.proofs.Reserved.{from_T, merged, nothing_more, same_key, some_of, tie}
-use Rattle.value_store.proofs.Seen.{seen, is_in_order, entries-seen, get-seen}
+use Rattle.value_store.proofs.Seen.{seen, is_in_order, get-seen}
 
 -- ---- reserving
 

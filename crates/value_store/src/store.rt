@@ -8,7 +8,9 @@ ghost use Rattle.zw_base.specs.declared.property.Property.{Property as PropertyV
 ghost use Rattle.value_store.specs.Values.{IsReserved, Reserves, count_with, held_of, known_of, listed_of, missing_of as not_kept, property_cmp, releasing, reserving, stored_of};
 ghost use Rattle.value_store.specs.ValueText.{values_text};
 
-use crate::entries::{Key, count_missing, count_of, drop_all, held_of, keep_all, missing_of, stored_at, write};
+use crate::entries::{
+    Key, count_missing, count_of, drop_all, held_of, keep_all, missing_of, stored_at, write,
+};
 use crate::json;
 use crate::stored::{Held, StoreFault, Stored};
 use std::alloc::Global;

@@ -11,6 +11,6 @@ pub returns : goal.returns
 returns c =
     let node = c.args.node in
     let same = ap (λ (es : Entries). missing_by (λ p. is_some (find key_cmp (node, p) es)) c.args.properties.now) c.deref.ensures.value
-        ∙ missing-seen c.self.inside.entries.items c.self.invariant.0 node c.args.properties.now
-        ∙ ap (λ (values : Values). missing_of values node c.args.properties.now) c.self.view_is in
+    ∙ missing-seen c.self.inside.entries.items c.self.invariant.0 node c.args.properties.now
+    ∙ ap (λ (values : Values). missing_of values node c.args.properties.now) c.self.view_is in
     subst (λ (l : List Property). IfOk c.missing_of.result (λ missing. missing.items ≡ l)) same c.missing_of.ensures
