@@ -72,22 +72,24 @@ impl Way {
         self.marks.add_garble(garble)
     }
 
-    /// A side writes a unit: by the marks it is lost, or changed, and it may find no room. The answer is what is told of
-    /// it.
-    pub fn write(&mut self, side: Side, unit: &Unit) -> Result<List<Entry>, NoMemory>
+    /// A side writes a unit: by the marks it is lost, or changed, and it may find no room. What is told of it is entered.
+    pub fn write(
+        &mut self,
+        side: Side,
+        unit: &Unit,
+        out: &mut List<Entry>,
+    ) -> Result<(), NoMemory>
         ensures way { OnOk result (self.new ≡ after self.old (Writes unit.now)) }
-        ensures told { IfOk result (λ entries. entries.items ≡ told side self.old unit.now) }
-        ensures few { IfOk result (λ entries. length entries.items ≤ MOST_TOLD) }
+        ensures told { OnOk result (out.new.items ≡ out.old.items ++ told side self.old unit.now) }
         ensures err { OnErr result (self.new ≡ self.old) }
+        ensures no_entries { OnErr result (out.new.items ≡ out.old.items) }
     {
-        let mut entries = List::new(self.alloc);
-        entries.reserve(MOST_TOLD)?;
+        out.reserve(MOST_TOLD)?;
         let text = encode(self.alloc, unit)?;
         let shown = Bytes::from_slice(self.alloc, text.as_slice())?;
+        let written = Entry::Written { side, unit: shown };
         let mark = self.marks.mark_for(unit);
-        entries.put(Entry::Written { side, unit: shown });
-        self.pass(side, mark, text, &mut entries)?;
-        Ok(entries)
+        self.pass(side, mark, &text, written, out)
     }
 
     /// A text that was written goes on by its mark.
@@ -95,24 +97,32 @@ impl Way {
         &mut self,
         side: Side,
         mark: Mark,
-        text: Bytes,
-        entries: &mut List<Entry>,
+        text: &Bytes,
+        written: Entry,
+        out: &mut List<Entry>,
     ) -> Result<(), NoMemory>
-        requires some { 1 ≤ length text }
-        requires room { 2 ≤ entries.old.room }
-        ensures way { OnOk result (self.new ≡ passing self.old mark text) }
-        ensures told { OnOk result (entries.new.items ≡ entries.old.items ++ told_by side self.old.bytes mark text) }
-        ensures few { OnOk result (length entries.new.items ≤ length entries.old.items + 2) }
+        requires some { 1 ≤ length text.now }
+        requires room { 3 ≤ out.old.room }
+        ensures way { OnOk result (self.new ≡ passing self.old mark text.now) }
+        ensures told { OnOk result (out.new.items ≡ out.old.items ++ written ∷ told_by side self.old.bytes mark text.now) }
         ensures err { OnErr result (self.new ≡ self.old) }
+        ensures no_entries { OnErr result (out.new.items ≡ out.old.items) }
     {
         match mark {
-            Mark::Lost => entries.put(Entry::Dropped { side }),
-            Mark::Free => self.put(side, text.as_slice(), entries),
+            Mark::Lost => {
+                out.put(written);
+                out.put(Entry::Dropped { side });
+            }
+            Mark::Free => {
+                out.put(written);
+                self.put(side, text.as_slice(), out);
+            }
             Mark::Changed(garble) => {
-                let text = changed(self.alloc, &text, garble)?;
+                let text = changed(self.alloc, text, garble)?;
                 let shown = Bytes::from_slice(self.alloc, text.as_slice())?;
-                entries.put(Entry::Garbled { side, unit: shown });
-                self.put(side, text.as_slice(), entries);
+                out.put(written);
+                out.put(Entry::Garbled { side, unit: shown });
+                self.put(side, text.as_slice(), out);
             }
         }
         self.marks.use_up(mark);
@@ -120,14 +130,13 @@ impl Way {
     }
 
     /// A text goes into the pipe, where it has room.
-    fn put(&mut self, side: Side, text: &[u8], entries: &mut List<Entry>)
-        requires { 1 ≤ entries.old.room }
+    fn put(&mut self, side: Side, text: &[u8], out: &mut List<Entry>)
+        requires { 1 ≤ out.old.room }
         ensures way { self.new ≡ record self.old { bytes = joined self.old.bytes text.now } }
-        ensures told { entries.new.items ≡ entries.old.items ++ overrun side self.old.bytes text.now }
-        ensures few { length entries.new.items ≤ length entries.old.items + 1 }
+        ensures told { out.new.items ≡ out.old.items ++ overrun side self.old.bytes text.now }
     {
         if !self.pipe.fits(text) {
-            entries.put(Entry::Overrun { side });
+            out.put(Entry::Overrun { side });
         }
         self.pipe.put(text);
     }
