@@ -12,8 +12,8 @@ use Rattle.s0_crypto.specs.declared.ends.SealEnds.{SealEnds}
 use Rattle.s0_crypto.specs.Seal.{Seals, code_of}
 use Rattle.s0_crypto.specs.Opening.{nonce_in, code_wanted, code_in, sequence_in, IsGood, IsBadlyCoded, HasOtherSequence}
 use Rattle.s0_crypto.proofs.OpeningLemmas.{good_from_seals, seals_from_parts, header_of}
-use Rattle.s0_session.specs.Sending.{Sending, taken_from, SealsPending}
-use Rattle.inclusion.specs.Sealing.{keys_of, plain_in, is_good, opened_by, sealed_text}
+use Rattle.s0_session.specs.Sending.{Sending, taken, WouldSeal}
+use Rattle.inclusion.specs.Sealing.{keys_of, plain_in, is_good, opened_by, sealed_text, sent_by, sent_for}
 
 leb_decides : (a b : ℕ) → Decides (nat_le a b) (a ≤ b)
 leb_decides a b = (λ e. grind (arith, nat_tests), λ h. grind (arith, nat_tests))
@@ -70,3 +70,11 @@ pub sealed_is : (keys : Keys) (own nonce : List ℕ) (ends : SealEnds) (plain by
 unfolding sealed_text
 sealed_is keys own nonce ends plain bytes s =
     s.layout ∙ ap (λ (t : List ℕ). 0x98 ∷ 0x81 ∷ (own ++ (t ++ slice_index nonce 0 ∷ code_of keys (own ++ nonce) ends t))) s.enciphers
+
+-- what is pending is sent sealed, where the nonce is taken
+pub sent_is : (sealer : Sending) (keys : Keys) (key nonce own bytes : List ℕ) (seen : ℕ) → taken sealer (slice_index nonce 0) ≡ Some seen → keys ≡ keys_of key
+    → WouldSeal sealer keys own nonce bytes → Some bytes ≡ sent_for sealer (keys_of key) nonce own
+sent_is sealer keys key nonce own bytes seen takes same w =
+    ap Some (sealed_is keys own nonce sealer.ends w.plain bytes w.seals ∙ ap (λ (k : Keys). sealed_text k own nonce sealer.ends w.plain) same)
+    ∙ sym (ap (λ (a : Option ℕ). sent_by sealer (keys_of key) nonce own a sealer.pending) takes
+    ∙ ap (λ (b : Option (List ℕ)). sent_by sealer (keys_of key) nonce own (Some seen) b) w.is_pending)

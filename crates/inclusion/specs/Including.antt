@@ -2,7 +2,7 @@
 -- ticks, and what is taken while an exchange is under way, are this project's own rule, docs/INCLUSION.md).
 use Rattle.std.specs.Prelude.{ℕ, ◌-◌, ◌==◌, nat_le, if◌then◌else◌, Bool, true, false, List, [], ◌∷◌, replicate, slice_set, slice_index, slice_index_or, Option, Some, None}
 use Rattle.std.specs.Str.{bytes_eq}
-use Rattle.std.specs.Option.{option_to_list}
+use Rattle.std.specs.Option.{option_map, option_to_list}
 use Rattle.s0_crypto.specs.declared.ends.SealEnds.{SealEnds}
 use Rattle.s0_session.specs.declared.account.Account.{Account}
 use Rattle.s0_session.specs.Nonces.{unused, account_of, nonce_given, after_give, nonce_spent, after_spend}
@@ -61,14 +61,19 @@ abbrev pub asking : List ℕ → Exchange → Bool → Exchange
 asking key exchange true = exchange
 asking key exchange false = record exchange { asked = true; sender = record exchange.sender { pending = Some (key_set key) } }
 
+-- whether a nonce was asked for the key
+abbrev pub has_asked : Option Exchange → Bool
+has_asked None = true
+has_asked (Some exchange) = exchange.asked
+
 abbrev pub asks : Bool → List (List ℕ)
 asks true = []
 asks false = nonce_get ∷ []
 
-abbrev pub takes_scheme : Including → Exchange → Included
-takes_scheme includer exchange = record {
-  includer = record includer { exchange = Some (asking includer.key exchange exchange.asked) };
-  replies = asks exchange.asked;
+abbrev pub takes_scheme : Including → Included
+takes_scheme includer = record {
+  includer = record includer { exchange = option_map (λ x. asking includer.key x x.asked) includer.exchange };
+  replies = asks (has_asked includer.exchange);
 }
 
 -- a Nonce Get is answered
@@ -85,8 +90,9 @@ sealing exchange nonce = record exchange { sender = sealer_after exchange.sender
 abbrev pub seals : Exchange → List ℕ → List ℕ → List (List ℕ)
 seals exchange nonce drawn = option_to_list (sent_for exchange.sender (keys_of temporary_key) nonce drawn)
 
-abbrev pub takes_nonce : Including → Exchange → List ℕ → List ℕ → Included
-takes_nonce includer exchange nonce drawn = record {
+abbrev pub takes_nonce : Including → Option Exchange → List ℕ → List ℕ → Included
+takes_nonce includer None nonce drawn = quiet includer
+takes_nonce includer (Some exchange) nonce drawn = record {
   includer = record includer {
     seen = slice_set includer.seen exchange.node (sealing exchange nonce).sender.seen;
     exchange = Some (sealing exchange nonce);
@@ -121,23 +127,23 @@ abbrev pub takes_sealed : Including → ℕ → List ℕ → Including
 takes_sealed includer node payload =
     verified (spending includer node payload) node (is_verified (held_in includer node payload (nonce_spent (account_of includer.book node) (nonce_named payload))))
 
-abbrev pub takes_message : Including → Exchange → List ℕ → List ℕ → Message → Included
-takes_message includer exchange payload drawn SchemeGet = quiet includer
-takes_message includer exchange payload drawn SchemeReport = takes_scheme includer exchange
-takes_message includer exchange payload drawn NonceGet = gives_nonce includer exchange.node drawn
-takes_message includer exchange payload drawn (NonceReport nonce) = takes_nonce includer exchange nonce drawn
-takes_message includer exchange payload drawn Sealed = quiet (takes_sealed includer exchange.node payload)
-takes_message includer exchange payload drawn Other = quiet includer
+abbrev pub takes_message : Including → ℕ → List ℕ → List ℕ → Message → Included
+takes_message includer node payload drawn SchemeGet = quiet includer
+takes_message includer node payload drawn SchemeReport = takes_scheme includer
+takes_message includer node payload drawn NonceGet = gives_nonce includer node drawn
+takes_message includer node payload drawn (NonceReport nonce) = takes_nonce includer includer.exchange nonce drawn
+takes_message includer node payload drawn Sealed = quiet (takes_sealed includer node payload)
+takes_message includer node payload drawn Other = quiet includer
 
--- a payload of the node whose exchange is under way is taken, and no other
-abbrev pub takes_from : Including → Option Exchange → ℕ → List ℕ → List ℕ → Included
-takes_from includer None node payload drawn = quiet includer
-takes_from includer (Some exchange) node payload drawn =
-    if exchange.node == node then takes_message includer exchange payload drawn (message_of payload) else quiet includer
+-- whether an exchange with a node is under way
+abbrev pub is_with : Option Exchange → ℕ → Bool
+is_with None node = false
+is_with (Some exchange) node = exchange.node == node
 
--- what a payload of a node makes of it
+-- what a payload of a node makes of it: nothing, unless the exchange under way is with that node
 unfoldable pub includer_takes : Including → ℕ → List ℕ → List ℕ → Included
-includer_takes includer node payload drawn = takes_from includer includer.exchange node payload drawn
+includer_takes includer node payload drawn =
+    if is_with includer.exchange node then takes_message includer node payload drawn (message_of payload) else quiet includer
 
 -- a tick passes in an exchange; the last one ends it
 abbrev pub exchange_after : Option Exchange → Option Exchange

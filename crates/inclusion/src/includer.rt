@@ -1,9 +1,9 @@
 //! The end of the host, which adds nodes.
 
 ghost use Rattle.std.specs.Prelude.{◌≡◌, ◌≢◌, ◌∷◌, ◌-◌, ◌≤◌, [], Option, Some, None, Ok, length, slice_index, slice_set, IfOk, IfSome, OnOk, OnErr, IsSome, IsNone, IsErrOf, ◌↔◌, true, false};
-ghost use Rattle.s0_session.specs.Nonces.{account_of, after_give, nonce_given, nonce_spent};
-ghost use Rattle.inclusion.specs.Messages.{IsSealed, nonce_named, nonce_report, scheme_get};
-ghost use Rattle.inclusion.specs.Including.{adding, asking, asks, exchange_after, failing_in, fresh_includer, held_in, includer_takes, is_secure, is_verified, sealing, seals, takes_sealed, without_secure};
+ghost use Rattle.s0_session.specs.Nonces.{account_of, nonce_spent};
+ghost use Rattle.inclusion.specs.Messages.{IsSealed, nonce_named, scheme_get};
+ghost use Rattle.inclusion.specs.Including.{adding, asking, asks, exchange_after, failing_in, fresh_includer, gives_nonce, held_in, includer_takes, is_secure, is_verified, is_with, sealing, seals, takes_nonce, takes_scheme, takes_sealed, without_secure};
 
 use crate::joiner::host;
 use crate::message::{
@@ -133,23 +133,90 @@ impl Includer {
         ensures err { OnErr result (self.new ≡ self.old) }
         ensures err_replies { OnErr result (out.new ≡ []) }
     {
-        let Some(exchange) = &mut self.exchange else {
-            return Ok(());
-        };
-        if exchange.node != from {
+        if !self.is_with(from) {
             return Ok(());
         }
         match message_of(payload) {
-            Message::SchemeReport => ask(self.alloc, &self.key, exchange, out),
-            Message::NonceGet => give_nonce(&mut self.book, from, drawn, out),
-            Message::NonceReport(nonce) => {
-                seal_key(exchange, nonce, drawn, out)?;
-                self.seen[from.number() as usize] = exchange.sender.seen();
-                Ok(())
-            }
-            Message::Sealed => self.take_sealed(from, payload),
-            Message::SchemeGet | Message::Other => Ok(()),
+            Message::SchemeReport => self.take_scheme(out)?,
+            Message::NonceGet => self.give_nonce(from, drawn, out)?,
+            Message::NonceReport(nonce) => self.take_nonce(nonce, drawn, out)?,
+            Message::Sealed => self.take_sealed(from, payload)?,
+            Message::SchemeGet | Message::Other => {}
         }
+        Ok(())
+    }
+
+    /// Whether the exchange under way is with that node.
+    fn is_with(&self, node: NodeId) -> bool
+        ensures { result ≡ is_with self.now.exchange node }
+    {
+        match &self.exchange {
+            Some(exchange) => exchange.node == node,
+            None => false,
+        }
+    }
+
+    /// The host hears a Scheme Report.
+    fn take_scheme(&mut self, out: &mut Replies) -> Result<(), NoMemory>
+        requires { out.old ≡ [] }
+        ensures ok { OnOk result (self.new ≡ (takes_scheme self.old).includer) }
+        ensures replies { OnOk result (out.new ≡ (takes_scheme self.old).replies) }
+        ensures err { OnErr result (self.new ≡ self.old) }
+        ensures err_replies { OnErr result (out.new ≡ []) }
+    {
+        let Some(mut exchange) = self.exchange.take() else {
+            return Ok(());
+        };
+        let asked = ask(self.alloc, &self.key, &mut exchange, out);
+        self.exchange = Some(exchange);
+        asked?;
+        Ok(())
+    }
+
+    /// The host hears a Nonce Report.
+    fn take_nonce(
+        &mut self,
+        nonce: [u8; 8],
+        drawn: [u8; 8],
+        out: &mut Replies,
+    ) -> Result<(), NoMemory>
+        requires { out.old ≡ [] }
+        ensures ok { OnOk result (self.new ≡ (takes_nonce self.old self.old.exchange nonce drawn).includer) }
+        ensures replies { OnOk result (out.new ≡ (takes_nonce self.old self.old.exchange nonce drawn).replies) }
+        ensures err { OnErr result (self.new ≡ self.old) }
+        ensures err_replies { OnErr result (out.new ≡ []) }
+    {
+        let Some(mut exchange) = self.exchange.take() else {
+            return Ok(());
+        };
+        let node = exchange.node;
+        let sealed = seal_key(&mut exchange, nonce, drawn, out);
+        let seen = exchange.sender.seen();
+        self.exchange = Some(exchange);
+        sealed?;
+        self.seen[node.number() as usize] = seen;
+        Ok(())
+    }
+
+    /// The host hears a Nonce Get.
+    fn give_nonce(
+        &mut self,
+        node: NodeId,
+        drawn: [u8; 8],
+        out: &mut Replies,
+    ) -> Result<(), NoMemory>
+        requires { out.old ≡ [] }
+        ensures ok { OnOk result (self.new ≡ (gives_nonce self.old node drawn).includer) }
+        ensures replies { OnOk result (out.new ≡ (gives_nonce self.old node drawn).replies) }
+        ensures err { OnErr result (self.new ≡ self.old) }
+        ensures err_replies { OnErr result (out.new ≡ []) }
+    {
+        if self.book.given(node) == u64::MAX {
+            return Err(NoMemory);
+        }
+        let nonce = self.book.give(node, drawn);
+        out.push(nonce_report(&nonce));
+        Ok(())
     }
 
     /// The host hears a Security message: the nonce that it names is spent, whether it opens or not.
@@ -215,27 +282,6 @@ fn ask(
     exchange.sender.ask(plain);
     exchange.asked = true;
     out.push(payload(&NONCE_GET));
-    Ok(())
-}
-
-/// A Nonce Get of a node is answered.
-fn give_nonce(
-    book: &mut NonceBook,
-    node: NodeId,
-    drawn: [u8; 8],
-    out: &mut Replies,
-) -> Result<(), NoMemory>
-    requires { out.old ≡ [] }
-    ensures ok { OnOk result (book.new ≡ slice_set book.old node (after_give (account_of book.old node) drawn)) }
-    ensures replies { OnOk result (out.new ≡ nonce_report (nonce_given (account_of book.old node) drawn) ∷ []) }
-    ensures err { OnErr result (book.new ≡ book.old) }
-    ensures err_replies { OnErr result (out.new ≡ []) }
-{
-    if book.given(node) == u64::MAX {
-        return Err(NoMemory);
-    }
-    let nonce = book.give(node, drawn);
-    out.push(nonce_report(&nonce));
     Ok(())
 }
 

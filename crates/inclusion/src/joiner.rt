@@ -94,15 +94,13 @@ impl Joiner {
         ensures err_replies { OnErr result (out.new ≡ []) }
     {
         match message_of(payload) {
-            Message::SchemeGet => {
-                self.tell_scheme(out);
-                Ok(())
-            }
-            Message::NonceGet => self.give_nonce(drawn, out),
-            Message::NonceReport(nonce) => self.take_nonce(nonce, drawn, out),
-            Message::Sealed => self.take_sealed(payload, out),
-            Message::SchemeReport | Message::Other => Ok(()),
+            Message::SchemeGet => self.tell_scheme(out),
+            Message::NonceGet => self.give_nonce(drawn, out)?,
+            Message::NonceReport(nonce) => self.take_nonce(nonce, drawn, out)?,
+            Message::Sealed => self.take_sealed(payload, out)?,
+            Message::SchemeReport | Message::Other => {}
         }
+        Ok(())
     }
 
     /// It tells its scheme while it has no key.
