@@ -68,8 +68,8 @@ pub(crate) fn word_of(bytes: &[u8]) -> Option<IncludeWord>
 }
 
 /// The first word of a line.
-pub fn first_word(line: IncludeLine) -> IncludeWord
-    ensures { result ≡ first_word line }
+pub fn first_word(line: &IncludeLine) -> IncludeWord
+    ensures { result ≡ first_word line.now }
 {
     match line {
         IncludeLine::Add(_) => IncludeWord::Add,
@@ -81,12 +81,12 @@ pub fn first_word(line: IncludeLine) -> IncludeWord
 }
 
 /// The number of a line.
-pub fn number_in(line: IncludeLine) -> u64
-    ensures { result ≡ number_in line }
+pub fn number_in(line: &IncludeLine) -> u64
+    ensures { result ≡ number_in line.now }
 {
     match line {
         IncludeLine::Add(node) | IncludeLine::Reset(node) => u64::from(node.number()),
-        IncludeLine::Lose(count) | IncludeLine::Tick(count) => u64::from(count),
-        IncludeLine::Repeat(frame) => frame,
+        IncludeLine::Lose(count) | IncludeLine::Tick(count) => u64::from(*count),
+        IncludeLine::Repeat(frame) => *frame,
     }
 }

@@ -22,7 +22,7 @@ pub fn print_include(alloc: Global, entry: &IncludeEntry) -> Result<Bytes, NoMem
     ensures { IfOk result (λ text. text ≡ entry_text entry.now) }
 {
     match entry {
-        IncludeEntry::Said { line } => print_said(alloc, *line),
+        IncludeEntry::Said { line } => print_said(alloc, line),
         IncludeEntry::Time { tick } => print_count(alloc, "t", *tick),
         IncludeEntry::Written { side, unit } => print_written(alloc, *side, unit.as_slice()),
         IncludeEntry::Air {
@@ -50,8 +50,8 @@ fn print_count(alloc: Global, word: &str, n: u64) -> Result<Bytes, NoMemory>
 }
 
 /// `> WORD N`
-fn print_said(alloc: Global, line: IncludeLine) -> Result<Bytes, NoMemory>
-    ensures { IfOk result (λ text. text ≡ codes "> " ++ line_text line) }
+fn print_said(alloc: Global, line: &IncludeLine) -> Result<Bytes, NoMemory>
+    ensures { IfOk result (λ text. text ≡ codes "> " ++ line_text line.now) }
 {
     let word = text_of(first_word(line));
     let number = number_in(line);

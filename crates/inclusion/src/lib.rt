@@ -17,4 +17,4 @@ pub use exchange::{EXCHANGE_TICKS, Exchange};
 pub use fault::AddFault;
 pub use includer::Includer;
 pub use joiner::Joiner;
-pub use message::Message;
+pub use message::{Message, SCHEME_GET};

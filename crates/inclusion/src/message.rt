@@ -18,7 +18,8 @@ const NONCE_REPORT: u8 = 0x80;
 /// Its command Security Message Encapsulation.
 const SEALED: u8 = 0x81;
 
-pub(crate) const SCHEME_GET: [u8; 3] = [SECURITY, 0x04, 0x00];
+/// A Scheme Get, as the host sends it.
+pub const SCHEME_GET: [u8; 3] = [SECURITY, 0x04, 0x00];
 
 pub(crate) const SCHEME_REPORT: [u8; 3] = [SECURITY, 0x05, 0x00];
 
