@@ -189,7 +189,7 @@ impl Air {
         if flight.lost || number <= self.pairs[flight.node.number() as usize].forgotten {
             return None;
         }
-        Some(coming(number, flight))
+        Some(heard_copy(number, flight))
     }
 
     /// The number of the frame that arrives next.
@@ -226,12 +226,12 @@ impl Air {
         if nonces >= MAX_NEW_NONCES {
             return Err(IncludeRefusal::Stale(nonces));
         }
-        Ok(coming(number, flight))
+        Ok(heard_copy(number, flight))
     }
 }
 
 /// The frame of that number, as it is heard.
-fn coming(number: u64, flight: &Flight) -> Coming
+fn heard_copy(number: u64, flight: &Flight) -> Coming
     ensures { result ≡ record { number = number; node = flight.now.node; heading = flight.now.heading; payload = flight.now.payload } }
 {
     Coming {
