@@ -1,0 +1,4 @@
+pub mod Sealing
+pub mod Messages
+pub mod Joining
+pub mod Including
