@@ -1,0 +1,5 @@
+pub mod Doing
+mod Numbered
+mod Owning
+mod Storing
+mod Accepted
