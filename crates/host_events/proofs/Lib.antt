@@ -3,3 +3,4 @@ mod Numbered
 mod Owning
 mod Storing
 mod Accepted
+mod Keeping

@@ -6,23 +6,22 @@ use Rattle.zw_base.specs.declared.property.Setting.{Setting}
 use Rattle.zw_order.specs.declared.order.Order.{Order}
 use Rattle.zw_text.specs.declared.entry.Outcome.{Outcome}
 use Rattle.zw_text.specs.declared.entry.Outcome.TheVariants as outcome
-use Rattle.serial_link.specs.State.{Side, hear, tick_side}
+use Rattle.serial_link.specs.State.{hear, tick_side}
 use Rattle.serial_link.specs.declared.turn.Turn.{Turn}
 use Rattle.serial_link.specs.declared.turn.Turn.TheVariants.{Idle, Copied, Paused}
 use Rattle.s0_session.specs.Nonces.{account_of, live_of, after_give}
-use Rattle.s0_session.specs.declared.account.Account.{Account}
 use Rattle.value_store.specs.Values.{Values, stored_of}
 use Rattle.host_requests.specs.declared.task.Task.{Task}
 use Rattle.host_requests.specs.declared.task.Task.TheVariants.{NoMore, Offer, Segment}
 use Rattle.host_requests.specs.declared.task.Purpose.{Purpose}
 use Rattle.host_requests.specs.declared.task.Purpose.TheVariants.{Housekeeping, Attempt, Abort}
 use Rattle.host_requests.specs.Frames.{frame_of}
-use Rattle.host_requests.specs.State.{RequestsState, next_id}
+use Rattle.host_requests.specs.State.{next_id}
 use Rattle.host_requests.specs.Events.{RequestsEvent, end_at, after as after_request}
 use Rattle.host_requests.specs.Events.RequestsEvent.{BeginsAbort as request_begins_abort, BeginsAttempt as request_begins_attempt, BeginsFront as request_begins_front, Fails as request_fails, Pushes as request_pushes, PushesInterview as request_pushes_interview, PushesProbe as request_pushes_probe, Updates as request_updates}
 use Rattle.host_node.specs.declared.attempt.Moment.{Moment}
 use Rattle.host_node.specs.declared.attempt.Moment.TheVariants.{BeforeItsTick}
-use Rattle.host_node.specs.State.{NodeState, is_false}
+use Rattle.host_node.specs.State.{is_false}
 use Rattle.host_node.specs.Events.{NodeEvent, after as after_node}
 use Rattle.host_node.specs.Events.NodeEvent.{Accepts as node_accepts, Begins as node_begins, Blocks as node_blocks, Cancels as node_cancels, Drops_no_more as node_drops_no_more, Gives_segment as node_gives_segment, Gives_text as node_gives_text, Holds as node_holds, Interviews as node_interviews, Joins as node_joins, Notifies as node_notifies, Puts as node_puts, Queues_no_more as node_queues_no_more, Reports as node_reports, Starts as node_starts, Takes_nonce as node_takes_nonce, Ticks as node_ticks}
 use Rattle.host_node.specs.Steps.{tick_end}
@@ -94,7 +93,7 @@ abbrev pub accepting : HostState → Order → Carriage → HostState
 accepting h order carriage =
     let taken : Command = record { order = order; carriage = carriage; outcome = outcome.Waiting } in
     node_does (node_does (record h { commands = h.commands ++ taken ∷ []; store = reserving h.store order.node (properties_of (settings carriage.actuator order)) })
-        order.node (node_puts (length h.commands + 1))) order.node node_accepts
+    order.node (node_puts (length h.commands + 1))) order.node node_accepts
 
 -- the node of a command, and 0 where there is none
 abbrev pub node_with : Option Command → ℕ
@@ -164,7 +163,7 @@ failing_if false h = h
 
 -- ---- the host after an event
 
-pub after : HostState → HostEvent → HostState
+abbrev pub after : HostState → HostEvent → HostState
 after h (Accepts order carriage) = accepting h order carriage
 after h (Cancels command) =
     record (node_does h (node_for h command) (node_cancels command)) { commands = with_outcome h.commands command outcome.Cancelled }

@@ -1,6 +1,5 @@
 -- Events of a host one after another, and what calls of it did (this project's own).
 use Rattle.std.specs.Prelude.{◌≡◌, ℕ, Bool, true, false, List, [], ◌∷◌, ◌++◌, map, Option}
-use Rattle.std.specs.List.{flat_map}
 use Rattle.host_keep.specs.Keeping.{OptAdds}
 use Rattle.host_keep.specs.RecordText.{record_text}
 use Rattle.host_keep.specs.declared.record.Record.{Record}

@@ -1,8 +1,6 @@
 -- What the end of a request is to the host, and the end of an attempt (this project's own rules).
-use Rattle.std.specs.Prelude.{ℕ, ◌==◌, if◌then◌else◌, Bool, true, false, List, [], ◌∷◌, ◌++◌, Option, Some, None}
-use Rattle.chip_functions.specs.declared.response.Response.{Response}
+use Rattle.std.specs.Prelude.{ℕ, Bool, true, false, List, [], ◌∷◌, ◌++◌, Option, Some, None}
 use Rattle.chip_functions.specs.declared.response.Response.TheVariants.{GetRoutingInfo, IsFailedNode}
-use Rattle.chip_functions.specs.declared.notice.TransmitStatus.{TransmitStatus}
 use Rattle.chip_functions.specs.declared.notice.TransmitStatus.TheVariants.{CompleteOk, NoAck, Fail, NotIdle, NoRoute}
 use Rattle.zw_text.specs.declared.entry.Entry.{Entry}
 use Rattle.zw_text.specs.declared.entry.Entry.TheVariants.{Out, Asleep, Done as done_with, InterviewFailed, Neighbours as neighbours_are, Failed as failed_is}
@@ -17,7 +15,6 @@ use Rattle.host_requests.specs.declared.task.Purpose.{Purpose}
 use Rattle.host_requests.specs.declared.task.Purpose.TheVariants.{Housekeeping, Attempt, Abort}
 use Rattle.host_requests.specs.declared.task.Task.{Task}
 use Rattle.host_requests.specs.declared.task.Task.TheVariants.{Plain, NoMore, Second, Neighbours, IsFailed}
-use Rattle.host_node.specs.State.{NodeState}
 use Rattle.host_node.specs.Steps.{after_sign, after_attempt_end, attempt_end, after_no_more_end, falls_asleep}
 use Rattle.host_node.specs.declared.attempt.Moment.{Moment}
 use Rattle.host_node.specs.declared.attempt.AttemptEnd.{AttemptEnd}

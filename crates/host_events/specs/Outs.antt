@@ -1,5 +1,5 @@
 -- What a host puts out at each event: units for the chip and entries of the transcript (this project's own rules).
-use Rattle.std.specs.Prelude.{ℕ, Bool, true, false, if◌then◌else◌, List, [], ◌∷◌, ◌++◌, map, Option, Some, None}
+use Rattle.std.specs.Prelude.{ℕ, Bool, true, false, List, [], ◌∷◌, ◌++◌, map, Option, Some, None}
 use Rattle.zw_base.specs.declared.property.Setting.{Setting}
 use Rattle.zw_text.specs.declared.entry.Entry.{Entry}
 use Rattle.zw_text.specs.declared.entry.Entry.TheVariants as entry
@@ -81,7 +81,7 @@ abbrev pub held_entries : ℕ → Bool → List Entry
 held_entries n true = entry.Held n ∷ []
 held_entries n false = []
 
-pub outs : HostState → HostEvent → List HostOut
+abbrev pub outs : HostState → HostEvent → List HostOut
 outs h (Accepts order carriage) = []
 outs h (Cancels command) = []
 outs h (Joins n) = []

@@ -1,9 +1,8 @@
 -- Which events a pump is (this project's own rules of choosing): nodes that nothing keeps awake are let sleep; then, while no request is
 -- under way and the line is free, the next one is submitted: an owed abort, the task that waited longest, or what the next node with work gives.
-use Rattle.std.specs.Prelude.{◌≡◌, ◌≢◌, ℕ, ◌+◌, ◌⊎◌, nat_lt, Bool, true, false, if◌then◌else◌, List, [], ◌∷◌, ◌++◌, slice_index, Option, Some, None, IsTrue}
+use Rattle.std.specs.Prelude.{◌≡◌, ℕ, ◌+◌, ◌⊎◌, nat_lt, Bool, true, false, if◌then◌else◌, List, [], ◌∷◌, ◌++◌, slice_index, Option, Some, None}
 use Rattle.supervision.specs.Host.{begun_of, open_session}
 use Rattle.host_requests.specs.declared.task.Task.{Task}
-use Rattle.host_node.specs.State.{NodeState}
 use Rattle.host_node.specs.declared.series.Series.{Series}
 use Rattle.host_node.specs.declared.series.Series.TheVariants.{Idle, Due, Running}
 use Rattle.host_node.specs.declared.attempt.Plan.{Plan}

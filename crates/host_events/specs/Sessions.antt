@@ -1,5 +1,5 @@
 -- What goes on the air for a session (Supervision, Transport Service and Security 0 Command Classes; the wraps are those of the order).
-use Rattle.std.specs.Prelude.{ℕ, ◌+◌, ◌*◌, ◌/◌, ◌%◌, nat_lt, Bool, true, false, if◌then◌else◌, List, [], ◌∷◌, length, Option, Some, None}
+use Rattle.std.specs.Prelude.{ℕ, ◌+◌, ◌*◌, ◌/◌, ◌%◌, nat_lt, Bool, false, if◌then◌else◌, List, [], ◌∷◌, length, Option, Some, None}
 use Rattle.zw_base.specs.declared.property.Setting.{Setting}
 use Rattle.supervision.specs.Host.{open_session, command_at as command_of_session}
 use Rattle.transport_segments.specs.Segment.{segment_text}
@@ -13,7 +13,7 @@ use Rattle.host_orders.specs.declared.carriage.Form.{Form}
 use Rattle.host_orders.specs.declared.carriage.Form.TheVariants.{Plain, Cut, Sealed}
 use Rattle.host_keep.specs.declared.final_status.FinalStatus.{FinalStatus}
 use Rattle.host_keep.specs.declared.final_status.FinalStatus.TheVariants.{NoSupport, Fail, Success}
-use Rattle.host_events.specs.State.{HostState, Command, node_of, command_at}
+use Rattle.host_events.specs.State.{HostState, Command, command_at}
 
 -- the command of a session of a node
 abbrev pub command_by : NodeState → Option ℕ → Option ℕ

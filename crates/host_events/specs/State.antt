@@ -1,13 +1,12 @@
 -- What a host is (this project's own): its side of the line, its requests, its nodes, the commands that it took, nonces and values.
-use Rattle.std.specs.Prelude.{ℕ, zero, suc, Bool, true, false, List, [], ◌∷◌, replicate, slice_get, Option, Some, None}
+use Rattle.std.specs.Prelude.{ℕ, zero, suc, true, List, [], ◌∷◌, replicate, slice_get, Option, None}
 use Rattle.std.specs.FinMap as finmap
-use Rattle.zw_base.specs.declared.property.Property.{Property}
 use Rattle.zw_order.specs.declared.order.Order.{Order}
 use Rattle.zw_text.specs.declared.entry.Outcome.{Outcome}
 use Rattle.s0_crypto.specs.declared.key_pair.Keys.{Keys}
 use Rattle.s0_session.specs.declared.account.Account.{Account}
 use Rattle.s0_session.specs.Nonces.{unused}
-use Rattle.serial_frame.specs.Stream.{Rest, no_rest}
+use Rattle.serial_frame.specs.Stream.{Rest}
 use Rattle.serial_link.specs.State.{Side}
 use Rattle.serial_link.specs.declared.turn.Turn.TheVariants.{Idle}
 use Rattle.value_store.specs.Values.{Values}

@@ -2,7 +2,6 @@
 -- makes of them is this project's own rule). What is chosen is whether a record was kept, and bytes that were drawn.
 use Rattle.std.specs.Prelude.{◌≡◌, ◌≢◌, ℕ, ◌-◌, ◌/◌, ◌%◌, ◌==◌, ◌&&◌, ◌⊎◌, nat_lt, nat_le, Bool, true, false, if◌then◌else◌, List, [], ◌∷◌, ◌++◌, length, slice_index, Option, Some, None, Result, Ok, Err}
 use Rattle.zw_base.specs.declared.property.Setting.{Setting}
-use Rattle.serial_frame.specs.Frame.{FrameParts}
 use Rattle.serial_frame.specs.Stream.{Feeds, GoesOn, piece_of}
 use Rattle.serial_frame.specs.declared.frame.Kind.{Kind}
 use Rattle.serial_frame.specs.declared.frame.Kind.TheVariants as kind
@@ -30,7 +29,7 @@ use Rattle.s0_session.specs.Nonces.{live_of}
 use Rattle.value_store.specs.Values.{count_with}
 use Rattle.host_requests.specs.Events.{RequestsEvent, interviewed_by}
 use Rattle.host_requests.specs.Events.RequestsEvent.{CallsBack as request_calls_back, Fails as request_fails, IsSent as request_is_sent, Responds as request_responds, Updates as request_updates}
-use Rattle.host_node.specs.State.{NodeState, SealsText, count_at}
+use Rattle.host_node.specs.State.{SealsText, count_at}
 use Rattle.host_node.specs.declared.attempt.Moment.TheVariants.{BetweenTicks}
 use Rattle.host_keep.specs.declared.final_status.FinalStatus.{FinalStatus}
 use Rattle.host_keep.specs.Status.{status_of}
@@ -116,6 +115,7 @@ IsTaken h n payload sealed (Report id status wake_request) events = ReportTaken 
     sealed_as true secure = true
     sealed_as false true = false
     sealed_as false false = true
+
     ReportTaken : HostState → ℕ → List ℕ → Bool → ℕ → ReportStatus → Bool → List HostEvent → Type 0
     ReportTaken h n payload true id status wake_request events = ReportEvents h n id status wake_request (told_of (node_of h n).book id (status_byte status)) events
     ReportTaken h n payload false id status wake_request events = events ≡ Unreads n payload ∷ []
@@ -165,7 +165,7 @@ IsOpened h n nonce payload events =
     (events ≡ Is_unkept n ∷ [])
     ⊎ ((OpensInVain h n nonce payload × (events ≡ Spends_unread n payload ∷ []))
     ⊎ ((messages : List Told) × (rest : List HostEvent) × OpensTo h n nonce payload messages × (events ≡ Spends n ∷ rest)
-        × AreTaken (after h (Spends n)) n payload true messages rest))
+    × AreTaken (after h (Spends n)) n payload true messages rest))
 
 abbrev pub SealedEvents : HostState → ℕ → List ℕ → Option (List ℕ) → List HostEvent → Type 0
 SealedEvents h n payload None events = events ≡ Unreads n payload ∷ []

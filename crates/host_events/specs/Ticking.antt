@@ -6,7 +6,6 @@ use Rattle.host_requests.specs.Events.RequestsEvent.{Ticks as request_ticks}
 use Rattle.host_node.specs.State.{needs_tick}
 use Rattle.host_node.specs.declared.attempt.Moment.TheVariants.{BeforeItsTick}
 use Rattle.host_events.specs.State.{HostState, node_of}
-use Rattle.host_events.specs.After.{after}
 use Rattle.host_events.specs.Did.{after_all}
 use Rattle.host_events.specs.Events.{HostEvent, Line_ticks, Requests_do, Node_ticks}
 
