@@ -5,3 +5,4 @@ mod Owning
 mod Storing
 mod Accepted
 mod Keeping
+mod Pumps

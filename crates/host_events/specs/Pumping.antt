@@ -1,15 +1,16 @@
 -- Which events a pump is (this project's own rules of choosing): nodes that nothing keeps awake are let sleep; then, while no request is
 -- under way and the line is free, the next one is submitted: an owed abort, the task that waited longest, or what the next node with work gives.
-use Rattle.std.specs.Prelude.{◌≡◌, ℕ, ◌+◌, ◌⊎◌, nat_lt, Bool, true, false, if◌then◌else◌, List, [], ◌∷◌, ◌++◌, slice_index, Option, Some, None}
+use Rattle.std.specs.Prelude.{◌≡◌, ℕ, suc, ◌+◌, ◌&&◌, ◌⊎◌, count_by, is_none, nat_lt, Bool, true, false, if◌then◌else◌, List, [], ◌∷◌, ◌++◌, slice_index, Option, Some, None}
 use Rattle.supervision.specs.Host.{begun_of, open_session}
 use Rattle.host_requests.specs.declared.task.Task.{Task}
+use Rattle.host_node.specs.State.{NodeState, is_false, is_idle, wants_no_more}
 use Rattle.host_node.specs.declared.series.Series.{Series}
 use Rattle.host_node.specs.declared.series.Series.TheVariants.{Idle, Due, Running}
 use Rattle.host_node.specs.declared.attempt.Plan.{Plan}
 use Rattle.host_nodes.specs.Search.{next_of, first_wanting}
 use Rattle.host_events.specs.State.{HostState, node_of}
 use Rattle.host_events.specs.Sessions.{open_segment}
-use Rattle.host_events.specs.After.{after, is_full}
+use Rattle.host_events.specs.After.{after, is_busy, is_full}
 use Rattle.host_events.specs.Did.{after_all}
 use Rattle.host_events.specs.May.{IsFree, IsStart}
 use Rattle.host_events.specs.Events.{HostEvent, Queues_no_more, Drops_no_more, Submits_abort, Submits_front, Starts, Gives_text, Gives_segment, Begins, Begin_unkept}
@@ -72,3 +73,21 @@ Submits h (event ∷ events) = IsNext h event × Submits (after h event) events
 
 abbrev pub Pumps : HostState → List HostEvent → Type 0
 Pumps h events = (first rest : List HostEvent) × (events ≡ first ++ rest) × LetsSleep h first × Submits (after_all h first) rest
+
+-- ---- how many turns it has
+
+-- how many nodes may still be told that there is no more for them
+abbrev pub sleepers_left : HostState → ℕ
+sleepers_left h = count_by wants_no_more h.nodes
+
+-- a session may still begin for this node, or be refused by the keeper
+abbrev pub may_begin : NodeState → Bool
+may_begin n = is_idle n.series && is_false n.blocked
+
+-- no request is under way, and the line is free
+abbrev pub is_free : HostState → Bool
+is_free h = is_none h.requests.under_way && is_false (is_busy h.side.turn)
+
+-- one for each node for which a session may still begin, and one for the request itself; none once a request is under way
+abbrev pub turns_left : HostState → ℕ
+turns_left h = if is_free h then suc (count_by may_begin h.nodes) else 0

@@ -65,14 +65,15 @@ abbrev pub segment_of : Option Command → ℕ → ℕ → Option (List ℕ)
 segment_of None session k = None
 segment_of (Some command) session k = segment_by (form_of command.carriage.outer) session (message_for command session) k
 
+-- the command of that number, where there is one
+abbrev pub command_if : List Command → Option ℕ → Option Command
+command_if commands None = None
+command_if commands (Some number) = command_at commands number
+
 -- a segment of the open session of a node
 abbrev pub open_segment : HostState → NodeState → Option ℕ → ℕ → Option (List ℕ)
 open_segment h n None k = None
-open_segment h n (Some session) k = segment_of (commands_at h (command_of_session n.book.commands session)) session k
-  where
-    commands_at : HostState → Option ℕ → Option Command
-    commands_at h None = None
-    commands_at h (Some number) = command_at h.commands number
+open_segment h n (Some session) k = segment_of (command_if h.commands (command_of_session n.book.commands session)) session k
 
 -- the settings that a final status of a command confirms
 abbrev pub settings_with : FinalStatus → Option Command → List Setting
