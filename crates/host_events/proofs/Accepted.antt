@@ -1,18 +1,17 @@
 -- An order that no rule refuses is fit, and each message of it fits how it is carried.
-use Rattle.std.proofs.Common.{◌≡◌, ℕ, ◌+◌, ◌≤◌, ◌<◌, Bool, true, false, ◌&&◌, ◌||◌, nat_lt, nat_le, not, if◌then◌else◌, Option, Some, None, is_some, unwrap_or, List, [], ◌∷◌, ◌++◌, length, refl, sym, ap, ◌∙◌, subst, arith, length-append}
+use Rattle.std.proofs.Common.{◌≡◌, ℕ, ◌+◌, ◌≤◌, ◌<◌, Bool, true, false, ◌&&◌, nat_lt, nat_le, not, if◌then◌else◌, Option, Some, None, is_some, List, [], ◌∷◌, length, refl, sym, ◌∙◌, subst, arith, length-append}
 use Rattle.std.proofs.lemmas.Bool.Decides.{nat_tests}
 use Rattle.zw_order.specs.declared.order.Order.{Order}
-use Rattle.encap.specs.Wraps.{crc16_text, with_check}
+use Rattle.encap.specs.Wraps.{crc16_text}
 use Rattle.encap.specs.Written.{checked_form, addressed_form, supervised_form}
 use Rattle.encap.specs.declared.plan.Ends.{Ends}
 use Rattle.encap.specs.declared.plan.Outer.{Outer}
 use Rattle.encap.specs.declared.plan.Outer.TheVariants.{None as no_outer, Crc16, Security, Transport}
 use Rattle.encap.specs.declared.plan.Supervised.{Supervised}
 use Rattle.host_orders.specs.Classes.{lists, actuator_of}
-use Rattle.host_orders.specs.Refusals.{Known, IsFit, classes_of, first_some, unless, unsupported, is_bad, is_too_long, too_long, mailbox_full, rules_for, known_refusal, first_refusal}
+use Rattle.host_orders.specs.Refusals.{Known, IsFit, classes_of, first_some, unless, unsupported, is_bad, is_too_long, too_long, mailbox_full, known_refusal, first_refusal}
 use Rattle.host_orders.specs.Messages.{classes_needed}
-use Rattle.host_orders.specs.Wrapping.{ends_of, supervised_of, supervised_text, wrapped_len, outer_for, carriage_of, message_of, form_of}
-use Rattle.host_orders.specs.declared.actuator.Actuator.{Actuator}
+use Rattle.host_orders.specs.Wrapping.{ends_of, supervised_of, supervised_text, wrapped_len, carriage_of, message_of, form_of}
 use Rattle.host_orders.specs.declared.refused.Refused.{Refused}
 use Rattle.host_orders.specs.declared.refused.Refused.TheVariants.{NotJoined, NotInterviewed, BadValue, Unsupervised, TooLong, MailboxFull}
 use Rattle.host_events.specs.Facts.{FitsForm}
@@ -64,7 +63,7 @@ unfolding known_refusal
 passes classes waiting order e =
     let actuator = actuator_of classes in
     let rules = passes_rules (unsupported classes (classes_needed actuator order.what order.end)) (unless (not (is_bad actuator order.what)) BadValue)
-        (unless (lists classes 0x6C) Unsupervised) (too_long classes (length (supervised_text actuator order)) (wrapped_len actuator order)) (mailbox_full waiting) e in
+    (unless (lists classes 0x6C) Unsupervised) (too_long classes (length (supervised_text actuator order)) (wrapped_len actuator order)) (mailbox_full waiting) e in
     let wrapped = wrapped_len actuator order in
     let len = length (supervised_text actuator order) in
     let rest : Option Refused = if is_too_long classes wrapped then Some (TooLong wrapped) else None in
@@ -157,8 +156,8 @@ message_fits classes waiting order session p =
     let channel : channel_len ends ≤ 4 = channel_is_short ends in
     let len = wrapped_len actuator order in
     let carries : CarriesAtMost outer len
-        = outer_carries (lists classes 0x98) (lists classes 0x56) len
-        (sealed_short (lists classes 0x98) (not (lists classes 0x55) && nat_lt 46 len) len p.fits) (omega (arith, there, short, channel)) in
+    = outer_carries (lists classes 0x98) (lists classes 0x56) len
+    (sealed_short (lists classes 0x98) (not (lists classes 0x55) && nat_lt 46 len) len p.fits) (omega (arith, there, short, channel)) in
     fits_form outer message (omega (arith, here)) (subst (λ k. CarriesAtMost outer k) (there ∙ sym here) carries)
 
 -- ---- the whole

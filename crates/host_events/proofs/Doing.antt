@@ -1,7 +1,7 @@
 -- Lists of events that happened one after another.
 use Rattle.std.proofs.Common.{◌≡◌, ℕ, ◌≤◌, List, [], ◌∷◌, ◌++◌, inl, inr, refl, ap, sym, ◌∙◌, subst, append_assoc, arith}
 use Rattle.std.proofs.lemmas.Bool.{cases_eq}
-use Rattle.std.specs.Prelude.{Option, Some, None, Bool, true, false, map}
+use Rattle.std.specs.Prelude.{Option, Some, None, Bool, true, false}
 use Rattle.std.proofs.lemmas.List.{append-nil, map-append}
 use Rattle.host_keep.specs.Keeping.{OptAdds}
 use Rattle.host_keep.specs.RecordText.{record_text}

@@ -21,8 +21,7 @@ judged-append h (item ∷ more) b x y first later =
     let head = first.0 in
     let rest = first.1 in
     let parts : x ≡ head ++ rest = first.2 in
-    let after : after_all h x ≡ after_all (after_all h head) rest = ap (λ (l : List HostEvent). after_all h l) parts ∙ after_all-append h head rest in
-    (
+    let after : after_all h x ≡ after_all (after_all h head) rest = ap (λ (l : List HostEvent). after_all h l) parts ∙ after_all-append h head rest in (
       head,
       rest ++ y,
       ap (λ (l : List HostEvent). l ++ y) parts ∙ append_assoc head rest y,

@@ -1,5 +1,5 @@
 -- Each event keeps the facts of a host.
-use Rattle.std.proofs.Common.{◌≡◌, ℕ, zero, suc, ◌+◌, ◌≤◌, ◌<◌, Bool, true, false, if◌then◌else◌, Option, Some, None, IsSome, unwrap_or, List, [], ◌∷◌, ◌++◌, length, All, set, replicate, inl, inr, ◌⊎◌, refl, sym, ap, ◌∙◌, subst, arith}
+use Rattle.std.proofs.Common.{◌≡◌, ℕ, zero, suc, ◌+◌, ◌≤◌, Bool, true, false, if◌then◌else◌, Option, Some, None, IsSome, unwrap_or, List, [], ◌∷◌, ◌++◌, length, All, set, inl, refl, sym, ap, ◌∙◌, subst, arith}
 use Rattle.std.specs.Option.{option_or}
 use Rattle.std.proofs.lemmas.List.{length-set}
 use Rattle.std.proofs.lemmas.List.Elements.{All-nil, All-push}
@@ -8,10 +8,9 @@ use Rattle.zw_text.specs.declared.entry.Outcome.{Outcome}
 use Rattle.zw_text.specs.declared.entry.Outcome.TheVariants as outcome
 use Rattle.zw_order.specs.declared.order.Order.{Order}
 use Rattle.s0_crypto.specs.declared.key_pair.Keys.{Keys}
-use Rattle.s0_crypto.specs.Seal.{Seals}
 use Rattle.s0_session.specs.declared.account.Account.{Account}
 use Rattle.s0_session.specs.Nonces.{live_of, unused}
-use Rattle.serial_link.specs.State.{Side, hear, tick_side}
+use Rattle.serial_link.specs.State.{Side, tick_side}
 use Rattle.value_store.specs.Values.{Values, reserving}
 use Rattle.host_requests.specs.State.{RequestsState}
 use Rattle.host_requests.specs.declared.end.End.{End}
@@ -29,7 +28,7 @@ use Rattle.host_node.specs.declared.attempt.AttemptEnd.TheVariants.{NoneRan, Aga
 use Rattle.host_node.specs.declared.attempt.Plan.{Plan}
 use Rattle.host_node.specs.declared.attempt.Plan.TheVariants.{Whole, Segments, Sealed as seals}
 use Rattle.host_node.specs.State.{NodeState, SealsText, unknown, has_work, wants_no_more}
-use Rattle.host_node.specs.Steps.{attempt_end, tick_end, after_start}
+use Rattle.host_node.specs.Steps.{attempt_end, tick_end}
 use Rattle.host_node.specs.Events.{NodeEvent, after as after_node, May as node_may}
 use Rattle.host_node.specs.Events.NodeEvent.{Accepts as node_accepts, Begins as node_begins, Blocks as node_blocks, Cancels as node_cancels, Drops_no_more as node_drops_no_more, Ends_attempt as node_ends_attempt, Ends_no_more as node_ends_no_more, Gives_segment as node_gives_segment, Gives_text as node_gives_text, Holds as node_holds, Interviews as node_interviews, Joins as node_joins, Notifies as node_notifies, Puts as node_puts, Queues_no_more as node_queues_no_more, Reports as node_reports, Starts as node_starts, Succeeds as node_succeeds, Takes_nonce as node_takes_nonce, Ticks as node_ticks}
 use Rattle.host_nodes.specs.State.{node_of as node_among, nodes_after, unknown_nodes, unknown_from}
@@ -45,15 +44,15 @@ use Rattle.host_orders.specs.Wrapping.{carriage_of, message_of, form_of}
 use Rattle.host_orders.specs.declared.carriage.Carriage.{Carriage}
 use Rattle.host_orders.specs.declared.carriage.Form.{Form}
 use Rattle.host_orders.specs.declared.carriage.Form.TheVariants.{Plain, Cut, Sealed}
-use Rattle.host_events.specs.State.{HostState, Command, node_of, with_node, command_at, with_outcome, first_nodes, first_classes, first_host}
-use Rattle.host_events.specs.Sessions.{message_for, segment_count, start_by, start_of, open_command, settings_with}
-use Rattle.host_events.specs.Ends.{PartEnd, Good, Passed_over, Bad, part_end, after_part, after_task, after_end, after_end_if, attempt_ended, unanswered, without_report}
-use Rattle.host_events.specs.After.{after, node_does, requests_do, request_does, submits, submits_part, front_purpose, is_full, queues_if_room, confirming, hearing, accepting, node_for, outcome_of, is_held, holding, finishing, giving, spending, offering, gives_up, line_ticked, failing_if}
+use Rattle.host_events.specs.State.{HostState, Command, node_of, command_at, with_outcome, first_nodes, first_classes, first_host}
+use Rattle.host_events.specs.Sessions.{message_for, segment_count, start_by, open_command, settings_with}
+use Rattle.host_events.specs.Ends.{PartEnd, Good, Passed_over, Bad, part_end, after_part, after_task, after_end, after_end_if, attempt_ended, unanswered}
+use Rattle.host_events.specs.After.{after, node_does, requests_do, request_does, submits, submits_part, is_full, queues_if_room, confirming, hearing, accepting, node_for, outcome_of, is_held, holding, finishing, giving, offering, gives_up, line_ticked, failing_if}
 use Rattle.host_events.specs.Events.{HostEvent, Accepts, Cancels, Joins, Queues, Queues_interview, Queues_probe, Hears, Requests_do, Interviews, Interview_unkept, Unreads, Is_unkept, Reports_old, Works, Finishes, Offers, Gives, Spends, Spends_unread, Takes_nonce, Notifies, Resends, Hears_value, Has_no_room, Line_ticks, Node_ticks, Queues_no_more, Drops_no_more, Submits_abort, Submits_front, Starts, Gives_text, Gives_segment, Begins, Begin_unkept}
 use Rattle.host_events.specs.May.{May, IsAccepted, IsServed, IsStart, known_of}
 use Rattle.host_events.specs.Did.{after_all, MayAll}
-use Rattle.host_events.specs.Facts.{FitsForm, IsSound, IsCommandOf, HasSegments, HasBytes, OwnsCommands, HostFacts}
-use Rattle.host_events.proofs.Numbered.{Stays, AllStay, outcome_stays, outcome_sound, push_stays, pushed_at, owned_stays}
+use Rattle.host_events.specs.Facts.{FitsForm, IsSound, IsCommandOf, OwnsCommands, HostFacts}
+use Rattle.host_events.proofs.Numbered.{AllStay, outcome_stays, outcome_sound, push_stays, pushed_at, owned_stays}
 use Rattle.host_events.proofs.Owning.{Brings, stays_owned, all_own}
 use Rattle.host_events.proofs.Storing.{Grows, reserving_grows, all_reserved, confirming_grows, hearing_grows, sound_stays}
 use Rattle.host_events.proofs.Accepted.{accepted_is_fit, accepted_fits, accepted_has_place}
@@ -292,7 +291,7 @@ module _ (law : NodesKeep) where
   first_own =
       let joined = nodes_after unknown_nodes 2 node_joins in
       let own : (m : ℕ) → OwnsCommands [] m (node_among joined m) = all_own [] unknown_nodes 2 (after_node (node_among unknown_nodes 2) node_joins)
-          (stays_owned [] 2 (node_among unknown_nodes 2) node_joins tt tt (unknown_own_at 2 2)) (λ m. unknown_own_at m m) in
+      (stays_owned [] 2 (node_among unknown_nodes 2) node_joins tt tt (unknown_own_at 2 2)) (λ m. unknown_own_at m m) in
       all_own [] joined 2 (after_node (node_among joined 2) (node_interviews true first_classes))
       (stays_owned [] 2 (node_among joined 2) (node_interviews true first_classes) tt tt (own 2)) own
 

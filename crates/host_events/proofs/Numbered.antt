@@ -1,17 +1,15 @@
 -- Commands that are found by their numbers keep their orders.
-use Rattle.std.proofs.Common.{◌≡◌, ℕ, zero, suc, ◌+◌, List, [], ◌∷◌, ◌++◌, length, All, Option, Some, None, inl, inr, ◌⊎◌, refl, sym, ap, ◌∙◌, subst, arith}
+use Rattle.std.proofs.Common.{◌≡◌, ℕ, zero, suc, ◌+◌, List, [], ◌∷◌, ◌++◌, length, All, Some, inl, inr, refl, sym, ap, ◌∙◌, arith}
 use Rattle.std.specs.Prelude.{slice_get}
-use Rattle.std.proofs.lemmas.List.Elements.{All-nil, All-cons, All-head, All-tail, All-weaker}
+use Rattle.std.proofs.lemmas.List.Elements.{All-cons, All-head, All-tail, All-weaker}
 use Rattle.zw_text.specs.declared.entry.Outcome.{Outcome}
 use Rattle.zw_order.specs.declared.order.Order.{Order}
 use Rattle.host_orders.specs.Wrapping.{form_of, message_of}
 use Rattle.host_orders.specs.declared.carriage.Carriage.{Carriage}
-use Rattle.host_orders.specs.declared.carriage.Form.{Form}
-use Rattle.host_orders.specs.declared.carriage.Form.TheVariants.{Cut}
 use Rattle.host_node.specs.State.{NodeState}
 use Rattle.value_store.specs.Values.{Values}
 use Rattle.host_events.specs.State.{Command, command_at, set_at, with_outcome}
-use Rattle.host_events.specs.Sessions.{message_for, segment_count}
+use Rattle.host_events.specs.Sessions.{segment_count}
 use Rattle.host_events.specs.Facts.{IsSound, IsCommandOf, HasSegments, OwnsCommands}
 
 -- among the commands is one of that number, with the same order and carriage

@@ -1,6 +1,6 @@
 -- What a pump does next may happen, there is always something to do while a node has work, and it ends.
-use Rattle.std.proofs.Common.{◌≡◌, ◌≢◌, ℕ, zero, suc, ◌+◌, ◌-◌, ◌*◌, ◌/◌, ◌≤◌, ◌<◌, Bool, true, false, ◌&&◌, ◌||◌, ◌==◌, nat_lt, if◌then◌else◌, cond, Option, Some, None, is_some, is_none, IsSome, IsTrue, List, [], ◌∷◌, ◌++◌, length, All, get_or, set, count_by, inl, inr, ◌⊎◌, refl, sym, ap, ◌∙◌, subst, arith}
-use Rattle.std.specs.Prelude.{slice_get, slice_index}
+use Rattle.std.proofs.Common.{◌≡◌, ◌≢◌, ℕ, zero, suc, ◌+◌, ◌≤◌, ◌<◌, Bool, true, false, ◌&&◌, ◌||◌, ◌==◌, nat_lt, if◌then◌else◌, cond, Option, Some, None, is_some, is_none, IsSome, List, [], ◌∷◌, length, All, get_or, count_by, inl, inr, ◌⊎◌, refl, sym, ap, ◌∙◌, subst, arith}
+use Rattle.std.specs.Prelude.{slice_index}
 use Rattle.std.specs.Option.{option_or}
 use Rattle.std.proofs.lemmas.Bool.{cases_lt}
 use Rattle.std.proofs.lemmas.Bool.Decides.{nat_tests}
@@ -8,11 +8,7 @@ use Rattle.std.proofs.lemmas.List.{get_or_past}
 use Rattle.std.proofs.lemmas.List.Sums.{sum_by-set, count_by-le-length}
 use Rattle.std.proofs.lemmas.List.Elements.{All-get_or}
 use Rattle.std.proofs.lemmas.Option.{slice_get_within, get_or_from_slice_get, slice_get-get_or}
-use Rattle.supervision.specs.Host.{HostBook, begun_of, open_session, command_at as command_of_session}
-use Rattle.serial_link.specs.declared.turn.Turn.{Turn}
-use Rattle.serial_link.specs.declared.turn.Turn.TheVariants.{Idle as turn_idle, Copied, Paused}
-use Rattle.serial_link.specs.State.{Side}
-use Rattle.host_requests.specs.State.{RequestsState}
+use Rattle.supervision.specs.Host.{begun_of, open_session, command_at as command_of_session}
 use Rattle.host_requests.specs.declared.task.Task.{Task}
 use Rattle.host_requests.specs.declared.under_way.UnderWay.{UnderWay}
 use Rattle.host_node.specs.declared.series.Series.{Series}
@@ -20,19 +16,17 @@ use Rattle.host_node.specs.declared.series.Series.TheVariants.{Idle, Due, Runnin
 use Rattle.host_node.specs.declared.no_more.NoMore.{NoMore}
 use Rattle.host_node.specs.declared.no_more.NoMore.TheVariants.{Queued, Dropped}
 use Rattle.host_node.specs.declared.attempt.Plan.{Plan}
-use Rattle.host_node.specs.declared.attempt.Plan.TheVariants.{Whole, Segments, Sealed as seals}
 use Rattle.host_node.specs.State.{NodeState, unknown, is_false, is_idle, is_up, is_unasked, has_segment, has_waiting, has_work, wants_no_more}
 use Rattle.host_node.specs.Steps.{after_begin, after_block, after_no_more}
 use Rattle.host_node.specs.Facts.{NodeFacts, SeriesFacts}
-use Rattle.host_node.specs.Events.{NodeEvent, FitsPlan, after as after_node, May as node_may}
-use Rattle.host_node.specs.Events.NodeEvent.{Begins as node_begins, Blocks as node_blocks, Gives_segment as node_gives_segment, Starts as node_starts}
+use Rattle.host_node.specs.Events.{FitsPlan, May as node_may}
+use Rattle.host_node.specs.Events.NodeEvent.{Begins as node_begins}
 use Rattle.host_nodes.specs.State.{node_of as node_among, with_node as with_node_among}
 use Rattle.host_nodes.specs.Search.{least_above, next_of, first_wanting}
 use Rattle.host_nodes.proofs.Searches.{what_is_least}
 use Rattle.host_orders.specs.Wrapping.{form_of}
 use Rattle.host_orders.specs.declared.carriage.Form.{Form}
 use Rattle.host_orders.specs.declared.carriage.Form.TheVariants.{Plain, Cut, Sealed}
-use Rattle.value_store.specs.Values.{Values}
 use Rattle.host_events.specs.State.{HostState, Command, node_of, command_at}
 use Rattle.host_events.specs.Sessions.{message_for, segment_count, segment_at, segment_by, segment_of, start_by, start_of, command_if, open_segment}
 use Rattle.host_events.specs.After.{after, is_busy, is_full}
@@ -142,10 +136,12 @@ carried_by : (outcome : Option ℕ) (commands : List ℕ) (attempts session : �
 carried_by (Some status) commands attempts session e = cc
 carried_by None [] attempts session e = cc
 carried_by None (first ∷ rest) attempts session e =
-    let last : session ≡ suc (length rest) = cc in
-    (get_or (first ∷ rest) (length rest) 0,
-    ap (λ k. command_of_session (first ∷ rest) k) last ∙ slice_get-get_or (first ∷ rest) (length rest) 0 (omega arith),
-    last, omega arith)
+    let last : session ≡ suc (length rest) = cc in (
+      get_or (first ∷ rest) (length rest) 0,
+      ap (λ k. command_of_session (first ∷ rest) k) last ∙ slice_get-get_or (first ∷ rest) (length rest) 0 (omega arith),
+      last,
+      omega arith,
+    )
 
 number_is : (P : ℕ → Type 0) (numbers : List ℕ) (session number : ℕ) → command_of_session numbers session ≡ Some number → All P numbers → P number
 number_is P numbers zero number e all = cc
@@ -186,16 +182,20 @@ series_at n s f e = subst (λ (t : Series). SeriesFacts t n.book n.attempt_wait 
 pub due_starts : (h : HostState) (n : ℕ) → HostFacts h → (node_of h n).series ≡ Due → (plan : Plan) × (more : Bool) × (payload : List ℕ) × IsStart h n plan more payload
 due_starts h n f due =
     let o = opens h n f (series_at (node_of h n) Due (f.nodes.facts n) due).0.is_open in
-    let start = start_of o.command o.session in
-    (start.plan, start.more, start.payload, record {
-      session = o.session;
-      opened = o.opened;
-      command = o.command;
-      carried = (o.number, o.carried, o.found);
-      plan_is = refl;
-      more_is = refl;
-      payload_is = refl;
-    })
+    let start = start_of o.command o.session in (
+      start.plan,
+      start.more,
+      start.payload,
+      record {
+        session = o.session;
+        opened = o.opened;
+        command = o.command;
+        carried = (o.number, o.carried, o.found);
+        plan_is = refl;
+        more_is = refl;
+        payload_is = refl;
+      },
+    )
 
 plan_fits : (form : Form) (session : ℕ) (message : List ℕ) → FitsForm form message → FitsPlan (start_by form session message).plan
 plan_fits Plain session message fits = tt
@@ -223,12 +223,13 @@ segment_goes_on h n f has = by (f.owns n).segments
     by (inl none) = absurd (omega (arith, none, is_below (node_of h n).next_segment (node_of h n).segments has))
     by (inr s) =
         let k = (node_of h n).next_segment in
-        let within : k < segment_count (message_for s.command s.session) = omega (arith, s.count, is_below (node_of h n).next_segment (node_of h n).segments has) in
-        (segment_at s.session (message_for s.command s.session) k,
-        ap (λ (o : Option ℕ). open_segment h (node_of h n) o k) s.opened
-        ∙ ap (λ (o : Option ℕ). segment_of (command_if h.commands o) s.session k) s.carried
-        ∙ ap (λ (o : Option Command). segment_of o s.session k) s.found
-        ∙ segment_there (form_of s.command.carriage.outer) s.session (message_for s.command s.session) k s.form within)
+        let within : k < segment_count (message_for s.command s.session) = omega (arith, s.count, is_below (node_of h n).next_segment (node_of h n).segments has) in (
+          segment_at s.session (message_for s.command s.session) k,
+          ap (λ (o : Option ℕ). open_segment h (node_of h n) o k) s.opened
+              ∙ ap (λ (o : Option ℕ). segment_of (command_if h.commands o) s.session k) s.carried
+              ∙ ap (λ (o : Option Command). segment_of o s.session k) s.found
+              ∙ segment_there (form_of s.command.carriage.outer) s.session (message_for s.command s.session) k s.form within,
+        )
 
 -- ---- a turn
 
@@ -255,7 +256,7 @@ turns_fall : (h : HostState) (n : ℕ) (state : NodeState) (commands : List Comm
 turns_fall h n state commands free within was is =
     let fewer = count_falls may_begin h.nodes n state within was is in
     let now : turns_left (record h { nodes = with_node_among h.nodes n state; commands = commands }) ≡ suc (count_by may_begin (with_node_among h.nodes n state))
-        = ap (λ (b : Bool). if b then suc (count_by may_begin (with_node_among h.nodes n state)) else 0) (free_is h free) in
+    = ap (λ (b : Bool). if b then suc (count_by may_begin (with_node_among h.nodes n state)) else 0) (free_is h free) in
     let before : turns_left h ≡ suc (count_by may_begin h.nodes) = ap (λ (b : Bool). if b then suc (count_by may_begin h.nodes) else 0) (free_is h free) in
     omega (arith, fewer, now, before)
 
@@ -268,7 +269,7 @@ gives_turn h n f served is (Some text) has event next = subst (λ (e : HostEvent
 gives_turn h n f served is None none event next =
     let more = nat_lt ((node_of h n).next_segment + 1) (node_of h n).segments in
     let segment : has_segment (node_of h n) ≡ true
-        = other_holds (is_some (node_of h n).text) (has_segment (node_of h n)) (running_work (node_of h n) is (next_works h.nodes h.served n served.next)) (not_some (node_of h n).text none) in
+    = other_holds (is_some (node_of h n).text) (has_segment (node_of h n)) (running_work (node_of h n) is (next_works h.nodes h.served n served.next)) (not_some (node_of h n).text none) in
     subst (λ (e : HostEvent). Turns h e) (sym next.2) (record {
       may = (served, none, next.1, refl, segment);
       less = turns_end h (after h (Gives_segment n more next.0)) served.free (and_false (is_none (after h (Gives_segment n more next.0)).requests.under_way));
