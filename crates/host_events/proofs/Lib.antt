@@ -6,3 +6,4 @@ mod Storing
 mod Accepted
 mod Keeping
 mod Pumps
+mod Rounds

@@ -26,6 +26,11 @@ abbrev pub LetsSleep : HostState → List HostEvent → Type 0
 LetsSleep h [] = first_wanting h.nodes ≡ None
 LetsSleep h (event ∷ events) = (n : ℕ) × (first_wanting h.nodes ≡ Some n) × (event ≡ no_more_event h n) × LetsSleep (after h event) events
 
+-- some of them are
+abbrev pub LetsSome : HostState → List HostEvent → Type 0
+LetsSome h [] = Unit {0}
+LetsSome h (event ∷ events) = (n : ℕ) × (first_wanting h.nodes ≡ Some n) × (event ≡ no_more_event h n) × LetsSome (after h event) events
+
 -- ---- the next request
 
 -- what a running attempt gives next: its sealed text, or its next segment
@@ -68,6 +73,11 @@ IsPumped h = (IsFree h → ⊥) ⊎ HasNothing h
 abbrev pub Submits : HostState → List HostEvent → Type 0
 Submits h [] = IsPumped h
 Submits h (event ∷ events) = IsNext h event × Submits (after h event) events
+
+-- some turns of that
+abbrev pub SubmitsSome : HostState → List HostEvent → Type 0
+SubmitsSome h [] = Unit {0}
+SubmitsSome h (event ∷ events) = IsNext h event × SubmitsSome (after h event) events
 
 -- ---- the whole
 
