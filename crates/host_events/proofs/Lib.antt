@@ -7,3 +7,4 @@ mod Accepted
 mod Keeping
 mod Pumps
 mod Rounds
+mod Payloads

@@ -125,7 +125,7 @@ idle_may_begin n is works =
 
 -- ---- the command of an open session
 
-found_is : (P : Command → Type 0) (commands : List Command) (number : ℕ) (command : Command) → command_at commands number ≡ Some command → All P commands → P command
+pub found_is : (P : Command → Type 0) (commands : List Command) (number : ℕ) (command : Command) → command_at commands number ≡ Some command → All P commands → P command
 found_is P commands zero command e all = cc
 found_is P commands (suc k) command e all =
     subst P (get_or_from_slice_get commands k command command e) (All-get_or P commands k command (slice_get_within commands k command e) all)

@@ -1,8 +1,8 @@
 //! What a pump does: each turn of it may happen, and there are few.
 
-ghost use Rattle.std.specs.Prelude.{◌≡◌, ℕ, ◌≤◌, ◌<◌, ◌⊎◌, Bool, true, List, Some};
+ghost use Rattle.std.specs.Prelude.{◌≡◌, ℕ, ◌≤◌, ◌<◌, ◌⊎◌, Bool, true, List, length, Option, Some};
 ghost use Rattle.supervision.specs.Host.{open_session};
-ghost use Rattle.host_node.specs.State.{has_segment};
+ghost use Rattle.host_node.specs.State.{NodeState, has_segment};
 ghost use Rattle.host_node.specs.Events.{FitsPlan};
 ghost use Rattle.host_node.specs.declared.attempt.Plan.{Plan};
 ghost use Rattle.host_node.specs.declared.series.Series.TheVariants.{Due};
@@ -31,11 +31,16 @@ pub fn nodes_are_told_in_few_turns()
 {}
 
 /// What an attempt has to give is there: an attempt that is due starts, with a plan that fits, and a running one that has a
-/// segment left gives it.
+/// segment left gives it. What it gives has 1 to 46 bytes.
 pub fn attempts_have_what_they_give()
     ensures starts { (h : HostState) (n : ℕ) → HostFacts h → (node_of h n).series ≡ Due →
         (plan : Plan) × (more : Bool) × (payload : List ℕ) × IsStart h n plan more payload }
     ensures fits { (h : HostState) (n : ℕ) (plan : Plan) (more : Bool) (payload : List ℕ) → HostFacts h → IsStart h n plan more payload → FitsPlan plan }
     ensures segment { (h : HostState) (n : ℕ) → HostFacts h → has_segment (node_of h n) ≡ true →
         (payload : List ℕ) × (open_segment h (node_of h n) (open_session (node_of h n).book) (node_of h n).next_segment ≡ Some payload) }
+    ensures first_payload { (h : HostState) (n : ℕ) (plan : Plan) (more : Bool) (payload : List ℕ) → HostFacts h → IsStart h n plan more payload →
+        (1 ≤ length payload) × (length payload ≤ 46) }
+    ensures segment_payload { (h : HostState) (node : NodeState) (session : Option ℕ) (k : ℕ) (payload : List ℕ) →
+        open_segment h node session k ≡ Some payload → (1 ≤ length payload) × (length payload ≤ 46) }
+    ensures text_payload { (h : HostState) (n : ℕ) (payload : List ℕ) → HostFacts h → (node_of h n).text ≡ Some payload → 1 ≤ length payload }
 {}
