@@ -1,12 +1,18 @@
 -- Lists of events that happened one after another.
-use Rattle.std.proofs.Common.{◌≡◌, ℕ, List, [], ◌∷◌, ◌++◌, refl, ap, sym, ◌∙◌, append_assoc}
+use Rattle.std.proofs.Common.{◌≡◌, ℕ, List, [], ◌∷◌, ◌++◌, refl, ap, sym, ◌∙◌, subst, append_assoc}
+use Rattle.std.specs.Prelude.{Option, Some, None, Bool, true, false, map}
+use Rattle.std.proofs.lemmas.List.{append-nil, map-append}
+use Rattle.host_keep.specs.Keeping.{OptAdds}
+use Rattle.host_keep.specs.RecordText.{record_text}
 use Rattle.host_keep.specs.declared.record.Record.{Record}
+use Rattle.zw_base.specs.Faults.{Rose}
 use Rattle.host_events.specs.State.{HostState}
 use Rattle.host_events.specs.Events.{HostEvent}
 use Rattle.host_events.specs.After.{after}
 use Rattle.host_events.specs.Outs.{outs}
 use Rattle.host_events.specs.Records.{records_at}
-use Rattle.host_events.specs.Did.{after_all, outs_all, records_all, MayAll, RoseAll}
+use Rattle.host_events.specs.May.{May}
+use Rattle.host_events.specs.Did.{after_all, outs_all, records_all, texts_of, MayAll, is_unkept, RoseIf, RoseAll, Shelf, Did}
 use Rattle.host_events.specs.declared.out.HostOut.{HostOut}
 
 pub after_all-append : (h : HostState) (a b : List HostEvent) → after_all h (a ++ b) ≡ after_all (after_all h a) b

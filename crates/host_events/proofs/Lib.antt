@@ -1,1 +1,6 @@
 pub mod Doing
+mod Numbered
+mod Owning
+mod Storing
+mod Accepted
+mod Keeping

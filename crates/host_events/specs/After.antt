@@ -163,7 +163,7 @@ failing_if false h = h
 
 -- ---- the host after an event
 
-pub after : HostState → HostEvent → HostState
+abbrev pub after : HostState → HostEvent → HostState
 after h (Accepts order carriage) = accepting h order carriage
 after h (Cancels command) =
     record (node_does h (node_for h command) (node_cancels command)) { commands = with_outcome h.commands command outcome.Cancelled }

@@ -10,7 +10,7 @@ use Rattle.chip_functions.specs.declared.notice.Update.TheVariants.{Received}
 use Rattle.host_requests.specs.Events.{interviewed_by, May as request_may}
 use Rattle.host_requests.specs.Events.RequestsEvent.{Pushes as request_pushes, PushesInterview as request_pushes_interview, PushesProbe as request_pushes_probe}
 use Rattle.host_node.specs.State.{NodeState, SealsText, count_at, needs_tick}
-use Rattle.host_node.specs.Events.NodeEvent.{Begins as node_begins, Starts as node_starts}
+use Rattle.host_node.specs.Events.NodeEvent.{Begins as node_begins, Gives_segment as node_gives_segment, Starts as node_starts}
 use Rattle.host_node.specs.Events.{May as node_may}
 use Rattle.host_node.specs.declared.attempt.Plan.{Plan}
 use Rattle.host_keep.specs.declared.final_status.FinalStatus.{FinalStatus}
@@ -113,6 +113,7 @@ May h (Gives_segment n more payload) =
     IsServed h n × ((node_of h n).text ≡ None)
     × (open_segment h (node_of h n) (open_session (node_of h n).book) (node_of h n).next_segment ≡ Some payload)
     × (more ≡ nat_lt ((node_of h n).next_segment + 1) (node_of h n).segments)
+    × node_may (node_of h n) node_gives_segment
 May h (Begins n session command) =
     IsServed h n × node_may (node_of h n) node_begins × (session ≡ begun_of (node_of h n).book + 1) × (command ≡ slice_index (node_of h n).waiting 0)
 May h (Begin_unkept n) = IsServed h n × node_may (node_of h n) node_begins

@@ -6,6 +6,8 @@
 //! `Did` for lists of events, and `Taking`, `Pumping`, `Ticking` for which list a call is.
 #![tactic(auto)]
 
+mod laws;
 mod out;
 
+pub use laws::{facts_are_kept, facts_are_kept_by_all};
 pub use out::HostOut;
