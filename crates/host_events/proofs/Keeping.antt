@@ -12,7 +12,7 @@ use Rattle.s0_crypto.specs.Seal.{Seals}
 use Rattle.s0_session.specs.declared.account.Account.{Account}
 use Rattle.s0_session.specs.Nonces.{live_of, unused}
 use Rattle.serial_link.specs.State.{Side, hear, tick_side}
-use Rattle.value_store.specs.Values.{Values}
+use Rattle.value_store.specs.Values.{Values, reserving}
 use Rattle.host_requests.specs.State.{RequestsState}
 use Rattle.host_requests.specs.declared.end.End.{End}
 use Rattle.host_requests.specs.declared.end.How.{How}
@@ -48,7 +48,7 @@ use Rattle.host_orders.specs.declared.carriage.Form.TheVariants.{Plain, Cut, Sea
 use Rattle.host_events.specs.State.{HostState, Command, node_of, with_node, command_at, with_outcome, first_nodes, first_classes, first_host}
 use Rattle.host_events.specs.Sessions.{message_for, segment_count, start_by, start_of, open_command, settings_with}
 use Rattle.host_events.specs.Ends.{PartEnd, Good, Passed_over, Bad, part_end, after_part, after_task, after_end, after_end_if, attempt_ended, unanswered, without_report}
-use Rattle.host_events.specs.After.{after, node_does, requests_do, request_does, submits, submits_part, front_purpose, is_full, queues_if_room, reserving, confirming, hearing, accepting, node_for, outcome_of, is_held, holding, finishing, giving, spending, offering, gives_up, line_ticked, failing_if}
+use Rattle.host_events.specs.After.{after, node_does, requests_do, request_does, submits, submits_part, front_purpose, is_full, queues_if_room, confirming, hearing, accepting, node_for, outcome_of, is_held, holding, finishing, giving, spending, offering, gives_up, line_ticked, failing_if}
 use Rattle.host_events.specs.Events.{HostEvent, Accepts, Cancels, Joins, Queues, Queues_interview, Queues_probe, Hears, Requests_do, Interviews, Interview_unkept, Unreads, Is_unkept, Reports_old, Works, Finishes, Offers, Gives, Spends, Spends_unread, Takes_nonce, Notifies, Resends, Hears_value, Has_no_room, Line_ticks, Node_ticks, Queues_no_more, Drops_no_more, Submits_abort, Submits_front, Starts, Gives_text, Gives_segment, Begins, Begin_unkept}
 use Rattle.host_events.specs.May.{May, IsAccepted, IsServed, IsStart, known_of}
 use Rattle.host_events.specs.Did.{after_all, MayAll}

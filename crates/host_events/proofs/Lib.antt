@@ -1,4 +1,5 @@
 pub mod Doing
+pub mod Feeding
 mod Numbered
 mod Owning
 mod Storing

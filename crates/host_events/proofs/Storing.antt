@@ -7,10 +7,10 @@ use Rattle.std.proofs.lemmas.List.Elements.{All-nil, All-cons, All-weaker}
 use Rattle.zw_base.specs.declared.property.Property.{Property}
 use Rattle.zw_base.specs.declared.property.Setting.{Setting}
 use Rattle.value_store.specs.declared.stored.Stored.{Stored}
-use Rattle.value_store.specs.Values.{Values, Key, key_cmp, IsReserved, stored_of}
+use Rattle.value_store.specs.Values.{Values, Key, key_cmp, IsReserved, reserving, stored_of}
 use Rattle.value_store.proofs.Keys.{key_total}
 use Rattle.host_events.specs.State.{Command}
-use Rattle.host_events.specs.After.{reserving, confirming, hearing}
+use Rattle.host_events.specs.After.{confirming, hearing}
 use Rattle.host_events.specs.Facts.{IsSound}
 
 -- what was kept is kept

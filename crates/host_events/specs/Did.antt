@@ -1,5 +1,5 @@
 -- Events of a host one after another, and what calls of it did (this project's own).
-use Rattle.std.specs.Prelude.{◌≡◌, ℕ, Bool, true, false, List, [], ◌∷◌, ◌++◌, map, Option}
+use Rattle.std.specs.Prelude.{◌≡◌, ℕ, ◌≤◌, Bool, true, false, List, [], ◌∷◌, ◌++◌, map, Option}
 use Rattle.host_keep.specs.Keeping.{OptAdds}
 use Rattle.host_keep.specs.RecordText.{record_text}
 use Rattle.host_keep.specs.declared.record.Record.{Record}
@@ -56,10 +56,11 @@ pub record Shelf : Type 0 where
   pub records : Option (List (List ℕ))
   pub faults : ℕ
 
--- These events happened; what they put out was added, and their records were kept.
+-- These events happened; what they put out was added, and their records were kept. The count of faults never falls.
 pub record Did (events : List HostEvent) (old new : HostState) (before all : List HostOut) (shelf shelf' : Shelf) : Type 0 where
   pub may : MayAll old events
   pub state : new ≡ after_all old events
   pub outs : all ≡ before ++ outs_all old events
   pub records : OptAdds shelf.records shelf'.records (texts_of (records_all old events))
   pub rose : RoseAll events shelf.faults shelf'.faults
+  pub never_falls : shelf.faults ≤ shelf'.faults
