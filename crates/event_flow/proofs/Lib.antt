@@ -9,3 +9,4 @@ pub mod Whole
 pub mod Refusals
 pub mod FlowLaws
 pub mod Arrivals
+pub mod Texts

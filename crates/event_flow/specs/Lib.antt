@@ -4,3 +4,4 @@ pub mod State
 pub mod Steps
 pub mod Inside
 pub mod Flow
+pub mod Fits

@@ -6,6 +6,8 @@ ghost use Rattle.event_flow.specs.State.{FlowState, all_silent, node_of};
 ghost use Rattle.event_flow.specs.Steps.{after, entries};
 ghost use Rattle.event_flow.specs.Flow.{Flow, IsAnswer, IsNextEvent, NamesNode, after_all, run};
 ghost use Rattle.event_flow.specs.Line.{EventText};
+ghost use Rattle.event_flow.specs.Entry.{event_text};
+ghost use Rattle.event_flow.specs.Fits.{EventFits};
 ghost use Rattle.event_flow.specs.declared.entry.EventEntry.{EventEntry as AnyEntry};
 ghost use Rattle.event_flow.specs.declared.frame.Frame.{Frame as AnyFrame};
 ghost use Rattle.event_flow.specs.declared.frame.Notice.{Notice as AnyNotice};
@@ -46,4 +48,9 @@ pub fn transcripts_grow()
 /// No text is that of two lines.
 pub fn one_event_line_each()
     ensures { (text : List ℕ) (first second : AnyLine) → EventText text first → EventText text second → first ≡ second }
+{}
+
+/// No two entries have one text, where their numbers are in the ranges of their types.
+pub fn one_event_text_each()
+    ensures { (first second : AnyEntry) → EventFits first → EventFits second → event_text first ≡ event_text second → first ≡ second }
 {}

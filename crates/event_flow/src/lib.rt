@@ -20,7 +20,9 @@ mod world;
 
 pub use entry::{EventEntry, EventRefusal};
 pub use frame::{Content, Frame, Notice};
-pub use laws::{events_flow, one_event_line_each, transcripts_grow, what_is_next_is_heard};
+pub use laws::{
+    events_flow, one_event_line_each, one_event_text_each, transcripts_grow, what_is_next_is_heard,
+};
 pub use line::EventLine;
 pub use print::print_event;
 pub use read::read_event;
