@@ -1,0 +1,54 @@
+-- What holds of a host after every event (this project's own rules).
+use Rattle.std.specs.Prelude.{◌≡◌, ℕ, ◌≤◌, ◌⊎◌, List, length, All, Some}
+use Rattle.supervision.specs.Host.{open_session, command_at as command_of_session}
+use Rattle.value_store.specs.Values.{Values, IsReserved}
+use Rattle.host_nodes.specs.Facts.{NodesFacts}
+use Rattle.host_orders.specs.Refusals.{IsFit}
+use Rattle.host_orders.specs.Settings.{settings, properties_of}
+use Rattle.host_orders.specs.Wrapping.{form_of}
+use Rattle.host_orders.specs.declared.carriage.Form.{Form}
+use Rattle.host_orders.specs.declared.carriage.Form.TheVariants.{Plain, Cut, Sealed}
+use Rattle.host_events.specs.State.{HostState, Command, node_of, command_at}
+use Rattle.host_events.specs.Sessions.{message_for, segment_count}
+
+-- a message fits how it is carried: whole in one frame, cut into segments, or sealed
+abbrev pub FitsForm : Form → List ℕ → Type 0
+FitsForm Plain message = (1 ≤ length message) × (length message ≤ 46)
+FitsForm Cut message = (1 ≤ length message) × (length message ≤ 512)
+FitsForm Sealed message = length message ≤ 26
+
+-- a command can be written, its messages fit how they are carried, and its properties are kept, so that each can be confirmed
+pub record IsSound (store : Values) (command : Command) : Type 0 where
+  pub fit : IsFit command.carriage.actuator command.order
+  pub form : (session : ℕ) → FitsForm (form_of command.carriage.outer) (message_for command session)
+  pub kept : All (IsReserved store command.order.node) (properties_of (settings command.carriage.actuator command.order))
+
+-- a number is that of a command for this node
+pub record IsCommandOf (commands : List Command) (n number : ℕ) : Type 0 where
+  pub command : Command
+  pub found : command_at commands number ≡ Some command
+  pub node : command.order.node ≡ n
+
+-- the running attempt has segments to give only of the message of the open session, which is cut into so many
+pub record HasSegments (h : HostState) (n : ℕ) : Type 0 where
+  pub session : ℕ
+  pub opened : open_session (node_of h n).book ≡ Some session
+  pub number : ℕ
+  pub carried : command_of_session (node_of h n).book.commands session ≡ Some number
+  pub command : Command
+  pub found : command_at h.commands number ≡ Some command
+  pub form : form_of command.carriage.outer ≡ Cut
+  pub count : (node_of h n).segments ≡ segment_count (message_for command session)
+
+-- the commands that wait for a node, and those of its sessions, are for it
+pub record OwnsCommands (h : HostState) (n : ℕ) : Type 0 where
+  pub waiting : All (IsCommandOf h.commands n) (node_of h n).waiting
+  pub sessions : All (IsCommandOf h.commands n) (node_of h n).book.commands
+  pub segments : ((node_of h n).segments ≡ 0) ⊎ HasSegments h n
+
+pub record HostFacts (h : HostState) : Type 0 where
+  pub nodes : NodesFacts h.nodes
+  pub commands : All (IsSound h.store) h.commands
+  pub owns : (n : ℕ) → OwnsCommands h n
+  pub nonces : length h.nonces ≡ 233
+  pub served : h.served ≤ 232
