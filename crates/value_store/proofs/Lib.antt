@@ -6,3 +6,4 @@ mod Reserved
 mod Seen
 mod Floats
 mod Listed
+pub mod Released

@@ -28,7 +28,7 @@ unfolding key_cmp
 same_key n m p q = same_and n m (slice_cmp nat_cmp (rank_of p) (rank_of q))
 
 -- the values with nothing in place of none
-abbrev some_of : Option Stored → Option Stored
+abbrev pub some_of : Option Stored → Option Stored
 some_of o = Some (unwrap_or o no_value)
 
 pub from_T : (b : Bool) → T b → b ≡ true
@@ -73,14 +73,14 @@ find-keeping q k es =
       ] refl
     ] refl
 
-merged : (b s a : Bool) (f : Option Stored)
+pub merged : (b s a : Bool) (f : Option Stored)
     → cond (b && a) (some_of (cond (b && s) (some_of f) f)) (cond (b && s) (some_of f) f) ≡ cond (b && (s || a)) (some_of f) f
 merged false s a f = refl
 merged true true true f = refl
 merged true true false f = refl
 merged true false a f = refl
 
-nothing_more : (b : Bool) (f : Option Stored) → f ≡ cond (b && false) (some_of f) f
+pub nothing_more : (b : Bool) (f : Option Stored) → f ≡ cond (b && false) (some_of f) f
 nothing_more true f = refl
 nothing_more false f = refl
 

@@ -21,7 +21,7 @@ abbrev pub seen : Entries → Values
 seen es = map.from_sorted {R = key_cmp} es
 
 module _ (es : Entries) (order : IsInOrder es) where
-  is_in_order : T (is_sorted key_cmp es)
+  pub is_in_order : T (is_sorted key_cmp es)
   is_in_order = subst T (sym order) tt
 
   pub entries-seen : map.entries (seen es) ≡ es

@@ -1,6 +1,6 @@
 -- What is known of the properties of nodes: the value that a final report confirmed, and the value last heard (all of
 -- it this project's own rule).
-use Rattle.std.specs.Prelude.{◌≡◌, ℕ, Bool, ◌||◌, ◌&&◌, ◌==◌, if◌then◌else◌, List, [], ◌∷◌, ◌++◌, Option, Some, None, IsTrue, is_some, unwrap_or, slice_get, refl}
+use Rattle.std.specs.Prelude.{◌≡◌, ℕ, Bool, ◌||◌, ◌&&◌, ◌==◌, not, if◌then◌else◌, List, [], ◌∷◌, ◌++◌, Option, Some, None, IsTrue, is_some, unwrap_or, slice_get, refl}
 use Rattle.std.proofs.Common.{ap}
 use Rattle.std.specs.List.{filter_map, list_any}
 use Rattle.std.specs.declared.cmp.Ordering.{Ordering}
@@ -78,6 +78,28 @@ abbrev pub Reserves : Values → Values → ℕ → List Property → Type 0
 Reserves old new node properties =
     (n : ℕ) (p : Property) → map.get new (n, p)
     ≡ (if (n == node) && is_among properties p then Some (stored_of old n p) else map.get old (n, p))
+
+-- the values with these properties of the node kept, each as it was, or with no value yet
+abbrev pub reserving : Values → ℕ → List Property → Values
+reserving values node [] = values
+reserving values node (property ∷ more) = reserving (map.insert values (node, property) (stored_of values node property)) node more
+
+-- a key that is none of these properties of the node
+abbrev pub is_other : ℕ → List Property → Key → Bool
+is_other node properties key = not ((key.0 == node) && is_among properties key.1)
+
+-- the values with these properties of the node kept no more
+abbrev pub releasing : Values → ℕ → List Property → Values
+releasing values node properties = map.retain_keys values (is_other node properties)
+
+-- those of these properties that are not kept, each once
+abbrev pub missing_by : (Property → Bool) → List Property → List Property
+missing_by is_kept [] = []
+missing_by is_kept (property ∷ more) =
+    if is_among more property || is_kept property then missing_by is_kept more else property ∷ missing_by is_kept more
+
+abbrev pub missing_of : Values → ℕ → List Property → List Property
+missing_of values node properties = missing_by (λ property. is_some (map.get values (node, property))) properties
 
 -- the property with its values, where it is of this node and has a value
 abbrev pub held_at : ℕ → Key × Stored → Option Held

@@ -6,7 +6,8 @@ ghost use Rattle.std.specs.List.{filter_map};
 ghost use Rattle.std.specs.Set.{distinct_count, is_member};
 ghost use Rattle.std.specs.FinMap.{find, put};
 ghost use Rattle.zw_base.specs.PropertyOrder.{same_property};
-ghost use Rattle.value_store.specs.Values.{held_at, is_among, key_cmp};
+ghost use Rattle.std.specs.FinMap.Entries.{where_key};
+ghost use Rattle.value_store.specs.Values.{held_at, is_among, is_other, key_cmp, missing_by};
 ghost use Rattle.value_store.specs.Entries.{IsGapFor, IsInOrder, IsPlaceOf, keeping, keeping_all, properties_among};
 
 use crate::stored::{Held, Stored};
@@ -150,6 +151,41 @@ fn is_one_of(property: &Property, properties: &[Property]) -> bool
         }
     }
     false
+}
+
+/// Those of these properties that are not kept, each once.
+pub(crate) fn missing_of(
+    alloc: Global,
+    entries: &[(Key, Stored)],
+    node: NodeId,
+    properties: &[Property],
+) -> Result<List<Property>, NoMemory>
+    requires { IsInOrder entries.now }
+    ensures { IfOk result (λ missing. missing.items ≡ missing_by (λ property. is_some (find key_cmp (node, property) entries.now)) properties.now) }
+{
+    let mut missing = List::new(alloc);
+    let mut rest = properties;
+    while let Some((property, later)) = rest.split_first() {
+        if is_missing(entries, node, property, later) {
+            missing.push(*property)?;
+        }
+        rest = later;
+    }
+    Ok(missing)
+}
+
+/// Keeps these properties of the node no more.
+pub(crate) fn drop_all(entries: &mut Vec<(Key, Stored)>, node: NodeId, properties: &[Property])
+    ensures { entries.new.items ≡ where_key key_cmp (is_other node properties.now) entries.old.items }
+{
+    entries.retain(|entry| is_other(&entry.0, node, properties));
+}
+
+// Whether the key is none of these properties of the node.
+fn is_other(key: &Key, node: NodeId, properties: &[Property]) -> bool
+    ensures { result ≡ is_other node properties.now key.now }
+{
+    !(key.0 == node && is_one_of(&key.1, properties))
 }
 
 /// The properties of the node that have a value, in their order.

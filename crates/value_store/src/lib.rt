@@ -2,14 +2,17 @@
 //! heard in a report. The two never mix.
 //!
 //! It promises that what is kept is a finite map from node and property to these values, that a node has at most 512
-//! properties, and that a property that was reserved is confirmed without memory and without a refusal.
+//! properties, that a property that was reserved is confirmed without memory and without a refusal, and that what was
+//! reserved can be released again, which leaves nothing.
 //! The definitions stand in `specs/`: `Values` for the map, `ValueText` for its JSON, `Entries` for how it is kept.
 #![tactic(auto)]
 
 mod entries;
 mod json;
+mod laws;
 mod store;
 mod stored;
 
+pub use laws::what_is_released_is_undone;
 pub use store::{MAX_PROPERTIES, Store};
 pub use stored::{Held, StoreFault, Stored};

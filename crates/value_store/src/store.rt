@@ -5,10 +5,10 @@ ghost use Rattle.std.specs.List.{AllByRecursion};
 ghost use Rattle.std.specs.List.Sorted.{IsStrictlySortedBy};
 ghost use Rattle.std.specs.FinMap as finmap;
 ghost use Rattle.zw_base.specs.declared.property.Property.{Property as PropertyValue};
-ghost use Rattle.value_store.specs.Values.{IsReserved, Reserves, count_with, held_of, known_of, listed_of, property_cmp, stored_of};
+ghost use Rattle.value_store.specs.Values.{IsReserved, Reserves, count_with, held_of, known_of, listed_of, missing_of as not_kept, property_cmp, releasing, reserving, stored_of};
 ghost use Rattle.value_store.specs.ValueText.{values_text};
 
-use crate::entries::{Key, count_missing, count_of, held_of, keep_all, stored_at, write};
+use crate::entries::{Key, count_missing, count_of, drop_all, held_of, keep_all, missing_of, stored_at, write};
 use crate::json;
 use crate::stored::{Held, StoreFault, Stored};
 use std::alloc::Global;
@@ -52,6 +52,7 @@ impl Store {
     /// Keeps these properties of the node, so that each can be confirmed. One that was kept stays as it is; the others
     /// have no value yet. A property that is named twice counts once.
     pub fn reserve(&mut self, node: NodeId, properties: &[Property]) -> Result<(), StoreFault>
+        ensures state { OnOk result (self.new ≡ reserving self.old node properties.now) }
         ensures ok { OnOk result (Reserves self.old self.new node properties.now) }
         ensures reserved { OnOk result (AllByRecursion (λ property. IsReserved self.new node property) properties.now) }
         ensures stay { OnOk result ((n : ℕ) (p : PropertyValue) → IsReserved self.old n p → IsReserved self.new n p) }
@@ -64,6 +65,26 @@ impl Store {
         self.entries.reserve(properties.len())?;
         keep_all(&mut self.entries, node, properties);
         Ok(())
+    }
+
+    /// Those of these properties of the node that are not kept, each once: what `reserve` would keep besides.
+    pub fn missing(
+        &self,
+        alloc: Global,
+        node: NodeId,
+        properties: &[Property],
+    ) -> Result<List<Property>, NoMemory>
+        ensures { IfOk result (λ missing. missing.items ≡ not_kept self.now node properties.now) }
+    {
+        missing_of(alloc, &self.entries, node, properties)
+    }
+
+    /// Keeps these properties of the node no more. With those that were missing it undoes `reserve`, as
+    /// `what_is_released_is_undone` says. It takes no memory.
+    pub fn release(&mut self, node: NodeId, properties: &[Property])
+        ensures { self.new ≡ releasing self.old node properties.now }
+    {
+        drop_all(&mut self.entries, node, properties);
     }
 
     /// Sets the confirmed value of a property that is kept. It takes no memory.

@@ -4,6 +4,7 @@ use Rattle.zw_base.specs.PropertyOrder.{same_property}
 use Rattle.value_store.specs.Values.{Reserves, Values, count_with}
 use Rattle.value_store.specs.Entries.{Entries, IsInOrder, IsWithinLimit, keeping_all, properties_among}
 use Rattle.value_store.proofs.Reserved.{limit-keeping_all, order-keeping_all}
+use Rattle.value_store.proofs.Released.{reserved_are}
 use Rattle.value_store.proofs.Seen.{count-seen, reserved_each, reserved_stay, reserves, seen}
 use Rattle.value_store.proofs.store.Store.reserve.Goals as goal
 use Rattle.value_store.proofs.store.Store.reserve.Goals.{After-keep_all}
@@ -33,3 +34,6 @@ returns-clause-reserved c = reserved_each c.args.self.now _ c.args.node c.args.p
 
 pub returns-clause-stay : goal.returns-clause-stay
 returns-clause-stay c = reserved_stay c.args.self.now _ c.args.node c.args.properties.now (returns-clause-ok c)
+
+pub returns-clause-state : goal.returns-clause-state
+returns-clause-state c = reserved_are c.args.self.now _ c.args.node c.args.properties.now (returns-clause-ok c)
