@@ -10,7 +10,7 @@ use Rattle.serial_link.specs.State.{hear, tick_side}
 use Rattle.serial_link.specs.declared.turn.Turn.{Turn}
 use Rattle.serial_link.specs.declared.turn.Turn.TheVariants.{Idle, Copied, Paused}
 use Rattle.s0_session.specs.Nonces.{account_of, live_of, after_give}
-use Rattle.value_store.specs.Values.{Values, stored_of}
+use Rattle.value_store.specs.Values.{Values, reserving, stored_of}
 use Rattle.host_requests.specs.declared.task.Task.{Task}
 use Rattle.host_requests.specs.declared.task.Task.TheVariants.{NoMore, Offer, Segment}
 use Rattle.host_requests.specs.declared.task.Purpose.{Purpose}
@@ -72,11 +72,6 @@ abbrev pub queues_if_room : HostState → Task → HostState
 queues_if_room h task = if is_full h then h else requests_do h (request_pushes task)
 
 -- ---- commands
-
--- properties of a node are kept, so that each can be confirmed
-abbrev pub reserving : Values → ℕ → List Property → Values
-reserving store n [] = store
-reserving store n (property ∷ more) = reserving (finmap.insert store (n, property) (stored_of store n property)) n more
 
 -- settings of a node are confirmed, one after another
 abbrev pub confirming : Values → ℕ → List Setting → Values
@@ -163,7 +158,7 @@ failing_if false h = h
 
 -- ---- the host after an event
 
-pub after : HostState → HostEvent → HostState
+abbrev pub after : HostState → HostEvent → HostState
 after h (Accepts order carriage) = accepting h order carriage
 after h (Cancels command) =
     record (node_does h (node_for h command) (node_cancels command)) { commands = with_outcome h.commands command outcome.Cancelled }

@@ -1,7 +1,9 @@
 -- What holds of a host after every event (this project's own rules).
-use Rattle.std.specs.Prelude.{◌≡◌, ℕ, ◌≤◌, ◌⊎◌, List, length, All, Some}
+use Rattle.std.specs.Prelude.{◌≡◌, ℕ, ◌≤◌, ◌⊎◌, List, [], length, All, Option, Some, None}
+use Rattle.zw_base.specs.declared.property.Property.{Property}
 use Rattle.supervision.specs.Host.{open_session, command_at as command_of_session}
 use Rattle.value_store.specs.Values.{Values, IsReserved}
+use Rattle.host_node.specs.State.{NodeState}
 use Rattle.host_nodes.specs.Facts.{NodesFacts}
 use Rattle.host_orders.specs.Refusals.{IsFit}
 use Rattle.host_orders.specs.Settings.{settings, properties_of}
@@ -29,26 +31,32 @@ pub record IsCommandOf (commands : List Command) (n number : ℕ) : Type 0 where
   pub found : command_at commands number ≡ Some command
   pub node : command.order.node ≡ n
 
--- the running attempt has segments to give only of the message of the open session, which is cut into so many
-pub record HasSegments (h : HostState) (n : ℕ) : Type 0 where
+-- the running attempt of a node has segments to give only of the message of the open session, which is cut into so many
+pub record HasSegments (commands : List Command) (state : NodeState) : Type 0 where
   pub session : ℕ
-  pub opened : open_session (node_of h n).book ≡ Some session
+  pub opened : open_session state.book ≡ Some session
   pub number : ℕ
-  pub carried : command_of_session (node_of h n).book.commands session ≡ Some number
+  pub carried : command_of_session state.book.commands session ≡ Some number
   pub command : Command
-  pub found : command_at h.commands number ≡ Some command
+  pub found : command_at commands number ≡ Some command
   pub form : form_of command.carriage.outer ≡ Cut
-  pub count : (node_of h n).segments ≡ segment_count (message_for command session)
+  pub count : state.segments ≡ segment_count (message_for command session)
 
--- the commands that wait for a node, and those of its sessions, are for it
-pub record OwnsCommands (h : HostState) (n : ℕ) : Type 0 where
-  pub waiting : All (IsCommandOf h.commands n) (node_of h n).waiting
-  pub sessions : All (IsCommandOf h.commands n) (node_of h n).book.commands
-  pub segments : ((node_of h n).segments ≡ 0) ⊎ HasSegments h n
+-- a sealed text that is still to be given is not empty
+abbrev pub HasBytes : Option (List ℕ) → Type 0
+HasBytes None = Unit {0}
+HasBytes (Some text) = 1 ≤ length text
+
+-- the commands that wait for node n, which is so, and those of its sessions, are for it
+pub record OwnsCommands (commands : List Command) (n : ℕ) (state : NodeState) : Type 0 where
+  pub waiting : All (IsCommandOf commands n) state.waiting
+  pub sessions : All (IsCommandOf commands n) state.book.commands
+  pub segments : (state.segments ≡ 0) ⊎ HasSegments commands state
+  pub text : HasBytes state.text
 
 pub record HostFacts (h : HostState) : Type 0 where
   pub nodes : NodesFacts h.nodes
   pub commands : All (IsSound h.store) h.commands
-  pub owns : (n : ℕ) → OwnsCommands h n
+  pub owns : (n : ℕ) → OwnsCommands h.commands n (node_of h n)
   pub nonces : length h.nonces ≡ 233
   pub served : h.served ≤ 232

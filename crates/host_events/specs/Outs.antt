@@ -81,7 +81,7 @@ abbrev pub held_entries : ℕ → Bool → List Entry
 held_entries n true = entry.Held n ∷ []
 held_entries n false = []
 
-pub outs : HostState → HostEvent → List HostOut
+abbrev pub outs : HostState → HostEvent → List HostOut
 outs h (Accepts order carriage) = []
 outs h (Cancels command) = []
 outs h (Joins n) = []
