@@ -1,5 +1,7 @@
 -- What holds of a host after every event (this project's own rules).
 use Rattle.std.specs.Prelude.{◌≡◌, ℕ, ◌≤◌, ◌⊎◌, List, length, All, Option, Some, None}
+use Rattle.std.specs.Prelude.{◌≡◌, ℕ, ◌≤◌, ◌⊎◌, List, [], length, All, Option, Some, None}
+use Rattle.zw_base.specs.declared.property.Property.{Property}
 use Rattle.supervision.specs.Host.{open_session, command_at as command_of_session}
 use Rattle.value_store.specs.Values.{Values, IsReserved}
 use Rattle.host_node.specs.State.{NodeState}
