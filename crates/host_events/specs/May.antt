@@ -1,18 +1,15 @@
 -- When each event may happen (this project's own rules). What the line and the chip bring may come at any time.
-use Rattle.std.specs.Prelude.{◌≡◌, ◌≢◌, ℕ, ◌+◌, ◌≤◌, ◌<◌, nat_lt, ◌==◌, ◌||◌, Bool, true, false, List, [], ◌∷◌, length, slice_index, Option, Some, None, is_some, IsSome, IsTrue, Contains}
+use Rattle.std.specs.Prelude.{◌≡◌, ◌≢◌, ℕ, ◌+◌, ◌≤◌, ◌<◌, nat_lt, Bool, false, List, [], ◌∷◌, length, slice_index, Some, None, IsSome, IsTrue, Contains}
 use Rattle.zw_order.specs.declared.order.Order.{Order}
-use Rattle.class_info.specs.declared.report_status.ReportStatus.{ReportStatus}
 use Rattle.supervision.specs.Host.{begun_of, open_session, told_of, command_at as command_of_session}
 use Rattle.supervision.specs.declared.host_node.Told.TheVariants.{Final, Working, Old}
-use Rattle.s0_session.specs.Nonces.{live_of, given_of}
-use Rattle.value_store.specs.Values.{Values, count_with}
+use Rattle.s0_session.specs.Nonces.{live_of}
+use Rattle.value_store.specs.Values.{count_with}
 use Rattle.chip_functions.specs.declared.notice.Update.{Update}
 use Rattle.chip_functions.specs.declared.notice.Update.TheVariants.{Received}
-use Rattle.host_requests.specs.declared.task.Task.{Task}
-use Rattle.host_requests.specs.Events.{RequestsEvent, interviewed_by, May as request_may}
+use Rattle.host_requests.specs.Events.{interviewed_by, May as request_may}
 use Rattle.host_requests.specs.Events.RequestsEvent.{Pushes as request_pushes, PushesInterview as request_pushes_interview, PushesProbe as request_pushes_probe}
 use Rattle.host_node.specs.State.{NodeState, SealsText, count_at, needs_tick}
-use Rattle.host_node.specs.State.{NodeState, SealsText, count_at, needs_tick, wants_no_more}
 use Rattle.host_node.specs.Events.NodeEvent.{Begins as node_begins, Gives_segment as node_gives_segment, Starts as node_starts}
 use Rattle.host_node.specs.Events.{May as node_may}
 use Rattle.host_node.specs.declared.attempt.Plan.{Plan}
@@ -23,7 +20,7 @@ use Rattle.host_orders.specs.Settings.{settings, properties_of}
 use Rattle.host_orders.specs.Wrapping.{carriage_of}
 use Rattle.host_orders.specs.declared.carriage.Carriage.{Carriage}
 use Rattle.host_events.specs.State.{HostState, Command, node_of, command_at}
-use Rattle.host_events.specs.Sessions.{start_of, open_segment, open_command}
+use Rattle.host_events.specs.Sessions.{start_of, open_segment}
 use Rattle.host_events.specs.After.{is_busy, is_full, node_for}
 use Rattle.host_nodes.specs.Search.{next_of, first_wanting}
 use Rattle.host_events.specs.Events.{HostEvent, Accepts, Cancels, Joins, Queues, Queues_interview, Queues_probe, Hears, Requests_do, Interviews, Interview_unkept, Unreads, Is_unkept, Reports_old, Works, Finishes, Offers, Gives, Spends, Spends_unread, Takes_nonce, Notifies, Resends, Hears_value, Has_no_room, Line_ticks, Node_ticks, Queues_no_more, Drops_no_more, Submits_abort, Submits_front, Starts, Gives_text, Gives_segment, Begins, Begin_unkept}
