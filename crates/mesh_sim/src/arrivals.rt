@@ -11,7 +11,7 @@ ghost use Rattle.air_frames.specs.Frames.{landing, next_of};
 ghost use Rattle.mesh_sim.specs.Air.{is_joined, departing};
 ghost use Rattle.mesh_sim.specs.Routes.{IsRoute, backwards};
 ghost use Rattle.mesh_sim.specs.Fates.{HearsWithin};
-ghost use Rattle.mesh_sim.specs.Steps.{Arrives, Did, Stops, Delivers, landed, acknowledged, status_of, done_of, changed, sent_event, answered, answers, answered_if, answers_if, HasHeard, HasPerhaps, Comes};
+ghost use Rattle.mesh_sim.specs.Steps.{Arrives, Did, Stops, IsCut, Delivers, landed, acknowledged, status_of, done_of, changed, sent_event, answered, answers, answered_if, answers_if, HasHeard, HasPerhaps, Comes};
 
 use crate::air::{NO_ROUTE, copy_of};
 use crate::devices::{changes_of, hear_one};
@@ -75,8 +75,16 @@ impl Air {
         Ok(())
     }
 
-    /// The next frame arrives.
-    fn arrive<D: Draw>(
+    /// How many frames are on the air.
+    pub fn flying(&self) -> u64
+        ensures value { result ≡ self.now.state.frames.sent - self.now.state.frames.landed }
+        ensures all { self.now.state.frames.landed + result ≡ self.now.state.frames.sent }
+    {
+        self.frames.flying()
+    }
+
+    /// The next frame arrives. What is told of it comes in the order that `deliver` has.
+    pub fn arrive<D: Draw>(
         &mut self,
         devices: &mut Vec<Box<dyn Device>>,
         draw: &mut D,
@@ -87,6 +95,7 @@ impl Air {
         ensures ok { OnOk result ((drawn : Items ℕ) × (route : Option TheRoute) × Did (Arrives drawn route ∷ [])
             self.old.state (map (λ d. state d) devices.old.items) self.new.state (map (λ d. state d) devices.new.items) out.old.items out.new.items) }
         ensures err { OnErr result (Stops self.old.state (map (λ d. state d) devices.old.items) self.new.state (map (λ d. state d) devices.new.items) out.old.items out.new.items) }
+        ensures cut { OnErr result (IsCut (record { air = self.old.state; devices = map (λ d. state d) devices.old.items }) (map (λ d. state d) devices.new.items)) }
         ensures kept { length devices.new.items ≡ length devices.old.items }
     {
         let coming = self.coming(devices);
@@ -281,6 +290,30 @@ impl Air {
         if self.is_joined(arrival.node) {
             self.answer(arrival.node, hearing.way, &hearing.replies, out);
         }
+    }
+
+    /// The payloads of a device go on the air over that way, which is the one home from its node. One that is not joined
+    /// puts nothing on it.
+    pub fn send_all(
+        &mut self,
+        node: NodeId,
+        way: Option<Route>,
+        replies: &Replies,
+        out: &mut List<AirEvent>,
+    ) -> Result<(), NoMemory>
+        requires sound { ForSome way (λ r. IsSound r) }
+        ensures ok { OnOk result (self.new.state ≡ answered_if (is_joined self.old.state node) self.old.state node way replies.now) }
+        ensures outs { OnOk result (out.new.items ≡ out.old.items ++ answers_if (is_joined self.old.state node) self.old.state node way replies.now) }
+        ensures err { OnErr result (self.new.state ≡ self.old.state) }
+        ensures no_outs { OnErr result (out.new.items ≡ out.old.items) }
+    {
+        if !self.is_joined(node) {
+            return Ok(());
+        }
+        self.reserve(MAX_REPLIES)?;
+        out.reserve(EVENTS_HEARD)?;
+        self.answer(node, way, replies, out);
+        Ok(())
     }
 
     /// The replies of a device go on the air.

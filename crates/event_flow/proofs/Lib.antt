@@ -1,0 +1,12 @@
+pub mod Printed
+pub mod LineLaws
+pub mod Ends
+pub mod Rows
+pub mod Facts
+pub mod Moves
+pub mod Stepped
+pub mod Whole
+pub mod Refusals
+pub mod FlowLaws
+pub mod Arrivals
+pub mod Texts

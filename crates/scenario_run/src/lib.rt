@@ -1,0 +1,20 @@
+//! The run of a scenario: lines are read while the input comes, a machine runs each of them, and what it answers is written.
+//!
+//! It promises which lines the machine has run at each status and in which order, that what is written is the text of its
+//! answers and of the last lines that the status adds, or a front of it, and the cause of each status.
+//! The definitions stand in `specs/`: `Machine` (what a machine is), `Reading` (the lines that were given), `Writing` (what was
+//! written) and `Run` (how a run ends).
+#![tactic(auto)]
+
+mod machine;
+mod running;
+mod scenario;
+mod status;
+#[cfg(test)]
+mod tests;
+mod writing;
+
+pub use machine::Machine;
+pub use running::LinesEnd;
+pub use scenario::run_scenario;
+pub use status::Status;

@@ -1,0 +1,3 @@
+pub mod HexLemmas
+pub mod Lines
+pub mod Texts

@@ -1,0 +1,4 @@
+pub mod HexText
+pub mod Words
+pub mod Named
+pub mod Report

@@ -1,0 +1,19 @@
+//! What bytes of the serial line are: their units and refusals, and below each frame its body, payload and commands.
+//!
+//! It promises that `check` writes exactly the lines that name the bytes of a hex text, and says of a text that is none
+//! where it first is not.
+//! The definitions stand in `specs/`: `HexText` (the text that is read), `Words` (what is said of a fault) and `Named`
+//! (the lines of bytes).
+#![tactic(auto)]
+
+mod body;
+mod hex_text;
+mod items;
+mod payload;
+mod reporting;
+#[cfg(test)]
+mod tests;
+mod words;
+
+pub use hex_text::CheckFault;
+pub use reporting::{check, report};
