@@ -1,0 +1,10 @@
+pub mod Doing
+pub mod Feeding
+mod Numbered
+mod Owning
+mod Storing
+mod Accepted
+mod Keeping
+mod Pumps
+mod Rounds
+mod Payloads

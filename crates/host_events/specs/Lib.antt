@@ -1,0 +1,13 @@
+pub mod State
+pub mod Sessions
+pub mod Ends
+pub mod Events
+pub mod After
+pub mod Outs
+pub mod Records
+pub mod May
+pub mod Did
+pub mod Taking
+pub mod Pumping
+pub mod Ticking
+pub mod Facts

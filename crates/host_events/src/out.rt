@@ -1,0 +1,11 @@
+//! What a host puts out.
+
+use serial_frame::Unit;
+use zw_text::Entry;
+
+/// A unit for the chip, or an entry for the transcript.
+#[derive(Debug, Drop)]
+pub enum HostOut {
+    Write(Unit),
+    Note(Entry),
+}

@@ -1,0 +1,5 @@
+pub mod Inside
+pub mod Choices
+pub mod Ending
+pub mod Opening
+pub mod Sessions
