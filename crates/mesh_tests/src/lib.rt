@@ -1,0 +1,13 @@
+//! Tests of the simulated chip and of the air: what is done to them and what they put out, line by line, with bytes that were
+//! worked by hand from the formats.
+//!
+//! A crate that has tests is proved once with them and once without. So the crates below have none, and this one, which
+//! promises nothing, has theirs. Each public call is made here with ample memory.
+#![tactic(auto)]
+
+#[cfg(test)]
+mod chip;
+#[cfg(test)]
+mod mesh;
+#[cfg(test)]
+mod words;
