@@ -36,7 +36,7 @@ struct Lamps {
 }
 
 impl Machine<Vec<Box<dyn Lamp>>, FixedDraw, u64> for Lamps {
-    ghost use Rattle.std.specs.Prelude.{◌≡◌, ◌×◌, ◌<◌, ◌^◌, ◌==◌, if◌then◌else◌, length, slice_index, Some, None};
+    ghost use Rattle.std.specs.Prelude.{◌≡◌, ◌<◌, ◌^◌, ◌==◌, if◌then◌else◌, length, slice_index, Some, None};
     ghost use Rattle.zw_base.specs.Faults.{raised};
     ghost use Rattle.zw_words.specs.declared.fault.LineFault.TheVariants.{Unknown};
 
