@@ -1,5 +1,0 @@
-pub mod Inside
-pub mod Choices
-pub mod Ending
-pub mod Opening
-pub mod Sessions
