@@ -34,6 +34,7 @@ pub record IsRoute (net : Network) (to : ℕ) (r : Route) : Type 0 where
   pub walk : Walk net to (via r)
   pub least : (other : List ℕ) → Walk net to other → ComesFirst (via r) other
   pub count : r.count ≤ 4
+  pub nodes : All (λ n. (1 ≤ n) × (n ≤ 232)) (via r)
   pub padded : All (λ n. n ≡ 0) (drop r.count r.hops)
 
 abbrev pub IsWay : Network → ℕ → Option Route → Type 0

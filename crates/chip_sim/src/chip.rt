@@ -115,6 +115,13 @@ impl Chip {
         self.port.collide();
     }
 
+    /// Whether one more collision can be asked for.
+    pub fn can_collide(&self) -> bool
+        ensures { IsTrue result ↔ (self.now.state.port.side.collisions + 1 < 2 ^ 64) }
+    {
+        self.port.can_collide()
+    }
+
     /// Takes bytes of the host. Each item that ends in them is one event.
     pub fn feed(&mut self, piece: &[u8], out: &mut List<ChipOut>) -> Result<(), NoMemory>
         ensures ok { OnOk result (Fed self.old piece.now self.new out.old.items out.new.items) }

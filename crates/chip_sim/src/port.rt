@@ -1,6 +1,6 @@
 //! What the chip has towards the host: its link, and the frames that wait for it.
 
-ghost use Rattle.std.specs.Prelude.{◌≡◌, ◌++◌, ◌+◌, ◌<◌, ◌≤◌, ◌^◌, ◌∷◌, [], nat_lt, length, IfOk, OnOk, OnErr, OnSome};
+ghost use Rattle.std.specs.Prelude.{IsTrue, ◌↔◌, ◌≡◌, ◌++◌, ◌+◌, ◌<◌, ◌≤◌, ◌^◌, ◌∷◌, [], nat_lt, length, IfOk, OnOk, OnErr, OnSome};
 ghost use Rattle.serial_frame.specs.Stream.{after_tick, FeedsOne, IsRest};
 ghost use Rattle.serial_link.specs.State.{hear, IsBusy};
 ghost use Rattle.chip_sim.specs.Waiting.{no_port, queued, queued_outs, served, served_outs, begun, ticked, ticked_outs};
@@ -56,6 +56,13 @@ impl Port {
         ensures { self.new ≡ record self.old { port = record self.old.port { side = record self.old.port.side { collisions = self.old.port.side.collisions + 1 } } } }
     {
         self.link.collide();
+    }
+
+    /// Whether one more collision can be asked for.
+    pub fn can_collide(&self) -> bool
+        ensures { IsTrue result ↔ (self.now.port.side.collisions + 1 < 2 ^ 64) }
+    {
+        self.link.can_collide()
     }
 
     /// What is unfinished of the host's bytes.

@@ -145,6 +145,20 @@ impl Air {
         self.ack_losing += count as u64;
     }
 
+    /// How many of the next frames are marked as lost.
+    pub fn losing(&self) -> u64
+        ensures { result ≡ self.now.state.losing }
+    {
+        self.losing
+    }
+
+    /// How many of the next acknowledgements are marked as lost.
+    pub fn ack_losing(&self) -> u64
+        ensures { result ≡ self.now.state.ack_losing }
+    {
+        self.ack_losing
+    }
+
     /// Makes room for so many more frames. It fails only where their numbers do not fit, or where a frame that is still
     /// on the air would give way.
     pub fn reserve(&mut self, frames: u8) -> Result<(), NoMemory>
@@ -204,14 +218,14 @@ impl Air {
     }
 
     /// Whether a node is joined.
-    pub(crate) fn is_joined(&self, node: NodeId) -> bool
+    pub fn is_joined(&self, node: NodeId) -> bool
         ensures { result ≡ is_joined self.now.state node }
     {
         self.joined[node.number() as usize]
     }
 
     /// The route to a node walked backwards: the repeater next to the node is first.
-    pub(crate) fn way_home(&self, node: NodeId) -> Option<Route>
+    pub fn way_home(&self, node: NodeId) -> Option<Route>
         ensures way { ((route : Option TheRoute) × IsRoute self.now.state.network node route × (result ≡ option_map backwards route)) }
         ensures sound { ForSome result (λ r. IsSound r) }
     {

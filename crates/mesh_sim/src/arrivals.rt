@@ -75,8 +75,16 @@ impl Air {
         Ok(())
     }
 
-    /// The next frame arrives.
-    fn arrive<D: Draw>(
+    /// How many frames are on the air.
+    pub fn flying(&self) -> u64
+        ensures value { result ≡ self.now.state.frames.sent - self.now.state.frames.landed }
+        ensures all { self.now.state.frames.landed + result ≡ self.now.state.frames.sent }
+    {
+        self.frames.flying()
+    }
+
+    /// The next frame arrives. What is told of it comes in the order that `deliver` has.
+    pub fn arrive<D: Draw>(
         &mut self,
         devices: &mut Vec<Box<dyn Device>>,
         draw: &mut D,
@@ -281,6 +289,30 @@ impl Air {
         if self.is_joined(arrival.node) {
             self.answer(arrival.node, hearing.way, &hearing.replies, out);
         }
+    }
+
+    /// The payloads of a device go on the air over that way, which is the one home from its node. One that is not joined
+    /// puts nothing on it.
+    pub fn send_all(
+        &mut self,
+        node: NodeId,
+        way: Option<Route>,
+        replies: &Replies,
+        out: &mut List<AirEvent>,
+    ) -> Result<(), NoMemory>
+        requires sound { ForSome way (λ r. IsSound r) }
+        ensures ok { OnOk result (self.new.state ≡ answered_if (is_joined self.old.state node) self.old.state node way replies.now) }
+        ensures outs { OnOk result (out.new.items ≡ out.old.items ++ answers_if (is_joined self.old.state node) self.old.state node way replies.now) }
+        ensures err { OnErr result (self.new.state ≡ self.old.state) }
+        ensures no_outs { OnErr result (out.new.items ≡ out.old.items) }
+    {
+        if !self.is_joined(node) {
+            return Ok(());
+        }
+        self.reserve(MAX_REPLIES)?;
+        out.reserve(EVENTS_HEARD)?;
+        self.answer(node, way, replies, out);
+        Ok(())
     }
 
     /// The replies of a device go on the air.

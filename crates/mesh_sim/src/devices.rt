@@ -8,7 +8,7 @@ use device_sim::Device;
 use zw_base::{NoMemory, NodeId, Replies};
 
 /// Where the first device of that node stands in the list.
-pub(crate) fn place_in(devices: &Vec<Box<dyn Device>>, node: NodeId) -> Option<usize>
+pub fn place_in(devices: &Vec<Box<dyn Device>>, node: NodeId) -> Option<usize>
     requires { length devices.now.items < 2 ^ 64 }
     ensures value { result ≡ place_of node (map (λ d. state d) devices.now.items) }
     ensures within { IfSome result (λ place. place < length devices.now.items) }

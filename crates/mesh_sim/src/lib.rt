@@ -15,4 +15,5 @@ mod fate;
 mod repeats;
 
 pub use air::Air;
+pub use devices::place_in;
 pub use event::{AirEvent, RepeatFault, TRANSMIT_NO_ACK, TRANSMIT_OK};
