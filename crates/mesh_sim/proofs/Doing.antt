@@ -285,6 +285,13 @@ module _ {V E : Type 0} (r : Result V E) (old new : AirState) (ds later : States
       go (Ok v) same told perhaps = tt
       go (Err e) same told perhaps = stop_now old new ds later before all same told (device_cut perhaps)
 
+  pub device_is_cut : OnErr r (HasPerhaps old node d d' (Hears payload drawn)) → OnErr r (IsCut (mesh old ds) later)
+  device_is_cut = go r
+    where
+      go : (s : Result V E) → OnErr s (HasPerhaps old node d d' (Hears payload drawn)) → OnErr s (IsCut (mesh old ds) later)
+      go (Ok v) perhaps = tt
+      go (Err e) perhaps = device_cut perhaps
+
 -- a fact holds of an error, if there is one
 pub on_err : {V E : Type 0} (r : Result V E) (P : Type 0) → P → OnErr r P
 on_err (Ok v) P holds = tt

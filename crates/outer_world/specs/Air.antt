@@ -1,4 +1,4 @@
--- What happens on the air, as it is told and as the chip learns of it (this project's own rule, docs/WORLD.md).
+-- What happens on the air, as it is told and as the chip learns of it (this project's own rule, docs/OUTSIDE.md).
 use Rattle.std.specs.Prelude.{◌≡◌, ℕ, ◌&&◌, Bool, true, false, nat_le, if◌then◌else◌, Option, Some, None, List, [], ◌∷◌, ◌++◌, map, slice_get, length}
 use Rattle.zw_base.specs.declared.property.Setting.{Setting}
 use Rattle.device_stack.specs.declared.change.Change.{Change}
@@ -9,7 +9,7 @@ use Rattle.mesh_sim.specs.declared.event.AirEvent.TheVariants.{Heard, Lost, Unhe
 use Rattle.mesh_sim.specs.Fates.{place_of}
 use Rattle.zw_text.specs.declared.entry.Entry.{Entry}
 use Rattle.zw_text.specs.declared.entry.Entry.TheVariants as entry
-use Rattle.outer_world.specs.State.{OuterState, Outcome, silent, tells, and_then}
+use Rattle.outer_world.specs.State.{OuterState, Outcome, silent, tells}
 use Rattle.outer_world.specs.Chip.{shown_via, chip_does}
 use Rattle.outer_world.specs.Results.{frame_ends, device_at}
 
@@ -47,8 +47,3 @@ deals devices o (Sent frame from to route payload) = tells o (sent_entries (Sent
 deals devices o (Changed node at) = tells o (change_entries node (change_at (device_at devices (place_of node devices)) at))
 deals devices o (ToChip frame from payload) = to_chip o from payload
 deals devices o (Done frame status dead) = frame_ends o status dead
-
--- events of the air, one after another
-abbrev pub deals_all : List State → OuterState → List AirEvent → Outcome
-deals_all devices o [] = silent o
-deals_all devices o (event ∷ events) = and_then (deals devices o event) (λ later. deals_all devices later events)

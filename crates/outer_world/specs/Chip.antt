@@ -1,4 +1,4 @@
--- What the chip does outside itself: where its outputs go (this project's own rule, docs/WORLD.md).
+-- What the chip does outside itself: where its outputs go (this project's own rule, docs/OUTSIDE.md).
 use Rattle.std.specs.Prelude.{◌≡◌, ◌≢◌, ℕ, ◌≤◌, length, ◌+◌, ◌&&◌, ◌||◌, Bool, true, false, nat_le, nat_lt, if◌then◌else◌, Option, Some, None, List, [], ◌∷◌, ◌++◌, filter, map, take}
 use Rattle.std.specs.Option.{is_some}
 use Rattle.serial_frame.specs.Stream.{Rest, Feeds, after_tick}
@@ -20,7 +20,7 @@ use Rattle.zw_text.specs.declared.entry.Entry.{Entry}
 use Rattle.zw_text.specs.declared.entry.Entry.TheVariants.{Air, ChipFull}
 use Rattle.outer_world.specs.declared.waits.Due.TheVariants.{Info, NoRoute as no_route_due}
 use Rattle.outer_world.specs.declared.waits.Call.TheVariants.{OfFrame, NoRoute as no_route_call}
-use Rattle.outer_world.specs.State.{OuterState, Outcome, with_chip, silent, tells, and_then, is_stalled}
+use Rattle.outer_world.specs.State.{OuterState, Outcome, with_chip, silent, tells, each, is_stalled}
 
 -- the number of a node
 abbrev pub is_node : ℕ → Bool
@@ -50,23 +50,13 @@ IsSendable NoRoute = Unit {0}
 IsSendable (AskInfo node) = Unit {0}
 IsSendable Full = Unit {0}
 
--- outputs, one after another
-abbrev pub put_all : OuterState → List ChipOut → Outcome
-put_all o [] = silent o
-put_all o (output ∷ outputs) = and_then (put_out o output) (λ later. put_all later outputs)
-
 -- an event of the chip, with all that it puts out
 unfoldable pub chip_does : OuterState → ChipEvent → Outcome
-chip_does o event = put_all (with_chip o (after o.chip.state event)) (outs o.chip.state event)
-
--- events of the chip, one after another
-abbrev pub chip_does_all : OuterState → List ChipEvent → Outcome
-chip_does_all o [] = silent o
-chip_does_all o (event ∷ events) = and_then (chip_does o event) (λ later. chip_does_all later events)
+chip_does o event = each put_out (with_chip o (after o.chip.state event)) (outs o.chip.state event)
 
 -- the chip takes the first bytes of its pipe: they end these items, which it judges in order, and leave this unfinished
 abbrev pub chip_takes : OuterState → ℕ → Rest → List (Item × Option Route) → Outcome
-chip_takes o count rest ways = chip_does_all
+chip_takes o count rest ways = each chip_does
     (record o { to_chip = way.after o.to_chip (Takes count); chip = record { decoder = rest; state = o.chip.state } })
     (judged_all ways)
 

@@ -1,4 +1,4 @@
--- What devices do of themselves or by hand, and what is shown of them (this project's own rule, docs/WORLD.md).
+-- What devices do of themselves or by hand, and what is shown of them (this project's own rule, docs/OUTSIDE.md).
 use Rattle.std.specs.Prelude.{◌≡◌, ◌⊎◌, ℕ, Option, Some, None, List, [], ◌∷◌, ◌++◌, drop, length, map, slice_get, slice_set, option_map}
 use Rattle.std.specs.List.{flat_map}
 use Rattle.zw_base.specs.declared.property.Setting.{Setting}

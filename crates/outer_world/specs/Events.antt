@@ -1,5 +1,5 @@
 -- What may happen outside the host, one event at a time, what it makes of it, and its entries (this project's own rule,
--- docs/WORLD.md). An event carries what is chosen: drawn bytes, routes, how bytes are split.
+-- docs/OUTSIDE.md). An event carries what is chosen: drawn bytes, routes, how bytes are split.
 use Rattle.std.specs.Prelude.{◌≡◌, ℕ, ◌+◌, ◌<◌, ◌≤◌, nat_lt, nat_le, max, if◌then◌else◌, not, ◌&&◌, ◌||◌, Bool, true, false, Option, Some, None, List, [], ◌∷◌, ◌++◌, length, slice_get}
 use Rattle.serial_frame.specs.declared.unit.Unit.{Unit as LineUnit}
 use Rattle.serial_frame.specs.declared.item.Item.{Item}
@@ -26,10 +26,10 @@ use Rattle.zw_words.specs.declared.side.Side.TheVariants.{Host, Chip}
 use Rattle.zw_text.specs.declared.entry.Entry.{Entry}
 use Rattle.zw_text.specs.declared.entry.Entry.TheVariants.{Time, Refused, Cleared}
 use Rattle.zw_text.specs.declared.entry.Refusal.TheVariants as refusal
-use Rattle.outer_world.specs.State.{OuterState, Outside, outside, Outcome, silent, tells, with_chip, is_stalled}
+use Rattle.outer_world.specs.State.{OuterState, Outside, outside, Outcome, silent, tells, each, with_chip, is_stalled}
 use Rattle.outer_world.specs.Chip.{chip_does, chip_takes, chip_ticks, MayTake}
 use Rattle.outer_world.specs.Results.{gives, MayGive, device_at}
-use Rattle.outer_world.specs.Air.{deals_all}
+use Rattle.outer_world.specs.Air.{deals}
 use Rattle.outer_world.specs.Devices.{acts_at, device_set, MayAct, acts_by_hand, set_by_hand, MayActByHand, shown_entries}
 use Rattle.outer_world.specs.Nodes.{joins, listens_at, discovers}
 
@@ -91,7 +91,7 @@ mesh_of w = record { air = w.outer.air; devices = w.devices }
 
 -- a step of the air: what it tells is dealt with in its order
 abbrev pub steps : Outside → AirStep → Outcome
-steps w step = deals_all (mesh_after (mesh_of w) step).devices (record w.outer { air = (mesh_after (mesh_of w) step).air }) (mesh_outs (mesh_of w) step)
+steps w step = each (deals (mesh_after (mesh_of w) step).devices) (record w.outer { air = (mesh_after (mesh_of w) step).air }) (mesh_outs (mesh_of w) step)
 
 -- a repeat is refused, or is a step
 abbrev pub refusal_entries : RepeatRefusal → List Entry

@@ -1,4 +1,4 @@
--- Which nodes are joined, as chip and air know it (this project's own rule, docs/WORLD.md).
+-- Which nodes are joined, as chip and air know it (this project's own rule, docs/OUTSIDE.md).
 use Rattle.std.specs.Prelude.{ℕ, ◌-◌, ◌==◌, ◌||◌, ◌&&◌, Bool, true, false, Option, Some, None, List, [], ◌∷◌, map, filter}
 use Rattle.std.specs.List.{range_with_len, flat_map}
 use Rattle.route_table.specs.Network.{linked}

@@ -1,5 +1,5 @@
 -- Results of SendData and of RequestNodeInfo, in the order in which the chip is given them (this project's own rule,
--- docs/WORLD.md).
+-- docs/OUTSIDE.md).
 use Rattle.std.specs.Prelude.{◌≡◌, ℕ, zero, suc, ◌+◌, ◌-◌, ◌&&◌, ◌||◌, Bool, true, false, nat_lt, if◌then◌else◌, Option, Some, None, List, [], ◌∷◌, ◌++◌, drop, slice_get}
 use Rattle.std.specs.Option.{is_some, unwrap_or}
 use Rattle.zw_base.specs.declared.profile.Profile.{Profile}

@@ -1,12 +1,12 @@
--- Which events a call is (this project's own rule, docs/WORLD.md).
-use Rattle.std.specs.Prelude.{◌≡◌, ℕ, zero, suc, ◌+◌, ◌-◌, ◌≤◌, ◌&&◌, not, nat_lt, Bool, true, false, Option, List, [], ◌∷◌, length}
+-- Which events a call is (this project's own rule, docs/OUTSIDE.md).
+use Rattle.std.specs.Prelude.{◌≡◌, ℕ, zero, suc, ◌+◌, ◌-◌, ◌≤◌, ◌&&◌, not, nat_lt, Bool, true, false, Option, List, [], ◌∷◌, drop, length}
 use Rattle.serial_frame.specs.declared.item.Item.{Item}
 use Rattle.serial_frame.specs.Stream.{Rest}
 use Rattle.route_table.specs.declared.route.Route.{Route}
-use Rattle.outer_world.specs.State.{OuterState, is_stalled}
+use Rattle.outer_world.specs.State.{OuterState, is_stalled, Does}
+use Rattle.outer_world.specs.Chip.{chip_takes, MayTake}
 use Rattle.outer_world.specs.Events.{OuterEvent, Chip_takes, Arrives, Gives, Device_ticks, Repeats, Wakes_device, Sets_device}
 use Rattle.zw_text.specs.declared.entry.Entry.{Entry}
-use Rattle.outer_world.specs.Did.{Goes}
 
 -- the chip takes all bytes of its pipe at once, in whatever pieces they came; none where there are none, or in a stall
 pub record TakesAll (old : OuterState) (events : List OuterEvent) : Type 0 where
@@ -26,13 +26,14 @@ ChipTakes old events = TakesBy (is_stalled old) old.to_chip.bytes old events
 abbrev pub any_moves : OuterState → Bool
 any_moves old = not (is_stalled old) && nat_lt 0 (length old.to_chip.bytes)
 
--- some of its first bytes
-pub record TakesSome (old new : OuterState) (before all : List Entry) : Type 0 where
-  pub count : ℕ
+-- the chip took so many of its first bytes
+pub record TakesBytes (count : ℕ) (old new : OuterState) (before all : List Entry) : Type 0 where
   pub rest : Rest
   pub ways : List (Item × Option Route)
-  pub some : 1 ≤ count
-  pub goes : Goes (Chip_takes count rest ways ∷ []) old new before all
+  pub may : MayTake old count rest ways
+  pub does : Does (chip_takes old count rest ways) new before all
+  pub left : new.to_chip.bytes ≡ drop count old.to_chip.bytes
+  pub moves : is_stalled new ≡ false
 
 -- so many frames arrive
 abbrev pub Arrivals : ℕ → List OuterEvent → Type 0

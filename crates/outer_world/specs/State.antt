@@ -1,5 +1,5 @@
 -- What is outside the host: the chip, the air, the serial line between host and chip, and time; and beside them the
--- devices (this project's own model, docs/WORLD.md).
+-- devices (this project's own model, docs/OUTSIDE.md).
 use Rattle.std.specs.Prelude.{◌≡◌, ℕ, ◌+◌, Bool, true, false, nat_lt, Option, Some, None, List, [], ◌∷◌, ◌++◌, drop, length}
 use Rattle.serial_frame.specs.Stream.{no_rest}
 use Rattle.chip_sim.specs.State.{ChipState, ChipParts, fresh_chip}
@@ -77,6 +77,12 @@ tells o entries = record { outer = o; entries = entries }
 -- one thing after another
 abbrev pub and_then : Outcome → (OuterState → Outcome) → Outcome
 and_then first next = record { outer = (next first.outer).outer; entries = first.entries ++ (next first.outer).entries }
+
+-- the same with each item of a list, one after another
+module _ {X : Type 0} where
+  abbrev pub each : (OuterState → X → Outcome) → OuterState → List X → Outcome
+  each step o [] = silent o
+  each step o (x ∷ xs) = and_then (step o x) (λ later. each step later xs)
 
 -- this was done, and told
 pub record Does (outcome : Outcome) (new : OuterState) (before all : List Entry) : Type 0 where

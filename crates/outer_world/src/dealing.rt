@@ -1,10 +1,10 @@
 //! What happened on the air is told, and the chip learns of it.
 
 ghost use Rattle.std.specs.Prelude.{◌≡◌, ◌+◌, ◌<◌, ◌≤◌, ◌^◌, ◌++◌, ◌∷◌, [], length, map, slice_get, OnOk, OnErr, Some};
-ghost use Rattle.outer_world.specs.State.{Does};
+ghost use Rattle.outer_world.specs.State.{Does, each};
 ghost use Rattle.outer_world.specs.Results.{device_at};
 ghost use Rattle.mesh_sim.specs.Fates.{place_of};
-ghost use Rattle.outer_world.specs.Air.{to_chip, deals, deals_all, change_entries, change_at, sent_entries};
+ghost use Rattle.outer_world.specs.Air.{to_chip, deals, change_entries, change_at, sent_entries};
 
 use crate::Outer;
 use crate::outputs::shown_repeaters;
@@ -23,7 +23,7 @@ impl Outer {
         told: &mut List<Entry>,
     ) -> Result<(), NoMemory>
         requires few { length devices.now.items < 2 ^ 64 }
-        ensures { OnOk result (Does (deals_all (map (λ d. state d) devices.now.items) self.old events.now.items) self.new told.old.items told.new.items) }
+        ensures { OnOk result (Does (each (deals (map (λ d. state d) devices.now.items)) self.old events.now.items) self.new told.old.items told.new.items) }
     {
         for event in events.as_slice() {
             self.deal(event, devices, told)?;

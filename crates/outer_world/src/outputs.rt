@@ -3,8 +3,8 @@
 ghost use Rattle.std.specs.Prelude.{◌≡◌, ◌++◌, ◌+◌, ◌≤◌, ◌∷◌, [], All, filter, Some, OnOk, OnErr, IfOk};
 ghost use Rattle.route_table.specs.Route.{via};
 ghost use Rattle.chip_sim.specs.Events.{Ticked, after};
-ghost use Rattle.outer_world.specs.State.{Does};
-ghost use Rattle.outer_world.specs.Chip.{put_out, put_all, shown_via, IsSendable};
+ghost use Rattle.outer_world.specs.State.{Does, each};
+ghost use Rattle.outer_world.specs.Chip.{put_out, shown_via, IsSendable};
 ghost use Rattle.outer_world.specs.Events.{Chip_ticks};
 ghost use Rattle.outer_world.specs.Did.{Goes};
 
@@ -24,7 +24,7 @@ impl Outer {
         told: &mut List<Entry>,
     ) -> Result<(), NoMemory>
         requires { All IsSendable outputs.now.items }
-        ensures { OnOk result (Does (put_all self.old outputs.now.items) self.new told.old.items told.new.items) }
+        ensures { OnOk result (Does (each put_out self.old outputs.now.items) self.new told.old.items told.new.items) }
     {
         for output in outputs.as_slice() {
             self.put_output(output, told)?;

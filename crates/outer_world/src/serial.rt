@@ -1,10 +1,10 @@
 //! The serial line: what host and chip write and take.
 
-ghost use Rattle.std.specs.Prelude.{◌≡◌, ◌++◌, ◌+◌, ◌<◌, ◌≤◌, ◌∷◌, [], false, length, take, drop, min, OnOk, OnErr, IfOk};
-ghost use Rattle.outer_world.specs.State.{is_stalled, Does};
-ghost use Rattle.outer_world.specs.Events.{way_of, with_way, clears, Host_writes, Host_takes, Chip_takes, Marks_loss, Marks_change, Clears_pipe};
-ghost use Rattle.outer_world.specs.Did.{Goes, GoesOf, StopsStill};
-ghost use Rattle.outer_world.specs.Schedules.{ChipTakes, TakesSome, any_moves};
+ghost use Rattle.std.specs.Prelude.{◌≡◌, ℕ, ◌++◌, ◌+◌, ◌<◌, ◌≤◌, ◌∷◌, [], false, length, take, drop, min, OnOk, OnErr, IfOk};
+ghost use Rattle.outer_world.specs.State.{is_stalled};
+ghost use Rattle.outer_world.specs.Events.{Host_writes, Host_takes, Marks_loss, Marks_change, Clears_pipe};
+ghost use Rattle.outer_world.specs.Did.{Goes, GoesOf};
+ghost use Rattle.outer_world.specs.Schedules.{ChipTakes, TakesBytes, any_moves};
 
 use crate::Outer;
 use serial_frame::Unit;
@@ -55,34 +55,45 @@ impl Outer {
     /// The chip takes all bytes that are on their way to it, in pieces; none moves in a stall. The answer is whether any
     /// did.
     pub fn chip_takes(&mut self, out: &mut List<Entry>) -> Result<bool, NoMemory>
-        ensures ok { IfOk result (λ moved. GoesOf (ChipTakes self.old) self.old self.new out.old.items out.new.items) }
+        ensures ok { OnOk result (GoesOf (ChipTakes self.old) self.old self.new out.old.items out.new.items) }
         ensures moved { IfOk result (λ moved. moved ≡ any_moves self.old) }
-        ensures err { OnErr result (StopsStill self.old out.old.items out.new.items) }
+        ensures no_entries { OnErr result (out.new.items ≡ out.old.items) }
     {
         if self.is_stalled() || self.to_chip.len() == 0 {
             return Ok(false);
         }
-        while self.to_chip.len() > 0 {
-            self.chip_takes_piece(out)?;
-        }
+        let mut told = List::new(self.alloc);
+        self.chip_takes_all(&mut told)?;
+        self.enter(told, out)?;
         Ok(true)
     }
 
-    /// The chip takes the next piece.
-    fn chip_takes_piece(&mut self, out: &mut List<Entry>) -> Result<(), NoMemory>
+    /// The chip takes all bytes that are on their way to it, of which there are some.
+    fn chip_takes_all(&mut self, told: &mut List<Entry>) -> Result<(), NoMemory>
         requires some { 0 < length self.old.to_chip.bytes }
         requires moves { is_stalled self.old ≡ false }
-        ensures ok { OnOk result (TakesSome self.old self.new out.old.items out.new.items) }
-        ensures err { OnErr result (out.new.items ≡ out.old.items) }
+        ensures { OnOk result (TakesBytes (length self.old.to_chip.bytes) self.old self.new told.old.items told.new.items) }
+    {
+        self.chip_takes_piece(told)?;
+        while self.to_chip.len() > 0 {
+            self.chip_takes_piece(told)?;
+        }
+        Ok(())
+    }
+
+    /// The chip takes the next piece.
+    fn chip_takes_piece(&mut self, told: &mut List<Entry>) -> Result<(), NoMemory>
+        requires some { 0 < length self.old.to_chip.bytes }
+        requires moves { is_stalled self.old ≡ false }
+        ensures { OnOk result ((count : ℕ) × (1 ≤ count) × (count ≤ length self.old.to_chip.bytes)
+            × TakesBytes count self.old self.new told.old.items told.new.items) }
     {
         let mut buffer = [0; CAPACITY];
         let len = self.piece();
         let count = self.to_chip.take(&mut buffer[..len]);
         let mut outputs = List::new(self.alloc);
         self.chip.feed(&buffer[..count], &mut outputs)?;
-        let mut told = List::new(self.alloc);
-        self.put_outputs(&outputs, &mut told)?;
-        self.enter(told, out)
+        self.put_outputs(&outputs, told)
     }
 
     /// The next unit of a side is to be lost.

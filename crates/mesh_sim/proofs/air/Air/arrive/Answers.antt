@@ -1,6 +1,6 @@
-use Rattle.std.proofs.Common.{◌≡◌, ◌<◌, length}
+use Rattle.std.proofs.Common.{◌≡◌, ◌<◌, length, inl, refl}
 use Rattle.mesh_sim.proofs.Lists.{seen_at, seen_set}
-use Rattle.mesh_sim.proofs.Doing.{lost_did, dead_did, missed_did, chip_did, pass_stops, device_did, device_stops, heard_within}
+use Rattle.mesh_sim.proofs.Doing.{lost_did, dead_did, missed_did, chip_did, pass_stops, device_did, device_stops, device_is_cut, heard_within, on_err}
 use Rattle.mesh_sim.proofs.air.Air.arrive.Goals as goal
 
 pub returns-in-Lost-clause-ok : goal.returns-in-Lost-clause-ok
@@ -36,3 +36,24 @@ returns-in-AtDevice-clause-err g c =
     (seen_at _ c.args.devices.now.items c.in-AtDevice.place c.index_mut.result.now within c.index_mut.ensures.value)
     (seen_set _ c.args.devices.now.items c.in-AtDevice.place c.arrive_at_device.new.device)
     c.arrive_at_device.ensures.err c.arrive_at_device.ensures.no_outs c.arrive_at_device.ensures.cut
+
+pub returns-in-Lost-clause-cut : goal.returns-in-Lost-clause-cut
+returns-in-Lost-clause-cut g c = on_err c.pass.result _ (inl refl)
+
+pub returns-in-Dead-clause-cut : goal.returns-in-Dead-clause-cut
+returns-in-Dead-clause-cut g c = on_err c.pass-in-Dead.result _ (inl refl)
+
+pub returns-in-Missed-clause-cut : goal.returns-in-Missed-clause-cut
+returns-in-Missed-clause-cut g c = on_err c.pass-in-Missed.result _ (inl refl)
+
+pub returns-in-AtChip-clause-cut : goal.returns-in-AtChip-clause-cut
+returns-in-AtChip-clause-cut g c = on_err c.arrive_at_chip.result _ (inl refl)
+
+pub returns-in-AtDevice-clause-cut : goal.returns-in-AtDevice-clause-cut
+returns-in-AtDevice-clause-cut g c =
+    let within : c.in-AtDevice.place < length c.args.devices.now.items = heard_within _ _ _ c.in-AtDevice.is c.coming-coming.ensures.within in
+    device_is_cut c.arrive_at_device.result c.args.self.now.state c.arrive_at_device.new.self.state _ _ c.in-AtDevice.place _ _ _ _ _ _ _ _ c.args.out.now.items c.arrive_at_device.new.out.items
+    c.coming-coming.ensures.comes c.in-AtDevice.is
+    (seen_at _ c.args.devices.now.items c.in-AtDevice.place c.index_mut.result.now within c.index_mut.ensures.value)
+    (seen_set _ c.args.devices.now.items c.in-AtDevice.place c.arrive_at_device.new.device)
+    c.arrive_at_device.ensures.cut
