@@ -5,3 +5,6 @@ pub mod Sendable
 pub mod Ranges
 pub mod Moves
 pub mod Airing
+pub mod Going
+pub mod Doings
+pub mod Items

@@ -1,6 +1,7 @@
 -- What the chip puts out may be sent.
 use Rattle.std.proofs.Common.{◌≡◌, ◌≢◌, ℕ, ◌+◌, ◌≤◌, ◌<◌, ◌⊎◌, ◌&&◌, Bool, true, false, cond, All, List, [], ◌∷◌, ◌++◌, length, if◌then◌else◌, ◌==◌, refl, ap, sym, ◌∙◌, subst, arith}
 use Rattle.std.specs.Prelude.{Option, Some, None, nat_le}
+use Rattle.std.proofs.lemmas.Bool.{leb-true}
 use Rattle.std.proofs.lemmas.List.Elements.{All-append, All-nil, All-cons}
 use Rattle.serial_frame.specs.Frame.{FrameParts}
 use Rattle.serial_frame.specs.declared.item.Item.{Item}
@@ -87,7 +88,7 @@ sizes s n payload e =
     let a = both_true (is_idle s.sending) (is_marked s.joined n && (nat_le 1 (length payload) && nat_le (length payload) 46)) e in
     let b = both_true (is_marked s.joined n) (nat_le 1 (length payload) && nat_le (length payload) 46) a.1 in
     let c = both_true (nat_le 1 (length payload)) (nat_le (length payload) 46) b.1 in
-    (search (rules, c.0), search (rules, c.1))
+    (leb-true 1 (length payload) c.0, leb-true (length payload) 46 c.1)
 
 way_good : (s : ChipState) (n : ℕ) (payload : List ℕ) (way : Option Route) → (1 ≤ length payload) × (length payload ≤ 46) → IsWay s.table n way → Good_outs (sent n payload way)
 way_good s n payload None sizes is_way = one NoRoute tt

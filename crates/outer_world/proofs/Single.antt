@@ -17,6 +17,11 @@ entered out mid new start told before all none done outer put =
       entries = put ∙ (ap (λ (o : OuterState). before ++ stamp o told) done.outer ∙ ap (λ (l : List Entry). before ++ stamp out.outer l) is);
     }
 
+pub entered_ok : {V E : Type 0} (r : Result V E) (out : Outcome) (mid new : OuterState) (start told before all : List Entry)
+    → start ≡ [] → Does out mid start told → OnOk r (new ≡ has_entered mid told) → OnOk r (all ≡ before ++ stamp mid told) → OnOk r (Enters out new before all)
+entered_ok (Ok v) out mid new start told before all none done outer put = entered out mid new start told before all none done outer put
+entered_ok (Err e) out mid new start told before all none done outer put = tt
+
 -- an event was done
 pub run_one : (e : OuterEvent) (w : Outside) (new : OuterState) (later : List State) (before all : List Entry)
     → May w e → Enters (outcome w e) new before all → later ≡ devices_after w e → Run (e ∷ []) w (outside new later) before all

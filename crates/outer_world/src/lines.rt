@@ -56,10 +56,10 @@ impl Outer {
         ensures ok { OnOk result (Goes (Stalls ticks ∷ []) self.old self.new [] []) }
         ensures err { OnErr result (self.new ≡ self.old) }
     {
-        let Some(until) = self.clock.checked_add(u64::from(ticks)) else {
+        if self.clock > u64::MAX - u64::from(ticks) {
             return Err(NoMemory);
-        };
-        self.stalled_until = self.stalled_until.max(until);
+        }
+        self.stalled_until = self.stalled_until.max(self.clock + u64::from(ticks));
         Ok(())
     }
 

@@ -111,10 +111,10 @@ impl Outer {
         ensures ok { OnOk result (Goes (Begins_tick ∷ []) self.old self.new [] []) }
         ensures err { OnErr result (self.new ≡ self.old) }
     {
-        let Some(clock) = self.clock.checked_add(1) else {
+        if self.clock == u64::MAX {
             return Err(NoMemory);
-        };
-        self.clock = clock;
+        }
+        self.clock += 1;
         self.in_tick = true;
         self.stamped = false;
         Ok(())

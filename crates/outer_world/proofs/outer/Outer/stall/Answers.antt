@@ -1,0 +1,5 @@
+use Rattle.outer_world.proofs.Going.{goes_stalls}
+use Rattle.outer_world.proofs.outer.Outer.stall.Goals as goal
+
+pub returns-clause-ok : goal.returns-clause-ok
+returns-clause-ok c = ?
