@@ -80,9 +80,12 @@ goes_collides o asked decoder state =
     goes_one Collides_next o (record o { chip = asked }) [] [] (λ ds. tt)
     (λ ds. enters_silent (with_chip o (chip.after o.chip.state Collides)) (record o { chip = asked }) [] (chip_is o asked (chip.after o.chip.state Collides) decoder state)) (λ ds. refl)
 
-pub goes_stalls : (o new : OuterState) (ticks : ℕ) → new ≡ record o { stalled_until = max o.stalled_until (o.clock + ticks) } → Goes (Stalls ticks ∷ []) o new [] []
+pub goes_stalls : (o : OuterState) (ticks until given : ℕ) → until ≡ max o.stalled_until (o.clock + given) → given ≡ ticks → Goes (Stalls ticks ∷ []) o (record o { stalled_until = until }) [] []
 unfolding outcome devices_after May
-goes_stalls o new ticks is = goes_one (Stalls ticks) o new [] [] (λ ds. tt) (λ ds. enters_silent (record o { stalled_until = max o.stalled_until (o.clock + ticks) }) new [] is) (λ ds. refl)
+goes_stalls o ticks until given is same =
+    goes_one (Stalls ticks) o (record o { stalled_until = until }) [] [] (λ ds. tt)
+    (λ ds. enters_silent (record o { stalled_until = max o.stalled_until (o.clock + ticks) }) (record o { stalled_until = until }) []
+    (ap (λ n. record o { stalled_until = n }) (is ∙ ap (λ n. max o.stalled_until (o.clock + n)) same))) (λ ds. refl)
 
 pub goes_cuts : (o new : OuterState) (size : ℕ) → new ≡ record o { piece = size } → Goes (Cuts size ∷ []) o new [] []
 unfolding outcome devices_after May

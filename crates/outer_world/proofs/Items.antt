@@ -1,5 +1,5 @@
 -- Loops over the items of a list.
-use Rattle.std.proofs.Common.{◌≡◌, ℕ, suc, ◌+◌, ◌<◌, ◌≤◌, All, List, [], ◌∷◌, ◌++◌, length, take, drop, get_or, refl, ap, sym, ◌∙◌, subst, append_assoc, arith, add-one}
+use Rattle.std.proofs.Common.{◌≡◌, ℕ, suc, ◌+◌, ◌<◌, ◌≤◌, All, map, List, [], ◌∷◌, ◌++◌, length, take, drop, get_or, refl, ap, sym, ◌∙◌, subst, append_assoc, arith, add-one}
 use Rattle.std.proofs.Math.Seq.{take-suc, drop-cons}
 use Rattle.std.proofs.lemmas.List.{take_all}
 use Rattle.zw_text.specs.declared.entry.Entry.{Entry}
@@ -32,3 +32,7 @@ module _ {X : Type 0} (xs ys : List X) (i : ℕ) (same : ys ≡ xs) (past : leng
   pub each_whole : (step : OuterState → X → Outcome) (o new : OuterState) (before all : List Entry)
       → Does (each step o (take i xs)) new before all → Does (each step o xs) new before all
   each_whole step o new before all done = subst (λ (l : List X). Does (each step o l) new before all) take_whole done
+
+-- what was told of all items
+pub map_whole : {X : Type 0} (f : X → Entry) (xs zs ys : List X) (i : ℕ) (start all : List Entry) → all ≡ start ++ map f (take i ys) → length ys ≤ i → ys ≡ xs → xs ≡ zs → all ≡ start ++ map f zs
+map_whole f xs zs ys i start all told past same is = told ∙ ap (λ l. start ++ map f l) (take_all i ys past ∙ (same ∙ is))

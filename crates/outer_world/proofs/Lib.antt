@@ -8,3 +8,4 @@ pub mod Airing
 pub mod Going
 pub mod Doings
 pub mod Items
+pub mod Taking

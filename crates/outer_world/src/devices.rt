@@ -13,7 +13,7 @@ use crate::acting::Act;
 use device_sim::Device;
 use mesh_sim::place_in;
 use std::alloc::Global;
-use zw_base::{List, NoMemory, NodeId, Profile, Replies};
+use zw_base::{List, NoMemory, NodeId, Profile, Replies, Setting};
 use zw_text::Entry;
 
 /// What a device tells of itself while it is awake.
@@ -59,6 +59,17 @@ pub(crate) fn tell_device(
     ensures { OnOk result (told.new.items ≡ told.old.items ++ device_entries node (Some (state device.now))) }
 {
     let shown = device.show(alloc)?;
+    tell_shown(node, &shown, told)
+}
+
+/// Settings are told as those of a device.
+fn tell_shown(
+    node: NodeId,
+    shown: &List<Setting>,
+    told: &mut List<Entry>,
+) -> Result<(), NoMemory>
+    ensures { OnOk result (told.new.items ≡ told.old.items ++ map (λ setting. Entry.Device node setting) shown.now.items) }
+{
     for setting in shown.as_slice() {
         told.push(Entry::Device {
             node,

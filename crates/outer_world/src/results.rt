@@ -29,9 +29,7 @@ impl Outer {
     ) -> Result<(), NoMemory>
         ensures { OnOk result (Does (call_back self.old status) self.new told.old.items told.new.items) }
     {
-        if !self.calls.is_empty() {
-            self.calls.remove(0);
-        }
+        self.drop_call();
         if !self.chip.owes_call() {
             return Ok(());
         }
@@ -40,16 +38,20 @@ impl Outer {
         self.put_outputs(&outputs, told)
     }
 
+    /// The call that the chip waits for longest is no longer waited for.
+    fn drop_call(&mut self)
+        ensures { self.new ≡ record self.old { calls = drop 1 self.old.calls } }
+    {
+        if !self.calls.is_empty() {
+            self.calls.remove(0);
+        }
+    }
+
     /// The first result without a route is no longer due.
     fn drop_no_route(&mut self)
         ensures { self.new ≡ record self.old { due = without_no_route self.old.due } }
     {
-        for at in 0..self.due.len() {
-            if self.due[at] == Due::NoRoute {
-                self.due.remove(at);
-                return;
-            }
-        }
+        remove_no_route(&mut self.due);
     }
 
     /// The chip is given the first result without a route.
@@ -202,6 +204,18 @@ impl Outer {
                 told_profile(&devices[place], self.alloc)
             }
             _ => Ok(None),
+        }
+    }
+}
+
+/// Takes out the first result without a route.
+fn remove_no_route(due: &mut Vec<Due>)
+    ensures { due.new.items ≡ without_no_route due.old.items }
+{
+    for at in 0..due.len() {
+        if let Due::NoRoute = due[at] {
+            due.remove(at);
+            return;
         }
     }
 }

@@ -1,6 +1,7 @@
 //! The serial line: what host and chip write and take.
 
 ghost use Rattle.std.specs.Prelude.{◌≡◌, ℕ, ◌++◌, ◌+◌, ◌<◌, ◌≤◌, ◌∷◌, [], false, length, take, drop, min, OnOk, OnErr, IfOk};
+ghost use Rattle.serial_pipes.specs.Events.{after, Takes};
 ghost use Rattle.outer_world.specs.State.{is_stalled};
 ghost use Rattle.outer_world.specs.Events.{Host_writes, Host_takes, Marks_loss, Marks_change, Clears_pipe};
 ghost use Rattle.outer_world.specs.Did.{Goes, GoesOf};
@@ -8,7 +9,7 @@ ghost use Rattle.outer_world.specs.Schedules.{ChipTakes, TakesBytes, any_moves};
 
 use crate::Outer;
 use serial_frame::Unit;
-use serial_pipes::{CAPACITY, Garble};
+use serial_pipes::{CAPACITY, Garble, Way};
 use zw_base::{List, NoMemory};
 use zw_text::{Entry, Side};
 
@@ -89,10 +90,10 @@ impl Outer {
             × TakesBytes count self.old self.new told.old.items told.new.items) }
     {
         let mut buffer = [0; CAPACITY];
-        let len = self.piece();
-        let count = self.to_chip.take(&mut buffer[..len]);
+        let most = self.piece();
+        let piece = take_into(&mut self.to_chip, &mut buffer, most);
         let mut outputs = List::new(self.alloc);
-        self.chip.feed(&buffer[..count], &mut outputs)?;
+        self.chip.feed(piece, &mut outputs)?;
         self.put_outputs(&outputs, told)
     }
 
@@ -136,4 +137,14 @@ impl Outer {
         }
         self.enter(told, out)
     }
+}
+
+/// Moves the first bytes of a direction into a buffer, and answers with them.
+fn take_into<'a>(way: &mut Way, buffer: &'a mut [u8; CAPACITY], most: usize) -> &'a [u8]
+    requires to_max { most ≤ CAPACITY }
+    ensures read { result.now ≡ take most way.old.bytes }
+    ensures way { way.new ≡ after way.old (Takes (length result.now)) }
+{
+    let count = way.take(&mut buffer[..most]);
+    &buffer[..count]
 }
