@@ -64,6 +64,10 @@ ticked r o mid new moved start outputs first entries before all decoder state no
     (does_chip o moved (after_tick o.chip.decoder) Ticked mid start outputs first entries decoder state none put done) outer entered)
 
 -- the chip waits for a result
+or_true : (b : Bool) → (b || true) ≡ true
+or_true true = refl
+or_true false = refl
+
 owes_yes : (s : ChipState) → OwesCall s → owes_call s ≡ true
 owes_yes s owes = by_parts s.aborted s.sending owes
   where
@@ -71,9 +75,6 @@ owes_yes s owes = by_parts s.aborted s.sending owes
     by_parts n o (inl some) = ap (λ (b : Bool). b || is_some o) (lt-ltb 0 n some)
     by_parts n (Some sending) (inr some) = or_true (nat_lt 0 n)
     by_parts n None (inr some) = absurd (search (rules, some))
-    or_true : (b : Bool) → (b || true) ≡ true
-    or_true true = refl
-    or_true false = refl
 
 -- the chip was given a result
 module _ (o new : OuterState) (status : TransmitStatus) (before all : List Entry) where
@@ -126,3 +127,11 @@ called r o q new status moved start outputs before all is owes same state none p
     (subst (λ (p : ChipParts). OwesCall p.state) back owes) (same ∙ ap (λ (p : ChipParts). p.decoder) back) (state ∙ ap (λ (p : ChipParts). after p.state (Done status)) back)
     none (put ∙ ap (λ (p : ChipParts). start ++ outs p.state (Done status)) back)
     (subst (λ (p : OuterState). Does (each put_out (record p { chip = moved }) outputs) new before all) is did)) done
+
+pub reached_ok : {V E : Type 0} (r : Result V E) (o new : OuterState) (from : ℕ) (payload : List ℕ) (moved : ChipParts) (start outputs : List ChipOut) (before all : List Entry)
+    → 1 ≤ length payload → length payload ≤ 46 → moved.decoder ≡ o.chip.decoder → moved.state ≡ after o.chip.state (Heard from payload)
+    → start ≡ [] → outputs ≡ start ++ outs o.chip.state (Heard from payload)
+    → OnOk r (Does (each put_out (record o { chip = moved }) outputs) new before all) → OnOk r (Does (to_chip o from payload) new before all)
+reached_ok r o new from payload moved start outputs before all low high same state none put done =
+    map_ok r (Does (each put_out (record o { chip = moved }) outputs) new before all) (Does (to_chip o from payload) new before all)
+    (reached o new from payload moved start outputs before all low high same state none put) done

@@ -19,12 +19,12 @@ does_then first next mid new before some all done later = record {
 }
 
 -- what was done first may be left out of what was told
-does_rest : (first : Outcome) (next : OuterState → Outcome) (new : OuterState) (before all : List Entry)
+pub does_rest : (first : Outcome) (next : OuterState → Outcome) (new : OuterState) (before all : List Entry)
     → Does (and_then first next) new before all → Does (next first.outer) new (before ++ first.entries) all
 does_rest first next new before all done =
     record { outer = done.outer; entries = done.entries ∙ sym (append_assoc before first.entries (next first.outer).entries) }
 
-does_whole : (first : Outcome) (next : OuterState → Outcome) (new : OuterState) (before all : List Entry)
+pub does_whole : (first : Outcome) (next : OuterState → Outcome) (new : OuterState) (before all : List Entry)
     → Does (next first.outer) new (before ++ first.entries) all → Does (and_then first next) new before all
 does_whole first next new before all done =
     record { outer = done.outer; entries = done.entries ∙ append_assoc before first.entries (next first.outer).entries }
