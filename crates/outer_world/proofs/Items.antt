@@ -1,5 +1,9 @@
 -- Loops over the items of a list.
-use Rattle.std.proofs.Common.{◌≡◌, ℕ, suc, ◌+◌, ◌<◌, ◌≤◌, All, map, List, [], ◌∷◌, ◌++◌, length, take, drop, get_or, refl, ap, sym, ◌∙◌, subst, append_assoc, arith, add-one}
+use Rattle.std.specs.Prelude.{slice_get}
+use Rattle.device_stack.specs.declared.change.Change.{Change}
+use Rattle.outer_world.specs.Air.{change_entries}
+use Rattle.outer_world.specs.Devices.{changes_entries}
+use Rattle.std.proofs.Common.{◌≡◌, ℕ, zero, suc, ◌+◌, ◌<◌, ◌≤◌, All, map, List, [], ◌∷◌, ◌++◌, length, take, drop, get_or, refl, ap, sym, ◌∙◌, subst, append_assoc, arith, add-one}
 use Rattle.std.proofs.Math.Seq.{take-suc, drop-cons}
 use Rattle.std.proofs.lemmas.List.{take_all}
 use Rattle.zw_text.specs.declared.entry.Entry.{Entry}
@@ -36,3 +40,17 @@ module _ {X : Type 0} (xs ys : List X) (i : ℕ) (same : ys ≡ xs) (past : leng
 -- what was told of all items
 pub map_whole : {X : Type 0} (f : X → Entry) (xs zs ys : List X) (i : ℕ) (start all : List Entry) → all ≡ start ++ map f (take i ys) → length ys ≤ i → ys ≡ xs → xs ≡ zs → all ≡ start ++ map f zs
 map_whole f xs zs ys i start all told past same is = told ∙ ap (λ l. start ++ map f l) (take_all i ys past ∙ (same ∙ is))
+
+-- a change is told, and those after it are left
+changes_split : (node : ℕ) (js : List Change) (at : ℕ) → at < length js → changes_entries node (drop at js) ≡ change_entries node (slice_get js at) ++ changes_entries node (drop (suc at) js)
+changes_split node [] at lt = absurd (omega arith)
+changes_split node (j ∷ js) zero lt = refl
+changes_split node (j ∷ js) (suc at) lt = changes_split node js at (omega arith)
+
+pub change_more : (node : ℕ) (js : List Change) (at : ℕ) (start told whole : List Entry) → at < length js → told ≡ start ++ change_entries node (slice_get js at)
+    → start ++ changes_entries node (drop at js) ≡ whole → told ++ changes_entries node (drop (at + 1) js) ≡ whole
+change_more node js at start told whole lt put inv =
+    ap (λ (l : List Entry). l ++ changes_entries node (drop (at + 1) js)) put
+    ∙ (append_assoc start (change_entries node (slice_get js at)) (changes_entries node (drop (at + 1) js))
+    ∙ (ap (λ n. start ++ (change_entries node (slice_get js at) ++ changes_entries node (drop n js))) (add-one at)
+    ∙ (ap (λ (l : List Entry). start ++ l) (sym (changes_split node js at lt)) ∙ inv)))
