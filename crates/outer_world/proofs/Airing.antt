@@ -66,9 +66,9 @@ repeat_runs o new ds later number drawn route before all allowed may devices don
   Repeats number drawn route ∷ [],
   (drawn, route, refl),
   run_one (Repeats number drawn route) (outside o ds) new later before all
-  (subst (λ (r : Option RepeatRefusal). MayRepeat (outside o ds) r (repeats_frame number drawn route)) (sym allowed) may)
-  (subst (λ (r : Option RepeatRefusal). Enters (repeats (outside o ds) r (repeats_frame number drawn route)) new before all) (sym allowed) done)
-  (devices ∙ ap (λ (r : Option RepeatRefusal). devices_repeated (outside o ds) r (repeats_frame number drawn route)) (sym allowed)),
+      (subst (λ (r : Option RepeatRefusal). MayRepeat (outside o ds) r (repeats_frame number drawn route)) (sym allowed) may)
+      (subst (λ (r : Option RepeatRefusal). Enters (repeats (outside o ds) r (repeats_frame number drawn route)) new before all) (sym allowed) done)
+      (devices ∙ ap (λ (r : Option RepeatRefusal). devices_repeated (outside o ds) r (repeats_frame number drawn route)) (sym allowed)),
 )
 
 pub repeat_stops : (o : OuterState) (ds later : States) (number : ℕ) (drawn : List ℕ) (route : Option Route) (before all : List Entry)
@@ -88,9 +88,9 @@ refusal_runs o new ds number refused before all is done = (
   Repeats number [] None ∷ [],
   ([], None, refl),
   run_one (Repeats number [] None) (outside o ds) new ds before all
-  (subst (λ (r : Option RepeatRefusal). MayRepeat (outside o ds) r (repeats_frame number [] None)) (sym is) tt)
-  (subst (λ (r : Option RepeatRefusal). Enters (repeats (outside o ds) r (repeats_frame number [] None)) new before all) (sym is) done)
-  (ap (λ (r : Option RepeatRefusal). devices_repeated (outside o ds) r (repeats_frame number [] None)) (sym is)),
+      (subst (λ (r : Option RepeatRefusal). MayRepeat (outside o ds) r (repeats_frame number [] None)) (sym is) tt)
+      (subst (λ (r : Option RepeatRefusal). Enters (repeats (outside o ds) r (repeats_frame number [] None)) new before all) (sym is) done)
+      (ap (λ (r : Option RepeatRefusal). devices_repeated (outside o ds) r (repeats_frame number [] None)) (sym is)),
 )
 
 -- a step of the air was cut short

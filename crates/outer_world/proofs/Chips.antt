@@ -103,10 +103,10 @@ pub does_takes : (o new : OuterState) (count : ℕ) (chip : ChipParts) (ways : L
 does_takes o new count chip ways outputs before all state put done =
     let w : WayState = way.after o.to_chip (Takes count) in
     let same : each put_out (with_intake o chip w) outputs ≡ chip_takes o count chip.decoder ways =
-        each_framed outputs o chip w
-        ∙ (ap (λ (l : List ChipOut). framed (each put_out o l) chip w) put
-        ∙ (ap (λ (s : ChipState). framed (each put_out o (outs_all o.chip.state (judged_all ways))) (record { decoder = chip.decoder; state = s }) w) state
-        ∙ sym (takes_closed o count chip.decoder ways))) in
+    each_framed outputs o chip w
+    ∙ (ap (λ (l : List ChipOut). framed (each put_out o l) chip w) put
+    ∙ (ap (λ (s : ChipState). framed (each put_out o (outs_all o.chip.state (judged_all ways))) (record { decoder = chip.decoder; state = s }) w) state
+    ∙ sym (takes_closed o count chip.decoder ways))) in
     subst (λ (out : Outcome). Does out new before all) same done
 
 -- the chip took more bytes
@@ -132,26 +132,27 @@ takes_more a b c n m r q u v x y z may done later more =
     let outputs : outs_all s (judged_all (u ++ v)) ≡ outs_all s (judged_all u) ++ others = ap (λ (l : List ChipEvent). outs_all s l) events ∙ outs_all-append s (judged_all u) (judged_all v) in
     let moved : way.after a.to_chip (Takes (n + m)) ≡ way.after w (Takes m) = ap (λ (l : List ℕ). record { bytes = l; marks = a.to_chip.marks }) (sym (drop-drop m n a.to_chip.bytes)) in
     let whole : chip_takes a (n + m) q (u ++ v) ≡ framed (and_then first (λ o. each put_out o others)) (record { decoder = q; state = after_all chip.state (judged_all v) }) (way.after w (Takes m)) =
-        takes_closed a (n + m) q (u ++ v)
-        ∙ (ap (λ (l : List ChipOut). framed (each put_out a l) (record { decoder = q; state = after_all s (judged_all (u ++ v)) }) (way.after a.to_chip (Takes (n + m)))) outputs
-        ∙ (ap (λ (o : Outcome). framed o (record { decoder = q; state = after_all s (judged_all (u ++ v)) }) (way.after a.to_chip (Takes (n + m)))) (put-append (outs_all s (judged_all u)) others a)
-        ∙ (ap (λ (t : ChipState). framed (and_then first (λ o. each put_out o others)) (record { decoder = q; state = t }) (way.after a.to_chip (Takes (n + m)))) state
-        ∙ ap (λ (t : WayState). framed (and_then first (λ o. each put_out o others)) (record { decoder = q; state = after_all chip.state (judged_all v) }) t) moved))) in
+    takes_closed a (n + m) q (u ++ v)
+    ∙ (ap (λ (l : List ChipOut). framed (each put_out a l) (record { decoder = q; state = after_all s (judged_all (u ++ v)) }) (way.after a.to_chip (Takes (n + m)))) outputs
+    ∙ (ap (λ (o : Outcome). framed o (record { decoder = q; state = after_all s (judged_all (u ++ v)) }) (way.after a.to_chip (Takes (n + m)))) (put-append (outs_all s (judged_all u)) others a)
+    ∙ (ap (λ (t : ChipState). framed (and_then first (λ o. each put_out o others)) (record { decoder = q; state = t }) (way.after a.to_chip (Takes (n + m)))) state
+    ∙ ap (λ (t : WayState). framed (and_then first (λ o. each put_out o others)) (record { decoder = q; state = after_all chip.state (judged_all v) }) t) moved))) in
     let rest : chip_takes mid m q v ≡ framed second (record { decoder = q; state = after_all chip.state (judged_all v) }) (way.after w (Takes m)) =
-        takes_closed mid m q v ∙ ap (λ (o : Outcome). framed o (record { decoder = q; state = after_all chip.state (judged_all v) }) (way.after w (Takes m))) (each_framed others first.outer chip w) in
-    (record {
-      moves = may.moves;
-      feeds = subst (λ (l : List Item). Feeds a.chip.decoder (take (n + m) a.to_chip.bytes) q l) (sym items)
-          (subst (λ (l : List ℕ). Feeds a.chip.decoder l q (map item_of u ++ map item_of v)) (sym (take-add n m a.to_chip.bytes))
-          (feeds-append a.chip.decoder (take n a.to_chip.bytes) r (map item_of u) (take m (drop n a.to_chip.bytes)) q (map item_of v) may.feeds may_mid.feeds));
-      judges = subst (λ (l : List ChipEvent). MayAll s l) (sym events) (may_all-append s (judged_all u) (judged_all v) may.judges may_mid.judges);
-    },
-    record {
-      outer = done_mid.outer ∙ (ap (λ (o : Outcome). o.outer) rest ∙ sym (ap (λ (o : Outcome). o.outer) whole));
-      entries = done_mid.entries ∙ (ap (λ (o : Outcome). y ++ o.entries) rest
-          ∙ (ap (λ (l : List Entry). l ++ second.entries) told
-          ∙ (append_assoc x first.entries second.entries ∙ sym (ap (λ (o : Outcome). x ++ o.entries) whole))));
-    })
+    takes_closed mid m q v ∙ ap (λ (o : Outcome). framed o (record { decoder = q; state = after_all chip.state (judged_all v) }) (way.after w (Takes m))) (each_framed others first.outer chip w) in (
+      record {
+        moves = may.moves;
+        feeds = subst (λ (l : List Item). Feeds a.chip.decoder (take (n + m) a.to_chip.bytes) q l) (sym items)
+            (subst (λ (l : List ℕ). Feeds a.chip.decoder l q (map item_of u ++ map item_of v)) (sym (take-add n m a.to_chip.bytes))
+            (feeds-append a.chip.decoder (take n a.to_chip.bytes) r (map item_of u) (take m (drop n a.to_chip.bytes)) q (map item_of v) may.feeds may_mid.feeds));
+        judges = subst (λ (l : List ChipEvent). MayAll s l) (sym events) (may_all-append s (judged_all u) (judged_all v) may.judges may_mid.judges);
+      },
+      record {
+        outer = done_mid.outer ∙ (ap (λ (o : Outcome). o.outer) rest ∙ sym (ap (λ (o : Outcome). o.outer) whole));
+        entries = done_mid.entries ∙ (ap (λ (o : Outcome). y ++ o.entries) rest
+            ∙ (ap (λ (l : List Entry). l ++ second.entries) told
+            ∙ (append_assoc x first.entries second.entries ∙ sym (ap (λ (o : Outcome). x ++ o.entries) whole))));
+      },
+    )
 
 -- what is left, and that no stall began
 pub takes_bytes : (old new : OuterState) (count : ℕ) (rest : Rest) (ways : List (Item × Option Route)) (before all : List Entry)
@@ -159,7 +160,7 @@ pub takes_bytes : (old new : OuterState) (count : ℕ) (rest : Rest) (ways : Lis
 takes_bytes old new count rest ways before all may done =
     let outputs : List ChipOut = outs_all old.chip.state (judged_all ways) in
     let is : new ≡ with_intake (each put_out old outputs).outer (record { decoder = rest; state = after_all old.chip.state (judged_all ways) }) (way.after old.to_chip (Takes count)) =
-        done.outer ∙ ap (λ (o : Outcome). o.outer) (takes_closed old count rest ways) in
+    done.outer ∙ ap (λ (o : Outcome). o.outer) (takes_closed old count rest ways) in
     let keeps = each_keeps outputs old in
     record {
       rest = rest;

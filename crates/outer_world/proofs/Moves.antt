@@ -46,9 +46,9 @@ module _ (o : OuterState) (ds later : States) (place : ℕ) (d d' : State) (draw
     Device_ticks place drawn did.0 ∷ [],
     (drawn, did.0, [], refl, refl),
     run_one (Device_ticks place drawn did.0) (outside o ds) new later before all
-    (may_act o ds later place d d' (Ticks drawn) at set_is did.0 did.1)
-    (enters_at o ds later place d d' (Ticks drawn) at set_is did.0 new before all did.2)
-    (moved o ds later place d d' (Ticks drawn) at set_is after),
+        (may_act o ds later place d d' (Ticks drawn) at set_is did.0 did.1)
+        (enters_at o ds later place d d' (Ticks drawn) at set_is did.0 new before all did.2)
+        (moved o ds later place d d' (Ticks drawn) at set_is after),
   )
 
   -- or it stops in that

@@ -46,7 +46,9 @@ impl Outer {
             AirEvent::Lost(frame) => told.push(Entry::Lost { frame: *frame })?,
             AirEvent::Unheard(frame) => told.push(Entry::Unheard { frame: *frame })?,
             AirEvent::Sent { .. } => tell_sent(self.alloc, event, told)?,
-            AirEvent::Changed { node, at } => tell_change_of(self.alloc, *node, *at, devices, told)?,
+            AirEvent::Changed { node, at } => tell_change_of(
+                self.alloc, *node, *at, devices, told,
+            )?,
             AirEvent::ToChip { from, payload, .. } => self.reach_chip(*from, payload, told)?,
             AirEvent::Done { status, dead, .. } => self.end_frame(*status, *dead, told)?,
         }

@@ -17,7 +17,10 @@ use zw_base::{List, NoMemory, NodeId, Profile, Replies, Setting};
 use zw_text::Entry;
 
 /// What a device tells of itself while it is awake.
-pub(crate) fn told_profile(device: &Box<dyn Device>, alloc: Global) -> Result<Option<Profile>, NoMemory>
+pub(crate) fn told_profile(
+    device: &Box<dyn Device>,
+    alloc: Global,
+) -> Result<Option<Profile>, NoMemory>
     ensures told { IfOk result (λ profile. profile ≡ told_profile (Some (state device.now))) }
     ensures fits { IfOk result (λ profile. FitsProfile profile) }
 {
@@ -63,11 +66,7 @@ pub(crate) fn tell_device(
 }
 
 /// Settings are told as those of a device.
-fn tell_shown(
-    node: NodeId,
-    shown: &List<Setting>,
-    told: &mut List<Entry>,
-) -> Result<(), NoMemory>
+fn tell_shown(node: NodeId, shown: &List<Setting>, told: &mut List<Entry>) -> Result<(), NoMemory>
     ensures { OnOk result (told.new.items ≡ told.old.items ++ map (λ setting. Entry.Device node setting) shown.now.items) }
 {
     for setting in shown.as_slice() {

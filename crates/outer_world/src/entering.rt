@@ -10,11 +10,7 @@ use zw_text::Entry;
 
 impl Outer {
     /// Enters what an event told, after the number of the tick where that is not entered yet.
-    pub(crate) fn enter(
-        &mut self,
-        told: List<Entry>,
-        out: &mut List<Entry>,
-    ) -> Result<(), NoMemory>
+    pub(crate) fn enter(&mut self, told: List<Entry>, out: &mut List<Entry>) -> Result<(), NoMemory>
         ensures outer { OnOk result (self.new ≡ has_entered self.old told.items) }
         ensures entered { OnOk result (out.new.items ≡ out.old.items ++ stamp self.old told.items) }
         ensures no_entries { OnErr result (out.new.items ≡ out.old.items) }

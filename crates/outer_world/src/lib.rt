@@ -8,17 +8,17 @@
 //! done with what chip, air and devices give), `Events`, `Did` (lists of events) and `Schedules` (which list a call is).
 #![tactic(auto)]
 
-mod waits;
-mod outer;
+mod acting;
+mod air;
+mod dealing;
+mod devices;
 mod entering;
-mod serial;
+mod lines;
+mod nodes;
+mod outer;
 mod outputs;
 mod results;
-mod dealing;
-mod air;
-mod acting;
-mod devices;
-mod nodes;
-mod lines;
+mod serial;
+mod waits;
 
 pub use outer::Outer;

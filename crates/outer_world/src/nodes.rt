@@ -44,11 +44,7 @@ impl Outer {
     }
 
     /// A node joins in the air and to the chip: as one that listens where the list has a device of it that does.
-    pub fn join(
-        &mut self,
-        node: NodeId,
-        devices: &Vec<Box<dyn Device>>,
-    ) -> Result<(), NoMemory>
+    pub fn join(&mut self, node: NodeId, devices: &Vec<Box<dyn Device>>) -> Result<(), NoMemory>
         requires few { length devices.now.items < 2 ^ 64 }
         ensures ok { OnOk result (GoesFor (map (λ d. state d) devices.now.items) (IsOne (Joins node)) self.old self.new [] []) }
         ensures err { OnErr result (self.new ≡ self.old) }

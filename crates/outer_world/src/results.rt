@@ -113,7 +113,10 @@ impl Outer {
     {
         self.forget(dead, told)?;
         self.give_no_routes(self.leading(), told)?;
-        self.call_back(TransmitStatus::of(status).unwrap_or(TransmitStatus::Fail), told)
+        self.call_back(
+            TransmitStatus::of(status).unwrap_or(TransmitStatus::Fail),
+            told,
+        )
     }
 
     /// What is due to the chip is given to it, in its order.
