@@ -69,6 +69,13 @@ impl Link {
         self.collisions += 1;
     }
 
+    /// Whether one more collision can be asked for: until 2 ^ 64 - 1 are.
+    pub fn can_collide(&self) -> bool
+        ensures { IsTrue result ↔ (self.now.side.collisions + 1 < 2 ^ 64) }
+    {
+        self.collisions < u64::MAX
+    }
+
     /// Submits a frame, which is written at once. A frame that is refused is given up.
     pub fn submit(&mut self, frame: Frame, out: &mut List<LinkOut>) -> Result<(), SubmitFault>
         ensures ok { OnOk result (self.new ≡ submitted_link self.old frame) }

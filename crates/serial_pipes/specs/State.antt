@@ -1,4 +1,4 @@
--- One direction of the serial line between host and chip (this project's own rule, docs/SERIAL.md).
+-- One direction of the serial line between host and chip (this project's own rule, docs/OUTSIDE.md).
 use Rattle.std.specs.Prelude.{ℕ, ◌+◌, ◌-◌, Bool, nat_le, nat_lt, min, if◌then◌else◌, List, [], ◌∷◌, ◌++◌, length, drop, slice_set, slice_index, bit_xor}
 use Rattle.serial_frame.specs.declared.unit.Unit.{Unit as LineUnit}
 use Rattle.serial_frame.specs.declared.unit.Unit.TheVariants.{Ack, Nak, Can, Framed}

@@ -73,12 +73,7 @@ impl Way {
     }
 
     /// A side writes a unit: by the marks it is lost, or changed, and it may find no room. What is told of it is entered.
-    pub fn write(
-        &mut self,
-        side: Side,
-        unit: &Unit,
-        out: &mut List<Entry>,
-    ) -> Result<(), NoMemory>
+    pub fn write(&mut self, side: Side, unit: &Unit, out: &mut List<Entry>) -> Result<(), NoMemory>
         ensures way { OnOk result (self.new ≡ after self.old (Writes unit.now)) }
         ensures told { OnOk result (out.new.items ≡ out.old.items ++ told side self.old unit.now) }
         ensures err { OnErr result (self.new ≡ self.old) }
