@@ -10,8 +10,6 @@ mod machine;
 mod running;
 mod scenario;
 mod status;
-#[cfg(test)]
-mod tests;
 mod writing;
 
 pub use machine::Machine;
