@@ -139,7 +139,13 @@ fn hostile_payloads_change_nothing(rt: HostRuntime) -> Result<(), Fail> {
     let rest = [6, 0x84, 4, 0, 0x0E, 0x10, 1].as_slice();
     survives(&rt, alloc, make_sensor(alloc, node(&rt, 5), KEY)?, rest, 6);
     let rest = [3, 0x40, 1, 1].as_slice();
-    survives(&rt, alloc, make_thermostat(alloc, node(&rt, 6), KEY)?, rest, 6);
+    survives(
+        &rt,
+        alloc,
+        make_thermostat(alloc, node(&rt, 6), KEY)?,
+        rest,
+        6,
+    );
     let rest = [5, 0x70, 4, 7, 1, 9].as_slice();
     survives(&rt, alloc, make_config(alloc, node(&rt, 8), KEY)?, rest, 6);
     Ok(())

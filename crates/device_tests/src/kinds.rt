@@ -29,13 +29,7 @@ fn tells<D: Device>(
 }
 
 /// The change at that place is by this, with so many settings, of which the first has this value.
-fn changed<D: Device>(
-    rt: &impl Abort,
-    alloc: Global,
-    device: &D,
-    at: u64,
-    want: (By, usize, u32),
-) {
+fn changed<D: Device>(rt: &impl Abort, alloc: Global, device: &D, at: u64, want: (By, usize, u32)) {
     let found = device.change(alloc, at).expect(rt, "memory");
     let change = found.expect(rt, "a change");
     let (by, count, value) = want;
