@@ -35,17 +35,18 @@ use Rattle.device_stack.specs.Telling.{told}
 use Rattle.device_stack.specs.Sealing.{keys_of, unsealed_at}
 use Rattle.device_stack.specs.Effects.{end_of, set_plainly, effect_untold, telling, effect_alone, effect_in_session, effect_by, effect_of, takes, after_effect}
 use Rattle.device_stack.specs.Hearing.{Answered, answers, answers_opened, answers_bytes, hears_openly, nonce_named, sent_sealed, hears_inside, hears_plain, hears_for, hears_sealed, seals_for, hears_nonces, hears_securely, segment_session, assembles, repeats_segment, hears_segment, hears_in_segments, hears_by, active, hears}
+use Rattle.zw_base.specs.declared.property.Setting.{Setting}
 use Rattle.device_sim.specs.Event.{Hears, Sets, outcome_of, device_after}
 use Rattle.device_sim.specs.Laws.{IsHeard}
 
--- ---- a session is taken only by a device that is not at work
+-- ---- a session is taken only by a device that is not at work, and a plain Set only by one that knows no Supervision
 
 abbrev IsFree : State → Effect → Type 0
 IsFree device (Takes verdict) = device.sessions.status ≢ WORKING
 IsFree device Ignores = Unit {0}
 IsFree device Sleeps = Unit {0}
 IsFree device (Tells report) = Unit {0}
-IsFree device (Sets settings) = Unit {0}
+IsFree device (Sets settings) = lists device.kind 0x6C ≡ false
 IsFree device (Repeats status) = Unit {0}
 
 never : (b : Bool) → b && false ≡ true → ⊥
@@ -56,19 +57,23 @@ not_working : (sessions : Taken) (id : ℕ) → is_new sessions id ≡ true → 
 not_working sessions id e working =
     never (id == wire_id (sessions.taken + 1)) (subst (λ (s : ℕ). (id == wire_id (sessions.taken + 1)) && not (s == WORKING) ≡ true) working e)
 
-plainly_free : (device : State) (kind : Kind) (end : ℕ) (verdict : Verdict) → IsFree device (set_plainly kind end verdict)
-plainly_free device kind end (Makes settings) = by (not (lists kind 0x6C) && has_end kind end)
+sets_free : (device : State) (settings : List Setting) → lists device.kind 0x6C ≡ false → (b : Bool) → IsFree device (if b then Sets settings else Ignores)
+sets_free device settings is true = is
+sets_free device settings is false = tt
+
+plainly_free : (device : State) (end : ℕ) (verdict : Verdict) → IsFree device (set_plainly device.kind end verdict)
+plainly_free device end (Makes settings) = by (lists device.kind 0x6C) refl
   where
-    by : (b : Bool) → IsFree device (if b then Sets settings else Ignores)
-    by true = tt
-    by false = tt
-plainly_free device kind end (Works settings) = tt
-plainly_free device kind end Fails = tt
-plainly_free device kind end NoSupport = tt
+    by : (b : Bool) → lists device.kind 0x6C ≡ b → IsFree device (if not b && has_end device.kind end then Sets settings else Ignores)
+    by true is = tt
+    by false is = sets_free device settings is (has_end device.kind end)
+plainly_free device end (Works settings) = tt
+plainly_free device end Fails = tt
+plainly_free device end NoSupport = tt
 
 untold_free : (device : State) (end : ℕ) (message : InfoMessage) → IsFree device (effect_untold device end message)
 untold_free device end (Core (SwitchBinarySet value)) =
-    plainly_free device device.kind end (judged_set device.kind (value_of device) (last_level_of device) end (SwitchBinarySet value))
+    plainly_free device end (judged_set device.kind (value_of device) (last_level_of device) end (SwitchBinarySet value))
 untold_free device end WakeUpNoMoreInformation = by (not (listens device.kind) && has_end device.kind end)
   where
     by : (b : Bool) → IsFree device (if b then Sleeps else Ignores)
@@ -121,7 +126,7 @@ after_as : (device : State) (plan : Plan) (effect : Effect) → IsFree device ef
 after_as device plan Ignores is = inl (refl, (refl, refl))
 after_as device plan Sleeps is = inl (refl, (refl, refl))
 after_as device plan (Tells report) is = inl (refl, (refl, refl))
-after_as device plan (Sets settings) is = inr (inr (settings, (refl, (refl, refl))))
+after_as device plan (Sets settings) is = inr (inr (settings, (is, (refl, (refl, refl)))))
 after_as device plan (Repeats status) is = inl (refl, (refl, refl))
 after_as device plan (Takes verdict) is = by plan.session refl
   where

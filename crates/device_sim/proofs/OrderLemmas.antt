@@ -162,7 +162,7 @@ heard_in_order old new (inl untaken) is = untaken_in_order old new untaken is
 heard_in_order old new (inr (inl (verdict, (free, (s, (empty, made)))))) is =
     let now = made_in_order old.journal new.journal old.sessions.taken old.sessions.status old.work_left new.work_left verdict (parts old is) free made in
     whole new (rw s now)
-heard_in_order old new (inr (inr (settings, (j, (s, l))))) is = record {
+heard_in_order old new (inr (inr (settings, (plain, (j, (s, l)))))) is = record {
   rising = rw (s, l) (by_none old.journal new.journal Plain settings (done old) refl j is.rising);
   working = rw (s, l) is.working;
 }

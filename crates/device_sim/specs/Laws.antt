@@ -1,5 +1,5 @@
 -- What one event does to the journal and the sessions of a device, and what therefore holds of every journal.
-use Rattle.std.specs.Prelude.{◌≡◌, ◌≢◌, ℕ, ◌+◌, ◌-◌, ◌<◌, ◌≤◌, ◌⊎◌, ◌==◌, if◌then◌else◌, List, [], ◌∷◌, ◌++◌}
+use Rattle.std.specs.Prelude.{◌≡◌, ◌≢◌, ℕ, ◌+◌, ◌-◌, ◌<◌, ◌≤◌, ◌⊎◌, ◌==◌, if◌then◌else◌, List, [], ◌∷◌, ◌++◌, false}
 use Rattle.zw_base.specs.declared.property.By.{By}
 use Rattle.zw_base.specs.declared.property.By.TheVariants.{Session, Plain, Local}
 use Rattle.zw_base.specs.declared.property.Setting.{Setting}
@@ -8,6 +8,7 @@ use Rattle.transport_segments.specs.Kept.{Empty}
 use Rattle.device_stack.specs.declared.change.Change.{Change}
 use Rattle.device_stack.specs.declared.verdict.Verdict.{Verdict}
 use Rattle.device_stack.specs.declared.verdict.Verdict.TheVariants.{NoSupport, Fails, Makes, Works}
+use Rattle.device_stack.specs.Kind.{lists}
 use Rattle.device_stack.specs.State.{State}
 use Rattle.device_stack.specs.Judging.{status_of}
 use Rattle.device_stack.specs.Effects.{work_ticks}
@@ -38,11 +39,12 @@ IsTaken old new =
     × ((new.reassembly ≡ Empty)
     × IsMade (old.sessions.taken + 1) old.journal new.journal old.work_left new.work_left verdict)))
 
--- a command without a session is made
+-- a command without a session is made, by a kind that knows no Supervision
 abbrev pub IsObeyed : State → State → Type 0
 IsObeyed old new =
     (settings : List Setting)
-    × (IsChanged old.journal Plain settings new.journal × ((new.sessions ≡ old.sessions) × (new.work_left ≡ old.work_left)))
+    × ((lists old.kind 0x6C ≡ false)
+    × (IsChanged old.journal Plain settings new.journal × ((new.sessions ≡ old.sessions) × (new.work_left ≡ old.work_left))))
 
 -- a payload
 abbrev pub IsHeard : State → State → Type 0

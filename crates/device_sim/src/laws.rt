@@ -12,10 +12,10 @@ ghost use Rattle.device_sim.specs.State.{State, fresh};
 ghost use Rattle.device_sim.specs.Event.{DeviceEvent, Hears, Ticks, Wakes, Sets, device_after};
 ghost use Rattle.device_sim.specs.Laws.{IsHeard, IsTicked, IsChanged, IsInOrder};
 
-/// When a change comes, and whose it is. A payload that takes no session and sets nothing plainly leaves the journal as it
-/// was. One that takes the next session is heard by a device that is not at work, empties the reassembly, and makes the
-/// one change of that session at once, or none, or begins work. Work ends at a tick, once, with the one change of the
-/// session that the device is at.
+/// When a change comes, and whose it is. A payload that takes no session leaves the journal as it was, but for a plain Set of a
+/// kind without Supervision. One that takes the next session is heard by a device that is not at work, empties the reassembly,
+/// and makes the one change of that session at once, or none, or begins work. Work ends at a tick, once, with the one change of
+/// the session that the device is at.
 pub fn when_changes_come()
     ensures heard { (device : State) (payload drawn : List ℕ) → IsHeard device (device_after device (Hears payload drawn)) }
     ensures ticked { (device : State) (drawn : List ℕ) → IsTicked device (device_after device (Ticks drawn)) }

@@ -1,6 +1,9 @@
 //! A device that finds no memory once.
 
-ghost use Rattle.std.specs.Prelude.{◌≡◌};
+ghost use Rattle.std.specs.Prelude.{◌≡◌, [], All, IsErr, OnOk, OnErr};
+ghost use Rattle.zw_base.specs.Faults.{raised};
+ghost use Rattle.device_stack.specs.Worded.{IsPayload};
+ghost use Rattle.device_sim.specs.Event.{DeviceEvent, Hears, device_after, device_replies};
 
 use crate::{Change, Device, Profile};
 use std::alloc::Global;
@@ -17,7 +20,9 @@ pub struct Starved<D> {
 impl<D: Device> Starved<D> {
     /// This device, which finds no memory at its call of `hear` of that number, counted from 1.
     pub fn new(inner: D, at: u64) -> Starved<D>
-        ensures { ⟦<Starved<D> as Device>⟧.state result ≡ D.state inner }
+        ensures state { ⟦<Starved<D> as Device>⟧.state result ≡ D.state inner }
+        ensures at { result.at ≡ at }
+        ensures heard { result.heard ≡ 0 }
     {
         Starved {
             inner,
@@ -42,7 +47,19 @@ impl<D: Device> Device for Starved<D> {
         self.inner.awake()
     }
 
-    fn hear(&mut self, payload: &[u8], drawn: [u8; 8], out: &mut Replies) -> Result<(), NoMemory> {
+    fn hear(&mut self, payload: &[u8], drawn: [u8; 8], out: &mut Replies) -> Result<(), NoMemory>
+        requires { out.old ≡ [] }
+        ensures ok { OnOk result (D.state self.new.inner ≡ device_after (D.state self.old.inner) (Hears payload.now drawn)) }
+        ensures replies { OnOk result (out.new ≡ device_replies (D.state self.old.inner) (Hears payload.now drawn)) }
+        ensures sizes { OnOk result (All IsPayload out.new) }
+        ensures err { OnErr result (D.state self.new.inner ≡ D.state self.old.inner) }
+        ensures err_replies { OnErr result (out.new ≡ []) }
+
+        // It finds no memory at the chosen call.
+        ensures starves { raised self.old.heard ≡ self.old.at → IsErr result }
+        ensures counted { self.new.heard ≡ raised self.old.heard }
+        ensures at { self.new.at ≡ self.old.at }
+    {
         self.heard = self.heard.saturating_add(1);
         if self.heard == self.at {
             return Err(NoMemory);
