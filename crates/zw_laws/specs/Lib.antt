@@ -1,0 +1,9 @@
+pub mod Lists
+pub mod Nodes
+pub mod Commands
+pub mod Sessions
+pub mod Once
+pub mod Values
+pub mod Headline
+pub mod Worked
+pub mod WorkedWrong
