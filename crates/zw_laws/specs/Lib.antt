@@ -1,9 +1,16 @@
 pub mod Lists
 pub mod Nodes
 pub mod Commands
+pub mod Restarts
 pub mod Sessions
 pub mod Once
 pub mod Values
 pub mod Headline
+pub mod Repeats
+pub mod Answers
+pub mod Stores
+pub mod Fates
+pub mod Devices
+pub mod Records
 pub mod Worked
 pub mod WorkedWrong
