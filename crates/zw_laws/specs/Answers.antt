@@ -1,6 +1,6 @@
 -- How lines are answered: each order by its number or its refusal, each other line by a refusal where one is due (this
 -- project's own rule). What the keeper and the queue of requests decide is left open here.
-use Rattle.std.specs.Prelude.{◌≡◌, ◌⊎◌, ℕ, ◌+◌, ◌==◌, ◌||◌, ◌&&◌, not, Bool, true, false, if◌then◌else◌, List, [], ◌∷◌, ◌++◌, length, Option, Some, None, is_none, ⊤}
+use Rattle.std.specs.Prelude.{◌≡◌, ◌⊎◌, ℕ, ◌+◌, ◌-◌, ◌==◌, ◌||◌, ◌&&◌, not, Bool, true, false, if◌then◌else◌, List, [], ◌∷◌, ◌++◌, length, take, Option, Some, None, is_none, ⊤}
 use Rattle.std.specs.List.{flat_map, list_any}
 use Rattle.std.specs.Set.{distinct_count}
 use Rattle.zw_base.specs.PropertyOrder.{same_property}
@@ -147,9 +147,13 @@ Follows devices past [] entry = IsNoAnswer entry
 Follows devices past (lines.Command order ∷ more) entry = IsAnswer (answer_to (listing_of devices) past order) entry
 Follows devices past (line ∷ more) entry = IsRefusal line (refusals_to devices past line) entry
 
--- an entry after this past is an answer exactly where it must be one
+-- the entries before the last one
+abbrev pub before_last : List Entry → List Entry
+before_last past = take (length past - 1) past
+
+-- an entry after this past is an answer exactly where it must be one; a line is judged by what stands before it
 abbrev pub MayAnswer : List State → List Entry → Entry → Type 0
-MayAnswer devices past entry = Follows devices past (line_last past) entry
+MayAnswer devices past entry = Follows devices (before_last past) (line_last past) entry
 
 -- a line that need not have an answer
 abbrev pub AsksNothing : List State → List Entry → List Line → Type 0
@@ -160,7 +164,7 @@ AsksNothing devices past (line ∷ more) = refusals_to devices past line ≡ []
 -- every line has the one answer that the transcript so far demands, where the run did not end in it
 pub record AnswersLines (whole : Bool) (devices : List State) (transcript : List Entry) : Type 0 where
   pub between : EachAfter (MayAnswer devices) [] transcript
-  pub in_the_end : whole ≡ true → AsksNothing devices transcript (line_last transcript)
+  pub in_the_end : whole ≡ true → AsksNothing devices (before_last transcript) (line_last transcript)
 
 -- a command is taken back only where a line asks for it and it waits
 abbrev pub MayCancel : List Entry → Entry → Type 0

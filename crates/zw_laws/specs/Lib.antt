@@ -14,3 +14,4 @@ pub mod Devices
 pub mod Records
 pub mod Worked
 pub mod WorkedWrong
+pub mod WorkedWrongHost

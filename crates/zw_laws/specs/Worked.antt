@@ -141,7 +141,7 @@ sleeping_node =
     Written Host (bytes (codes "06")) ∷ Said (codes "interval 5 600") ∷ Accepted 2 5 ∷ Said (codes "tick 2") ∷
     Time 8 ∷ Heard 6 ∷ Written Chip (bytes (codes "010500130300EA")) ∷ Written Host (bytes (codes "06")) ∷ Asleep 5 ∷ []
 
--- `link 1 4`, `join 4`, `interview 4`, `tick 2`, `set 4 on`, `lose 1`, `tick 1`, `tick 110`: a lock; what is drawn or sealed stands here as 0
+-- `link 1 4`, `join 4`, `interview 4`, `tick 2`, `set 4 on`, `lose 1`, `tick 1`, `tick 110`, `repeat 5`: a lock; what is drawn or sealed stands here as 0
 abbrev pub sealed_exchange : List Entry
 sealed_exchange =
     Said (codes "link 1 4") ∷ Said (codes "join 4") ∷ Said (codes "interview 4") ∷
@@ -173,7 +173,17 @@ sealed_exchange =
     Air 8 4 1 [] (bytes (codes "98810000000000000000000000000000010000000000000000")) ∷
     Written Chip (bytes (codes "010500130400ED")) ∷ Written Host (bytes (codes "06")) ∷ Time 109 ∷ Heard 8 ∷
     Written Chip (bytes (codes "011F00040004199881000000000000000000000000000001000000000000000000")) ∷
-    Written Host (bytes (codes "06")) ∷ Out 1 endings.Success ∷ Store 4 (setting 0 names.Lock 255) ∷ []
+    Written Host (bytes (codes "06")) ∷ Out 1 endings.Success ∷ Store 4 (setting 0 names.Lock 255) ∷
+    Said (codes "repeat 5") ∷ Heard 5 ∷ []
+
+-- orders and other lines that are refused
+abbrev pub refused_lines : List Entry
+refused_lines =
+    Said (codes "set 3 on") ∷ Refused refusals.NotJoined ∷ Said (codes "join 3") ∷ Said (codes "set 3 on") ∷
+    Refused refusals.NotInterviewed ∷ Said (codes "set 2 40") ∷ Refused refusals.BadValue ∷ Said (codes "join 3") ∷
+    Refused refusals.AlreadyJoined ∷ Said (codes "repeat 1") ∷ Refused refusals.NeverSent ∷ Said (codes "wake 7") ∷
+    Refused refusals.NoDevice ∷ Said (codes "cancel 1") ∷ Refused (refusals.NotWaiting 1) ∷ Said (codes "send 3 on") ∷
+    Refused refusals.NotInterviewed ∷ []
 
 -- `link 1 8`, `join 8`, `interview 8`, `tick 2`, `bulk 8 0 ..`, `tick 4`: 37 values, in two segments
 abbrev pub long_message : List Entry

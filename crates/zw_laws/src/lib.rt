@@ -9,6 +9,10 @@
 //! transcripts.
 #![tactic(auto)]
 
+mod air;
+mod host;
 mod once;
 
+pub use air::{rejected_fates, worked_fates, worked_frames, worked_losses};
+pub use host::{rejected_answers, worked_answers, worked_cancels, worked_stores};
 pub use once::{rejected_once, worked_once, worked_sessions, worked_successes, worked_values};
