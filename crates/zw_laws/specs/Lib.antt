@@ -12,6 +12,12 @@ pub mod Stores
 pub mod Fates
 pub mod Devices
 pub mod Records
+pub mod Units
+pub mod Carrying
+pub mod Payloads
+pub mod Causes
+pub mod Links
+pub mod Table
 pub mod Worked
 pub mod WorkedWrong
 pub mod WorkedWrongHost
