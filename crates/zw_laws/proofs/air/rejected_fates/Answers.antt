@@ -1,0 +1,46 @@
+use Rattle.std.proofs.Common.{◌≡◌, ℕ, List, length, refl, ap, inl, inr, arith}
+use Rattle.zw_laws.proofs.Computing.{computing}
+use Rattle.zw_laws.proofs.air.rejected_fates.Goals as goal
+
+one_none : ◌≡◌ {A = ℕ} 1 0 → ⊥
+one_none e = omega (arith, e)
+
+two_is_one : ◌≡◌ {A = ℕ} 2 1 → ⊥
+two_is_one e = omega (arith, e)
+
+three_two : ◌≡◌ {A = ℕ} 3 2 → ⊥
+three_two e = omega (arith, e)
+
+one_two : ◌≡◌ {A = ℕ} 1 2 → ⊥
+one_two e = omega (arith, e)
+
+three_one : ◌≡◌ {A = ℕ} 3 1 → ⊥
+three_one e = omega (arith, e)
+
+pub returns-clause-apart : goal.returns-clause-apart
+unfolding computing
+returns-clause-apart c = λ law. three_two law.1.1.1.1.1.1.1.1.1.1.1.1.0.0
+
+pub returns-clause-others : goal.returns-clause-others
+unfolding computing
+returns-clause-others c = λ law. elim law.1.1.1.1.1.1.1.1.1.1.1.1.0.1 [ | inl same ↦ two_is_one same | inr same ↦ three_one same ]
+
+pub returns-clause-at_once : goal.returns-clause-at_once
+unfolding computing
+returns-clause-at_once c = λ law. omega (arith, law.1.1.1.1.1.1.1.1.1.1.1.1.1.0.1)
+
+pub returns-clause-again : goal.returns-clause-again
+unfolding computing
+returns-clause-again c = λ law. one_two law.1.1.1.1.1.1.1.1.1.1.1.0.0
+
+pub returns-clause-left : goal.returns-clause-left
+unfolding computing
+returns-clause-left c = λ law. one_two law.1.1.1.1.1.1.1.1.1.1.1.1.1.1.1.1.1.1.1.1.0
+
+pub returns-clause-unsent : goal.returns-clause-unsent
+unfolding computing
+returns-clause-unsent c = λ law. one_none (ap length law.1.0.1)
+
+pub returns-clause-marked : goal.returns-clause-marked
+unfolding computing
+returns-clause-marked c = λ law. law.1.1.1.1.1.1.1.1.1.1.1.0 (inl refl) (inl refl)

@@ -1,0 +1,95 @@
+use Rattle.std.proofs.Common.{◌≡◌, ℕ, ◌+◌, Bool, true, false, List, [], ◌∷◌, length, refl, sym, ap, inl, inr, arith}
+use Rattle.zw_text.specs.declared.line.Line.{Line}
+use Rattle.zw_text.specs.declared.entry.Entry.{Entry}
+use Rattle.zw_text.specs.declared.entry.Entry.TheVariants.{Accepted, Refused, Store}
+use Rattle.zw_text.specs.declared.entry.Refusal.{Refusal}
+use Rattle.zw_text.specs.declared.entry.Refusal.TheVariants as refusals
+use Rattle.zw_laws.proofs.Computing.{computing}
+use Rattle.zw_laws.proofs.host.rejected_answers.Goals as goal
+
+-- numbers that tell entries apart
+abbrev refusal_tag : Refusal → ℕ
+refusal_tag refusals.KeeperFault = 1
+refusal_tag refusals.BadValue = 2
+refusal_tag refusals.AlreadyJoined = 3
+refusal_tag _ = 4
+
+abbrev tag : Entry → ℕ
+tag (Accepted command node) = 10 + command
+tag (Refused refusal) = refusal_tag refusal
+tag (Store node setting) = 1000 + setting.value
+tag _ = 0
+
+abbrev first_tag : List Entry → ℕ
+first_tag [] = 5
+first_tag (entry ∷ rest) = tag entry
+
+eleven_zero : ◌≡◌ {A = ℕ} 11 0 → ⊥
+eleven_zero e = omega (arith, e)
+
+eleven_two : ◌≡◌ {A = ℕ} 11 2 → ⊥
+eleven_two e = omega (arith, e)
+
+eleven_twelve : ◌≡◌ {A = ℕ} 11 12 → ⊥
+eleven_twelve e = omega (arith, e)
+
+zero_one : ◌≡◌ {A = ℕ} 0 1 → ⊥
+zero_one e = omega (arith, e)
+
+two_one : ◌≡◌ {A = ℕ} 2 1 → ⊥
+two_one e = omega (arith, e)
+
+twelve_one : ◌≡◌ {A = ℕ} 12 1 → ⊥
+twelve_one e = omega (arith, e)
+
+three_zero : ◌≡◌ {A = ℕ} 3 0 → ⊥
+three_zero e = omega (arith, e)
+
+none_stored : ◌≡◌ {A = ℕ} 5 1255 → ⊥
+none_stored e = omega (arith, e)
+
+zero_stored : ◌≡◌ {A = ℕ} 1000 1255 → ⊥
+zero_stored e = omega (arith, e)
+
+not_true : false ≡ true → ⊥
+not_true e = cc
+
+pub returns-clause-unanswered : goal.returns-clause-unanswered
+unfolding computing
+returns-clause-unanswered c = λ law. elim law.between.1.0 [ | inl same ↦ eleven_zero (ap first_tag same) | inr kept ↦ zero_one (ap tag kept.1) ]
+
+pub returns-clause-freely : goal.returns-clause-freely
+unfolding computing
+returns-clause-freely c = λ law. elim law.between.1.0 [ | inl same ↦ eleven_two (ap first_tag same) | inr kept ↦ two_one (ap tag kept.1) ]
+
+pub returns-clause-wrongly : goal.returns-clause-wrongly
+unfolding computing
+returns-clause-wrongly c = λ law. elim law.between.1.0 [ | inl same ↦ eleven_twelve (ap first_tag same) | inr kept ↦ twelve_one (ap tag kept.1) ]
+
+pub returns-clause-unasked : goal.returns-clause-unasked
+unfolding computing
+returns-clause-unasked c = λ law. law.between.0
+
+pub returns-clause-again : goal.returns-clause-again
+unfolding computing
+returns-clause-again c = λ law. three_zero (ap tag law.between.1.0)
+
+pub returns-clause-cancelled : goal.returns-clause-cancelled
+unfolding computing
+returns-clause-cancelled c = λ law. zero_one (ap length law.1.1.0.0)
+
+pub returns-clause-late : goal.returns-clause-late
+unfolding computing
+returns-clause-late c = λ law. not_true law.1.1.1.1.1.1.1.1.1.0.1
+
+pub returns-clause-not_stored : goal.returns-clause-not_stored
+unfolding computing
+returns-clause-not_stored c = λ law. none_stored (ap first_tag (law.all refl))
+
+pub returns-clause-otherwise : goal.returns-clause-otherwise
+unfolding computing
+returns-clause-otherwise c = λ law. zero_stored (ap first_tag (law.all refl))
+
+pub returns-clause-before : goal.returns-clause-before
+unfolding computing
+returns-clause-before c = λ law. law.behind.1.1.1.1.1.1.1.1.1.1.1.1.1.1.1.1.1.1.1.0

@@ -1,0 +1,51 @@
+-- That both sides of the serial line obey its rules (Serial API: acknowledgement and retransmission; the waits and the number
+-- of copies are this project's own). The chip obeys them over the whole run, the host from each restart to the next.
+use Rattle.std.specs.Prelude.{◌≡◌, ◌≤◌, ℕ, not, ◌&&◌, Bool, true, if◌then◌else◌, List, [], ◌∷◌, ◌++◌}
+use Rattle.std.specs.List.{flat_map, AllByRecursion}
+use Rattle.serial_frame.specs.Items.{unit_text}
+use Rattle.serial_frame.specs.Stream.{Signal, Rest, bytes_of, marks_of, Splits}
+use Rattle.serial_link.specs.State.{Side as LinkSide}
+use Rattle.serial_link.specs.Rules.{Step, SideObeys, items_of, outs_of, ticks_of}
+use Rattle.serial_link.specs.declared.out.LinkOut.{LinkOut}
+use Rattle.serial_link.specs.declared.out.LinkOut.TheVariants.{Write}
+use Rattle.zw_words.specs.declared.side.Side.{Side}
+use Rattle.zw_words.specs.declared.side.Side.TheVariants.{Host, Chip}
+use Rattle.zw_text.specs.declared.entry.Entry.{Entry}
+use Rattle.zw_text.specs.Transcript.{written, stream, line_of}
+use Rattle.zw_laws.specs.Lists.{IsFrontOf}
+use Rattle.zw_laws.specs.Restarts.{is_restart, begins_refused}
+
+-- the bytes of what was written
+abbrev pub text_of : LinkOut → List (List ℕ)
+text_of (Write unit) = unit_text unit ∷ []
+text_of _ = []
+
+-- the other side
+abbrev pub other : Side → Side
+other Host = Chip
+other Chip = Host
+
+-- a side obeyed: there is a history of what it heard, submitted and ticked that obeys the rules, in which it wrote just its
+-- units, and heard the splitting of a front of what the other side's pipe was given
+pub record KeepsLink (side : Side) (transcript : List Entry) : Type 0 where
+  pub history : List Step
+  pub end : LinkSide
+  pub signals : List Signal
+  pub rest : Rest
+  pub obeys : SideObeys history end
+  pub wrote : flat_map text_of (outs_of history) ≡ written side transcript
+  pub heard : Splits signals (items_of history) rest
+  pub came : IsFrontOf (bytes_of signals) (stream (other side) transcript)
+  pub ticked : marks_of signals ≡ ticks_of history
+
+-- the entries from each restart to the next
+abbrev pub between_restarts : List Entry → List Entry → List (List Entry)
+between_restarts part [] = part ∷ []
+between_restarts part (entry ∷ rest) =
+    if is_restart (line_of entry) && not (begins_refused rest) then part ∷ between_restarts [] rest
+    else between_restarts (part ++ entry ∷ []) rest
+
+-- both sides obeyed
+pub record KeepsLinks (transcript : List Entry) : Type 0 where
+  pub chip : KeepsLink Chip transcript
+  pub host : AllByRecursion (KeepsLink Host) (between_restarts [] transcript)

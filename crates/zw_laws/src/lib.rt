@@ -1,0 +1,18 @@
+//! The laws of whole transcripts, as definitions: what a transcript of a run is, whatever the lines, nodes, losses and
+//! restarts.
+//!
+//! It promises nothing of a program: each law reads a transcript by the views of `zw_text`, the lines, the devices' states
+//! at entry and exit, and, where it says so, the keeper's records. Worked transcripts, and others with one thing wrong, show
+//! what each law means.
+//! The definitions stand in `specs/`, one file a law: `Nodes` and `Commands` (what is known of nodes, and what is asked of
+//! them), `Sessions`, `Once`, `Values`, and `Headline`, which joins these. `Lists` has their words for lists, `Worked` the
+//! transcripts.
+#![tactic(auto)]
+
+mod air;
+mod host;
+mod once;
+
+pub use air::{rejected_fates, worked_fates, worked_frames, worked_losses};
+pub use host::{rejected_answers, worked_answers, worked_cancels, worked_stores};
+pub use once::{rejected_once, worked_once, worked_sessions, worked_successes, worked_values};
