@@ -1,6 +1,6 @@
 -- What an attempt gives has 1 to 46 bytes.
-use Rattle.std.proofs.Common.{◌≡◌, ℕ, ◌+◌, ◌*◌, ◌/◌, ◌%◌, ◌≤◌, ◌==◌, Bool, true, false, nat_lt, if◌then◌else◌, Option, Some, None, List, [], ◌∷◌, ◌++◌, length, take, drop, refl, sym, ap, ◌∙◌, subst, arith, length-append, length-take}
-use Rattle.transport_segments.specs.Segment.{segment_front, segment_text}
+use Rattle.std.proofs.Common.{◌≡◌, ℕ, ◌+◌, ◌*◌, ◌/◌, ◌%◌, ◌≤◌, ◌==◌, Bool, true, false, nat_lt, if◌then◌else◌, Option, Some, None, List, ◌∷◌, length, drop, sym, subst, arith, length-append, length-take}
+use Rattle.transport_segments.specs.Segment.{segment_front}
 use Rattle.transport_segments.specs.Parts.{slice_at}
 use Rattle.host_node.specs.State.{NodeState}
 use Rattle.host_node.specs.declared.attempt.Plan.{Plan}
@@ -8,7 +8,7 @@ use Rattle.host_orders.specs.Wrapping.{form_of}
 use Rattle.host_orders.specs.declared.carriage.Form.{Form}
 use Rattle.host_orders.specs.declared.carriage.Form.TheVariants.{Plain, Cut, Sealed}
 use Rattle.host_events.specs.State.{HostState, Command, node_of}
-use Rattle.host_events.specs.Sessions.{message_for, segment_count, segment_at, segment_by, segment_of, start_by, command_if, open_segment}
+use Rattle.host_events.specs.Sessions.{message_for, segment_count, segment_at, segment_by, segment_of, start_by, open_segment}
 use Rattle.host_events.specs.May.{IsStart}
 use Rattle.host_events.specs.Facts.{FitsForm, IsSound, HasBytes, HostFacts}
 use Rattle.host_events.proofs.Pumps.{found_is}
