@@ -1,6 +1,6 @@
 //! Each kind, made and called through its bound.
 
-use crate::playing::{KEY, node, plays, shows};
+use crate::playing::{KEY, bytes, node, plays};
 use crate::steps::{
     CONFIGURABLE, DIMMER, DIMMER_ON, LATER_SENSOR, LOCK, RELAY, SENSOR, STRIP, SWITCH, THERMOSTAT,
 };
@@ -11,116 +11,154 @@ use device_sim::{
 use std::alloc::Global;
 use std::process::Abort;
 use std::test::Fail;
-use zw_base::{By, Name};
+use zw_base::By;
 
-/// What a device tells of itself.
-fn tells<D: Device>(
+/// What is seen of a device at the end: its number, whether it listens, its classes, how many values it shows and the
+/// last of them, and what made its first change, with how many settings.
+#[derive(Clone, Copy)]
+struct Seen {
+    number: u8,
+    listens: bool,
+    classes: &'static str,
+    shown: usize,
+    last: u32,
+    by: By,
+    settings: usize,
+}
+
+/// Whether this is seen of it.
+fn is_seen<D: Device>(alloc: Global, device: &D, want: &Seen) -> Result<bool, Fail> {
+    let profile = device.profile(alloc)?;
+    let shown = device.show(alloc)?;
+    let last = shown.as_slice().last().ok_or("nothing shown")?.value;
+    let change = device.change(alloc, 0)?.ok_or("no change")?;
+    let classes = bytes(alloc, want.classes)?;
+    let none = device.change(alloc, device.changes())?.is_none();
+    Ok(
+        none && device.node().number() == want.number
+            && profile.listening == want.listens
+            && profile.classes.as_slice() == classes.as_slice()
+            && (shown.len(), last) == (want.shown, want.last)
+            && (change.by, change.settings.len()) == (want.by, want.settings),
+    )
+}
+
+/// Plays these steps; then this is seen.
+fn ends_as<D: Device>(
     rt: &impl Abort,
     alloc: Global,
-    device: &D,
+    mut device: D,
+    steps: &str,
+    want: &Seen,
+) -> Result<(), Fail> {
+    let wrong = plays(alloc, &mut device, steps)?;
+    assert_eq!(rt; wrong, None);
+    let seen = is_seen(alloc, &device, want)?;
+    assert!(rt; seen, "at node {}", want.number);
+    Ok(())
+}
+
+fn expected(
     number: u8,
-    listening: bool,
-    classes: &[u8],
-) {
-    let profile = device.profile(alloc).expect(rt, "memory");
-    assert_eq!(rt; device.node().number(), number);
-    assert_eq!(rt; profile.listening, listening);
-    assert_eq!(rt; profile.classes.as_slice(), classes);
-}
-
-/// The change at that place is by this, with so many settings, of which the first has this value.
-fn changed<D: Device>(rt: &impl Abort, alloc: Global, device: &D, at: u64, want: (By, usize, u32)) {
-    let found = device.change(alloc, at).expect(rt, "memory");
-    let change = found.expect(rt, "a change");
-    let (by, count, value) = want;
-    assert_eq!(rt; change.by, by);
-    assert_eq!(rt; change.settings.len(), count);
-    let first = change.settings.as_slice().first().expect(rt, "a setting");
-    assert_eq!(rt; first.value, value);
-}
-
-fn plain_kinds(rt: &impl Abort, alloc: Global) -> Result<(), Fail> {
-    let mut device = make_switch(alloc, node(rt, 2), KEY)?;
-    shows(rt, alloc, &device, &[(0, Name::Switch, 0)]);
-    plays(rt, alloc, &mut device, &SWITCH);
-    let members = [
-        (0, Name::Switch, 0),
-        (0, Name::Member(1, node(rt, 3)), 1),
-        (0, Name::Member(1, node(rt, 7)), 1),
-        (0, Name::Member(1, node(rt, 10)), 1),
-    ];
-    shows(rt, alloc, &device, &members);
-    tells(rt, alloc, &device, 2, true, &[0x25, 0x85, 0x6C]);
-    changed(rt, alloc, &device, 2, (By::Session(7), 2, 1));
-    assert!(rt; device.change(alloc, 4)?.is_none());
-    let mut device = make_relay(alloc, node(rt, 9), KEY)?;
-    plays(rt, alloc, &mut device, &RELAY);
-    tells(rt, alloc, &device, 9, true, &[0x25, 0x56]);
-    changed(rt, alloc, &device, 0, (By::Plain, 1, 255));
-    changed(rt, alloc, &device, 2, (By::Local, 1, 255));
-    let mut device = make_strip(alloc, node(rt, 7), KEY)?;
-    plays(rt, alloc, &mut device, &STRIP);
-    tells(rt, alloc, &device, 7, true, &[0x25, 0x60, 0x6C]);
-    shows(
-        rt,
-        alloc,
-        &device,
-        &[(0, Name::Switch, 255), (3, Name::Switch, 255)],
-    );
-    Ok(())
-}
-
-fn slow_and_sleeping_kinds(rt: &impl Abort, alloc: Global) -> Result<(), Fail> {
-    let mut device = make_dimmer(alloc, node(rt, 3), KEY)?;
-    plays(rt, alloc, &mut device, &DIMMER);
-    tells(rt, alloc, &device, 3, true, &[0x26, 0x85, 0x6C]);
-    changed(rt, alloc, &device, 0, (By::Session(1), 1, 40));
-    let mut device = make_dimmer(alloc, node(rt, 11), KEY)?;
-    plays(rt, alloc, &mut device, &DIMMER_ON);
-    shows(rt, alloc, &device, &[(0, Name::Level, 99)]);
-    let mut device = make_sensor(alloc, node(rt, 5), KEY)?;
-    plays(rt, alloc, &mut device, &SENSOR);
-    assert!(rt; !device.awake());
-    tells(rt, alloc, &device, 5, false, &[0x31, 0x80, 0x84, 0x6C]);
-    shows(
-        rt,
-        alloc,
-        &device,
-        &[(0, Name::Interval, 3600), (0, Name::Sensor, 3)],
-    );
-    let mut device = make_sensor(alloc, node(rt, 101), KEY)?;
-    plays(rt, alloc, &mut device, &LATER_SENSOR);
-    assert!(rt; device.awake());
-    Ok(())
-}
-
-fn kinds_of_long_messages(rt: &impl Abort, alloc: Global) -> Result<(), Fail> {
-    let mut device = make_thermostat(alloc, node(rt, 6), KEY)?;
-    plays(rt, alloc, &mut device, &THERMOSTAT);
-    tells(rt, alloc, &device, 6, true, &[0x40, 0x43, 0x8F, 0x85, 0x6C]);
-    changed(rt, alloc, &device, 1, (By::Session(4), 2, 0));
-    let settings = [
-        (0, Name::Mode, 2),
-        (0, Name::Setpoint(1), 215),
-        (0, Name::Setpoint(2), 240),
-    ];
-    shows(rt, alloc, &device, &settings);
-    let mut device = make_config(alloc, node(rt, 8), KEY)?;
-    plays(rt, alloc, &mut device, &CONFIGURABLE);
-    tells(rt, alloc, &device, 8, true, &[0x70, 0x55, 0x6C]);
-    changed(rt, alloc, &device, 0, (By::Session(1), 200, 1));
-    let shown = device.show(alloc)?;
-    assert_eq!(rt; shown.len(), 200);
-    let mut device = make_lock(alloc, node(rt, 4), KEY)?;
-    plays(rt, alloc, &mut device, &LOCK);
-    tells(rt, alloc, &device, 4, true, &[0x62, 0x98, 0x6C]);
-    shows(rt, alloc, &device, &[(0, Name::Lock, 0)]);
-    Ok(())
+    classes: &'static str,
+    shown: usize,
+    last: u32,
+    by: By,
+    settings: usize,
+) -> Seen {
+    Seen {
+        number,
+        listens: number != 5 && number != 101,
+        classes,
+        shown,
+        last,
+        by,
+        settings,
+    }
 }
 
 #[test]
 fn each_kind_plays_its_steps(rt: HostRuntime) -> Result<(), Fail> {
-    plain_kinds(&rt, rt.alloc())?;
-    slow_and_sleeping_kinds(&rt, rt.alloc())?;
-    kinds_of_long_messages(&rt, rt.alloc())
+    let alloc = rt.alloc();
+    let first = By::Session(1);
+    let device = make_switch(alloc, node(2)?, KEY)?;
+    ends_as(
+        &rt,
+        alloc,
+        device,
+        SWITCH,
+        &expected(2, "25856c", 4, 1, first, 1),
+    )?;
+    let device = make_dimmer(alloc, node(3)?, KEY)?;
+    ends_as(
+        &rt,
+        alloc,
+        device,
+        DIMMER,
+        &expected(3, "26856c", 2, 1, first, 1),
+    )?;
+    let device = make_dimmer(alloc, node(11)?, KEY)?;
+    ends_as(
+        &rt,
+        alloc,
+        device,
+        DIMMER_ON,
+        &expected(11, "26856c", 1, 99, first, 1),
+    )?;
+    let device = make_lock(alloc, node(4)?, KEY)?;
+    ends_as(
+        &rt,
+        alloc,
+        device,
+        LOCK,
+        &expected(4, "62986c", 1, 0, first, 1),
+    )?;
+    let device = make_sensor(alloc, node(5)?, KEY)?;
+    ends_as(
+        &rt,
+        alloc,
+        device,
+        SENSOR,
+        &expected(5, "3180846c", 2, 3, first, 1),
+    )?;
+    let device = make_sensor(alloc, node(101)?, KEY)?;
+    ends_as(
+        &rt,
+        alloc,
+        device,
+        LATER_SENSOR,
+        &expected(101, "3180846c", 2, 0, first, 1),
+    )?;
+    let device = make_thermostat(alloc, node(6)?, KEY)?;
+    ends_as(
+        &rt,
+        alloc,
+        device,
+        THERMOSTAT,
+        &expected(6, "40438f856c", 3, 240, first, 2),
+    )?;
+    let device = make_strip(alloc, node(7)?, KEY)?;
+    ends_as(
+        &rt,
+        alloc,
+        device,
+        STRIP,
+        &expected(7, "25606c", 2, 255, first, 1),
+    )?;
+    let device = make_config(alloc, node(8)?, KEY)?;
+    ends_as(
+        &rt,
+        alloc,
+        device,
+        CONFIGURABLE,
+        &expected(8, "70556c", 200, 1, first, 200),
+    )?;
+    let device = make_relay(alloc, node(9)?, KEY)?;
+    ends_as(
+        &rt,
+        alloc,
+        device,
+        RELAY,
+        &expected(9, "2556", 1, 255, By::Plain, 1),
+    )
 }

@@ -2,8 +2,8 @@
 
 use device_sim::Device;
 use std::alloc::Global;
-use std::process::Abort;
-use zw_base::{Name, NodeId, Property, Replies, Setting, read_end, read_node};
+use std::test::Fail;
+use zw_base::{NodeId, Replies, read_node};
 
 /// The network key of all devices.
 pub(crate) const KEY: [u8; 16] = [0, 1, 2, 3, 4, 5, 6, 7, 8, 9, 10, 11, 12, 13, 14, 15];
@@ -11,74 +11,86 @@ pub(crate) const KEY: [u8; 16] = [0, 1, 2, 3, 4, 5, 6, 7, 8, 9, 10, 11, 12, 13, 
 /// The bytes that are drawn, at each call.
 pub(crate) const DRAWN: [u8; 8] = [0xD0, 0xD1, 0xD2, 0xD3, 0xD4, 0xD5, 0xD6, 0xD7];
 
-/// What happens to a device.
-#[derive(Clone, Copy)]
-pub(crate) enum Do {
-    Hear(&'static [u8]),
-    Ticks(u32),
-    Wake,
-    Set(u8),
+pub(crate) fn node(number: u8) -> Result<NodeId, Fail> {
+    Ok(read_node(number).ok_or("no such node")?)
 }
 
-/// What happens, what is sent at the last call of it, and how many changes there are then.
-pub(crate) type Step = (Do, &'static [&'static [u8]], u64);
-
-pub(crate) fn node(rt: &impl Abort, number: u8) -> NodeId {
-    read_node(number).expect(rt, "a node")
+/// The bytes that a word is the hex of.
+pub(crate) fn bytes(alloc: Global, word: &str) -> Result<Vec<u8>, Fail> {
+    Ok(hex::decode(alloc, word).ok().ok_or("no bytes")?)
 }
 
-/// So many ticks pass. What the last sends is kept.
-fn ticks<D: Device>(rt: &impl Abort, device: &mut D, count: u32, out: &mut Replies) {
+fn number(word: &str) -> Result<u8, Fail> {
+    Ok(word.parse::<u8>().ok().ok_or("no number")?)
+}
+
+/// So many ticks pass. What the last one sends is kept.
+pub(crate) fn ticks<D: Device>(device: &mut D, count: u8, out: &mut Replies) -> Result<(), Fail> {
     for _ in 0..count {
         out.clear();
-        device.tick(DRAWN, out).expect(rt, "memory");
+        device.tick(DRAWN, out)?;
     }
+    Ok(())
 }
 
 /// Makes it happen, and keeps what is sent.
-fn happens<D: Device>(rt: &impl Abort, device: &mut D, what: Do, out: &mut Replies) {
+fn happens<D: Device>(
+    alloc: Global,
+    device: &mut D,
+    what: &str,
+    word: &str,
+    out: &mut Replies,
+) -> Result<(), Fail> {
     out.clear();
     match what {
-        Do::Hear(payload) => device.hear(payload, DRAWN, out).expect(rt, "memory"),
-        Do::Wake => device.wake(out).expect(rt, "memory"),
-        Do::Set(value) => device.local(value, out).expect(rt, "memory"),
-        Do::Ticks(count) => ticks(rt, device, count, out),
+        "hear" => device.hear(&bytes(alloc, word)?, DRAWN, out)?,
+        "ticks" => ticks(device, number(word)?, out)?,
+        "set" => device.local(number(word)?, out)?,
+        _ => device.wake(out)?,
     }
+    Ok(())
 }
 
-/// These payloads were sent, and no others.
-fn were_sent(rt: &impl Abort, out: &Replies, want: &[&[u8]], at: usize) {
-    assert_eq!(rt; usize::from(out.len()), want.len(), "replies at step {at}");
-    for (k, text) in want.iter().enumerate() {
-        assert!(rt; k < 8);
-        let sent = out.get(k as u8).expect(rt, "a reply");
-        assert_eq!(rt; sent, *text, "reply {k} at step {at}");
+/// Whether these payloads were sent, and no others.
+fn were_sent(alloc: Global, out: &Replies, words: &str) -> Result<bool, Fail> {
+    let mut count = 0u8;
+    for word in words.split(' ') {
+        if word == "-" {
+            return Ok(out.len() == 0);
+        }
+        if out.get(count) != Some(bytes(alloc, word)?.as_slice()) {
+            return Ok(false);
+        }
+        count = count.saturating_add(1);
     }
+    Ok(out.len() == count)
 }
 
-/// Plays these steps, counted from 0.
-pub(crate) fn plays<D: Device>(rt: &impl Abort, alloc: Global, device: &mut D, steps: &[Step]) {
-    let mut out = Replies::new(alloc).expect(rt, "memory");
-    for (at, (what, want, changes)) in steps.iter().enumerate() {
-        happens(rt, device, *what, &mut out);
-        were_sent(rt, &out, want, at);
-        assert_eq!(rt; device.changes(), *changes, "changes at step {at}");
-    }
-}
-
-/// This is shown of the device, in this order: end point, name and value.
-pub(crate) fn shows<D: Device>(
-    rt: &impl Abort,
+/// Makes what a line says happen, and answers whether what follows is as it says.
+fn holds<D: Device>(
     alloc: Global,
-    device: &D,
-    want: &[(u8, Name, u32)],
-) {
-    let shown = device.show(alloc).expect(rt, "memory");
-    assert_eq!(rt; shown.len(), want.len());
-    for (setting, (end, name, value)) in shown.as_slice().iter().zip(want.iter()) {
-        let end = read_end(*end).expect(rt, "an end point");
-        let property = Property { end, name: *name };
-        let value = *value;
-        assert_eq!(rt; *setting, Setting { property, value });
+    device: &mut D,
+    line: &str,
+    out: &mut Replies,
+) -> Result<bool, Fail> {
+    let (what, rest) = line.split_once(' ').ok_or("no event")?;
+    let (word, rest) = rest.split_once(' ').ok_or("no word")?;
+    let (changes, sent) = rest.split_once(' ').ok_or("no count")?;
+    happens(alloc, device, what, word, out)?;
+    Ok(device.changes() == u64::from(number(changes)?) && were_sent(alloc, out, sent)?)
+}
+
+/// The first line of these of which what follows is not as it says.
+pub(crate) fn plays<'a, D: Device>(
+    alloc: Global,
+    device: &mut D,
+    steps: &'a str,
+) -> Result<Option<&'a str>, Fail> {
+    let mut out = Replies::new(alloc)?;
+    for line in steps.lines() {
+        if !holds(alloc, device, line, &mut out)? {
+            return Ok(Some(line));
+        }
     }
+    Ok(None)
 }
