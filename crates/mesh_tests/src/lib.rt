@@ -2,7 +2,7 @@
 //! worked by hand from the formats.
 //!
 //! A crate that has tests is proved once with them and once without. So the crates below have none, and this one, which
-//! promises nothing, has theirs. Each public call is made here with ample memory.
+//! promises nothing, has theirs.
 #![tactic(auto)]
 
 #[cfg(test)]

@@ -10,18 +10,14 @@ use std::alloc::Global;
 use std::test::Fail;
 use zw_base::{FixedDraw, List, NodeId};
 
-/// What is done to the air and the devices, and after `>` all that it tells then, in order. `air` makes a new one without
-/// devices; `send` is a frame of node 1 over no repeater, `relay` one over node 2; `from` is a frame of a node, and `unsent` one
+/// What is done to the air, and after `>` all that it tells then, in order. The devices are a sensor at node 3, a switch at 2,
+/// a dimmer at 2 and a switch at 4. `air` makes a new air; `send` is a frame of node 1 over no repeater, `relay` one over node 2; `from` is a frame of a node, and `unsent` one
 /// that does not go on the air; `flush` delivers so many events; `shows` has so many new nonces shown, each twice; `again` is a
 /// repeat, `refuse` one that is refused; `changes` is how many changes a device made, by its place.
 /// In turn: devices of which the second of a node changes never, that are not joined, asleep and missing, dead hops, marks and
 /// repeats; the 4,097th frame back and the one before it; frames that grow stale by nonces and by sessions.
 const LINES: &str = "\
 air\n\
-device sensor 3\n\
-device switch 2\n\
-device dimmer 2\n\
-device switch 4\n\
 join 2\n\
 join 3\n\
 join 10\n\
@@ -114,35 +110,35 @@ deliver\n\
 changes 1 1\n\
 changes 2 0\n\
 air\n\
-x4097 send 4 25\n\
+x4097 send 5 25\n\
 again 1\n\
 flush 8194\n\
 again 1\n\
-send 4 25\n\
+send 5 25\n\
 refuse 1 forgotten\n\
 again 2\n\
 refuse 0 never sent\n\
 refuse 4099 never sent\n\
 flush 2\n\
-x4098 send 4 25\n\
+x4098 send 5 25\n\
 refuse 4099 forgotten\n\
 flush 8196\n\
 air\n\
-send 4 6C\n\
-send 4 55\n\
-send 4 9881\n\
+send 5 6C\n\
+send 5 55\n\
+send 5 9881\n\
 shows 119\n\
 again 3\n\
 shows 1\n\
 refuse 3 stale 120\n\
-begin 4 13\n\
+begin 5 13\n\
 again 2\n\
-begin 4 14\n\
+begin 5 14\n\
 again 1\n\
 refuse 2 stale 14\n\
-begin 4 61\n\
+begin 5 61\n\
 again 1\n\
-begin 4 62\n\
+begin 5 62\n\
 refuse 1 stale 62\n\
 refuse 3 stale 62\n\
 air\n\
@@ -151,12 +147,11 @@ air\n\
 /// The network key of the devices.
 const KEY: [u8; 16] = [0; 16];
 
-/// The air, the devices, what it told, and how much of that was compared.
+/// The air, what it told, and how much of that was compared.
 #[derive(Drop)]
 struct Field {
     alloc: Global,
     air: Air,
-    devices: Vec<Box<dyn Device>>,
     draw: FixedDraw,
     out: List<AirEvent>,
     seen: usize,
@@ -249,12 +244,20 @@ fn fault_text(alloc: Global, fault: RepeatFault) -> Result<String, Fail> {
     }
 }
 
+/// A device, by its place, made so many changes.
+fn count_changes(place: u64, count: u64, devices: &Vec<Box<dyn Device>>) -> Result<(), Fail> {
+    let device = devices.get(place as usize).ok_or("no such device")?;
+    if device.changes() != count {
+        return Err("other changes".into());
+    }
+    Ok(())
+}
+
 impl Field {
     fn new(alloc: Global) -> Result<Field, Fail> {
         Ok(Field {
             alloc,
             air: Air::new(alloc)?,
-            devices: Vec::new(alloc),
             draw: FixedDraw::new(alloc, &[])?,
             out: List::new(alloc),
             seen: 0,
@@ -264,7 +267,7 @@ impl Field {
 
     /// Does what a line says, or compares the next events with it. The answer is whether all is as the line says: before
     /// something is done, all events were compared.
-    fn take(&mut self, line: &str) -> Result<bool, Fail> {
+    fn take(&mut self, line: &str, devices: &mut Vec<Box<dyn Device>>) -> Result<bool, Fail> {
         if let Some(want) = line.strip_prefix("> ") {
             return self.tells(want);
         }
@@ -273,7 +276,7 @@ impl Field {
         self.seen = 0;
         let (count, action) = counted(line)?;
         for _ in 0..count {
-            self.act(action)?;
+            self.act(action, devices)?;
         }
         Ok(all)
     }
@@ -287,50 +290,41 @@ impl Field {
         Ok(text_of(self.alloc, event)?.as_str() == want)
     }
 
-    fn act(&mut self, action: &str) -> Result<(), Fail> {
+    fn act(&mut self, action: &str, devices: &mut Vec<Box<dyn Device>>) -> Result<(), Fail> {
         let (word, rest) = first_word(action);
         match word {
             "air" => *self = Field::new(self.alloc)?,
-            "device" => self.add_device(rest)?,
             "join" => self.air.join(node(rest)?, true),
-            "deliver" => self.deliver()?,
-            "flush" => self.flush(number(rest)?)?,
+            "deliver" => self.deliver(devices)?,
+            "flush" => self.flush(number(rest)?, devices)?,
             "lose" => self.lose(rest)?,
             "loseack" => self.lose_ack(rest)?,
             "shows" => self.show_nonces(number(rest)?)?,
-            "again" => self.repeat(number(rest)?, None)?,
-            _ => self.act_on(word, rest)?,
+            "again" => self.repeat(number(rest)?, None, devices)?,
+            _ => self.act_on(word, rest, devices)?,
         }
         Ok(())
     }
 
     /// What has two words.
-    fn act_on(&mut self, word: &str, rest: &str) -> Result<(), Fail> {
+    fn act_on(
+        &mut self,
+        word: &str,
+        rest: &str,
+        devices: &mut Vec<Box<dyn Device>>,
+    ) -> Result<(), Fail> {
         let (first, second) = first_word(rest);
         match word {
             "link" => self.link(rest, true),
             "cut" => self.link(rest, false),
             "begin" => self.begin(node(first)?, number(second)?),
-            "changes" => self.count_changes(number(first)?, number(second)?),
-            "refuse" => self.repeat(number(first)?, Some(second)),
+            "changes" => count_changes(number(first)?, number(second)?, devices),
+            "refuse" => self.repeat(number(first)?, Some(second), devices),
             _ => {
                 let payload = bytes(self.alloc, second)?;
                 self.put_on_air(word, node(first)?, payload.as_slice())
             }
         }
-    }
-
-    fn add_device(&mut self, words: &str) -> Result<(), Fail> {
-        let (kind, place) = first_word(words);
-        let at = node(place)?;
-        let alloc = self.alloc;
-        let device: Box<dyn Device> = match kind {
-            "switch" => Box::new(alloc, make_switch(alloc, at, KEY)?)?,
-            "dimmer" => Box::new(alloc, make_dimmer(alloc, at, KEY)?)?,
-            _ => Box::new(alloc, make_sensor(alloc, at, KEY)?)?,
-        };
-        self.devices.push(device)?;
-        Ok(())
     }
 
     fn link(&mut self, words: &str, live: bool) -> Result<(), Fail> {
@@ -360,14 +354,6 @@ impl Field {
             return Err("too many marks".into());
         }
         self.air.lose_ack(count.parse::<u32>()?);
-        Ok(())
-    }
-
-    fn count_changes(&self, place: u64, count: u64) -> Result<(), Fail> {
-        let device = self.devices.get(place as usize).ok_or("no such device")?;
-        if device.changes() != count {
-            return Err("other changes".into());
-        }
         Ok(())
     }
 
@@ -405,17 +391,16 @@ impl Field {
         Ok(())
     }
 
-    fn deliver(&mut self) -> Result<(), Fail> {
-        if self.devices.len() > 9 {
+    fn deliver(&mut self, devices: &mut Vec<Box<dyn Device>>) -> Result<(), Fail> {
+        if devices.len() > 9 {
             return Err("too many devices".into());
         }
-        self.air
-            .deliver(&mut self.devices, &mut self.draw, &mut self.out)?;
+        self.air.deliver(devices, &mut self.draw, &mut self.out)?;
         Ok(())
     }
 
-    fn flush(&mut self, count: u64) -> Result<(), Fail> {
-        self.deliver()?;
+    fn flush(&mut self, count: u64, devices: &mut Vec<Box<dyn Device>>) -> Result<(), Fail> {
+        self.deliver(devices)?;
         if self.out.len() as u64 != count {
             return Err("not so many events".into());
         }
@@ -427,20 +412,25 @@ impl Field {
         for _ in 0..count {
             let report = [0x98, 0x80, self.shown, 1, 2, 3, 4, 5, 6, 7];
             self.shown = self.shown.saturating_add(1);
-            self.send(node("4")?, DIRECT, &report)?;
-            self.send(node("4")?, DIRECT, &report)?;
+            self.send(node("5")?, DIRECT, &report)?;
+            self.send(node("5")?, DIRECT, &report)?;
         }
         Ok(())
     }
 
     /// Repeats a frame, which is refused for that reason, or for none.
-    fn repeat(&mut self, frame: u64, reason: Option<&str>) -> Result<(), Fail> {
-        if self.devices.len() > 9 {
+    fn repeat(
+        &mut self,
+        frame: u64,
+        reason: Option<&str>,
+        devices: &mut Vec<Box<dyn Device>>,
+    ) -> Result<(), Fail> {
+        if devices.len() > 9 {
             return Err("too many devices".into());
         }
         let result = self
             .air
-            .repeat(frame, &mut self.devices, &mut self.draw, &mut self.out);
+            .repeat(frame, devices, &mut self.draw, &mut self.out);
         let as_said = match (result, reason) {
             (Ok(()), None) => true,
             (Err(fault), Some(reason)) => fault_text(self.alloc, fault)?.as_str() == reason,
@@ -455,9 +445,15 @@ impl Field {
 
 #[test]
 fn lines(rt: HostRuntime) -> Result<(), Fail> {
-    let mut field = Field::new(rt.alloc())?;
+    let alloc = rt.alloc();
+    let mut devices: Vec<Box<dyn Device>> = Vec::new(alloc);
+    devices.push(Box::new(alloc, make_sensor(alloc, node("3")?, KEY)?)?)?;
+    devices.push(Box::new(alloc, make_switch(alloc, node("2")?, KEY)?)?)?;
+    devices.push(Box::new(alloc, make_dimmer(alloc, node("2")?, KEY)?)?)?;
+    devices.push(Box::new(alloc, make_switch(alloc, node("4")?, KEY)?)?)?;
+    let mut field = Field::new(alloc)?;
     for line in LINES.lines() {
-        let same = field.take(line)?;
+        let same = field.take(line, &mut devices)?;
         assert!(rt; same, "{line}: {:?}", field.out.as_slice());
     }
     Ok(())
