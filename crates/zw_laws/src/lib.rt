@@ -10,9 +10,13 @@
 #![tactic(auto)]
 
 mod air;
+mod device;
 mod host;
 mod once;
+mod wire;
 
 pub use air::{rejected_fates, worked_fates, worked_frames, worked_losses};
+pub use device::{worked_devices, worked_table};
 pub use host::{rejected_answers, worked_answers, worked_cancels, worked_stores};
 pub use once::{rejected_once, worked_once, worked_sessions, worked_successes, worked_values};
+pub use wire::{rejected_wire, worked_begins, worked_bringing, worked_causes, worked_payloads, worked_units};
