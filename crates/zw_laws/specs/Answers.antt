@@ -116,14 +116,21 @@ MayRefuse lines.Discover (refusals.QueueFull waiting) = waiting ≡ 64
 MayRefuse (lines.Neighbours node) (refusals.QueueFull waiting) = waiting ≡ 64
 MayRefuse (lines.Failed node) (refusals.QueueFull waiting) = waiting ≡ 64
 MayRefuse lines.Probe (refusals.QueueFull waiting) = waiting ≡ 64
-MayRefuse (lines.Cancel command) refusals.KeeperFault = ⊤
 MayRefuse (lines.Join node) refusals.KeeperFault = ⊤
 MayRefuse lines.Restart refusals.KeeperFault = ⊤
 MayRefuse lines.Restart (refusals.BadRecord place) = ⊤
 MayRefuse _ _ = ⊥
 
--- what may stand behind a line that nothing refuses: no acceptance, and no refusal but those left open
+-- the entry of a command that is taken back, or that the keeper failed
+abbrev pub IsTakenBack : ℕ → Entry → Type 0
+IsTakenBack command (Out number WasCancelled) = number ≡ command
+IsTakenBack command (Refused refusals.KeeperFault) = ⊤
+IsTakenBack command _ = ⊥
+
+-- what may stand behind a line that nothing refuses: no acceptance, and no refusal but those left open; a command that is to
+-- be taken back is
 abbrev pub MayStandBehind : Line → Entry → Type 0
+MayStandBehind (lines.Cancel command) entry = IsTakenBack command entry
 MayStandBehind line (Accepted command node) = ⊥
 MayStandBehind line (Refused refusal) = MayRefuse line refusal
 MayStandBehind line _ = ⊤

@@ -76,7 +76,7 @@ pub record IsReported (listing : ℕ → List ℕ) (key : List ℕ) (past : List
   pub carries : command_at (sessions node past) (length (sessions node past)) ≡ Some number
   pub reported : OneTells
       (λ payload. TellsReport (lists (host_list listing past node) 0x98) key node payload
-        (told.Report (length (sessions node past) % 64) status wake_request))
+      (told.Report (length (sessions node past) % 64) status wake_request))
       (payloads_from node past)
 
 -- a final outcome has its report before it

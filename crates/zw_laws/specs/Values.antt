@@ -55,7 +55,7 @@ last_command begun journal property = carried_by begun (flat_map by_session (lis
 abbrev pub IsConfirmed : (ℕ → List ℕ) → ℕ → List Entry → State → Property → Type 0
 IsConfirmed listing node transcript device property =
     AllByRecursion (λ number. outcome number transcript ≡ Success →
-      confirmed listing transcript node property ≡ Some (value_of device property))
+    confirmed listing transcript node property ≡ Some (value_of device property))
     (last_command (sessions node transcript) device.journal property)
 
 -- the properties that a journal changes

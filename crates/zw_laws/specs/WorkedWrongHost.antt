@@ -52,6 +52,11 @@ cancelled_late =
     Written Chip (bytes (codes "0104011301E8")) ∷ Air 1 1 2 [] (bytes (codes "6C0101032501FF")) ∷
     Written Host (bytes (codes "06")) ∷ Said (codes "cancel 1") ∷ Out 1 endings.Cancelled ∷ []
 
+-- a line that takes a command back is passed over
+abbrev pub passed_over : List Entry
+passed_over =
+    Said (codes "set 2 on") ∷ Accepted 1 2 ∷ Said (codes "cancel 1") ∷ Time 1 ∷ []
+
 -- a success confirms nothing
 abbrev pub not_stored : List Entry
 not_stored =

@@ -5,7 +5,7 @@ ghost use Rattle.zw_laws.specs.Nodes.{listing_of};
 ghost use Rattle.zw_laws.specs.Answers.{AnswersLines, CancelsWhenAsked};
 ghost use Rattle.zw_laws.specs.Stores.{StoresConfirmed};
 ghost use Rattle.zw_laws.specs.Worked.{plain_exchange, repeated_exchange, lossy_exchange, cancelled_order, restarted_host, sleeping_node, sealed_exchange, refused_lines, long_message, the_switch, the_sensor, the_lock, the_plug};
-ghost use Rattle.zw_laws.specs.WorkedWrongHost.{unanswered, refused_freely, numbered_wrongly, answered_unasked, joined_again, cancelled_unasked, cancelled_late, not_stored, stored_otherwise, stored_before};
+ghost use Rattle.zw_laws.specs.WorkedWrongHost.{unanswered, refused_freely, numbered_wrongly, answered_unasked, joined_again, cancelled_unasked, cancelled_late, passed_over, not_stored, stored_otherwise, stored_before};
 
 /// In worked transcripts each line has the answer that is due.
 pub fn worked_answers()
@@ -39,7 +39,8 @@ pub fn worked_stores()
 {}
 
 /// Each of these breaks one part of the laws: an order without its answer, refused for nothing, or with a wrong number; an
-/// answer to no line; a line let pass that should have been refused; a command taken back unasked, or after it began; and a
+/// answer to no line; a line let pass that should have been refused; a command taken back unasked, or after it began, or not though
+/// a line asks for it; and a
 /// success that confirms nothing, or another value, or too late.
 pub fn rejected_answers()
     ensures unanswered { AnswersLines true (the_switch ∷ []) unanswered → ⊥ }
@@ -49,6 +50,7 @@ pub fn rejected_answers()
     ensures again { AnswersLines true (the_switch ∷ []) joined_again → ⊥ }
     ensures cancelled { CancelsWhenAsked cancelled_unasked → ⊥ }
     ensures late { CancelsWhenAsked cancelled_late → ⊥ }
+    ensures passed { AnswersLines true (the_switch ∷ []) passed_over → ⊥ }
     ensures not_stored { StoresConfirmed true (listing_of (the_switch ∷ [])) not_stored → ⊥ }
     ensures otherwise { StoresConfirmed true (listing_of (the_switch ∷ [])) stored_otherwise → ⊥ }
     ensures before { StoresConfirmed true (listing_of (the_switch ∷ [])) stored_before → ⊥ }

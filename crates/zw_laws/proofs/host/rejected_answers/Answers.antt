@@ -82,6 +82,10 @@ pub returns-clause-late : goal.returns-clause-late
 unfolding computing
 returns-clause-late c = λ law. not_true law.1.1.1.1.1.1.1.1.1.0.1
 
+pub returns-clause-passed : goal.returns-clause-passed
+unfolding computing
+returns-clause-passed c = λ law. law.between.1.1.1.0
+
 pub returns-clause-not_stored : goal.returns-clause-not_stored
 unfolding computing
 returns-clause-not_stored c = λ law. none_stored (ap first_tag (law.all refl))

@@ -22,7 +22,7 @@ returns-clause-lossy c = record { between = (tt, (tt, (inl refl, (tt, (tt, (tt, 
 
 pub returns-clause-cancelled : goal.returns-clause-cancelled
 unfolding computing
-returns-clause-cancelled c = record { between = (tt, (inl refl, (tt, (tt, (tt, (tt, (tt, (tt, (tt, (inl refl, (tt, (tt, (tt, (refl, (tt, (tt, (tt, (tt, (tt,
+returns-clause-cancelled c = record { between = (tt, (inl refl, (tt, (tt, (tt, (tt, (tt, (tt, (tt, (inl refl, (tt, (refl, (tt, (refl, (tt, (tt, (tt, (tt, (tt,
     (tt, (tt, (tt, (tt, (tt, (tt, (tt, (tt, tt))))))))))))))))))))))))))); in_the_end = λ whole. tt }
 
 pub returns-clause-restarted : goal.returns-clause-restarted
