@@ -1,16 +1,15 @@
 -- How lines are answered: each order by its number or its refusal, each other line by a refusal where one is due (this
 -- project's own rule). What the keeper and the queue of requests decide is left open here.
-use Rattle.std.specs.Prelude.{◌≡◌, ◌⊎◌, ℕ, ◌+◌, ◌-◌, ◌==◌, ◌||◌, ◌&&◌, not, Bool, true, false, if◌then◌else◌, List, [], ◌∷◌, ◌++◌, length, take, Option, Some, None, is_none, ⊤}
+use Rattle.std.specs.Prelude.{◌≡◌, ◌⊎◌, ℕ, ◌+◌, ◌-◌, ◌==◌, ◌||◌, ◌&&◌, not, Bool, true, if◌then◌else◌, List, [], ◌∷◌, ◌++◌, length, take, Option, Some, None, ⊤}
 use Rattle.std.specs.List.{flat_map, list_any}
 use Rattle.std.specs.Set.{distinct_count}
 use Rattle.zw_base.specs.PropertyOrder.{same_property}
 use Rattle.zw_base.specs.declared.property.Property.{Property}
-use Rattle.zw_base.specs.declared.property.Setting.{Setting}
 use Rattle.zw_order.specs.declared.order.Order.{Order}
 use Rattle.device_stack.specs.State.{State}
 use Rattle.host_orders.specs.Classes.{actuator_of}
 use Rattle.host_orders.specs.Errands.{send_refusal, get_refusal}
-use Rattle.host_orders.specs.Refusals.{Known, refusal_of, unless}
+use Rattle.host_orders.specs.Refusals.{Known, refusal_of}
 use Rattle.host_orders.specs.Settings.{settings, properties_of}
 use Rattle.host_orders.specs.declared.refused.Refused.{Refused as HostRefusal}
 use Rattle.host_orders.specs.declared.refused.Refused.TheVariants as host

@@ -1,4 +1,4 @@
-use Rattle.std.proofs.Common.{◌≡◌, ℕ, List, [], length, refl, ap, arith}
+use Rattle.std.proofs.Common.{◌≡◌, ℕ, List, length, refl, ap, arith}
 use Rattle.std.specs.List.{flat_map}
 use Rattle.device_stack.specs.declared.change.Change.{Change}
 use Rattle.zw_laws.specs.Devices.{made_by}

@@ -1,4 +1,4 @@
-use Rattle.std.proofs.Common.{◌≡◌, refl}
+use Rattle.std.proofs.Common.{refl}
 use Rattle.zw_laws.proofs.Computing.{computing_devices}
 use Rattle.zw_laws.proofs.device.worked_table.Goals as goal
 

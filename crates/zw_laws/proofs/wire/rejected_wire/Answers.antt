@@ -13,11 +13,11 @@ off_on e = omega (arith, e)
 
 pub returns-clause-aired : goal.returns-clause-aired
 unfolding computing
-returns-clause-aired c = λ law. elim law.1.1.1.1.1.1.0 [ | inl picked ↦ off_on (ap (λ (carried : Carried). last_byte 0 carried.payload) picked.0) | inr never ↦ never ]
+returns-clause-aired c = λ law. elim law.1.1.1.1.1.1.0 [ inl picked ↦ off_on (ap (λ (carried : Carried). last_byte 0 carried.payload) picked.0) | inr never ↦ never ]
 
 pub returns-clause-twice : goal.returns-clause-twice
 unfolding computing
-returns-clause-twice c = λ law. elim law.1.1.1.1.1.1.1.0 [ | inl picked ↦ picked.1 | inr never ↦ never ]
+returns-clause-twice c = λ law. elim law.1.1.1.1.1.1.1.0 [ inl picked ↦ picked.1 | inr never ↦ never ]
 
 pub returns-clause-brought : goal.returns-clause-brought
 unfolding computing
