@@ -1,4 +1,5 @@
--- Worked transcripts: each is what the program prints for the lines beside it, before the table at the end.
+-- Worked transcripts, in the form in which the program prints them, before the table at the end. The long message and the lines that are
+-- refused were written by hand, the others are taken from scenarios.
 use Rattle.std.specs.Prelude.{ℕ, List, [], ◌∷◌, codes, replicate}
 use Rattle.zw_base.specs.declared.property.Name.{Name}
 use Rattle.zw_base.specs.declared.property.Name.TheVariants as names
