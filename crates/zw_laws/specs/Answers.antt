@@ -1,16 +1,15 @@
 -- How lines are answered: each order by its number or its refusal, each other line by a refusal where one is due (this
 -- project's own rule). What the keeper and the queue of requests decide is left open here.
-use Rattle.std.specs.Prelude.{◌≡◌, ◌⊎◌, ℕ, ◌+◌, ◌-◌, ◌==◌, ◌||◌, ◌&&◌, not, Bool, true, false, if◌then◌else◌, List, [], ◌∷◌, ◌++◌, length, take, Option, Some, None, is_none, ⊤}
+use Rattle.std.specs.Prelude.{◌≡◌, ◌⊎◌, ℕ, ◌+◌, ◌-◌, ◌==◌, ◌||◌, ◌&&◌, not, Bool, true, if◌then◌else◌, List, [], ◌∷◌, ◌++◌, length, take, Option, Some, None, ⊤}
 use Rattle.std.specs.List.{flat_map, list_any}
 use Rattle.std.specs.Set.{distinct_count}
 use Rattle.zw_base.specs.PropertyOrder.{same_property}
 use Rattle.zw_base.specs.declared.property.Property.{Property}
-use Rattle.zw_base.specs.declared.property.Setting.{Setting}
 use Rattle.zw_order.specs.declared.order.Order.{Order}
 use Rattle.device_stack.specs.State.{State}
 use Rattle.host_orders.specs.Classes.{actuator_of}
 use Rattle.host_orders.specs.Errands.{send_refusal, get_refusal}
-use Rattle.host_orders.specs.Refusals.{Known, refusal_of, unless}
+use Rattle.host_orders.specs.Refusals.{Known, refusal_of}
 use Rattle.host_orders.specs.Settings.{settings, properties_of}
 use Rattle.host_orders.specs.declared.refused.Refused.{Refused as HostRefusal}
 use Rattle.host_orders.specs.declared.refused.Refused.TheVariants as host
@@ -116,14 +115,21 @@ MayRefuse lines.Discover (refusals.QueueFull waiting) = waiting ≡ 64
 MayRefuse (lines.Neighbours node) (refusals.QueueFull waiting) = waiting ≡ 64
 MayRefuse (lines.Failed node) (refusals.QueueFull waiting) = waiting ≡ 64
 MayRefuse lines.Probe (refusals.QueueFull waiting) = waiting ≡ 64
-MayRefuse (lines.Cancel command) refusals.KeeperFault = ⊤
 MayRefuse (lines.Join node) refusals.KeeperFault = ⊤
 MayRefuse lines.Restart refusals.KeeperFault = ⊤
 MayRefuse lines.Restart (refusals.BadRecord place) = ⊤
 MayRefuse _ _ = ⊥
 
--- what may stand behind a line that nothing refuses: no acceptance, and no refusal but those left open
+-- the entry of a command that is taken back, or that the keeper failed
+abbrev pub IsTakenBack : ℕ → Entry → Type 0
+IsTakenBack command (Out number WasCancelled) = number ≡ command
+IsTakenBack command (Refused refusals.KeeperFault) = ⊤
+IsTakenBack command _ = ⊥
+
+-- what may stand behind a line that nothing refuses: no acceptance, and no refusal but those left open; a command that is to
+-- be taken back is
 abbrev pub MayStandBehind : Line → Entry → Type 0
+MayStandBehind (lines.Cancel command) entry = IsTakenBack command entry
 MayStandBehind line (Accepted command node) = ⊥
 MayStandBehind line (Refused refusal) = MayRefuse line refusal
 MayStandBehind line _ = ⊤

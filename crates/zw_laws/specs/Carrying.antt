@@ -1,12 +1,12 @@
 -- What of the serial line goes on the air, and what of the air goes on the serial line (Serial API: SendData and
 -- ApplicationCommandHandler; that each goes in order is this project's own rule).
-use Rattle.std.specs.Prelude.{◌≡◌, ◌⊎◌, ℕ, ◌==◌, ◌-◌, Bool, true, false, if◌then◌else◌, List, [], ◌∷◌, ◌++◌, Option, Some, None, ⊤}
+use Rattle.std.specs.Prelude.{◌≡◌, ◌⊎◌, ◌==◌, if◌then◌else◌, List, [], ◌∷◌, ◌++◌, Option, Some, None, ⊤}
 use Rattle.std.specs.List.{flat_map}
 use Rattle.zw_words.specs.declared.side.Side.TheVariants.{Chip}
 use Rattle.zw_text.specs.declared.entry.Entry.{Entry}
 use Rattle.zw_text.specs.declared.entry.Entry.TheVariants.{Air, Written}
-use Rattle.zw_text.specs.Transcript.{AirFrame, frames, heard, written}
-use Rattle.zw_laws.specs.Lists.{EachAfter, listed}
+use Rattle.zw_text.specs.Transcript.{AirFrame, frames, heard}
+use Rattle.zw_laws.specs.Lists.{EachAfter}
 use Rattle.zw_laws.specs.Nodes.{controller}
 use Rattle.zw_laws.specs.Repeats.{frame_of}
 use Rattle.zw_laws.specs.Units.{Carried, sendings, bringing_in}

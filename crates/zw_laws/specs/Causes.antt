@@ -1,7 +1,6 @@
 -- Why the host enters what it enters (Supervision, Wake Up and the reports of the Application Command Classes; which entry
 -- comes of which message is this project's own rule): each entry has a message of its node before it.
-use Rattle.std.specs.Prelude.{◌≡◌, ◌⊎◌, ℕ, ◌%◌, Bool, true, false, if◌then◌else◌, List, [], ◌∷◌, length, Option, Some, None, ⊤}
-use Rattle.std.specs.List.{flat_map}
+use Rattle.std.specs.Prelude.{◌≡◌, ◌⊎◌, ℕ, ◌%◌, Bool, true, false, List, [], ◌∷◌, length, Option, Some, None, ⊤}
 use Rattle.zw_base.specs.declared.property.Setting.{Setting}
 use Rattle.host_orders.specs.Classes.{lists}
 use Rattle.supervision.specs.Host.{command_at}
@@ -13,7 +12,6 @@ use Rattle.host_heard.specs.declared.payload.Heard.TheVariants.{Messages, Sealed
 use Rattle.host_heard.specs.declared.told.Told.{Told}
 use Rattle.host_heard.specs.declared.told.Told.TheVariants as told
 use Rattle.device_stack.specs.Sealing.{keys_of, unsealed_at}
-use Rattle.chip_functions.specs.declared.notice.Notice.{Notice}
 use Rattle.chip_functions.specs.declared.notice.Notice.TheVariants.{ApplicationUpdate}
 use Rattle.chip_functions.specs.declared.notice.Update.TheVariants.{Received}
 use Rattle.zw_text.specs.declared.entry.Ended.{Ended}
@@ -24,7 +22,6 @@ use Rattle.zw_text.specs.Transcript.{sessions}
 use Rattle.zw_laws.specs.Lists.{EachAfter, Has}
 use Rattle.zw_laws.specs.Nodes.{controller, host_list}
 use Rattle.zw_laws.specs.Units.{payloads_from, notices}
-use Rattle.zw_laws.specs.Payloads.{nonce_report}
 
 -- ---- what a node told
 
@@ -76,7 +73,7 @@ pub record IsReported (listing : ℕ → List ℕ) (key : List ℕ) (past : List
   pub carries : command_at (sessions node past) (length (sessions node past)) ≡ Some number
   pub reported : OneTells
       (λ payload. TellsReport (lists (host_list listing past node) 0x98) key node payload
-        (told.Report (length (sessions node past) % 64) status wake_request))
+      (told.Report (length (sessions node past) % 64) status wake_request))
       (payloads_from node past)
 
 -- a final outcome has its report before it

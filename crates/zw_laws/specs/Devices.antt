@@ -1,5 +1,5 @@
 -- What a device did, by the transcript (this project's own model of devices).
-use Rattle.std.specs.Prelude.{◌≡◌, ◌≤◌, ℕ, ◌+◌, ◌-◌, ◌==◌, Bool, true, false, if◌then◌else◌, List, [], ◌∷◌, ◌++◌, map, Option, Some, None}
+use Rattle.std.specs.Prelude.{◌≡◌, ℕ, ◌+◌, ◌-◌, ◌==◌, true, if◌then◌else◌, List, [], ◌∷◌, ◌++◌, map, Option, Some, None}
 use Rattle.std.specs.List.{flat_map}
 use Rattle.device_stack.specs.declared.change.Change.{Change}
 use Rattle.device_sim.specs.State.{State}
@@ -9,9 +9,9 @@ use Rattle.zw_text.specs.declared.line.Line.{Line}
 use Rattle.zw_text.specs.declared.line.Line.TheVariants as lines
 use Rattle.zw_text.specs.declared.entry.Entry.{Entry}
 use Rattle.zw_text.specs.declared.entry.Entry.TheVariants.{Said, Heard}
-use Rattle.zw_text.specs.Transcript.{AirFrame, Made, frames, made, lines_run, line_of, time_of, joined}
-use Rattle.zw_laws.specs.Lists.{shown_after, IsFrontOf}
-use Rattle.zw_laws.specs.Nodes.{controller, is_joined}
+use Rattle.zw_text.specs.Transcript.{AirFrame, Made, frames, made, lines_run, line_of, time_of}
+use Rattle.zw_laws.specs.Lists.{shown_after}
+use Rattle.zw_laws.specs.Nodes.{is_joined}
 use Rattle.zw_laws.specs.Restarts.{repeats, ticks_asked}
 use Rattle.zw_laws.specs.Repeats.{frame_of}
 

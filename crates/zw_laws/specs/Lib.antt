@@ -21,3 +21,5 @@ pub mod Table
 pub mod Worked
 pub mod WorkedWrong
 pub mod WorkedWrongHost
+pub mod WorkedWrongWire
+pub mod WorkedDevices

@@ -1,6 +1,6 @@
 -- That both sides of the serial line obey its rules (Serial API: acknowledgement and retransmission; the waits and the number
 -- of copies are this project's own). The chip obeys them over the whole run, the host from each restart to the next.
-use Rattle.std.specs.Prelude.{◌≡◌, ◌≤◌, ℕ, not, ◌&&◌, Bool, true, if◌then◌else◌, List, [], ◌∷◌, ◌++◌}
+use Rattle.std.specs.Prelude.{◌≡◌, ℕ, not, ◌&&◌, if◌then◌else◌, List, [], ◌∷◌, ◌++◌}
 use Rattle.std.specs.List.{flat_map, AllByRecursion}
 use Rattle.serial_frame.specs.Items.{unit_text}
 use Rattle.serial_frame.specs.Stream.{Signal, Rest, bytes_of, marks_of, Splits}

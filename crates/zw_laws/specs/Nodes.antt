@@ -1,7 +1,7 @@
 -- Which nodes are joined and what the host knows that they list, by the transcript so far (this project's own rule; the
 -- classes are those of a Node Information Frame). The class list of a node is that of its device, once an interview of
 -- it has succeeded.
-use Rattle.std.specs.Prelude.{ℕ, ◌==◌, Bool, true, false, if◌then◌else◌, List, [], ◌∷◌, Option, Some, None, unwrap_or, is_some}
+use Rattle.std.specs.Prelude.{ℕ, ◌==◌, Bool, if◌then◌else◌, List, [], ◌∷◌, Option, Some, None, unwrap_or}
 use Rattle.std.specs.List.{list_any}
 use Rattle.device_stack.specs.declared.kind.Kind.TheVariants.{Switch}
 use Rattle.device_stack.specs.Kind.{classes_of, lists}

@@ -1,9 +1,8 @@
 -- Once only, of the commands accepted for a node, the sessions begun for it, their outcomes and the journal of its device:
 -- no queue, timer, attempt or six-bit id occurs here (this project's own rule over the Supervision Command Class).
-use Rattle.std.specs.Prelude.{◌≡◌, ◌≤◌, ℕ, List, [], ◌∷◌, length, ⊤}
+use Rattle.std.specs.Prelude.{◌≡◌, ◌≤◌, ℕ, List, [], length, ⊤}
 use Rattle.std.specs.List.{flat_map, AllByRecursion}
-use Rattle.zw_base.specs.declared.property.By.{By}
-use Rattle.zw_base.specs.declared.property.By.TheVariants.{Session, Local, Plain}
+use Rattle.zw_base.specs.declared.property.By.TheVariants.{Plain}
 use Rattle.supervision.specs.Host.{command_at}
 use Rattle.device_stack.specs.declared.change.Change.{Change}
 use Rattle.zw_text.specs.declared.entry.Entry.{Entry}
@@ -11,7 +10,7 @@ use Rattle.zw_text.specs.declared.entry.Entry.TheVariants.{Out}
 use Rattle.zw_text.specs.declared.entry.Ended.TheVariants.{Success as Succeeds}
 use Rattle.zw_text.specs.declared.entry.Outcome.{Outcome}
 use Rattle.zw_text.specs.declared.entry.Outcome.TheVariants.{Waiting, Success, Fail, NoSupport, Cancelled}
-use Rattle.zw_text.specs.Transcript.{Command, accepted, sessions, applied, outcome, by_session}
+use Rattle.zw_text.specs.Transcript.{accepted, sessions, applied, outcome, by_session}
 use Rattle.zw_laws.specs.Lists.{EachAfter, Has, Rises, listed}
 use Rattle.zw_laws.specs.Commands.{numbers_of, settings_for}
 

@@ -1,6 +1,6 @@
 -- What the host asks the chip to send (Supervision, Transport Service, Security 0 and Wake Up Command Classes; which of them
 -- is sent when is this project's own rule): the message of the last session, or what a node or a line asked for.
-use Rattle.std.specs.Prelude.{◌≡◌, ◌⊎◌, ℕ, ◌%◌, Bool, true, List, [], ◌∷◌, ◌++◌, length, Option, Some, None, ⊤}
+use Rattle.std.specs.Prelude.{◌≡◌, ◌⊎◌, ℕ, ◌%◌, List, [], ◌∷◌, length, Option, Some, None, ⊤}
 use Rattle.std.specs.List.{flat_map, AllByRecursion}
 use Rattle.zw_order.specs.declared.order.Order.{Order}
 use Rattle.host_orders.specs.Errands.{send_text, get_text}

@@ -1,5 +1,5 @@
 -- What the keeper's records say is what the transcript shows (this project's own rule).
-use Rattle.std.specs.Prelude.{◌≡◌, ℕ, ◌==◌, ◌||◌, Bool, true, false, if◌then◌else◌, List, [], ◌∷◌, map, Option, Some, None, is_some}
+use Rattle.std.specs.Prelude.{◌≡◌, ℕ, ◌==◌, ◌||◌, List, [], ◌∷◌, map, Option, Some, None, is_some}
 use Rattle.std.specs.List.{flat_map}
 use Rattle.zw_order.specs.declared.order.Order.{Order}
 use Rattle.host_keep.specs.Kept.{Kept, KeptNode, node_of}

@@ -1,5 +1,5 @@
 -- When a frame on the air is fresh enough to be heard again (this project's own rule; Nonce Report is that of Security 0).
-use Rattle.std.specs.Prelude.{ℕ, ◌+◌, ◌-◌, ◌==◌, ◌&&◌, nat_lt, nat_le, Bool, true, false, if◌then◌else◌, List, [], ◌∷◌, ◌++◌, length, slice_get, Option, Some, None}
+use Rattle.std.specs.Prelude.{ℕ, ◌+◌, ◌-◌, ◌==◌, ◌&&◌, nat_lt, if◌then◌else◌, List, [], ◌∷◌, length, slice_get, Option, Some, None}
 use Rattle.std.specs.List.{flat_map}
 use Rattle.air_frames.specs.Ages.{stale_by}
 use Rattle.air_frames.specs.Nonces.{nonce_in, is_news}

@@ -1,11 +1,10 @@
 -- Restarts of the host, and the clock, by the transcript so far (this project's own rule).
-use Rattle.std.specs.Prelude.{ℕ, ◌+◌, ◌-◌, Bool, true, false, not, ◌&&◌, if◌then◌else◌, List, [], ◌∷◌, ◌++◌}
-use Rattle.std.specs.List.{flat_map}
+use Rattle.std.specs.Prelude.{ℕ, ◌+◌, Bool, true, false, not, ◌&&◌, if◌then◌else◌, List, [], ◌∷◌, ◌++◌}
 use Rattle.zw_text.specs.declared.line.Line.{Line}
 use Rattle.zw_text.specs.declared.line.Line.TheVariants.{Tick, Repeat as RepeatLine, Restart as RestartLine}
 use Rattle.zw_text.specs.declared.entry.Entry.{Entry}
 use Rattle.zw_text.specs.declared.entry.Entry.TheVariants.{Refused}
-use Rattle.zw_text.specs.Transcript.{line_of, line_last, lines_run, time_of}
+use Rattle.zw_text.specs.Transcript.{line_of, line_last}
 
 -- whether the entries begin with a refusal
 abbrev pub begins_refused : List Entry → Bool

@@ -13,7 +13,7 @@ use Rattle.chip_functions.specs.Request.{request_of}
 use Rattle.zw_words.specs.declared.side.Side.{Side}
 use Rattle.zw_words.specs.declared.side.Side.TheVariants.{Host, Chip}
 use Rattle.zw_text.specs.declared.entry.Entry.{Entry}
-use Rattle.zw_text.specs.Transcript.{Way, Unit_on, units}
+use Rattle.zw_text.specs.Transcript.{Way, units}
 use Rattle.zw_text.specs.Transcript.Way.{Whole, Missed, Changed}
 
 -- ---- units as frames

@@ -1,10 +1,9 @@
 -- Which value of a property is confirmed and which was heard, and that the confirmed one is the device's (this project's
 -- own rule).
-use Rattle.std.specs.Prelude.{◌≡◌, ℕ, Bool, true, false, if◌then◌else◌, List, [], ◌∷◌, ◌++◌, Option, Some, None}
+use Rattle.std.specs.Prelude.{◌≡◌, ℕ, Bool, true, false, if◌then◌else◌, List, [], ◌∷◌, Option, Some, None}
 use Rattle.std.specs.List.{list_any, flat_map, AllByRecursion}
 use Rattle.zw_base.specs.PropertyOrder.{same_property}
 use Rattle.zw_base.specs.declared.property.Property.{Property}
-use Rattle.zw_base.specs.declared.property.Setting.{Setting}
 use Rattle.zw_base.specs.declared.property.By.{By}
 use Rattle.device_stack.specs.declared.change.Change.{Change}
 use Rattle.device_stack.specs.State.{State, value_of}
@@ -55,7 +54,7 @@ last_command begun journal property = carried_by begun (flat_map by_session (lis
 abbrev pub IsConfirmed : (ℕ → List ℕ) → ℕ → List Entry → State → Property → Type 0
 IsConfirmed listing node transcript device property =
     AllByRecursion (λ number. outcome number transcript ≡ Success →
-      confirmed listing transcript node property ≡ Some (value_of device property))
+    confirmed listing transcript node property ≡ Some (value_of device property))
     (last_command (sessions node transcript) device.journal property)
 
 -- the properties that a journal changes

@@ -1,17 +1,13 @@
 -- Transcripts like the worked ones with one thing wrong.
-use Rattle.std.specs.Prelude.{ℕ, List, [], ◌∷◌, ◌++◌, codes, take, drop}
+use Rattle.std.specs.Prelude.{List, [], ◌∷◌, codes}
 use Rattle.zw_base.specs.declared.property.Name.TheVariants as names
-use Rattle.zw_base.specs.declared.property.By.TheVariants.{Session, Local, Plain}
+use Rattle.zw_base.specs.declared.property.By.TheVariants.{Session, Plain}
 use Rattle.zw_words.specs.declared.side.Side.TheVariants.{Host, Chip}
 use Rattle.host_orders.specs.Settings.{setting}
 use Rattle.device_stack.specs.declared.change.Change.{Change}
-use Rattle.device_stack.specs.declared.kind.Kind.TheVariants as kinds
-use Rattle.device_stack.specs.State.{State, fresh}
 use Rattle.zw_text.specs.declared.entry.Ended.TheVariants as endings
-use Rattle.zw_text.specs.declared.entry.Done.TheVariants as dones
-use Rattle.zw_text.specs.declared.entry.Refusal.TheVariants as refusals
 use Rattle.zw_text.specs.declared.entry.Entry.{Entry}
-use Rattle.zw_text.specs.declared.entry.Entry.TheVariants.{Said, Accepted, Refused, Begin, Written, Dropped, Garbled, Overrun, Air, Heard, Lost, Unheard, Dev, Forget, Out, Store, Report, Unstored, Old, Unread, Awake, Asleep, Interviewed, InterviewFailed, Done, Neighbours, Failed, ChipFull, QueueFull, Held, Cleared, Unkept, Time}
+use Rattle.zw_text.specs.declared.entry.Entry.TheVariants.{Said, Accepted, Begin, Written, Air, Heard, Dev, Out, Store, Time}
 use Rattle.zw_laws.specs.Worked.{bytes, changed}
 
 -- session 1 begins a second time

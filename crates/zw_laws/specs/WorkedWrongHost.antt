@@ -1,17 +1,13 @@
 -- Transcripts like the worked ones that break the laws of answers, of stored values and of frames, one thing wrong in each.
-use Rattle.std.specs.Prelude.{ℕ, List, [], ◌∷◌, ◌++◌, codes, take, drop}
+use Rattle.std.specs.Prelude.{List, [], ◌∷◌, codes}
 use Rattle.zw_base.specs.declared.property.Name.TheVariants as names
-use Rattle.zw_base.specs.declared.property.By.TheVariants.{Session, Local, Plain}
+use Rattle.zw_base.specs.declared.property.By.TheVariants.{Session}
 use Rattle.zw_words.specs.declared.side.Side.TheVariants.{Host, Chip}
 use Rattle.host_orders.specs.Settings.{setting}
-use Rattle.device_stack.specs.declared.change.Change.{Change}
-use Rattle.device_stack.specs.declared.kind.Kind.TheVariants as kinds
-use Rattle.device_stack.specs.State.{State, fresh}
 use Rattle.zw_text.specs.declared.entry.Ended.TheVariants as endings
-use Rattle.zw_text.specs.declared.entry.Done.TheVariants as dones
 use Rattle.zw_text.specs.declared.entry.Refusal.TheVariants as refusals
 use Rattle.zw_text.specs.declared.entry.Entry.{Entry}
-use Rattle.zw_text.specs.declared.entry.Entry.TheVariants.{Said, Accepted, Refused, Begin, Written, Dropped, Garbled, Overrun, Air, Heard, Lost, Unheard, Dev, Forget, Out, Store, Report, Unstored, Old, Unread, Awake, Asleep, Interviewed, InterviewFailed, Done, Neighbours, Failed, ChipFull, QueueFull, Held, Cleared, Unkept, Time}
+use Rattle.zw_text.specs.declared.entry.Entry.TheVariants.{Said, Accepted, Refused, Begin, Written, Air, Heard, Dev, Out, Store, Time}
 use Rattle.zw_laws.specs.Worked.{bytes}
 
 -- an order has no answer before the next line
@@ -51,6 +47,11 @@ cancelled_late =
     Written Host (bytes (codes "010E001302076C0101032501FF250177")) ∷ Written Chip (bytes (codes "06")) ∷
     Written Chip (bytes (codes "0104011301E8")) ∷ Air 1 1 2 [] (bytes (codes "6C0101032501FF")) ∷
     Written Host (bytes (codes "06")) ∷ Said (codes "cancel 1") ∷ Out 1 endings.Cancelled ∷ []
+
+-- a line that takes a command back is passed over
+abbrev pub passed_over : List Entry
+passed_over =
+    Said (codes "set 2 on") ∷ Accepted 1 2 ∷ Said (codes "cancel 1") ∷ Time 1 ∷ []
 
 -- a success confirms nothing
 abbrev pub not_stored : List Entry

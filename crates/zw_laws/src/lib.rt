@@ -5,14 +5,22 @@
 //! at entry and exit, and, where it says so, the keeper's records. Worked transcripts, and others with one thing wrong, show
 //! what each law means.
 //! The definitions stand in `specs/`, one file a law: `Nodes` and `Commands` (what is known of nodes, and what is asked of
-//! them), `Sessions`, `Once`, `Values`, and `Headline`, which joins these. `Lists` has their words for lists, `Worked` the
-//! transcripts.
+//! them), `Restarts`, `Sessions`, `Once`, `Values` and `Headline`; `Answers` and `Stores` of the host, `Payloads` and
+//! `Causes` of what it sends and enters; `Units`, `Links` and `Carrying` of the serial line; `Fates` and `Repeats` of the
+//! air; `Devices`, `Records`, `Table`. `Lists` has their words for lists; `Worked..` are the transcripts that the functions
+//! here speak of.
 #![tactic(auto)]
 
 mod air;
+mod device;
 mod host;
 mod once;
+mod wire;
 
 pub use air::{rejected_fates, worked_fates, worked_frames, worked_losses};
+pub use device::{worked_devices, worked_table};
 pub use host::{rejected_answers, worked_answers, worked_cancels, worked_stores};
 pub use once::{rejected_once, worked_once, worked_sessions, worked_successes, worked_values};
+pub use wire::{
+    rejected_wire, worked_begins, worked_bringing, worked_causes, worked_payloads, worked_units,
+};

@@ -1,4 +1,4 @@
-use Rattle.std.proofs.Common.{◌≡◌, ℕ, List, length, refl, ap, inl, inr, arith}
+use Rattle.std.proofs.Common.{◌≡◌, ℕ, length, refl, ap, inl, inr, arith}
 use Rattle.zw_laws.proofs.Computing.{computing}
 use Rattle.zw_laws.proofs.air.rejected_fates.Goals as goal
 
@@ -23,7 +23,7 @@ returns-clause-apart c = λ law. three_two law.1.1.1.1.1.1.1.1.1.1.1.1.0.0
 
 pub returns-clause-others : goal.returns-clause-others
 unfolding computing
-returns-clause-others c = λ law. elim law.1.1.1.1.1.1.1.1.1.1.1.1.0.1 [ | inl same ↦ two_is_one same | inr same ↦ three_one same ]
+returns-clause-others c = λ law. elim law.1.1.1.1.1.1.1.1.1.1.1.1.0.1 [ inl same ↦ two_is_one same | inr same ↦ three_one same ]
 
 pub returns-clause-at_once : goal.returns-clause-at_once
 unfolding computing

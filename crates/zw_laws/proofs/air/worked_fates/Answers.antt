@@ -1,64 +1,211 @@
-use Rattle.std.proofs.Common.{◌≡◌, ℕ, refl, inl, inr, [], arith}
+use Rattle.std.proofs.Common.{refl, arith}
 use Rattle.zw_laws.proofs.Computing.{computing}
 use Rattle.zw_laws.proofs.air.worked_fates.Goals as goal
 
 pub returns-clause-plain : goal.returns-clause-plain
 unfolding computing
-returns-clause-plain c = (refl, (tt, (tt, (tt, (tt, (tt, (tt, (tt, (refl, (refl, ((refl, omega arith), (tt, (tt, (tt, (tt, (refl,
-    ((refl, omega arith), (tt, (tt, (tt, (tt, tt)))))))))))))))))))))
+returns-clause-plain c = (
+  refl,
+  (
+    tt,
+    (
+      tt,
+      (
+        tt,
+        (
+          tt,
+          (
+            tt,
+            (
+              tt,
+              (
+                tt,
+                (
+                  refl,
+                  (
+                    refl,
+                    (
+                      (refl, omega arith),
+                      (
+                        tt,
+                        (
+                          tt,
+                          (
+                            tt,
+                            (
+                              tt,
+                              (
+                                refl,
+                                ((refl, omega arith), (tt, (tt, (tt, (tt, tt))))),
+                              ),
+                            ),
+                          ),
+                        ),
+                      ),
+                    ),
+                  ),
+                ),
+              ),
+            ),
+          ),
+        ),
+      ),
+    ),
+  ),
+)
 
 pub returns-clause-repeated : goal.returns-clause-repeated
 unfolding computing
-returns-clause-repeated c = (refl, (refl, (tt, (tt, (tt, (tt, (tt, (tt, (tt, (refl, (refl, ((refl, omega arith), (tt, (tt, (tt, (tt, (tt,
-    (tt, (tt, (tt, (tt, (refl, ((refl, omega arith), (tt, ((refl, omega arith), (tt, (tt, (tt, (tt, (tt, (tt,
-    (refl, ((refl, omega arith), (tt, (tt, (tt, tt))))))))))))))))))))))))))))))))))))
-
-pub returns-clause-lossy : goal.returns-clause-lossy
-unfolding computing
-returns-clause-lossy c = (refl, (refl, (tt, (tt, (tt, (tt, (tt, (tt, (tt, (refl, (refl, ((refl, omega arith), (tt, (tt, (tt, (tt, (tt,
-    (tt, (tt, (refl, ((refl, omega arith), (tt, (tt, (tt, (tt, (tt, (tt, (tt, (refl, ((refl, omega arith), (tt,
-    (tt, (tt, (refl, (tt, (tt, (tt, (tt, (tt, (tt, (refl, (refl, ((refl, omega arith), (tt, (tt, (tt, (tt, (refl,
-    ((refl, omega arith), (tt, (tt, (tt, (tt, (tt, (tt, (tt, (tt, (tt, (tt, (refl, ((refl, omega arith), (tt, (tt,
-    (tt, (tt, (refl, ((refl, omega arith), (tt, (tt, (tt, (tt,
-    tt)))))))))))))))))))))))))))))))))))))))))))))))))))))))))))))))))))))))
+returns-clause-repeated c = (
+  refl,
+  (
+    refl,
+    (
+      tt,
+      (
+        tt,
+        (
+          tt,
+          (
+            tt,
+            (
+              tt,
+              (
+                tt,
+                (
+                  tt,
+                  (
+                    refl,
+                    (
+                      refl,
+                      (
+                        (refl, omega arith),
+                        (
+                          tt,
+                          (
+                            tt,
+                            (
+                              tt,
+                              (
+                                tt,
+                                (
+                                  tt,
+                                  (
+                                    tt,
+                                    (
+                                      tt,
+                                      (
+                                        tt,
+                                        (
+                                          tt,
+                                          (
+                                            refl,
+                                            (
+                                              (refl, omega arith),
+                                              (
+                                                tt,
+                                                (
+                                                  (refl, omega arith),
+                                                  (
+                                                    tt,
+                                                    (
+                                                      tt,
+                                                      (
+                                                        tt,
+                                                        (
+                                                          tt,
+                                                          (
+                                                            tt,
+                                                            (
+                                                              tt,
+                                                              (refl, ((refl, omega arith), (tt, (tt, (tt, tt))))),
+                                                            ),
+                                                          ),
+                                                        ),
+                                                      ),
+                                                    ),
+                                                  ),
+                                                ),
+                                              ),
+                                            ),
+                                          ),
+                                        ),
+                                      ),
+                                    ),
+                                  ),
+                                ),
+                              ),
+                            ),
+                          ),
+                        ),
+                      ),
+                    ),
+                  ),
+                ),
+              ),
+            ),
+          ),
+        ),
+      ),
+    ),
+  ),
+)
 
 pub returns-clause-cancelled : goal.returns-clause-cancelled
 unfolding computing
-returns-clause-cancelled c = (refl, (tt, (tt, (tt, (tt, (tt, (tt, (tt, (refl, (tt, (refl, (tt, (refl, (tt, (refl, (refl, ((refl, omega
-    arith), (tt, (tt, (tt, (tt, (refl, ((refl, omega arith), (tt, (tt, (tt, (tt, tt)))))))))))))))))))))))))))
-
-pub returns-clause-restarted : goal.returns-clause-restarted
-unfolding computing
-returns-clause-restarted c = (refl, (tt, (tt, (tt, (tt, (tt, (tt, (tt, (refl, (tt, (tt, (tt, (tt, (tt, (tt, (tt, (tt, (tt, (tt, (tt, (tt,
-    (tt, (refl, (refl, ((refl, omega arith), (tt, (tt, (tt, (tt, (refl, ((refl, omega arith), (tt, (tt, (tt, (tt,
-    tt)))))))))))))))))))))))))))))))))))
-
-pub returns-clause-sleeping : goal.returns-clause-sleeping
-unfolding computing
-returns-clause-sleeping c = (refl, (refl, (refl, (tt, (refl, (tt, (tt, (tt, (tt, (tt, (tt, (tt, (tt, (refl, (refl, ((refl, omega arith),
-    (tt, (tt, (tt, (tt, (tt, (tt, (tt, (tt, (tt, (tt, (tt, (refl, ((refl, omega arith), (tt, (tt, (tt, (refl, (tt,
-    (refl, (tt, (refl, (refl, ((refl, omega arith), (tt, (tt, (tt, (tt, (tt, (tt, (tt, (tt, (tt, (refl, ((refl,
-    omega arith), (tt, (tt, (tt, (tt, (refl, ((refl, omega arith), (tt, (tt, (tt, (tt, (tt, (tt, (tt, (tt, (tt,
-    (refl, (tt, (refl, (refl, ((refl, omega arith), (tt, (tt, (tt,
-    tt)))))))))))))))))))))))))))))))))))))))))))))))))))))))))))))))))))))))))
-
-pub returns-clause-sealed : goal.returns-clause-sealed
-unfolding computing
-returns-clause-sealed c = (refl, (refl, (refl, (tt, (tt, (tt, (tt, (tt, (tt, (tt, (tt, (refl, (refl, (tt, (tt, (tt, (refl, (tt, (tt,
-    (tt, (tt, (tt, (tt, (tt, (refl, (refl, (refl, ((refl, omega arith), (tt, (tt, (tt, (refl, (refl, ((refl, omega
-    arith), (refl, (tt, (tt, (tt, (tt, (tt, (refl, ((refl, omega arith), (tt, (tt, (tt, (refl, ((refl, omega
-    arith), (tt, (tt, (tt, (tt, (tt, (tt, (tt, (refl, ((refl, omega arith), (tt, (tt, (tt, (tt, (refl, ((refl,
-    omega arith), (tt, (tt, (tt, (tt, (tt, (tt, (tt, (refl, ((refl, omega arith), (tt, (tt, (tt, (refl, ((refl,
-    omega arith), (tt, (tt, (tt, (tt, (refl, ((refl, refl),
-    tt))))))))))))))))))))))))))))))))))))))))))))))))))))))))))))))))))))))))))))))))))
-
-pub returns-clause-cut : goal.returns-clause-cut
-unfolding computing
-returns-clause-cut c = (refl, (refl, (refl, (tt, (tt, (tt, (tt, (tt, (tt, (tt, (tt, (refl, (refl, (tt, (tt, (tt, (refl, (tt, (tt,
-    (tt, (tt, (tt, (tt, (tt, (refl, (refl, ((refl, omega arith), (tt, (tt, (tt, (tt, (tt, (tt, (tt, (refl, ((refl,
-    omega arith), (tt, (tt, (tt, (tt, (tt, (tt, (tt, (tt, (tt, (tt, (tt, (tt, (tt, (tt, (tt, (tt, (tt, (tt, (tt,
-    (tt, (tt, (tt, (tt, (tt, (tt, (tt, (tt, (tt, (tt, (tt, (tt, (tt, (tt, (tt, (tt, (tt, (tt, (tt, (tt, (tt, (tt,
-    (refl, ((refl, omega arith), (tt, ((refl, omega arith), (tt, (tt, (tt, (tt, (tt, (tt, (tt, (tt, (tt, (tt, (tt,
-    (tt, (tt, (tt, (tt, (tt, (tt, (tt, (tt, (tt, (tt, (tt, (tt, (tt, (tt, (tt, (tt, (tt, (tt, (tt, (tt, (tt, (tt,
-    (tt, (tt, (tt, (tt, (tt, (tt, (tt, (tt,
-    tt))))))))))))))))))))))))))))))))))))))))))))))))))))))))))))))))))))))))))))))))))))))))))))))))))))))))))))))))))))))))))
+returns-clause-cancelled c = (
+  refl,
+  (
+    tt,
+    (
+      tt,
+      (
+        tt,
+        (
+          tt,
+          (
+            tt,
+            (
+              tt,
+              (
+                tt,
+                (
+                  refl,
+                  (
+                    tt,
+                    (
+                      refl,
+                      (
+                        tt,
+                        (
+                          refl,
+                          (
+                            tt,
+                            (
+                              refl,
+                              (
+                                refl,
+                                (
+                                  (
+                                    refl,
+                                    omega
+                                        arith,
+                                  ),
+                                  (tt, (tt, (tt, (tt, (refl, ((refl, omega arith), (tt, (tt, (tt, (tt, tt)))))))))),
+                                ),
+                              ),
+                            ),
+                          ),
+                        ),
+                      ),
+                    ),
+                  ),
+                ),
+              ),
+            ),
+          ),
+        ),
+      ),
+    ),
+  ),
+)

@@ -1,5 +1,4 @@
-use Rattle.std.proofs.Common.{◌≡◌, ℕ, ◌+◌, Bool, true, false, List, [], ◌∷◌, length, refl, sym, ap, inl, inr, arith}
-use Rattle.zw_text.specs.declared.line.Line.{Line}
+use Rattle.std.proofs.Common.{◌≡◌, ℕ, ◌+◌, true, false, List, [], ◌∷◌, length, refl, ap, inl, inr, arith}
 use Rattle.zw_text.specs.declared.entry.Entry.{Entry}
 use Rattle.zw_text.specs.declared.entry.Entry.TheVariants.{Accepted, Refused, Store}
 use Rattle.zw_text.specs.declared.entry.Refusal.{Refusal}
@@ -56,15 +55,15 @@ not_true e = cc
 
 pub returns-clause-unanswered : goal.returns-clause-unanswered
 unfolding computing
-returns-clause-unanswered c = λ law. elim law.between.1.0 [ | inl same ↦ eleven_zero (ap first_tag same) | inr kept ↦ zero_one (ap tag kept.1) ]
+returns-clause-unanswered c = λ law. elim law.between.1.0 [ inl same ↦ eleven_zero (ap first_tag same) | inr kept ↦ zero_one (ap tag kept.1) ]
 
 pub returns-clause-freely : goal.returns-clause-freely
 unfolding computing
-returns-clause-freely c = λ law. elim law.between.1.0 [ | inl same ↦ eleven_two (ap first_tag same) | inr kept ↦ two_one (ap tag kept.1) ]
+returns-clause-freely c = λ law. elim law.between.1.0 [ inl same ↦ eleven_two (ap first_tag same) | inr kept ↦ two_one (ap tag kept.1) ]
 
 pub returns-clause-wrongly : goal.returns-clause-wrongly
 unfolding computing
-returns-clause-wrongly c = λ law. elim law.between.1.0 [ | inl same ↦ eleven_twelve (ap first_tag same) | inr kept ↦ twelve_one (ap tag kept.1) ]
+returns-clause-wrongly c = λ law. elim law.between.1.0 [ inl same ↦ eleven_twelve (ap first_tag same) | inr kept ↦ twelve_one (ap tag kept.1) ]
 
 pub returns-clause-unasked : goal.returns-clause-unasked
 unfolding computing
@@ -81,6 +80,10 @@ returns-clause-cancelled c = λ law. zero_one (ap length law.1.1.0.0)
 pub returns-clause-late : goal.returns-clause-late
 unfolding computing
 returns-clause-late c = λ law. not_true law.1.1.1.1.1.1.1.1.1.0.1
+
+pub returns-clause-passed : goal.returns-clause-passed
+unfolding computing
+returns-clause-passed c = λ law. law.between.1.1.1.0
 
 pub returns-clause-not_stored : goal.returns-clause-not_stored
 unfolding computing

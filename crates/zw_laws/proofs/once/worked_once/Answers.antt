@@ -1,4 +1,4 @@
-use Rattle.std.proofs.Common.{◌≡◌, ℕ, refl, inl, inr, arith}
+use Rattle.std.proofs.Common.{refl, inl, inr, arith}
 use Rattle.zw_laws.proofs.Computing.{computing}
 use Rattle.zw_laws.proofs.once.worked_once.Goals as goal
 
@@ -50,7 +50,7 @@ returns-clause-cancelled c = record {
   commands_accepted = (inl refl, tt);
   settings = ((refl, tt), tt);
   successful = (λ success. inl refl, (λ success. absurd cc, tt));
-  undone = (λ undone has. undone, (λ undone has. elim has [ | inl same ↦ omega (arith, same) | inr never ↦ never ], tt));
+  undone = (λ undone has. undone, (λ undone has. elim has [ inl same ↦ omega (arith, same) | inr never ↦ never ], tt));
   never_plain = (λ by. cc, tt);
 }
 
@@ -76,7 +76,7 @@ returns-clause-sleeping c = record {
   commands_accepted = (inl refl, tt);
   settings = ((refl, tt), tt);
   successful = (λ success. inl refl, (λ success. absurd cc, tt));
-  undone = (λ undone has. undone, (λ undone has. elim has [ | inl same ↦ omega (arith, same) | inr never ↦ never ], tt));
+  undone = (λ undone has. undone, (λ undone has. elim has [ inl same ↦ omega (arith, same) | inr never ↦ never ], tt));
   never_plain = (λ by. cc, tt);
 }
 

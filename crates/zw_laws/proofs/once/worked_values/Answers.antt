@@ -1,4 +1,4 @@
-use Rattle.std.proofs.Common.{◌≡◌, ℕ, refl, inl, inr, arith}
+use Rattle.std.proofs.Common.{refl}
 use Rattle.zw_laws.proofs.Computing.{computing}
 use Rattle.zw_laws.proofs.once.worked_values.Goals as goal
 
@@ -32,12 +32,144 @@ returns-clause-sealed c = ((λ success. refl, tt), tt)
 
 pub returns-clause-cut : goal.returns-clause-cut
 unfolding computing
-returns-clause-cut c = ((λ success. refl, tt), ((λ success. refl, tt), ((λ success. refl, tt), ((λ success. refl, tt), ((λ success.
-    refl, tt), ((λ success. refl, tt), ((λ success. refl, tt), ((λ success. refl, tt), ((λ success. refl, tt), ((λ
-    success. refl, tt), ((λ success. refl, tt), ((λ success. refl, tt), ((λ success. refl, tt), ((λ success. refl,
-    tt), ((λ success. refl, tt), ((λ success. refl, tt), ((λ success. refl, tt), ((λ success. refl, tt), ((λ
-    success. refl, tt), ((λ success. refl, tt), ((λ success. refl, tt), ((λ success. refl, tt), ((λ success. refl,
-    tt), ((λ success. refl, tt), ((λ success. refl, tt), ((λ success. refl, tt), ((λ success. refl, tt), ((λ
-    success. refl, tt), ((λ success. refl, tt), ((λ success. refl, tt), ((λ success. refl, tt), ((λ success. refl,
-    tt), ((λ success. refl, tt), ((λ success. refl, tt), ((λ success. refl, tt), ((λ success. refl, tt), ((λ
-    success. refl, tt), tt)))))))))))))))))))))))))))))))))))))
+returns-clause-cut c = (
+  (λ success. refl, tt),
+  (
+    (λ success. refl, tt),
+    (
+      (λ success. refl, tt),
+      (
+        (λ success. refl, tt),
+        (
+          (
+            λ success.
+                refl,
+            tt,
+          ),
+          (
+            (λ success. refl, tt),
+            (
+              (λ success. refl, tt),
+              (
+                (λ success. refl, tt),
+                (
+                  (λ success. refl, tt),
+                  (
+                    (
+                      λ
+                          success. refl,
+                      tt,
+                    ),
+                    (
+                      (λ success. refl, tt),
+                      (
+                        (λ success. refl, tt),
+                        (
+                          (λ success. refl, tt),
+                          (
+                            (
+                              λ success. refl,
+                              tt,
+                            ),
+                            (
+                              (λ success. refl, tt),
+                              (
+                                (λ success. refl, tt),
+                                (
+                                  (λ success. refl, tt),
+                                  (
+                                    (λ success. refl, tt),
+                                    (
+                                      (
+                                        λ
+                                            success. refl,
+                                        tt,
+                                      ),
+                                      (
+                                        (λ success. refl, tt),
+                                        (
+                                          (λ success. refl, tt),
+                                          (
+                                            (λ success. refl, tt),
+                                            (
+                                              (
+                                                λ success. refl,
+                                                tt,
+                                              ),
+                                              (
+                                                (λ success. refl, tt),
+                                                (
+                                                  (λ success. refl, tt),
+                                                  (
+                                                    (λ success. refl, tt),
+                                                    (
+                                                      (λ success. refl, tt),
+                                                      (
+                                                        (
+                                                          λ
+                                                              success. refl,
+                                                          tt,
+                                                        ),
+                                                        (
+                                                          (λ success. refl, tt),
+                                                          (
+                                                            (λ success. refl, tt),
+                                                            (
+                                                              (λ success. refl, tt),
+                                                              (
+                                                                (
+                                                                  λ success. refl,
+                                                                  tt,
+                                                                ),
+                                                                (
+                                                                  (λ success. refl, tt),
+                                                                  (
+                                                                    (λ success. refl, tt),
+                                                                    (
+                                                                      (λ success. refl, tt),
+                                                                      (
+                                                                        (λ success. refl, tt),
+                                                                        (
+                                                                          (
+                                                                            λ
+                                                                                success. refl,
+                                                                            tt,
+                                                                          ),
+                                                                          tt,
+                                                                        ),
+                                                                      ),
+                                                                    ),
+                                                                  ),
+                                                                ),
+                                                              ),
+                                                            ),
+                                                          ),
+                                                        ),
+                                                      ),
+                                                    ),
+                                                  ),
+                                                ),
+                                              ),
+                                            ),
+                                          ),
+                                        ),
+                                      ),
+                                    ),
+                                  ),
+                                ),
+                              ),
+                            ),
+                          ),
+                        ),
+                      ),
+                    ),
+                  ),
+                ),
+              ),
+            ),
+          ),
+        ),
+      ),
+    ),
+  ),
+)

@@ -1,0 +1,48 @@
+use Rattle.std.proofs.Common.{◌≡◌, ℕ, List, [], ◌∷◌, ap, inl, inr, arith}
+use Rattle.zw_laws.specs.Units.{Carried}
+use Rattle.zw_laws.proofs.Computing.{computing}
+use Rattle.zw_laws.proofs.wire.rejected_wire.Goals as goal
+
+-- the last byte of a payload
+abbrev last_byte : ℕ → List ℕ → ℕ
+last_byte before [] = before
+last_byte before (byte ∷ bytes) = last_byte byte bytes
+
+off_on : ◌≡◌ {A = ℕ} 0 255 → ⊥
+off_on e = omega (arith, e)
+
+pub returns-clause-aired : goal.returns-clause-aired
+unfolding computing
+returns-clause-aired c = λ law. elim law.1.1.1.1.1.1.0 [ inl picked ↦ off_on (ap (λ (carried : Carried). last_byte 0 carried.payload) picked.0) | inr never ↦ never ]
+
+pub returns-clause-twice : goal.returns-clause-twice
+unfolding computing
+returns-clause-twice c = λ law. elim law.1.1.1.1.1.1.1.0 [ inl picked ↦ picked.1 | inr never ↦ never ]
+
+pub returns-clause-brought : goal.returns-clause-brought
+unfolding computing
+returns-clause-brought c = λ law. law.1.1.1.1.1.1.1.1.1.1.1.1.1.0.0
+
+pub returns-clause-silently : goal.returns-clause-silently
+unfolding computing
+returns-clause-silently c = λ law. law.1.1.1.0
+
+pub returns-clause-told : goal.returns-clause-told
+unfolding computing
+returns-clause-told c = λ law. law.1.1.1.1.1.1.1.1.1.1.1.1.1.1.1.1.1.0.reported
+
+pub returns-clause-woken : goal.returns-clause-woken
+unfolding computing
+returns-clause-woken c = λ law. law.0
+
+pub returns-clause-old : goal.returns-clause-old
+unfolding computing
+returns-clause-old c = λ law. law.0.told_it
+
+pub returns-clause-interviewed : goal.returns-clause-interviewed
+unfolding computing
+returns-clause-interviewed c = λ law. law.0.came
+
+pub returns-clause-reported : goal.returns-clause-reported
+unfolding computing
+returns-clause-reported c = λ law. law.0.told_them

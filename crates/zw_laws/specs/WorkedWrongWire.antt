@@ -1,0 +1,77 @@
+-- Transcripts like the worked ones that break the laws of what is carried and why, one thing wrong in each.
+use Rattle.std.specs.Prelude.{List, [], ◌∷◌, codes}
+use Rattle.zw_base.specs.declared.property.Name.TheVariants as names
+use Rattle.zw_base.specs.declared.property.By.TheVariants.{Session}
+use Rattle.zw_words.specs.declared.side.Side.TheVariants.{Host, Chip}
+use Rattle.host_orders.specs.Settings.{setting}
+use Rattle.zw_text.specs.declared.entry.Ended.TheVariants as endings
+use Rattle.zw_text.specs.declared.entry.Entry.{Entry}
+use Rattle.zw_text.specs.declared.entry.Entry.TheVariants.{Said, Accepted, Begin, Written, Air, Heard, Dev, Out, Report, Old, Awake, Interviewed, Time}
+use Rattle.zw_laws.specs.Worked.{bytes}
+
+-- a frame of the controller that no unit asked for
+abbrev pub aired_unasked : List Entry
+aired_unasked =
+    Said (codes "set 2 on") ∷ Accepted 1 2 ∷ Begin 2 1 1 ∷
+    Written Host (bytes (codes "010E001302076C0101032501FF250177")) ∷ Written Chip (bytes (codes "06")) ∷
+    Written Chip (bytes (codes "0104011301E8")) ∷ Air 1 1 2 [] (bytes (codes "6C010103250100")) ∷ []
+
+-- a frame of the controller a second time for one unit
+abbrev pub aired_twice : List Entry
+aired_twice =
+    Said (codes "set 2 on") ∷ Accepted 1 2 ∷ Begin 2 1 1 ∷
+    Written Host (bytes (codes "010E001302076C0101032501FF250177")) ∷ Written Chip (bytes (codes "06")) ∷
+    Written Chip (bytes (codes "0104011301E8")) ∷ Air 1 1 2 [] (bytes (codes "6C0101032501FF")) ∷
+    Air 2 1 2 [] (bytes (codes "6C0101032501FF")) ∷ []
+
+-- the chip brings a payload that it has not heard
+abbrev pub brought_unheard : List Entry
+brought_unheard =
+    Said (codes "set 2 on") ∷ Accepted 1 2 ∷ Begin 2 1 1 ∷
+    Written Host (bytes (codes "010E001302076C0101032501FF250177")) ∷ Written Chip (bytes (codes "06")) ∷
+    Written Chip (bytes (codes "0104011301E8")) ∷ Air 1 1 2 [] (bytes (codes "6C0101032501FF")) ∷
+    Written Host (bytes (codes "06")) ∷ Said (codes "tick 2") ∷ Time 1 ∷ Heard 1 ∷
+    Dev 2 (Session 1) (setting 0 names.Switch 255) ∷ Air 2 2 1 [] (bytes (codes "6C0201FF00")) ∷
+    Written Chip (bytes (codes "010B00040002056C0201FF0067")) ∷ []
+
+-- the host sends the message of another session
+abbrev pub sent_otherwise : List Entry
+sent_otherwise =
+    Said (codes "set 2 on") ∷ Accepted 1 2 ∷ Begin 2 1 1 ∷
+    Written Host (bytes (codes "010E001302076C0102032501FF250174")) ∷ []
+
+-- a session begins without its unit
+abbrev pub begun_silently : List Entry
+begun_silently =
+    Said (codes "set 2 on") ∷ Accepted 1 2 ∷ Begin 2 1 1 ∷ Said (codes "tick 2") ∷ []
+
+-- success is reported though no report has come
+abbrev pub told_by_none : List Entry
+told_by_none =
+    Said (codes "set 2 on") ∷ Accepted 1 2 ∷ Begin 2 1 1 ∷
+    Written Host (bytes (codes "010E001302076C0101032501FF250177")) ∷ Written Chip (bytes (codes "06")) ∷
+    Written Chip (bytes (codes "0104011301E8")) ∷ Air 1 1 2 [] (bytes (codes "6C0101032501FF")) ∷
+    Written Host (bytes (codes "06")) ∷ Said (codes "tick 2") ∷ Time 1 ∷ Heard 1 ∷
+    Dev 2 (Session 1) (setting 0 names.Switch 255) ∷ Air 2 2 1 [] (bytes (codes "6C0201FF00")) ∷
+    Written Chip (bytes (codes "010500130100E8")) ∷ Written Host (bytes (codes "06")) ∷ Time 2 ∷ Heard 2 ∷
+    Out 1 endings.Success ∷ []
+
+-- a node counts as awake though it has not told so
+abbrev pub woken_by_none : List Entry
+woken_by_none =
+    Awake 5 ∷ []
+
+-- an old report is entered that has not come
+abbrev pub old_from_none : List Entry
+old_from_none =
+    Old 2 1 ∷ []
+
+-- an interview succeeds though no information has come
+abbrev pub interviewed_by_none : List Entry
+interviewed_by_none =
+    Interviewed 5 ∷ []
+
+-- a value is entered as heard that was not told
+abbrev pub reported_by_none : List Entry
+reported_by_none =
+    Report 2 (setting 0 names.Switch 255) ∷ []

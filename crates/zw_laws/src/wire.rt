@@ -1,0 +1,59 @@
+//! What the laws of units, payloads and causes say of worked transcripts, and of others with one thing wrong.
+
+ghost use Rattle.std.specs.Prelude.{[], ◌∷◌};
+ghost use Rattle.zw_laws.specs.Nodes.{listing_of};
+ghost use Rattle.zw_laws.specs.Carrying.{CarriesUnits, BringsWhatWasHeard};
+ghost use Rattle.zw_laws.specs.Payloads.{SendsWhatIsDue, BeginsWithUnit};
+ghost use Rattle.zw_laws.specs.Causes.{EachHasCause};
+ghost use Rattle.zw_laws.specs.Worked.{plain_exchange, repeated_exchange, lossy_exchange, cancelled_order, restarted_host, sleeping_node, sealed_exchange, long_message, the_switch, the_sensor, the_plug};
+ghost use Rattle.zw_laws.specs.WorkedWrongWire.{aired_unasked, aired_twice, brought_unheard, begun_silently, told_by_none, woken_by_none, old_from_none, interviewed_by_none, reported_by_none};
+
+/// In worked transcripts the controller's frames are those that units asked for.
+pub fn worked_units()
+    ensures plain { CarriesUnits plain_exchange }
+    ensures repeated { CarriesUnits repeated_exchange }
+    ensures cancelled { CarriesUnits cancelled_order }
+{}
+
+/// In worked transcripts the chip brings what was heard.
+pub fn worked_bringing()
+    ensures plain { BringsWhatWasHeard plain_exchange }
+    ensures repeated { BringsWhatWasHeard repeated_exchange }
+    ensures cancelled { BringsWhatWasHeard cancelled_order }
+{}
+
+/// In worked transcripts behind each session that begins stands its unit.
+pub fn worked_begins()
+    ensures plain { BeginsWithUnit plain_exchange }
+    ensures repeated { BeginsWithUnit repeated_exchange }
+    ensures cancelled { BeginsWithUnit cancelled_order }
+{}
+
+/// In worked transcripts the host sends what is due: messages of sessions, segments of them, No More Information.
+pub fn worked_payloads()
+    ensures plain { SendsWhatIsDue (listing_of (the_switch ∷ [])) [] plain_exchange }
+    ensures repeated { SendsWhatIsDue (listing_of (the_switch ∷ [])) [] repeated_exchange }
+    ensures cancelled { SendsWhatIsDue (listing_of (the_switch ∷ [])) [] cancelled_order }
+{}
+
+/// In worked transcripts outcomes, wakings, old reports and interviews have their causes.
+pub fn worked_causes()
+    ensures plain { EachHasCause (listing_of (the_switch ∷ [])) [] plain_exchange }
+    ensures repeated { EachHasCause (listing_of (the_switch ∷ [])) [] repeated_exchange }
+    ensures cancelled { EachHasCause (listing_of (the_switch ∷ [])) [] cancelled_order }
+{}
+
+/// Each of these breaks one part of the laws: a frame that no unit asked for, or twice for one unit; a payload brought that
+/// was not heard; the message of another session; a session that begins without its unit; and an outcome, a waking, an old
+/// report, an interview and a heard value without a cause.
+pub fn rejected_wire()
+    ensures aired { CarriesUnits aired_unasked → ⊥ }
+    ensures twice { CarriesUnits aired_twice → ⊥ }
+    ensures brought { BringsWhatWasHeard brought_unheard → ⊥ }
+    ensures silently { BeginsWithUnit begun_silently → ⊥ }
+    ensures told { EachHasCause (listing_of (the_switch ∷ [])) [] told_by_none → ⊥ }
+    ensures woken { EachHasCause (listing_of (the_sensor ∷ [])) [] woken_by_none → ⊥ }
+    ensures old { EachHasCause (listing_of (the_switch ∷ [])) [] old_from_none → ⊥ }
+    ensures interviewed { EachHasCause (listing_of (the_sensor ∷ [])) [] interviewed_by_none → ⊥ }
+    ensures reported { EachHasCause (listing_of (the_switch ∷ [])) [] reported_by_none → ⊥ }
+{}
