@@ -3,7 +3,7 @@ pub mod Feeding
 mod Numbered
 mod Owning
 mod Storing
-mod Accepted
+pub mod Accepted
 mod Keeping
 mod Pumps
 mod Rounds

@@ -17,6 +17,7 @@ use Rattle.mesh_sim.specs.declared.fate.Fate.TheVariants.{Lost, Dead, Missed, At
 use Rattle.mesh_sim.specs.Routes.{IsRoute, backwards}
 use Rattle.mesh_sim.specs.Air.{AirState, is_joined, departing}
 use Rattle.mesh_sim.specs.Fates.{Mesh, HearsWithin, fate_of, listener_of}
+use Rattle.air_frames.specs.declared.ages.Refusal.{Refusal}
 use Rattle.mesh_sim.specs.Steps.{AirStep, Arrives, Repeats, mesh_after, mesh_outs, MayHappen, mesh_after_all, mesh_outs_all, MayAllHappen, Did, Stops, Delivers, IsCut, IsArrival, HasHeard, HasPerhaps, Comes, done_of, outs_at, landed, acknowledged, status_of, answered, answered_if, air_hearing, outs_hearing, heard_at, arriving, arriving_as, arrival_outs, arrival_outs_as, MayArrive, MayArriveIf, repeating, repeating_by, repeat_outs, repeat_outs_by, MayRepeat, MayRepeatBy, MayHearAgain, heard_again, outs_again, ComesAgain, IsHeardAgain, IsHeardPerhaps}
 
 abbrev pub States : Type 0
@@ -135,9 +136,9 @@ counts_if : (b : Bool) (air : AirState) (node : ℕ) (way : Option Route) (repli
 counts_if true air node way replies = counts_putting air node way replies
 counts_if false air node way replies = (refl, omega arith)
 
-record Moves (old new : AirState) : Type 0 where
-  landed : new.frames.landed ≡ old.frames.landed + 1
-  sent : old.frames.sent ≤ new.frames.sent
+pub record Moves (old new : AirState) : Type 0 where
+  pub landed : new.frames.landed ≡ old.frames.landed + 1
+  pub sent : old.frames.sent ≤ new.frames.sent
 
 landed_moves : (air : AirState) → Moves air (landed air)
 unfolding landing
@@ -164,7 +165,7 @@ moves_as air ds frame Missed drawn route = landed_moves air
 moves_as air ds frame AtChip drawn route = landed_moves air
 moves_as air ds frame (AtDevice place) drawn route = heard_moves air ds place frame.node (slice_get ds place) route (Hears frame.payload drawn)
 
-moves_if : (air : AirState) (ds : States) (o : Option Flown) (drawn : List ℕ) (route : Option Route) → MayArriveIf (mesh air ds) o route → Moves air (arriving (mesh air ds) o drawn route).air
+pub moves_if : (air : AirState) (ds : States) (o : Option Flown) (drawn : List ℕ) (route : Option Route) → MayArriveIf (mesh air ds) o route → Moves air (arriving (mesh air ds) o drawn route).air
 moves_if air ds None drawn route may = absurd may
 moves_if air ds (Some frame) drawn route may = moves_as air ds frame (fate_of air.network ds frame) drawn route
 
@@ -291,6 +292,12 @@ module _ {V E : Type 0} (r : Result V E) (old new : AirState) (ds later : States
       go : (s : Result V E) → OnErr s (HasPerhaps old node d d' (Hears payload drawn)) → OnErr s (IsCut (mesh old ds) later)
       go (Ok v) perhaps = tt
       go (Err e) perhaps = device_cut perhaps
+
+-- a frame that is heard again is not refused
+pub not_refused : (x : Option Refusal) (a b : States) (refusal : Refusal) → x ≡ None → x ≡ Some refusal → a ≡ b
+not_refused x a b refusal none some =
+    let differ : None ≡ Some refusal = sym none ∙ some in
+    cc
 
 -- a fact holds of an error, if there is one
 pub on_err : {V E : Type 0} (r : Result V E) (P : Type 0) → P → OnErr r P

@@ -4,6 +4,7 @@ ghost use Rattle.std.specs.Prelude.{◌≡◌, ◌⊎◌, ℕ, ◌<◌, ◌^◌,
 ghost use Rattle.route_table.specs.declared.route.Route.{Route as TheRoute};
 ghost use Rattle.device_sim.specs.Event.{Hears, device_after};
 ghost use Rattle.air_frames.specs.Ages.{refusal_of};
+ghost use Rattle.air_frames.specs.declared.ages.Refusal.{Refusal as Refused};
 ghost use Rattle.air_frames.specs.History.{Mark, IsOf, refusal_in};
 ghost use Rattle.mesh_sim.specs.Faults.{IsFault};
 ghost use Rattle.mesh_sim.specs.Fates.{Mesh};
@@ -38,6 +39,7 @@ impl Air {
         ensures refused { MatchResult result (λ _. refusal_of self.old.state.frames frame ≡ None) (λ fault. IsFault (refusal_of self.old.state.frames frame) fault) }
         ensures by_history { (log : Items Mark) → IsOf log self.old.state.frames
             → MatchResult result (λ _. refusal_in log frame ≡ None) (λ fault. IsFault (refusal_in log frame) fault) }
+        ensures still { (refusal : Refused) → refusal_of self.old.state.frames frame ≡ Some refusal → map (λ d. state d) devices.new.items ≡ map (λ d. state d) devices.old.items }
         ensures ok { OnOk result ((drawn : Items ℕ) × (route : Option TheRoute) × Did (Repeats frame drawn route ∷ [])
             self.old.state (map (λ d. state d) devices.old.items) self.new.state (map (λ d. state d) devices.new.items) out.old.items out.new.items) }
         ensures err { OnErr result (self.new.state ≡ self.old.state) }
