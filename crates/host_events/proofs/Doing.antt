@@ -49,14 +49,14 @@ adds_both (Some kept) b c x y first later =
 -- ---- faults
 
 -- what rose has risen later, and what rises later has risen since before
-rose_by_later : (f g k : ℕ) → f ≤ g → g ≤ k → Rose f g → Rose f k
+pub rose_by_later : (f g k : ℕ) → f ≤ g → g ≤ k → Rose f g → Rose f k
 rose_by_later f g k before later (inl rose) = inl (omega (arith, rose, later))
 rose_by_later f g k before later (inr top) = elim (cases_eq k greatest_count) [
   | inl there ↦ inr there
   | inr past ↦ inl (omega (arith, top, before, later, past))
 ]
 
-rose_since : (f g k : ℕ) → f ≤ g → g ≤ k → Rose g k → Rose f k
+pub rose_since : (f g k : ℕ) → f ≤ g → g ≤ k → Rose g k → Rose f k
 rose_since f g k before later (inl rose) = inl (omega (arith, before, rose))
 rose_since f g k before later (inr top) = inr top
 

@@ -11,3 +11,4 @@ pub mod Taking
 pub mod Pumping
 pub mod Ticking
 pub mod Facts
+pub mod Asking
