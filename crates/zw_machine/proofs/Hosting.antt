@@ -162,6 +162,28 @@ routed_still w (x ∷ xs) =
     ap (λ (v : Outside). v.devices) (outside-append w (routed_one x) (routed xs))
     ∙ (routed_still (happens_all_outside w (routed_one x)) xs ∙ still_one w x)
 
+noted_still : (w : Outside) (entries : List Entry) → (happens_all_outside w (map Host_notes entries)).devices ≡ w.devices
+unfolding devices_after
+noted_still w [] = refl
+noted_still w (entry ∷ entries) = noted_still (happens_outside w (Host_notes entry)) entries
+
+pub devices_host-all : (m : Machine) (es : List HostEvent) → (happens_all m (map Host_does es)).outside.devices ≡ m.outside.devices
+unfolding happens
+devices_host-all m [] = refl
+devices_host-all m (e ∷ es) =
+    devices_host-all (happens m (Host_does e)) es
+    ∙ (noted_still (host_does m (e ∷ [])).outside (answers m.host.state e) ∙ routed_still m.outside (outs_all m.host.state (e ∷ [])))
+
+pub records_host-all : (m : Machine) (es : List HostEvent) → (happens_all m (map Host_does es)).records ≡ with_texts m.records (texts_of (records_all m.host.state es))
+unfolding happens
+records_host-all m [] = sym (texts_nil m.records)
+records_host-all m (e ∷ es) =
+    let h = m.host.state in
+    records_host-all (happens m (Host_does e)) es
+    ∙ (ap (λ (l : List Record). with_texts (with_texts m.records (texts_of l)) (texts_of (records_all (after h e) es))) (append-nil (records_at h e))
+    ∙ (with_texts-append m.records (texts_of (records_at h e)) (texts_of (records_all (after h e) es))
+    ∙ ap (λ (l : List (List ℕ)). with_texts m.records l) (sym (map-append record_text (records_at h e) (records_all (after h e) es)))))
+
 -- ---- what a call of the host did
 
 -- the machine with another host, other records, and what is outside it moved on
@@ -199,15 +221,27 @@ module _ (es : List HostEvent) (m : Machine) (state : HostState) (puts : List Ho
         counted = counted_host es f g did.rose did.never_falls;
       }
 
-  -- it was done in part, or what it put out was not routed for want of memory
-  pub stopped_host : (new : Machine) → Silent es → new.outside.devices ≡ m.outside.devices → new.records ≡ records → all ≡ before
-      → Stops (record { machine = m; entries = before; faults = f }) (record { machine = new; entries = all; faults = g })
-  stopped_host new silent devices kept same = record {
-    events = map Host_does es;
-    may = may_host-all m es did.may;
-    devices = devices ∙ (sym (routed_still m.outside (outs_all m.host.state es)) ∙ ap (λ (x : Machine). x.outside.devices) (sym (happens_host-all m es silent)));
-    records = kept ∙ (records_are ∙ ap (λ (x : Machine). x.records) (sym (happens_host-all m es silent)));
-    more = entries_all m (map Host_does es);
-    front = ap (λ (l : List Entry). l ++ entries_all m (map Host_does es)) same;
-    never_falls = did.never_falls;
-  }
+-- ---- what was done where memory was wanting
+
+-- events were done of which nothing was entered
+pub stopped_by : (es : List Event) (m new : Machine) (before all : List Entry) (f g : ℕ) → MayAll m es → new.outside.devices ≡ (happens_all m es).outside.devices
+    → new.records ≡ (happens_all m es).records → all ≡ before → f ≤ g
+    → Stops (record { machine = m; entries = before; faults = f }) (record { machine = new; entries = all; faults = g })
+stopped_by es m new before all f g may devices records same falls = record {
+  events = es;
+  may = may;
+  devices = devices;
+  records = records;
+  more = entries_all m es;
+  front = ap (λ (l : List Entry). l ++ entries_all m es) same;
+  never_falls = falls;
+}
+
+-- a call of the host was done in part, or what it put out was not routed
+pub stopped_host : (es : List HostEvent) (m new : Machine) (state : HostState) (put puts : List HostOut) (records : Option (List (List ℕ))) (f g : ℕ) (before all : List Entry)
+    → Did es m.host.state state put puts (record { records = m.records; faults = f }) (record { records = records; faults = g })
+    → new.outside.devices ≡ m.outside.devices → new.records ≡ records → all ≡ before
+    → Stops (record { machine = m; entries = before; faults = f }) (record { machine = new; entries = all; faults = g })
+stopped_host es m new state put puts records f g before all did devices kept same =
+    stopped_by (map Host_does es) m new before all f g (may_host-all m es did.may) (devices ∙ sym (devices_host-all m es))
+    (kept ∙ (adds_is m.records records (texts_of (records_all m.host.state es)) did.records ∙ sym (records_host-all m es))) same did.never_falls

@@ -1,3 +1,6 @@
 pub mod Doing
 pub mod Outside
 pub mod Hosting
+pub mod Silence
+pub mod Taking
+pub mod Schedules
