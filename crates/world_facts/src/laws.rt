@@ -1,0 +1,4 @@
+//! Laws.
+
+/// stub
+pub fn stub() {}

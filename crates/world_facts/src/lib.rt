@@ -1,0 +1,6 @@
+//! What every run of the machine keeps true of its transcript.
+#![tactic(auto)]
+
+mod laws;
+
+pub use laws::stub;
