@@ -5,6 +5,7 @@ use Rattle.std.specs.List.{AllByRecursion, flat_map}
 use Rattle.std.specs.Option.{is_some, unwrap_or, option_map}
 use Rattle.zw_base.specs.declared.property.Setting.{Setting}
 use Rattle.zw_words.specs.declared.side.Side.{Side}
+use Rattle.zw_words.specs.declared.side.Side.TheVariants.{Host as by_host}
 use Rattle.zw_text.specs.declared.entry.Entry.{Entry}
 use Rattle.zw_text.specs.declared.entry.Entry.TheVariants as entry
 use Rattle.serial_frame.specs.Stream.{Rest}
@@ -30,7 +31,7 @@ use Rattle.device_sim.specs.Event.{DeviceEvent, device_replies}
 use Rattle.air_frames.specs.declared.ages.Refusal.{Refusal as RepeatRefusal}
 use Rattle.air_frames.specs.declared.ages.Refusal.TheVariants as repeat
 use Rattle.mesh_sim.specs.Air.{is_joined}
-use Rattle.mesh_sim.specs.Steps.{AirStep, answers_if}
+use Rattle.mesh_sim.specs.Steps.{AirStep, answers_if, mesh_after, mesh_outs}
 use Rattle.mesh_sim.specs.Routes.{backwards}
 use Rattle.mesh_sim.specs.declared.event.AirEvent.{AirEvent}
 use Rattle.mesh_sim.specs.declared.event.AirEvent.TheVariants as air_event
@@ -41,7 +42,7 @@ use Rattle.outer_events.specs.Chip.{put_out, chip_does, chip_takes, chip_ticks}
 use Rattle.outer_events.specs.Results.{owes_call, call_back, no_route, no_routes, leading, forgets, frame_ends, informs, gives, without_no_route}
 use Rattle.outer_events.specs.Air.{change_entries, to_chip, sent_entries, deals}
 use Rattle.outer_events.specs.Devices.{changes_entries, new_changes, sends_over, sends, acts, acts_at, acts_by_hand, device_entries, shown_entries}
-use Rattle.outer_events.specs.Events.{OuterEvent, Begins_line, Begins_tick, Host_writes, Host_takes, Host_notes, Host_begins, Chip_takes, Arrives, Gives, Device_ticks, Chip_ticks, Repeats, Wakes_device, Sets_device, Shows, Joins, Discovers, Links, Loses, Loses_acks, Marks_loss, Marks_change, Clears_pipe, Collides_next, Stalls, Cuts, is_own, AreOwn, cleared_entries, clears, steps, refusal_entries, repeats, outcome, stamp, ticked_entry, happens, entries}
+use Rattle.outer_events.specs.Events.{OuterEvent, Begins_line, Begins_tick, Host_writes, Host_takes, Host_notes, Host_begins, Chip_takes, Arrives, Gives, Device_ticks, Chip_ticks, Repeats, Wakes_device, Sets_device, Shows, Joins, Discovers, Links, Loses, Loses_acks, Marks_loss, Marks_change, Clears_pipe, Collides_next, Stalls, Cuts, is_own, AreOwn, cleared_entries, clears, mesh_of, steps, refusal_entries, repeats, outcome, stamp, ticked_entry, happens, entries}
 use Rattle.outer_events.specs.Did.{happens_all, entries_all}
 use Rattle.host_facts.specs.Entries.{IsAside}
 use Rattle.host_facts.proofs.Lists.{all-append}
@@ -160,7 +161,8 @@ deals_aside devices o (air_event.ToChip frame from payload) = to_chip_aside o fr
 deals_aside devices o (air_event.Done frame status dead) = ends_aside o status dead
 
 steps_aside : (w : Outside) (step : AirStep) → Asides (steps w step).entries
-steps_aside w step = each_aside (deals _) (deals_aside _) _ _
+steps_aside w step =
+    each_aside (deals (mesh_after (mesh_of w) step).devices) (deals_aside (mesh_after (mesh_of w) step).devices) (record w.outer { air = (mesh_after (mesh_of w) step).air }) (mesh_outs (mesh_of w) step)
 
 repeats_aside : (w : Outside) (refused : Option RepeatRefusal) (step : AirStep) → Asides (repeats w refused step).entries
 repeats_aside w None step = steps_aside w step
@@ -251,4 +253,4 @@ own_aside w event own = stamp_aside (outcome w event).outer (outcome w event).en
 -- a unit that the host writes
 pub write_aside : (w : Outside) (unit : LineUnit) → Asides (entries w (Host_writes unit))
 unfolding outcome
-write_aside w unit = stamp_aside _ (told _ w.outer.to_chip unit) (told_aside _ w.outer.to_chip unit)
+write_aside w unit = stamp_aside (outcome w (Host_writes unit)).outer (told by_host w.outer.to_chip unit) (told_aside by_host w.outer.to_chip unit)

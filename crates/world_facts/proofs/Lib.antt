@@ -1,1 +1,3 @@
 pub mod Aside
+pub mod Notes
+pub mod Keeping

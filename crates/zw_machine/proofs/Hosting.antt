@@ -80,7 +80,7 @@ does_cons m e es =
         (sym (outside-append m.outside (routed (outs h e)) (routed rest))
         ∙ ap (λ (l : List OuterEvent). happens_all_outside m.outside l) (sym (routed-append (outs h e) rest)))))
 
-entries_cons : (m : Machine) (e : HostEvent) (es : List HostEvent) → host_entries m (e ∷ []) ++ host_entries (host_does m (e ∷ [])) es ≡ host_entries m (e ∷ es)
+pub entries_cons : (m : Machine) (e : HostEvent) (es : List HostEvent) → host_entries m (e ∷ []) ++ host_entries (host_does m (e ∷ [])) es ≡ host_entries m (e ∷ es)
 entries_cons m e es =
     let h = m.host.state in
     let rest = outs_all (after h e) es in

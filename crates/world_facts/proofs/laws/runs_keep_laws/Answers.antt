@@ -1,0 +1,14 @@
+-- The laws follow from the facts.
+use Rattle.std.proofs.Common.{[]}
+use Rattle.zw_machine.specs.State.{first_machine}
+use Rattle.world_facts.proofs.laws.runs_keep_laws.Goals as goal
+
+pub returns-clause-laws : goal.returns-clause-laws
+returns-clause-laws c = λ keys records devices events may well.
+    c.laws_follow.ensures.laws _ _
+    (c.the_machine_keeps_facts.ensures.all [] (first_machine keys records devices) events (c.the_machine_keeps_facts.ensures.first keys records devices) may well)
+
+pub returns-clause-tables : goal.returns-clause-tables
+returns-clause-tables c = λ keys records devices events may well.
+    c.laws_follow.ensures.tables _ _
+    (c.the_machine_keeps_facts.ensures.all [] (first_machine keys records devices) events (c.the_machine_keeps_facts.ensures.first keys records devices) may well)
