@@ -1,0 +1,11 @@
+mod Lists
+mod Commands
+mod Views
+mod Owned
+mod Effect
+mod Effects
+mod InOrder
+mod Ending
+mod Shown
+mod Standing
+mod Keeping
