@@ -60,7 +60,7 @@ all_below : (xs ys : List ℕ) → Rises (xs ++ ys) → AllByRecursion (λ x. Al
 all_below [] ys rise = tt
 all_below (x ∷ xs) ys rise = (all-right (λ later. x < later) xs ys rise.0, all_below xs ys rise.1)
 
-above : (c : ℕ) (ys : List ℕ) → AllByRecursion (λ y. c < y) ys → AllByRecursion (λ y. y ≡ c → ⊥) ys
+pub above : (c : ℕ) (ys : List ℕ) → AllByRecursion (λ y. c < y) ys → AllByRecursion (λ y. y ≡ c → ⊥) ys
 above c ys all = all-weaker (λ y. c < y) (λ y. y ≡ c → ⊥) (λ y h e. omega arith) ys all
 
 -- ---- the node whose command it is
@@ -156,7 +156,7 @@ is_final final.Success = tt
 
 module _ (cs : List Command) (nodes : List NodeState) (owns : (m : ℕ) → OwnsCommands cs m (node_of nodes m)) (orders : (m : ℕ) → IsInOrder cs (node_of nodes m)) where
   -- the commands that wait for a node come after the one of its open session
-  waiting_above : (n c : ℕ) → open_command (node_of nodes n) ≡ Some c → AllByRecursion (λ y. y ≡ c → ⊥) (node_of nodes n).waiting
+  pub waiting_above : (n c : ℕ) → open_command (node_of nodes n) ≡ Some c → AllByRecursion (λ y. y ≡ c → ⊥) (node_of nodes n).waiting
   waiting_above n c opened =
       let s = node_of nodes n in
       above c s.waiting (of_opened (λ x. AllByRecursion (λ y. x < y) s.waiting) s (all_below s.book.commands s.waiting (orders n).rise) c opened)

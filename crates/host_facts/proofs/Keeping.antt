@@ -1,9 +1,11 @@
 -- Every event keeps the facts, and what follows from them.
 use Rattle.std.proofs.Common.{◌≡◌, ℕ, zero, suc, List, [], ◌∷◌, ◌++◌, length, Some, refl, sym, ap, subst, ◌∙◌, append_assoc, append-nil}
+use Rattle.std.specs.Prelude.{filter}
 use Rattle.std.specs.List.{AllByRecursion}
 use Rattle.s0_crypto.specs.declared.key_pair.Keys.{Keys}
 use Rattle.zw_text.specs.declared.entry.Entry.{Entry}
 use Rattle.zw_text.specs.Transcript.{outcome, sessions}
+use Rattle.zw_laws.specs.Commands.{is_waiting}
 use Rattle.zw_laws.specs.Lists.{EachAfter, Rises}
 use Rattle.zw_laws.specs.Sessions.{MayBegin}
 use Rattle.host_node.specs.State.{NodeState, unknown}
@@ -18,14 +20,15 @@ use Rattle.host_events.specs.Did.{after_all, MayAll}
 use Rattle.host_events.specs.Facts.{HostFacts, OwnsCommands}
 use Rattle.host_facts.specs.Entries.{IsAside, entries_at, entries_all}
 use Rattle.host_facts.specs.Laws.{MayAccept, MayCarry, MayEnd, MayStand, HostLaws}
-use Rattle.host_facts.specs.Facts.{AreAccepted, AreBegun, AreEntered, IsInOrder, Facts, outcome_in, nodes_by, recorded}
+use Rattle.host_facts.specs.Facts.{AreAccepted, AreBegun, AreEntered, AreWaiting, IsInOrder, Facts, outcome_in, nodes_by, recorded}
 use Rattle.host_facts.proofs.Lists.{each-weaker, rises-left}
 use Rattle.host_facts.proofs.Commands.{waits_so}
-use Rattle.host_facts.proofs.Views.{nodes-silent, numbers-silent, sessions-silent, outcome-silent, silent}
+use Rattle.host_facts.proofs.Views.{nodes-silent, numbers-silent, for-silent, sessions-silent, outcome-silent, silent}
 use Rattle.host_facts.proofs.Effect.{only_commands, SameNodes, Effect, Leaving, Unanswering, Accepting, Cancelling, Beginning, Finishing}
 use Rattle.host_facts.proofs.Effects.{LeavesRecords, same_set, effect}
 use Rattle.host_facts.proofs.InOrder.{same_order, order_kept, oldest_is, oldest_waits}
 use Rattle.host_facts.proofs.Ending.{Ends, unanswered_ends, cancelled_ends, finished_ends}
+use Rattle.host_facts.proofs.Waiting.{waiting_kept}
 use Rattle.host_facts.proofs.Shown.{accepted_left, begun_left, entered_left, accepted_ended, begun_ended, entered_ended, accepted_taken, begun_taken, entered_taken, accepted_begun, begun_begun, entered_begun}
 use Rattle.host_facts.proofs.Standing.{stand_silent, stand_left, stand_ended, stand_taken, stand_begun}
 
@@ -34,15 +37,17 @@ record Shown (T : List Entry) (cs : List Command) (nodes : List NodeState) : Typ
   accepted : AreAccepted T cs
   begun : AreBegun T nodes
   entered : AreEntered T cs
+  waiting : AreWaiting T cs nodes
   stand : EachAfter MayStand [] T
 
 module _ (T : List Entry) (cs : List Command) (nodes : List NodeState) (owns : (m : ℕ) → OwnsCommands cs m (node_of nodes m)) (orders : (m : ℕ) → IsInOrder cs (node_of nodes m))
     (f : Shown T cs nodes) (cs' : List Command) (nodes' : List NodeState) (entries : List Entry) where
-  shown_ended : Ends T cs cs' nodes nodes' entries → Shown (T ++ entries) cs' nodes'
-  shown_ended e = record {
+  shown_ended : AreWaiting (T ++ entries) cs' nodes' → Ends T cs cs' nodes nodes' entries → Shown (T ++ entries) cs' nodes'
+  shown_ended waiting e = record {
     accepted = accepted_ended T cs cs' nodes nodes' entries e f.accepted;
     begun = begun_ended T cs cs' nodes nodes' entries e f.begun;
-    entered = entered_ended T cs cs' nodes nodes' entries e f.entered;
+    entered = entered_ended T cs cs' nodes nodes' entries recorded e f.entered;
+    waiting = waiting;
     stand = stand_ended T cs cs' nodes nodes' entries f.stand e;
   }
 
@@ -50,16 +55,18 @@ module _ (T : List Entry) (cs : List Command) (nodes : List NodeState) (owns : (
   shown_kept (Leaving e) = record {
     accepted = accepted_left T cs cs' nodes nodes' entries e f.accepted;
     begun = begun_left T cs cs' nodes nodes' entries e f.begun;
-    entered = entered_left T cs cs' nodes nodes' entries e f.entered;
+    entered = entered_left T cs cs' nodes nodes' entries recorded e f.entered;
+    waiting = waiting_kept T cs nodes owns orders f.waiting cs' nodes' entries (Leaving e);
     stand = stand_left T cs cs' nodes nodes' entries f.stand e;
   }
-  shown_kept (Unanswering e) = shown_ended (unanswered_ends T cs nodes owns orders f.accepted f.entered cs' nodes' entries e)
-  shown_kept (Cancelling e) = shown_ended (cancelled_ends T cs nodes owns orders f.accepted f.entered cs' nodes' entries e)
-  shown_kept (Finishing e) = shown_ended (finished_ends T cs nodes owns orders f.accepted f.entered cs' nodes' entries e)
+  shown_kept (Unanswering e) = shown_ended (waiting_kept T cs nodes owns orders f.waiting cs' nodes' entries (Unanswering e)) (unanswered_ends T cs nodes owns orders f.accepted f.entered cs' nodes' entries e)
+  shown_kept (Cancelling e) = shown_ended (waiting_kept T cs nodes owns orders f.waiting cs' nodes' entries (Cancelling e)) (cancelled_ends T cs nodes owns orders f.accepted f.entered cs' nodes' entries e)
+  shown_kept (Finishing e) = shown_ended (waiting_kept T cs nodes owns orders f.waiting cs' nodes' entries (Finishing e)) (finished_ends T cs nodes owns orders f.accepted f.entered cs' nodes' entries e)
   shown_kept (Accepting e) = record {
     accepted = accepted_taken T cs cs' nodes nodes' entries e f.accepted;
     begun = begun_taken T cs cs' nodes nodes' entries e f.begun;
-    entered = entered_taken T cs cs' nodes nodes' entries e f.entered;
+    entered = entered_taken T cs cs' nodes nodes' entries recorded e f.entered;
+    waiting = waiting_kept T cs nodes owns orders f.waiting cs' nodes' entries (Accepting e);
     stand = stand_taken T cs cs' nodes nodes' entries f.stand e f.accepted;
   }
   shown_kept (Beginning e) =
@@ -69,7 +76,8 @@ module _ (T : List Entry) (cs : List Command) (nodes : List NodeState) (owns : (
       record {
         accepted = accepted_begun T cs cs' nodes nodes' entries e f.accepted;
         begun = begun_begun T cs cs' nodes nodes' entries e f.begun;
-        entered = entered_begun T cs cs' nodes nodes' entries e one.command one.found (waits_so (outcome c T) (outcome_in cs c) (f.entered c) waits) f.entered;
+        entered = entered_begun T cs cs' nodes nodes' entries recorded e one.command one.found (waits_so (outcome c T) (outcome_in cs c) (f.entered c) waits) f.entered;
+        waiting = waiting_kept T cs nodes owns orders f.waiting cs' nodes' entries (Beginning e);
         stand = stand_begun T cs cs' nodes nodes' entries f.stand e f.accepted f.begun f.entered (orders e.node) one waits;
       }
 
@@ -81,13 +89,14 @@ module _ (host : HostKeeps) (law : LeavesRecords) where
   pub each_kept : (past : List Entry) (h : HostState) (event : HostEvent) → Facts past h → May h event → Facts (past ++ entries_at h event) (after h event)
   each_kept past h event f may =
       let e = effect law h event may in
-      let shown = shown_kept past h.commands h.nodes f.host.owns f.in_order (record { accepted = f.accepted; begun = f.begun; entered = f.entered; stand = f.stand })
+      let shown = shown_kept past h.commands h.nodes f.host.owns f.in_order (record { accepted = f.accepted; begun = f.begun; entered = f.entered; waiting = f.waiting; stand = f.stand })
       (after h event).commands (after h event).nodes (entries_at h event) e in
       record {
         host = host h event f.host may;
         accepted = shown.accepted;
         begun = shown.begun;
         entered = shown.entered;
+        waiting = shown.waiting;
         in_order = order_kept h.commands h.nodes f.host.owns f.in_order (after h event).commands (after h event).nodes (entries_at h event) e;
         stand = shown.stand;
       }
@@ -108,6 +117,7 @@ aside_kept past h entry f aside =
       accepted = record { count = ap (λ (l : List ℕ). length l) (numbers-silent past (entry ∷ []) (one, tt)) ∙ f.accepted.count; nodes = λ k. nodes-silent past (entry ∷ []) (one, tt) k ∙ f.accepted.nodes k };
       begun = λ m. sessions-silent past (entry ∷ []) (one, tt) m ∙ f.begun m;
       entered = λ k. ap recorded (outcome-silent past (entry ∷ []) (one, tt) k) ∙ f.entered k;
+      waiting = λ m. f.waiting m ∙ ap (λ (l : List ℕ). filter (λ k. is_waiting (outcome_in h.commands k)) l) (sym (for-silent past (entry ∷ []) (one, tt) m));
       in_order = f.in_order;
       stand = stand_silent past (entry ∷ []) (one, tt) f.stand;
     }
@@ -145,6 +155,7 @@ first_kept keys host = record {
   accepted = record { count = refl; nodes = none };
   begun = λ m. sym (ap (λ (s : NodeState). s.book.commands) (first_blank m));
   entered = none_entered;
+  waiting = λ m. ap (λ (s : NodeState). s.waiting) (first_blank m);
   in_order = blank_in_order first_nodes first_blank;
   stand = tt;
 }

@@ -6,6 +6,8 @@ mod Effect
 mod Effects
 mod InOrder
 mod Ending
+mod Waiting
 mod Shown
 mod Standing
 mod Keeping
+mod Restarting

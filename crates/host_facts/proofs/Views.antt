@@ -12,7 +12,7 @@ use Rattle.zw_text.specs.Transcript.{shown, where_same, accepted_number, accepte
 use Rattle.zw_text.proofs.Views.{shown-append}
 use Rattle.zw_laws.specs.Stores.{node_at}
 use Rattle.host_facts.specs.Entries.{IsAside}
-use Rattle.host_facts.specs.Laws.{accepted_for}
+use Rattle.host_facts.specs.Laws.{accepted_for, number_for, numbers_for}
 
 -- an entry that says nothing of a command
 abbrev pub IsSilent : Entry → Type 0
@@ -40,6 +40,10 @@ silent_nodes : (number : ℕ) (e : Entry) → IsSilent e → node_at number e �
 silent_nodes number (Accepted command node) s = absurd s
 silent_nodes number _ s = refl
 
+silent_for : (node : ℕ) (e : Entry) → IsSilent e → number_for node e ≡ []
+silent_for node (Accepted command of) s = absurd s
+silent_for node _ s = refl
+
 silent_numbers : (e : Entry) → IsSilent e → accepted_number e ≡ []
 silent_numbers (Accepted command node) s = absurd s
 silent_numbers _ s = refl
@@ -64,6 +68,9 @@ module _ (T es : List Entry) (all : AllByRecursion IsSilent es) where
 
   pub numbers-silent : accepted_numbers (T ++ es) ≡ accepted_numbers T
   numbers-silent = shown-none accepted_number T es (none_shown accepted_number silent_numbers es all)
+
+  pub for-silent : (node : ℕ) → numbers_for node (T ++ es) ≡ numbers_for node T
+  for-silent node = shown-none (number_for node) T es (none_shown (number_for node) (silent_for node) es all)
 
   pub sessions-silent : (node : ℕ) → sessions node (T ++ es) ≡ sessions node T
   sessions-silent node = shown-none (session_at node) T es (none_shown (session_at node) (silent_sessions node) es all)
@@ -90,6 +97,9 @@ module _ (T : List Entry) (c : ℕ) (how : Ended) (es : List Entry) (all : AllBy
 
   pub numbers-ended : accepted_numbers (T ++ Out c how ∷ es) ≡ accepted_numbers T
   numbers-ended = shown-none accepted_number T (Out c how ∷ es) (none_shown accepted_number silent_numbers es all)
+
+  pub for-ended : (node : ℕ) → numbers_for node (T ++ Out c how ∷ es) ≡ numbers_for node T
+  for-ended node = shown-none (number_for node) T (Out c how ∷ es) (none_shown (number_for node) (silent_for node) es all)
 
   pub sessions-ended : (node : ℕ) → sessions node (T ++ Out c how ∷ es) ≡ sessions node T
   sessions-ended node = shown-none (session_at node) T (Out c how ∷ es) (none_shown (session_at node) (silent_sessions node) es all)
@@ -139,6 +149,9 @@ module _ (T : List Entry) (n s c : ℕ) where
   pub numbers-begun : accepted_numbers (T ++ Begin n s c ∷ []) ≡ accepted_numbers T
   numbers-begun = shown-none accepted_number T (Begin n s c ∷ []) refl
 
+  pub for-begun : (node : ℕ) → numbers_for node (T ++ Begin n s c ∷ []) ≡ numbers_for node T
+  for-begun node = shown-none (number_for node) T (Begin n s c ∷ []) refl
+
   pub sessions-begun : sessions n (T ++ Begin n s c ∷ []) ≡ sessions n T ++ c ∷ []
   sessions-begun =
       shown-append (session_at n) T (Begin n s c ∷ [])
@@ -178,6 +191,15 @@ module _ (T : List Entry) (c n : ℕ) where
 
   pub count-accepted : length (accepted_numbers (T ++ Accepted c n ∷ [])) ≡ length (accepted_numbers T) + 1
   count-accepted = ap (λ (l : List ℕ). length l) (shown-append accepted_number T (Accepted c n ∷ [])) ∙ length-append (accepted_numbers T) (c ∷ [])
+
+  pub for-accepted : numbers_for n (T ++ Accepted c n ∷ []) ≡ numbers_for n T ++ c ∷ []
+  for-accepted =
+      shown-append (number_for n) T (Accepted c n ∷ [])
+      ∙ ap (λ (l : List ℕ). numbers_for n T ++ l) (append-nil (where_same n n c) ∙ where_here n n c refl)
+
+  pub for-accepted_other : (node : ℕ) → (node ≡ n → ⊥) → numbers_for node (T ++ Accepted c n ∷ []) ≡ numbers_for node T
+  for-accepted_other node other =
+      shown-none (number_for node) T (Accepted c n ∷ []) (append-nil (where_same n node c) ∙ where_other n node c (λ same. other (sym same)))
 
   pub sessions-accepted : (node : ℕ) → sessions node (T ++ Accepted c n ∷ []) ≡ sessions node T
   sessions-accepted node = shown-none (session_at node) T (Accepted c n ∷ []) refl

@@ -1,12 +1,13 @@
 -- The laws of the entries of a host, over all its restarts (this project's own rules over the Supervision Command Class).
-use Rattle.std.specs.Prelude.{◌≡◌, ℕ, ◌+◌, List, [], ◌∷◌, length}
+use Rattle.std.specs.Prelude.{◌≡◌, ℕ, ◌+◌, List, [], ◌∷◌, filter, length}
 use Rattle.std.specs.List.{AllByRecursion}
 use Rattle.zw_text.specs.declared.entry.Ended.TheVariants as ended
 use Rattle.zw_text.specs.declared.entry.Entry.{Entry}
 use Rattle.zw_text.specs.declared.entry.Entry.TheVariants.{Accepted, Begin, Out}
 use Rattle.zw_text.specs.declared.entry.Outcome.{Outcome}
 use Rattle.zw_text.specs.declared.entry.Outcome.TheVariants.{Waiting, Begun, Unanswered}
-use Rattle.zw_text.specs.Transcript.{shown, accepted_numbers, sessions, outcome}
+use Rattle.zw_text.specs.Transcript.{shown, where_same, accepted_numbers, sessions, outcome}
+use Rattle.zw_laws.specs.Commands.{is_waiting}
 use Rattle.zw_laws.specs.Lists.{EachAfter, Rises}
 use Rattle.zw_laws.specs.Sessions.{MayBegin, KeepsSessions}
 use Rattle.zw_laws.specs.Stores.{node_at}
@@ -14,6 +15,18 @@ use Rattle.zw_laws.specs.Stores.{node_at}
 -- the nodes that a command was accepted for, as the entries show it
 abbrev pub accepted_for : ℕ → List Entry → List ℕ
 accepted_for command past = shown (node_at command) past
+
+-- the commands that were accepted for a node, in order
+abbrev pub number_for : ℕ → Entry → List ℕ
+number_for n (Accepted command node) = where_same node n command
+number_for n _ = []
+
+abbrev pub numbers_for : ℕ → List Entry → List ℕ
+numbers_for n past = shown (number_for n) past
+
+-- those of them that wait
+abbrev pub waiting_for : ℕ → List Entry → List ℕ
+waiting_for n past = filter (λ number. is_waiting (outcome number past)) (numbers_for n past)
 
 -- a command that was begun and has no final report
 abbrev pub IsUnderWay : Outcome → Type 0

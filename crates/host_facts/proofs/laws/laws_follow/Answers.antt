@@ -1,5 +1,9 @@
 use Rattle.host_facts.proofs.Keeping.{laws_hold}
+use Rattle.host_facts.proofs.Restarting.{tables_shown}
 use Rattle.host_facts.proofs.laws.laws_follow.Goals as goal
 
-pub returns : goal.returns
-returns c = laws_hold
+pub returns-clause-laws : goal.returns-clause-laws
+returns-clause-laws c = laws_hold
+
+pub returns-clause-tables : goal.returns-clause-tables
+returns-clause-tables c = tables_shown
