@@ -1,12 +1,13 @@
 -- What the table of commands says of a number, where a command is other or new.
-use Rattle.std.proofs.Common.{◌≡◌, ℕ, zero, suc, ◌+◌, List, [], ◌∷◌, ◌++◌, length, Some, refl, sym, ap, subst, ◌∙◌, arith}
+use Rattle.std.proofs.Common.{◌≡◌, ℕ, zero, suc, ◌+◌, List, [], ◌∷◌, ◌++◌, length, Option, Some, None, refl, sym, ap, subst, ◌∙◌, arith}
 use Rattle.std.specs.Prelude.{slice_get}
 use Rattle.zw_text.specs.declared.entry.Outcome.{Outcome}
 use Rattle.zw_text.specs.declared.entry.Outcome.TheVariants.{Waiting, Begun, Success, Fail, NoSupport, Unanswered, Cancelled}
 use Rattle.zw_laws.specs.Sessions.{IsFinal}
+use Rattle.host_keep.specs.Kept.{Taken}
 use Rattle.host_events.specs.State.{Command, command_at, set_at, with_outcome}
 use Rattle.host_facts.specs.Laws.{IsUnderWay}
-use Rattle.host_facts.specs.Facts.{outcome_by, outcome_in, nodes_by, recorded}
+use Rattle.host_facts.specs.Tables.{outcome_by, outcome_in, nodes_by, recorded, taken_at, taken_by}
 
 -- ---- a command of another outcome
 
@@ -43,6 +44,18 @@ nodes_set commands zero outcome number = refl
 nodes_set commands (suc at) outcome zero = refl
 nodes_set commands (suc at) outcome (suc k) = set_nodes commands at outcome k
 
+set_taken : (commands : List Command) (at : ℕ) (outcome : Outcome) (k : ℕ) → taken_by (slice_get (set_at commands at outcome) k) ≡ taken_by (slice_get commands k)
+set_taken [] at outcome k = refl
+set_taken (first ∷ rest) zero outcome zero = refl
+set_taken (first ∷ rest) zero outcome (suc k) = refl
+set_taken (first ∷ rest) (suc at) outcome zero = refl
+set_taken (first ∷ rest) (suc at) outcome (suc k) = set_taken rest at outcome k
+
+pub taken_set : (commands : List Command) (c : ℕ) (outcome : Outcome) (number : ℕ) → taken_at (with_outcome commands c outcome) number ≡ taken_at commands number
+taken_set commands zero outcome number = refl
+taken_set commands (suc at) outcome zero = refl
+taken_set commands (suc at) outcome (suc k) = set_taken commands at outcome k
+
 length_set_at : (commands : List Command) (at : ℕ) (outcome : Outcome) → length (set_at commands at outcome) ≡ length commands
 length_set_at [] at outcome = refl
 length_set_at (first ∷ rest) zero outcome = refl
@@ -73,6 +86,16 @@ push_nodes (first ∷ rest) one (suc k) other = push_nodes rest one k (λ e. oth
 pub nodes_pushed : (commands : List Command) (one : Command) (number : ℕ) → (number ≡ length commands + 1 → ⊥) → nodes_by (command_at (commands ++ one ∷ []) number) ≡ nodes_by (command_at commands number)
 nodes_pushed commands one zero other = refl
 nodes_pushed commands one (suc k) other = push_nodes commands one k (λ e. other (omega arith))
+
+push_taken : (commands : List Command) (one : Command) (k : ℕ) → (k ≡ length commands → ⊥) → taken_by (slice_get (commands ++ one ∷ []) k) ≡ taken_by (slice_get commands k)
+push_taken [] one zero other = absurd (other refl)
+push_taken [] one (suc k) other = refl
+push_taken (first ∷ rest) one zero other = refl
+push_taken (first ∷ rest) one (suc k) other = push_taken rest one k (λ e. other (ap suc e))
+
+pub taken_pushed : (commands : List Command) (one : Command) (number : ℕ) → (number ≡ length commands + 1 → ⊥) → taken_at (commands ++ one ∷ []) number ≡ taken_at commands number
+taken_pushed commands one zero other = refl
+taken_pushed commands one (suc k) other = push_taken commands one k (λ e. other (omega arith))
 
 last_nodes : (commands : List Command) (one : Command) → nodes_by (slice_get (commands ++ one ∷ []) (length commands)) ≡ one.order.node ∷ []
 last_nodes [] one = refl
@@ -148,3 +171,16 @@ past_outcome (first ∷ rest) = past_outcome rest
 
 pub outcome_past : (commands : List Command) → outcome_in commands (length commands + 1) ≡ Waiting
 outcome_past commands = let e : length commands + 1 ≡ suc (length commands) = omega arith in ap (λ k. outcome_in commands k) e ∙ past_outcome commands
+
+-- the node of a command is that of its order
+nodes_taken : Option Taken → List ℕ
+nodes_taken None = []
+nodes_taken (Some taken) = taken.order.node ∷ []
+
+nodes_from : (one : Option Command) → nodes_by one ≡ nodes_taken (taken_by one)
+unfolding nodes_taken
+nodes_from None = refl
+nodes_from (Some command) = refl
+
+pub nodes_alike : (one other : Option Command) → taken_by one ≡ taken_by other → nodes_by one ≡ nodes_by other
+nodes_alike one other e = nodes_from one ∙ ap nodes_taken e ∙ sym (nodes_from other)

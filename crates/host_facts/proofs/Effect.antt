@@ -7,6 +7,8 @@ use Rattle.zw_text.specs.declared.entry.Entry.{Entry}
 use Rattle.zw_text.specs.declared.entry.Entry.TheVariants.{Accepted, Begin, Out, Store}
 use Rattle.zw_text.specs.declared.entry.Outcome.TheVariants as outcome
 use Rattle.supervision.specs.Host.{begun_of, open_session}
+use Rattle.zw_base.specs.declared.property.Property.{Property}
+use Rattle.value_store.specs.Values.{Values, stored_of}
 use Rattle.host_node.specs.State.{NodeState}
 use Rattle.host_node.specs.Steps.{after_put, after_cancel, after_begin, as_recorded, oldest, with_final}
 use Rattle.host_nodes.specs.State.{node_of}
@@ -14,7 +16,7 @@ use Rattle.host_keep.specs.declared.final_status.FinalStatus.{FinalStatus}
 use Rattle.host_keep.specs.Status.{status_byte}
 use Rattle.host_events.specs.State.{Command, command_at, with_outcome}
 use Rattle.host_events.specs.Sessions.{open_command, settings_with}
-use Rattle.host_events.specs.After.{outcome_of}
+use Rattle.host_events.specs.After.{outcome_of, confirming}
 use Rattle.host_events.specs.Outs.{ended_of, stored_entries}
 use Rattle.host_facts.specs.Entries.{IsAside}
 
@@ -86,10 +88,15 @@ pub record Finishes (commands commands' : List Command) (nodes nodes' : List Nod
   pub entries_are : entries ≡ Out command (ended_of status) ∷ (stored_entries node (settings_with status (command_at commands command)) ++ more)
   pub asides : AllByRecursion IsAside more
 
-pub data Effect (commands commands' : List Command) (nodes nodes' : List NodeState) (entries : List Entry) : Type 0 where
-  Leaving : Leaves commands commands' nodes nodes' entries → Effect commands commands' nodes nodes' entries
-  Unanswering : Unanswers commands commands' nodes nodes' entries → Effect commands commands' nodes nodes' entries
-  Accepting : Accepts commands commands' nodes nodes' entries → Effect commands commands' nodes nodes' entries
-  Cancelling : Cancels commands commands' nodes nodes' entries → Effect commands commands' nodes nodes' entries
-  Beginning : Begins commands commands' nodes nodes' entries → Effect commands commands' nodes nodes' entries
-  Finishing : Finishes commands commands' nodes nodes' entries → Effect commands commands' nodes nodes' entries
+-- the confirmed values are as they were
+abbrev pub SameConfirmed : Values → Values → Type 0
+SameConfirmed store store' = (n : ℕ) (property : Property) → (stored_of store' n property).confirmed ≡ (stored_of store n property).confirmed
+
+pub data Effect (commands commands' : List Command) (nodes nodes' : List NodeState) (store store' : Values) (entries : List Entry) : Type 0 where
+  Leaving : Leaves commands commands' nodes nodes' entries → SameConfirmed store store' → Effect commands commands' nodes nodes' store store' entries
+  Unanswering : Unanswers commands commands' nodes nodes' entries → SameConfirmed store store' → Effect commands commands' nodes nodes' store store' entries
+  Accepting : Accepts commands commands' nodes nodes' entries → SameConfirmed store store' → Effect commands commands' nodes nodes' store store' entries
+  Cancelling : Cancels commands commands' nodes nodes' entries → SameConfirmed store store' → Effect commands commands' nodes nodes' store store' entries
+  Beginning : Begins commands commands' nodes nodes' entries → SameConfirmed store store' → Effect commands commands' nodes nodes' store store' entries
+  Finishing : (e : Finishes commands commands' nodes nodes' entries) → store' ≡ confirming store e.node (settings_with e.status (command_at commands e.command))
+      → Effect commands commands' nodes nodes' store store' entries

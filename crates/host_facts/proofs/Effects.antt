@@ -51,7 +51,9 @@ use Rattle.host_events.specs.Outs.{answer_to, copy_out, noted, request_entries, 
 use Rattle.host_events.specs.Events.{HostEvent, Accepts, Cancels, Joins, Queues, Queues_interview, Queues_probe, Hears, Requests_do, Interviews, Interview_unkept, Unreads, Is_unkept, Reports_old, Works, Finishes, Offers, Gives, Spends, Spends_unread, Takes_nonce, Notifies, Resends, Hears_value, Has_no_room, Line_ticks, Node_ticks, Queues_no_more, Drops_no_more, Submits_abort, Submits_front, Starts, Gives_text, Gives_segment, Begins, Begin_unkept}
 use Rattle.host_events.specs.May.{May, IsAccepted, IsFinal}
 use Rattle.host_facts.specs.Entries.{IsAside, notes_of, entries_at}
-use Rattle.host_facts.proofs.Lists.{all-append}
+use Rattle.value_store.specs.Values.{Values, stored_of}
+use Rattle.host_orders.specs.Settings.{settings, properties_of}
+use Rattle.host_facts.proofs.Values.{reserving_same, hearing_same}
 use Rattle.host_facts.proofs.Effect.{only_commands, SameNodes, OneNode, Effect, Leaving, Unanswering, Accepting, Cancelling, Beginning, Finishing}
 
 -- ---- nodes
@@ -189,37 +191,40 @@ final_opened n id status session command told carried =
 
 -- from one host to another, with these entries
 abbrev pub Between : HostState → HostState → List Entry → Type 0
-Between old new entries = Effect old.commands new.commands old.nodes new.nodes entries
+Between old new entries = Effect old.commands new.commands old.nodes new.nodes old.store new.store entries
 
 -- the same, with the entries as they are noted
-noted_so : {cs cs' : List Command} {ns ns' : List NodeState} {entries puts : List Entry} → puts ≡ entries → Effect cs cs' ns ns' entries → Effect cs cs' ns ns' puts
-noted_so {cs} {cs'} {ns} {ns'} e effect = subst (λ (l : List Entry). Effect cs cs' ns ns' l) (sym e) effect
+noted_so : {cs cs' : List Command} {ns ns' : List NodeState} {store store' : Values} {entries puts : List Entry} → puts ≡ entries → Effect cs cs' ns ns' store store' entries
+    → Effect cs cs' ns ns' store store' puts
+noted_so {cs} {cs'} {ns} {ns'} {store} {store'} e effect = subst (λ (l : List Entry). Effect cs cs' ns ns' store store' l) (sym e) effect
 
-left : (commands : List Command) (nodes nodes' : List NodeState) (entries : List Entry) → SameNodes nodes nodes' → AllByRecursion IsAside entries → Effect commands commands nodes nodes' entries
-left commands nodes nodes' entries same asides = Leaving (record { commands_are = refl; nodes_are = same; asides = asides })
+left : (commands : List Command) (nodes nodes' : List NodeState) (store : Values) (entries : List Entry) → SameNodes nodes nodes' → AllByRecursion IsAside entries
+    → Effect commands commands nodes nodes' store store entries
+left commands nodes nodes' store entries same asides = Leaving (record { commands_are = refl; nodes_are = same; asides = asides }) (λ n p. refl)
 
 untouched : (h : HostState) (entries : List Entry) → AllByRecursion IsAside entries → Between h h entries
-untouched h entries asides = left h.commands h.nodes h.nodes entries (λ m. refl) asides
+untouched h entries asides = left h.commands h.nodes h.nodes h.store entries (λ m. refl) asides
 
-queued : (h : HostState) (full : Bool) (more : HostState) (entries : List Entry) → more.commands ≡ h.commands → more.nodes ≡ h.nodes → AllByRecursion IsAside entries → Between h (if full then h else more) entries
-queued h true more entries commands nodes asides = untouched h entries asides
-queued h false more entries commands nodes asides =
+queued : (h : HostState) (full : Bool) (more : HostState) (entries : List Entry) → more.commands ≡ h.commands → more.nodes ≡ h.nodes → more.store ≡ h.store → AllByRecursion IsAside entries → Between h (if full then h else more) entries
+queued h true more entries commands nodes store asides = untouched h entries asides
+queued h false more entries commands nodes store asides =
     Leaving (record { commands_are = commands; nodes_are = λ m. ap (λ (l : List NodeState). only_commands (node_of l m)) nodes; asides = asides })
+    (λ n p. ap (λ (v : Values). (stored_of v n p).confirmed) store)
 
 offered : (h : HostState) (n : ℕ) (live : Option (List ℕ)) (entries : List Entry) → AllByRecursion IsAside entries → Between h (offering h n live) entries
 offered h n None entries asides = untouched h entries asides
-offered h n (Some nonce) entries asides = queued h (is_full h) _ entries refl refl asides
+offered h n (Some nonce) entries asides = queued h (is_full h) _ entries refl refl refl asides
 
 -- an attempt of a node ended
 attempt_over : (h : HostState) (n : ℕ) (state : NodeState) (end : AttemptEnd) → only_commands state ≡ only_commands (node_of h.nodes n)
     → Between h (attempt_ended (record h { nodes = with_node h.nodes n state }) end (open_command (node_of h.nodes n))) (attempt_entries n end (open_command (node_of h.nodes n)))
-attempt_over h n state NoneRan e = left h.commands h.nodes (with_node h.nodes n state) [] (same_set h.nodes n state e) tt
-attempt_over h n state Again e = left h.commands h.nodes (with_node h.nodes n state) [] (same_set h.nodes n state e) tt
+attempt_over h n state NoneRan e = left h.commands h.nodes (with_node h.nodes n state) h.store [] (same_set h.nodes n state e) tt
+attempt_over h n state Again e = left h.commands h.nodes (with_node h.nodes n state) h.store [] (same_set h.nodes n state e) tt
 attempt_over h n state (Unanswered fell) e = by (open_command (node_of h.nodes n)) refl
   where
     by : (o : Option ℕ) → open_command (node_of h.nodes n) ≡ o
         → Between h (attempt_ended (record h { nodes = with_node h.nodes n state }) (Unanswered fell) o) (attempt_entries n (Unanswered fell) o)
-    by None is = left h.commands h.nodes (with_node h.nodes n state) (asleep_entry fell n) (same_set h.nodes n state e) (asleep_aside fell n)
+    by None is = left h.commands h.nodes (with_node h.nodes n state) h.store (asleep_entry fell n) (same_set h.nodes n state e) (asleep_aside fell n)
     by (Some c) is = Unanswering (record {
       node = n;
       command = c;
@@ -229,7 +234,7 @@ attempt_over h n state (Unanswered fell) e = by (open_command (node_of h.nodes n
       more = asleep_entry fell n;
       entries_are = refl;
       asides = asleep_aside fell n;
-    })
+    }) (λ m p. refl)
 
 held_same : (h : HostState) (n : ℕ) (held : Bool) → SameNodes h.nodes (holding h n held).nodes
 held_same h n true = same_set h.nodes n _ refl
@@ -238,6 +243,10 @@ held_same h n false = λ m. refl
 held_commands : (h : HostState) (n : ℕ) (held : Bool) → (holding h n held).commands ≡ h.commands
 held_commands h n true = refl
 held_commands h n false = refl
+
+held_store : (h : HostState) (n : ℕ) (held : Bool) → (holding h n held).store ≡ h.store
+held_store h n true = refl
+held_store h n false = refl
 
 -- what is not recorded of a node leaves its commands
 abbrev pub LeavesRecords : Type 0
@@ -248,9 +257,9 @@ module _ (law : LeavesRecords) where
   node_same n event not_recorded = ap (λ (s : NodeState). record s { node = 0; joined = false; listens = false; classes = None; seen = 0 }) (law n event not_recorded)
 
   node_left : (h : HostState) (n : ℕ) (event : NodeEvent) (entries : List Entry) → is_recorded (node_of h.nodes n) event ≡ false → AllByRecursion IsAside entries
-      → Effect h.commands h.commands h.nodes (with_node h.nodes n (after_node (node_of h.nodes n) event)) entries
+      → Effect h.commands h.commands h.nodes (with_node h.nodes n (after_node (node_of h.nodes n) event)) h.store h.store entries
   node_left h n event entries not_recorded asides =
-      left h.commands h.nodes _ entries (same_set h.nodes n _ (node_same (node_of h.nodes n) event not_recorded)) asides
+      left h.commands h.nodes _ h.store entries (same_set h.nodes n _ (node_same (node_of h.nodes n) event not_recorded)) asides
 
   part_over : (h : HostState) (n : ℕ) (end : PartEnd) (moment : Moment) → Between h (after_part h n end moment) (part_entries h n end)
   part_over h n Good moment = node_left h n node_succeeds [] refl tt
@@ -291,7 +300,7 @@ module _ (law : LeavesRecords) where
         nodes_are = then_same h.nodes put_nodes _ n put (one_set h.nodes n put (listed_place h.nodes n may.classes may.listed))
             (same_set put_nodes n _ (node_same (node_of put_nodes n) node_accepts refl));
         entries_are = refl;
-      })
+      }) (reserving_same h.store n (properties_of (settings carriage.actuator order)))
 
   finished : (h : HostState) (n session id command : ℕ) (status : FinalStatus) (wake_request : Bool) → IsFinal h n session id command status
       → Between h (after h (Finishes n session id command status wake_request)) (entries_at h (Finishes n session id command status wake_request))
@@ -313,7 +322,7 @@ module _ (law : LeavesRecords) where
         more = held_entries n held;
         entries_are = notes_noted _;
         asides = held_aside n held;
-      })
+      }) (held_store done n held)
 
   pub effect : (h : HostState) (event : HostEvent) → May h event → Between h (after h event) (entries_at h event)
   effect h (Accepts order carriage) may = accepted h order carriage may
@@ -324,14 +333,14 @@ module _ (law : LeavesRecords) where
     commands_are = refl;
     nodes_are = one_set h.nodes (node_for h command) _ (waits_place h.nodes (node_for h command) (some_contained _ command may));
     entries_are = refl;
-  })
-  effect h (Joins n) may = left h.commands h.nodes _ [] (same_set h.nodes n _ refl) tt
+  }) (λ m p. refl)
+  effect h (Joins n) may = left h.commands h.nodes _ h.store [] (same_set h.nodes n _ refl) tt
   effect h (Queues task) may = untouched h [] tt
   effect h (Queues_interview n) may = untouched h [] tt
   effect h Queues_probe may = untouched h [] tt
   effect h (Hears item) may = noted_so (answer_notes item) (untouched h [] tt)
   effect h (Requests_do event moment) may = noted_so (notes_noted (request_entries h event)) (request_over h event moment)
-  effect h (Interviews n listens classes update) may = left h.commands h.nodes _ _ (same_set h.nodes n _ refl) (tt, tt)
+  effect h (Interviews n listens classes update) may = left h.commands h.nodes _ h.store _ (same_set h.nodes n _ refl) (tt, tt)
   effect h (Interview_unkept n update) may = untouched h _ (tt, tt)
   effect h (Unreads n payload) may = untouched h _ (tt, tt)
   effect h (Is_unkept n) may = untouched h _ (tt, tt)
@@ -343,10 +352,10 @@ module _ (law : LeavesRecords) where
       noted_so (notes_noted (dropped_if (is_full h) n)) (offered (giving h n drawn) n (live_of (giving h n drawn).nonces n) _ (dropped_aside (is_full h) n))
   effect h (Spends n) may = untouched h [] tt
   effect h (Spends_unread n payload) may = untouched h _ (tt, tt)
-  effect h (Takes_nonce n seen text) may = left h.commands h.nodes _ [] (same_set h.nodes n _ refl) tt
+  effect h (Takes_nonce n seen text) may = left h.commands h.nodes _ h.store [] (same_set h.nodes n _ refl) tt
   effect h (Notifies n) may = node_left h n node_notifies _ refl (tt, tt)
-  effect h (Resends n payload) may = noted_so (notes_noted (dropped_if (is_full h) n)) (queued h (is_full h) _ _ refl refl (dropped_aside (is_full h) n))
-  effect h (Hears_value n setting) may = untouched h _ (tt, tt)
+  effect h (Resends n payload) may = noted_so (notes_noted (dropped_if (is_full h) n)) (queued h (is_full h) _ _ refl refl refl (dropped_aside (is_full h) n))
+  effect h (Hears_value n setting) may = Leaving (record { commands_are = refl; nodes_are = λ m. refl; asides = (tt, tt) }) (hearing_same h.store n setting)
   effect h (Has_no_room n property) may = untouched h _ (tt, tt)
   effect h Line_ticks may =
       let gives = gives_up h.side.turn (tick_side h.side).turn in
@@ -367,5 +376,5 @@ module _ (law : LeavesRecords) where
     commands_are = ap (λ (c : ℕ). with_outcome h.commands c outcome.Begun) may.3;
     nodes_are = one_set h.nodes n _ (waits_place h.nodes n may.1.0);
     entries_are = ap₂ (λ (s c : ℕ). Begin n s c ∷ []) may.2 may.3;
-  })
+  }) (λ m p. refl)
   effect h (Begin_unkept n) may = node_left h n node_blocks _ refl (tt, tt)

@@ -20,7 +20,8 @@ use Rattle.host_events.specs.Outs.{ended_of, stored_entries}
 use Rattle.host_events.specs.Facts.{IsCommandOf, OwnsCommands}
 use Rattle.host_facts.specs.Entries.{IsAside}
 use Rattle.host_facts.specs.Laws.{accepted_for, IsUnderWay, MayEnd}
-use Rattle.host_facts.specs.Facts.{AreAccepted, AreEntered, IsInOrder, outcome_in, nodes_by, recorded}
+use Rattle.host_facts.specs.Tables.{outcome_in, nodes_by, recorded}
+use Rattle.host_facts.specs.Facts.{AreAccepted, AreEntered, IsInOrder}
 use Rattle.host_facts.proofs.Lists.{all-append, all-weaker}
 use Rattle.host_facts.proofs.Commands.{waits_so, under_way_so}
 use Rattle.host_facts.proofs.Views.{IsSilent, silent}
@@ -42,10 +43,10 @@ pub record Ends (T : List Entry) (cs cs' : List Command) (nodes nodes' : List No
   pub may : MayEnd T (Out command how)
 
 -- the commands of the sessions stay
-same_sessions : (nodes nodes' : List NodeState) → SameNodes nodes nodes' → (m : ℕ) → (node_of nodes' m).book.commands ≡ (node_of nodes m).book.commands
+pub same_sessions : (nodes nodes' : List NodeState) → SameNodes nodes nodes' → (m : ℕ) → (node_of nodes' m).book.commands ≡ (node_of nodes m).book.commands
 same_sessions nodes nodes' same m = ap (λ (s : NodeState). s.book.commands) (same m)
 
-one_sessions : (nodes nodes' : List NodeState) (n : ℕ) (state : NodeState) → OneNode nodes nodes' n state → state.book.commands ≡ (node_of nodes n).book.commands
+pub one_sessions : (nodes nodes' : List NodeState) (n : ℕ) (state : NodeState) → OneNode nodes nodes' n state → state.book.commands ≡ (node_of nodes n).book.commands
     → (m : ℕ) → (node_of nodes' m).book.commands ≡ (node_of nodes m).book.commands
 one_sessions nodes nodes' n state one e m = elim (cases_eq m n) [
   | inl same ↦ ap (λ (k : ℕ). (node_of nodes' k).book.commands) same ∙ ap (λ (s : NodeState). s.book.commands) one.here ∙ e ∙ ap (λ (k : ℕ). (node_of nodes k).book.commands) (sym same)

@@ -9,6 +9,7 @@ use Rattle.zw_text.specs.declared.entry.Outcome.TheVariants as outcome
 use Rattle.zw_laws.specs.Lists.{Rises}
 use Rattle.zw_laws.specs.Sessions.{IsFinal}
 use Rattle.supervision.specs.Host.{open_session}
+use Rattle.value_store.specs.Values.{Values}
 use Rattle.host_node.specs.State.{NodeState}
 use Rattle.host_node.specs.Steps.{after_begin, after_cancel, after_put, oldest, with_final, without}
 use Rattle.host_nodes.specs.State.{node_of}
@@ -21,7 +22,8 @@ use Rattle.host_events.specs.After.{outcome_of}
 use Rattle.host_events.specs.Facts.{IsCommandOf, OwnsCommands}
 use Rattle.zw_text.specs.declared.entry.Entry.{Entry}
 use Rattle.host_facts.specs.Laws.{IsUnderWay}
-use Rattle.host_facts.specs.Facts.{outcome_in, AreInOrder, IsInOrder}
+use Rattle.host_facts.specs.Tables.{outcome_in}
+use Rattle.host_facts.specs.Facts.{AreInOrder, IsInOrder}
 use Rattle.host_facts.proofs.Lists.{all-append, all-left, all-right, all-weaker, all-both, rises-left, rises-right, below_later, rises-push, rises-without, others_left}
 use Rattle.host_facts.proofs.Commands.{outcome_other, outcome_same, outcome_pushed, outcome_past}
 use Rattle.host_facts.proofs.Owned.{apart, number_within, of_opened, closed_none, opened_last}
@@ -250,10 +252,10 @@ module _ (cs : List Command) (nodes : List NodeState) (owns : (m : ℕ) → Owns
       by_commands e.commands_are nodes' (by_nodes now nodes nodes' n (after_put s next) e.nodes_are here (λ m other. before m))
 
   -- each event
-  pub order_kept : (cs' : List Command) (nodes' : List NodeState) (entries : List Entry) → Effect cs cs' nodes nodes' entries → (m : ℕ) → IsInOrder cs' (node_of nodes' m)
-  order_kept cs' nodes' entries (Leaving e) = λ m. same_order cs' (node_of nodes m) (node_of nodes' m) (e.nodes_are m) (by_commands e.commands_are nodes orders m)
-  order_kept cs' nodes' entries (Unanswering e) = order_unanswered cs' nodes' entries e
-  order_kept cs' nodes' entries (Accepting e) = order_accepted cs' nodes' entries e
-  order_kept cs' nodes' entries (Cancelling e) = order_cancelled cs' nodes' entries e
-  order_kept cs' nodes' entries (Beginning e) = order_begun cs' nodes' entries e
-  order_kept cs' nodes' entries (Finishing e) = order_finished cs' nodes' entries e
+  pub order_kept : (cs' : List Command) (nodes' : List NodeState) (store store' : Values) (entries : List Entry) → Effect cs cs' nodes nodes' store store' entries → (m : ℕ) → IsInOrder cs' (node_of nodes' m)
+  order_kept cs' nodes' store store' entries (Leaving e same) = λ m. same_order cs' (node_of nodes m) (node_of nodes' m) (e.nodes_are m) (by_commands e.commands_are nodes orders m)
+  order_kept cs' nodes' store store' entries (Unanswering e same) = order_unanswered cs' nodes' entries e
+  order_kept cs' nodes' store store' entries (Accepting e same) = order_accepted cs' nodes' entries e
+  order_kept cs' nodes' store store' entries (Cancelling e same) = order_cancelled cs' nodes' entries e
+  order_kept cs' nodes' store store' entries (Beginning e same) = order_begun cs' nodes' entries e
+  order_kept cs' nodes' store store' entries (Finishing e same) = order_finished cs' nodes' entries e

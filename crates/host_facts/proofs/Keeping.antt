@@ -8,6 +8,12 @@ use Rattle.zw_text.specs.Transcript.{outcome, sessions}
 use Rattle.zw_laws.specs.Commands.{is_waiting}
 use Rattle.zw_laws.specs.Lists.{EachAfter, Rises}
 use Rattle.zw_laws.specs.Sessions.{MayBegin}
+use Rattle.zw_laws.specs.Values.{last_given}
+use Rattle.std.specs.FinMap as finmap
+use Rattle.std.specs.Prelude.{Option, unwrap_or}
+use Rattle.value_store.specs.declared.stored.Stored.{Stored}
+use Rattle.value_store.specs.Values.{Values, key_cmp, no_value}
+use Rattle.host_facts.specs.Stores.{given_by}
 use Rattle.host_node.specs.State.{NodeState, unknown}
 use Rattle.host_node.specs.Steps.{oldest}
 use Rattle.host_nodes.specs.State.{node_of, with_node, unknown_from, unknown_nodes, nodes_after}
@@ -20,7 +26,8 @@ use Rattle.host_events.specs.Did.{after_all, MayAll}
 use Rattle.host_events.specs.Facts.{HostFacts, OwnsCommands}
 use Rattle.host_facts.specs.Entries.{IsAside, entries_at, entries_all}
 use Rattle.host_facts.specs.Laws.{MayAccept, MayCarry, MayEnd, MayStand, HostLaws}
-use Rattle.host_facts.specs.Facts.{AreAccepted, AreBegun, AreEntered, AreWaiting, IsInOrder, Facts, outcome_in, nodes_by, recorded}
+use Rattle.host_facts.specs.Tables.{outcome_in, nodes_by, recorded}
+use Rattle.host_facts.specs.Facts.{AreAccepted, AreBegun, AreEntered, AreWaiting, IsInOrder, Facts}
 use Rattle.host_facts.proofs.Lists.{each-weaker, rises-left}
 use Rattle.host_facts.proofs.Commands.{waits_so}
 use Rattle.host_facts.proofs.Views.{nodes-silent, numbers-silent, for-silent, sessions-silent, outcome-silent, silent}
@@ -29,6 +36,8 @@ use Rattle.host_facts.proofs.Effects.{LeavesRecords, same_set, effect}
 use Rattle.host_facts.proofs.InOrder.{same_order, order_kept, oldest_is, oldest_waits}
 use Rattle.host_facts.proofs.Ending.{Ends, unanswered_ends, cancelled_ends, finished_ends}
 use Rattle.host_facts.proofs.Waiting.{waiting_kept}
+use Rattle.host_facts.proofs.Stored.{stored_kept, stored_aside}
+use Rattle.host_facts.proofs.Confirmed.{confirmed_kept}
 use Rattle.host_facts.proofs.Shown.{accepted_left, begun_left, entered_left, accepted_ended, begun_ended, entered_ended, accepted_taken, begun_taken, entered_taken, accepted_begun, begun_begun, entered_begun}
 use Rattle.host_facts.proofs.Standing.{stand_silent, stand_left, stand_ended, stand_taken, stand_begun}
 
@@ -41,7 +50,7 @@ record Shown (T : List Entry) (cs : List Command) (nodes : List NodeState) : Typ
   stand : EachAfter MayStand [] T
 
 module _ (T : List Entry) (cs : List Command) (nodes : List NodeState) (owns : (m : ℕ) → OwnsCommands cs m (node_of nodes m)) (orders : (m : ℕ) → IsInOrder cs (node_of nodes m))
-    (f : Shown T cs nodes) (cs' : List Command) (nodes' : List NodeState) (entries : List Entry) where
+    (f : Shown T cs nodes) (cs' : List Command) (nodes' : List NodeState) (store store' : Values) (entries : List Entry) where
   shown_ended : AreWaiting (T ++ entries) cs' nodes' → Ends T cs cs' nodes nodes' entries → Shown (T ++ entries) cs' nodes'
   shown_ended waiting e = record {
     accepted = accepted_ended T cs cs' nodes nodes' entries e f.accepted;
@@ -51,25 +60,25 @@ module _ (T : List Entry) (cs : List Command) (nodes : List NodeState) (owns : (
     stand = stand_ended T cs cs' nodes nodes' entries f.stand e;
   }
 
-  shown_kept : Effect cs cs' nodes nodes' entries → Shown (T ++ entries) cs' nodes'
-  shown_kept (Leaving e) = record {
+  shown_kept : Effect cs cs' nodes nodes' store store' entries → Shown (T ++ entries) cs' nodes'
+  shown_kept (Leaving e same) = record {
     accepted = accepted_left T cs cs' nodes nodes' entries e f.accepted;
     begun = begun_left T cs cs' nodes nodes' entries e f.begun;
     entered = entered_left T cs cs' nodes nodes' entries recorded e f.entered;
-    waiting = waiting_kept T cs nodes owns orders f.waiting cs' nodes' entries (Leaving e);
+    waiting = waiting_kept T cs nodes owns orders f.waiting cs' nodes' store store' entries (Leaving e same);
     stand = stand_left T cs cs' nodes nodes' entries f.stand e;
   }
-  shown_kept (Unanswering e) = shown_ended (waiting_kept T cs nodes owns orders f.waiting cs' nodes' entries (Unanswering e)) (unanswered_ends T cs nodes owns orders f.accepted f.entered cs' nodes' entries e)
-  shown_kept (Cancelling e) = shown_ended (waiting_kept T cs nodes owns orders f.waiting cs' nodes' entries (Cancelling e)) (cancelled_ends T cs nodes owns orders f.accepted f.entered cs' nodes' entries e)
-  shown_kept (Finishing e) = shown_ended (waiting_kept T cs nodes owns orders f.waiting cs' nodes' entries (Finishing e)) (finished_ends T cs nodes owns orders f.accepted f.entered cs' nodes' entries e)
-  shown_kept (Accepting e) = record {
+  shown_kept (Unanswering e same) = shown_ended (waiting_kept T cs nodes owns orders f.waiting cs' nodes' store store' entries (Unanswering e same)) (unanswered_ends T cs nodes owns orders f.accepted f.entered cs' nodes' entries e)
+  shown_kept (Cancelling e same) = shown_ended (waiting_kept T cs nodes owns orders f.waiting cs' nodes' store store' entries (Cancelling e same)) (cancelled_ends T cs nodes owns orders f.accepted f.entered cs' nodes' entries e)
+  shown_kept (Finishing e same) = shown_ended (waiting_kept T cs nodes owns orders f.waiting cs' nodes' store store' entries (Finishing e same)) (finished_ends T cs nodes owns orders f.accepted f.entered cs' nodes' entries e)
+  shown_kept (Accepting e same) = record {
     accepted = accepted_taken T cs cs' nodes nodes' entries e f.accepted;
     begun = begun_taken T cs cs' nodes nodes' entries e f.begun;
     entered = entered_taken T cs cs' nodes nodes' entries recorded e f.entered;
-    waiting = waiting_kept T cs nodes owns orders f.waiting cs' nodes' entries (Accepting e);
+    waiting = waiting_kept T cs nodes owns orders f.waiting cs' nodes' store store' entries (Accepting e same);
     stand = stand_taken T cs cs' nodes nodes' entries f.stand e f.accepted;
   }
-  shown_kept (Beginning e) =
+  shown_kept (Beginning e same) =
       let one = oldest_is cs nodes owns orders e.node e.some_wait in
       let waits = oldest_waits cs nodes owns orders e.node e.some_wait in
       let c = oldest (node_of nodes e.node) in
@@ -77,7 +86,7 @@ module _ (T : List Entry) (cs : List Command) (nodes : List NodeState) (owns : (
         accepted = accepted_begun T cs cs' nodes nodes' entries e f.accepted;
         begun = begun_begun T cs cs' nodes nodes' entries e f.begun;
         entered = entered_begun T cs cs' nodes nodes' entries recorded e one.command one.found (waits_so (outcome c T) (outcome_in cs c) (f.entered c) waits) f.entered;
-        waiting = waiting_kept T cs nodes owns orders f.waiting cs' nodes' entries (Beginning e);
+        waiting = waiting_kept T cs nodes owns orders f.waiting cs' nodes' store store' entries (Beginning e same);
         stand = stand_begun T cs cs' nodes nodes' entries f.stand e f.accepted f.begun f.entered (orders e.node) one waits;
       }
 
@@ -90,14 +99,16 @@ module _ (host : HostKeeps) (law : LeavesRecords) where
   each_kept past h event f may =
       let e = effect law h event may in
       let shown = shown_kept past h.commands h.nodes f.host.owns f.in_order (record { accepted = f.accepted; begun = f.begun; entered = f.entered; waiting = f.waiting; stand = f.stand })
-      (after h event).commands (after h event).nodes (entries_at h event) e in
+      (after h event).commands (after h event).nodes h.store (after h event).store (entries_at h event) e in
       record {
         host = host h event f.host may;
         accepted = shown.accepted;
         begun = shown.begun;
         entered = shown.entered;
         waiting = shown.waiting;
-        in_order = order_kept h.commands h.nodes f.host.owns f.in_order (after h event).commands (after h event).nodes (entries_at h event) e;
+        in_order = order_kept h.commands h.nodes f.host.owns f.in_order (after h event).commands (after h event).nodes h.store (after h event).store (entries_at h event) e;
+        stored = stored_kept past h.commands h.nodes f.host.owns f.in_order f.stored (after h event).commands (after h event).nodes h.store (after h event).store (entries_at h event) e;
+        confirmed = confirmed_kept h.commands h.nodes h.store f.host.owns f.in_order f.confirmed (after h event).commands (after h event).nodes (after h event).store (entries_at h event) e;
         stand = shown.stand;
       }
 
@@ -119,6 +130,8 @@ aside_kept past h entry f aside =
       entered = λ k. ap recorded (outcome-silent past (entry ∷ []) (one, tt) k) ∙ f.entered k;
       waiting = λ m. f.waiting m ∙ ap (λ (l : List ℕ). filter (λ k. is_waiting (outcome_in h.commands k)) l) (sym (for-silent past (entry ∷ []) (one, tt) m));
       in_order = f.in_order;
+      stored = stored_aside past h.commands entry aside f.stored;
+      confirmed = f.confirmed;
       stand = stand_silent past (entry ∷ []) (one, tt) f.stand;
     }
 
@@ -157,6 +170,8 @@ first_kept keys host = record {
   entered = none_entered;
   waiting = λ m. ap (λ (s : NodeState). s.waiting) (first_blank m);
   in_order = blank_in_order first_nodes first_blank;
+  stored = record { entered = refl; behind = tt; known = tt };
+  confirmed = λ m p. ap (λ (o : Option Stored). (unwrap_or o no_value).confirmed) (finmap.get-empty key_cmp (m, p)) ∙ sym (ap (λ (s : NodeState). last_given (given_by [] (outcome_in []) p) s.book.commands) (first_blank m));
   stand = tt;
 }
   where

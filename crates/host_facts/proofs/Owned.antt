@@ -8,7 +8,7 @@ use Rattle.host_node.specs.State.{NodeState}
 use Rattle.host_events.specs.State.{Command, command_at}
 use Rattle.host_events.specs.Sessions.{command_by, open_command}
 use Rattle.host_events.specs.Facts.{IsCommandOf}
-use Rattle.host_facts.specs.Facts.{outcome_in, nodes_by}
+use Rattle.host_facts.specs.Tables.{outcome_in, nodes_by}
 use Rattle.host_facts.proofs.Lists.{all-weaker}
 
 -- ---- commands of nodes
@@ -78,3 +78,17 @@ last_session l c = ap (λ (k : ℕ). command_of_session (l ++ c ∷ []) k) (leng
 pub opened_last : (n : NodeState) (l : List ℕ) (c : ℕ) → open_command (record n { book = record { commands = l ++ c ∷ []; outcome = None; attempts = 0 } }) ≡ Some c
 opened_last n [] c = refl
 opened_last n (x ∷ l) c = last_session (x ∷ l) c
+
+-- the command of the last session stands last
+last_split : (l : List ℕ) (c : ℕ) → command_of_session l (length l) ≡ Some c → (front : List ℕ) × (l ≡ front ++ c ∷ [])
+last_split [] c e = cc
+last_split (x ∷ []) c e = let same : x ≡ c = cc in ([], ap (λ (k : ℕ). k ∷ []) same)
+last_split (x ∷ y ∷ l) c e = let rest = last_split (y ∷ l) c e in (x ∷ rest.0, ap (λ (r : List ℕ). x ∷ r) rest.1)
+
+pub opened_ends : (n : NodeState) (c : ℕ) → open_command n ≡ Some c → (front : List ℕ) × (n.book.commands ≡ front ++ c ∷ [])
+opened_ends n c opened = last_split n.book.commands c (by n.book.outcome n.book.commands n.book.attempts opened)
+  where
+    by : (o : Option ℕ) (l : List ℕ) (attempts : ℕ) → open_command (record n { book = record { commands = l; outcome = o; attempts = attempts } }) ≡ Some c → command_of_session l (length l) ≡ Some c
+    by (Some status) l attempts e = cc
+    by None [] attempts e = cc
+    by None (x ∷ l) attempts e = e

@@ -8,6 +8,8 @@ use Rattle.zw_text.specs.declared.entry.Outcome.TheVariants.{Waiting, Begun, Suc
 use Rattle.zw_text.specs.Transcript.{outcome}
 use Rattle.zw_laws.specs.Commands.{is_waiting}
 use Rattle.zw_laws.specs.Sessions.{IsFinal}
+use Rattle.zw_laws.specs.Values.{last_given}
+use Rattle.value_store.specs.Values.{Values}
 use Rattle.std.proofs.lemmas.List.Elements.{filter_agree}
 use Rattle.supervision.specs.Host.{open_session, command_at as command_of_session}
 use Rattle.host_node.specs.State.{NodeState}
@@ -21,9 +23,13 @@ use Rattle.host_events.specs.May.{May}
 use Rattle.host_events.specs.Did.{after_all, MayAll}
 use Rattle.host_facts.specs.Entries.{entries_at, entries_all}
 use Rattle.host_facts.specs.Laws.{IsUnderWay, numbers_for}
-use Rattle.host_facts.specs.Facts.{AreInOrder, Facts, AreShown, AreTold, StartsAs, Run, AreRuns, entries_of_runs, last_of_runs, outcome_in, recorded}
+use Rattle.host_facts.specs.Tables.{outcome_in, recorded, taken_at}
+use Rattle.host_facts.specs.Stores.{given_by, IsKnown, AreStored, StoresLaw}
+use Rattle.host_facts.specs.Facts.{AreInOrder, Facts, AreShown, AreTold, StartsAs, Run, AreRuns, entries_of_runs, last_of_runs}
 use Rattle.host_facts.proofs.Lists.{all-weaker}
-use Rattle.host_facts.proofs.Commands.{final_so, under_way_so, waits_so}
+use Rattle.host_facts.proofs.Stored.{asked_alike}
+use Rattle.host_facts.proofs.Confirmed.{given_alike, taken_alike}
+use Rattle.host_facts.proofs.Commands.{nodes_alike, final_so, under_way_so, waits_so}
 use Rattle.host_facts.proofs.Effect.{Effect, Leaving, Unanswering, Accepting, Cancelling, Beginning, Finishing}
 use Rattle.host_facts.proofs.Effects.{LeavesRecords, effect}
 use Rattle.host_facts.proofs.InOrder.{oldest_is, oldest_waits}
@@ -37,24 +43,24 @@ use Rattle.host_facts.proofs.Keeping.{HostKeeps, each_kept, all_kept}
 abbrev whole : Outcome → Outcome
 whole what = what
 
-told_by : (T : List Entry) (h : HostState) → Facts T h → (cs' : List Command) (nodes' : List NodeState) (entries : List Entry) → Effect h.commands cs' h.nodes nodes' entries
+told_by : (T : List Entry) (h : HostState) → Facts T h → (cs' : List Command) (nodes' : List NodeState) (store' : Values) (entries : List Entry) → Effect h.commands cs' h.nodes nodes' h.store store' entries
     → AreEnteredBy whole T h.commands → AreEnteredBy whole (T ++ entries) cs'
-told_by T h f cs' nodes' entries (Leaving e) told = entered_left T h.commands cs' h.nodes nodes' entries whole e told
-told_by T h f cs' nodes' entries (Accepting e) told = entered_taken T h.commands cs' h.nodes nodes' entries whole e told
-told_by T h f cs' nodes' entries (Unanswering e) told =
+told_by T h f cs' nodes' store' entries (Leaving e same) told = entered_left T h.commands cs' h.nodes nodes' entries whole e told
+told_by T h f cs' nodes' store' entries (Accepting e same) told = entered_taken T h.commands cs' h.nodes nodes' entries whole e told
+told_by T h f cs' nodes' store' entries (Unanswering e same) told =
     entered_ended T h.commands cs' h.nodes nodes' entries whole (unanswered_ends T h.commands h.nodes f.host.owns f.in_order f.accepted f.entered cs' nodes' entries e) told
-told_by T h f cs' nodes' entries (Cancelling e) told =
+told_by T h f cs' nodes' store' entries (Cancelling e same) told =
     entered_ended T h.commands cs' h.nodes nodes' entries whole (cancelled_ends T h.commands h.nodes f.host.owns f.in_order f.accepted f.entered cs' nodes' entries e) told
-told_by T h f cs' nodes' entries (Finishing e) told =
+told_by T h f cs' nodes' store' entries (Finishing e same) told =
     entered_ended T h.commands cs' h.nodes nodes' entries whole (finished_ends T h.commands h.nodes f.host.owns f.in_order f.accepted f.entered cs' nodes' entries e) told
-told_by T h f cs' nodes' entries (Beginning e) told =
+told_by T h f cs' nodes' store' entries (Beginning e same) told =
     let one = oldest_is h.commands h.nodes f.host.owns f.in_order e.node e.some_wait in
     let waits = oldest_waits h.commands h.nodes f.host.owns f.in_order e.node e.some_wait in
     entered_begun T h.commands cs' h.nodes nodes' entries whole e one.command one.found (told (oldest (node_of h.nodes e.node)) ∙ waits) told
 
 module _ (host : HostKeeps) (law : LeavesRecords) where
   pub told_each : (past : List Entry) (h : HostState) (event : HostEvent) → Facts past h → AreTold past h → May h event → AreTold (past ++ entries_at h event) (after h event)
-  told_each past h event f told may = told_by past h f (after h event).commands (after h event).nodes (entries_at h event) (effect law h event may) told
+  told_each past h event f told may = told_by past h f (after h event).commands (after h event).nodes (after h event).store (entries_at h event) (effect law h event may) told
 
   pub told_all : (past : List Entry) (h : HostState) (events : List HostEvent) → Facts past h → AreTold past h → MayAll h events → AreTold (past ++ entries_all h events) (after_all h events)
   told_all past h [] f told may = subst (λ (T : List Entry). AreTold T h) (sym (append-nil past)) told
@@ -71,6 +77,18 @@ tables_shown past h f = record {
   outcomes = λ k. sym (f.entered k);
   sessions_are = λ m. sym (f.begun m);
   waiting = waiting_shown past h.commands h.nodes f.entered f.waiting;
+}
+
+-- ---- confirmed values
+
+pub stores_hold : (past : List Entry) (h : HostState) → Facts past h → StoresLaw past h
+stores_hold past h f = record {
+  entered = f.stored.entered;
+  behind = f.stored.behind;
+  confirmed = λ m p.
+      f.confirmed m p
+      ∙ sym (given_alike h.commands (outcome_in h.commands) (λ k. outcome k past) f.entered p (node_of h.nodes m).book.commands)
+      ∙ ap (λ (l : List ℕ). last_given (given_by h.commands (λ k. outcome k past) p) l) (sym (f.begun m));
 }
 
 -- ---- restarts
@@ -113,12 +131,20 @@ opened_so a b commands opened = by (open_session a.book) ∙ ap (λ (o : Option 
     by None = refl
     by (Some session) = ap (λ (l : List ℕ). command_of_session l session) commands
 
+-- the same orders ask for the same values
+stored_alike : (T : List Entry) (cs cs' : List Command) → length cs' ≡ length cs → ((k : ℕ) → taken_at cs' k ≡ taken_at cs k) → AreStored T cs → AreStored T cs'
+stored_alike T cs cs' count same f = record {
+  entered = f.entered ∙ sym (asked_alike cs cs' T (λ k below. same k) f.known);
+  behind = f.behind;
+  known = subst (λ (n : ℕ). AllByRecursion (IsKnown n) T) (sym count) f.known;
+}
+
 pub restart_kept : (past : List Entry) (old new : HostState) → Facts past old → StartsAs old new → Facts past new
 restart_kept past old new f s =
     let alike : (k : ℕ) → recorded (outcome_in new.commands k) ≡ recorded (outcome_in old.commands k) = λ k. ap recorded (s.outcomes k) ∙ recorded_twice (outcome_in old.commands k) in
     record {
       host = s.host;
-      accepted = record { count = f.accepted.count ∙ sym s.count; nodes = λ k. f.accepted.nodes k ∙ sym (s.nodes k) };
+      accepted = record { count = f.accepted.count ∙ sym s.count; nodes = λ k. f.accepted.nodes k ∙ sym (nodes_alike (command_at new.commands k) (command_at old.commands k) (s.taken k)) };
       begun = λ m. f.begun m ∙ sym (s.begun m);
       entered = λ k. f.entered k ∙ sym (alike k);
       waiting = λ m. s.waiting m ∙ f.waiting m ∙ filter_agree (λ k. is_waiting (outcome_in old.commands k)) (λ k. is_waiting (outcome_in new.commands k))
@@ -130,6 +156,13 @@ restart_kept past old new f s =
           (subst (λ (l : List ℕ). AreInOrder new.commands b.book.commands l (open_command a)) (sym (s.waiting m))
           (subst (λ (o : Option ℕ). AreInOrder new.commands b.book.commands b.waiting o) (sym (opened_so a b (s.begun m) (s.opened m)))
           (recorded_order old.commands new.commands b.book.commands b.waiting (open_command b) alike (f.in_order m))));
+      stored = stored_alike past old.commands new.commands s.count s.taken f.stored;
+      confirmed = λ m p.
+          let begun = (node_of old.nodes m).book.commands in
+          s.confirmed m p ∙ f.confirmed m p
+          ∙ sym (taken_alike old.commands new.commands (outcome_in old.commands) s.taken p begun)
+          ∙ sym (given_alike new.commands (outcome_in old.commands) (outcome_in new.commands) alike p begun)
+          ∙ ap (λ (l : List ℕ). last_given (given_by new.commands (outcome_in new.commands) p) l) (sym (s.begun m));
       stand = f.stand;
     }
 

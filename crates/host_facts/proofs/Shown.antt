@@ -14,7 +14,8 @@ use Rattle.host_node.specs.Steps.{oldest}
 use Rattle.host_nodes.specs.State.{node_of}
 use Rattle.host_events.specs.State.{Command, command_at, with_outcome}
 use Rattle.host_facts.specs.Laws.{accepted_for}
-use Rattle.host_facts.specs.Facts.{AreAccepted, AreBegun, outcome_in, nodes_by}
+use Rattle.host_facts.specs.Tables.{outcome_in, nodes_by}
+use Rattle.host_facts.specs.Facts.{AreAccepted, AreBegun}
 use Rattle.host_facts.proofs.Commands.{outcome_other, outcome_same, outcome_pushed, nodes_set, length-outcome, nodes_pushed, nodes_last, nodes_past}
 use Rattle.host_facts.proofs.Views.{nodes-silent, numbers-silent, sessions-silent, outcome-silent, nodes-ended, numbers-ended, sessions-ended, outcome-ended, outcome-other, nodes-begun, numbers-begun, sessions-begun, sessions-begun_other, outcome-begun, outcome-begun_other, nodes-accepted, nodes-accepted_other, count-accepted, sessions-accepted, outcome-accepted}
 use Rattle.host_facts.proofs.Effect.{only_commands, OneNode, Leaves, Accepts, Begins}

@@ -15,7 +15,8 @@ use Rattle.host_events.specs.State.{Command}
 use Rattle.host_events.specs.Sessions.{open_command}
 use Rattle.host_events.specs.Facts.{IsCommandOf}
 use Rattle.host_facts.specs.Laws.{MayStand}
-use Rattle.host_facts.specs.Facts.{AreAccepted, AreBegun, AreEntered, IsInOrder, outcome_in, recorded}
+use Rattle.host_facts.specs.Tables.{outcome_in, recorded}
+use Rattle.host_facts.specs.Facts.{AreAccepted, AreBegun, AreEntered, IsInOrder}
 use Rattle.host_facts.proofs.Lists.{each-append, each-anywhere, all-weaker}
 use Rattle.host_facts.proofs.Commands.{waits_so, final_so}
 use Rattle.host_facts.proofs.Views.{IsSilent}

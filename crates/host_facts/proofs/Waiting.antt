@@ -12,6 +12,7 @@ use Rattle.zw_text.specs.declared.entry.Outcome.TheVariants.{Waiting, Begun, Suc
 use Rattle.zw_text.specs.Transcript.{outcome}
 use Rattle.zw_laws.specs.Commands.{is_waiting}
 use Rattle.zw_laws.specs.Lists.{Rises}
+use Rattle.value_store.specs.Values.{Values}
 use Rattle.host_node.specs.State.{NodeState}
 use Rattle.host_node.specs.Steps.{after_begin, after_cancel, after_put, oldest, with_final, without}
 use Rattle.supervision.specs.Host.{begun_of}
@@ -25,7 +26,8 @@ use Rattle.host_events.specs.After.{outcome_of}
 use Rattle.host_events.specs.Outs.{ended_of, stored_entries}
 use Rattle.host_events.specs.Facts.{IsCommandOf, OwnsCommands}
 use Rattle.host_facts.specs.Laws.{numbers_for, waiting_for}
-use Rattle.host_facts.specs.Facts.{AreEntered, AreWaiting, IsInOrder, outcome_in, recorded}
+use Rattle.host_facts.specs.Tables.{outcome_in, recorded}
+use Rattle.host_facts.specs.Facts.{AreEntered, AreWaiting, IsInOrder}
 use Rattle.host_facts.proofs.Lists.{rises-right, all-append}
 use Rattle.host_facts.proofs.Commands.{outcome_other, outcome_same, outcome_pushed, outcome_past}
 use Rattle.host_facts.proofs.Views.{IsSilent, for-silent, for-ended, for-begun, for-accepted, for-accepted_other}
@@ -131,7 +133,7 @@ module _ (T : List Entry) (cs : List Command) (nodes : List NodeState) (owns : (
       ∙ ap (λ (l : List Command). filter (waits l) (numbers_for m T)) (sym commands)
       ∙ ap (λ (l : List ℕ). filter (waits cs') l) (sym (numbers m))
 
-  module _ (cs' : List Command) (nodes' : List NodeState) (entries : List Entry) where
+  module _ (cs' : List Command) (nodes' : List NodeState) (store store' : Values) (entries : List Entry) where
     waiting_taken : Accepts cs cs' nodes nodes' entries → AreWaiting (T ++ entries) cs' nodes'
     waiting_taken e m =
         let n = e.taken.order.node in
@@ -154,29 +156,29 @@ module _ (T : List Entry) (cs : List Command) (nodes : List NodeState) (owns : (
         last_waits : (next : ℕ) → waits cs next ≡ true → filter (waits cs) (next ∷ []) ≡ next ∷ []
         last_waits next waits_so = ap (λ (b : Bool). cond b (next ∷ []) []) waits_so
 
-    pub waiting_kept : Effect cs cs' nodes nodes' entries → AreWaiting (T ++ entries) cs' nodes'
-    waiting_kept (Leaving e) = λ m.
+    pub waiting_kept : Effect cs cs' nodes nodes' store store' entries → AreWaiting (T ++ entries) cs' nodes'
+    waiting_kept (Leaving e same) = λ m.
         ap (λ (s : NodeState). s.waiting) (e.nodes_are m) ∙ f m ∙ ap (λ (l : List Command). filter (waits l) (numbers_for m T)) (sym e.commands_are)
         ∙ ap (λ (l : List ℕ). filter (waits cs') l) (sym (for-silent T entries (asides_silent entries e.asides) m))
-    waiting_kept (Unanswering e) =
+    waiting_kept (Unanswering e same) =
         let one = opened_is cs nodes owns orders e.node e.command e.opened in
         subst (λ (es : List Entry). AreWaiting (T ++ es) cs' nodes') (sym e.entries_are)
         (less cs' nodes' (T ++ Out e.command ended.Unanswered ∷ e.more) e.node e.command Unanswered one refl e.commands_are (for-ended T e.command ended.Unanswered e.more (asides_silent e.more e.asides))
         (same_waiting nodes' e.node e.command e.nodes_are one (waiting_above cs nodes owns orders e.node e.command e.opened)))
-    waiting_kept (Accepting e) = waiting_taken e
-    waiting_kept (Cancelling e) =
+    waiting_kept (Accepting e same) = waiting_taken e
+    waiting_kept (Cancelling e same) =
         let one = waiting_is cs nodes owns orders e.node e.command e.waits in
         let s = node_of nodes e.node in
         subst (λ (es : List Entry). AreWaiting (T ++ es) cs' nodes') (sym e.entries_are)
         (less cs' nodes' (T ++ Out e.command ended.Cancelled ∷ []) e.node e.command Cancelled one refl e.commands_are (for-ended T e.command ended.Cancelled [] tt)
         (node_waiting nodes' e.node e.command (after_cancel s e.command) e.nodes_are one (others_without e.command s.waiting (rises-right s.book.commands s.waiting (orders e.node).rise))))
-    waiting_kept (Beginning e) =
+    waiting_kept (Beginning e same) =
         let s = node_of nodes e.node in
         let one = oldest_is cs nodes owns orders e.node e.some_wait in
         subst (λ (es : List Entry). AreWaiting (T ++ es) cs' nodes') (sym e.entries_are)
         (less cs' nodes' (T ++ Begin e.node (begun_of s.book + 1) (oldest s) ∷ []) e.node (oldest s) Begun one refl e.commands_are (for-begun T e.node (begun_of s.book + 1) (oldest s))
         (node_waiting nodes' e.node (oldest s) (after_begin s) e.nodes_are one (others_first s.waiting e.some_wait (rises-right s.book.commands s.waiting (orders e.node).rise))))
-    waiting_kept (Finishing e) =
+    waiting_kept (Finishing e same) =
         let one = opened_is cs nodes owns orders e.node e.command e.opened in
         let s = node_of nodes e.node in
         let made = settings_with e.status (command_at cs e.command) in

@@ -10,6 +10,8 @@ use Rattle.zw_text.specs.Transcript.{accepted_numbers, sessions, outcome}
 use Rattle.zw_laws.specs.Commands.{is_waiting}
 use Rattle.zw_laws.specs.Lists.{EachAfter, Rises}
 use Rattle.zw_laws.specs.Sessions.{IsFinal}
+use Rattle.zw_base.specs.declared.property.Property.{Property}
+use Rattle.value_store.specs.Values.{stored_of}
 use Rattle.supervision.specs.Host.{open_session}
 use Rattle.host_node.specs.State.{NodeState}
 use Rattle.host_nodes.specs.State.{node_of}
@@ -19,27 +21,9 @@ use Rattle.host_events.specs.Events.{HostEvent}
 use Rattle.host_events.specs.Did.{after_all, MayAll}
 use Rattle.host_events.specs.Facts.{HostFacts}
 use Rattle.host_facts.specs.Entries.{entries_all}
+use Rattle.host_facts.specs.Tables.{outcome_in, nodes_by, recorded, taken_at}
+use Rattle.host_facts.specs.Stores.{AreStored, AreConfirmed}
 use Rattle.host_facts.specs.Laws.{accepted_for, numbers_for, waiting_for, IsUnderWay, MayStand}
-
--- ---- tables
-
--- what became of the command of a number, and Waiting where no command has it
-abbrev pub outcome_by : Option Command → Outcome
-outcome_by None = Waiting
-outcome_by (Some command) = command.outcome
-
-abbrev pub outcome_in : List Command → ℕ → Outcome
-outcome_in commands number = outcome_by (command_at commands number)
-
--- the node of a command, where there is one
-abbrev pub nodes_by : Option Command → List ℕ
-nodes_by None = []
-nodes_by (Some command) = command.order.node ∷ []
-
--- an outcome as the records tell it: that nobody answered yet is not kept
-abbrev pub recorded : Outcome → Outcome
-recorded Unanswered = Begun
-recorded outcome = outcome
 
 -- ---- families
 
@@ -80,6 +64,8 @@ pub record Facts (transcript : List Entry) (h : HostState) : Type 0 where
   pub entered : AreEntered transcript h.commands
   pub waiting : AreWaiting transcript h.commands h.nodes
   pub in_order : (node : ℕ) → IsInOrder h.commands (node_of h.nodes node)
+  pub stored : AreStored transcript h.commands
+  pub confirmed : AreConfirmed h.commands h.nodes h.store
   pub stand : EachAfter MayStand [] transcript
 
 -- ---- what follows
@@ -98,16 +84,17 @@ AreTold transcript h = (number : ℕ) → outcome number transcript ≡ outcome_
 
 -- ---- restarts
 
--- A host that starts from what another recorded: it has the orders, the commands that wait and the sessions of the other, and the
--- outcomes as they were recorded.
+-- A host that starts from what another recorded: it has the orders, the commands that wait, the sessions and the confirmed values of the
+-- other, and the outcomes as they were recorded.
 pub record StartsAs (old new : HostState) : Type 0 where
   pub host : HostFacts new
   pub count : length new.commands ≡ length old.commands
-  pub nodes : (number : ℕ) → nodes_by (command_at new.commands number) ≡ nodes_by (command_at old.commands number)
+  pub taken : (number : ℕ) → taken_at new.commands number ≡ taken_at old.commands number
   pub outcomes : (number : ℕ) → outcome_in new.commands number ≡ recorded (outcome_in old.commands number)
   pub begun : (node : ℕ) → (node_of new.nodes node).book.commands ≡ (node_of old.nodes node).book.commands
   pub opened : (node : ℕ) → open_session (node_of new.nodes node).book ≡ open_session (node_of old.nodes node).book
   pub waiting : (node : ℕ) → (node_of new.nodes node).waiting ≡ (node_of old.nodes node).waiting
+  pub confirmed : (node : ℕ) (property : Property) → (stored_of new.store node property).confirmed ≡ (stored_of old.store node property).confirmed
 
 -- events of a host, and the host that then starts from its records
 pub record Run : Type 0 where

@@ -11,6 +11,7 @@ ghost use Rattle.host_events.specs.Did.{after_all, MayAll};
 ghost use Rattle.host_facts.specs.Entries.{IsAside, entries_at, entries_all};
 ghost use Rattle.host_facts.specs.Facts.{AreRuns, AreShown, AreTold, Facts, Run, StartsAs, entries_of_runs, last_of_runs};
 ghost use Rattle.host_facts.specs.Laws.{HostLaws};
+ghost use Rattle.host_facts.specs.Stores.{StoresLaw};
 
 use host_events::facts_are_kept;
 use host_node::a_restart_needs_the_records_alone;
@@ -54,17 +55,20 @@ pub fn restarts_keep_facts()
     a_restart_needs_the_records_alone();
 }
 
-/// Where the facts hold, the transcript keeps the laws, and shows the tables of the host.
+/// Where the facts hold, the transcript keeps the laws and shows the tables of the host, and the confirmed values are those of its
+/// successful commands.
 pub fn laws_follow()
     ensures laws { (past : List Entry) (h : HostState) → Facts past h → HostLaws past }
     ensures tables { (past : List Entry) (h : HostState) → Facts past h → AreShown past h }
+    ensures stores { (past : List Entry) (h : HostState) → Facts past h → StoresLaw past h }
 {}
 
-/// So whatever happens to a host from its beginning, over any restarts, its transcript keeps the laws and shows its tables; and until the
-/// first restart it shows each outcome whole.
+/// So whatever happens to a host from its beginning, over any restarts, its transcript keeps the laws and shows its tables and its
+/// confirmed values; and until the first restart it shows each outcome whole.
 pub fn hosts_keep_laws()
     ensures laws { (keys : Keys) (runs : List Run) → AreRuns (first_host keys) runs → HostLaws (entries_of_runs (first_host keys) runs) }
     ensures tables { (keys : Keys) (runs : List Run) → AreRuns (first_host keys) runs → AreShown (entries_of_runs (first_host keys) runs) (last_of_runs (first_host keys) runs) }
+    ensures stores { (keys : Keys) (runs : List Run) → AreRuns (first_host keys) runs → StoresLaw (entries_of_runs (first_host keys) runs) (last_of_runs (first_host keys) runs) }
     ensures run { (keys : Keys) (events : List HostEvent) → MayAll (first_host keys) events → HostLaws (entries_all (first_host keys) events) }
     ensures told { (keys : Keys) (events : List HostEvent) → MayAll (first_host keys) events → AreTold (entries_all (first_host keys) events) (after_all (first_host keys) events) }
 {
