@@ -1,0 +1,5 @@
+pub mod Entries
+pub mod Laws
+pub mod Tables
+pub mod Stores
+pub mod Facts

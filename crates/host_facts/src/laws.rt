@@ -1,0 +1,80 @@
+//! The laws of a host alone.
+
+ghost use Rattle.std.specs.Prelude.{◌≡◌, ℕ, List, [], ◌∷◌, ◌++◌};
+ghost use Rattle.s0_crypto.specs.declared.key_pair.Keys.{Keys};
+ghost use Rattle.zw_text.specs.declared.entry.Entry.{Entry};
+ghost use Rattle.host_events.specs.State.{HostState, first_host};
+ghost use Rattle.host_events.specs.Events.{HostEvent};
+ghost use Rattle.host_events.specs.After.{after};
+ghost use Rattle.host_events.specs.May.{May};
+ghost use Rattle.host_events.specs.Did.{after_all, MayAll};
+ghost use Rattle.host_facts.specs.Entries.{IsAside, entries_at, entries_all};
+ghost use Rattle.host_facts.specs.Facts.{AreRuns, AreShown, AreTold, Facts, Run, StartsAs, entries_of_runs, last_of_runs};
+ghost use Rattle.host_facts.specs.Laws.{HostLaws};
+ghost use Rattle.host_facts.specs.Stores.{StoresLaw};
+
+use host_events::facts_are_kept;
+use host_node::a_restart_needs_the_records_alone;
+
+/// Before anything happens the facts hold of an empty transcript.
+pub fn first_facts_hold()
+    ensures { (keys : Keys) → Facts [] (first_host keys) }
+{
+    facts_are_kept();
+}
+
+/// Each event that may happen keeps the facts, and events one after another do.
+pub fn events_keep_facts()
+    ensures each { (past : List Entry) (h : HostState) (event : HostEvent) → Facts past h → May h event → Facts (past ++ entries_at h event) (after h event) }
+    ensures all { (past : List Entry) (h : HostState) (events : List HostEvent) → Facts past h → MayAll h events → Facts (past ++ entries_all h events) (after_all h events) }
+{
+    facts_are_kept();
+    a_restart_needs_the_records_alone();
+}
+
+/// Until the host starts again, the outcome that it has of each command is the one that was entered last.
+pub fn outcomes_are_told()
+    ensures each { (past : List Entry) (h : HostState) (event : HostEvent) → Facts past h → AreTold past h → May h event → AreTold (past ++ entries_at h event) (after h event) }
+    ensures all { (past : List Entry) (h : HostState) (events : List HostEvent) → Facts past h → AreTold past h → MayAll h events → AreTold (past ++ entries_all h events) (after_all h events) }
+{
+    facts_are_kept();
+    a_restart_needs_the_records_alone();
+}
+
+/// An entry that is not of commands or confirmed values keeps them, whoever enters it.
+pub fn asides_keep_facts()
+    ensures { (past : List Entry) (h : HostState) (entry : Entry) → Facts past h → IsAside entry → Facts (past ++ entry ∷ []) h }
+{}
+
+/// A host that starts from what another recorded goes on with the facts of the other; and so do runs of hosts, one after another.
+pub fn restarts_keep_facts()
+    ensures one { (past : List Entry) (old new : HostState) → Facts past old → StartsAs old new → Facts past new }
+    ensures runs { (past : List Entry) (h : HostState) (runs : List Run) → Facts past h → AreRuns h runs → Facts (past ++ entries_of_runs h runs) (last_of_runs h runs) }
+{
+    facts_are_kept();
+    a_restart_needs_the_records_alone();
+}
+
+/// Where the facts hold, the transcript keeps the laws and shows the tables of the host, and the confirmed values are those of its
+/// successful commands.
+pub fn laws_follow()
+    ensures laws { (past : List Entry) (h : HostState) → Facts past h → HostLaws past }
+    ensures tables { (past : List Entry) (h : HostState) → Facts past h → AreShown past h }
+    ensures stores { (past : List Entry) (h : HostState) → Facts past h → StoresLaw past h }
+{}
+
+/// So whatever happens to a host from its beginning, over any restarts, its transcript keeps the laws and shows its tables and its
+/// confirmed values; and until the first restart it shows each outcome whole.
+pub fn hosts_keep_laws()
+    ensures laws { (keys : Keys) (runs : List Run) → AreRuns (first_host keys) runs → HostLaws (entries_of_runs (first_host keys) runs) }
+    ensures tables { (keys : Keys) (runs : List Run) → AreRuns (first_host keys) runs → AreShown (entries_of_runs (first_host keys) runs) (last_of_runs (first_host keys) runs) }
+    ensures stores { (keys : Keys) (runs : List Run) → AreRuns (first_host keys) runs → StoresLaw (entries_of_runs (first_host keys) runs) (last_of_runs (first_host keys) runs) }
+    ensures run { (keys : Keys) (events : List HostEvent) → MayAll (first_host keys) events → HostLaws (entries_all (first_host keys) events) }
+    ensures told { (keys : Keys) (events : List HostEvent) → MayAll (first_host keys) events → AreTold (entries_all (first_host keys) events) (after_all (first_host keys) events) }
+{
+    first_facts_hold();
+    events_keep_facts();
+    outcomes_are_told();
+    restarts_keep_facts();
+    laws_follow();
+}
