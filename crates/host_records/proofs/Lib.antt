@@ -1,0 +1,10 @@
+mod Rising
+mod Ended
+mod Opened
+mod Places
+mod Numbered
+mod Outcomes
+mod Values
+mod Once
+mod Confirmed
+mod Counts
