@@ -8,3 +8,6 @@ mod Values
 mod Once
 mod Confirmed
 mod Counts
+mod Going
+mod Removed
+mod Steps

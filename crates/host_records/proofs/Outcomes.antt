@@ -96,7 +96,7 @@ cancels_stay commands cancelled command what new old all number = elim (cases_eq
 pub among_more : (numbers : List ℕ) (last number : ℕ) → is_among (numbers ++ last ∷ []) number ≡ (is_among numbers number || (last == number || false))
 among_more numbers last number = list_any-append (λ other. other == number) numbers (last ∷ [])
 
-apart_is : (a b : ℕ) → (b ≡ a → ⊥) → (a == b) ≡ false
+pub apart_is : (a b : ℕ) → (b ≡ a → ⊥) → (a == b) ≡ false
 apart_is a b other = by (a == b) refl
   where
     by : (t : Bool) → (a == b) ≡ t → t ≡ false
