@@ -11,3 +11,8 @@ mod Counts
 mod Going
 mod Removed
 mod Steps
+mod Begun
+mod Cancelled
+mod Finished
+mod Taken
+mod Events
