@@ -1,5 +1,5 @@
 -- A session begins.
-use Rattle.std.proofs.Common.{◌≡◌, ℕ, ◌+◌, ◌<◌, ◌==◌, ◌||◌, Bool, true, false, if◌then◌else◌, List, [], ◌∷◌, ◌++◌, length, drop, get_or, set, Option, Some, None, option_map, inl, inr, refl, sym, ap, ◌∙◌, subst, append_assoc}
+use Rattle.std.proofs.Common.{◌≡◌, ℕ, ◌||◌, Bool, true, false, if◌then◌else◌, List, [], ◌∷◌, ◌++◌, drop, get_or, set, Option, Some, None, option_map, refl, sym, ap, ◌∙◌, subst, append_assoc}
 use Rattle.std.proofs.lemmas.Bool.{eq-eqb}
 use Rattle.std.proofs.lemmas.List.{length-set}
 use Rattle.zw_base.specs.declared.property.Property.{Property}
@@ -11,10 +11,10 @@ use Rattle.value_store.specs.Values.{stored_of}
 use Rattle.host_node.specs.State.{NodeState, unknown}
 use Rattle.host_node.specs.Steps.{after_begin}
 use Rattle.host_node.specs.Events.NodeEvent.{Begins as node_begins}
-use Rattle.host_keep.specs.Kept.{Kept, KeptNode, Session, blank_node, node_of as kept_of_node, with_node as with_kept_node, beginning, is_among, confirmed_in}
+use Rattle.host_keep.specs.Kept.{Kept, KeptNode, blank_node, node_of as kept_of_node, with_node as with_kept_node, beginning, is_among, confirmed_in}
 use Rattle.host_keep.specs.Status.{status_byte}
 use Rattle.host_keep.specs.declared.final_status.FinalStatus.{FinalStatus}
-use Rattle.host_events.specs.State.{HostState, Command, node_of, command_at, with_outcome}
+use Rattle.host_events.specs.State.{HostState, node_of, command_at, with_outcome}
 use Rattle.host_events.specs.After.{node_does}
 use Rattle.host_events.specs.Facts.{IsCommandOf}
 use Rattle.host_records.specs.Holding.{HoldsNode, Holds, Rise, commands_of, ended_in, outcome_by, outcome_kept, as_kept, is_cancelled, is_one_cancelled}

@@ -1,5 +1,5 @@
 -- A command that waits is cancelled.
-use Rattle.std.proofs.Common.{◌≡◌, ℕ, ◌+◌, ◌<◌, ◌==◌, Bool, true, false, if◌then◌else◌, List, [], ◌∷◌, ◌++◌, length, get_or, set, Option, Some, None, option_map, refl, sym, ap, ◌∙◌, subst}
+use Rattle.std.proofs.Common.{◌≡◌, ℕ, true, List, [], ◌∷◌, ◌++◌, set, Option, Some, None, option_map, refl, sym, ap, ◌∙◌, subst}
 use Rattle.std.proofs.lemmas.List.{length-set}
 use Rattle.zw_base.specs.declared.property.Property.{Property}
 use Rattle.zw_text.specs.declared.entry.Outcome.{Outcome}
@@ -14,7 +14,7 @@ use Rattle.host_keep.specs.Kept.{Kept, KeptNode, Taken, blank_node, node_of as k
 use Rattle.host_events.specs.State.{HostState, Command, node_of, command_at, with_outcome}
 use Rattle.host_events.specs.After.{node_does, node_with, node_for}
 use Rattle.host_events.specs.Facts.{IsCommandOf}
-use Rattle.host_records.specs.Holding.{HoldsNode, Holds, Rise, commands_of, ended_in, outcome_kept, as_kept, taken_as}
+use Rattle.host_records.specs.Holding.{HoldsNode, Holds, Rise, commands_of, as_kept, taken_as}
 use Rattle.host_records.proofs.Rising.{rise-right, rise-without, not_sooner}
 use Rattle.host_records.proofs.Ended.{not_begun}
 use Rattle.host_records.proofs.Places.{both_set, one_set}

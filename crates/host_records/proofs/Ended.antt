@@ -1,8 +1,8 @@
 -- Sessions, one more and one that ends: how each command ended, and which are open.
-use Rattle.std.proofs.Common.{◌≡◌, ℕ, ◌==◌, ◌||◌, Bool, true, false, if◌then◌else◌, List, [], ◌∷◌, ◌++◌, length, map, Option, Some, None, option_map, refl, sym, ap, ◌∙◌}
+use Rattle.std.proofs.Common.{◌≡◌, ℕ, ◌==◌, ◌||◌, Bool, true, false, if◌then◌else◌, List, [], ◌∷◌, ◌++◌, Option, Some, None, refl, ap, ◌∙◌}
 use Rattle.std.specs.Option.{option_or}
 use Rattle.std.proofs.lemmas.Bool.{eq-eqb}
-use Rattle.host_keep.specs.Kept.{Session, is_among, is_open, ending}
+use Rattle.host_keep.specs.Kept.{Session, is_among, ending}
 use Rattle.host_keep.specs.declared.final_status.FinalStatus.{FinalStatus}
 use Rattle.host_records.specs.Holding.{last_ended, commands_of, ended_in}
 

@@ -1,60 +1,47 @@
 -- Each event of a host does to its tables what its records do.
-use Rattle.std.proofs.Common.{◌≡◌, ℕ, zero, suc, ◌+◌, ◌-◌, ◌<◌, ◌≤◌, ◌==◌, ◌&&◌, Bool, true, false, cond, if◌then◌else◌, is_some, unwrap_or, IsTrue, IsSome, List, [], ◌∷◌, ◌++◌, length, drop, get_or, set, Option, Some, None, All, inl, inr, refl, sym, ap, ◌∙◌, subst, arith}
+use Rattle.std.proofs.Common.{◌≡◌, ℕ, zero, suc, ◌+◌, ◌<◌, ◌==◌, ◌&&◌, Bool, true, false, cond, if◌then◌else◌, is_some, List, [], ◌∷◌, length, drop, get_or, Option, Some, None, option_map, All, inl, inr, refl, sym, ap, ◌∙◌, subst, arith}
 use Rattle.std.specs.Prelude.{slice_get, Contains}
 use Rattle.std.specs.FinMap as finmap
 use Rattle.std.proofs.lemmas.Bool.{cases_eq, eqb-true, eq-eqb}
-use Rattle.std.proofs.lemmas.List.Elements.{All-head, All-tail, All-contains}
+use Rattle.std.proofs.lemmas.List.Elements.{All-head, All-tail}
 use Rattle.std.proofs.lemmas.List.Folds.{list_any_at}
 use Rattle.zw_base.specs.PropertyOrder.{same_property}
-use Rattle.zw_base.specs.declared.property.Property.{Property}
 use Rattle.zw_base.specs.declared.property.Setting.{Setting}
 use Rattle.zw_order.specs.declared.order.Order.{Order}
 use Rattle.zw_text.specs.declared.entry.Outcome.TheVariants as outcome
-use Rattle.supervision.specs.Host.{open_session, told_of, command_at as command_of_session}
-use Rattle.supervision.specs.declared.host_node.Told.{Told}
-use Rattle.serial_link.specs.State.{hear, tick_side}
+use Rattle.supervision.specs.Host.{open_session, command_at as command_of_session}
 use Rattle.s0_session.specs.Nonces.{account_of, live_of, given_of, given_from, answer_from, new_nonce, after_give}
 use Rattle.value_store.specs.declared.stored.Stored.{Stored}
-use Rattle.value_store.specs.Values.{IsReserved, stored_of}
+use Rattle.value_store.specs.Values.{stored_of}
 use Rattle.host_orders.specs.Wrapping.{carriage_of}
 use Rattle.host_orders.specs.declared.carriage.Carriage.{Carriage}
-use Rattle.host_requests.specs.declared.end.End.{End}
-use Rattle.host_requests.specs.declared.end.How.{How}
-use Rattle.host_requests.specs.declared.task.Purpose.{Purpose}
-use Rattle.host_requests.specs.declared.task.Purpose.TheVariants.{Housekeeping, Attempt, Abort}
 use Rattle.host_requests.specs.declared.task.Task.{Task}
-use Rattle.host_requests.specs.declared.task.Task.TheVariants.{NoMore, Offer, Segment}
-use Rattle.host_requests.specs.Events.{RequestsEvent, end_at, after as after_request}
-use Rattle.host_requests.specs.Events.RequestsEvent.{Fails as request_fails, Pushes as request_pushes, BeginsAttempt as request_begins_attempt, Updates as request_updates}
-use Rattle.host_node.specs.declared.attempt.Moment.{Moment}
-use Rattle.host_node.specs.declared.attempt.Moment.TheVariants.{BeforeItsTick}
+use Rattle.host_requests.specs.declared.task.Task.TheVariants.{Offer}
+use Rattle.host_requests.specs.Events.{after as after_request}
+use Rattle.host_requests.specs.Events.RequestsEvent.{Pushes as request_pushes}
 use Rattle.host_node.specs.declared.attempt.AttemptEnd.{AttemptEnd}
 use Rattle.host_node.specs.declared.attempt.AttemptEnd.TheVariants.{NoneRan, Again, Unanswered}
 use Rattle.host_node.specs.State.{NodeState}
-use Rattle.host_node.specs.Steps.{as_recorded, attempt_end, tick_end, after_join, after_interview, after_nonce}
-use Rattle.host_node.specs.Facts.{is_recorded, is_final}
+use Rattle.host_node.specs.Steps.{as_recorded, after_nonce}
+use Rattle.host_node.specs.Facts.{is_recorded}
 use Rattle.host_node.specs.Events.{NodeEvent, after as after_node}
-use Rattle.host_node.specs.Events.NodeEvent.{Accepts as node_accepts, Blocks as node_blocks, Drops_no_more as node_drops_no_more, Ends_attempt as node_ends_attempt, Ends_no_more as node_ends_no_more, Gives_segment as node_gives_segment, Gives_text as node_gives_text, Holds as node_holds, Joins as node_joins, Interviews as node_interviews, Notifies as node_notifies, Puts as node_puts, Queues_no_more as node_queues_no_more, Reports as node_reports, Starts as node_starts, Succeeds as node_succeeds, Takes_nonce as node_takes_nonce, Ticks as node_ticks}
-use Rattle.host_keep.specs.Kept.{Kept, KeptNode, Taken, Interview, node_of as kept_of_node, with_node as with_kept_node, joining, interviewed, seeing, is_among, classes_said, listed_by, after_all as kept_after_all, after as kept_after}
-use Rattle.host_keep.specs.Status.{status_byte}
+use Rattle.host_node.specs.Events.NodeEvent.{Accepts as node_accepts, Takes_nonce as node_takes_nonce}
+use Rattle.host_keep.specs.Kept.{Kept, KeptNode, Taken, Interview, node_of as kept_of_node, with_node as with_kept_node, seeing, taking, is_among, classes_said, listed_by, after_all as kept_after_all}
 use Rattle.host_keep.specs.declared.record.Record.TheVariants.{Seen}
-use Rattle.host_events.specs.State.{HostState, Command, node_of, with_node, command_at, with_outcome}
+use Rattle.host_events.specs.State.{HostState, Command, node_of, command_at, with_outcome}
 use Rattle.host_events.specs.Sessions.{open_command, command_by}
-use Rattle.host_events.specs.Ends.{PartEnd, Good, Passed_over, Bad, part_end, after_part, after_task, after_end, after_end_if, attempt_ended, unanswered}
-use Rattle.host_events.specs.After.{after, node_does, node_for, requests_do, request_does, submits, submits_part, is_full, queues_if_room, hearing, accepting, is_held, holding, finishing, giving, offering, spending, gives_up, line_ticked, failing_if}
-use Rattle.host_events.specs.Events.{HostEvent, Accepts, Cancels, Joins, Queues, Queues_interview, Queues_probe, Hears, Requests_do, Interviews, Interview_unkept, Unreads, Is_unkept, Reports_old, Works, Finishes, Offers, Gives, Spends, Spends_unread, Takes_nonce, Notifies, Resends, Hears_value, Has_no_room, Line_ticks, Node_ticks, Queues_no_more, Drops_no_more, Submits_abort, Submits_front, Starts, Gives_text, Gives_segment, Begins, Begin_unkept}
-use Rattle.host_events.specs.Records.{records_at, seen_records}
-use Rattle.host_events.specs.May.{May, IsAccepted}
-use Rattle.host_events.specs.Facts.{HostFacts, IsCommandOf, OwnsCommands}
-use Rattle.host_records.specs.Holding.{HoldsNode, Holds, outcome_kept, as_kept, taken_as}
-use Rattle.host_records.proofs.Going.{IsGoing, going_of, final_session}
+use Rattle.host_events.specs.Ends.{attempt_ended, unanswered}
+use Rattle.host_events.specs.After.{node_does, requests_do, is_full, queues_if_room, hearing, accepting, giving, offering, spending}
+use Rattle.host_events.specs.Records.{seen_records}
+use Rattle.host_events.specs.Facts.{IsCommandOf, OwnsCommands}
+use Rattle.host_records.specs.Holding.{Holds, outcome_kept, as_kept, taken_as}
+use Rattle.host_records.proofs.Going.{going_of}
 use Rattle.host_records.proofs.Numbered.{changed, with_same, with_other, taken_with}
 use Rattle.host_records.proofs.Outcomes.{Outcomes, cancels_stay}
 use Rattle.host_records.proofs.Values.{confirmed-hearing, get-one}
-use Rattle.host_records.proofs.Steps.{quiet, alike, node_only, node_changes, account_changes, joined, interview_said, saw, account_is, within_by}
-use Rattle.host_records.proofs.Begun.{begun, not_cancelled}
-use Rattle.host_records.proofs.Cancelled.{cancelled_is}
-use Rattle.host_records.proofs.Finished.{going_is_begun, finished, found_sound}
+use Rattle.host_records.proofs.Steps.{quiet, alike, node_only, node_changes, account_changes, saw, account_is, within_by}
+use Rattle.host_records.proofs.Begun.{not_cancelled}
+use Rattle.host_records.proofs.Finished.{going_is_begun}
 use Rattle.host_records.proofs.Taken.{taken_holds, waiting_as}
 
 -- ---- lists
@@ -99,8 +86,8 @@ module _ (h : HostState) (kept : Kept) (n command : ℕ) (owned : IsCommandOf h.
   said_so number one found = elim (cases_eq number command) [
     | inl same ↦
         let now : changed outcome.Unanswered owned.command ≡ one = some_is (changed outcome.Unanswered owned.command) one
-            (sym (ap (λ (o : Option Command). Rattle.std.specs.Prelude.option_map (changed outcome.Unanswered) o) owned.found) ∙ sym (with_same h.commands command outcome.Unanswered)
-            ∙ ap (λ (k : ℕ). command_at (with_outcome h.commands command outcome.Unanswered) k) (sym same) ∙ found) in
+        (sym (ap (λ (o : Option Command). option_map (changed outcome.Unanswered) o) owned.found) ∙ sym (with_same h.commands command outcome.Unanswered)
+        ∙ ap (λ (k : ℕ). command_at (with_outcome h.commands command outcome.Unanswered) k) (sym same) ∙ found) in
         ap (λ (c : Command). as_kept c.outcome) (sym now) ∙ sym begun_so ∙ ap (λ (k : ℕ). outcome_kept (kept_of_node kept n) k) (sym same)
         ∙ ap (λ (m : ℕ). outcome_kept (kept_of_node kept m) number) (sym (ap (λ (c : Command). c.order.node) (sym now) ∙ owned.node))
     | inr other ↦ x.outcomes number one (sym (with_other h.commands command number outcome.Unanswered other) ∙ found)
@@ -123,7 +110,7 @@ pub record IsBegun (h : HostState) (kept : Kept) (n command : ℕ) : Type 0 wher
   pub owned : IsCommandOf h.commands n command
   pub begun : outcome_kept (kept_of_node kept n) command ≡ outcome.Begun
 
-open_fact : (h : HostState) (kept : Kept) (n : ℕ) → OwnsCommands h.commands n (node_of h n) → Holds h kept → (command : ℕ) → open_command (node_of h n) ≡ Some command → IsBegun h kept n command
+pub open_fact : (h : HostState) (kept : Kept) (n : ℕ) → OwnsCommands h.commands n (node_of h n) → Holds h kept → (command : ℕ) → open_command (node_of h n) ≡ Some command → IsBegun h kept n command
 open_fact h kept n owns x command e = by (open_session (node_of h n).book) refl e
   where
     none : None ≡ Some command → ⊥
@@ -139,7 +126,7 @@ no_answer_if : (h : HostState) (kept : Kept) (n : ℕ) (o : Option ℕ) → ((co
 no_answer_if h kept n None known x = x
 no_answer_if h kept n (Some command) known x = let b = known command refl in no_answer h kept n command b.owned b.begun x
 
-attempt_over : (h : HostState) (kept : Kept) (n : ℕ) (end : AttemptEnd) (o : Option ℕ) → ((command : ℕ) → o ≡ Some command → IsBegun h kept n command) → Holds h kept → Holds (attempt_ended h end o) kept
+pub attempt_over : (h : HostState) (kept : Kept) (n : ℕ) (end : AttemptEnd) (o : Option ℕ) → ((command : ℕ) → o ≡ Some command → IsBegun h kept n command) → Holds h kept → Holds (attempt_ended h end o) kept
 attempt_over h kept n NoneRan o known x = x
 attempt_over h kept n Again o known x = x
 attempt_over h kept n (Unanswered fell) o known x = no_answer_if h kept n o known x
@@ -159,7 +146,7 @@ offered h kept n (Some nonce) x = queued h kept (Offer n nonce) x
 
 -- ---- values that are heard
 
-heard : (h : HostState) (kept : Kept) (n : ℕ) (s : Setting) → Holds h kept → Holds (record h { store = hearing h.store n s }) kept
+pub heard : (h : HostState) (kept : Kept) (n : ℕ) (s : Setting) → Holds h kept → Holds (record h { store = hearing h.store n s }) kept
 heard h kept n s x = record {
   places = x.places;
   nodes = x.nodes;
@@ -199,7 +186,7 @@ spent h kept n x =
     account_changes h kept n (record (kept_of_node kept n) { live = None }) refl refl x (record (account_of h.nonces n) { live = None })
     (record { joined = y.joined; listens = y.listens; classes = y.classes; waiting = y.waiting; sessions = y.sessions; ended = y.ended; given = y.given; live = refl; seen = y.seen })
 
-sees : (h : HostState) (kept : Kept) (n seen : ℕ) (text : List ℕ) → Holds h kept → Holds (node_does h n (node_takes_nonce seen text)) (kept_after_all kept (seen_records h n seen))
+pub sees : (h : HostState) (kept : Kept) (n seen : ℕ) (text : List ℕ) → Holds h kept → Holds (node_does h n (node_takes_nonce seen text)) (kept_after_all kept (seen_records h n seen))
 unfolding kept_after_all
 sees h kept n seen text x = by ((node_of h n).seen == seen) refl
   where
@@ -227,7 +214,7 @@ module _ (others : (n : NodeState) (event : NodeEvent) → is_recorded n event �
       (alike (node_of h n) (after_node (node_of h n) event) (account_of h.nonces n) (kept_of_node kept n) (others (node_of h n) event e) (x.nodes n)) x
 
   pub accepted : (h : HostState) (kept : Kept) (order : Order) (carriage : Carriage) (classes : List ℕ) → (node_of h order.node).classes ≡ Some classes → carriage ≡ carriage_of classes order
-      → ((n : ℕ) → OwnsCommands h.commands n (node_of h n)) → Holds h kept → Holds (accepting h order carriage) (Rattle.host_keep.specs.Kept.taking kept (length h.commands + 1) order)
+      → ((n : ℕ) → OwnsCommands h.commands n (node_of h n)) → Holds h kept → Holds (accepting h order carriage) (taking kept (length h.commands + 1) order)
   accepted h kept order carriage classes listed carried owns x =
       let taken : Taken = record { order = order; carriage = carriage_of (listed_by (kept_of_node kept order.node).interview) order } in
       let said : listed_by (kept_of_node kept order.node).interview ≡ classes = classes_are (kept_of_node kept order.node).interview classes (sym (x.nodes order.node).classes ∙ listed) in

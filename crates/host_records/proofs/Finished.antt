@@ -1,13 +1,11 @@
 -- A session ends.
-use Rattle.std.proofs.Common.{◌≡◌, ℕ, zero, suc, ◌+◌, ◌<◌, ◌==◌, Bool, true, false, if◌then◌else◌, is_some, IsTrue, List, [], ◌∷◌, ◌++◌, length, get_or, set, Option, Some, None, option_map, All, inl, inr, refl, sym, ap, ◌∙◌, subst}
+use Rattle.std.proofs.Common.{◌≡◌, ℕ, zero, suc, ◌<◌, ◌==◌, Bool, false, if◌then◌else◌, is_some, List, [], ◌∷◌, ◌++◌, length, get_or, set, Option, Some, None, option_map, All, inl, inr, refl, sym, ap, ◌∙◌, subst}
 use Rattle.std.proofs.lemmas.Bool.{cases_eq, eq-eqb}
 use Rattle.std.proofs.lemmas.List.{length-set, get_or-set_same, get_or-set_other}
 use Rattle.std.proofs.lemmas.List.Elements.{All-nil, All-head, All-tail}
 use Rattle.std.specs.Prelude.{slice_get}
 use Rattle.std.specs.FinMap as finmap
 use Rattle.zw_base.specs.declared.property.Property.{Property}
-use Rattle.zw_base.specs.declared.property.Setting.{Setting}
-use Rattle.zw_order.specs.declared.order.Order.{Order}
 use Rattle.zw_text.specs.declared.entry.Outcome.{Outcome}
 use Rattle.zw_text.specs.declared.entry.Outcome.TheVariants as outcome
 use Rattle.supervision.specs.Host.{told_of}
@@ -16,11 +14,11 @@ use Rattle.supervision.specs.declared.host_node.Told.TheVariants.{Final}
 use Rattle.s0_session.specs.declared.account.Account.{Account}
 use Rattle.s0_session.specs.Nonces.{account_of}
 use Rattle.value_store.specs.declared.stored.Stored.{Stored}
-use Rattle.value_store.specs.Values.{Values, IsReserved, stored_of, is_among as is_property_among}
+use Rattle.value_store.specs.Values.{Values, IsReserved, stored_of}
 use Rattle.host_orders.specs.Settings.{settings, properties_of}
 use Rattle.host_node.specs.State.{NodeState, unknown}
 use Rattle.host_node.specs.Steps.{after_report, after_told, with_final}
-use Rattle.host_keep.specs.Kept.{Kept, KeptNode, Taken, Session, blank_node, node_of as kept_of_node, with_node as with_kept_node, finishing as ending_kept, ending, is_among, command_of, value_by, value_ended, or_else, confirmed_in, kept_properties}
+use Rattle.host_keep.specs.Kept.{Kept, KeptNode, Taken, Session, blank_node, node_of as kept_of_node, with_node as with_kept_node, finishing as ending_kept, ending, is_among, command_of, value_by, value_ended, or_else, confirmed_in}
 use Rattle.host_keep.specs.Status.{status_byte}
 use Rattle.host_keep.specs.declared.final_status.FinalStatus.{FinalStatus}
 use Rattle.host_keep.specs.declared.final_status.FinalStatus.TheVariants as final
@@ -35,10 +33,10 @@ use Rattle.host_records.proofs.Going.{IsGoing, ended_in-last}
 use Rattle.host_records.proofs.Places.{both_set, one_set}
 use Rattle.host_records.proofs.Numbered.{taken_with, taken_at}
 use Rattle.host_records.proofs.Outcomes.{Outcomes, outcome_changes, cancels_stay, apart_is}
-use Rattle.host_records.proofs.Values.{reserved-confirming, confirmed-confirming, stored-confirming_other, heard-confirming}
+use Rattle.host_records.proofs.Values.{reserved-confirming, confirmed-confirming, stored-confirming_other}
 use Rattle.host_records.proofs.Once.{settings_once}
 use Rattle.host_records.proofs.Confirmed.{confirmed_in-ending, last_value}
-use Rattle.host_records.proofs.Steps.{within_by_sessions, alike}
+use Rattle.host_records.proofs.Steps.{within_by_sessions}
 use Rattle.host_records.proofs.Begun.{ended_so, alike_so, not_cancelled}
 
 -- ---- the value

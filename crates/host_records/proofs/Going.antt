@@ -1,12 +1,11 @@
 -- The open session of a node, by what is kept of its sessions, and what reports make of it.
-use Rattle.std.proofs.Common.{◌≡◌, ℕ, zero, suc, ◌==◌, Bool, true, false, if◌then◌else◌, List, [], ◌∷◌, ◌++◌, length, Option, Some, None, is_none, option_map, refl, sym, ap, ◌∙◌}
+use Rattle.std.proofs.Common.{◌≡◌, ℕ, zero, suc, ◌==◌, Bool, true, false, if◌then◌else◌, List, [], ◌∷◌, length, Option, Some, None, is_none, option_map, refl, sym, ap, ◌∙◌}
 use Rattle.std.specs.Prelude.{slice_get}
 use Rattle.std.specs.Option.{option_or}
 use Rattle.std.proofs.lemmas.Bool.{eq-eqb}
 use Rattle.supervision.specs.Host.{HostBook, open_session, told_of, command_at as command_of_session}
 use Rattle.supervision.specs.Session.{wire_id}
 use Rattle.supervision.specs.declared.session.TheConstants.{WORKING}
-use Rattle.supervision.specs.declared.host_node.Told.{Told}
 use Rattle.supervision.specs.declared.host_node.Told.TheVariants.{Final, Working, Old}
 use Rattle.host_keep.specs.Kept.{Session, is_open}
 use Rattle.host_keep.specs.Status.{status_byte}
@@ -47,15 +46,17 @@ going_of book [] session command commands outcome opened carried = absurd (never
     never : None ≡ Some session → ⊥
     never e = cc
 going_of book (one ∷ more) session command commands outcome opened carried =
-    let both = if_some (is_open (one ∷ more)) (length (one ∷ more)) session (sym (opened_by book (one ∷ more) commands outcome) ∙ opened) in
-    (record {
-      one = one;
-      more = more;
-      is = refl;
-      going = none_of (last_ended (one ∷ more)) (sym (is_open-last one more) ∙ both.0);
-      last = some_is (sym (last_at one more (length more) refl) ∙ ap (λ (l : List ℕ). command_of_session l (length (one ∷ more))) (sym commands)
-          ∙ ap (λ (k : ℕ). command_of_session book.commands k) both.1 ∙ carried);
-    }, sym both.1)
+    let both = if_some (is_open (one ∷ more)) (length (one ∷ more)) session (sym (opened_by book (one ∷ more) commands outcome) ∙ opened) in (
+      record {
+        one = one;
+        more = more;
+        is = refl;
+        going = none_of (last_ended (one ∷ more)) (sym (is_open-last one more) ∙ both.0);
+        last = some_is (sym (last_at one more (length more) refl) ∙ ap (λ (l : List ℕ). command_of_session l (length (one ∷ more))) (sym commands)
+            ∙ ap (λ (k : ℕ). command_of_session book.commands k) both.1 ∙ carried);
+      },
+      sym both.1,
+    )
   where
     some_is : Some (last_command one more) ≡ Some command → last_command one more ≡ command
     some_is e = cc

@@ -16,3 +16,5 @@ mod Cancelled
 mod Finished
 mod Taken
 mod Events
+mod AllEvents
+mod Beginning

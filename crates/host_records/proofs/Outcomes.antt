@@ -1,9 +1,8 @@
 -- What became of commands, by their numbers, once one of them has another outcome and its node is kept so.
-use Rattle.std.proofs.Common.{◌≡◌, ℕ, ◌<◌, ◌==◌, ◌||◌, Bool, true, false, List, [], ◌∷◌, ◌++◌, length, get_or, set, Option, Some, None, option_map, inl, inr, refl, sym, ap, ◌∙◌, arith}
+use Rattle.std.proofs.Common.{◌≡◌, ℕ, ◌<◌, ◌==◌, ◌||◌, Bool, true, false, List, [], ◌∷◌, ◌++◌, length, get_or, set, Option, Some, None, option_map, inl, inr, refl, sym, ap, ◌∙◌}
 use Rattle.std.proofs.lemmas.Bool.{cases_eq, eq-eqb, eqb-true}
 use Rattle.std.proofs.lemmas.List.{get_or-set_same, get_or-set_other}
 use Rattle.std.proofs.lemmas.List.Folds.{list_any-append}
-use Rattle.zw_order.specs.declared.order.Order.{Order}
 use Rattle.zw_text.specs.declared.entry.Outcome.{Outcome}
 use Rattle.zw_text.specs.declared.entry.Outcome.TheVariants as outcome
 use Rattle.host_keep.specs.Kept.{KeptNode, blank_node, is_among}
@@ -57,8 +56,8 @@ pub outcome_changes : (says : Outcome → Outcome) (commands : List Command) (ke
 outcome_changes says commands keeps n command what node owned within so rest all =
     outcomes_then says commands (with_outcome commands command what) keeps n command node within
     (λ one found.
-        let same : changed what owned.command ≡ one = some_is _ _ (sym (ap (option_map (changed what)) owned.found) ∙ sym (with_same commands command what) ∙ found) in
-        (ap (λ (c : Command). says c.outcome) (sym same) ∙ so, ap (λ (c : Command). c.order.node) (sym same) ∙ owned.node))
+    let same : changed what owned.command ≡ one = some_is _ _ (sym (ap (option_map (changed what)) owned.found) ∙ sym (with_same commands command what) ∙ found) in
+    (ap (λ (c : Command). says c.outcome) (sym same) ∙ so, ap (λ (c : Command). c.order.node) (sym same) ∙ owned.node))
     (λ number other. with_other commands command number what other) rest all
   where
     some_is : (a b : Command) → Some a ≡ Some b → a ≡ b

@@ -1,47 +1,21 @@
 -- What happens to a host and to what is kept of it, part by part.
-use Rattle.std.proofs.Common.{◌≡◌, ℕ, zero, suc, ◌+◌, ◌-◌, ◌<◌, ◌≤◌, ◌==◌, ◌||◌, Bool, true, false, cond, if◌then◌else◌, List, [], ◌∷◌, ◌++◌, length, map, take, drop, get_or, set, is_some, unwrap_or, IsTrue, Option, Some, None, option_map, All, inl, inr, refl, sym, ap, ◌∙◌, subst, arith, append_assoc}
-use Rattle.std.proofs.lemmas.Bool.{cases_eq, cases_lt, eqb-true, eq-eqb}
-use Rattle.std.proofs.lemmas.List.{get_or_past, get_or-set_same, get_or-set_other, length-set, map-append}
-use Rattle.std.proofs.lemmas.List.Elements.{All-nil, All-same, All-contains}
+use Rattle.std.proofs.Common.{◌≡◌, ℕ, ◌<◌, Bool, true, if◌then◌else◌, List, [], ◌∷◌, ◌++◌, length, get_or, set, Option, inl, inr, refl, sym, ap, ◌∙◌, subst}
+use Rattle.std.proofs.lemmas.Bool.{cases_lt}
+use Rattle.std.proofs.lemmas.List.{get_or_past, length-set}
 use Rattle.zw_base.specs.declared.property.Property.{Property}
-use Rattle.zw_base.specs.declared.property.Setting.{Setting}
-use Rattle.zw_order.specs.declared.order.Order.{Order}
-use Rattle.zw_text.specs.declared.entry.Outcome.{Outcome}
 use Rattle.zw_text.specs.declared.entry.Outcome.TheVariants as outcome
-use Rattle.supervision.specs.Host.{HostBook, open_session, told_of, command_at as command_of_session}
-use Rattle.supervision.specs.declared.host_node.Told.{Told}
-use Rattle.supervision.specs.declared.host_node.Told.TheVariants.{Final}
 use Rattle.serial_link.specs.State.{Side}
 use Rattle.s0_session.specs.declared.account.Account.{Account}
 use Rattle.s0_session.specs.Nonces.{account_of, unused}
-use Rattle.value_store.specs.declared.stored.Stored.{Stored}
-use Rattle.value_store.specs.Values.{Values, IsReserved, stored_of, reserving, is_among as is_property_among}
-use Rattle.host_orders.specs.Settings.{settings, properties_of}
+use Rattle.value_store.specs.Values.{stored_of}
 use Rattle.host_requests.specs.State.{RequestsState}
 use Rattle.host_node.specs.State.{NodeState, unknown}
-use Rattle.host_node.specs.Steps.{as_recorded, after_join, after_interview, after_nonce, after_restore_seen, after_put, after_told, with_final}
-use Rattle.host_node.specs.Events.{NodeEvent, after as after_node}
-use Rattle.host_node.specs.Events.NodeEvent.{Begins as node_begins, Cancels as node_cancels, Puts as node_puts}
-use Rattle.host_node.specs.Facts.{is_recorded}
-use Rattle.host_keep.specs.Kept.{Kept, KeptNode, Taken, Session, blank_node, node_of as kept_of_node, with_node as with_kept_node, joining, interviewed, beginning, finishing as ending_kept, giving as giving_kept, spending as spending_kept, seeing, without, is_among, ending, command_of, confirmed_in, value_by, value_ended, or_else, properties_for, kept_properties}
-use Rattle.host_keep.specs.Status.{status_byte}
-use Rattle.host_keep.specs.declared.final_status.FinalStatus.{FinalStatus}
-use Rattle.host_keep.specs.declared.final_status.FinalStatus.TheVariants as final
-use Rattle.host_events.specs.State.{HostState, Command, node_of, with_node, command_at, with_outcome}
-use Rattle.host_events.specs.Sessions.{settings_with}
-use Rattle.host_events.specs.After.{node_does, finishing, outcome_of, confirming}
-use Rattle.host_events.specs.Facts.{IsCommandOf, IsSound}
-use Rattle.host_records.specs.Holding.{HoldsNode, Holds, Rise, listens_said, last_ended, commands_of, taken_as, ended_in, outcome_by, outcome_kept, as_kept, is_cancelled, is_one_cancelled}
-use Rattle.host_records.proofs.Rising.{rise-right, rise-without, not_below, not_later, not_sooner}
-use Rattle.host_records.proofs.Ended.{opening, last_command, commands_of-push, last_ended-push, ended_in-push, commands_of-ending, last_ended-ending, ended_in-ending, not_begun, last_is_among}
-use Rattle.host_records.proofs.Going.{IsGoing, ended_in-last}
+use Rattle.host_node.specs.Steps.{as_recorded, after_join, after_interview, after_restore_seen}
+use Rattle.host_keep.specs.Kept.{Kept, KeptNode, Session, blank_node, node_of as kept_of_node, with_node as with_kept_node, joining, interviewed, seeing, is_among, confirmed_in}
+use Rattle.host_events.specs.State.{HostState, node_of, with_node}
+use Rattle.host_records.specs.Holding.{HoldsNode, Holds, Rise, commands_of, ended_in, outcome_by, outcome_kept, as_kept}
 use Rattle.host_records.proofs.Places.{both_set, one_set}
-use Rattle.host_records.proofs.Numbered.{taken_with, taken_at}
-use Rattle.host_records.proofs.Outcomes.{Outcomes, outcomes_stay, outcome_changes, Cancels, said_cancelled, cancels_stay, cancels_more, apart_is}
-use Rattle.host_records.proofs.Values.{reserved-confirming, confirmed-confirming, stored-confirming_other}
-use Rattle.host_records.proofs.Once.{settings_once}
-use Rattle.host_records.proofs.Confirmed.{confirmed_in-push, confirmed_in-ending, last_value}
-use Rattle.host_records.proofs.Removed.{first_is_each, not_without, among_without}
+use Rattle.host_records.proofs.Outcomes.{outcomes_stay}
 
 -- ---- what is not kept
 
@@ -127,26 +101,58 @@ module _ (h : HostState) (kept : Kept) (n : ℕ) (node : KeptNode) (waiting : no
 
 pub joined : (state : NodeState) (account : Account) (node : KeptNode) → HoldsNode state account node → HoldsNode (after_join state) account (joining node)
 joined state account node x = record {
-  joined = refl; listens = x.listens; classes = x.classes; waiting = x.waiting; sessions = x.sessions; ended = x.ended; given = x.given; live = x.live; seen = x.seen;
+  joined = refl;
+  listens = x.listens;
+  classes = x.classes;
+  waiting = x.waiting;
+  sessions = x.sessions;
+  ended = x.ended;
+  given = x.given;
+  live = x.live;
+  seen = x.seen;
 }
 
 pub interview_said : (state : NodeState) (account : Account) (node : KeptNode) (listens : Bool) (classes : List ℕ) → HoldsNode state account node
     → HoldsNode (after_interview state listens classes) account (interviewed node listens classes)
 interview_said state account node listens classes x = record {
-  joined = x.joined; listens = refl; classes = refl; waiting = x.waiting; sessions = x.sessions; ended = x.ended; given = x.given; live = x.live; seen = x.seen;
+  joined = x.joined;
+  listens = refl;
+  classes = refl;
+  waiting = x.waiting;
+  sessions = x.sessions;
+  ended = x.ended;
+  given = x.given;
+  live = x.live;
+  seen = x.seen;
 }
 
 -- so many nonces were seen, and nothing else that is kept is other
 pub saw : (state new : NodeState) (account : Account) (node : KeptNode) (seen : ℕ) → as_recorded new ≡ as_recorded (after_restore_seen state seen) → HoldsNode state account node
     → HoldsNode new account (seeing node seen)
 saw state new account node seen e x = alike (after_restore_seen state seen) new account (seeing node seen) e (record {
-  joined = x.joined; listens = x.listens; classes = x.classes; waiting = x.waiting; sessions = x.sessions; ended = x.ended; given = x.given; live = x.live; seen = refl;
+  joined = x.joined;
+  listens = x.listens;
+  classes = x.classes;
+  waiting = x.waiting;
+  sessions = x.sessions;
+  ended = x.ended;
+  given = x.given;
+  live = x.live;
+  seen = refl;
 })
 
 pub account_is : (state : NodeState) (account new : Account) (node : KeptNode) (given : ℕ) (live : Option (List ℕ)) → new.given ≡ given → new.live ≡ live → HoldsNode state account node
     → HoldsNode state new (record node { given = given; live = live })
 account_is state account new node given live g l x = record {
-  joined = x.joined; listens = x.listens; classes = x.classes; waiting = x.waiting; sessions = x.sessions; ended = x.ended; given = g; live = l; seen = x.seen;
+  joined = x.joined;
+  listens = x.listens;
+  classes = x.classes;
+  waiting = x.waiting;
+  sessions = x.sessions;
+  ended = x.ended;
+  given = g;
+  live = l;
+  seen = x.seen;
 }
 
 -- ---- which place a node has

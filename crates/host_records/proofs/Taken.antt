@@ -1,5 +1,5 @@
 -- An order is accepted.
-use Rattle.std.proofs.Common.{◌≡◌, ℕ, zero, suc, ◌+◌, ◌<◌, ◌≤◌, ◌==◌, ◌||◌, ◌&&◌, eqb, Bool, true, false, if◌then◌else◌, is_some, unwrap_or, IsTrue, List, [], ◌∷◌, ◌++◌, length, map, get_or, set, Option, Some, None, All, inl, inr, refl, sym, ap, ◌∙◌, subst, arith, append_assoc}
+use Rattle.std.proofs.Common.{◌≡◌, ℕ, suc, ◌+◌, ◌<◌, ◌≤◌, ◌==◌, ◌||◌, ◌&&◌, Bool, true, false, if◌then◌else◌, is_some, IsTrue, List, [], ◌∷◌, ◌++◌, length, set, Some, None, All, inl, inr, refl, sym, ap, ◌∙◌, subst, arith, append_assoc}
 use Rattle.std.specs.Prelude.{slice_get}
 use Rattle.std.specs.List.{flat_map}
 use Rattle.std.specs.FinMap as finmap
@@ -13,7 +13,6 @@ use Rattle.zw_base.specs.declared.property.Property.{Property}
 use Rattle.zw_order.specs.declared.order.Order.{Order}
 use Rattle.zw_text.specs.declared.entry.Outcome.{Outcome}
 use Rattle.zw_text.specs.declared.entry.Outcome.TheVariants as outcome
-use Rattle.s0_session.specs.declared.account.Account.{Account}
 use Rattle.s0_session.specs.Nonces.{account_of}
 use Rattle.value_store.specs.declared.stored.Stored.{Stored}
 use Rattle.value_store.specs.Values.{Values, IsReserved, stored_of, reserving, is_among as is_property_among}
@@ -22,11 +21,11 @@ use Rattle.host_orders.specs.declared.carriage.Carriage.{Carriage}
 use Rattle.host_node.specs.State.{NodeState, unknown}
 use Rattle.host_node.specs.Steps.{after_put}
 use Rattle.host_node.specs.Events.NodeEvent.{Puts as node_puts}
-use Rattle.host_keep.specs.Kept.{Kept, KeptNode, Taken, blank_node, node_of as kept_of_node, is_among, confirmed_in, properties_for}
+use Rattle.host_keep.specs.Kept.{Kept, KeptNode, Taken, blank_node, node_of as kept_of_node, confirmed_in, properties_for}
 use Rattle.host_events.specs.State.{HostState, Command, node_of, command_at}
 use Rattle.host_events.specs.After.{node_does}
 use Rattle.host_events.specs.Facts.{IsCommandOf, OwnsCommands}
-use Rattle.host_records.specs.Holding.{HoldsNode, Holds, Rise, commands_of, ended_in, outcome_kept, as_kept, is_one_cancelled, taken_as}
+use Rattle.host_records.specs.Holding.{HoldsNode, Holds, Rise, commands_of, as_kept, is_one_cancelled, taken_as}
 use Rattle.host_records.proofs.Rising.{rise-push}
 use Rattle.host_records.proofs.Places.{both_set, one_set}
 use Rattle.host_records.proofs.Numbered.{push_other, found_within}
@@ -146,8 +145,8 @@ module _ (h : HostState) (kept : Kept) (order : Order) (carriage : Carriage) (ta
   pub taken_outcomes : (says : Outcome → Outcome) → says outcome.Waiting ≡ outcome.Waiting → Outcomes says h.commands kept.nodes → Outcomes says (h.commands ++ one ∷ []) (set kept.nodes n then_node)
   taken_outcomes says so all = outcomes_then says h.commands (h.commands ++ one ∷ []) kept.nodes n number then_node within
       (λ command found.
-          let same : one ≡ command = some_is one command (sym (pushed_at h.commands one) ∙ found) in
-          (ap (λ (c : Command). says c.outcome) (sym same) ∙ so ∙ sym (waits_so then_node number (among_last node.waiting number)), ap (λ (c : Command). c.order.node) (sym same)))
+      let same : one ≡ command = some_is one command (sym (pushed_at h.commands one) ∙ found) in
+      (ap (λ (c : Command). says c.outcome) (sym same) ∙ so ∙ sym (waits_so then_node number (among_last node.waiting number)), ap (λ (c : Command). c.order.node) (sym same)))
       (λ other apart. push_other h.commands one other apart)
       (λ other apart. alike_so then_node node other (among_other node.waiting number other apart) refl) all
 
@@ -191,7 +190,15 @@ module _ (h : HostState) (kept : Kept) (order : Order) (carriage : Carriage) (ta
 
   put_node : HoldsNode (after_put (node_of h n) number) (account_of h.nonces n) then_node
   put_node = let y = x.nodes n in record {
-    joined = y.joined; listens = y.listens; classes = y.classes; waiting = ap (λ (l : List ℕ). l ++ number ∷ []) y.waiting; sessions = y.sessions; ended = y.ended; given = y.given; live = y.live; seen = y.seen;
+    joined = y.joined;
+    listens = y.listens;
+    classes = y.classes;
+    waiting = ap (λ (l : List ℕ). l ++ number ∷ []) y.waiting;
+    sessions = y.sessions;
+    ended = y.ended;
+    given = y.given;
+    live = y.live;
+    seen = y.seen;
   }
 
   pub taken_holds : Holds (node_does (record h { commands = h.commands ++ one ∷ []; store = store_now }) n (node_puts number)) taken_kept

@@ -1,8 +1,8 @@
 -- Values of properties, where some are reserved, confirmed or heard.
-use Rattle.std.proofs.Common.{◌≡◌, ℕ, zero, suc, ◌+◌, ◌<◌, ◌==◌, ◌||◌, ◌&&◌, Bool, true, false, cond, eqb, if◌then◌else◌, is_some, unwrap_or, IsTrue, List, [], ◌∷◌, length, Option, Some, None, All, inl, inr, refl, sym, ap, ◌∙◌, subst, arith}
+use Rattle.std.proofs.Common.{◌≡◌, ℕ, ◌||◌, ◌&&◌, Bool, true, false, cond, eqb, if◌then◌else◌, is_some, unwrap_or, List, [], ◌∷◌, Option, Some, None, All, refl, sym, ap, ◌∙◌, arith}
 use Rattle.std.specs.declared.cmp.Ordering.{Ordering}
 use Rattle.std.specs.declared.cmp.Ordering.TheVariants.{Less, Equal, Greater}
-use Rattle.std.specs.Ordering.{is_eq, nat_cmp, ordering_then, eq_by_cmp}
+use Rattle.std.specs.Ordering.{is_eq, nat_cmp, ordering_then}
 use Rattle.std.specs.Cmp.Lexicographic.{slice_cmp}
 use Rattle.std.specs.FinMap as map
 use Rattle.std.proofs.lemmas.Bool.{eqb-true, eq-eqb}
@@ -12,7 +12,7 @@ use Rattle.zw_base.specs.PropertyOrder.{rank_of, same_property}
 use Rattle.zw_base.specs.declared.property.Property.{Property}
 use Rattle.zw_base.specs.declared.property.Setting.{Setting}
 use Rattle.value_store.specs.declared.stored.Stored.{Stored}
-use Rattle.value_store.specs.Values.{Values, Key, key_cmp, no_value, IsReserved, is_among, reserving, stored_of}
+use Rattle.value_store.specs.Values.{Values, key_cmp, no_value, IsReserved, is_among, reserving, stored_of}
 use Rattle.value_store.proofs.Keys.{key_total, property_exact, same_property_laws}
 use Rattle.value_store.proofs.Released.{get-reserving}
 use Rattle.host_keep.specs.Kept.{value_among, or_else}
