@@ -18,3 +18,7 @@ mod Taken
 mod Events
 mod AllEvents
 mod Beginning
+mod Tests
+mod Restarted
+mod RestoredFacts
+mod Restores
