@@ -22,3 +22,4 @@ mod Tests
 mod Restarted
 mod RestoredFacts
 mod Restores
+mod Legal

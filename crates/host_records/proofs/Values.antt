@@ -22,7 +22,7 @@ use Rattle.host_events.specs.After.{confirming, hearing}
 same_and : (n m : ℕ) (o : Ordering) → is_eq (ordering_then (nat_cmp n m) o) ≡ (eqb n m && is_eq o)
 same_and n m o = grind (arith, nat_tests)
 
-same_key : (n m : ℕ) (p q : Property) → is_eq (key_cmp (n, p) (m, q)) ≡ (eqb n m && same_property p q)
+pub same_key : (n m : ℕ) (p q : Property) → is_eq (key_cmp (n, p) (m, q)) ≡ (eqb n m && same_property p q)
 unfolding key_cmp
 same_key n m p q = same_and n m (slice_cmp nat_cmp (rank_of p) (rank_of q))
 
