@@ -23,3 +23,4 @@ mod Restarted
 mod RestoredFacts
 mod Restores
 mod Legal
+mod Fold

@@ -46,12 +46,12 @@ record Stays (commands : List Command) (number : ℕ) (before : Command) : Type 
 stays : (commands : List Command) (which : ℕ) (what : Outcome) (number : ℕ) (command : Command) → command_at commands number ≡ Some command → Stays (with_outcome commands which what) number command
 stays commands which what number command found = elim (cases_eq number which) [
   | inl same ↦ record {
-      command = changed what command;
-      found = ap (λ (k : ℕ). command_at (with_outcome commands which what) k) same ∙ with_same commands which what
-          ∙ ap (λ (o : Option Command). option_map (changed what) o) (ap (λ (k : ℕ). command_at commands k) (sym same) ∙ found);
-      order = refl;
-      carriage = refl;
-    }
+    command = changed what command;
+    found = ap (λ (k : ℕ). command_at (with_outcome commands which what) k) same ∙ with_same commands which what
+        ∙ ap (λ (o : Option Command). option_map (changed what) o) (ap (λ (k : ℕ). command_at commands k) (sym same) ∙ found);
+    order = refl;
+    carriage = refl;
+  }
   | inr other ↦ record { command = command; found = with_other commands which number what other ∙ found; order = refl; carriage = refl }
 ]
 

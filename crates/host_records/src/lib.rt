@@ -8,5 +8,9 @@
 #![tactic(auto)]
 
 mod laws;
+mod opening;
 
 pub use laws::{a_host_begins_with_what_is_kept, events_do_what_their_records_do};
+pub use opening::{
+    a_record_restores_what_it_says, a_restart_keeps_what_is_held, legal_records_restore_the_host,
+};
