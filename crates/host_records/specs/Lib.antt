@@ -1,0 +1,3 @@
+pub mod Restoring
+pub mod Opening
+pub mod Holding

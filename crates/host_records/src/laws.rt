@@ -1,0 +1,32 @@
+//! What holds of a host and its records.
+
+ghost use Rattle.std.specs.Prelude.{List};
+ghost use Rattle.s0_crypto.specs.declared.key_pair.Keys.{Keys};
+ghost use Rattle.host_keep.specs.Kept.{Kept, first_kept, after_all as kept_after_all};
+ghost use Rattle.host_events.specs.State.{HostState, first_host};
+ghost use Rattle.host_events.specs.Events.{HostEvent};
+ghost use Rattle.host_events.specs.After.{after};
+ghost use Rattle.host_events.specs.May.{May};
+ghost use Rattle.host_events.specs.Records.{records_at};
+ghost use Rattle.host_events.specs.Did.{after_all, records_all, MayAll};
+ghost use Rattle.host_events.specs.Facts.{HostFacts};
+ghost use Rattle.host_records.specs.Holding.{Holds, HoldsAlone};
+
+use host_events::facts_are_kept;
+use host_node::a_restart_needs_the_records_alone;
+
+/// A host at the beginning has what is kept before the first record.
+pub fn a_host_begins_with_what_is_kept()
+    ensures { (keys : Keys) → HoldsAlone (first_host keys) first_kept }
+{}
+
+/// An event of a host does to its tables what its records do: those without a record leave what is held. So do events one after
+/// another.
+pub fn events_do_what_their_records_do()
+    ensures one { (h : HostState) (kept : Kept) (event : HostEvent) → HostFacts h → May h event → Holds h kept → Holds (after h event) (kept_after_all kept (records_at h event)) }
+    ensures all { (h : HostState) (kept : Kept) (events : List HostEvent) → HostFacts h → MayAll h events → Holds h kept →
+        Holds (after_all h events) (kept_after_all kept (records_all h events)) }
+{
+    a_restart_needs_the_records_alone();
+    facts_are_kept();
+}
