@@ -1,0 +1,4 @@
+pub mod Units
+pub mod Air
+pub mod World
+pub mod Line
