@@ -13,17 +13,17 @@ use Rattle.include_world.specs.World.{WorldState, IncludeEvent, Says, Passes, La
 use Rattle.include_world.specs.Line.{IsTick, IsTicks, IsLine, ticks_of}
 use Rattle.include_world.proofs.Sending.{Grows, sending_grows}
 
-after_all-append : (w : WorldState) (xs ys : List IncludeEvent) → after_all w (xs ++ ys) ≡ after_all (after_all w xs) ys
+pub after_all-append : (w : WorldState) (xs ys : List IncludeEvent) → after_all w (xs ++ ys) ≡ after_all (after_all w xs) ys
 after_all-append w [] ys = refl
 after_all-append w (x ∷ xs) ys = after_all-append (does w x).world xs ys
 
-entries_all-append : (w : WorldState) (xs ys : List IncludeEvent) → entries_all w (xs ++ ys) ≡ entries_all w xs ++ entries_all (after_all w xs) ys
+pub entries_all-append : (w : WorldState) (xs ys : List IncludeEvent) → entries_all w (xs ++ ys) ≡ entries_all w xs ++ entries_all (after_all w xs) ys
 entries_all-append w [] ys = refl
 entries_all-append w (x ∷ xs) ys =
     ap (λ l. (does w x).entries ++ l) (entries_all-append (does w x).world xs ys)
     ∙ sym (append_assoc (does w x).entries (entries_all (does w x).world xs) (entries_all (after_all (does w x).world xs) ys))
 
-AllDrawn-append : (xs ys : List IncludeEvent) → AllDrawn xs → AllDrawn ys → AllDrawn (xs ++ ys)
+pub AllDrawn-append : (xs ys : List IncludeEvent) → AllDrawn xs → AllDrawn ys → AllDrawn (xs ++ ys)
 AllDrawn-append [] ys a b = b
 AllDrawn-append (x ∷ xs) ys a b = (a.0, AllDrawn-append xs ys a.1 b)
 

@@ -3,13 +3,16 @@
 //! It promises that a line is a list of events whose effect and entries are functions of the world before, and which
 //! list that is.
 //! The definitions stand in `specs/`: `Air` (frames and their ages), `World` (what there is, and what each event makes
-//! of it), `Line` (which events a line is).
+//! of it), `Line` (which events a line is), `Added` (what holds of every transcript).
 #![tactic(auto)]
 
 mod air;
+mod entering;
 mod flight;
+mod laws;
 mod units;
 mod world;
 
 pub use flight::{Flight, Heading, Pair};
+pub use laws::what_is_said_is_so;
 pub use world::IncludeWorld;

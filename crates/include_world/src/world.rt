@@ -6,11 +6,14 @@ ghost use Rattle.include_world.specs.Units.{in_order};
 ghost use Rattle.include_world.specs.declared.flight.Heading.TheVariants.{Outward, Homeward};
 ghost use Rattle.include_world.specs.Air.{arriving, flying, refusal_of};
 ghost use Rattle.include_world.specs.World.{IncludeEvent, Says, Lands, Did, does, ends, passes, first_joiner, first_world, hears, hears_by, lands_by, adds, repeats, resets, said_entries, table_of, node_entries, tells};
+ghost use Rattle.include_text.specs.declared.entry.IncludeEntry.{IncludeEntry as AnyEntry};
+ghost use Rattle.include_world.specs.Added.{Reached, TellsOn};
 ghost use Rattle.include_world.specs.Line.{IsLine, IsTick, IsTicks, ticks_of};
 
 use crate::Heading;
 use crate::air::{Air, Coming};
-use crate::units::{AddUnits, units_of};
+use crate::entering::{put_refused, put_said, put_units};
+use crate::units::units_of;
 use include_text::{IncludeEntry, IncludeLine, IncludeRefusal};
 use inclusion::{AddFault, Includer, Joiner, SCHEME_GET};
 use std::alloc::Global;
@@ -91,9 +94,18 @@ fn drawn_by<D: Draw>(draw: &mut D) -> [u8; 8]
 
 impl IncludeWorld {
     /// Nothing has happened.
-    #[tactic(auto, unfolding(crate::specs::World::first_world))]
     pub fn new(alloc: Global, key: [u8; 16]) -> Result<IncludeWorld, NoMemory>
-        ensures { IfOk result (λ world. world ≡ first_world key) }
+        ensures first { IfOk result (λ world. world ≡ first_world key) }
+        ensures reached { IfOk result (λ world. Reached key [] world) }
+    {
+        IncludeWorld::made(alloc, key)
+    }
+
+    /// The parts of a world in which nothing has happened.
+    #[tactic(auto, unfolding(crate::specs::World::first_world))]
+    fn made(alloc: Global, key: [u8; 16]) -> Result<IncludeWorld, NoMemory>
+        ensures first { IfOk result (λ world. world ≡ first_world key) }
+        ensures sixteen { length key ≡ 16 }
     {
         Ok(IncludeWorld {
             alloc,
@@ -107,6 +119,22 @@ impl IncludeWorld {
 
     /// A line is done, event by event. Where there was no memory some first events were done.
     pub fn step<D: Draw>(
+        &mut self,
+        line: &IncludeLine,
+        draw: &mut D,
+        out: &mut List<IncludeEntry>,
+    ) -> Result<(), NoMemory>
+        ensures ok { OnOk result ((events : Items IncludeEvent) × IsLine line.now self.old events × Did events self.old self.new out.old.items out.new.items) }
+        ensures err { OnErr result ((events : Items IncludeEvent) × Did events self.old self.new out.old.items out.new.items) }
+
+        // What the transcript says of each node is so, at both ends.
+        ensures added { (key : Items ℕ) (T : Items AnyEntry) → Reached key T self.old → TellsOn key T self.new out.old.items out.new.items }
+    {
+        self.run_line(line, draw, out)
+    }
+
+    /// A line and its ticks.
+    fn run_line<D: Draw>(
         &mut self,
         line: &IncludeLine,
         draw: &mut D,
@@ -445,46 +473,4 @@ impl IncludeWorld {
         }
         Ok(())
     }
-}
-
-/// Enters the line that repeats a frame.
-fn put_said(said: Option<IncludeLine>, out: &mut List<IncludeEntry>)
-    requires { 0 < out.old.room }
-    ensures outs { out.new.items ≡ out.old.items ++ said_entries said }
-    ensures room { out.old.room ≤ out.new.room + 1 }
-{
-    if let Some(line) = said {
-        out.put(IncludeEntry::Said { line });
-    }
-}
-
-/// Enters a line that is refused.
-fn put_refused(line: IncludeLine, refusal: IncludeRefusal, out: &mut List<IncludeEntry>)
-    requires { 2 ≤ out.old.room }
-    ensures { out.new.items ≡ out.old.items ++ IncludeEntry.Said line ∷ IncludeEntry.Refused refusal ∷ [] }
-{
-    out.put(IncludeEntry::Said { line });
-    out.put(IncludeEntry::Refused { refusal });
-}
-
-/// Enters the units of an adding.
-fn put_units(units: AddUnits, out: &mut List<IncludeEntry>)
-    requires { 6 ≤ out.old.room }
-    ensures outs { out.new.items ≡ out.old.items ++ in_order units }
-    ensures room { out.new.room + 6 ≡ out.old.room }
-{
-    let AddUnits {
-        add,
-        ready,
-        device,
-        radio,
-        stop,
-        done,
-    } = units;
-    out.put(add);
-    out.put(ready);
-    out.put(device);
-    out.put(radio);
-    out.put(stop);
-    out.put(done);
 }

@@ -1,11 +1,5 @@
-use Rattle.include_world.proofs.Doing.{on_err, nothing_at, line_of_calls, stopped_ticking}
+use Rattle.include_world.proofs.Telling.{tells_on}
 use Rattle.include_world.proofs.world.IncludeWorld.step.Goals as goal
 
-pub returns-in_err-say-clause-err : goal.returns-in_err-say-clause-err
-returns-in_err-say-clause-err g c = nothing_at _ _ _ _ _ c.in_err-say.ensures.err c.in_err-say.ensures.no_outs
-
-pub returns-in_err-ticks-clause-err : goal.returns-in_err-ticks-clause-err
-returns-in_err-ticks-clause-err g c = on_err _ (stopped_ticking c.args.line.now c.drawn_by-drawn.result _ _ _ _ _ _ c.drawn_by-drawn.ensures c.in_ok-say.ensures.ok c.in_ok-say.ensures.outs c.in_err-ticks.ensures.err)
-
-pub returns-clause-ok : goal.returns-clause-ok
-returns-clause-ok g c = line_of_calls c.args.line.now c.drawn_by-drawn.result c.ticks_of.result _ _ _ _ _ _ c.drawn_by-drawn.ensures c.ticks_of.ensures c.in_ok-say.ensures.ok c.in_ok-say.ensures.outs c.in_ok-ticks.ensures.ok
+pub returns-clause-added : goal.returns-clause-added
+returns-clause-added g c = tells_on c.args.line.now c.run_line.result c.args.self.now c.run_line.new.self c.args.out.now.items c.run_line.new.out.items c.run_line.ensures.ok c.run_line.ensures.err
