@@ -1,0 +1,10 @@
+pub mod Sending
+pub mod Places
+pub mod Doing
+pub mod AirFacts
+pub mod KeyFacts
+pub mod HostFacts
+pub mod Saying
+pub mod WorldFacts
+pub mod Events
+pub mod Telling

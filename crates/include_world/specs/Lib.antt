@@ -1,0 +1,5 @@
+pub mod Units
+pub mod Air
+pub mod World
+pub mod Line
+pub mod Added

@@ -1,0 +1,113 @@
+//! Frames, and what is counted between node 1 and another node.
+
+ghost use Rattle.std.specs.Prelude.{◌≡◌, ◌+◌, ◌^◌, ◌<◌, Option};
+ghost use Rattle.include_world.specs.Air.{is_news, nonce_in, showing, last_of, no_counts};
+
+use zw_base::{NodeId, Payload};
+
+/// The command class Security 0.
+const SECURITY: u8 = 0x98;
+
+/// Its command Nonce Report.
+const NONCE_REPORT: u8 = 0x80;
+
+/// The bytes of a Nonce Report.
+const NONCE_REPORT_LEN: usize = 10;
+
+/// Which way a frame goes.
+#[derive(Clone, Copy, Debug, PartialEq, Eq)]
+pub enum Heading {
+    /// From node 1 to the other node.
+    Outward,
+    /// From the other node to node 1.
+    Homeward,
+}
+
+/// A frame that went on the air.
+#[derive(Debug, Drop)]
+pub struct Flight {
+    /// The end that is not node 1.
+    pub node: NodeId,
+    pub heading: Heading,
+    /// Whether it was marked as lost.
+    pub lost: bool,
+    pub payload: Payload,
+    /// How many new nonces had been shown between its ends when it was on the air.
+    pub shown: u64,
+}
+
+/// What is counted between node 1 and another node.
+#[derive(Clone, Copy, Debug)]
+pub struct Pair {
+    /// How many new nonces were shown.
+    pub shown: u64,
+    /// The nonce that node 1 showed last.
+    pub outward: Option<[u8; 8]>,
+    /// The nonce that the other node showed last.
+    pub homeward: Option<[u8; 8]>,
+    /// The frames up to this number are heard no more.
+    pub forgotten: u64,
+}
+
+/// The nonce that a payload shows, where it is a Nonce Report.
+fn nonce_of(payload: &[u8]) -> Option<[u8; 8]>
+    ensures { result ≡ nonce_in payload.now }
+{
+    if payload.len() == NONCE_REPORT_LEN && payload[0] == SECURITY && payload[1] == NONCE_REPORT {
+        let mut nonce = [0; 8];
+        nonce.copy_from_slice(&payload[2..]);
+        return Some(nonce);
+    }
+    None
+}
+
+/// Whether a nonce is the first, or another than the one before.
+fn is_new(last: Option<[u8; 8]>, nonce: &[u8; 8]) -> bool
+    ensures { result ≡ is_news last nonce.now }
+{
+    match last {
+        Some(before) => before != *nonce,
+        None => true,
+    }
+}
+
+impl Pair {
+    /// Nothing was counted.
+    pub(crate) fn new() -> Pair
+        ensures { result ≡ no_counts }
+    {
+        Pair {
+            shown: 0,
+            outward: None,
+            homeward: None,
+            forgotten: 0,
+        }
+    }
+
+    /// The nonce that was shown last in that direction.
+    fn last(&self, heading: Heading) -> Option<[u8; 8]>
+        ensures { result ≡ last_of self.now heading }
+    {
+        match heading {
+            Heading::Outward => self.outward,
+            Heading::Homeward => self.homeward,
+        }
+    }
+
+    /// Counts the nonce that a payload shows, where it is a new one.
+    pub(crate) fn show(&mut self, heading: Heading, payload: &[u8])
+        requires { self.old.shown + 1 < 2 ^ 64 }
+        ensures { self.new ≡ showing self.old heading payload.now }
+    {
+        let Some(nonce) = nonce_of(payload) else {
+            return;
+        };
+        if is_new(self.last(heading), &nonce) {
+            self.shown += 1;
+        }
+        match heading {
+            Heading::Outward => self.outward = Some(nonce),
+            Heading::Homeward => self.homeward = Some(nonce),
+        }
+    }
+}

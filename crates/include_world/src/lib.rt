@@ -1,0 +1,18 @@
+//! The world of `include`: the host that adds nodes, the locks, the air between them, and the lines that happen to them.
+//!
+//! It promises that a line is a list of events whose effect and entries are functions of the world before, and which
+//! list that is.
+//! The definitions stand in `specs/`: `Air` (frames and their ages), `World` (what there is, and what each event makes
+//! of it), `Line` (which events a line is), `Added` (what holds of every transcript).
+#![tactic(auto)]
+
+mod air;
+mod entering;
+mod flight;
+mod laws;
+mod units;
+mod world;
+
+pub use flight::{Flight, Heading, Pair};
+pub use laws::what_is_said_is_so;
+pub use world::IncludeWorld;
