@@ -28,13 +28,19 @@ pub record IsOpen (bytes : List ℕ) : Type 0 where
   pub one : IsOneLine bytes
   pub short : length bytes ≤ MAX_LINE
 
--- these bytes were read in pieces, the last of them while no line was there
-pub record ReadsOn (before bytes : List ℕ) : Type 0 where
+-- a further piece is wanted after these bytes: no line is there, the input has not ended, and it is not too long yet
+pub record WantsMore (old : Reading) (bytes : List ℕ) : Type 0 where
+  pub unfinished : IsOpen (old.pending ++ bytes)
+  pub more : old.ended ≡ false
+  pub short : old.taken + length bytes ≤ MAX_INPUT
+
+-- these bytes were read in pieces, the last of them while a further one was wanted
+pub record ReadsOn (old : Reading) (bytes : List ℕ) : Type 0 where
   pub earlier : List ℕ
   pub piece : List ℕ
   pub parts : bytes ≡ earlier ++ piece
   pub short : length piece ≤ PIECE
-  pub needed : (bytes ≡ []) ⊎ IsOpen (before ++ earlier)
+  pub needed : (bytes ≡ []) ⊎ WantsMore old earlier
 
 -- a line that a line feed ends
 pub record IsCut (bytes line rest : List ℕ) : Type 0 where
@@ -55,18 +61,25 @@ pub record IsTooLong (bytes : List ℕ) : Type 0 where
   pub one : IsOneLine (take (MAX_LINE + 1) bytes)
 
 -- what was found in the bytes that were pending and those that were read then
-abbrev pub Finds : Next → List ℕ → Reading → Type 0
-Finds Line bytes new = IsCut bytes new.line new.pending ⊎ IsLast bytes new.line new.pending new.ended
-Finds TooLong bytes new = IsTooLong bytes × (new.pending ≡ bytes)
-Finds End bytes new = (bytes ≡ []) × (new.ended ≡ true) × (new.pending ≡ [])
-Finds ReadFault bytes new = IsOpen bytes × (new.pending ≡ bytes)
-Finds InputTooLong bytes new = MAX_INPUT < new.taken
+abbrev pub Finds : Next → Bool → List ℕ → Reading → Type 0
+Finds Line ended bytes new = IsCut bytes new.line new.pending ⊎ IsLast bytes new.line new.pending new.ended
+Finds TooLong ended bytes new = IsTooLong bytes × (new.pending ≡ bytes)
+Finds End ended bytes new = (bytes ≡ []) × (new.ended ≡ true) × (new.pending ≡ [])
+Finds ReadFault ended bytes new = IsOpen bytes × (new.pending ≡ bytes) × (ended ≡ false)
+Finds InputTooLong ended bytes new = Unit {0}
+
+-- the input is too long exactly where that is the answer
+abbrev pub IsWithin : Next → ℕ → Type 0
+IsWithin InputTooLong taken = MAX_INPUT < taken
+IsWithin answer taken = taken ≤ MAX_INPUT
 
 -- the reader went on from old to new over these bytes of its source, and answered
 pub record Goes (answer : Next) (old : Reading) (bytes : List ℕ) (new : Reading) : Type 0 where
-  pub reads : ReadsOn old.pending bytes
+  pub reads : ReadsOn old bytes
   pub taken : new.taken ≡ old.taken + length bytes
-  pub finds : Finds answer (old.pending ++ bytes) new
+  pub within : IsWithin answer new.taken
+  pub finds : Finds answer old.ended (old.pending ++ bytes) new
+  pub ended : old.ended ≡ true → new.ended ≡ true
 
 -- the same, with the bytes that its source has left
 pub record GoesFrom (answer : Next) (old : Reading) (left : Option (List ℕ)) (new : Reading) (left' : Option (List ℕ)) : Type 0 where

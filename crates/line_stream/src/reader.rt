@@ -1,9 +1,9 @@
 //! A reader of lines.
 
-ghost use Rattle.std.specs.Prelude.{◌≡◌, ◌+◌, ◌<◌, ◌≤◌, ◌++◌, true, false, length, take, slice_index, slice_range, MatchOption, OnOk, IfErr, IsErrOf};
+ghost use Rattle.std.specs.Prelude.{◌≡◌, ◌+◌, ◌<◌, ◌≤◌, ◌++◌, ◌⊎◌, [], true, false, length, take, slice_index, slice_range, MatchOption, OnOk, IfErr, IsErrOf};
 ghost use Rattle.std.specs.Io.KnownBytes.{IsAtEnd};
 ghost use Rattle.zw_base.specs.Faults.{Rose};
-ghost use Rattle.line_stream.specs.Lines.{nothing_read, no_line, IsOneLine, IsOpen, GoesFrom, Cuts, Finishes, Fills, FillFails};
+ghost use Rattle.line_stream.specs.Lines.{nothing_read, no_line, IsOneLine, IsOpen, WantsMore, GoesFrom, Cuts, Finishes, Fills, FillFails};
 
 use std::marker::Model;
 use zw_base::{Failed, Source};
@@ -89,6 +89,7 @@ impl LineReader {
     /// Goes on to the next line.
     pub fn next<S: Source>(&mut self, source: &mut S) -> Next
         ensures goes { GoesFrom result self.old (S.left source.old) self.new (S.left source.new) }
+        ensures untouched { (source.new ≡ source.old) ⊎ WantsMore self.old [] }
         ensures never_falls { S.faults source.old ≤ S.faults source.new }
         ensures failed { result ≡ Next.ReadFault → Rose (S.faults source.old) (S.faults source.new) }
         ensures ended { self.old.ended ≡ false → self.new.ended ≡ true → IsAtEnd (S.left source.new) }

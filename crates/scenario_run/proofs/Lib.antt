@@ -1,2 +1,4 @@
 pub mod Pieces
+pub mod InputLines
 pub mod LinesSoFar
+pub mod Completing

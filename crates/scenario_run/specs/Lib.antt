@@ -1,6 +1,7 @@
 pub mod Status
 pub mod Machine
-pub mod Reading
+pub mod Input
 pub mod Writing
 pub mod Run
 pub mod Text
+pub mod Complete

@@ -1,5 +1,5 @@
 -- Machines that run texts one after another (this project's own rule).
-use Rattle.std.specs.Prelude.{◌≡◌, ℕ, List, [], ◌∷◌, ◌++◌, Option, Some}
+use Rattle.std.specs.Prelude.{◌≡◌, ℕ, List, [], ◌∷◌, ◌++◌, Option, Some, None}
 use Rattle.zw_words.specs.declared.fault.LineFault.{LineFault}
 use Rattle.zw_words.specs.declared.fault.ReadLineFault.{ReadLineFault}
 use Rattle.zw_words.specs.declared.fault.ReadLineFault.TheVariants.{Bad, NoMemory}
@@ -20,20 +20,22 @@ abbrev pub RefusesBy : {X : Type 0} → ReadLineFault → (X → List ℕ → X 
 RefusesBy (Bad fault) stops refused old text new pieces = (refused ≡ Some fault) × (new ≡ old)
 RefusesBy NoMemory stops refused old text new pieces = stops old text new pieces
 
--- texts are run one after another, each from what the one before it left; the pieces are those of their answers in order
-abbrev pub RunsAll : {X : Type 0} → (X → List ℕ → X → List (List ℕ) → Type 0) → X → List (List ℕ) → X → List (List ℕ) → Type 0
-RunsAll runs old [] new pieces = (new ≡ old) × (pieces ≡ [])
-RunsAll {X} runs old (text ∷ texts) new pieces =
-    (mid : X) × (answer : List (List ℕ)) × (later : List (List ℕ)) × runs old text mid answer × RunsAll runs mid texts new later × (pieces ≡ answer ++ later)
+-- texts are run one after another, each from what the one before it left, and none of them is refused; the pieces are those of their
+-- answers in order
+abbrev pub RunsAll : {X : Type 0} → (List ℕ → Option LineFault) → (X → List ℕ → X → List (List ℕ) → Type 0) → X → List (List ℕ) → X → List (List ℕ) → Type 0
+RunsAll refuses runs old [] new pieces = (new ≡ old) × (pieces ≡ [])
+RunsAll {X} refuses runs old (text ∷ texts) new pieces =
+    (mid : X) × (answer : List (List ℕ)) × (later : List (List ℕ)) × (refuses text ≡ None) × runs old text mid answer × RunsAll refuses runs mid texts new later
+    × (pieces ≡ answer ++ later)
 
 -- the last of the texts is run in part
-pub record StopsInLast {X : Type 0} (runs stops : X → List ℕ → X → List (List ℕ) → Type 0) (old : X) (texts : List (List ℕ)) (new : X) (pieces : List (List ℕ)) : Type 0 where
+pub record StopsInLast {X : Type 0} (refuses : List ℕ → Option LineFault) (runs stops : X → List ℕ → X → List (List ℕ) → Type 0) (old : X) (texts : List (List ℕ)) (new : X) (pieces : List (List ℕ)) : Type 0 where
   pub front : List (List ℕ)
   pub text : List ℕ
   pub mid : X
   pub before : List (List ℕ)
   pub answer : List (List ℕ)
   pub texts_are : texts ≡ front ++ text ∷ []
-  pub ran : RunsAll runs old front mid before
+  pub ran : RunsAll refuses runs old front mid before
   pub stopped : stops mid text new answer
   pub pieces_are : pieces ≡ before ++ answer

@@ -1,33 +1,59 @@
--- How a run ends: the lines that the machine has run, and what was written (this project's own rule).
-use Rattle.std.specs.Prelude.{◌≡◌, ℕ, ◌+◌, ◌⊎◌, List, [], ◌∷◌, ◌++◌, length, Option, Some}
-use Rattle.std.specs.Io.KnownBytes.{Appends, Keeps}
+-- How a run ends: the input that was read, the lines of it that the machine has run, and what was written (this project's own rule).
+use Rattle.std.specs.Prelude.{◌≡◌, ℕ, ◌+◌, ◌<◌, ◌≤◌, ◌⊎◌, List, [], ◌∷◌, ◌++◌, length, Option, Some}
+use Rattle.std.specs.Io.KnownBytes.{Appends, Keeps, Consumes, IsAtEnd}
 use Rattle.zw_words.specs.declared.fault.LineFault.{LineFault}
 use Rattle.zw_words.specs.declared.fault.LineFault.TheVariants.{TooLong as line_too_long}
 use Rattle.zw_text.specs.Entry.{entry_text}
 use Rattle.zw_text.specs.declared.entry.Entry.TheVariants.{BadLine as bad_line}
-use Rattle.line_stream.specs.declared.reader.Next.TheVariants.{Line, TooLong, End, ReadFault as read_failed, InputTooLong as too_much}
+use Rattle.line_stream.specs.Lines.{IsOpen, IsTooLong}
+use Rattle.line_stream.specs.declared.reader.TheConstants.{MAX_INPUT, PIECE}
 use Rattle.scenario_run.specs.Machine.{RunsAll, StopsInLast}
-use Rattle.scenario_run.specs.Reading.{Place, start_at, Answers, GivesLines}
+use Rattle.scenario_run.specs.Input.{FirstLines, AreLines, AreFirst, IsNextLine, ReadInTurn}
 use Rattle.scenario_run.specs.Writing.{text_of, AppendsFront}
 use Rattle.scenario_run.specs.declared.running.LinesEnd.{LinesEnd}
 use Rattle.scenario_run.specs.declared.running.LinesEnd.TheVariants.{All, Bad, ReadFailed, TooMuch, WriteFailed, NoMemory}
 use Rattle.scenario_run.specs.declared.status.Status.{Status}
 use Rattle.scenario_run.specs.declared.status.Status.TheVariants.{Ok, BadLine, ReadFault, WriteFault, NoMemory as no_memory, InputTooLong}
 
--- why no further line was run, after so many: what the reader answered then
-abbrev pub EndsBy : LinesEnd → (List ℕ → Option LineFault) → ℕ → Place → Place → Type 0
-EndsBy All refuses count place last = Answers End place last
-EndsBy (Bad number fault) refuses count place last =
-    (number ≡ count + 1) × ((Answers TooLong place last × (fault ≡ line_too_long)) ⊎ (Answers Line place last × (refuses last.reading.line ≡ Some fault)))
-EndsBy ReadFailed refuses count place last = Answers read_failed place last
-EndsBy TooMuch refuses count place last = Answers too_much place last
-EndsBy WriteFailed refuses count place last = last ≡ place
-EndsBy NoMemory refuses count place last = last ≡ place
+-- the input is no longer than it may be
+abbrev pub IsShort : List ℕ → Type 0
+IsShort input = length input ≤ MAX_INPUT
+
+-- the line after these texts is the first that is none: it is too long, or it has that fault
+pub record IsBadLine (refuses : List ℕ → Option LineFault) (fault : LineFault) (input : List ℕ) (texts : List (List ℕ)) (left : Option (List ℕ)) : Type 0 where
+  pub rest : List ℕ
+  pub lines : FirstLines input texts rest
+  pub fails : (IsTooLong rest × (fault ≡ line_too_long)) ⊎ ((text : List ℕ) × IsNextLine rest text left × (refuses text ≡ Some fault))
+
+-- each line that has its line feed was run, and what is left of the input is no whole line
+pub record IsUnfinished (input : List ℕ) (texts : List (List ℕ)) : Type 0 where
+  pub rest : List ℕ
+  pub lines : FirstLines input texts rest
+  pub unfinished : IsOpen rest
+
+-- the piece in which the input came to be too long is in no line that was run
+pub record IsTooMuch (input : List ℕ) (texts : List (List ℕ)) : Type 0 where
+  pub before : List ℕ
+  pub piece : List ℕ
+  pub parts : input ≡ before ++ piece
+  pub short : IsShort before × (length piece ≤ PIECE)
+  pub long : MAX_INPUT < length input
+  pub ran : IsUnfinished before texts
+
+-- why no further line was run, after these lines of what was read of the input
+abbrev pub EndsBy : LinesEnd → (List ℕ → Option LineFault) → List ℕ → List (List ℕ) → Option (List ℕ) → Type 0
+EndsBy All refuses input texts left = AreLines input texts × IsAtEnd left × IsShort input
+EndsBy (Bad number fault) refuses input texts left = (number ≡ length texts + 1) × IsBadLine refuses fault input texts left × IsShort input
+EndsBy ReadFailed refuses input texts left = IsUnfinished input texts × IsShort input
+EndsBy TooMuch refuses input texts left = IsTooMuch input texts
+EndsBy WriteFailed refuses input texts left = AreFirst input texts left × IsShort input
+EndsBy NoMemory refuses input texts left = AreFirst input texts left × IsShort input
 
 -- which texts were run: all of them whole; where there was no memory, the last perhaps in part
-abbrev pub RanTo : {X : Type 0} → LinesEnd → (runs stops : X → List ℕ → X → List (List ℕ) → Type 0) → X → List (List ℕ) → X → List (List ℕ) → Type 0
-RanTo NoMemory runs stops old texts new pieces = RunsAll runs old texts new pieces ⊎ StopsInLast runs stops old texts new pieces
-RanTo end runs stops old texts new pieces = RunsAll runs old texts new pieces
+abbrev pub RanTo : {X : Type 0} → LinesEnd → (List ℕ → Option LineFault) → (runs stops : X → List ℕ → X → List (List ℕ) → Type 0)
+    → X → List (List ℕ) → X → List (List ℕ) → Type 0
+RanTo NoMemory refuses runs stops old texts new pieces = RunsAll refuses runs old texts new pieces ⊎ StopsInLast refuses runs stops old texts new pieces
+RanTo end refuses runs stops old texts new pieces = RunsAll refuses runs old texts new pieces
 
 -- what was written of the text of the answers: all of it, or a front where a write failed or there was no memory
 abbrev pub WrittenTo : LinesEnd → Option (List ℕ) → Option (List ℕ) → List ℕ → Type 0
@@ -35,17 +61,16 @@ WrittenTo WriteFailed old new text = AppendsFront old new text
 WrittenTo NoMemory old new text = AppendsFront old new text
 WrittenTo end old new text = Appends old new text
 
--- the lines that the reader gave were run to this end, and their answers written
+-- first lines of an input, which is what the source had left as far as it tells that, were run to this end, and their answers written
 pub record LinesRan {X : Type 0} (end : LinesEnd) (refuses : List ℕ → Option LineFault) (runs stops : X → List ℕ → X → List (List ℕ) → Type 0)
     (left left' : Option (List ℕ)) (old new : X) (sink sink' : Option (List ℕ)) : Type 0 where
+  pub input : List ℕ
   pub texts : List (List ℕ)
   pub pieces : List (List ℕ)
-  pub place : Place
-  pub last : Place
-  pub given : GivesLines (start_at left) texts place
-  pub ended : EndsBy end refuses (length texts) place last
-  pub left_is : last.left ≡ left'
-  pub ran : RanTo end runs stops old texts new pieces
+  pub read : Consumes left left' input
+  pub in_turn : ReadInTurn input texts
+  pub ended : EndsBy end refuses input texts left'
+  pub ran : RanTo end refuses runs stops old texts new pieces
   pub written : WrittenTo end sink sink' (text_of pieces)
 
 -- the line that tells that a line is none

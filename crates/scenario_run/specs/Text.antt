@@ -1,5 +1,5 @@
 -- What the run of one text does, and why the lines end there (this project's own rule).
-use Rattle.std.specs.Prelude.{◌≡◌, ℕ, List, Option, Some}
+use Rattle.std.specs.Prelude.{◌≡◌, ℕ, List, Option, Some, None}
 use Rattle.zw_words.specs.declared.fault.LineFault.{LineFault}
 use Rattle.zw_words.specs.declared.fault.LineFault.TheVariants.{TooLong as line_too_long}
 use Rattle.line_stream.specs.declared.reader.Next.{Next}
@@ -10,7 +10,7 @@ use Rattle.scenario_run.specs.declared.running.LinesEnd.TheVariants.{All, Bad, R
 use Rattle.scenario_run.specs.declared.running.TextFault.{TextFault}
 use Rattle.scenario_run.specs.declared.running.TextFault.TheVariants.{Bad as bad_text, Write as no_write, NoMemory as no_memory}
 
--- the text was run, and its answer was written so
+-- the text was run, or a part of it, and its answer was written so
 pub record TextRan {X : Type 0} (runs : X → List ℕ → X → List (List ℕ) → Type 0) (old : X) (text : List ℕ) (new : X) (IsWritten : List ℕ → Type 0) : Type 0 where
   pub pieces : List (List ℕ)
   pub ran : runs old text new pieces
@@ -20,7 +20,7 @@ pub record TextRan {X : Type 0} (runs : X → List ℕ → X → List (List ℕ)
 abbrev pub TextFails : {X : Type 0} → TextFault → (runs stops : X → List ℕ → X → List (List ℕ) → Type 0) → Option LineFault
     → X → List ℕ → X → Option (List ℕ) → Option (List ℕ) → Type 0
 TextFails (bad_text fault) runs stops refused old text new sink sink' = (refused ≡ Some fault) × (new ≡ old) × (sink' ≡ sink)
-TextFails no_write runs stops refused old text new sink sink' = TextRan runs old text new (AppendsFront sink sink')
+TextFails no_write runs stops refused old text new sink sink' = (refused ≡ None) × TextRan runs old text new (AppendsFront sink sink')
 TextFails no_memory runs stops refused old text new sink sink' = TextRan stops old text new (AppendsFront sink sink')
 
 -- why the lines end where the reader gives no line

@@ -1,6 +1,6 @@
 //! Lines that are read, run and answered.
 
-ghost use Rattle.std.specs.Prelude.{◌≡◌, ◌≤◌, [], length, OnOk, IfErr, IsErrOf};
+ghost use Rattle.std.specs.Prelude.{◌≡◌, ◌≤◌, [], None, length, OnOk, IfErr, IsErrOf};
 ghost use Rattle.std.specs.Io.KnownBytes.{Appends};
 ghost use Rattle.zw_base.specs.Faults.{Rose};
 ghost use Rattle.scenario_run.specs.Machine.{lent};
@@ -123,6 +123,7 @@ fn run_text<A, B, C, M: Machine<A, B, C>, K: Sink>(
     requires ready { M.ready first.old }
     requires short { length text.now ≤ 1024 }
     requires empty { pieces.old.items ≡ [] }
+    ensures is_line { OnOk result (M.refuses text.now ≡ None) }
     ensures ok { OnOk result (TextRan M.runs (lent machine.old first.old second.old third.old) text.now
         (lent machine.new first.new second.new third.new) (Appends (K.written sink.old) (K.written sink.new))) }
     ensures err { IfErr result (λ fault. TextFails fault M.runs M.stops (M.refuses text.now) (lent machine.old first.old second.old third.old) text.now

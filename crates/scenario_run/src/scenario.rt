@@ -2,6 +2,7 @@
 
 ghost use Rattle.std.specs.Prelude.{◌≡◌, ◌≤◌, IfOk};
 ghost use Rattle.zw_base.specs.Faults.{Rose};
+ghost use Rattle.scenario_run.specs.Complete.{HasGoodInput, IsDone};
 ghost use Rattle.scenario_run.specs.Machine.{lent};
 ghost use Rattle.scenario_run.specs.Run.{HasRun, ClosesWell, ClosesBadly, bad_line_text};
 
@@ -16,6 +17,30 @@ use zw_words::LineFault;
 
 /// Runs the lines of a source, up to the first that is none, and writes what the machine answers and the last lines.
 pub fn run_scenario<A, B, C, M: Machine<A, B, C>, S: Source, K: Sink>(
+    alloc: Global,
+    source: &mut S,
+    sink: &mut K,
+    machine: &mut M,
+    first: &mut A,
+    second: &mut B,
+    third: &mut C,
+) -> Status
+    requires { M.ready first.old }
+    ensures ran { HasRun result M.refuses M.runs M.stops M.ends (S.left source.old) (S.left source.new)
+        (lent machine.old first.old second.old third.old) (lent machine.new first.new second.new third.new) (K.written sink.old) (K.written sink.new) }
+    ensures ready { M.ready first.new }
+    ensures source_never_falls { S.faults source.old ≤ S.faults source.new }
+    ensures sink_never_falls { K.faults sink.old ≤ K.faults sink.new }
+    ensures read_fault { result ≡ Status.ReadFault → Rose (S.faults source.old) (S.faults source.new) }
+    ensures write_fault { result ≡ Status.WriteFault → Rose (K.faults sink.old) (K.faults sink.new) }
+    ensures complete { HasGoodInput M.refuses (S.left source.old) → (Rose (S.faults source.old) (S.faults source.new) → ⊥)
+        → (Rose (K.faults sink.old) (K.faults sink.new) → ⊥) → IsDone result }
+{
+    run_to_status(alloc, source, sink, machine, first, second, third)
+}
+
+/// The same, as its statuses tell it.
+fn run_to_status<A, B, C, M: Machine<A, B, C>, S: Source, K: Sink>(
     alloc: Global,
     source: &mut S,
     sink: &mut K,
