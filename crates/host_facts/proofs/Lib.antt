@@ -1,4 +1,4 @@
-mod Lists
+pub mod Lists
 mod Commands
 mod Views
 mod Owned

@@ -1,18 +1,16 @@
 -- What is entered outside the host speaks neither of a command nor of a confirmed value.
-use Rattle.std.proofs.Common.{◌≡◌, ℕ, zero, suc, ◌&&◌, ◌||◌, not, Bool, true, false, if◌then◌else◌, Option, Some, None, List, [], ◌∷◌, ◌++◌, map, nat_le, nat_lt, length, drop, refl, sym, subst}
+use Rattle.std.proofs.Common.{◌≡◌, ℕ, zero, suc, ◌&&◌, not, Bool, true, false, if◌then◌else◌, Option, Some, None, List, [], ◌∷◌, map, nat_le, nat_lt, length, drop}
 use Rattle.std.specs.Prelude.{slice_get}
 use Rattle.std.specs.List.{AllByRecursion, flat_map}
-use Rattle.std.specs.Option.{is_some, unwrap_or, option_map}
+use Rattle.std.specs.Option.{unwrap_or, option_map}
 use Rattle.zw_base.specs.declared.property.Setting.{Setting}
 use Rattle.zw_words.specs.declared.side.Side.{Side}
 use Rattle.zw_words.specs.declared.side.Side.TheVariants.{Host as by_host}
 use Rattle.zw_text.specs.declared.entry.Entry.{Entry}
 use Rattle.zw_text.specs.declared.entry.Entry.TheVariants as entry
-use Rattle.serial_frame.specs.Stream.{Rest}
-use Rattle.serial_frame.specs.declared.item.Item.{Item}
 use Rattle.serial_frame.specs.declared.unit.Unit.{Unit as LineUnit}
 use Rattle.serial_frame.specs.Items.{unit_text}
-use Rattle.serial_pipes.specs.State.{WayState, fits, overrun, mark_for, garbled}
+use Rattle.serial_pipes.specs.State.{WayState, fits, mark_for, garbled}
 use Rattle.serial_pipes.specs.Events.{told, told_by}
 use Rattle.serial_pipes.specs.declared.marks.Mark.{Mark}
 use Rattle.serial_pipes.specs.declared.marks.Mark.TheVariants.{Free, Lost, Changed}
@@ -21,7 +19,7 @@ use Rattle.route_table.specs.Network.{linked}
 use Rattle.chip_functions.specs.declared.notice.TransmitStatus.{TransmitStatus}
 use Rattle.chip_functions.specs.declared.notice.TransmitStatus.TheVariants.{Fail, NoRoute as no_route_status}
 use Rattle.chip_functions.specs.Notice.{status_of}
-use Rattle.chip_sim.specs.Events.{ChipEvent, Done, Heard as chip_hears, Informed, Forgets, after, outs}
+use Rattle.chip_sim.specs.Events.{ChipEvent, Done, Heard as chip_hears, Forgets, after, outs}
 use Rattle.chip_sim.specs.Did.{judged_all}
 use Rattle.chip_sim.specs.declared.out.ChipOut.{ChipOut}
 use Rattle.chip_sim.specs.declared.out.ChipOut.TheVariants as chip_out
@@ -37,13 +35,12 @@ use Rattle.mesh_sim.specs.declared.event.AirEvent.{AirEvent}
 use Rattle.mesh_sim.specs.declared.event.AirEvent.TheVariants as air_event
 use Rattle.outer_events.specs.declared.waits.Due.{Due}
 use Rattle.outer_events.specs.declared.waits.Due.TheVariants.{Info, NoRoute as no_route_due}
-use Rattle.outer_events.specs.State.{OuterState, Outside, outside, Outcome, silent, tells, and_then, each, with_chip}
-use Rattle.outer_events.specs.Chip.{put_out, chip_does, chip_takes, chip_ticks}
-use Rattle.outer_events.specs.Results.{owes_call, call_back, no_route, no_routes, leading, forgets, frame_ends, informs, gives, without_no_route}
+use Rattle.outer_events.specs.State.{OuterState, Outside, Outcome, silent, tells, and_then, each, with_chip}
+use Rattle.outer_events.specs.Chip.{put_out, chip_does}
+use Rattle.outer_events.specs.Results.{owes_call, call_back, no_route, no_routes, leading, forgets, frame_ends, gives, without_no_route}
 use Rattle.outer_events.specs.Air.{change_entries, to_chip, sent_entries, deals}
-use Rattle.outer_events.specs.Devices.{changes_entries, new_changes, sends_over, sends, acts, acts_at, acts_by_hand, device_entries, shown_entries}
-use Rattle.outer_events.specs.Events.{OuterEvent, Begins_line, Begins_tick, Host_writes, Host_takes, Host_notes, Host_begins, Chip_takes, Arrives, Gives, Device_ticks, Chip_ticks, Repeats, Wakes_device, Sets_device, Shows, Joins, Discovers, Links, Loses, Loses_acks, Marks_loss, Marks_change, Clears_pipe, Collides_next, Stalls, Cuts, is_own, AreOwn, cleared_entries, clears, mesh_of, steps, refusal_entries, repeats, outcome, stamp, ticked_entry, happens, entries}
-use Rattle.outer_events.specs.Did.{happens_all, entries_all}
+use Rattle.outer_events.specs.Devices.{changes_entries, new_changes, sends, acts, acts_at, acts_by_hand, shown_entries}
+use Rattle.outer_events.specs.Events.{OuterEvent, Begins_line, Begins_tick, Host_writes, Host_takes, Host_notes, Host_begins, Chip_takes, Arrives, Gives, Device_ticks, Chip_ticks, Repeats, Wakes_device, Sets_device, Shows, Joins, Discovers, Links, Loses, Loses_acks, Marks_loss, Marks_change, Clears_pipe, Collides_next, Stalls, Cuts, is_own, cleared_entries, mesh_of, steps, repeats, outcome, stamp, ticked_entry, entries}
 use Rattle.host_facts.specs.Entries.{IsAside}
 use Rattle.host_facts.proofs.Lists.{all-append}
 

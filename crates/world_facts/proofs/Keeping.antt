@@ -1,34 +1,32 @@
 -- Every event of the machine keeps the facts of its host.
-use Rattle.std.proofs.Common.{◌≡◌, ℕ, List, [], ◌∷◌, ◌++◌, map, refl, ap, sym, ◌∙◌, subst, append_assoc, append-nil}
+use Rattle.std.proofs.Common.{List, [], ◌∷◌, ◌++◌, map, ap, sym, ◌∙◌, subst, append_assoc, append-nil}
 use Rattle.zw_text.specs.declared.entry.Entry.{Entry}
-use Rattle.zw_text.specs.declared.entry.Entry.TheVariants.{Refused, Json}
+use Rattle.zw_text.specs.declared.entry.Entry.TheVariants.{Refused}
 use Rattle.host_events.specs.State.{HostState}
 use Rattle.host_events.specs.declared.out.HostOut.{HostOut}
 use Rattle.host_events.specs.Events.{HostEvent}
 use Rattle.host_events.specs.After.{after}
 use Rattle.host_events.specs.Outs.{outs}
 use Rattle.host_events.specs.May.{May as MayHost}
-use Rattle.host_events.specs.Did.{MayAll as MayAllHost, after_all, outs_all}
+use Rattle.host_events.specs.Did.{MayAll as MayAllHost, after_all}
 use Rattle.outer_events.specs.State.{Outside}
-use Rattle.outer_events.specs.Events.{OuterEvent, Host_notes, Host_takes as host_takes, entries as entries_outside, happens as happens_outside, outcome}
-use Rattle.outer_events.specs.Did.{happens_all as happens_all_outside, entries_all as entries_all_outside}
-use Rattle.outer_events.proofs.Doing.{entries_all-append as entries_outside-append}
-use Rattle.zw_machine.specs.State.{Machine, routed, routed_one, host_does, host_entries}
-use Rattle.zw_machine.specs.Events.{Event, Outside_does, Host_does, Host_takes, Decoder_ticks, Refuses, Shows_values, Restarts, answers, fed, shown_values, entered, happens, entries, May}
+use Rattle.outer_events.specs.Events.{Host_notes, entries as entries_outside, outcome}
+use Rattle.outer_events.specs.Did.{entries_all as entries_all_outside}
+use Rattle.zw_machine.specs.State.{Machine, routed, host_does, host_entries}
+use Rattle.zw_machine.specs.Events.{Event, Outside_does, Host_does, Host_takes, Decoder_ticks, Refuses, Shows_values, Restarts, answers, fed, shown_values, happens, entries, May}
 use Rattle.zw_machine.specs.Did.{happens_all, entries_all, MayAll}
 use Rattle.zw_machine.proofs.Hosting.{Silent, entries_cons}
 use Rattle.zw_machine.proofs.Silence.{judged_silent}
-use Rattle.host_facts.specs.Entries.{IsAside, notes_of, entries_at}
+use Rattle.host_facts.specs.Entries.{IsAside, entries_at}
 use Rattle.host_facts.specs.Facts.{Facts, StartsAs}
 use Rattle.world_facts.specs.Restarts.{StartsWell, AllStartWell}
 use Rattle.world_facts.proofs.Aside.{Asides, own_aside, stamp_aside}
-use Rattle.world_facts.proofs.Notes.{Behind, event_behind, puts_behind, puts_at}
+use Rattle.world_facts.proofs.Notes.{Behind, event_behind}
 
 -- what is proved of hosts
 module _ (each : (past : List Entry) (h : HostState) (event : HostEvent) → Facts past h → MayHost h event → Facts (past ++ entries_at h event) (after h event))
     (aside : (past : List Entry) (h : HostState) (entry : Entry) → Facts past h → IsAside entry → Facts (past ++ entry ∷ []) h)
     (starts : (past : List Entry) (old new : HostState) → Facts past old → StartsAs old new → Facts past new) where
-
   pub asides : (past : List Entry) (h : HostState) (entries : List Entry) → Facts past h → Asides entries → Facts (past ++ entries) h
   asides past h [] facts all = subst (λ (l : List Entry). Facts l h) (sym (append-nil past)) facts
   asides past h (e ∷ entries) facts all =
@@ -38,7 +36,7 @@ module _ (each : (past : List Entry) (h : HostState) (event : HostEvent) → Fac
   event_behind_keeps : (past all : List Entry) (h : HostState) (event : HostEvent) → Facts past h → MayHost h event → Behind (entries_at h event) all → Facts (past ++ all) (after h event)
   event_behind_keeps past all h event facts may behind =
       subst (λ (l : List Entry). Facts l (after h event))
-          (append_assoc past behind.front (entries_at h event) ∙ ap (λ (l : List Entry). past ++ l) (sym behind.are))
+      (append_assoc past behind.front (entries_at h event) ∙ ap (λ (l : List Entry). past ++ l) (sym behind.are))
       (each (past ++ behind.front) h event (asides past h behind.front facts behind.asides) may)
 
   note_keeps : (past : List Entry) (h : HostState) (w : Outside) (e : Entry) → Facts past h → IsAside e → Facts (past ++ entries_outside w (Host_notes e)) h
@@ -52,13 +50,13 @@ module _ (each : (past : List Entry) (h : HostState) (event : HostEvent) → Fac
   silent_keeps past m (e ∷ es) facts may silent =
       let h = m.host.state in
       let behind : Behind (entries_at h e) (host_entries m (e ∷ [])) =
-          subst (λ (l : List Entry). Behind (entries_at h e) l)
-              (ap (λ (l : List Entry). entries_all_outside m.outside (routed (outs h e)) ++ entries_all_outside m.outside (map Host_notes l)) (silent.0 h)
-              ∙ (append-nil (entries_all_outside m.outside (routed (outs h e)))
-              ∙ ap (λ (l : List HostOut). entries_all_outside m.outside (routed l)) (sym (append-nil (outs h e)))))
-          (event_behind m.outside m.outside h e) in
+      subst (λ (l : List Entry). Behind (entries_at h e) l)
+      (ap (λ (l : List Entry). entries_all_outside m.outside (routed (outs h e)) ++ entries_all_outside m.outside (map Host_notes l)) (silent.0 h)
+      ∙ (append-nil (entries_all_outside m.outside (routed (outs h e)))
+      ∙ ap (λ (l : List HostOut). entries_all_outside m.outside (routed l)) (sym (append-nil (outs h e)))))
+      (event_behind m.outside m.outside h e) in
       subst (λ (l : List Entry). Facts l (after_all (after h e) es))
-          (append_assoc past (host_entries m (e ∷ [])) (host_entries (host_does m (e ∷ [])) es) ∙ ap (λ (l : List Entry). past ++ l) (entries_cons m e es))
+      (append_assoc past (host_entries m (e ∷ [])) (host_entries (host_does m (e ∷ [])) es) ∙ ap (λ (l : List Entry). past ++ l) (entries_cons m e es))
       (silent_keeps (past ++ host_entries m (e ∷ [])) (host_does m (e ∷ [])) es (event_behind_keeps past (host_entries m (e ∷ [])) h e facts may.0 behind) may.1 silent.1)
 
   -- an event of the machine
@@ -69,9 +67,9 @@ module _ (each : (past : List Entry) (h : HostState) (event : HostEvent) → Fac
   event_keeps past m (Host_does event) facts may well =
       event_behind_keeps past (entries m (Host_does event)) m.host.state event facts may
       (subst (λ (l : List HostOut). Behind (entries_at m.host.state event)
-              (entries_all_outside m.outside (routed l) ++ entries_all_outside (host_does m (event ∷ [])).outside (map Host_notes (answers m.host.state event))))
-          (sym (append-nil (outs m.host.state event)))
-          (event_behind m.outside (host_does m (event ∷ [])).outside m.host.state event))
+      (entries_all_outside m.outside (routed l) ++ entries_all_outside (host_does m (event ∷ [])).outside (map Host_notes (answers m.host.state event))))
+      (sym (append-nil (outs m.host.state event)))
+      (event_behind m.outside (host_does m (event ∷ [])).outside m.host.state event))
   event_keeps past m (Host_takes count rest items events) facts may well =
       silent_keeps past (fed m count rest) events facts may.may (judged_silent m.host.state items events may.judged)
   event_keeps past m Decoder_ticks facts may well = subst (λ (l : List Entry). Facts l m.host.state) (sym (append-nil past)) facts

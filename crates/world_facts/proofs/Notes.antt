@@ -1,8 +1,5 @@
 -- What the host puts out at an event is entered as it notes it, behind what speaks of no command.
-use Rattle.std.proofs.Common.{◌≡◌, ℕ, ◌+◌, ◌&&◌, ◌||◌, not, Bool, true, false, if◌then◌else◌, Option, Some, None, List, [], ◌∷◌, ◌++◌, map, length, refl, ap, sym, ◌∙◌, subst, append_assoc, append-nil}
-use Rattle.std.specs.List.{flat_map}
-use Rattle.std.proofs.lemmas.List.{map-append}
-use Rattle.zw_base.specs.declared.property.Setting.{Setting}
+use Rattle.std.proofs.Common.{◌≡◌, ℕ, ◌&&◌, ◌||◌, not, Bool, true, false, if◌then◌else◌, Option, Some, None, List, [], ◌∷◌, ◌++◌, map, refl, ap, sym, ◌∙◌, subst, append_assoc, append-nil}
 use Rattle.zw_text.specs.declared.entry.Entry.{Entry}
 use Rattle.zw_text.specs.declared.entry.Entry.TheVariants.{Time}
 use Rattle.serial_frame.specs.Frame.{FrameParts}
@@ -11,17 +8,16 @@ use Rattle.serial_frame.specs.declared.unit.Unit.TheVariants.{Ack, Nak, Can, Fra
 use Rattle.serial_frame.specs.declared.item.Item.{Item}
 use Rattle.serial_frame.specs.declared.item.Item.TheVariants.{Good, Refused}
 use Rattle.serial_frame.specs.declared.item.Refusal.TheVariants.{Stray, BadLength, BadSum, BadKind, Aborted}
-use Rattle.serial_link.specs.State.{copy_due, tick_side}
+use Rattle.serial_link.specs.State.{copy_due}
 use Rattle.host_events.specs.State.{HostState}
 use Rattle.host_events.specs.Events.{HostEvent, Accepts, Cancels, Joins, Queues, Queues_interview, Queues_probe, Hears, Requests_do, Interviews, Interview_unkept, Unreads, Is_unkept, Reports_old, Works, Finishes, Offers, Gives, Spends, Spends_unread, Takes_nonce, Notifies, Resends, Hears_value, Has_no_room, Line_ticks, Node_ticks, Queues_no_more, Drops_no_more, Submits_abort, Submits_front, Starts, Gives_text, Gives_segment, Begins, Begin_unkept}
 use Rattle.host_events.specs.Outs.{outs, answer_to, copy_out, noted}
 use Rattle.host_events.specs.declared.out.HostOut.{HostOut}
 use Rattle.host_events.specs.declared.out.HostOut.TheVariants.{Write, Note}
 use Rattle.outer_events.specs.State.{Outside, OuterState}
-use Rattle.outer_events.specs.Events.{OuterEvent, Host_writes, Host_notes, Host_begins, happens, entries, outcome, devices_after, stamp, ticked_entry, has_entered}
-use Rattle.outer_events.specs.Did.{happens_all, entries_all}
-use Rattle.outer_events.proofs.Doing.{happens_all-append, entries_all-append}
-use Rattle.zw_machine.specs.State.{begun_in, noted_by, routed, routed_one}
+use Rattle.outer_events.specs.Events.{Host_writes, Host_notes, Host_begins, happens, entries, outcome, devices_after, ticked_entry}
+use Rattle.outer_events.specs.Did.{entries_all}
+use Rattle.zw_machine.specs.State.{begun_in, noted_by, routed}
 use Rattle.zw_machine.specs.Events.{answers}
 use Rattle.host_facts.specs.Entries.{IsAside, note_of, notes_of, entries_at}
 use Rattle.host_facts.proofs.Lists.{all-append}
@@ -142,7 +138,7 @@ one_noted w None e notes rest =
     ∙ append_assoc (ticked_entry w.outer) (e ∷ []) notes
 one_noted w (Some begun) e notes rest =
     ap (λ (l : List Entry). (ticked_entry w.outer ++ e ∷ []) ++ l)
-        (rest (happens (happens w (Host_begins begun.0 begun.1)) (Host_notes e)) (stamped_after w.outer.in_tick w.outer.stamped))
+    (rest (happens (happens w (Host_begins begun.0 begun.1)) (Host_notes e)) (stamped_after w.outer.in_tick w.outer.stamped))
     ∙ append_assoc (ticked_entry w.outer) (e ∷ []) notes
 
 as_noted : (notes : List Entry) → AreAsNoted notes
@@ -163,9 +159,9 @@ units_behind w (u ∷ units) notes =
 pub puts_behind : (w : Outside) (puts : List HostOut) → Puts puts → Behind (notes_of puts) (entries_all w (routed puts))
 puts_behind w puts is =
     let noted_are : notes_of puts ≡ is.entries =
-        ap (λ (l : List HostOut). notes_of l) is.are
-        ∙ (notes_of-append (map Write is.units) (map Note is.entries)
-        ∙ (ap (λ (l : List Entry). l ++ notes_of (map Note is.entries)) (units_note is.units) ∙ notes_note is.entries)) in
+    ap (λ (l : List HostOut). notes_of l) is.are
+    ∙ (notes_of-append (map Write is.units) (map Note is.entries)
+    ∙ (ap (λ (l : List Entry). l ++ notes_of (map Note is.entries)) (units_note is.units) ∙ notes_note is.entries)) in
     subst (λ (l : List Entry). Behind l (entries_all w (routed puts))) (sym noted_are)
     (subst (λ (l : List HostOut). Behind is.entries (entries_all w (routed l))) (sym is.are) (units_behind w is.units is.entries))
 

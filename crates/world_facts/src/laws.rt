@@ -9,9 +9,12 @@ ghost use Rattle.zw_machine.specs.Events.{Event, happens, entries, May};
 ghost use Rattle.zw_machine.specs.Did.{happens_all, entries_all, MayAll};
 ghost use Rattle.host_facts.specs.Laws.{HostLaws};
 ghost use Rattle.host_facts.specs.Facts.{Facts, AreShown};
+ghost use Rattle.host_facts.specs.Stores.{StoresLaw};
 ghost use Rattle.world_facts.specs.Restarts.{StartsWell, AllStartWell};
 
-use host_facts::{asides_keep_facts, events_keep_facts, first_facts_hold, laws_follow, restarts_keep_facts};
+use host_facts::{
+    asides_keep_facts, events_keep_facts, first_facts_hold, laws_follow, restarts_keep_facts,
+};
 
 /// The facts of the host hold of an empty transcript at first, and every event of the machine that may happen keeps them, with what is
 /// entered at it.
@@ -37,6 +40,9 @@ pub fn runs_keep_laws()
     ensures tables { (keys : Keys) (records : Option (List (List ℕ))) (devices : List State) (events : List Event) →
         MayAll (first_machine keys records devices) events → AllStartWell (first_machine keys records devices) events →
         AreShown (entries_all (first_machine keys records devices) events) (happens_all (first_machine keys records devices) events).host.state }
+    ensures stores { (keys : Keys) (records : Option (List (List ℕ))) (devices : List State) (events : List Event) →
+        MayAll (first_machine keys records devices) events → AllStartWell (first_machine keys records devices) events →
+        StoresLaw (entries_all (first_machine keys records devices) events) (happens_all (first_machine keys records devices) events).host.state }
 {
     the_machine_keeps_facts();
     laws_follow();

@@ -1,15 +1,13 @@
 -- Lists of events that were done one after another.
-use Rattle.std.proofs.Common.{◌≡◌, ℕ, ◌≤◌, List, [], ◌∷◌, ◌++◌, inl, inr, refl, ap, sym, ◌∙◌, subst, append_assoc, arith}
+use Rattle.std.proofs.Common.{◌≡◌, ℕ, ◌≤◌, List, [], ◌∷◌, ◌++◌, refl, ap, sym, ◌∙◌, subst, append_assoc, arith}
 use Rattle.std.specs.Prelude.{Bool, true, false, ◌||◌}
 use Rattle.std.specs.List.{list_any}
-use Rattle.std.proofs.lemmas.Bool.{cases_eq}
 use Rattle.std.proofs.lemmas.List.{append-nil}
-use Rattle.zw_base.specs.Faults.{Rose, greatest_count}
 use Rattle.zw_text.specs.declared.entry.Entry.{Entry}
 use Rattle.host_events.specs.Did.{RoseIf}
 use Rattle.host_events.proofs.Doing.{rose_by_later, rose_since}
 use Rattle.zw_machine.specs.State.{Machine}
-use Rattle.zw_machine.specs.Events.{Event, happens, entries, May}
+use Rattle.zw_machine.specs.Events.{Event, happens, entries}
 use Rattle.zw_machine.specs.Did.{happens_all, entries_all, MayAll, is_unkept, Counted, Scene, Run, Stops}
 
 pub happens_all-append : (m : Machine) (a b : List Event) → happens_all m (a ++ b) ≡ happens_all (happens_all m a) b
@@ -80,7 +78,7 @@ pub stopped_later : (a : List Event) (old mid new : Scene) → Run a old mid →
 stopped_later a old mid new first later =
     let there : mid.machine ≡ happens_all old.machine a = first.state in
     let after : happens_all mid.machine later.events ≡ happens_all old.machine (a ++ later.events) =
-        ap (λ (m : Machine). happens_all m later.events) there ∙ sym (happens_all-append old.machine a later.events) in
+    ap (λ (m : Machine). happens_all m later.events) there ∙ sym (happens_all-append old.machine a later.events) in
     record {
       events = a ++ later.events;
       may = may_all-append old.machine a later.events first.may (subst (λ (m : Machine). MayAll m later.events) there later.may);

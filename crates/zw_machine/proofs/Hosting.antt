@@ -1,31 +1,27 @@
 -- Events of the host, as the machine's: what it puts out is routed once they are all done.
-use Rattle.std.proofs.Common.{◌≡◌, ℕ, ◌≤◌, ◌⊎◌, inl, inr, Bool, true, false, List, [], ◌∷◌, ◌++◌, map, refl, ap, sym, ◌∙◌, subst, append_assoc, arith}
-use Rattle.std.specs.Prelude.{Option, Some, None, ◌||◌, if◌then◌else◌}
-use Rattle.std.specs.List.{list_any, flat_map}
+use Rattle.std.proofs.Common.{◌≡◌, ℕ, ◌≤◌, Bool, true, false, List, [], ◌∷◌, ◌++◌, map, refl, ap, sym, ◌∙◌, subst, append_assoc}
+use Rattle.std.specs.Prelude.{Option, Some, None, ◌||◌}
+use Rattle.std.specs.List.{list_any}
 use Rattle.std.proofs.lemmas.List.{append-nil, map-append}
-use Rattle.zw_base.specs.Faults.{Rose}
 use Rattle.zw_text.specs.declared.entry.Entry.{Entry}
-use Rattle.zw_text.specs.declared.entry.Entry.TheVariants.{Begin}
-use Rattle.device_sim.specs.State.{State}
 use Rattle.host_keep.specs.Keeping.{OptAdds}
 use Rattle.host_keep.specs.declared.record.Record.{Record}
 use Rattle.host_keep.specs.RecordText.{record_text}
-use Rattle.host_events.specs.State.{HostState, HostParts}
+use Rattle.host_events.specs.State.{HostState}
 use Rattle.host_events.specs.Events.{HostEvent}
 use Rattle.host_events.specs.After.{after}
 use Rattle.host_events.specs.Outs.{outs}
 use Rattle.host_events.specs.Records.{records_at}
-use Rattle.host_events.specs.Did.{after_all, outs_all, records_all, texts_of, MayAll as MayAllHost, is_unkept as is_unkept_by_host, RoseIf, RoseAll, Shelf, Did}
+use Rattle.host_events.specs.Did.{after_all, outs_all, records_all, texts_of, MayAll as MayAllHost, is_unkept as is_unkept_by_host, RoseIf, RoseAll, Did}
 use Rattle.host_events.specs.declared.out.HostOut.{HostOut}
 use Rattle.host_events.specs.declared.out.HostOut.TheVariants.{Write, Note}
-use Rattle.host_events.proofs.Doing.{rose_by_later, rose_since}
 use Rattle.outer_events.specs.State.{Outside, OuterState, outside}
-use Rattle.outer_events.specs.Events.{OuterEvent, Host_writes, Host_notes, Host_begins, happens as happens_outside, entries as entries_outside, devices_after, outcome}
+use Rattle.outer_events.specs.Events.{OuterEvent, Host_notes, happens as happens_outside, devices_after}
 use Rattle.outer_events.specs.Did.{happens_all as happens_all_outside, entries_all as entries_all_outside, Goes}
 use Rattle.outer_events.proofs.Doing.{happens_all-append as outside-append, entries_all-append as outside_entries-append}
 use Rattle.zw_machine.specs.State.{Machine, begun_in, noted_by, routed, routed_one, with_texts, host_does, host_entries}
 use Rattle.zw_machine.specs.Events.{Event, Host_does, answers, happens, entries, May}
-use Rattle.zw_machine.specs.Did.{happens_all, entries_all, MayAll, is_unkept, Counted, Scene, Run, Stops}
+use Rattle.zw_machine.specs.Did.{happens_all, entries_all, MayAll, is_unkept, Counted, Run, Stops}
 
 -- ---- records
 
@@ -59,26 +55,30 @@ does_cons m e es =
       keys = m.keys;
       host = record { decoder = m.host.decoder; state = after_all (after h e) es };
       records = with_texts (with_texts m.records (texts_of (records_all h (e ∷ [])))) (texts_of (records_all (after h e) es));
-      outside = happens_all_outside (happens_all_outside m.outside (routed l)) (routed rest) }) first
+      outside = happens_all_outside (happens_all_outside m.outside (routed l)) (routed rest);
+    }) first
     ∙ (ap (λ (l : List Record). record {
       keys = m.keys;
       host = record { decoder = m.host.decoder; state = after_all (after h e) es };
       records = with_texts (with_texts m.records (texts_of l)) (texts_of (records_all (after h e) es));
-      outside = happens_all_outside (happens_all_outside m.outside (routed (outs h e))) (routed rest) }) kept
+      outside = happens_all_outside (happens_all_outside m.outside (routed (outs h e))) (routed rest);
+    }) kept
     ∙ (ap (λ (r : Option (List (List ℕ))). record {
       keys = m.keys;
       host = record { decoder = m.host.decoder; state = after_all (after h e) es };
       records = r;
-      outside = happens_all_outside (happens_all_outside m.outside (routed (outs h e))) (routed rest) })
-        (with_texts-append m.records (texts_of (records_at h e)) (texts_of (records_all (after h e) es))
-        ∙ ap (λ (l : List (List ℕ)). with_texts m.records l) (sym (map-append record_text (records_at h e) (records_all (after h e) es))))
+      outside = happens_all_outside (happens_all_outside m.outside (routed (outs h e))) (routed rest);
+    })
+    (with_texts-append m.records (texts_of (records_at h e)) (texts_of (records_all (after h e) es))
+    ∙ ap (λ (l : List (List ℕ)). with_texts m.records l) (sym (map-append record_text (records_at h e) (records_all (after h e) es))))
     ∙ ap (λ (w : Outside). record {
       keys = m.keys;
       host = record { decoder = m.host.decoder; state = after_all (after h e) es };
       records = with_texts m.records (texts_of (records_all h (e ∷ es)));
-      outside = w })
-        (sym (outside-append m.outside (routed (outs h e)) (routed rest))
-        ∙ ap (λ (l : List OuterEvent). happens_all_outside m.outside l) (sym (routed-append (outs h e) rest)))))
+      outside = w;
+    })
+    (sym (outside-append m.outside (routed (outs h e)) (routed rest))
+    ∙ ap (λ (l : List OuterEvent). happens_all_outside m.outside l) (sym (routed-append (outs h e) rest)))))
 
 pub entries_cons : (m : Machine) (e : HostEvent) (es : List HostEvent) → host_entries m (e ∷ []) ++ host_entries (host_does m (e ∷ [])) es ≡ host_entries m (e ∷ es)
 entries_cons m e es =

@@ -1,15 +1,14 @@
 -- Events outside the host, as the machine's.
-use Rattle.std.proofs.Common.{◌≡◌, ℕ, ◌≤◌, Bool, true, false, List, [], ◌∷◌, ◌++◌, map, refl, ap, sym, ◌∙◌, subst, arith}
+use Rattle.std.proofs.Common.{◌≡◌, ℕ, Bool, false, List, [], ◌∷◌, ◌++◌, map, refl, ap, sym, ◌∙◌, subst, arith}
 use Rattle.std.specs.List.{list_any}
-use Rattle.device_sim.specs.State.{State}
 use Rattle.zw_text.specs.declared.entry.Entry.{Entry}
 use Rattle.host_events.specs.Did.{RoseIf}
-use Rattle.outer_events.specs.State.{Outside, OuterState, outside}
+use Rattle.outer_events.specs.State.{Outside}
 use Rattle.outer_events.specs.Events.{OuterEvent, AreOwn, happens as happens_outside, entries as entries_outside}
-use Rattle.outer_events.specs.Did.{happens_all as happens_all_outside, entries_all as entries_all_outside, MayAll as MayAllOutside, Run as RunOutside, Stops as StopsOutside, Goes}
+use Rattle.outer_events.specs.Did.{happens_all as happens_all_outside, entries_all as entries_all_outside, MayAll as MayAllOutside, Run as RunOutside, Stops as StopsOutside}
 use Rattle.zw_machine.specs.State.{Machine, with_outside}
-use Rattle.zw_machine.specs.Events.{Event, Outside_does, happens, entries, May}
-use Rattle.zw_machine.specs.Did.{happens_all, entries_all, MayAll, is_unkept, Counted, Scene, Run, Stops}
+use Rattle.zw_machine.specs.Events.{Outside_does, happens, entries, May}
+use Rattle.zw_machine.specs.Did.{happens_all, entries_all, MayAll, is_unkept, Counted, Run, Stops}
 
 pub happens_outside-all : (m : Machine) (es : List OuterEvent) → happens_all m (map Outside_does es) ≡ with_outside m (happens_all_outside m.outside es)
 unfolding happens

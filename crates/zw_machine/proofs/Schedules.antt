@@ -1,15 +1,13 @@
 -- Schedules one after another, and those of what is outside the host.
-use Rattle.std.proofs.Common.{◌≡◌, ℕ, zero, suc, ◌+◌, Bool, true, false, List, [], ◌∷◌, ◌++◌, map, length, refl, ap, sym, ◌∙◌, subst}
-use Rattle.std.specs.Prelude.{Option}
+use Rattle.std.proofs.Common.{ℕ, zero, suc, ◌+◌, Bool, true, false, List, [], ◌∷◌, ◌++◌, map, refl, sym, subst}
 use Rattle.zw_text.specs.declared.entry.Entry.{Entry}
-use Rattle.device_sim.specs.State.{State}
-use Rattle.outer_events.specs.State.{Outside, OuterState, outside, is_stalled}
+use Rattle.outer_events.specs.State.{Outside, OuterState}
 use Rattle.outer_events.specs.Events.{OuterEvent, AreOwn}
-use Rattle.outer_events.specs.Did.{RunOf as RunOfOutside, Goes, GoesOf, GoesFor}
-use Rattle.outer_events.specs.Schedules.{TakesAll, TakesBy, ChipTakes, Arrivals, Delivers, Givings, DeviceTicks, IsRepeat, IsWake, IsSet}
+use Rattle.outer_events.specs.Did.{RunOf as RunOfOutside}
+use Rattle.outer_events.specs.Schedules.{TakesBy, Arrivals, Givings, DeviceTicks, IsRepeat, IsWake, IsSet}
 use Rattle.zw_machine.specs.State.{Machine, with_outside}
 use Rattle.zw_machine.specs.Events.{Event, Outside_does}
-use Rattle.zw_machine.specs.Did.{Schedule, Scene, Run, Stops, Does, Then, happens_all}
+use Rattle.zw_machine.specs.Did.{Schedule, Scene, Stops, Does, Then}
 use Rattle.zw_machine.specs.Settling.{Outside as OutsideOf}
 use Rattle.zw_machine.proofs.Doing.{ran_both, stopped_later}
 use Rattle.zw_machine.proofs.Outside.{ran_outside}

@@ -1,7 +1,6 @@
 -- Events of a pump, of a tick and of bytes of the chip answer no line.
-use Rattle.std.proofs.Common.{◌≡◌, ℕ, ◌⊎◌, inl, inr, Bool, true, false, List, [], ◌∷◌, ◌++◌, map, refl, sym, ◌∙◌, subst}
+use Rattle.std.proofs.Common.{◌≡◌, ℕ, inl, inr, Bool, true, false, List, [], ◌∷◌, map, refl, sym, subst}
 use Rattle.std.specs.Prelude.{Option, Some, None, if◌then◌else◌}
-use Rattle.zw_text.specs.declared.entry.Entry.{Entry}
 use Rattle.std.specs.Prelude.{Result, Ok, Err, nat_lt}
 use Rattle.std.proofs.lemmas.Bool.{cases_Bool}
 use Rattle.zw_base.specs.declared.property.Setting.{Setting}
@@ -215,5 +214,5 @@ judged_silent h (item ∷ items) es judged =
     let (first, rest, are, (more, are_first, followed), others) = judged in
     subst (λ (l : List HostEvent). Silent l) (sym are)
     (silent-append first rest
-        (subst (λ (l : List HostEvent). Silent l) (sym are_first) ((λ s. refl), followed_silent (after h (Hears item)) h.side.turn item more followed))
-        (judged_silent (after_all h first) items rest others))
+    (subst (λ (l : List HostEvent). Silent l) (sym are_first) ((λ s. refl), followed_silent (after h (Hears item)) h.side.turn item more followed))
+    (judged_silent (after_all h first) items rest others))

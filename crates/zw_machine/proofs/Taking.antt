@@ -8,18 +8,17 @@ use Rattle.std.proofs.Math.Seq.{take-append_seam}
 use Rattle.serial_frame.specs.Stream.{Rest, Feeds}
 use Rattle.serial_frame.specs.declared.item.Item.{Item}
 use Rattle.zw_text.specs.declared.entry.Entry.{Entry}
-use Rattle.device_sim.specs.State.{State}
 use Rattle.host_events.specs.State.{HostState, HostParts}
 use Rattle.host_events.specs.Events.{HostEvent}
-use Rattle.host_events.specs.Did.{MayAll as MayAllHost, after_all, outs_all, records_all, texts_of, is_unkept as is_unkept_by_host, RoseIf, Did}
-use Rattle.host_events.specs.Taking.{AreJudged, Fed, FedFront}
+use Rattle.host_events.specs.Did.{MayAll as MayAllHost, after_all, outs_all, records_all, texts_of, is_unkept as is_unkept_by_host, RoseIf}
+use Rattle.host_events.specs.Taking.{Fed, FedFront}
 use Rattle.host_events.specs.declared.out.HostOut.{HostOut}
 use Rattle.outer_events.specs.State.{Outside, OuterState, outside, is_stalled}
-use Rattle.outer_events.specs.Events.{OuterEvent, Host_takes as host_takes, happens as happens_outside, entries as entries_outside, devices_after}
+use Rattle.outer_events.specs.Events.{Host_takes as host_takes, happens as happens_outside, devices_after}
 use Rattle.outer_events.specs.Did.{happens_all as happens_all_outside, entries_all as entries_all_outside, Goes}
-use Rattle.zw_machine.specs.State.{Machine, routed, with_texts, host_does, host_entries}
-use Rattle.zw_machine.specs.Events.{Event, Host_does, Host_takes, fed, MayTake, happens, entries, May}
-use Rattle.zw_machine.specs.Did.{happens_all, entries_all, MayAll, is_unkept, Counted, Scene, Run, Stops}
+use Rattle.zw_machine.specs.State.{Machine, routed, with_texts, host_entries}
+use Rattle.zw_machine.specs.Events.{Event, Host_does, Host_takes, fed, happens, entries, May}
+use Rattle.zw_machine.specs.Did.{Counted, Run, Stops}
 use Rattle.zw_machine.proofs.Hosting.{adds_is, rose_any, routed_still, devices_host-all, records_host-all, may_host-all, stopped_by}
 
 or_false : (b : Bool) → (b || false) ≡ b
@@ -39,7 +38,7 @@ module _ (m : Machine) (count : ℕ) (parts : HostParts) (puts : List HostOut) (
 
   pub ran_takes : (mid o : OuterState) → Goes (host_takes count ∷ []) m.outside.outer mid [] [] → Goes (routed puts) mid o before all
       → Run (event ∷ []) (record { machine = m; entries = before; faults = f })
-          (record { machine = record { keys = m.keys; host = parts; records = records; outside = outside o m.outside.devices }; entries = all; faults = g })
+      (record { machine = record { keys = m.keys; host = parts; records = records; outside = outside o m.outside.devices }; entries = all; faults = g })
   unfolding happens entries May
   ran_takes mid o taken goes =
       let h = m.host.state in
@@ -85,7 +84,7 @@ stopped_takes m new count parts puts records f g before all moves fed_by devices
 front_is : (count : ℕ) (bytes front left : List ℕ) → take count bytes ≡ front ++ left → take (length front) bytes ≡ front
 front_is count bytes front left parts =
     ap (λ (l : List ℕ). take (length front) l)
-        (sym (take-append-drop count bytes) ∙ (ap (λ (l : List ℕ). l ++ drop count bytes) parts ∙ append_assoc front left (drop count bytes)))
+    (sym (take-append-drop count bytes) ∙ (ap (λ (l : List ℕ). l ++ drop count bytes) parts ∙ append_assoc front left (drop count bytes)))
     ∙ take-append_seam front (left ++ drop count bytes)
 
 -- it took a front of some bytes, and then memory was wanting
@@ -103,14 +102,15 @@ stopped_front m new count parts puts records f g before all moves front devices 
     let there : front.mid.state ≡ after_all h es = front.fed.did.state in
     let some_kept : front.kept.records ≡ with_texts m.records (texts_of (records_all h es)) = adds_is m.records front.kept.records (texts_of (records_all h es)) front.fed.did.records in
     let feeds : Feeds m.host.decoder (take n m.outside.outer.to_host.bytes) front.mid.decoder front.fed.items =
-        subst (λ (l : List ℕ). Feeds m.host.decoder l front.mid.decoder front.fed.items) (sym (front_is count m.outside.outer.to_host.bytes front.front front.left front.parts)) front.fed.feeds in
-    stopped_by (e ∷ map Host_does front.begun) m new before all f g
-    (record { moves = moves; feeds = feeds; judged = front.fed.judged; may = front.fed.did.may },
-     may_host-all (happens m e) front.begun (subst (λ (s : HostState). MayAllHost s front.begun) there front.did.may))
+    subst (λ (l : List ℕ). Feeds m.host.decoder l front.mid.decoder front.fed.items) (sym (front_is count m.outside.outer.to_host.bytes front.front front.left front.parts)) front.fed.feeds in
+    stopped_by (e ∷ map Host_does front.begun) m new before all f g (
+      record { moves = moves; feeds = feeds; judged = front.fed.judged; may = front.fed.did.may },
+      may_host-all (happens m e) front.begun (subst (λ (s : HostState). MayAllHost s front.begun) there front.did.may),
+    )
     (devices ∙ (sym (taken_still m n front.mid.decoder front.fed.items es) ∙ sym (devices_host-all (happens m e) front.begun)))
     (kept
-        ∙ (adds_is front.kept.records records (texts_of (records_all front.mid.state front.begun)) front.did.records
-        ∙ (ap (λ (r : Option (List (List ℕ))). with_texts r (texts_of (records_all front.mid.state front.begun))) some_kept
-        ∙ (ap (λ (s : HostState). with_texts (with_texts m.records (texts_of (records_all h es))) (texts_of (records_all s front.begun))) there
-        ∙ sym (records_host-all (happens m e) front.begun)))))
+    ∙ (adds_is front.kept.records records (texts_of (records_all front.mid.state front.begun)) front.did.records
+    ∙ (ap (λ (r : Option (List (List ℕ))). with_texts r (texts_of (records_all front.mid.state front.begun))) some_kept
+    ∙ (ap (λ (s : HostState). with_texts (with_texts m.records (texts_of (records_all h es))) (texts_of (records_all s front.begun))) there
+    ∙ sym (records_host-all (happens m e) front.begun)))))
     same (omega (arith, front.fed.did.never_falls, front.did.never_falls))

@@ -1,6 +1,6 @@
 -- What may happen to the machine, one event at a time, what it makes of it, and its entries (this project's own rule). An event carries
 -- what is chosen in it.
-use Rattle.std.specs.Prelude.{◌≡◌, ℕ, ◌+◌, Bool, true, false, Option, Some, None, List, [], ◌∷◌, ◌++◌, length, map, take}
+use Rattle.std.specs.Prelude.{◌≡◌, ℕ, ◌+◌, true, false, Option, Some, None, List, [], ◌∷◌, ◌++◌, length, map, take}
 use Rattle.serial_frame.specs.Stream.{Rest, Feeds, after_tick, no_rest}
 use Rattle.serial_frame.specs.declared.item.Item.{Item}
 use Rattle.s0_crypto.specs.declared.key_pair.Keys.{Keys}

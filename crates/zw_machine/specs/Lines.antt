@@ -1,5 +1,5 @@
 -- Which events a line is (this project's own rule): its own effect and a settling, or so many ticks.
-use Rattle.std.specs.Prelude.{◌≡◌, ◌⊎◌, ℕ, true, false, List, [], ◌∷◌, ◌++◌, length, Option, Some, None}
+use Rattle.std.specs.Prelude.{◌≡◌, ◌⊎◌, true, false, List, [], ◌∷◌, length, Option, Some, None}
 use Rattle.zw_words.specs.declared.side.Side.TheVariants as side
 use Rattle.zw_text.specs.declared.line.Line.{Line}
 use Rattle.zw_text.specs.declared.line.Line.TheVariants.{Command, Tick, Cut, Stall, Drop, Garble, Collide, Send, Get, Join, Interview, Lose, LoseAck, Repeat, Wake, Cancel, Link, Unlink, Discover, Neighbours, Failed, Probe, Local, Show, Store, Restart}
@@ -8,16 +8,14 @@ use Rattle.host_orders.specs.declared.refused.Refused.{Refused}
 use Rattle.host_orders.specs.Refusals.{classes_of}
 use Rattle.host_orders.specs.Errands.{send_refusal, send_text, get_refusal, get_text}
 use Rattle.host_requests.specs.declared.task.Task.TheVariants as task
-use Rattle.serial_pipes.specs.declared.marks.Garble.{Garble as TheGarble}
 use Rattle.host_events.specs.State.{HostState, node_of}
 use Rattle.host_events.specs.Events.{HostEvent, Accepts, Cancels, Joins as joins_host, Queues, Queues_interview, Queues_probe}
 use Rattle.host_events.specs.May.{known_of}
 use Rattle.host_events.specs.Asking.{carriage_for, places_refusal, interview_refusal}
 use Rattle.outer_events.specs.Events.{OuterEvent, Begins_line, Discovers, Joins, Links, Loses, Loses_acks, Marks_loss, Marks_change, Clears_pipe, Collides_next, Stalls, Cuts, Shows}
 use Rattle.outer_events.specs.Schedules.{IsRepeat, IsWake, IsSet}
-use Rattle.zw_machine.specs.State.{Machine}
 use Rattle.zw_machine.specs.Refusals.{shown}
-use Rattle.zw_machine.specs.Events.{Event, Outside_does, Host_does, Refuses, Shows_values, Restarts, happens}
+use Rattle.zw_machine.specs.Events.{Event, Outside_does, Host_does, Refuses, Shows_values, Restarts}
 use Rattle.zw_machine.specs.Did.{Schedule, Then, These}
 use Rattle.zw_machine.specs.Settling.{Outside, Settles}
 use Rattle.zw_machine.specs.Ticking.{Ticks}
@@ -62,10 +60,10 @@ IsEffect (Garble by place xor) m events = IsOne (Marks_change by (record { place
 IsEffect Collide m events = IsOne Collides_next events
 IsEffect (Send node word) m events =
     Asks (send_refusal (known_of (node_of m.host.state node)) (length m.host.state.requests.queue) word) (Send node word)
-        (Queues (task.Plain node (send_text (classes_of (known_of (node_of m.host.state node))) word))) events
+    (Queues (task.Plain node (send_text (classes_of (known_of (node_of m.host.state node))) word))) events
 IsEffect (Get node end) m events =
     Asks (get_refusal (known_of (node_of m.host.state node)) (length m.host.state.requests.queue) end) (Get node end)
-        (Queues (task.Plain node (get_text (classes_of (known_of (node_of m.host.state node))) end))) events
+    (Queues (task.Plain node (get_text (classes_of (known_of (node_of m.host.state node))) end))) events
 IsEffect (Join node) m events = IsDone (Join node) (Host_does (joins_host node) ∷ Outside_does (Joins node) ∷ []) events
 IsEffect (Interview node) m events = Asks (interview_refusal m.host.state node) (Interview node) (Queues_interview node) events
 IsEffect (Lose count) m events = IsOne (Loses count) events

@@ -8,7 +8,6 @@ use Rattle.host_events.specs.Pumping.{Pumps}
 use Rattle.outer_events.specs.State.{is_stalled}
 use Rattle.outer_events.specs.Events.{OuterEvent}
 use Rattle.outer_events.specs.Schedules.{ChipTakes}
-use Rattle.zw_machine.specs.State.{Machine}
 use Rattle.zw_machine.specs.Events.{Event, Outside_does, Host_does, Host_takes}
 use Rattle.zw_machine.specs.Did.{happens_all, Schedule, Then}
 

@@ -1,9 +1,8 @@
 -- The final table (this project's own): the clock; then for each joined node, in order, its sessions, its values and its device.
-use Rattle.std.specs.Prelude.{ℕ, List, [], ◌∷◌, ◌++◌, map, filter, Option, Some, None}
+use Rattle.std.specs.Prelude.{ℕ, List, ◌∷◌, ◌++◌, map, filter}
 use Rattle.std.specs.List.{flat_map, range_with_len}
 use Rattle.value_store.specs.Values.{held_of}
 use Rattle.value_store.specs.declared.stored.Held.{Held}
-use Rattle.device_sim.specs.State.{State}
 use Rattle.mesh_sim.specs.Fates.{place_of}
 use Rattle.zw_text.specs.declared.entry.Entry.{Entry}
 use Rattle.zw_text.specs.declared.entry.Entry.TheVariants.{TableEnd, TableNode, TableValue}

@@ -1,11 +1,10 @@
 -- Which events ticks of 100 ms are (this project's own rule): frames on the air are delivered, results are given to the chip; the devices,
 -- the chip and the host tick; and the whole settles.
-use Rattle.std.specs.Prelude.{◌≡◌, ℕ, zero, suc, List, [], ◌∷◌, map, length}
+use Rattle.std.specs.Prelude.{◌≡◌, ℕ, zero, suc, [], ◌∷◌, map, length}
 use Rattle.host_events.specs.Ticking.{tick_events}
 use Rattle.outer_events.specs.Events.{Begins_tick, Chip_ticks}
 use Rattle.outer_events.specs.Schedules.{Delivers, Givings, DeviceTicks}
-use Rattle.zw_machine.specs.State.{Machine}
-use Rattle.zw_machine.specs.Events.{Event, Outside_does, Host_does, Decoder_ticks}
+use Rattle.zw_machine.specs.Events.{Outside_does, Host_does, Decoder_ticks}
 use Rattle.zw_machine.specs.Did.{Schedule, Then, These}
 use Rattle.zw_machine.specs.Settling.{Outside, Settles}
 

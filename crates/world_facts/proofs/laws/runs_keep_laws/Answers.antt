@@ -12,3 +12,8 @@ pub returns-clause-tables : goal.returns-clause-tables
 returns-clause-tables c = λ keys records devices events may well.
     c.laws_follow.ensures.tables _ _
     (c.the_machine_keeps_facts.ensures.all [] (first_machine keys records devices) events (c.the_machine_keeps_facts.ensures.first keys records devices) may well)
+
+pub returns-clause-stores : goal.returns-clause-stores
+returns-clause-stores c = λ keys records devices events may well.
+    c.laws_follow.ensures.stores _ _
+    (c.the_machine_keeps_facts.ensures.all [] (first_machine keys records devices) events (c.the_machine_keeps_facts.ensures.first keys records devices) may well)
