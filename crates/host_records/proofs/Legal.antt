@@ -106,12 +106,16 @@ last_open false k session = by (session == k)
     by true = refl
     by false = refl
 
--- all but an order, whose test looks at properties besides
-pub others_test : (h : HostState) (kept : Kept) (one : Record) → ((command : ℕ) (order : Order) → may_restore h (Accepted command order) ≡ is_legal kept (Accepted command order)) → Holds h kept → may_restore h one ≡ is_legal kept one
-others_test h kept (Accepted command order) orders x = orders command order
-others_test h kept (Joined n) orders x = ap (λ (b : Bool). not b && not (n == 1)) (x.nodes n).joined
-others_test h kept (Classes n listens classes) orders x = (x.nodes n).joined
-others_test h kept (Begun n session command) orders x =
+-- it is no order, whose test looks at properties besides
+abbrev pub NoOrder : Record → Type 0
+NoOrder (Accepted command order) = ⊥
+NoOrder one = Unit {0}
+
+pub others_test : (h : HostState) (kept : Kept) (one : Record) → NoOrder one → Holds h kept → may_restore h one ≡ is_legal kept one
+others_test h kept (Accepted command order) none x = absurd none
+others_test h kept (Joined n) none x = ap (λ (b : Bool). not b && not (n == 1)) (x.nodes n).joined
+others_test h kept (Classes n listens classes) none x = (x.nodes n).joined
+others_test h kept (Begun n session command) none x =
     let y = x.nodes n in
     let sessions = (kept_of_node kept n).sessions in
     ap (λ (l : List ℕ). (session == length l + 1) && is_none (open_session (node_of h n).book) && is_first (node_of h n).waiting command) y.sessions
@@ -119,18 +123,19 @@ others_test h kept (Begun n session command) orders x =
     ∙ ap (λ (b : Bool). (session == length sessions + 1) && b && is_first (node_of h n).waiting command)
     (ap (λ (o : Option ℕ). is_none o) (opened_by (node_of h n).book sessions y.sessions y.ended) ∙ none_open (is_open sessions) (length sessions))
     ∙ ap (λ (l : List ℕ). (session == length sessions + 1) && not (is_open sessions) && is_first l command) y.waiting
-others_test h kept (Final n session status) orders x =
+others_test h kept (Final n session status) none x =
     let y = x.nodes n in
     let sessions = (kept_of_node kept n).sessions in
     ap (λ (o : Option ℕ). is_session o session) (opened_by (node_of h n).book sessions y.sessions y.ended) ∙ last_open (is_open sessions) (length sessions) session
-others_test h kept (Cancelled command) orders x =
+others_test h kept (Cancelled command) none x =
     ap (λ (l : List ℕ). is_among l command) (x.nodes (node_for h command)).waiting ∙ ap (λ (m : ℕ). is_among (kept_of_node kept m).waiting command) (sym (same_node h kept command x))
-others_test h kept (Given n given nonce) orders x =
+others_test h kept (Given n given nonce) none x =
     let y = x.nodes n in
     ap (λ (k : ℕ). (given == k + 1) && is_none (live_of h.nonces n) && (slice_index nonce 0 == given % 256)) y.given
     ∙ ap (λ (o : Option (List ℕ)). (given == (kept_of_node kept n).given + 1) && is_none o && (slice_index nonce 0 == given % 256)) y.live
-others_test h kept (Spent n) orders x = ap (λ (o : Option (List ℕ)). is_some o) (x.nodes n).live
-others_test h kept (Seen n seen) orders x = ap (λ (k : ℕ). seen == k + 1) (x.nodes n).seen
+others_test h kept (Spent n) none x = ap (λ (o : Option (List ℕ)). is_some o) (x.nodes n).live
+others_test h kept (Seen n seen) none x = ap (λ (k : ℕ). seen == k + 1) (x.nodes n).seen
 
 pub may_is_legal : (h : HostState) (kept : Kept) (one : Record) → HoldsAlone h kept → may_restore h one ≡ is_legal kept one
-may_is_legal h kept one x = others_test h kept one (λ command order. accepted_test h kept command order x) x.holds
+may_is_legal h kept (Accepted command order) x = accepted_test h kept command order x
+may_is_legal h kept one x = others_test h kept one tt x.holds

@@ -24,3 +24,4 @@ mod RestoredFacts
 mod Restores
 mod Legal
 mod Fold
+mod Recorded

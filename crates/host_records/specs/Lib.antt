@@ -1,3 +1,4 @@
 pub mod Restoring
 pub mod Opening
 pub mod Holding
+pub mod Recording

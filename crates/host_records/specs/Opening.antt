@@ -1,5 +1,5 @@
 -- A host that starts from its records (this project's own rule, docs/RECORDS.md).
-use Rattle.std.specs.Prelude.{ℕ, List, [], ◌∷◌, ◌++◌, map, take, drop}
+use Rattle.std.specs.Prelude.{List, [], ◌∷◌, ◌++◌, map, take, drop}
 use Rattle.s0_crypto.specs.declared.key_pair.Keys.{Keys}
 use Rattle.host_node.specs.State.{NodeState}
 use Rattle.host_node.specs.Steps.{after_restart}

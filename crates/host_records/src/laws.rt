@@ -1,6 +1,6 @@
 //! What holds of a host and its records.
 
-ghost use Rattle.std.specs.Prelude.{List};
+ghost use Rattle.std.specs.Prelude.{◌≡◌, List, None};
 ghost use Rattle.s0_crypto.specs.declared.key_pair.Keys.{Keys};
 ghost use Rattle.host_keep.specs.Kept.{Kept, first_kept, after_all as kept_after_all};
 ghost use Rattle.host_events.specs.State.{HostState, first_host};
@@ -10,6 +10,8 @@ ghost use Rattle.host_events.specs.May.{May};
 ghost use Rattle.host_events.specs.Records.{records_at};
 ghost use Rattle.host_events.specs.Did.{after_all, records_all, MayAll};
 ghost use Rattle.host_events.specs.Facts.{HostFacts};
+ghost use Rattle.host_keep.specs.Legal.{first_illegal};
+ghost use Rattle.host_records.specs.Recording.{IsOfJoined, AllOfJoined};
 ghost use Rattle.host_records.specs.Holding.{Holds, HoldsAlone};
 
 use host_events::facts_are_kept;
@@ -26,6 +28,17 @@ pub fn events_do_what_their_records_do()
     ensures one { (h : HostState) (kept : Kept) (event : HostEvent) → HostFacts h → May h event → Holds h kept → Holds (after h event) (kept_after_all kept (records_at h event)) }
     ensures all { (h : HostState) (kept : Kept) (events : List HostEvent) → HostFacts h → MayAll h events → Holds h kept →
         Holds (after_all h events) (kept_after_all kept (records_all h events)) }
+{
+    a_restart_needs_the_records_alone();
+    facts_are_kept();
+}
+
+/// The records of an event may follow those that gave what the host has, and so may those of events one after another, where each
+/// interview that ends well is of a node that is joined.
+pub fn records_of_events_are_legal()
+    ensures one { (h : HostState) (kept : Kept) (event : HostEvent) → May h event → IsOfJoined h event → Holds h kept → first_illegal kept (records_at h event) ≡ None }
+    ensures all { (h : HostState) (kept : Kept) (events : List HostEvent) → HostFacts h → MayAll h events → AllOfJoined h events → Holds h kept →
+        first_illegal kept (records_all h events) ≡ None }
 {
     a_restart_needs_the_records_alone();
     facts_are_kept();

@@ -10,7 +10,9 @@
 mod laws;
 mod opening;
 
-pub use laws::{a_host_begins_with_what_is_kept, events_do_what_their_records_do};
+pub use laws::{
+    a_host_begins_with_what_is_kept, events_do_what_their_records_do, records_of_events_are_legal,
+};
 pub use opening::{
     a_record_restores_what_it_says, a_restart_keeps_what_is_held, legal_records_restore_the_host,
 };
