@@ -20,7 +20,7 @@ use Rattle.host_orders.specs.declared.refused.Refused.{Refused}
 use Rattle.host_orders.specs.declared.refused.Refused.TheVariants.{NotJoined, NotInterviewed, Unsupported, BadValue, Unsupervised, TooLong, MailboxFull, StoreFull, KeeperFault}
 use Rattle.host_events.specs.State.{HostState, HostParts, Command, node_of}
 use Rattle.host_events.specs.May.{IsAccepted, known_of}
-use Rattle.host_state.specs.Choices.{carriage_for, refusal_for}
+use Rattle.host_events.specs.Asking.{carriage_for, refusal_for}
 
 -- ---- the rules
 

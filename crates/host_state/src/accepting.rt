@@ -14,7 +14,8 @@ ghost use Rattle.host_events.specs.State.{node_of};
 ghost use Rattle.host_events.specs.Events.{Accepts};
 ghost use Rattle.host_events.specs.After.{after};
 ghost use Rattle.host_events.specs.May.{known_of};
-ghost use Rattle.host_state.specs.Choices.{carriage_for, refusal_for, Judges};
+ghost use Rattle.host_events.specs.Asking.{carriage_for, refusal_for};
+ghost use Rattle.host_state.specs.Choices.{Judges};
 
 use crate::keeping::keep_record;
 use crate::{Command, Core};

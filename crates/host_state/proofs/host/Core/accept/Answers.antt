@@ -10,7 +10,7 @@ use Rattle.host_events.specs.State.{HostParts, Command, node_of}
 use Rattle.host_events.specs.Events.{Accepts}
 use Rattle.host_events.specs.May.{known_of}
 use Rattle.host_events.proofs.Accepted.{accepted_has_place}
-use Rattle.host_state.specs.Choices.{carriage_for}
+use Rattle.host_events.specs.Asking.{carriage_for}
 use Rattle.host_state.specs.Inside.{state_of, parts_of}
 use Rattle.host_state.proofs.Judged.{taken, taken_back, released, whole_as_before, may_be_accepted, taken_command}
 use Rattle.host_state.proofs.Kept.{same_facts, kept}
