@@ -26,11 +26,8 @@ use Rattle.outer_world.proofs.Outcomes.{does_nothing}
 use Rattle.outer_world.proofs.Single.{run_one, run_both, entered_ok, map_ok}
 use Rattle.outer_world.proofs.Doings.{does_chip}
 
-abbrev pub States : Type 0
-States = List State
-
 -- the chip was given the information of a node
-pub informed : {V E : Type 0} (r : Result V E) (o q new : OuterState) (ds : States) (node : ℕ) (moved : ChipParts) (given profile : Option Profile) (start outputs : List ChipOut) (before all : List Entry)
+pub informed : {V E : Type 0} (r : Result V E) (o q new : OuterState) (ds : List State) (node : ℕ) (moved : ChipParts) (given profile : Option Profile) (start outputs : List ChipOut) (before all : List Entry)
     → q ≡ o → (route : Option Route) × IsRoute o.air.network node route × (profile ≡ profile_for o.air ds node route) → given ≡ profile
     → moved.decoder ≡ q.chip.decoder → moved.state ≡ after q.chip.state (Informed node given) → start ≡ [] → outputs ≡ start ++ outs q.chip.state (Informed node given)
     → OnOk r (Does (each put_out (record q { chip = moved }) outputs) new before all)
@@ -54,15 +51,15 @@ pub none_due : (due : List Due) → slice_get due 0 ≡ None → due ≡ []
 none_due [] is = refl
 none_due (y ∷ due) is = absurd (cc)
 
-abbrev pub GivesDue : OuterState → States → List Due → OuterState → List Entry → List Entry → Type 0
+abbrev pub GivesDue : OuterState → List State → List Due → OuterState → List Entry → List Entry → Type 0
 GivesDue o ds due new before all = (route : Option Route) × MayGive o due route × Does (gives o ds due route) new before all
 
-module _ (o : OuterState) (ds : States) (before all : List Entry) where
+module _ (o : OuterState) (ds : List State) (before all : List Entry) where
   pub gives_none : o.due ≡ [] → all ≡ before → GivesDue o ds o.due o before all
   gives_none none put =
       subst (λ (due : List Due). GivesDue o ds due o before all) (sym none) (None, tt, record { outer = refl; entries = put ∙ sym (append-nil before) })
 
-module _ {V E : Type 0} (r : Result V E) (o new : OuterState) (ds : States) (due : List Due) (before all : List Entry) where
+module _ {V E : Type 0} (r : Result V E) (o new : OuterState) (ds : List State) (due : List Due) (before all : List Entry) where
   pub gives_no_route : o.due ≡ NoRoute ∷ due → OnOk r (Does (no_route o) new before all) → OnOk r (GivesDue o ds o.due new before all)
   gives_no_route is done =
       subst (λ (l : List Due). OnOk r (GivesDue o ds l new before all)) (sym is)
@@ -74,6 +71,7 @@ module _ {V E : Type 0} (r : Result V E) (o new : OuterState) (ds : States) (due
       subst (λ (l : List Due). OnOk r (GivesDue o ds l new before all)) (sym is)
       (subst (λ (p : OuterState). OnOk r ((route : Option Route) × IsRoute p.air.network node route × Does (informs p ds node route) new before all)) left done)
 
+module _ {V E : Type 0} (r : Result V E) (o new : OuterState) (ds : List State) (before all : List Entry) where
   -- what was given is entered
   pub give_runs : (mid : OuterState) (start told : List Entry) → start ≡ [] → (route : Option Route) × MayGive o o.due route × Does (gives o ds o.due route) mid start told
       → OnOk r (new ≡ has_entered mid told) → OnOk r (all ≡ before ++ stamp mid told) → OnOk r (GoesFor ds (Givings 1) o new before all)
@@ -88,17 +86,25 @@ module _ {V E : Type 0} (r : Result V E) (o new : OuterState) (ds : States) (due
   unfolding outcome devices_after May
   shown_none node none done =
       map_ok r (Enters (tells o (Refused NoDevice ∷ [])) new before all) (GoesFor ds (IsOne (Shows node)) o new before all)
-      (λ (entered : Enters (tells o (Refused NoDevice ∷ [])) new before all). (Shows node ∷ [], refl, run_one (Shows node) (outside o ds) new ds before all tt
-      (subst (λ (p : Option ℕ). Enters (tells o (shown_entries node (device_at ds p))) new before all) (sym none) entered) refl)) done
+      (λ (entered : Enters (tells o (Refused NoDevice ∷ [])) new before all). (
+        Shows node ∷ [],
+        refl,
+        run_one (Shows node) (outside o ds) new ds before all tt
+            (subst (λ (p : Option ℕ). Enters (tells o (shown_entries node (device_at ds p))) new before all) (sym none) entered) refl,
+      )) done
 
   pub shown_at : (node place : ℕ) (d : State) (start told : List Entry) → place_of node ds ≡ Some place → slice_get ds place ≡ Some d → start ≡ [] → told ≡ start ++ device_entries node (Some d)
       → OnOk r (new ≡ has_entered o told) → OnOk r (all ≡ before ++ stamp o told) → OnOk r (GoesFor ds (IsOne (Shows node)) o new before all)
   unfolding outcome devices_after May
   shown_at node place d start told found at none put outer entered =
       map_ok r (Enters (tells o (device_entries node (Some d))) new before all) (GoesFor ds (IsOne (Shows node)) o new before all)
-      (λ (did : Enters (tells o (device_entries node (Some d))) new before all). (Shows node ∷ [], refl, run_one (Shows node) (outside o ds) new ds before all tt
-      (subst (λ (p : Option ℕ). Enters (tells o (shown_entries node (device_at ds p))) new before all) (sym found)
-      (subst (λ (s : Option State). Enters (tells o (shown_entries node s)) new before all) (sym at) did)) refl))
+      (λ (did : Enters (tells o (device_entries node (Some d))) new before all). (
+        Shows node ∷ [],
+        refl,
+        run_one (Shows node) (outside o ds) new ds before all tt
+            (subst (λ (p : Option ℕ). Enters (tells o (shown_entries node (device_at ds p))) new before all) (sym found)
+            (subst (λ (s : Option State). Enters (tells o (shown_entries node s)) new before all) (sym at) did)) refl,
+      ))
       (entered_ok r (tells o (device_entries node (Some d))) o new start told before all none (record { outer = refl; entries = put }) outer entered)
 
 -- results were given, and then one more
@@ -106,7 +112,7 @@ givings_more : (count : ℕ) (xs ys : List OuterEvent) → Givings count xs → 
 givings_more zero xs ys none more = subst (λ (l : List OuterEvent). Givings 1 (l ++ ys)) (sym none) more
 givings_more (suc count) xs ys (route, rest, are, others) more = (route, rest ++ ys, ap (λ (l : List OuterEvent). l ++ ys) are, givings_more count rest ys others more)
 
-pub give_more : (w : Outside) (o new : OuterState) (ds : States) (count : ℕ) (before some all : List Entry) → RunOf (Givings count) w (outside o ds) before some
+pub give_more : (w : Outside) (o new : OuterState) (ds : List State) (count : ℕ) (before some all : List Entry) → RunOf (Givings count) w (outside o ds) before some
     → GoesFor ds (Givings 1) o new some all → RunOf (Givings (count + 1)) w (outside new ds) before all
 give_more w o new ds count before some all (xs, are, run) (ys, one, more) =
     subst (λ n. RunOf (Givings n) w (outside new ds) before all) (sym (add-one count))

@@ -188,5 +188,5 @@ first_is made joined linked given air joined_air linked_air to_chip to_host due 
     let state : linked.state ≡ chip.after (chip.after fresh_chip (Joined 2 true)) (Linked 1 2 true) = cc in
     let chip_first : given ≡ record { decoder = no_rest; state = chip.after (chip.after fresh_chip (Joined 2 true)) (Linked 1 2 true) } = same ∙ parts_are linked _ _ decoder state in
     let air_first : linked_air ≡ linking (joining first_air 2 true) 1 2 true = s4 ∙ (ap (λ (p : AirState). linking p x y true) (s3 ∙ (ap (λ (p : AirState). joining p m true) new_air ∙ ap (λ i. joining first_air i true) m2))
-        ∙ (ap (λ i. linking (joining first_air 2 true) i y true) x1 ∙ ap (λ i. linking (joining first_air 2 true) 1 i true) y2)) in
+    ∙ (ap (λ i. linking (joining first_air 2 true) i y true) x1 ∙ ap (λ i. linking (joining first_air 2 true) 1 i true) y2)) in
     cc

@@ -87,10 +87,9 @@ pub taken_all : (o mid new : OuterState) (start told before all : List Entry) �
 unfolding outcome devices_after May
 taken_all o mid new start told before all flows some none taken outer put =
     let count : ℕ = length o.to_chip.bytes in
-    let events : List OuterEvent = Chip_takes count taken.rest taken.ways ∷ [] in
-    (
+    let events : List OuterEvent = Chip_takes count taken.rest taken.ways ∷ [] in (
       events,
       subst (λ (b : Bool). TakesBy b o.to_chip.bytes o events) (sym flows) (takes_by o o.to_chip.bytes events some (record { rest = taken.rest; ways = taken.ways; are = refl })),
       goes_one (Chip_takes count taken.rest taken.ways) o new before all (λ ds. taken.may)
-      (λ ds. entered (chip_takes o count taken.rest taken.ways) mid new start told before all none taken.does outer put) (λ ds. refl),
+          (λ ds. entered (chip_takes o count taken.rest taken.ways) mid new start told before all none taken.does outer put) (λ ds. refl),
     )
