@@ -1,5 +1,5 @@
 -- Frames that arrive or are heard again.
-use Rattle.std.proofs.Common.{◌≡◌, ℕ, ◌⊎◌, inl, inr, List, [], ◌∷◌, ◌++◌, refl, ap, sym, ◌∙◌, subst, Result, Ok, Err, OnOk, OnErr}
+use Rattle.std.proofs.Common.{◌≡◌, ℕ, inl, inr, List, [], ◌∷◌, refl, ap, sym, ◌∙◌, subst, Result, OnOk, OnErr}
 use Rattle.std.specs.Prelude.{Option, Some, None}
 use Rattle.route_table.specs.declared.route.Route.{Route}
 use Rattle.device_sim.specs.State.{State}
@@ -7,7 +7,7 @@ use Rattle.air_frames.specs.Ages.{refusal_of}
 use Rattle.mesh_sim.specs.Air.{AirState}
 use Rattle.mesh_sim.specs.Fates.{Mesh}
 use Rattle.mesh_sim.specs.declared.event.AirEvent.{AirEvent}
-use Rattle.mesh_sim.specs.Steps.{AirStep, Links as links, Joins as joins, Begins as begins, Loses as loses, Loses_acks as loses_acks, Sends as sends, Sends_from as sends_from, Arrives as arrives, Repeats as repeats_frame, mesh_after, mesh_outs, MayHappen, mesh_after_all, mesh_outs_all, Did, IsCut}
+use Rattle.mesh_sim.specs.Steps.{AirStep, Links as links, Joins as joins, Begins as begins, Loses as loses, Loses_acks as loses_acks, Sends as sends, Sends_from as sends_from, Arrives as arrives, Repeats as repeats_frame, mesh_after, mesh_outs, MayHappen, Did, IsCut}
 use Rattle.std.proofs.lemmas.List.{append-nil}
 use Rattle.mesh_sim.specs.Faults.{IsFault, fault_of}
 use Rattle.mesh_sim.specs.declared.event.RepeatFault.{RepeatFault}
@@ -15,10 +15,10 @@ use Rattle.mesh_sim.specs.declared.event.RepeatFault.TheVariants as faults
 use Rattle.air_frames.specs.declared.ages.Refusal.TheVariants as refusals
 use Rattle.air_frames.specs.declared.ages.Refusal.{Refusal as RepeatRefusal}
 use Rattle.zw_text.specs.declared.entry.Entry.{Entry}
-use Rattle.outer_world.specs.State.{OuterState, Outside, outside, Outcome, tells, each}
+use Rattle.outer_world.specs.State.{OuterState, outside, tells, each}
 use Rattle.outer_world.specs.Air.{deals}
-use Rattle.outer_world.specs.Events.{OuterEvent, Arrives, Repeats, outcome, devices_after, May, steps, repeats, devices_repeated, MayRepeat, refusal_entries, stamp, has_entered, mesh_of}
-use Rattle.outer_world.specs.Did.{Run, RunOf, Stops, Enters}
+use Rattle.outer_world.specs.Events.{Arrives, Repeats, outcome, devices_after, May, steps, repeats, devices_repeated, MayRepeat, refusal_entries, mesh_of}
+use Rattle.outer_world.specs.Did.{RunOf, Stops, Enters}
 use Rattle.outer_world.specs.Schedules.{Arrivals, IsRepeat}
 use Rattle.outer_world.proofs.Single.{run_one, stops_now, stops_in, map_ok, map_err}
 

@@ -1,7 +1,7 @@
 -- What the chip puts out does not depend on what the chip is, nor on the bytes on their way to it.
-use Rattle.std.proofs.Common.{◌≡◌, ℕ, ◌+◌, ◌≤◌, List, [], ◌∷◌, ◌++◌, Bool, false, Option, take, drop, length, refl, ap, sym, ◌∙◌, subst, append_assoc, arith}
+use Rattle.std.proofs.Common.{◌≡◌, ℕ, ◌+◌, List, [], ◌∷◌, ◌++◌, Option, take, drop, refl, ap, sym, ◌∙◌, subst, append_assoc}
 use Rattle.std.specs.Prelude.{map, nat_lt}
-use Rattle.std.proofs.lemmas.List.{append-nil, map-append, drop-drop}
+use Rattle.std.proofs.lemmas.List.{map-append, drop-drop}
 use Rattle.std.proofs.Math.Seq.{take-add}
 use Rattle.serial_frame.specs.Stream.{Rest, Feeds}
 use Rattle.serial_frame.specs.declared.item.Item.{Item}
@@ -17,7 +17,7 @@ use Rattle.serial_pipes.specs.State.{WayState}
 use Rattle.serial_pipes.specs.Events.{Takes}
 use Rattle.serial_pipes.specs.Events as way
 use Rattle.zw_text.specs.declared.entry.Entry.{Entry}
-use Rattle.outer_world.specs.State.{OuterState, Outcome, silent, and_then, each, with_chip, Does, is_stalled}
+use Rattle.outer_world.specs.State.{OuterState, Outcome, and_then, each, Does, is_stalled}
 use Rattle.outer_world.specs.Chip.{put_out, chip_does, chip_takes, MayTake}
 use Rattle.outer_world.specs.Schedules.{TakesBytes}
 

@@ -1,5 +1,5 @@
 -- What calls of the parts make of the outside.
-use Rattle.std.proofs.Common.{rules, ◌≡◌, ℕ, zero, suc, ◌+◌, ◌≤◌, ◌<◌, ◌⊎◌, inl, inr, Bool, true, false, All, List, [], ◌∷◌, ◌++◌, length, drop, refl, ap, sym, ◌∙◌, subst, append_assoc, Result, Ok, Err, OnOk}
+use Rattle.std.proofs.Common.{rules, ◌≡◌, ℕ, zero, suc, ◌≤◌, ◌<◌, ◌⊎◌, inl, inr, Bool, true, false, All, List, [], ◌∷◌, ◌++◌, length, drop, refl, ap, sym, ◌∙◌, subst, Result, OnOk}
 use Rattle.std.specs.Prelude.{Option, Some, None, IsSome, nat_lt, nat_le, ◌||◌, ◌&&◌, if◌then◌else◌}
 use Rattle.std.specs.Option.{is_some}
 use Rattle.std.proofs.lemmas.Bool.{lt-ltb, le-leb}
@@ -20,7 +20,7 @@ use Rattle.serial_pipes.specs.Events as way
 use Rattle.zw_words.specs.declared.side.Side.{Side}
 use Rattle.zw_words.specs.declared.side.Side.TheVariants.{Host}
 use Rattle.zw_text.specs.declared.entry.Entry.{Entry}
-use Rattle.outer_world.specs.State.{OuterState, Outcome, each, silent, with_chip, Does}
+use Rattle.outer_world.specs.State.{OuterState, Outcome, each, silent, Does}
 use Rattle.outer_world.specs.Chip.{IsSendable, put_out, chip_does, chip_ticks}
 use Rattle.outer_world.specs.Events.{Host_writes, Chip_ticks, Clears_pipe, way_of, with_way, clears, cleared_entries, stamp, has_entered}
 use Rattle.outer_world.specs.Did.{Goes, Enters}

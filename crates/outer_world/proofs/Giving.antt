@@ -1,10 +1,10 @@
 -- Results that are given, and what is shown.
-use Rattle.std.proofs.Common.{◌≡◌, ℕ, zero, suc, ◌+◌, ◌<◌, List, [], ◌∷◌, ◌++◌, length, drop, get_or, refl, ap, sym, ◌∙◌, subst, arith, add-one, Result, OnOk}
+use Rattle.std.proofs.Common.{◌≡◌, ℕ, zero, suc, ◌+◌, List, [], ◌∷◌, ◌++◌, drop, refl, ap, sym, ◌∙◌, subst, add-one, Result, OnOk}
 use Rattle.std.specs.Prelude.{Option, Some, None, slice_get}
 use Rattle.std.proofs.lemmas.List.{append-nil}
 use Rattle.zw_base.specs.declared.profile.Profile.{Profile}
 use Rattle.route_table.specs.declared.route.Route.{Route}
-use Rattle.chip_sim.specs.State.{ChipState, ChipParts}
+use Rattle.chip_sim.specs.State.{ChipParts}
 use Rattle.chip_sim.specs.Events.{Informed, after, outs}
 use Rattle.chip_sim.specs.declared.out.ChipOut.{ChipOut}
 use Rattle.device_sim.specs.State.{State}
@@ -15,14 +15,13 @@ use Rattle.zw_text.specs.declared.entry.Entry.TheVariants.{Refused}
 use Rattle.zw_text.specs.declared.entry.Refusal.TheVariants.{NoDevice}
 use Rattle.outer_world.specs.declared.waits.Due.{Due}
 use Rattle.outer_world.specs.declared.waits.Due.TheVariants.{Info, NoRoute}
-use Rattle.outer_world.specs.State.{OuterState, Outside, outside, Outcome, silent, tells, each, Does}
+use Rattle.outer_world.specs.State.{OuterState, Outside, outside, tells, each, Does}
 use Rattle.outer_world.specs.Chip.{put_out, chip_does}
 use Rattle.outer_world.specs.Results.{no_route, profile_for, informs, gives, MayGive, device_at}
 use Rattle.outer_world.specs.Devices.{device_entries, shown_entries}
 use Rattle.outer_world.specs.Events.{OuterEvent, Gives, Shows, outcome, devices_after, May, stamp, has_entered}
-use Rattle.outer_world.specs.Did.{Run, RunOf, GoesFor, Enters}
+use Rattle.outer_world.specs.Did.{RunOf, GoesFor, Enters}
 use Rattle.outer_world.specs.Schedules.{Givings, IsOne}
-use Rattle.outer_world.proofs.Outcomes.{does_nothing}
 use Rattle.outer_world.proofs.Single.{run_one, run_both, entered_ok, map_ok}
 use Rattle.outer_world.proofs.Doings.{does_chip}
 

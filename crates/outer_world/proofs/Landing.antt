@@ -24,8 +24,8 @@ use Rattle.outer_world.specs.State.{OuterState, Outside, outside, Outcome, each,
 use Rattle.outer_world.specs.Chip.{put_out, chip_does}
 use Rattle.outer_world.specs.Results.{owes_call, call_back, no_route, no_routes, without_no_route, leading, forgets, frame_ends}
 use Rattle.outer_world.specs.Air.{deals, to_chip}
-use Rattle.outer_world.specs.Events.{OuterEvent, Arrives, outcome, devices_after, May, steps, mesh_of, has_entered, happens}
-use Rattle.outer_world.specs.Did.{Run, RunOf, happens_all, MayAll}
+use Rattle.outer_world.specs.Events.{OuterEvent, Arrives, outcome, devices_after, May, steps, mesh_of, has_entered}
+use Rattle.outer_world.specs.Did.{Run, RunOf}
 use Rattle.outer_world.specs.Schedules.{Arrivals}
 use Rattle.outer_world.proofs.Single.{run_both}
 

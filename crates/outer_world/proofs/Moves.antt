@@ -1,12 +1,12 @@
 -- Events of one device of the list.
-use Rattle.std.proofs.Common.{◌≡◌, ℕ, zero, suc, ◌+◌, ◌⊎◌, inl, inr, List, [], ◌∷◌, ◌++◌, length, set, slice_get, refl, ap, sym, ◌∙◌, subst, Result, OnOk, arith, add-one}
-use Rattle.std.specs.Prelude.{Option, Some, None, slice_set}
+use Rattle.std.proofs.Common.{◌≡◌, ℕ, zero, suc, ◌+◌, inl, inr, List, [], ◌∷◌, ◌++◌, set, slice_get, refl, ap, sym, ◌∙◌, subst, Result, OnOk, arith, add-one}
+use Rattle.std.specs.Prelude.{Option, Some}
 use Rattle.route_table.specs.declared.route.Route.{Route}
 use Rattle.device_sim.specs.State.{State}
 use Rattle.device_sim.specs.Event.{DeviceEvent, Ticks, Wakes, Sets, device_after, device_replies}
 use Rattle.mesh_sim.specs.Fates.{place_of}
 use Rattle.zw_text.specs.declared.entry.Entry.{Entry}
-use Rattle.outer_world.specs.State.{OuterState, Outside, outside, Outcome, Does}
+use Rattle.outer_world.specs.State.{OuterState, Outside, outside, Does}
 use Rattle.outer_world.specs.Devices.{acts, acts_at, device_set, HasWay, HasActed, HasActedByHand, MayAct, acts_by_hand, set_by_hand, MayActByHand}
 use Rattle.outer_world.specs.Events.{OuterEvent, Device_ticks, Wakes_device, Sets_device, outcome, devices_after, May, stamp, has_entered}
 use Rattle.outer_world.specs.Did.{Run, RunOf, Stops, Enters}

@@ -1,5 +1,5 @@
 -- What the chip puts out may be sent.
-use Rattle.std.proofs.Common.{◌≡◌, ◌≢◌, ℕ, ◌+◌, ◌≤◌, ◌<◌, ◌⊎◌, ◌&&◌, Bool, true, false, cond, All, List, [], ◌∷◌, ◌++◌, length, if◌then◌else◌, ◌==◌, refl, ap, sym, ◌∙◌, subst, arith}
+use Rattle.std.proofs.Common.{◌≡◌, ℕ, ◌≤◌, ◌&&◌, Bool, true, false, All, List, [], ◌∷◌, ◌++◌, length, if◌then◌else◌, ◌==◌, refl}
 use Rattle.std.specs.Prelude.{Option, Some, None, nat_le}
 use Rattle.std.proofs.lemmas.Bool.{leb-true}
 use Rattle.std.proofs.lemmas.List.Elements.{All-append, All-nil, All-cons}
@@ -15,11 +15,11 @@ use Rattle.route_table.specs.declared.route.Route.{Route}
 use Rattle.chip_functions.specs.declared.request.Request.{Request}
 use Rattle.chip_functions.specs.declared.request.Request.TheVariants.{GetInitData, GetCapabilities, SendData, GetVersion, SendDataAbort, MemoryGetId, GetNodeProtocolInfo, AddNode, RequestNodeInfo, IsFailedNode, GetRoutingInfo}
 use Rattle.chip_functions.specs.declared.notice.TransmitStatus.{TransmitStatus}
-use Rattle.chip_sim.specs.Waiting.{PortState, is_full, queued_outs, queued_outs_at, next_at, served_outs, written, ticked, ticked_outs}
+use Rattle.chip_sim.specs.Waiting.{PortState, is_full, queued_outs, queued_outs_at, next_at, served_outs, written, ticked}
 use Rattle.chip_sim.specs.State.{ChipState}
 use Rattle.chip_sim.specs.Answers.{takes, is_idle}
 use Rattle.chip_sim.specs.Nodes.{is_marked}
-use Rattle.chip_sim.specs.Requests.{IsRoute, IsWay, IsWayIf, HasWay, JudgedWay, passed, asked, answer_outs, given_outs, reply_to, performed_outs, sent, requested_outs, heard, judged_outs, callback_frame}
+use Rattle.chip_sim.specs.Requests.{IsWay, IsWayIf, HasWay, JudgedWay, passed, asked, answer_outs, given_outs, reply_to, performed_outs, sent, requested_outs, heard, judged_outs, callback_frame}
 use Rattle.chip_sim.specs.Events.{ChipEvent, Judged, Ticked, Heard, Done, Informed, Joined, Linked, Forgets, Collides, after, outs, collides, ended_outs, May}
 use Rattle.chip_sim.specs.Did.{MayAll, outs_all}
 use Rattle.chip_sim.specs.declared.out.Sending.{Sending}

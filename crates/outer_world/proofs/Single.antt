@@ -1,11 +1,11 @@
 -- Single events that were done.
-use Rattle.std.proofs.Common.{◌≡◌, ℕ, List, [], ◌∷◌, ◌++◌, refl, ap, sym, ◌∙◌, subst, append_assoc, Result, Ok, Err, OnOk, OnErr, IfOk}
+use Rattle.std.proofs.Common.{◌≡◌, List, [], ◌∷◌, ◌++◌, refl, ap, sym, ◌∙◌, subst, append_assoc, Result, Ok, Err, OnOk, OnErr}
 use Rattle.std.proofs.lemmas.List.{append-nil}
 use Rattle.device_sim.specs.State.{State}
 use Rattle.zw_text.specs.declared.entry.Entry.{Entry}
-use Rattle.outer_world.specs.State.{OuterState, Outside, outside, Outcome, silent, tells, Does}
+use Rattle.outer_world.specs.State.{OuterState, Outside, outside, Outcome, silent, Does}
 use Rattle.outer_world.specs.Events.{OuterEvent, outcome, devices_after, May, stamp, has_entered, happens, entries}
-use Rattle.outer_world.specs.Did.{happens_all, entries_all, MayAll, Run, Goes, Enters, Stops, StopsStill, StopsFor, RunOf, GoesFor, GoesOf}
+use Rattle.outer_world.specs.Did.{happens_all, entries_all, MayAll, Run, Goes, Enters, Stops, RunOf}
 
 -- what was told of an outcome was entered
 pub entered : (out : Outcome) (mid new : OuterState) (start told before all : List Entry)

@@ -1,25 +1,25 @@
 -- The chip takes bytes of its pipe, piece by piece.
-use Rattle.std.proofs.Common.{◌≡◌, ℕ, ◌+◌, ◌-◌, ◌≤◌, ◌<◌, zero, suc, min, All, List, [], ◌∷◌, ◌++◌, Bool, true, false, length, take, drop, refl, ap, sym, ◌∙◌, subst, Result, Ok, Err, OnOk, arith, length-drop}
+use Rattle.std.proofs.Common.{◌≡◌, ℕ, ◌+◌, ◌-◌, ◌≤◌, ◌<◌, zero, suc, min, All, List, [], ◌∷◌, ◌++◌, Bool, false, length, take, refl, ap, sym, ◌∙◌, subst, Result, Ok, Err, OnOk, arith, length-drop}
 use Rattle.std.proofs.lemmas.List.{length-take}
 use Rattle.std.specs.Prelude.{map, Option}
 use Rattle.route_table.specs.declared.route.Route.{Route}
-use Rattle.serial_frame.specs.Stream.{Rest, Feeds}
+use Rattle.serial_frame.specs.Stream.{Feeds}
 use Rattle.serial_frame.specs.declared.item.Item.{Item}
-use Rattle.chip_sim.specs.State.{ChipState, ChipParts}
-use Rattle.chip_sim.specs.Did.{after_all, outs_all, Fed, judged_all}
+use Rattle.chip_sim.specs.State.{ChipParts}
+use Rattle.chip_sim.specs.Did.{outs_all, Fed, judged_all}
 use Rattle.chip_sim.specs.declared.out.ChipOut.{ChipOut}
 use Rattle.serial_pipes.specs.State.{WayState}
 use Rattle.serial_pipes.specs.Events.{Takes}
 use Rattle.serial_pipes.specs.Events as way
 use Rattle.zw_text.specs.declared.entry.Entry.{Entry}
-use Rattle.outer_world.specs.State.{OuterState, Outcome, each, Does, is_stalled}
-use Rattle.outer_world.specs.Chip.{IsSendable, put_out, chip_takes, MayTake}
+use Rattle.outer_world.specs.State.{OuterState, each, Does, is_stalled}
+use Rattle.outer_world.specs.Chip.{IsSendable, put_out, chip_takes}
 use Rattle.outer_world.specs.Schedules.{TakesBytes, TakesAll, TakesBy, ChipTakes}
 use Rattle.outer_world.specs.Events.{OuterEvent, Chip_takes, outcome, devices_after, May, stamp, has_entered}
 use Rattle.outer_world.specs.Did.{GoesOf}
 use Rattle.outer_world.proofs.Single.{goes_one, entered}
 use Rattle.outer_world.proofs.Sendable.{sendable_all}
-use Rattle.outer_world.proofs.Chips.{does_takes, takes_bytes, bytes_more, with_intake}
+use Rattle.outer_world.proofs.Chips.{does_takes, takes_bytes, bytes_more}
 
 -- what the chip put out at bytes may be sent
 pub fed_good : (old new : ChipParts) (piece : List ℕ) (start outputs : List ChipOut) → start ≡ [] → Fed old piece new start outputs → All IsSendable outputs

@@ -1,5 +1,5 @@
 use Rattle.std.proofs.Common.{Some, sym, ap, ◌∙◌, refl}
-use Rattle.outer_world.proofs.Giving.{gives_none, gives_no_route, gives_info, none_due, head_of}
+use Rattle.outer_world.proofs.Giving.{gives_none, gives_no_route, none_due, head_of}
 use Rattle.outer_world.proofs.outer.Outer.give_first.Goals as goal
 
 pub returns-in_default : goal.returns-in_default
