@@ -15,11 +15,11 @@ use Rattle.mesh_sim.specs.declared.event.RepeatFault.TheVariants as faults
 use Rattle.air_frames.specs.declared.ages.Refusal.TheVariants as refusals
 use Rattle.air_frames.specs.declared.ages.Refusal.{Refusal as RepeatRefusal}
 use Rattle.zw_text.specs.declared.entry.Entry.{Entry}
-use Rattle.outer_world.specs.State.{OuterState, outside, tells, each}
-use Rattle.outer_world.specs.Air.{deals}
-use Rattle.outer_world.specs.Events.{Arrives, Repeats, outcome, devices_after, May, steps, repeats, devices_repeated, MayRepeat, refusal_entries, mesh_of}
-use Rattle.outer_world.specs.Did.{RunOf, Stops, Enters}
-use Rattle.outer_world.specs.Schedules.{Arrivals, IsRepeat}
+use Rattle.outer_events.specs.State.{OuterState, outside, tells, each}
+use Rattle.outer_events.specs.Air.{deals}
+use Rattle.outer_events.specs.Events.{Arrives, Repeats, outcome, devices_after, May, steps, repeats, devices_repeated, MayRepeat, refusal_entries, mesh_of}
+use Rattle.outer_events.specs.Did.{RunOf, Stops, Enters}
+use Rattle.outer_events.specs.Schedules.{Arrivals, IsRepeat}
 use Rattle.outer_world.proofs.Single.{run_one, stops_now, stops_in, map_ok, map_err}
 
 abbrev pub States : Type 0
@@ -80,7 +80,7 @@ pub arrival_stops : (o : OuterState) (ds later : States) (drawn : List ℕ) (rou
     → MayHappen (mesh_of (outside o ds)) (arrives drawn route) → later ≡ (mesh_after (mesh_of (outside o ds)) (arrives drawn route)).devices → all ≡ before
     → Stops (outside o ds) later before all
 unfolding outcome devices_after May
-arrival_stops o ds later drawn route before all may devices put = stops_in (Arrives drawn route) (outside o ds) later before all may devices put
+arrival_stops o ds later drawn route before all may devices put = stops_in (Arrives drawn route) (outside o ds) later before all refl may devices put
 
 -- a frame was heard again
 pub repeat_runs : (o new : OuterState) (ds later : States) (number : ℕ) (drawn : List ℕ) (route : Option Route) (before all : List Entry)
@@ -101,7 +101,7 @@ pub repeat_stops : (o : OuterState) (ds later : States) (number : ℕ) (drawn : 
     → Stops (outside o ds) later before all
 unfolding outcome devices_after May MayHappen
 repeat_stops o ds later number drawn route before all may devices put =
-    stops_in (Repeats number drawn route) (outside o ds) later before all
+    stops_in (Repeats number drawn route) (outside o ds) later before all refl
     (subst (λ (r : Option RepeatRefusal). MayRepeat (outside o ds) r (repeats_frame number drawn route)) (sym may.0) may)
     (devices ∙ ap (λ (r : Option RepeatRefusal). devices_repeated (outside o ds) r (repeats_frame number drawn route)) (sym may.0)) put
 

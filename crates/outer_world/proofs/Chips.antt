@@ -17,9 +17,9 @@ use Rattle.serial_pipes.specs.State.{WayState}
 use Rattle.serial_pipes.specs.Events.{Takes}
 use Rattle.serial_pipes.specs.Events as way
 use Rattle.zw_text.specs.declared.entry.Entry.{Entry}
-use Rattle.outer_world.specs.State.{OuterState, Outcome, and_then, each, Does, is_stalled}
-use Rattle.outer_world.specs.Chip.{put_out, chip_does, chip_takes, MayTake}
-use Rattle.outer_world.specs.Schedules.{TakesBytes}
+use Rattle.outer_events.specs.State.{OuterState, Outcome, and_then, each, Does, is_stalled}
+use Rattle.outer_events.specs.Chip.{put_out, chip_does, chip_takes, MayTake}
+use Rattle.outer_events.specs.Schedules.{TakesBytes}
 
 -- another chip, and other bytes on their way to it
 abbrev pub with_intake : OuterState → ChipParts → WayState → OuterState

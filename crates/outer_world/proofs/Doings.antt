@@ -6,8 +6,8 @@ use Rattle.std.proofs.lemmas.Bool.{lt-ltb, le-leb}
 use Rattle.std.proofs.lemmas.List.{append-nil}
 use Rattle.chip_functions.specs.declared.notice.TransmitStatus.{TransmitStatus}
 use Rattle.chip_sim.specs.declared.out.Sending.{Sending}
-use Rattle.outer_world.specs.Results.{owes_call, call_back, no_route, no_routes}
-use Rattle.outer_world.specs.Air.{to_chip}
+use Rattle.outer_events.specs.Results.{owes_call, call_back, no_route, no_routes}
+use Rattle.outer_events.specs.Air.{to_chip}
 use Rattle.outer_world.proofs.Outcomes.{does_rest, does_whole}
 use Rattle.serial_frame.specs.Stream.{Rest, after_tick}
 use Rattle.serial_frame.specs.declared.unit.Unit.{Unit as LineUnit}
@@ -20,10 +20,10 @@ use Rattle.serial_pipes.specs.Events as way
 use Rattle.zw_words.specs.declared.side.Side.{Side}
 use Rattle.zw_words.specs.declared.side.Side.TheVariants.{Host}
 use Rattle.zw_text.specs.declared.entry.Entry.{Entry}
-use Rattle.outer_world.specs.State.{OuterState, Outcome, each, silent, Does}
-use Rattle.outer_world.specs.Chip.{IsSendable, put_out, chip_does, chip_ticks}
-use Rattle.outer_world.specs.Events.{Host_writes, Chip_ticks, Clears_pipe, way_of, with_way, clears, cleared_entries, stamp, has_entered}
-use Rattle.outer_world.specs.Did.{Goes, Enters}
+use Rattle.outer_events.specs.State.{OuterState, Outcome, each, silent, Does}
+use Rattle.outer_events.specs.Chip.{IsSendable, put_out, chip_does, chip_ticks}
+use Rattle.outer_events.specs.Events.{Host_writes, Chip_ticks, Clears_pipe, way_of, with_way, clears, cleared_entries, stamp, has_entered}
+use Rattle.outer_events.specs.Did.{Goes, Enters}
 use Rattle.outer_world.proofs.Single.{entered_ok, map_ok}
 use Rattle.outer_world.proofs.Going.{goes_writes, goes_clears, goes_chip_ticks, chip_is}
 use Rattle.outer_world.proofs.Sendable.{sendable}

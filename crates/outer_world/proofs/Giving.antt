@@ -13,16 +13,17 @@ use Rattle.mesh_sim.specs.Routes.{IsRoute}
 use Rattle.zw_text.specs.declared.entry.Entry.{Entry}
 use Rattle.zw_text.specs.declared.entry.Entry.TheVariants.{Refused}
 use Rattle.zw_text.specs.declared.entry.Refusal.TheVariants.{NoDevice}
-use Rattle.outer_world.specs.declared.waits.Due.{Due}
-use Rattle.outer_world.specs.declared.waits.Due.TheVariants.{Info, NoRoute}
-use Rattle.outer_world.specs.State.{OuterState, Outside, outside, tells, each, Does}
-use Rattle.outer_world.specs.Chip.{put_out, chip_does}
-use Rattle.outer_world.specs.Results.{no_route, profile_for, informs, gives, MayGive, device_at}
-use Rattle.outer_world.specs.Devices.{device_entries, shown_entries}
-use Rattle.outer_world.specs.Events.{OuterEvent, Gives, Shows, outcome, devices_after, May, stamp, has_entered}
-use Rattle.outer_world.specs.Did.{RunOf, GoesFor, Enters}
-use Rattle.outer_world.specs.Schedules.{Givings, IsOne}
-use Rattle.outer_world.proofs.Single.{run_one, run_both, entered_ok, map_ok}
+use Rattle.outer_events.specs.declared.waits.Due.{Due}
+use Rattle.outer_events.specs.declared.waits.Due.TheVariants.{Info, NoRoute}
+use Rattle.outer_events.specs.State.{OuterState, Outside, outside, tells, each, Does}
+use Rattle.outer_events.specs.Chip.{put_out, chip_does}
+use Rattle.outer_events.specs.Results.{no_route, profile_for, informs, gives, MayGive, device_at}
+use Rattle.outer_events.specs.Devices.{device_entries, shown_entries}
+use Rattle.outer_events.specs.Events.{OuterEvent, Gives, Shows, outcome, devices_after, May, stamp, has_entered}
+use Rattle.outer_events.specs.Did.{RunOf, GoesFor, Enters}
+use Rattle.outer_events.specs.Schedules.{Givings, IsOne}
+use Rattle.outer_world.proofs.Single.{run_one, entered_ok, map_ok}
+use Rattle.outer_events.proofs.Doing.{ran_both}
 use Rattle.outer_world.proofs.Doings.{does_chip}
 
 -- the chip was given the information of a node
@@ -115,7 +116,7 @@ pub give_more : (w : Outside) (o new : OuterState) (ds : List State) (count : �
     → GoesFor ds (Givings 1) o new some all → RunOf (Givings (count + 1)) w (outside new ds) before all
 give_more w o new ds count before some all (xs, are, run) (ys, one, more) =
     subst (λ n. RunOf (Givings n) w (outside new ds) before all) (sym (add-one count))
-    (xs ++ ys, givings_more count xs ys are one, run_both xs ys w (outside o ds) (outside new ds) before some all run more)
+    (xs ++ ys, givings_more count xs ys are one, ran_both xs ys w (outside o ds) (outside new ds) before some all run more)
 
 pub givings_all : (n m : ℕ) (w v : Outside) (before all : List Entry) → n ≡ m → RunOf (Givings n) w v before all → RunOf (Givings m) w v before all
 givings_all n m w v before all e run = subst (λ k. RunOf (Givings k) w v before all) e run

@@ -19,15 +19,15 @@ use Rattle.serial_pipes.specs.declared.marks.Garble.{Garble}
 use Rattle.zw_words.specs.declared.side.Side.{Side}
 use Rattle.zw_words.specs.declared.side.Side.TheVariants.{Host, Chip}
 use Rattle.zw_text.specs.declared.entry.Entry.{Entry}
-use Rattle.outer_world.specs.declared.waits.Due.{Due}
-use Rattle.outer_world.specs.declared.waits.Call.{Call}
-use Rattle.outer_world.specs.State.{OuterState, outside, first_outer, tells, with_chip, is_stalled}
-use Rattle.outer_world.specs.Results.{device_at}
-use Rattle.outer_world.specs.Chip.{chip_ticks}
-use Rattle.outer_world.specs.Nodes.{joins, listens_at, links_of, discovers}
-use Rattle.outer_world.specs.Events.{Begins_line, Begins_tick, Host_writes, Host_takes, Host_notes, Host_begins, Chip_ticks, Joins, Discovers, Links, Loses, Loses_acks, Marks_loss, Marks_change, Clears_pipe, Collides_next, Stalls, Cuts, way_of, with_way, clears, begins, ticked_entry, outcome, devices_after, May}
-use Rattle.outer_world.specs.Did.{Goes, GoesFor, Enters}
-use Rattle.outer_world.specs.Schedules.{IsOne}
+use Rattle.outer_events.specs.declared.waits.Due.{Due}
+use Rattle.outer_events.specs.declared.waits.Call.{Call}
+use Rattle.outer_events.specs.State.{OuterState, outside, first_outer, tells, with_chip, is_stalled}
+use Rattle.outer_events.specs.Results.{device_at}
+use Rattle.outer_events.specs.Chip.{chip_ticks}
+use Rattle.outer_events.specs.Nodes.{joins, listens_at, links_of, discovers}
+use Rattle.outer_events.specs.Events.{Begins_line, Begins_tick, Host_writes, Host_takes, Host_notes, Host_begins, Chip_ticks, Joins, Discovers, Links, Loses, Loses_acks, Marks_loss, Marks_change, Clears_pipe, Collides_next, Stalls, Cuts, way_of, with_way, clears, begins, ticked_entry, outcome, devices_after, May}
+use Rattle.outer_events.specs.Did.{Goes, GoesFor, Enters}
+use Rattle.outer_events.specs.Schedules.{IsOne}
 use Rattle.outer_world.proofs.Single.{run_one, goes_one, enters_silent}
 
 -- a chip by its parts

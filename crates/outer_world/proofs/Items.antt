@@ -1,13 +1,13 @@
 -- Loops over the items of a list.
 use Rattle.std.specs.Prelude.{slice_get}
 use Rattle.device_stack.specs.declared.change.Change.{Change}
-use Rattle.outer_world.specs.Air.{change_entries}
-use Rattle.outer_world.specs.Devices.{changes_entries}
+use Rattle.outer_events.specs.Air.{change_entries}
+use Rattle.outer_events.specs.Devices.{changes_entries}
 use Rattle.std.proofs.Common.{◌≡◌, ℕ, zero, suc, ◌+◌, ◌<◌, ◌≤◌, All, map, List, [], ◌∷◌, ◌++◌, length, take, drop, get_or, refl, ap, sym, ◌∙◌, subst, append_assoc, arith, add-one}
 use Rattle.std.proofs.Math.Seq.{take-suc}
 use Rattle.std.proofs.lemmas.List.{take_all}
 use Rattle.zw_text.specs.declared.entry.Entry.{Entry}
-use Rattle.outer_world.specs.State.{OuterState, Outcome, each, Does}
+use Rattle.outer_events.specs.State.{OuterState, Outcome, each, Does}
 use Rattle.outer_world.proofs.Outcomes.{each_more}
 
 module _ {X : Type 0} (xs ys : List X) (i : ℕ) (x : X) (same : ys ≡ xs) (lt : i < length ys) (is : x ≡ get_or ys i x) where

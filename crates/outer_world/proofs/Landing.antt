@@ -20,14 +20,14 @@ use Rattle.mesh_sim.specs.Steps as mesh
 use Rattle.mesh_sim.proofs.Doing.{Moves, moves_if}
 use Rattle.zw_text.specs.declared.entry.Entry.{Entry}
 use Rattle.zw_text.specs.declared.entry.Entry.TheVariants.{Forget}
-use Rattle.outer_world.specs.State.{OuterState, Outside, outside, Outcome, each, with_chip, silent, tells}
-use Rattle.outer_world.specs.Chip.{put_out, chip_does}
-use Rattle.outer_world.specs.Results.{owes_call, call_back, no_route, no_routes, without_no_route, leading, forgets, frame_ends}
-use Rattle.outer_world.specs.Air.{deals, to_chip}
-use Rattle.outer_world.specs.Events.{OuterEvent, Arrives, outcome, devices_after, May, steps, mesh_of, has_entered}
-use Rattle.outer_world.specs.Did.{Run, RunOf}
-use Rattle.outer_world.specs.Schedules.{Arrivals}
-use Rattle.outer_world.proofs.Single.{run_both}
+use Rattle.outer_events.specs.State.{OuterState, Outside, outside, Outcome, each, with_chip, silent, tells}
+use Rattle.outer_events.specs.Chip.{put_out, chip_does}
+use Rattle.outer_events.specs.Results.{owes_call, call_back, no_route, no_routes, without_no_route, leading, forgets, frame_ends}
+use Rattle.outer_events.specs.Air.{deals, to_chip}
+use Rattle.outer_events.specs.Events.{OuterEvent, Arrives, outcome, devices_after, May, steps, mesh_of, has_entered}
+use Rattle.outer_events.specs.Did.{Run, RunOf}
+use Rattle.outer_events.specs.Schedules.{Arrivals}
+use Rattle.outer_events.proofs.Doing.{ran_both}
 
 -- no more have landed, and no fewer were sent
 record Keeps (old new : AirState) : Type 0 where
@@ -143,7 +143,7 @@ pub arrive_more : (w : Outside) (o new : OuterState) (ds later : List State) (co
     → RunOf (Arrivals 1) (outside o ds) (outside new later) some all → RunOf (Arrivals (count + 1)) w (outside new later) before all
 arrive_more w o new ds later count before some all (xs, are, run) (ys, one, more) =
     subst (λ n. RunOf (Arrivals n) w (outside new later) before all) (sym (add-one count))
-    (xs ++ ys, arrivals_more count xs ys are one, run_both xs ys w (outside o ds) (outside new later) before some all run more)
+    (xs ++ ys, arrivals_more count xs ys are one, ran_both xs ys w (outside o ds) (outside new later) before some all run more)
 
 pub arrivals_all : (n m : ℕ) (w v : Outside) (before all : List Entry) → n ≡ m → RunOf (Arrivals n) w v before all → RunOf (Arrivals m) w v before all
 arrivals_all n m w v before all e run = subst (λ k. RunOf (Arrivals k) w v before all) e run

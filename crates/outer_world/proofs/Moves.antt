@@ -6,12 +6,14 @@ use Rattle.device_sim.specs.State.{State}
 use Rattle.device_sim.specs.Event.{DeviceEvent, Ticks, Wakes, Sets, device_after, device_replies}
 use Rattle.mesh_sim.specs.Fates.{place_of}
 use Rattle.zw_text.specs.declared.entry.Entry.{Entry}
-use Rattle.outer_world.specs.State.{OuterState, Outside, outside, Does}
-use Rattle.outer_world.specs.Devices.{acts, acts_at, device_set, HasWay, HasActed, HasActedByHand, MayAct, acts_by_hand, set_by_hand, MayActByHand}
-use Rattle.outer_world.specs.Events.{OuterEvent, Device_ticks, Wakes_device, Sets_device, outcome, devices_after, May, stamp, has_entered}
-use Rattle.outer_world.specs.Did.{Run, RunOf, Stops, Enters}
-use Rattle.outer_world.specs.Schedules.{DeviceTicks, IsWake, IsSet}
-use Rattle.outer_world.proofs.Single.{run_one, run_both, stops_now, stops_in, stops_after, entered_ok, map_ok}
+use Rattle.outer_events.specs.State.{OuterState, Outside, outside, Does}
+use Rattle.outer_world.specs.Acting.{HasActed, HasActedByHand}
+use Rattle.outer_events.specs.Devices.{acts, acts_at, device_set, HasWay, MayAct, acts_by_hand, set_by_hand, MayActByHand}
+use Rattle.outer_events.specs.Events.{OuterEvent, Device_ticks, Wakes_device, Sets_device, outcome, devices_after, May, stamp, has_entered}
+use Rattle.outer_events.specs.Did.{Run, RunOf, Stops, Enters}
+use Rattle.outer_events.specs.Schedules.{DeviceTicks, IsWake, IsSet}
+use Rattle.outer_world.proofs.Single.{run_one, stops_now, stops_in, stops_after, ticks_own, entered_ok, map_ok}
+use Rattle.outer_events.proofs.Doing.{ran_both}
 
 abbrev pub States : Type 0
 States = List State
@@ -82,15 +84,15 @@ unfolding outcome devices_after May
 tick_runs w o new ds later place drawn before some all (events, are, run) after (route, may, done) =
     let one : Run (Device_ticks place drawn route ∷ []) (outside o ds) (outside new later) some all = run_one (Device_ticks place drawn route) (outside o ds) new later some all may done after in
     subst (λ n. RunOf (DeviceTicks 0 n) w (outside new later) before all) (sym (add-one place))
-    (events ++ Device_ticks place drawn route ∷ [], ticks_more 0 place place drawn route events (omega arith) are, run_both events (Device_ticks place drawn route ∷ []) w (outside o ds) (outside new later) before some all run one)
+    (events ++ Device_ticks place drawn route ∷ [], ticks_more 0 place place drawn route events (omega arith) are, ran_both events (Device_ticks place drawn route ∷ []) w (outside o ds) (outside new later) before some all run one)
 
 -- or it stops in that
 pub tick_stops : (w : Outside) (o : OuterState) (ds later : States) (place : ℕ) (drawn : List ℕ) (before some all : List Entry) → RunOf (DeviceTicks 0 place) w (outside o ds) before some
     → HasActedByHand o ds later (Some place) (Ticks drawn) → all ≡ some → Stops w later before all
 unfolding outcome devices_after May
-tick_stops w o ds later place drawn before some all (events, are, run) (inl same) put = stops_after events w (outside o ds) later before some all run (stops_now (outside o ds) later some all same put)
+tick_stops w o ds later place drawn before some all (events, are, run) (inl same) put = stops_after events w (outside o ds) later before some all (ticks_own 0 place events are) run (stops_now (outside o ds) later some all same put)
 tick_stops w o ds later place drawn before some all (events, are, run) (inr (route, may, after)) put =
-    stops_after events w (outside o ds) later before some all run (stops_in (Device_ticks place drawn route) (outside o ds) later some all may after put)
+    stops_after events w (outside o ds) later before some all (ticks_own 0 place events are) run (stops_in (Device_ticks place drawn route) (outside o ds) later some all refl may after put)
 
 -- by hand
 pub wake_runs : (o new : OuterState) (ds later : States) (node : ℕ) (before all : List Entry) → later ≡ set_by_hand ds (place_of node ds) Wakes
@@ -103,7 +105,7 @@ wake_runs o new ds later node before all after did =
 pub wake_stops : (o : OuterState) (ds later : States) (node : ℕ) (before all : List Entry) → HasActedByHand o ds later (place_of node ds) Wakes → all ≡ before → Stops (outside o ds) later before all
 unfolding outcome devices_after May
 wake_stops o ds later node before all (inl same) put = stops_now (outside o ds) later before all same put
-wake_stops o ds later node before all (inr (route, may, after)) put = stops_in (Wakes_device node route) (outside o ds) later before all may after put
+wake_stops o ds later node before all (inr (route, may, after)) put = stops_in (Wakes_device node route) (outside o ds) later before all refl may after put
 
 pub set_runs : (o new : OuterState) (ds later : States) (node value : ℕ) (before all : List Entry) → later ≡ set_by_hand ds (place_of node ds) (Sets value)
     → (route : Option Route) × MayActByHand o ds (place_of node ds) (Sets value) route × Enters (acts_by_hand o ds (place_of node ds) (Sets value) route) new before all
@@ -115,7 +117,7 @@ set_runs o new ds later node value before all after did =
 pub set_stops : (o : OuterState) (ds later : States) (node value : ℕ) (before all : List Entry) → HasActedByHand o ds later (place_of node ds) (Sets value) → all ≡ before → Stops (outside o ds) later before all
 unfolding outcome devices_after May
 set_stops o ds later node value before all (inl same) put = stops_now (outside o ds) later before all same put
-set_stops o ds later node value before all (inr (route, may, after)) put = stops_in (Sets_device node value route) (outside o ds) later before all may after put
+set_stops o ds later node value before all (inr (route, may, after)) put = stops_in (Sets_device node value route) (outside o ds) later before all refl may after put
 
 pub ticks_all : (n m : ℕ) (w v : Outside) (before all : List Entry) → n ≡ m → RunOf (DeviceTicks 0 n) w v before all → RunOf (DeviceTicks 0 m) w v before all
 ticks_all n m w v before all e run = subst (λ k. RunOf (DeviceTicks 0 k) w v before all) e run

@@ -2,7 +2,7 @@
 use Rattle.std.proofs.Common.{◌≡◌, List, [], ◌∷◌, ◌++◌, refl, ap, sym, ◌∙◌, append_assoc}
 use Rattle.std.proofs.lemmas.List.{append-nil}
 use Rattle.zw_text.specs.declared.entry.Entry.{Entry}
-use Rattle.outer_world.specs.State.{OuterState, Outcome, silent, and_then, each, Does}
+use Rattle.outer_events.specs.State.{OuterState, Outcome, silent, and_then, each, Does}
 
 -- nothing was done
 pub does_nothing : (o : OuterState) (all : List Entry) → Does (silent o) o all all

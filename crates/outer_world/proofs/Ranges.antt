@@ -8,8 +8,8 @@ use Rattle.chip_sim.specs.State.{ChipState, ChipParts}
 use Rattle.chip_sim.specs.Events.{ChipEvent, Linked, after}
 use Rattle.chip_sim.specs.Did.{after_all}
 use Rattle.chip_sim.proofs.Doing.{after_all-append}
-use Rattle.outer_world.specs.State.{OuterState, with_chip}
-use Rattle.outer_world.specs.Nodes.{is_known, links_of, pairs_of, all_pairs, discovers}
+use Rattle.outer_events.specs.State.{OuterState, with_chip}
+use Rattle.outer_events.specs.Nodes.{is_known, links_of, pairs_of, all_pairs, discovers}
 use Rattle.outer_world.proofs.Going.{chip_is}
 
 -- a range with one more number

@@ -25,7 +25,7 @@ use Rattle.chip_sim.specs.Did.{MayAll, outs_all}
 use Rattle.chip_sim.specs.declared.out.Sending.{Sending}
 use Rattle.chip_sim.specs.declared.out.ChipOut.{ChipOut}
 use Rattle.chip_sim.specs.declared.out.ChipOut.TheVariants.{Write, OnAir, NoRoute, AskInfo, Full}
-use Rattle.outer_world.specs.Chip.{IsSendable}
+use Rattle.outer_events.specs.Chip.{IsSendable}
 
 abbrev Good_outs : List ChipOut → Type 0
 Good_outs outputs = All IsSendable outputs

@@ -1,11 +1,13 @@
 -- Single events that were done.
-use Rattle.std.proofs.Common.{◌≡◌, List, [], ◌∷◌, ◌++◌, refl, ap, sym, ◌∙◌, subst, append_assoc, Result, Ok, Err, OnOk, OnErr}
+use Rattle.std.proofs.Common.{◌≡◌, ℕ, zero, suc, ◌+◌, true, List, [], ◌∷◌, ◌++◌, refl, ap, sym, ◌∙◌, subst, append_assoc, Result, Ok, Err, OnOk, OnErr}
 use Rattle.std.proofs.lemmas.List.{append-nil}
 use Rattle.device_sim.specs.State.{State}
 use Rattle.zw_text.specs.declared.entry.Entry.{Entry}
-use Rattle.outer_world.specs.State.{OuterState, Outside, outside, Outcome, silent, Does}
-use Rattle.outer_world.specs.Events.{OuterEvent, outcome, devices_after, May, stamp, has_entered, happens, entries}
-use Rattle.outer_world.specs.Did.{happens_all, entries_all, MayAll, Run, Goes, Enters, Stops, RunOf}
+use Rattle.outer_events.specs.State.{OuterState, Outside, outside, Outcome, silent, Does}
+use Rattle.outer_events.specs.Events.{OuterEvent, outcome, devices_after, May, stamp, has_entered, happens, entries, is_own, AreOwn}
+use Rattle.outer_events.specs.Schedules.{Arrivals, Givings, DeviceTicks}
+use Rattle.outer_events.proofs.Doing.{happens_all-append, entries_all-append, may_all-append}
+use Rattle.outer_events.specs.Did.{happens_all, entries_all, MayAll, Run, Goes, Enters, Stops, RunOf}
 
 -- what was told of an outcome was entered
 pub entered : (out : Outcome) (mid new : OuterState) (start told before all : List Entry)
@@ -44,6 +46,7 @@ enters_silent o new all same = record { outer = same; entries = sym (append-nil 
 pub stops_now : (old : Outside) (devices : List State) (before all : List Entry) → devices ≡ old.devices → all ≡ before → Stops old devices before all
 stops_now old devices before all same put = record {
   events = [];
+  own = tt;
   may = tt;
   devices_are = same;
   more = [];
@@ -52,47 +55,28 @@ stops_now old devices before all same put = record {
 
 -- it stops in an event whose device has done its part
 pub stops_in : (e : OuterEvent) (old : Outside) (devices : List State) (before all : List Entry)
-    → May old e → devices ≡ devices_after old e → all ≡ before → Stops old devices before all
-stops_in e old devices before all may same put = record {
+    → is_own e ≡ true → May old e → devices ≡ devices_after old e → all ≡ before → Stops old devices before all
+stops_in e old devices before all own may same put = record {
   events = e ∷ [];
+  own = (own, tt);
   may = (may, tt);
   devices_are = same;
   more = entries old e ++ [];
   front = ap (λ (l : List Entry). l ++ (entries old e ++ [])) put;
 }
 
-happens_all-append : (w : Outside) (xs ys : List OuterEvent) → happens_all w (xs ++ ys) ≡ happens_all (happens_all w xs) ys
-happens_all-append w [] ys = refl
-happens_all-append w (x ∷ xs) ys = happens_all-append (happens w x) xs ys
+-- ---- lists of events
 
-entries_all-append : (w : Outside) (xs ys : List OuterEvent) → entries_all w (xs ++ ys) ≡ entries_all w xs ++ entries_all (happens_all w xs) ys
-entries_all-append w [] ys = refl
-entries_all-append w (x ∷ xs) ys =
-    ap (λ (l : List Entry). entries w x ++ l) (entries_all-append (happens w x) xs ys) ∙ sym (append_assoc (entries w x) (entries_all (happens w x) xs) (entries_all (happens_all (happens w x) xs) ys))
-
-MayAll-append : (w : Outside) (xs ys : List OuterEvent) → MayAll w xs → MayAll (happens_all w xs) ys → MayAll w (xs ++ ys)
-MayAll-append w [] ys first more = more
-MayAll-append w (x ∷ xs) ys first more = (first.0, MayAll-append (happens w x) xs ys first.1 more)
-
--- nothing was done
-pub run_nothing : (w : Outside) (all : List Entry) → Run [] w w all all
-run_nothing w all = record { may = tt; state = refl; entries = sym (append-nil all) }
-
--- events, and then others
-pub run_both : (xs ys : List OuterEvent) (a b c : Outside) (before mid all : List Entry) → Run xs a b before mid → Run ys b c mid all → Run (xs ++ ys) a c before all
-run_both xs ys a b c before mid all first more = record {
-  may = MayAll-append a xs ys first.may (subst (λ (w : Outside). MayAll w ys) first.state more.may);
-  state = more.state ∙ (ap (λ (w : Outside). happens_all w ys) first.state ∙ sym (happens_all-append a xs ys));
-  entries = more.entries ∙ (ap (λ (l : List Entry). l ++ entries_all b ys) first.entries
-      ∙ (append_assoc before (entries_all a xs) (entries_all b ys)
-      ∙ ap (λ (l : List Entry). before ++ l) (ap (λ (w : Outside). entries_all a xs ++ entries_all w ys) first.state ∙ sym (entries_all-append a xs ys))));
-}
+AreOwn-append : (xs ys : List OuterEvent) → AreOwn xs → AreOwn ys → AreOwn (xs ++ ys)
+AreOwn-append [] ys first more = more
+AreOwn-append (x ∷ xs) ys first more = (first.0, AreOwn-append xs ys first.1 more)
 
 -- it stops after events
-pub stops_after : (xs : List OuterEvent) (a b : Outside) (devices : List State) (before mid all : List Entry) → Run xs a b before mid → Stops b devices mid all → Stops a devices before all
-stops_after xs a b devices before mid all first more = record {
+pub stops_after : (xs : List OuterEvent) (a b : Outside) (devices : List State) (before mid all : List Entry) → AreOwn xs → Run xs a b before mid → Stops b devices mid all → Stops a devices before all
+stops_after xs a b devices before mid all own first more = record {
   events = xs ++ more.events;
-  may = MayAll-append a xs more.events first.may (subst (λ (w : Outside). MayAll w more.events) first.state more.may);
+  own = AreOwn-append xs more.events own more.own;
+  may = may_all-append a xs more.events first.may (subst (λ (w : Outside). MayAll w more.events) first.state more.may);
   devices_are = more.devices_are ∙ ap (λ (w : Outside). w.devices) (ap (λ (w : Outside). happens_all w more.events) first.state ∙ sym (happens_all-append a xs more.events));
   more = more.more;
   front = more.front ∙ (ap (λ (l : List Entry). l ++ entries_all b more.events) first.entries
@@ -126,9 +110,23 @@ pub map_err : {V E : Type 0} (r : Result V E) (P Q : Type 0) → (P → Q) → O
 map_err (Ok v) P Q f holds = tt
 map_err (Err e) P Q f holds = f holds
 
--- events of a kind were done, and then it stops
-pub run_stops : (Kind : List OuterEvent → Type 0) (w : Outside) (o : OuterState) (devices : List State) (before some all : List Entry) → RunOf Kind w (outside o devices) before some → all ≡ some → Stops w devices before all
-run_stops Kind w o devices before some all (events, are, run) put = stops_after events w (outside o devices) devices before some all run (stops_now (outside o devices) devices some all refl put)
+-- events of a kind, none of them the host's, were done, and then it stops
+pub run_stops : (Kind : List OuterEvent → Type 0) (w : Outside) (o : OuterState) (devices : List State) (before some all : List Entry) → ((events : List OuterEvent) → Kind events → AreOwn events)
+    → RunOf Kind w (outside o devices) before some → all ≡ some → Stops w devices before all
+run_stops Kind w o devices before some all own (events, are, run) put = stops_after events w (outside o devices) devices before some all (own events are) run (stops_now (outside o devices) devices some all refl put)
 
-pub runs_stop : (Kind : List OuterEvent → Type 0) (a b : Outside) (devices : List State) (before some all : List Entry) → RunOf Kind a b before some → Stops b devices some all → Stops a devices before all
-runs_stop Kind a b devices before some all (events, are, run) more = stops_after events a b devices before some all run more
+pub runs_stop : (Kind : List OuterEvent → Type 0) (a b : Outside) (devices : List State) (before some all : List Entry) → ((events : List OuterEvent) → Kind events → AreOwn events)
+    → RunOf Kind a b before some → Stops b devices some all → Stops a devices before all
+runs_stop Kind a b devices before some all own (events, are, run) more = stops_after events a b devices before some all (own events are) run more
+
+pub arrivals_own : (count : ℕ) (events : List OuterEvent) → Arrivals count events → AreOwn events
+arrivals_own zero events none = subst (λ (l : List OuterEvent). AreOwn l) (sym none) tt
+arrivals_own (suc count) events (drawn, route, rest, are, more) = subst (λ (l : List OuterEvent). AreOwn l) (sym are) (refl, arrivals_own count rest more)
+
+pub givings_own : (count : ℕ) (events : List OuterEvent) → Givings count events → AreOwn events
+givings_own zero events none = subst (λ (l : List OuterEvent). AreOwn l) (sym none) tt
+givings_own (suc count) events (route, rest, are, more) = subst (λ (l : List OuterEvent). AreOwn l) (sym are) (refl, givings_own count rest more)
+
+pub ticks_own : (place count : ℕ) (events : List OuterEvent) → DeviceTicks place count events → AreOwn events
+ticks_own place zero events none = subst (λ (l : List OuterEvent). AreOwn l) (sym none) tt
+ticks_own place (suc count) events (drawn, route, rest, are, more) = subst (λ (l : List OuterEvent). AreOwn l) (sym are) (refl, ticks_own (place + 1) count rest more)

@@ -12,11 +12,11 @@ use Rattle.serial_pipes.specs.State.{WayState}
 use Rattle.serial_pipes.specs.Events.{Takes}
 use Rattle.serial_pipes.specs.Events as way
 use Rattle.zw_text.specs.declared.entry.Entry.{Entry}
-use Rattle.outer_world.specs.State.{OuterState, each, Does, is_stalled}
-use Rattle.outer_world.specs.Chip.{IsSendable, put_out, chip_takes}
-use Rattle.outer_world.specs.Schedules.{TakesBytes, TakesAll, TakesBy, ChipTakes}
-use Rattle.outer_world.specs.Events.{OuterEvent, Chip_takes, outcome, devices_after, May, stamp, has_entered}
-use Rattle.outer_world.specs.Did.{GoesOf}
+use Rattle.outer_events.specs.State.{OuterState, each, Does, is_stalled}
+use Rattle.outer_events.specs.Chip.{IsSendable, put_out, chip_takes}
+use Rattle.outer_events.specs.Schedules.{TakesBytes, TakesAll, TakesBy, ChipTakes}
+use Rattle.outer_events.specs.Events.{OuterEvent, Chip_takes, outcome, devices_after, May, stamp, has_entered}
+use Rattle.outer_events.specs.Did.{GoesOf}
 use Rattle.outer_world.proofs.Single.{goes_one, entered}
 use Rattle.outer_world.proofs.Sendable.{sendable_all}
 use Rattle.outer_world.proofs.Chips.{does_takes, takes_bytes, bytes_more}

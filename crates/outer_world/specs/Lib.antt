@@ -1,9 +1,2 @@
-pub mod State
-pub mod Chip
-pub mod Results
-pub mod Air
-pub mod Devices
-pub mod Nodes
-pub mod Events
-pub mod Did
-pub mod Schedules
+pub mod Pieces
+pub mod Acting

@@ -2,12 +2,12 @@
 
 ghost use Rattle.std.specs.Prelude.{◌≡◌, ◌+◌, ◌-◌, ◌<◌, ◌≤◌, ◌^◌, ◌++◌, ◌∷◌, [], ℕ, length, map, Option, OnOk, OnErr, List as Items};
 ghost use Rattle.route_table.specs.declared.route.Route.{Route as TheRoute};
-ghost use Rattle.outer_world.specs.State.{outside, tells};
+ghost use Rattle.outer_events.specs.State.{outside, tells};
 ghost use Rattle.air_frames.specs.declared.ages.Refusal.{Refusal as Refused};
 ghost use Rattle.mesh_sim.specs.Faults.{fault_of};
-ghost use Rattle.outer_world.specs.Events.{refusal_entries};
-ghost use Rattle.outer_world.specs.Did.{Run, RunOf, Stops, Enters};
-ghost use Rattle.outer_world.specs.Schedules.{Arrivals, Delivers, IsRepeat};
+ghost use Rattle.outer_events.specs.Events.{refusal_entries};
+ghost use Rattle.outer_events.specs.Did.{Run, RunOf, Stops, Enters};
+ghost use Rattle.outer_events.specs.Schedules.{Arrivals, Delivers, IsRepeat};
 
 use crate::Outer;
 use device_sim::Device;

@@ -1,11 +1,11 @@
 //! What happened on the air is told, and the chip learns of it.
 
 ghost use Rattle.std.specs.Prelude.{◌≡◌, ◌+◌, ◌<◌, ◌≤◌, ◌^◌, ◌++◌, ◌∷◌, [], length, map, slice_get, OnOk, OnErr, Some};
-ghost use Rattle.outer_world.specs.State.{Does, each};
-ghost use Rattle.outer_world.specs.Did.{Enters};
-ghost use Rattle.outer_world.specs.Results.{device_at};
+ghost use Rattle.outer_events.specs.State.{Does, each};
+ghost use Rattle.outer_events.specs.Did.{Enters};
+ghost use Rattle.outer_events.specs.Results.{device_at};
 ghost use Rattle.mesh_sim.specs.Fates.{place_of};
-ghost use Rattle.outer_world.specs.Air.{to_chip, deals, change_entries, change_at, sent_entries};
+ghost use Rattle.outer_events.specs.Air.{to_chip, deals, change_entries, change_at, sent_entries};
 
 use crate::Outer;
 use crate::outputs::shown_repeaters;

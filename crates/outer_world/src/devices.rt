@@ -5,9 +5,10 @@ ghost use Rattle.chip_sim.specs.Events.{FitsProfile};
 ghost use Rattle.device_stack.specs.Worded.{IsPayload};
 ghost use Rattle.device_sim.specs.Event.{device_after, device_replies};
 ghost use Rattle.mesh_sim.specs.Fates.{place_of};
-ghost use Rattle.outer_world.specs.Results.{told_profile, device_at};
-ghost use Rattle.outer_world.specs.Devices.{act_event, device_entries};
-ghost use Rattle.outer_world.specs.Nodes.{listens_at};
+ghost use Rattle.outer_events.specs.Results.{told_profile, device_at};
+ghost use Rattle.outer_world.specs.Acting.{act_event};
+ghost use Rattle.outer_events.specs.Devices.{device_entries};
+ghost use Rattle.outer_events.specs.Nodes.{listens_at};
 
 use crate::acting::Act;
 use crate::entering::put_all;

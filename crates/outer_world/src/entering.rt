@@ -1,9 +1,9 @@
 //! What was told becomes entries of the transcript.
 
 ghost use Rattle.std.specs.Prelude.{◌≡◌, ◌++◌, ◌+◌, ◌≤◌, ◌∷◌, [], length, OnOk, OnErr, if◌then◌else◌, ◌&&◌, ◌||◌, not};
-ghost use Rattle.outer_world.specs.Events.{stamp, has_entered, ticked_entry, Host_notes};
-ghost use Rattle.outer_world.specs.Did.{Goes, Enters};
-ghost use Rattle.outer_world.specs.State.{tells};
+ghost use Rattle.outer_events.specs.Events.{stamp, has_entered, ticked_entry, Host_notes};
+ghost use Rattle.outer_events.specs.Did.{Goes, Enters};
+ghost use Rattle.outer_events.specs.State.{tells};
 
 use crate::Outer;
 use zw_base::{List, NoMemory};

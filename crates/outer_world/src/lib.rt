@@ -1,11 +1,10 @@
 //! What is outside the host: the chip, the air, the two directions of the serial line between host and chip, time, and
 //! the devices that are handed in.
 //!
-//! Each call is a list of small events. Its contract says which events they are, and by `specs/Events` what each makes of
-//! the outside and which entries it has. Where memory is wanting, some events were done that lead to the devices as they
+//! Each call is a list of small events. Its contract says which events they are; what each makes of the outside and which
+//! entries it has stands in `outer_events`. Where memory is wanting, some events were done that lead to the devices as they
 //! are, with a front of their entries; a run ends there, and nothing is said of the rest.
-//! The definitions stand in `specs/`: `State` (what there is), `Chip`, `Results`, `Air`, `Devices` and `Nodes` (what is
-//! done with what chip, air and devices give), `Events`, `Did` (lists of events) and `Schedules` (which list a call is).
+//! Of its own it defines only how a device's doings are named (`specs/Acting`), and the size of pieces (`specs/Pieces`).
 #![tactic(auto)]
 
 mod acting;
@@ -19,7 +18,6 @@ mod outer;
 mod outputs;
 mod results;
 mod serial;
-mod waits;
 
 pub use devices::list_device;
 pub use outer::Outer;

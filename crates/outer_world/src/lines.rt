@@ -1,8 +1,8 @@
 //! Lines that set something of the air, the chip or time.
 
 ghost use Rattle.std.specs.Prelude.{◌≡◌, ◌+◌, ◌<◌, ◌^◌, ◌∷◌, [], true, false, ℕ, OnOk, OnErr};
-ghost use Rattle.outer_world.specs.Events.{Links, Loses, Loses_acks, Collides_next, Stalls, Cuts, Host_begins};
-ghost use Rattle.outer_world.specs.Did.{Goes};
+ghost use Rattle.outer_events.specs.Events.{Links, Loses, Loses_acks, Collides_next, Stalls, Cuts, Host_begins};
+ghost use Rattle.outer_events.specs.Did.{Goes};
 
 use crate::Outer;
 use zw_base::{NoMemory, NodeId};

@@ -4,11 +4,11 @@ ghost use Rattle.std.specs.Prelude.{◌≡◌, ◌+◌, ◌-◌, ◌<◌, ◌≤
 ghost use Rattle.route_table.specs.Network.{linked};
 ghost use Rattle.chip_sim.specs.Did.{after_all};
 ghost use Rattle.mesh_sim.specs.Air.{is_joined};
-ghost use Rattle.outer_world.specs.State.{with_chip};
-ghost use Rattle.outer_world.specs.Nodes.{is_known, links_of, pairs_of};
-ghost use Rattle.outer_world.specs.Events.{Joins, Discovers};
-ghost use Rattle.outer_world.specs.Did.{Goes, GoesFor};
-ghost use Rattle.outer_world.specs.Schedules.{IsOne};
+ghost use Rattle.outer_events.specs.State.{with_chip};
+ghost use Rattle.outer_events.specs.Nodes.{is_known, links_of, pairs_of};
+ghost use Rattle.outer_events.specs.Events.{Joins, Discovers};
+ghost use Rattle.outer_events.specs.Did.{Goes, GoesFor};
+ghost use Rattle.outer_events.specs.Schedules.{IsOne};
 
 use crate::Outer;
 use crate::devices::listens_in;

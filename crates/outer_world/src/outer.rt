@@ -1,13 +1,13 @@
 //! What is outside the host, but for the devices.
 
 ghost use Rattle.std.specs.Prelude.{◌≡◌, ◌+◌, ◌≤◌, ◌∷◌, [], nat_lt, OnOk, OnErr, IfOk};
-ghost use Rattle.outer_world.specs.State.{first_outer, is_stalled};
-ghost use Rattle.outer_world.specs.Events.{Begins_line, Begins_tick};
-ghost use Rattle.outer_world.specs.Did.{Goes};
+ghost use Rattle.outer_events.specs.State.{first_outer, is_stalled};
+ghost use Rattle.outer_events.specs.Events.{Begins_line, Begins_tick};
+ghost use Rattle.outer_events.specs.Did.{Goes};
 
-use crate::waits::{Call, Due};
 use chip_sim::Chip;
 use mesh_sim::Air;
+use outer_events::{Call, Due};
 use serial_pipes::Way;
 use std::alloc::Global;
 use std::marker::Model;
@@ -33,7 +33,7 @@ pub struct Outer {
 impl Model for Outer {
     ghost use Rattle.std.specs.Coded.{codes};
     ghost use Rattle.route_table.specs.Network.{network_code};
-    ghost use Rattle.outer_world.specs.State.{OuterState};
+    ghost use Rattle.outer_events.specs.State.{OuterState};
 
     ghost Value = { OuterState };
 

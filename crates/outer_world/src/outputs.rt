@@ -3,14 +3,14 @@
 ghost use Rattle.std.specs.Prelude.{◌≡◌, ◌++◌, ◌+◌, ◌≤◌, ◌∷◌, [], All, filter, Some, OnOk, OnErr, IfOk};
 ghost use Rattle.route_table.specs.Route.{via};
 ghost use Rattle.chip_sim.specs.Events.{Ticked, after};
-ghost use Rattle.outer_world.specs.State.{Does, each};
-ghost use Rattle.outer_world.specs.Chip.{put_out, shown_via, IsSendable};
-ghost use Rattle.outer_world.specs.Events.{Chip_ticks};
-ghost use Rattle.outer_world.specs.Did.{Goes};
+ghost use Rattle.outer_events.specs.State.{Does, each};
+ghost use Rattle.outer_events.specs.Chip.{put_out, shown_via, IsSendable};
+ghost use Rattle.outer_events.specs.Events.{Chip_ticks};
+ghost use Rattle.outer_events.specs.Did.{Goes};
 
 use crate::Outer;
-use crate::waits::{Call, Due};
 use chip_sim::ChipOut;
+use outer_events::{Call, Due};
 use route_table::Route;
 use std::alloc::Global;
 use zw_base::{List, NoMemory, NodeId, Payload, Sequence, read_node};

@@ -5,18 +5,18 @@ ghost use Rattle.std.specs.Option.{option_copied};
 ghost use Rattle.route_table.specs.declared.route.Route.{Route as TheRoute};
 ghost use Rattle.mesh_sim.specs.Routes.{IsRoute};
 ghost use Rattle.chip_sim.specs.Events.{Informed, FitsProfile};
-ghost use Rattle.outer_world.specs.State.{Does};
-ghost use Rattle.outer_world.specs.Chip.{chip_does};
-ghost use Rattle.outer_world.specs.Results.{call_back, without_no_route, no_route, no_routes, leading, forgets, frame_ends, profile_for, informs, gives, MayGive};
-ghost use Rattle.outer_world.specs.Did.{GoesFor, StopsFor};
-ghost use Rattle.outer_world.specs.Schedules.{Givings};
+ghost use Rattle.outer_events.specs.State.{Does};
+ghost use Rattle.outer_events.specs.Chip.{chip_does};
+ghost use Rattle.outer_events.specs.Results.{call_back, without_no_route, no_route, no_routes, leading, forgets, frame_ends, profile_for, informs, gives, MayGive};
+ghost use Rattle.outer_events.specs.Did.{GoesFor, StopsFor};
+ghost use Rattle.outer_events.specs.Schedules.{Givings};
 
 use crate::Outer;
 use crate::devices::told_profile;
-use crate::waits::{Call, Due};
 use chip_functions::TransmitStatus;
 use device_sim::Device;
 use mesh_sim::place_in;
+use outer_events::{Call, Due};
 use zw_base::{List, NoMemory, NodeId, Profile};
 use zw_text::Entry;
 

@@ -2,10 +2,11 @@
 
 ghost use Rattle.std.specs.Prelude.{◌≡◌, ℕ, ◌++◌, ◌+◌, ◌<◌, ◌≤◌, ◌∷◌, [], false, length, take, drop, min, OnOk, OnErr, IfOk};
 ghost use Rattle.serial_pipes.specs.Events.{after, Takes, Clears};
-ghost use Rattle.outer_world.specs.State.{is_stalled, piece_size};
-ghost use Rattle.outer_world.specs.Events.{Host_writes, Host_takes, Marks_loss, Marks_change, Clears_pipe, way_of, with_way, cleared_entries};
-ghost use Rattle.outer_world.specs.Did.{Goes, GoesOf};
-ghost use Rattle.outer_world.specs.Schedules.{ChipTakes, TakesBytes, any_moves};
+ghost use Rattle.outer_events.specs.State.{is_stalled};
+ghost use Rattle.outer_world.specs.Pieces.{piece_size};
+ghost use Rattle.outer_events.specs.Events.{Host_writes, Host_takes, Marks_loss, Marks_change, Clears_pipe, way_of, with_way, cleared_entries};
+ghost use Rattle.outer_events.specs.Did.{Goes, GoesOf};
+ghost use Rattle.outer_events.specs.Schedules.{ChipTakes, TakesBytes, any_moves};
 
 use crate::Outer;
 use serial_frame::Unit;

@@ -1,5 +1,5 @@
 use Rattle.std.proofs.Common.{◌≡◌, ◌++◌, drop}
-use Rattle.outer_world.specs.Devices.{changes_entries}
+use Rattle.outer_events.specs.Devices.{changes_entries}
 use Rattle.outer_world.proofs.acting.tell_changes.Given as goal
 
 abbrev pub invariant-loop-at : goal.invariant-loop-at

@@ -1,6 +1,6 @@
 use Rattle.std.proofs.Common.{◌≡◌, take}
 use Rattle.std.specs.Prelude.{filter}
-use Rattle.outer_world.specs.Chip.{is_node}
+use Rattle.outer_events.specs.Chip.{is_node}
 use Rattle.outer_world.proofs.outputs.shown_repeaters.Given as goal
 
 abbrev pub invariant-loop-hop : goal.invariant-loop-hop

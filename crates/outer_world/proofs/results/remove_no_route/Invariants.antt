@@ -1,5 +1,5 @@
 use Rattle.std.proofs.Common.{◌≡◌, ◌++◌, take, drop}
-use Rattle.outer_world.specs.Results.{without_no_route}
+use Rattle.outer_events.specs.Results.{without_no_route}
 use Rattle.outer_world.proofs.results.remove_no_route.Given as goal
 
 abbrev pub invariant-loop-at : goal.invariant-loop-at

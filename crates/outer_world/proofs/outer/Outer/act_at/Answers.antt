@@ -1,6 +1,6 @@
 use Rattle.std.proofs.Common.{inr}
 use Rattle.mesh_sim.proofs.Lists.{seen_at, seen_set}
-use Rattle.outer_world.specs.Devices.{act_event}
+use Rattle.outer_world.specs.Acting.{act_event}
 use Rattle.outer_world.proofs.Single.{on_ok, on_err}
 use Rattle.outer_world.proofs.Moves.{moved, acted_at, act_enters}
 use Rattle.outer_world.proofs.outer.Outer.act_at.Goals as goal

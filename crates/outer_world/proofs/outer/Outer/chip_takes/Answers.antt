@@ -1,5 +1,5 @@
 use Rattle.std.proofs.Common.{◌≡◌, ◌<◌, false, length, sym, ◌∙◌, ap, arith}
-use Rattle.outer_world.specs.State.{OuterState, is_stalled}
+use Rattle.outer_events.specs.State.{OuterState, is_stalled}
 use Rattle.outer_world.proofs.Taking.{taken_all}
 use Rattle.outer_world.proofs.outer.Outer.chip_takes.Goals as goal
 

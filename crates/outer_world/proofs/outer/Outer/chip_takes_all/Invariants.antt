@@ -1,5 +1,5 @@
 use Rattle.std.proofs.Common.{ℕ, ◌≤◌, length}
-use Rattle.outer_world.specs.Schedules.{TakesBytes}
+use Rattle.outer_events.specs.Schedules.{TakesBytes}
 use Rattle.outer_world.proofs.outer.Outer.chip_takes_all.Given as goal
 
 abbrev pub invariant-loop-self : goal.invariant-loop-self

@@ -1,5 +1,5 @@
 use Rattle.std.proofs.Common.{◌≡◌, ◌<◌, false, length, sym, subst}
-use Rattle.outer_world.specs.State.{OuterState, is_stalled}
+use Rattle.outer_events.specs.State.{OuterState, is_stalled}
 use Rattle.outer_world.specs.contracts.outer.Outer.{the_view}
 use Rattle.outer_world.proofs.Taking.{fed_good, piece_read}
 use Rattle.outer_world.proofs.outer.Outer.chip_takes_piece.Goals as goal

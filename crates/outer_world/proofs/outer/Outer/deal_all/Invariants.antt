@@ -1,6 +1,6 @@
 use Rattle.std.proofs.Common.{take, map}
-use Rattle.outer_world.specs.State.{Does, each}
-use Rattle.outer_world.specs.Air.{deals}
+use Rattle.outer_events.specs.State.{Does, each}
+use Rattle.outer_events.specs.Air.{deals}
 use Rattle.outer_world.proofs.outer.Outer.deal_all.Given as goal
 
 abbrev pub invariant-loop-event : goal.invariant-loop-event

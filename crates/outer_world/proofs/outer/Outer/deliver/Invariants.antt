@@ -1,7 +1,7 @@
 use Rattle.std.proofs.Common.{◌≡◌, ◌+◌, ◌≤◌, length, map}
-use Rattle.outer_world.specs.State.{outside}
-use Rattle.outer_world.specs.Did.{RunOf}
-use Rattle.outer_world.specs.Schedules.{Arrivals}
+use Rattle.outer_events.specs.State.{outside}
+use Rattle.outer_events.specs.Did.{RunOf}
+use Rattle.outer_events.specs.Schedules.{Arrivals}
 use Rattle.outer_world.proofs.outer.Outer.deliver.Given as goal
 
 abbrev pub invariant-loop : goal.invariant-loop

@@ -2,8 +2,8 @@ use Rattle.std.proofs.Common.{◌≡◌}
 use Rattle.std.specs.Prelude.{filter}
 use Rattle.std.specs.List.{range_with_len, flat_map}
 use Rattle.chip_sim.specs.Did.{after_all}
-use Rattle.outer_world.specs.State.{with_chip}
-use Rattle.outer_world.specs.Nodes.{is_known, pairs_of}
+use Rattle.outer_events.specs.State.{with_chip}
+use Rattle.outer_events.specs.Nodes.{is_known, pairs_of}
 use Rattle.outer_world.proofs.outer.Outer.discover.Given as goal
 
 abbrev pub invariant-loop-place : goal.invariant-loop-place

@@ -1,6 +1,6 @@
 use Rattle.std.proofs.Common.{map}
-use Rattle.outer_world.specs.Did.{GoesFor}
-use Rattle.outer_world.specs.Schedules.{Givings}
+use Rattle.outer_events.specs.Did.{GoesFor}
+use Rattle.outer_events.specs.Schedules.{Givings}
 use Rattle.outer_world.proofs.outer.Outer.give_due.Given as goal
 
 abbrev pub invariant-loop : goal.invariant-loop

@@ -1,6 +1,6 @@
 use Rattle.std.proofs.Common.{sym, subst, add-one}
-use Rattle.outer_world.specs.State.{Does}
-use Rattle.outer_world.specs.Results.{no_routes}
+use Rattle.outer_events.specs.State.{Does}
+use Rattle.outer_events.specs.Results.{no_routes}
 use Rattle.outer_world.proofs.Doings.{routes_more}
 use Rattle.outer_world.proofs.outer.Outer.give_no_routes.Goals as goal
 

@@ -1,5 +1,5 @@
-use Rattle.outer_world.specs.State.{Does}
-use Rattle.outer_world.specs.Results.{no_routes}
+use Rattle.outer_events.specs.State.{Does}
+use Rattle.outer_events.specs.Results.{no_routes}
 use Rattle.outer_world.proofs.outer.Outer.give_no_routes.Given as goal
 
 abbrev pub invariant-loop : goal.invariant-loop

@@ -1,5 +1,5 @@
 use Rattle.std.proofs.Common.{◌≡◌, ◌+◌, drop}
-use Rattle.outer_world.specs.Results.{leading}
+use Rattle.outer_events.specs.Results.{leading}
 use Rattle.outer_world.proofs.outer.Outer.leading.Given as goal
 
 abbrev pub invariant-loop-at : goal.invariant-loop-at

@@ -4,8 +4,8 @@ use Rattle.std.specs.List.{range_with_len}
 use Rattle.route_table.specs.Network.{linked}
 use Rattle.chip_sim.specs.Events.{Linked}
 use Rattle.chip_sim.specs.Did.{after_all}
-use Rattle.outer_world.specs.State.{with_chip}
-use Rattle.outer_world.specs.Nodes.{is_known}
+use Rattle.outer_events.specs.State.{with_chip}
+use Rattle.outer_events.specs.Nodes.{is_known}
 use Rattle.outer_world.proofs.outer.Outer.learn_pairs.Given as goal
 
 abbrev pub invariant-loop-place : goal.invariant-loop-place

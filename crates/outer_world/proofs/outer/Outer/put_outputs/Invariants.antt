@@ -1,6 +1,6 @@
 use Rattle.std.proofs.Common.{take}
-use Rattle.outer_world.specs.State.{Does, each}
-use Rattle.outer_world.specs.Chip.{put_out}
+use Rattle.outer_events.specs.State.{Does, each}
+use Rattle.outer_events.specs.Chip.{put_out}
 use Rattle.outer_world.proofs.outer.Outer.put_outputs.Given as goal
 
 abbrev pub invariant-loop-output : goal.invariant-loop-output

@@ -1,6 +1,6 @@
 use Rattle.std.proofs.Common.{rules, ◌≤◌, ℕ, List, length, subst, OnOk}
-use Rattle.outer_world.specs.State.{Does}
-use Rattle.outer_world.specs.Air.{to_chip}
+use Rattle.outer_events.specs.State.{Does}
+use Rattle.outer_events.specs.Air.{to_chip}
 use Rattle.outer_world.specs.contracts.outer.Outer.{the_view}
 use Rattle.outer_world.proofs.Doings.{reached_ok}
 use Rattle.outer_world.proofs.outer.Outer.reach_chip.Goals as goal

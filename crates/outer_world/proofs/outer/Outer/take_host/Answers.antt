@@ -1,5 +1,5 @@
 use Rattle.std.proofs.Common.{◌≡◌, false, sym, subst}
-use Rattle.outer_world.specs.State.{OuterState, is_stalled}
+use Rattle.outer_events.specs.State.{OuterState, is_stalled}
 use Rattle.outer_world.proofs.Going.{goes_takes}
 use Rattle.outer_world.proofs.outer.Outer.take_host.Goals as goal
 

@@ -1,10 +1,11 @@
 use Rattle.std.proofs.Common.{[], refl, arith, ◌∙◌}
-use Rattle.outer_world.proofs.Single.{run_nothing, on_err}
+use Rattle.outer_world.proofs.Single.{on_err}
+use Rattle.outer_events.proofs.Doing.{ran_nothing}
 use Rattle.outer_world.proofs.Moves.{tick_runs, tick_stops, ticks_all}
 use Rattle.outer_world.proofs.outer.Outer.tick_devices.Goals as goal
 
 pub loop-place-init : goal.loop-place-init
-loop-place-init g c = record { runs = ([], refl, run_nothing _ _); kept = refl }
+loop-place-init g c = record { runs = ([], refl, ran_nothing _ _); kept = refl }
 
 pub loop-place-preserved : goal.loop-place-preserved
 loop-place-preserved g c = record {

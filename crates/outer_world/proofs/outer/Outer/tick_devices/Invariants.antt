@@ -1,7 +1,7 @@
 use Rattle.std.proofs.Common.{◌≡◌, length, map}
-use Rattle.outer_world.specs.State.{outside}
-use Rattle.outer_world.specs.Did.{RunOf}
-use Rattle.outer_world.specs.Schedules.{DeviceTicks}
+use Rattle.outer_events.specs.State.{outside}
+use Rattle.outer_events.specs.Did.{RunOf}
+use Rattle.outer_events.specs.Schedules.{DeviceTicks}
 use Rattle.outer_world.proofs.outer.Outer.tick_devices.Given as goal
 
 abbrev pub invariant-loop-place : goal.invariant-loop-place

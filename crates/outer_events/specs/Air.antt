@@ -1,5 +1,5 @@
 -- What happens on the air, as it is told and as the chip learns of it (this project's own rule, docs/OUTSIDE.md).
-use Rattle.std.specs.Prelude.{ℕ, ◌&&◌, nat_le, if◌then◌else◌, Option, Some, None, List, [], ◌∷◌, map, slice_get, length}
+use Rattle.std.specs.Prelude.{◌≡◌, ℕ, ◌&&◌, Bool, true, false, nat_le, if◌then◌else◌, Option, Some, None, List, [], ◌∷◌, ◌++◌, map, slice_get, length}
 use Rattle.zw_base.specs.declared.property.Setting.{Setting}
 use Rattle.device_stack.specs.declared.change.Change.{Change}
 use Rattle.device_sim.specs.State.{State}
@@ -9,9 +9,9 @@ use Rattle.mesh_sim.specs.declared.event.AirEvent.TheVariants.{Heard, Lost, Unhe
 use Rattle.mesh_sim.specs.Fates.{place_of}
 use Rattle.zw_text.specs.declared.entry.Entry.{Entry}
 use Rattle.zw_text.specs.declared.entry.Entry.TheVariants as entry
-use Rattle.outer_world.specs.State.{OuterState, Outcome, silent, tells}
-use Rattle.outer_world.specs.Chip.{shown_via, chip_does}
-use Rattle.outer_world.specs.Results.{frame_ends, device_at}
+use Rattle.outer_events.specs.State.{OuterState, Outcome, silent, tells}
+use Rattle.outer_events.specs.Chip.{shown_via, chip_does}
+use Rattle.outer_events.specs.Results.{frame_ends, device_at}
 
 -- a change of a device, one setting after another
 abbrev pub change_entries : ℕ → Option Change → List Entry

@@ -1,5 +1,5 @@
 -- What devices do of themselves or by hand, and what is shown of them (this project's own rule, docs/OUTSIDE.md).
-use Rattle.std.specs.Prelude.{◌≡◌, ◌⊎◌, ℕ, Option, Some, None, List, [], ◌∷◌, drop, length, map, slice_get, slice_set, option_map}
+use Rattle.std.specs.Prelude.{◌≡◌, ◌⊎◌, ℕ, Option, Some, None, List, [], ◌∷◌, ◌++◌, drop, length, map, slice_get, slice_set, option_map}
 use Rattle.std.specs.List.{flat_map}
 use Rattle.zw_base.specs.declared.property.Setting.{Setting}
 use Rattle.route_table.specs.declared.route.Route.{Route}
@@ -8,16 +8,15 @@ use Rattle.device_stack.specs.declared.change.Change.{Change}
 use Rattle.device_stack.specs.Showing.{shown_of}
 use Rattle.device_sim.specs.State.{State}
 use Rattle.device_sim.specs.Event.{DeviceEvent, Ticks, Wakes, Sets, device_after, device_replies}
-use Rattle.outer_world.specs.declared.acting.Act.{Act}
-use Rattle.outer_world.specs.declared.acting.Act.TheVariants.{Tick, Wake, Local}
-use Rattle.mesh_sim.specs.Air.{is_joined}
+use Rattle.mesh_sim.specs.declared.event.AirEvent.{AirEvent}
+use Rattle.mesh_sim.specs.Air.{AirState, is_joined}
 use Rattle.mesh_sim.specs.Routes.{IsRoute, backwards}
 use Rattle.mesh_sim.specs.Steps.{answered_if, answers_if}
 use Rattle.zw_text.specs.declared.entry.Entry.{Entry}
 use Rattle.zw_text.specs.declared.entry.Entry.TheVariants.{Refused, Device}
 use Rattle.zw_text.specs.declared.entry.Refusal.TheVariants.{NoDevice}
-use Rattle.outer_world.specs.State.{OuterState, Outcome, silent, tells, and_then}
-use Rattle.outer_world.specs.Air.{change_entries, sent_entries}
+use Rattle.outer_events.specs.State.{OuterState, Outcome, silent, tells, and_then}
+use Rattle.outer_events.specs.Air.{change_entries, sent_entries}
 
 -- changes of a device, one after another
 abbrev pub changes_entries : ℕ → List Change → List Entry
@@ -48,16 +47,6 @@ abbrev pub HasWay : Network → ℕ → List (List ℕ) → Option Route → Typ
 HasWay network node [] route = Unit {0}
 HasWay network node (reply ∷ replies) route = IsRoute network node route
 
--- what a device does of itself or by hand
-abbrev pub act_event : Act → DeviceEvent
-act_event (Tick drawn) = Ticks drawn
-act_event Wake = Wakes
-act_event (Local value) = Sets value
-
--- a device is as it was, or has done it
-abbrev pub HasActed : OuterState → State → State → DeviceEvent → Type 0
-HasActed o old new event = (new ≡ old) ⊎ ((route : Option Route) × HasWay o.air.network old.node (device_replies old event) route × (new ≡ device_after old event))
-
 -- an event of the device at a place; all others stay
 abbrev pub acts_at : OuterState → Option State → DeviceEvent → Option Route → Outcome
 acts_at o None event route = silent o
@@ -83,10 +72,6 @@ set_by_hand devices (Some place) event = device_set devices place (slice_get dev
 abbrev pub MayActByHand : OuterState → List State → Option ℕ → DeviceEvent → Option Route → Type 0
 MayActByHand o devices None event route = Unit {0}
 MayActByHand o devices (Some place) event route = MayAct o (slice_get devices place) event route
-
--- the devices are as they were, or that device has done it
-abbrev pub HasActedByHand : OuterState → List State → List State → Option ℕ → DeviceEvent → Type 0
-HasActedByHand o old new place event = (new ≡ old) ⊎ ((route : Option Route) × MayActByHand o old place event route × (new ≡ set_by_hand old place event))
 
 -- what a device keeps
 abbrev pub device_entries : ℕ → Option State → List Entry

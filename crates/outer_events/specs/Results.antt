@@ -1,6 +1,6 @@
 -- Results of SendData and of RequestNodeInfo, in the order in which the chip is given them (this project's own rule,
 -- docs/OUTSIDE.md).
-use Rattle.std.specs.Prelude.{ℕ, zero, suc, ◌+◌, ◌&&◌, ◌||◌, Bool, nat_lt, if◌then◌else◌, Option, Some, None, List, [], ◌∷◌, drop, slice_get}
+use Rattle.std.specs.Prelude.{◌≡◌, ℕ, zero, suc, ◌+◌, ◌-◌, ◌&&◌, ◌||◌, Bool, true, false, nat_lt, if◌then◌else◌, Option, Some, None, List, [], ◌∷◌, ◌++◌, drop, slice_get}
 use Rattle.std.specs.Option.{is_some, unwrap_or}
 use Rattle.zw_base.specs.declared.profile.Profile.{Profile}
 use Rattle.route_table.specs.declared.route.Route.{Route}
@@ -16,13 +16,14 @@ use Rattle.device_sim.specs.State.{State}
 use Rattle.mesh_sim.specs.Air.{AirState, is_joined}
 use Rattle.mesh_sim.specs.Fates.{place_of}
 use Rattle.mesh_sim.specs.Routes.{IsRoute}
+use Rattle.zw_text.specs.declared.entry.Entry.{Entry}
 use Rattle.zw_text.specs.declared.entry.Entry.TheVariants.{Forget}
-use Rattle.outer_world.specs.declared.waits.Due.{Due}
-use Rattle.outer_world.specs.declared.waits.Due.TheVariants.{Info, NoRoute as no_route_due}
-use Rattle.outer_world.specs.declared.waits.Call.{Call}
-use Rattle.outer_world.specs.declared.waits.Call.TheVariants.{OfFrame, NoRoute as no_route_call}
-use Rattle.outer_world.specs.State.{OuterState, Outcome, with_chip, silent, tells, and_then}
-use Rattle.outer_world.specs.Chip.{chip_does}
+use Rattle.outer_events.specs.declared.waits.Due.{Due}
+use Rattle.outer_events.specs.declared.waits.Due.TheVariants.{Info, NoRoute as no_route_due}
+use Rattle.outer_events.specs.declared.waits.Call.{Call}
+use Rattle.outer_events.specs.declared.waits.Call.TheVariants.{OfFrame, NoRoute as no_route_call}
+use Rattle.outer_events.specs.State.{OuterState, Outcome, with_chip, silent, tells, and_then}
+use Rattle.outer_events.specs.Chip.{chip_does}
 
 -- the chip waits for the result of a SendData
 abbrev pub owes_call : ChipState → Bool

@@ -1,11 +1,11 @@
 -- Which events a call is (this project's own rule, docs/OUTSIDE.md).
-use Rattle.std.specs.Prelude.{◌≡◌, ℕ, zero, suc, ◌+◌, ◌-◌, ◌&&◌, not, nat_lt, Bool, true, false, Option, List, [], ◌∷◌, drop, length}
+use Rattle.std.specs.Prelude.{◌≡◌, ℕ, zero, suc, ◌+◌, ◌-◌, ◌≤◌, ◌&&◌, not, nat_lt, Bool, true, false, Option, List, [], ◌∷◌, drop, length}
 use Rattle.serial_frame.specs.declared.item.Item.{Item}
 use Rattle.serial_frame.specs.Stream.{Rest}
 use Rattle.route_table.specs.declared.route.Route.{Route}
-use Rattle.outer_world.specs.State.{OuterState, is_stalled, Does}
-use Rattle.outer_world.specs.Chip.{chip_takes, MayTake}
-use Rattle.outer_world.specs.Events.{OuterEvent, Chip_takes, Arrives, Gives, Device_ticks, Repeats, Wakes_device, Sets_device}
+use Rattle.outer_events.specs.State.{OuterState, is_stalled, Does}
+use Rattle.outer_events.specs.Chip.{chip_takes, MayTake}
+use Rattle.outer_events.specs.Events.{OuterEvent, Chip_takes, Arrives, Gives, Device_ticks, Repeats, Wakes_device, Sets_device}
 use Rattle.zw_text.specs.declared.entry.Entry.{Entry}
 
 -- the chip takes all bytes of its pipe at once, in whatever pieces they came; none where there are none, or in a stall

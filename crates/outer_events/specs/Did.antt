@@ -1,9 +1,9 @@
 -- What calls did, as lists of events (this project's own).
-use Rattle.std.specs.Prelude.{◌≡◌, List, [], ◌∷◌, ◌++◌}
+use Rattle.std.specs.Prelude.{◌≡◌, ℕ, List, [], ◌∷◌, ◌++◌}
 use Rattle.device_sim.specs.State.{State}
 use Rattle.zw_text.specs.declared.entry.Entry.{Entry}
-use Rattle.outer_world.specs.State.{OuterState, Outside, outside, Outcome}
-use Rattle.outer_world.specs.Events.{OuterEvent, happens, entries, May, stamp, has_entered}
+use Rattle.outer_events.specs.State.{OuterState, Outside, outside, Outcome}
+use Rattle.outer_events.specs.Events.{OuterEvent, happens, entries, May, stamp, has_entered, AreOwn}
 
 -- events, one after another
 abbrev pub happens_all : Outside → List OuterEvent → Outside
@@ -46,10 +46,11 @@ pub record Enters (outcome : Outcome) (new : OuterState) (before all : List Entr
   pub outer : new ≡ has_entered outcome.outer outcome.entries
   pub entries : all ≡ before ++ stamp outcome.outer outcome.entries
 
--- At want of memory some events were done that make of the devices what they are, and a front of their entries was made.
--- Nothing is said of the rest.
+-- At want of memory some events, none of the host's, were done that make of the devices what they are, and a front of their entries
+-- was made. Nothing is said of the rest.
 pub record Stops (old : Outside) (devices : List State) (before all : List Entry) : Type 0 where
   pub events : List OuterEvent
+  pub own : AreOwn events
   pub may : MayAll old events
   pub devices_are : devices ≡ (happens_all old events).devices
   pub more : List Entry

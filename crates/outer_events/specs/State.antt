@@ -1,6 +1,6 @@
 -- What is outside the host: the chip, the air, the serial line between host and chip, and time; and beside them the
 -- devices (this project's own model, docs/OUTSIDE.md).
-use Rattle.std.specs.Prelude.{◌≡◌, ℕ, ◌==◌, ◌||◌, if◌then◌else◌, Bool, true, false, nat_lt, List, [], ◌∷◌, ◌++◌}
+use Rattle.std.specs.Prelude.{◌≡◌, ℕ, ◌+◌, Bool, true, false, nat_lt, Option, Some, None, List, [], ◌∷◌, ◌++◌, drop, length}
 use Rattle.serial_frame.specs.Stream.{no_rest}
 use Rattle.chip_sim.specs.State.{ChipState, ChipParts, fresh_chip}
 use Rattle.chip_sim.specs.Events.{after, Joined, Linked}
@@ -8,8 +8,8 @@ use Rattle.device_sim.specs.State.{State}
 use Rattle.mesh_sim.specs.Air.{AirState, first_air, linking, joining}
 use Rattle.serial_pipes.specs.State.{WayState, empty_way}
 use Rattle.zw_text.specs.declared.entry.Entry.{Entry}
-use Rattle.outer_world.specs.declared.waits.Due.{Due}
-use Rattle.outer_world.specs.declared.waits.Call.{Call}
+use Rattle.outer_events.specs.declared.waits.Due.{Due}
+use Rattle.outer_events.specs.declared.waits.Call.{Call}
 
 -- all of it but the devices
 pub record OuterState : Type 0 where
@@ -41,10 +41,6 @@ outside o devices = record { outer = o; devices = devices }
 -- the chip with another state
 abbrev pub with_chip : OuterState → ChipState → OuterState
 with_chip o state = record o { chip = record { decoder = o.chip.decoder; state = state } }
-
--- how many bytes move at a time
-abbrev pub piece_size : OuterState → ℕ
-piece_size o = if o.piece == 0 || nat_lt 4096 o.piece then 4096 else o.piece
 
 -- no byte moves
 abbrev pub is_stalled : OuterState → Bool

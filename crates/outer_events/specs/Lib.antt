@@ -1,0 +1,9 @@
+pub mod State
+pub mod Chip
+pub mod Results
+pub mod Air
+pub mod Devices
+pub mod Nodes
+pub mod Events
+pub mod Did
+pub mod Schedules
