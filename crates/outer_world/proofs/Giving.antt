@@ -1,0 +1,122 @@
+-- Results that are given, and what is shown.
+use Rattle.std.proofs.Common.{◌≡◌, ℕ, zero, suc, ◌+◌, List, [], ◌∷◌, ◌++◌, drop, refl, ap, sym, ◌∙◌, subst, add-one, Result, OnOk}
+use Rattle.std.specs.Prelude.{Option, Some, None, slice_get}
+use Rattle.std.proofs.lemmas.List.{append-nil}
+use Rattle.zw_base.specs.declared.profile.Profile.{Profile}
+use Rattle.route_table.specs.declared.route.Route.{Route}
+use Rattle.chip_sim.specs.State.{ChipParts}
+use Rattle.chip_sim.specs.Events.{Informed, after, outs}
+use Rattle.chip_sim.specs.declared.out.ChipOut.{ChipOut}
+use Rattle.device_sim.specs.State.{State}
+use Rattle.mesh_sim.specs.Fates.{place_of}
+use Rattle.mesh_sim.specs.Routes.{IsRoute}
+use Rattle.zw_text.specs.declared.entry.Entry.{Entry}
+use Rattle.zw_text.specs.declared.entry.Entry.TheVariants.{Refused}
+use Rattle.zw_text.specs.declared.entry.Refusal.TheVariants.{NoDevice}
+use Rattle.outer_events.specs.declared.waits.Due.{Due}
+use Rattle.outer_events.specs.declared.waits.Due.TheVariants.{Info, NoRoute}
+use Rattle.outer_events.specs.State.{OuterState, Outside, outside, tells, each, Does}
+use Rattle.outer_events.specs.Chip.{put_out, chip_does}
+use Rattle.outer_events.specs.Results.{no_route, profile_for, informs, gives, MayGive, device_at}
+use Rattle.outer_events.specs.Devices.{device_entries, shown_entries}
+use Rattle.outer_events.specs.Events.{OuterEvent, Gives, Shows, outcome, devices_after, May, stamp, has_entered}
+use Rattle.outer_events.specs.Did.{RunOf, GoesFor, Enters}
+use Rattle.outer_events.specs.Schedules.{Givings, IsOne}
+use Rattle.outer_world.proofs.Single.{run_one, entered_ok, map_ok}
+use Rattle.outer_events.proofs.Doing.{ran_both}
+use Rattle.outer_world.proofs.Doings.{does_chip}
+
+-- the chip was given the information of a node
+pub informed : {V E : Type 0} (r : Result V E) (o q new : OuterState) (ds : List State) (node : ℕ) (moved : ChipParts) (given profile : Option Profile) (start outputs : List ChipOut) (before all : List Entry)
+    → q ≡ o → (route : Option Route) × IsRoute o.air.network node route × (profile ≡ profile_for o.air ds node route) → given ≡ profile
+    → moved.decoder ≡ q.chip.decoder → moved.state ≡ after q.chip.state (Informed node given) → start ≡ [] → outputs ≡ start ++ outs q.chip.state (Informed node given)
+    → OnOk r (Does (each put_out (record q { chip = moved }) outputs) new before all)
+    → OnOk r ((route : Option Route) × IsRoute o.air.network node route × Does (informs o ds node route) new before all)
+informed r o q new ds node moved given profile start outputs before all same (route, way, found) read decoder state none put done =
+    map_ok r (Does (each put_out (record q { chip = moved }) outputs) new before all) ((route : Option Route) × IsRoute o.air.network node route × Does (informs o ds node route) new before all)
+    (λ (did : Does (each put_out (record q { chip = moved }) outputs) new before all). (
+      route,
+      way,
+      subst (λ (p : OuterState). Does (chip_does p (Informed node (profile_for o.air ds node route))) new before all) same
+          (subst (λ (p : Option Profile). Does (chip_does q (Informed node p)) new before all) (read ∙ found)
+          (does_chip q moved q.chip.decoder (Informed node given) new start outputs before all decoder state none put did)),
+    )) done
+
+-- what is due first
+pub head_of : (due : List Due) (x : Due) → slice_get due 0 ≡ Some x → due ≡ x ∷ drop 1 due
+head_of [] x is = absurd (cc)
+head_of (y ∷ due) x is = let e : y ≡ x = cc in ap (λ (z : Due). z ∷ due) e
+
+pub none_due : (due : List Due) → slice_get due 0 ≡ None → due ≡ []
+none_due [] is = refl
+none_due (y ∷ due) is = absurd (cc)
+
+abbrev pub GivesDue : OuterState → List State → List Due → OuterState → List Entry → List Entry → Type 0
+GivesDue o ds due new before all = (route : Option Route) × MayGive o due route × Does (gives o ds due route) new before all
+
+module _ (o : OuterState) (ds : List State) (before all : List Entry) where
+  pub gives_none : o.due ≡ [] → all ≡ before → GivesDue o ds o.due o before all
+  gives_none none put =
+      subst (λ (due : List Due). GivesDue o ds due o before all) (sym none) (None, tt, record { outer = refl; entries = put ∙ sym (append-nil before) })
+
+module _ {V E : Type 0} (r : Result V E) (o new : OuterState) (ds : List State) (due : List Due) (before all : List Entry) where
+  pub gives_no_route : o.due ≡ NoRoute ∷ due → OnOk r (Does (no_route o) new before all) → OnOk r (GivesDue o ds o.due new before all)
+  gives_no_route is done =
+      subst (λ (l : List Due). OnOk r (GivesDue o ds l new before all)) (sym is)
+      (map_ok r (Does (no_route o) new before all) (GivesDue o ds (NoRoute ∷ due) new before all) (λ (did : Does (no_route o) new before all). (None, tt, did)) done)
+
+  pub gives_info : (q : OuterState) (node : ℕ) → o.due ≡ Info node ∷ due → q ≡ record o { due = due }
+      → OnOk r ((route : Option Route) × IsRoute q.air.network node route × Does (informs q ds node route) new before all) → OnOk r (GivesDue o ds o.due new before all)
+  gives_info q node is left done =
+      subst (λ (l : List Due). OnOk r (GivesDue o ds l new before all)) (sym is)
+      (subst (λ (p : OuterState). OnOk r ((route : Option Route) × IsRoute p.air.network node route × Does (informs p ds node route) new before all)) left done)
+
+module _ {V E : Type 0} (r : Result V E) (o new : OuterState) (ds : List State) (before all : List Entry) where
+  -- what was given is entered
+  pub give_runs : (mid : OuterState) (start told : List Entry) → start ≡ [] → (route : Option Route) × MayGive o o.due route × Does (gives o ds o.due route) mid start told
+      → OnOk r (new ≡ has_entered mid told) → OnOk r (all ≡ before ++ stamp mid told) → OnOk r (GoesFor ds (Givings 1) o new before all)
+  unfolding outcome devices_after May
+  give_runs mid start told none (route, may, done) outer put =
+      map_ok r (Enters (gives o ds o.due route) new before all) (GoesFor ds (Givings 1) o new before all)
+      (λ (entered : Enters (gives o ds o.due route) new before all). (Gives route ∷ [], (route, [], refl, refl), run_one (Gives route) (outside o ds) new ds before all may entered refl))
+      (entered_ok r (gives o ds o.due route) mid new start told before all none done outer put)
+
+  -- what is shown
+  pub shown_none : (node : ℕ) → place_of node ds ≡ None → OnOk r (Enters (tells o (Refused NoDevice ∷ [])) new before all) → OnOk r (GoesFor ds (IsOne (Shows node)) o new before all)
+  unfolding outcome devices_after May
+  shown_none node none done =
+      map_ok r (Enters (tells o (Refused NoDevice ∷ [])) new before all) (GoesFor ds (IsOne (Shows node)) o new before all)
+      (λ (entered : Enters (tells o (Refused NoDevice ∷ [])) new before all). (
+        Shows node ∷ [],
+        refl,
+        run_one (Shows node) (outside o ds) new ds before all tt
+            (subst (λ (p : Option ℕ). Enters (tells o (shown_entries node (device_at ds p))) new before all) (sym none) entered) refl,
+      )) done
+
+  pub shown_at : (node place : ℕ) (d : State) (start told : List Entry) → place_of node ds ≡ Some place → slice_get ds place ≡ Some d → start ≡ [] → told ≡ start ++ device_entries node (Some d)
+      → OnOk r (new ≡ has_entered o told) → OnOk r (all ≡ before ++ stamp o told) → OnOk r (GoesFor ds (IsOne (Shows node)) o new before all)
+  unfolding outcome devices_after May
+  shown_at node place d start told found at none put outer entered =
+      map_ok r (Enters (tells o (device_entries node (Some d))) new before all) (GoesFor ds (IsOne (Shows node)) o new before all)
+      (λ (did : Enters (tells o (device_entries node (Some d))) new before all). (
+        Shows node ∷ [],
+        refl,
+        run_one (Shows node) (outside o ds) new ds before all tt
+            (subst (λ (p : Option ℕ). Enters (tells o (shown_entries node (device_at ds p))) new before all) (sym found)
+            (subst (λ (s : Option State). Enters (tells o (shown_entries node s)) new before all) (sym at) did)) refl,
+      ))
+      (entered_ok r (tells o (device_entries node (Some d))) o new start told before all none (record { outer = refl; entries = put }) outer entered)
+
+-- results were given, and then one more
+givings_more : (count : ℕ) (xs ys : List OuterEvent) → Givings count xs → Givings 1 ys → Givings (suc count) (xs ++ ys)
+givings_more zero xs ys none more = subst (λ (l : List OuterEvent). Givings 1 (l ++ ys)) (sym none) more
+givings_more (suc count) xs ys (route, rest, are, others) more = (route, rest ++ ys, ap (λ (l : List OuterEvent). l ++ ys) are, givings_more count rest ys others more)
+
+pub give_more : (w : Outside) (o new : OuterState) (ds : List State) (count : ℕ) (before some all : List Entry) → RunOf (Givings count) w (outside o ds) before some
+    → GoesFor ds (Givings 1) o new some all → RunOf (Givings (count + 1)) w (outside new ds) before all
+give_more w o new ds count before some all (xs, are, run) (ys, one, more) =
+    subst (λ n. RunOf (Givings n) w (outside new ds) before all) (sym (add-one count))
+    (xs ++ ys, givings_more count xs ys are one, ran_both xs ys w (outside o ds) (outside new ds) before some all run more)
+
+pub givings_all : (n m : ℕ) (w v : Outside) (before all : List Entry) → n ≡ m → RunOf (Givings n) w v before all → RunOf (Givings m) w v before all
+givings_all n m w v before all e run = subst (λ k. RunOf (Givings k) w v before all) e run

@@ -1,0 +1,13 @@
+pub mod Outcomes
+pub mod Single
+pub mod Chips
+pub mod Sendable
+pub mod Ranges
+pub mod Moves
+pub mod Airing
+pub mod Going
+pub mod Doings
+pub mod Items
+pub mod Taking
+pub mod Landing
+pub mod Giving

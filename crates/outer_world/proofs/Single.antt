@@ -1,0 +1,132 @@
+-- Single events that were done.
+use Rattle.std.proofs.Common.{◌≡◌, ℕ, zero, suc, ◌+◌, true, List, [], ◌∷◌, ◌++◌, refl, ap, sym, ◌∙◌, subst, append_assoc, Result, Ok, Err, OnOk, OnErr}
+use Rattle.std.proofs.lemmas.List.{append-nil}
+use Rattle.device_sim.specs.State.{State}
+use Rattle.zw_text.specs.declared.entry.Entry.{Entry}
+use Rattle.outer_events.specs.State.{OuterState, Outside, outside, Outcome, silent, Does}
+use Rattle.outer_events.specs.Events.{OuterEvent, outcome, devices_after, May, stamp, has_entered, happens, entries, is_own, AreOwn}
+use Rattle.outer_events.specs.Schedules.{Arrivals, Givings, DeviceTicks}
+use Rattle.outer_events.proofs.Doing.{happens_all-append, entries_all-append, may_all-append}
+use Rattle.outer_events.specs.Did.{happens_all, entries_all, MayAll, Run, Goes, Enters, Stops, RunOf}
+
+-- what was told of an outcome was entered
+pub entered : (out : Outcome) (mid new : OuterState) (start told before all : List Entry)
+    → start ≡ [] → Does out mid start told → new ≡ has_entered mid told → all ≡ before ++ stamp mid told → Enters out new before all
+entered out mid new start told before all none done outer put =
+    let is : told ≡ out.entries = done.entries ∙ ap (λ (l : List Entry). l ++ out.entries) none in
+    record {
+      outer = outer ∙ (ap (λ (o : OuterState). has_entered o told) done.outer ∙ ap (λ (l : List Entry). has_entered out.outer l) is);
+      entries = put ∙ (ap (λ (o : OuterState). before ++ stamp o told) done.outer ∙ ap (λ (l : List Entry). before ++ stamp out.outer l) is);
+    }
+
+pub entered_ok : {V E : Type 0} (r : Result V E) (out : Outcome) (mid new : OuterState) (start told before all : List Entry)
+    → start ≡ [] → Does out mid start told → OnOk r (new ≡ has_entered mid told) → OnOk r (all ≡ before ++ stamp mid told) → OnOk r (Enters out new before all)
+entered_ok (Ok v) out mid new start told before all none done outer put = entered out mid new start told before all none done outer put
+entered_ok (Err e) out mid new start told before all none done outer put = tt
+
+-- an event was done
+pub run_one : (e : OuterEvent) (w : Outside) (new : OuterState) (later : List State) (before all : List Entry)
+    → May w e → Enters (outcome w e) new before all → later ≡ devices_after w e → Run (e ∷ []) w (outside new later) before all
+run_one e w new later before all may done devices = record {
+  may = (may, tt);
+  state = ap (λ (o : OuterState). outside o later) done.outer ∙ ap (λ (ds : List State). outside (has_entered (outcome w e).outer (outcome w e).entries) ds) devices;
+  entries = done.entries ∙ ap (λ (l : List Entry). before ++ l) (sym (append-nil (entries w e)));
+}
+
+-- whatever the devices are
+pub goes_one : (e : OuterEvent) (old new : OuterState) (before all : List Entry) → ((ds : List State) → May (outside old ds) e)
+    → ((ds : List State) → Enters (outcome (outside old ds) e) new before all) → ((ds : List State) → ds ≡ devices_after (outside old ds) e) → Goes (e ∷ []) old new before all
+goes_one e old new before all may done still ds = run_one e (outside old ds) new ds before all (may ds) (done ds) (still ds)
+
+-- nothing was told
+pub enters_silent : (o new : OuterState) (all : List Entry) → new ≡ o → Enters (silent o) new all all
+enters_silent o new all same = record { outer = same; entries = sym (append-nil all) }
+
+-- it stops before anything was done
+pub stops_now : (old : Outside) (devices : List State) (before all : List Entry) → devices ≡ old.devices → all ≡ before → Stops old devices before all
+stops_now old devices before all same put = record {
+  events = [];
+  own = tt;
+  may = tt;
+  devices_are = same;
+  more = [];
+  front = append-nil all ∙ (put ∙ sym (append-nil before));
+}
+
+-- it stops in an event whose device has done its part
+pub stops_in : (e : OuterEvent) (old : Outside) (devices : List State) (before all : List Entry)
+    → is_own e ≡ true → May old e → devices ≡ devices_after old e → all ≡ before → Stops old devices before all
+stops_in e old devices before all own may same put = record {
+  events = e ∷ [];
+  own = (own, tt);
+  may = (may, tt);
+  devices_are = same;
+  more = entries old e ++ [];
+  front = ap (λ (l : List Entry). l ++ (entries old e ++ [])) put;
+}
+
+-- ---- lists of events
+
+AreOwn-append : (xs ys : List OuterEvent) → AreOwn xs → AreOwn ys → AreOwn (xs ++ ys)
+AreOwn-append [] ys first more = more
+AreOwn-append (x ∷ xs) ys first more = (first.0, AreOwn-append xs ys first.1 more)
+
+-- it stops after events
+pub stops_after : (xs : List OuterEvent) (a b : Outside) (devices : List State) (before mid all : List Entry) → AreOwn xs → Run xs a b before mid → Stops b devices mid all → Stops a devices before all
+stops_after xs a b devices before mid all own first more = record {
+  events = xs ++ more.events;
+  own = AreOwn-append xs more.events own more.own;
+  may = may_all-append a xs more.events first.may (subst (λ (w : Outside). MayAll w more.events) first.state more.may);
+  devices_are = more.devices_are ∙ ap (λ (w : Outside). w.devices) (ap (λ (w : Outside). happens_all w more.events) first.state ∙ sym (happens_all-append a xs more.events));
+  more = more.more;
+  front = more.front ∙ (ap (λ (l : List Entry). l ++ entries_all b more.events) first.entries
+      ∙ (append_assoc before (entries_all a xs) (entries_all b more.events)
+      ∙ ap (λ (l : List Entry). before ++ l) (ap (λ (w : Outside). entries_all a xs ++ entries_all w more.events) first.state ∙ sym (entries_all-append a xs more.events))));
+}
+
+-- facts of an answer
+pub on_ok : {V E : Type 0} (r : Result V E) (P : Type 0) → P → OnOk r P
+on_ok (Ok v) P holds = holds
+on_ok (Err e) P holds = tt
+
+pub on_err : {V E : Type 0} (r : Result V E) (P : Type 0) → P → OnErr r P
+on_err (Ok v) P holds = tt
+on_err (Err e) P holds = holds
+
+-- a fact that holds at Ok goes over to another
+pub map_ok : {V E : Type 0} (r : Result V E) (P Q : Type 0) → (P → Q) → OnOk r P → OnOk r Q
+map_ok (Ok v) P Q f holds = f holds
+map_ok (Err e) P Q f holds = tt
+
+pub map_ok_both : {V E : Type 0} (r : Result V E) (P Q R : Type 0) → (P → Q → R) → OnOk r P → OnOk r Q → OnOk r R
+map_ok_both (Ok v) P Q R f p q = f p q
+map_ok_both (Err e) P Q R f p q = tt
+
+pub map_err_both : {V E : Type 0} (r : Result V E) (P Q R : Type 0) → (P → Q → R) → OnErr r P → OnErr r Q → OnErr r R
+map_err_both (Ok v) P Q R f p q = tt
+map_err_both (Err e) P Q R f p q = f p q
+
+pub map_err : {V E : Type 0} (r : Result V E) (P Q : Type 0) → (P → Q) → OnErr r P → OnErr r Q
+map_err (Ok v) P Q f holds = tt
+map_err (Err e) P Q f holds = f holds
+
+-- events of a kind, none of them the host's, were done, and then it stops
+pub run_stops : (Kind : List OuterEvent → Type 0) (w : Outside) (o : OuterState) (devices : List State) (before some all : List Entry) → ((events : List OuterEvent) → Kind events → AreOwn events)
+    → RunOf Kind w (outside o devices) before some → all ≡ some → Stops w devices before all
+run_stops Kind w o devices before some all own (events, are, run) put = stops_after events w (outside o devices) devices before some all (own events are) run (stops_now (outside o devices) devices some all refl put)
+
+pub runs_stop : (Kind : List OuterEvent → Type 0) (a b : Outside) (devices : List State) (before some all : List Entry) → ((events : List OuterEvent) → Kind events → AreOwn events)
+    → RunOf Kind a b before some → Stops b devices some all → Stops a devices before all
+runs_stop Kind a b devices before some all own (events, are, run) more = stops_after events a b devices before some all (own events are) run more
+
+pub arrivals_own : (count : ℕ) (events : List OuterEvent) → Arrivals count events → AreOwn events
+arrivals_own zero events none = subst (λ (l : List OuterEvent). AreOwn l) (sym none) tt
+arrivals_own (suc count) events (drawn, route, rest, are, more) = subst (λ (l : List OuterEvent). AreOwn l) (sym are) (refl, arrivals_own count rest more)
+
+pub givings_own : (count : ℕ) (events : List OuterEvent) → Givings count events → AreOwn events
+givings_own zero events none = subst (λ (l : List OuterEvent). AreOwn l) (sym none) tt
+givings_own (suc count) events (route, rest, are, more) = subst (λ (l : List OuterEvent). AreOwn l) (sym are) (refl, givings_own count rest more)
+
+pub ticks_own : (place count : ℕ) (events : List OuterEvent) → DeviceTicks place count events → AreOwn events
+ticks_own place zero events none = subst (λ (l : List OuterEvent). AreOwn l) (sym none) tt
+ticks_own place (suc count) events (drawn, route, rest, are, more) = subst (λ (l : List OuterEvent). AreOwn l) (sym are) (refl, ticks_own (place + 1) count rest more)

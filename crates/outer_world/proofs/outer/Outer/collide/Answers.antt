@@ -1,0 +1,5 @@
+use Rattle.outer_world.proofs.Going.{goes_collides}
+use Rattle.outer_world.proofs.outer.Outer.collide.Goals as goal
+
+pub returns-clause-ok : goal.returns-clause-ok
+returns-clause-ok c = rw (← c.self.view_is) (goes_collides _ _ c.collide.ensures.decoder c.collide.ensures.state)

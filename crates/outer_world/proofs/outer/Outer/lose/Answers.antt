@@ -1,0 +1,5 @@
+use Rattle.outer_world.proofs.Going.{goes_loses}
+use Rattle.outer_world.proofs.outer.Outer.lose.Goals as goal
+
+pub returns-clause-ok : goal.returns-clause-ok
+returns-clause-ok c = rw (← c.self.view_is) (goes_loses _ _ _ c.lose.ensures.state)

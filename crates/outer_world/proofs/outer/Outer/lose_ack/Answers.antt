@@ -1,0 +1,5 @@
+use Rattle.outer_world.proofs.Going.{goes_loses_acks}
+use Rattle.outer_world.proofs.outer.Outer.lose_ack.Goals as goal
+
+pub returns-clause-ok : goal.returns-clause-ok
+returns-clause-ok c = rw (← c.self.view_is) (goes_loses_acks _ _ _ c.lose_ack.ensures.state)

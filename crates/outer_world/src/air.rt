@@ -1,0 +1,87 @@
+//! Frames that arrive or are repeated.
+
+ghost use Rattle.std.specs.Prelude.{◌≡◌, ◌+◌, ◌-◌, ◌<◌, ◌≤◌, ◌^◌, ◌++◌, ◌∷◌, [], ℕ, length, map, Option, OnOk, OnErr, List as Items};
+ghost use Rattle.route_table.specs.declared.route.Route.{Route as TheRoute};
+ghost use Rattle.outer_events.specs.State.{outside, tells};
+ghost use Rattle.air_frames.specs.declared.ages.Refusal.{Refusal as Refused};
+ghost use Rattle.mesh_sim.specs.Faults.{fault_of};
+ghost use Rattle.outer_events.specs.Events.{refusal_entries};
+ghost use Rattle.outer_events.specs.Did.{Run, RunOf, Stops, Enters};
+ghost use Rattle.outer_events.specs.Schedules.{Arrivals, Delivers, IsRepeat};
+
+use crate::Outer;
+use device_sim::Device;
+use mesh_sim::RepeatFault;
+use zw_base::{Draw, List, NoMemory};
+use zw_text::{Entry, Refusal};
+
+impl Outer {
+    /// Each frame that is on the air now arrives, in the order of numbers.
+    pub fn deliver<D: Draw>(
+        &mut self,
+        devices: &mut Vec<Box<dyn Device>>,
+        draw: &mut D,
+        out: &mut List<Entry>,
+    ) -> Result<(), NoMemory>
+        requires few { length devices.old.items < 2 ^ 64 }
+        ensures ok { OnOk result (RunOf (Delivers self.old) (outside self.old (map (λ d. state d) devices.old.items)) (outside self.new (map (λ d. state d) devices.new.items)) out.old.items out.new.items) }
+        ensures err { OnErr result (Stops (outside self.old (map (λ d. state d) devices.old.items)) (map (λ d. state d) devices.new.items) out.old.items out.new.items) }
+        ensures kept { length devices.new.items ≡ length devices.old.items }
+    {
+        for _ in 0..self.air.flying() {
+            self.arrive(devices, draw, out)?;
+        }
+        Ok(())
+    }
+
+    /// The next frame arrives.
+    fn arrive<D: Draw>(
+        &mut self,
+        devices: &mut Vec<Box<dyn Device>>,
+        draw: &mut D,
+        out: &mut List<Entry>,
+    ) -> Result<(), NoMemory>
+        requires few { length devices.old.items < 2 ^ 64 }
+        requires flying { self.old.air.frames.landed < self.old.air.frames.sent }
+        ensures ok { OnOk result (RunOf (Arrivals 1) (outside self.old (map (λ d. state d) devices.old.items)) (outside self.new (map (λ d. state d) devices.new.items)) out.old.items out.new.items) }
+        ensures err { OnErr result (Stops (outside self.old (map (λ d. state d) devices.old.items)) (map (λ d. state d) devices.new.items) out.old.items out.new.items) }
+        ensures kept { length devices.new.items ≡ length devices.old.items }
+    {
+        let mut events = List::new(self.alloc);
+        self.air.arrive(devices, draw, &mut events)?;
+        self.deal_and_enter(&events, devices, out)
+    }
+
+    /// A frame is heard again, or that is refused.
+    pub fn repeat<D: Draw>(
+        &mut self,
+        frame: u64,
+        devices: &mut Vec<Box<dyn Device>>,
+        draw: &mut D,
+        out: &mut List<Entry>,
+    ) -> Result<(), NoMemory>
+        requires few { length devices.old.items < 2 ^ 64 }
+        ensures ok { OnOk result (RunOf (IsRepeat frame) (outside self.old (map (λ d. state d) devices.old.items)) (outside self.new (map (λ d. state d) devices.new.items)) out.old.items out.new.items) }
+        ensures err { OnErr result (Stops (outside self.old (map (λ d. state d) devices.old.items)) (map (λ d. state d) devices.new.items) out.old.items out.new.items) }
+        ensures kept { length devices.new.items ≡ length devices.old.items }
+    {
+        let mut events = List::new(self.alloc);
+        match self.air.repeat(frame, devices, draw, &mut events) {
+            Ok(()) => self.deal_and_enter(&events, devices, out),
+            Err(fault) => self.refuse_repeat(fault, out),
+        }
+    }
+
+    /// A frame is not repeated.
+    fn refuse_repeat(&mut self, fault: RepeatFault, out: &mut List<Entry>) -> Result<(), NoMemory>
+        ensures ok { OnOk result ((refused : Refused) × (fault ≡ fault_of refused) × Enters (tells self.old (refusal_entries refused)) self.new out.old.items out.new.items) }
+        ensures err { OnErr result (out.new.items ≡ out.old.items) }
+    {
+        match fault {
+            RepeatFault::NeverSent => self.refuse(Refusal::NeverSent, out),
+            RepeatFault::Forgotten => self.refuse(Refusal::Forgotten, out),
+            RepeatFault::Stale(later) => self.refuse(Refusal::Stale { later }, out),
+            RepeatFault::NoMemory => Err(NoMemory),
+        }
+    }
+}

@@ -1,0 +1,23 @@
+//! What is outside the host: the chip, the air, the two directions of the serial line between host and chip, time, and
+//! the devices that are handed in.
+//!
+//! Each call is a list of small events. Its contract says which events they are; what each makes of the outside and which
+//! entries it has stands in `outer_events`. Where memory is wanting, some events were done that lead to the devices as they
+//! are, with a front of their entries; a run ends there, and nothing is said of the rest.
+//! Of its own it defines only how a device's doings are named (`specs/Acting`), and the size of pieces (`specs/Pieces`).
+#![tactic(auto)]
+
+mod acting;
+mod air;
+mod dealing;
+mod devices;
+mod entering;
+mod lines;
+mod nodes;
+mod outer;
+mod outputs;
+mod results;
+mod serial;
+
+pub use devices::list_device;
+pub use outer::Outer;

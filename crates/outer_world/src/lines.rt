@@ -1,0 +1,81 @@
+//! Lines that set something of the air, the chip or time.
+
+ghost use Rattle.std.specs.Prelude.{◌≡◌, ◌+◌, ◌<◌, ◌^◌, ◌∷◌, [], true, false, ℕ, OnOk, OnErr};
+ghost use Rattle.outer_events.specs.Events.{Links, Loses, Loses_acks, Collides_next, Stalls, Cuts, Host_begins};
+ghost use Rattle.outer_events.specs.Did.{Goes};
+
+use crate::Outer;
+use zw_base::{NoMemory, NodeId};
+
+impl Outer {
+    /// Two nodes hear each other, or no longer.
+    pub fn set_link(&mut self, a: NodeId, b: NodeId, live: bool)
+        ensures { Goes (Links a b live ∷ []) self.old self.new [] [] }
+    {
+        self.air.set_link(a, b, live);
+    }
+
+    /// So many more frames are to be lost.
+    pub fn lose(&mut self, count: u32) -> Result<(), NoMemory>
+        ensures ok { OnOk result (Goes (Loses count ∷ []) self.old self.new [] []) }
+        ensures err { OnErr result (self.new ≡ self.old) }
+    {
+        if self.air.losing() > u64::MAX - u64::from(count) {
+            return Err(NoMemory);
+        }
+        self.air.lose(count);
+        Ok(())
+    }
+
+    /// So many more acknowledgements are to be lost.
+    pub fn lose_ack(&mut self, count: u32) -> Result<(), NoMemory>
+        ensures ok { OnOk result (Goes (Loses_acks count ∷ []) self.old self.new [] []) }
+        ensures err { OnErr result (self.new ≡ self.old) }
+    {
+        if self.air.ack_losing() > u64::MAX - u64::from(count) {
+            return Err(NoMemory);
+        }
+        self.air.lose_ack(count);
+        Ok(())
+    }
+
+    /// The chip is to answer a good frame by CAN.
+    pub fn collide(&mut self) -> Result<(), NoMemory>
+        ensures ok { OnOk result (Goes (Collides_next ∷ []) self.old self.new [] []) }
+        ensures err { OnErr result (self.new ≡ self.old) }
+    {
+        if !self.chip.can_collide() {
+            return Err(NoMemory);
+        }
+        self.chip.collide();
+        Ok(())
+    }
+
+    /// No byte moves until so many ticks passed; of two stalls the longer holds.
+    pub fn stall(&mut self, ticks: u32) -> Result<(), NoMemory>
+        ensures ok { OnOk result (Goes (Stalls ticks ∷ []) self.old self.new [] []) }
+        ensures err { OnErr result (self.new ≡ self.old) }
+    {
+        if self.clock > u64::MAX - u64::from(ticks) {
+            return Err(NoMemory);
+        }
+        self.stalled_until = self.stalled_until.max(self.clock + u64::from(ticks));
+        Ok(())
+    }
+
+    /// Bytes move in pieces of so many; 0 is no cutting.
+    pub fn cut(&mut self, size: u32)
+        ensures { Goes (Cuts size ∷ []) self.old self.new [] [] }
+    {
+        self.piece = size as usize;
+    }
+
+    /// From now on so many sessions of a node have begun, and never fewer than before.
+    pub fn set_begun(&mut self, node: NodeId, sessions: u64)
+        ensures { Goes (Host_begins node sessions ∷ []) self.old self.new [] [] }
+    {
+        if self.air.begun(node) <= sessions {
+            self.air.set_begun(node, sessions);
+        }
+    }
+}
