@@ -1,0 +1,3 @@
+pub mod Input
+pub mod Check
+pub mod Events
