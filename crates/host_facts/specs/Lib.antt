@@ -3,3 +3,4 @@ pub mod Laws
 pub mod Tables
 pub mod Stores
 pub mod Facts
+pub mod Wrong
