@@ -4,3 +4,4 @@ pub mod Tables
 pub mod Stores
 pub mod Facts
 pub mod Wrong
+pub mod Lives
