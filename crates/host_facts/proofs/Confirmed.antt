@@ -1,5 +1,5 @@
 -- The confirmed values are those that the last successful commands give.
-use Rattle.std.proofs.Common.{◌≡◌, ℕ, ◌+◌, ◌<◌, Bool, true, false, if◌then◌else◌, List, [], ◌∷◌, ◌++◌, length, Option, Some, None, inl, inr, refl, sym, ap, ap₂, subst, ◌∙◌, arith}
+use Rattle.std.proofs.Common.{◌≡◌, ℕ, ◌+◌, ◌<◌, Bool, false, if◌then◌else◌, List, [], ◌∷◌, ◌++◌, length, Option, Some, None, inl, inr, refl, sym, ap, ap₂, subst, ◌∙◌, arith}
 use Rattle.std.specs.List.{AllByRecursion}
 use Rattle.std.proofs.lemmas.Bool.{cases_eq}
 use Rattle.zw_base.specs.declared.property.Property.{Property}
@@ -10,18 +10,16 @@ use Rattle.zw_text.specs.declared.entry.Outcome.TheVariants.{Waiting, Begun, Suc
 use Rattle.zw_laws.specs.Values.{is_success, last_given}
 use Rattle.zw_laws.specs.Lists.{Rises}
 use Rattle.value_store.specs.Values.{Values, stored_of}
-use Rattle.host_orders.specs.Settings.{settings}
 use Rattle.host_keep.specs.Kept.{Taken, or_else, value_among, value_by}
 use Rattle.host_keep.specs.declared.final_status.FinalStatus.{FinalStatus}
 use Rattle.host_keep.specs.declared.final_status.FinalStatus.TheVariants as final
-use Rattle.supervision.specs.Host.{open_session, command_at as command_of_session}
 use Rattle.host_node.specs.State.{NodeState}
 use Rattle.host_node.specs.Steps.{oldest}
 use Rattle.host_nodes.specs.State.{node_of}
 use Rattle.host_events.specs.State.{Command, command_at, with_outcome}
-use Rattle.host_events.specs.Sessions.{command_by, open_command, settings_with}
+use Rattle.host_events.specs.Sessions.{open_command, settings_with}
 use Rattle.host_events.specs.After.{outcome_of, confirming}
-use Rattle.host_events.specs.Facts.{IsCommandOf, OwnsCommands}
+use Rattle.host_events.specs.Facts.{OwnsCommands}
 use Rattle.host_facts.specs.Laws.{IsUnderWay}
 use Rattle.host_facts.specs.Tables.{outcome_in, taken_at, taken_by, recorded}
 use Rattle.host_facts.specs.Stores.{given_by, AreConfirmed}
@@ -29,7 +27,7 @@ use Rattle.host_facts.specs.Facts.{IsInOrder}
 use Rattle.host_facts.proofs.Lists.{all-weaker, rises-left, below_later}
 use Rattle.host_facts.proofs.Commands.{outcome_other, outcome_same, outcome_pushed, outcome_past, taken_set, taken_pushed}
 use Rattle.host_facts.proofs.Owned.{apart, opened_ends}
-use Rattle.host_facts.proofs.Effect.{only_commands, SameNodes, OneNode, SameConfirmed, Leaves, Unanswers, Accepts, Cancels, Begins, Finishes, Effect, Leaving, Unanswering, Accepting, Cancelling, Beginning, Finishing}
+use Rattle.host_facts.proofs.Effect.{SameConfirmed, Begins, Finishes, Effect, Leaving, Unanswering, Accepting, Cancelling, Beginning, Finishing}
 use Rattle.host_facts.proofs.Values.{AreDistinct, confirming_here, confirming_other, settings_distinct}
 use Rattle.host_facts.proofs.InOrder.{opened_is, waiting_is, oldest_is, waiting_waits, oldest_waits}
 use Rattle.host_facts.proofs.Ending.{same_sessions, one_sessions}

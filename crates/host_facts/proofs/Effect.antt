@@ -1,10 +1,9 @@
 -- What an event of a host does to its commands and nodes, and which entries it has: one of six things.
-use Rattle.std.specs.Prelude.{◌≡◌, ℕ, ◌+◌, ◌<◌, ◌++◌, false, List, [], ◌∷◌, length, Option, Some, None, Contains}
+use Rattle.std.specs.Prelude.{◌≡◌, ℕ, ◌+◌, ◌<◌, ◌++◌, false, List, [], ◌∷◌, length, Some, None, Contains}
 use Rattle.std.specs.List.{AllByRecursion}
-use Rattle.zw_text.specs.declared.entry.Ended.{Ended}
 use Rattle.zw_text.specs.declared.entry.Ended.TheVariants as ended
 use Rattle.zw_text.specs.declared.entry.Entry.{Entry}
-use Rattle.zw_text.specs.declared.entry.Entry.TheVariants.{Accepted, Begin, Out, Store}
+use Rattle.zw_text.specs.declared.entry.Entry.TheVariants.{Accepted, Begin, Out}
 use Rattle.zw_text.specs.declared.entry.Outcome.TheVariants as outcome
 use Rattle.supervision.specs.Host.{begun_of, open_session}
 use Rattle.zw_base.specs.declared.property.Property.{Property}

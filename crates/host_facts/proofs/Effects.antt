@@ -1,12 +1,11 @@
 -- Each event of a host does one of six things to its commands and nodes.
-use Rattle.std.proofs.Common.{◌≡◌, ℕ, ◌+◌, ◌<◌, ◌≤◌, Bool, true, false, if◌then◌else◌, Option, Some, None, List, [], ◌∷◌, ◌++◌, length, map, get_or, set, inl, inr, ◌⊎◌, refl, sym, ap, subst, ap₂, ◌∙◌, append-nil, arith}
+use Rattle.std.proofs.Common.{◌≡◌, ℕ, ◌+◌, ◌<◌, Bool, true, false, if◌then◌else◌, Option, Some, None, List, [], ◌∷◌, ◌++◌, length, inl, inr, refl, sym, ap, subst, ap₂, ◌∙◌, arith}
 use Rattle.std.specs.Prelude.{Contains}
 use Rattle.std.specs.List.{AllByRecursion}
 use Rattle.std.proofs.lemmas.Bool.{cases_eq, cases_lt}
-use Rattle.std.proofs.lemmas.List.{get_or_past, get_or-set_same, get_or-set_other, length-set, set_past}
+use Rattle.std.proofs.lemmas.List.{get_or_past, get_or-set_same, get_or-set_other, set_past}
 use Rattle.zw_text.specs.declared.entry.Entry.{Entry}
-use Rattle.zw_text.specs.declared.entry.Entry.TheVariants.{Begin, Out}
-use Rattle.zw_text.specs.declared.entry.Ended.TheVariants as ended
+use Rattle.zw_text.specs.declared.entry.Entry.TheVariants.{Begin}
 use Rattle.zw_text.specs.declared.entry.Outcome.TheVariants as outcome
 use Rattle.zw_order.specs.declared.order.Order.{Order}
 use Rattle.supervision.specs.Host.{open_session, told_of, command_at as command_of_session}
@@ -26,28 +25,27 @@ use Rattle.host_requests.specs.declared.end.How.TheVariants.{AtResponse}
 use Rattle.host_requests.specs.declared.task.Purpose.{Purpose}
 use Rattle.host_requests.specs.declared.task.Purpose.TheVariants.{Housekeeping, Attempt, Abort}
 use Rattle.host_requests.specs.declared.task.Task.{Task}
-use Rattle.host_requests.specs.declared.task.Task.TheVariants.{Plain, NoMore, Second, Neighbours, IsFailed, Segment}
+use Rattle.host_requests.specs.declared.task.Task.TheVariants.{Plain, NoMore, Second, Neighbours, IsFailed}
 use Rattle.host_requests.specs.Events.{RequestsEvent, end_at}
-use Rattle.host_requests.specs.Events.RequestsEvent.{Fails as request_fails, Updates as request_updates, Pushes as request_pushes}
+use Rattle.host_requests.specs.Events.RequestsEvent.{Fails as request_fails}
 use Rattle.host_node.specs.declared.attempt.Moment.{Moment}
 use Rattle.host_node.specs.declared.attempt.Moment.TheVariants.{BeforeItsTick}
 use Rattle.host_node.specs.declared.attempt.AttemptEnd.{AttemptEnd}
 use Rattle.host_node.specs.declared.attempt.AttemptEnd.TheVariants.{NoneRan, Again, Unanswered}
 use Rattle.host_node.specs.State.{NodeState, unknown}
-use Rattle.host_node.specs.Steps.{after_attempt_end, after_no_more_end, after_put, after_sign, after_told, with_final, as_recorded, attempt_end, falls_asleep, tick_end}
+use Rattle.host_node.specs.Steps.{after_attempt_end, after_put, after_told, as_recorded, attempt_end, falls_asleep, tick_end}
 use Rattle.host_node.specs.Events.{NodeEvent, after as after_node}
-use Rattle.host_node.specs.Events.NodeEvent.{Accepts as node_accepts, Begins as node_begins, Blocks as node_blocks, Cancels as node_cancels, Drops_no_more as node_drops_no_more, Ends_attempt as node_ends_attempt, Ends_no_more as node_ends_no_more, Gives_segment as node_gives_segment, Gives_text as node_gives_text, Holds as node_holds, Interviews as node_interviews, Joins as node_joins, Notifies as node_notifies, Puts as node_puts, Queues_no_more as node_queues_no_more, Reports as node_reports, Starts as node_starts, Succeeds as node_succeeds, Takes_nonce as node_takes_nonce, Ticks as node_ticks}
+use Rattle.host_node.specs.Events.NodeEvent.{Accepts as node_accepts, Blocks as node_blocks, Drops_no_more as node_drops_no_more, Ends_attempt as node_ends_attempt, Ends_no_more as node_ends_no_more, Gives_segment as node_gives_segment, Gives_text as node_gives_text, Notifies as node_notifies, Queues_no_more as node_queues_no_more, Reports as node_reports, Starts as node_starts, Succeeds as node_succeeds, Ticks as node_ticks}
 use Rattle.host_node.specs.Facts.{is_recorded, is_final}
 use Rattle.host_nodes.specs.State.{node_of, with_node}
 use Rattle.host_keep.specs.declared.final_status.FinalStatus.{FinalStatus}
 use Rattle.host_keep.specs.Status.{status_byte}
 use Rattle.host_orders.specs.declared.carriage.Carriage.{Carriage}
-use Rattle.host_events.specs.declared.out.HostOut.{HostOut}
 use Rattle.host_events.specs.State.{HostState, Command, with_outcome}
 use Rattle.host_events.specs.Sessions.{command_by, open_command}
 use Rattle.host_events.specs.Ends.{PartEnd, Good, Passed_over, Bad, part_end, after_part, part_entries, after_task, task_entries, after_end, end_entries, after_end_if, end_entries_if, attempt_ended, attempt_entries, asleep_entry, neighbours_entry, failed_entry}
-use Rattle.host_events.specs.After.{after, node_does, requests_do, request_does, queues_if_room, accepting, node_for, outcome_of, is_held, holding, finishing, giving, offering, is_full, gives_up, line_ticked, failing_if}
-use Rattle.host_events.specs.Outs.{answer_to, copy_out, noted, request_entries, failing_entries, dropped_if, ended_of, stored_entries, held_entries}
+use Rattle.host_events.specs.After.{after, requests_do, request_does, accepting, node_for, is_held, holding, finishing, giving, offering, is_full, gives_up, line_ticked, failing_if}
+use Rattle.host_events.specs.Outs.{answer_to, copy_out, noted, request_entries, failing_entries, dropped_if, held_entries}
 use Rattle.host_events.specs.Events.{HostEvent, Accepts, Cancels, Joins, Queues, Queues_interview, Queues_probe, Hears, Requests_do, Interviews, Interview_unkept, Unreads, Is_unkept, Reports_old, Works, Finishes, Offers, Gives, Spends, Spends_unread, Takes_nonce, Notifies, Resends, Hears_value, Has_no_room, Line_ticks, Node_ticks, Queues_no_more, Drops_no_more, Submits_abort, Submits_front, Starts, Gives_text, Gives_segment, Begins, Begin_unkept}
 use Rattle.host_events.specs.May.{May, IsAccepted, IsFinal}
 use Rattle.host_facts.specs.Entries.{IsAside, notes_of, entries_at}

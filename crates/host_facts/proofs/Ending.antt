@@ -1,5 +1,5 @@
 -- The three ways in which a command ends, as one: its entry, and its outcome in the table.
-use Rattle.std.proofs.Common.{◌≡◌, ℕ, List, [], ◌∷◌, ◌++◌, map, Some, inl, inr, refl, sym, ap, subst, ◌∙◌}
+use Rattle.std.proofs.Common.{◌≡◌, ℕ, List, [], ◌∷◌, Some, inl, inr, refl, sym, ap, ◌∙◌}
 use Rattle.std.specs.List.{AllByRecursion}
 use Rattle.std.proofs.lemmas.Bool.{cases_eq}
 use Rattle.zw_base.specs.declared.property.Setting.{Setting}
@@ -8,7 +8,6 @@ use Rattle.zw_text.specs.declared.entry.Ended.TheVariants as ended
 use Rattle.zw_text.specs.declared.entry.Entry.{Entry}
 use Rattle.zw_text.specs.declared.entry.Entry.TheVariants.{Out}
 use Rattle.zw_text.specs.declared.entry.Outcome.{Outcome}
-use Rattle.zw_text.specs.declared.entry.Outcome.TheVariants.{Waiting}
 use Rattle.zw_text.specs.Transcript.{outcome, outcome_of as outcome_told}
 use Rattle.host_node.specs.State.{NodeState}
 use Rattle.host_nodes.specs.State.{node_of}
@@ -17,16 +16,16 @@ use Rattle.host_keep.specs.declared.final_status.FinalStatus.TheVariants as fina
 use Rattle.host_events.specs.State.{Command, command_at, with_outcome}
 use Rattle.host_events.specs.After.{outcome_of}
 use Rattle.host_events.specs.Outs.{ended_of, stored_entries}
-use Rattle.host_events.specs.Facts.{IsCommandOf, OwnsCommands}
+use Rattle.host_events.specs.Facts.{OwnsCommands}
 use Rattle.host_facts.specs.Entries.{IsAside}
-use Rattle.host_facts.specs.Laws.{accepted_for, IsUnderWay, MayEnd}
-use Rattle.host_facts.specs.Tables.{outcome_in, nodes_by, recorded}
+use Rattle.host_facts.specs.Laws.{IsUnderWay, MayEnd}
+use Rattle.host_facts.specs.Tables.{outcome_in}
 use Rattle.host_facts.specs.Facts.{AreAccepted, AreEntered, IsInOrder}
 use Rattle.host_facts.proofs.Lists.{all-append, all-weaker}
 use Rattle.host_facts.proofs.Commands.{waits_so, under_way_so}
 use Rattle.host_facts.proofs.Views.{IsSilent, silent}
 use Rattle.host_facts.proofs.Owned.{node_found}
-use Rattle.host_facts.proofs.Effect.{only_commands, OneNode, SameNodes, Unanswers, Cancels, Finishes}
+use Rattle.host_facts.proofs.Effect.{OneNode, SameNodes, Unanswers, Cancels, Finishes}
 use Rattle.host_facts.proofs.InOrder.{opened_is, waiting_is, waiting_waits}
 
 -- a command ends, and no session begins

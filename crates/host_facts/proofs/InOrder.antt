@@ -1,5 +1,5 @@
 -- Each event leaves the commands of a node in order.
-use Rattle.std.proofs.Common.{◌≡◌, ℕ, zero, suc, ◌+◌, ◌<◌, List, [], ◌∷◌, ◌++◌, length, drop, get_or, All, Option, Some, None, inl, inr, refl, sym, ap, subst, ◌∙◌, append_assoc, arith}
+use Rattle.std.proofs.Common.{◌≡◌, ℕ, ◌+◌, ◌<◌, List, [], ◌∷◌, ◌++◌, length, drop, get_or, Option, Some, None, inl, inr, refl, sym, ap, subst, ◌∙◌, append_assoc, arith}
 use Rattle.std.specs.Prelude.{Contains}
 use Rattle.std.specs.List.{AllByRecursion}
 use Rattle.std.proofs.lemmas.Bool.{cases_eq}
@@ -8,7 +8,6 @@ use Rattle.zw_text.specs.declared.entry.Outcome.{Outcome}
 use Rattle.zw_text.specs.declared.entry.Outcome.TheVariants as outcome
 use Rattle.zw_laws.specs.Lists.{Rises}
 use Rattle.zw_laws.specs.Sessions.{IsFinal}
-use Rattle.supervision.specs.Host.{open_session}
 use Rattle.value_store.specs.Values.{Values}
 use Rattle.host_node.specs.State.{NodeState}
 use Rattle.host_node.specs.Steps.{after_begin, after_cancel, after_put, oldest, with_final, without}
@@ -24,10 +23,10 @@ use Rattle.zw_text.specs.declared.entry.Entry.{Entry}
 use Rattle.host_facts.specs.Laws.{IsUnderWay}
 use Rattle.host_facts.specs.Tables.{outcome_in}
 use Rattle.host_facts.specs.Facts.{AreInOrder, IsInOrder}
-use Rattle.host_facts.proofs.Lists.{all-append, all-left, all-right, all-weaker, all-both, rises-left, rises-right, below_later, rises-push, rises-without, others_left}
+use Rattle.host_facts.proofs.Lists.{all-append, all-right, all-weaker, all-both, rises-right, below_later, rises-push, rises-without, others_left}
 use Rattle.host_facts.proofs.Commands.{outcome_other, outcome_same, outcome_pushed, outcome_past}
 use Rattle.host_facts.proofs.Owned.{apart, number_within, of_opened, closed_none, opened_last}
-use Rattle.host_facts.proofs.Effect.{only_commands, SameNodes, OneNode, Leaves, Unanswers, Accepts, Cancels, Begins, Finishes, Effect, Leaving, Unanswering, Accepting, Cancelling, Beginning, Finishing}
+use Rattle.host_facts.proofs.Effect.{only_commands, OneNode, Unanswers, Accepts, Cancels, Begins, Finishes, Effect, Leaving, Unanswering, Accepting, Cancelling, Beginning, Finishing}
 
 -- ---- the same
 

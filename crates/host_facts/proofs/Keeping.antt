@@ -1,12 +1,12 @@
 -- Every event keeps the facts, and what follows from them.
-use Rattle.std.proofs.Common.{◌≡◌, ℕ, zero, suc, List, [], ◌∷◌, ◌++◌, length, Some, refl, sym, ap, subst, ◌∙◌, append_assoc, append-nil}
+use Rattle.std.proofs.Common.{◌≡◌, ◌⊎◌, ◌==◌, Bool, true, false, if◌then◌else◌, All, inl, inr, ℕ, zero, suc, List, [], ◌∷◌, ◌++◌, length, refl, sym, ap, subst, ◌∙◌, append_assoc, append-nil}
 use Rattle.std.specs.Prelude.{filter}
 use Rattle.std.specs.List.{AllByRecursion}
 use Rattle.s0_crypto.specs.declared.key_pair.Keys.{Keys}
 use Rattle.zw_text.specs.declared.entry.Entry.{Entry}
-use Rattle.zw_text.specs.Transcript.{outcome, sessions}
+use Rattle.zw_text.specs.Transcript.{outcome}
 use Rattle.zw_laws.specs.Commands.{is_waiting}
-use Rattle.zw_laws.specs.Lists.{EachAfter, Rises}
+use Rattle.zw_laws.specs.Lists.{EachAfter, Has, Rises}
 use Rattle.zw_laws.specs.Sessions.{MayBegin}
 use Rattle.zw_laws.specs.Values.{last_given}
 use Rattle.std.specs.FinMap as finmap
@@ -16,22 +16,29 @@ use Rattle.value_store.specs.Values.{Values, key_cmp, no_value}
 use Rattle.host_facts.specs.Stores.{given_by}
 use Rattle.host_node.specs.State.{NodeState, unknown}
 use Rattle.host_node.specs.Steps.{oldest}
-use Rattle.host_nodes.specs.State.{node_of, with_node, unknown_from, unknown_nodes, nodes_after}
-use Rattle.host_node.specs.Events.NodeEvent.{Joins, Interviews}
-use Rattle.host_events.specs.State.{HostState, Command, command_at, first_host, first_nodes, first_classes}
+use Rattle.host_nodes.specs.State.{node_of, unknown_from, unknown_nodes, nodes_after}
+use Rattle.host_node.specs.Events.NodeEvent.{Joins}
+use Rattle.host_events.specs.State.{HostState, Command, command_at, first_host, first_nodes}
 use Rattle.host_events.specs.Events.{HostEvent}
 use Rattle.host_events.specs.After.{after}
 use Rattle.host_events.specs.May.{May}
-use Rattle.host_events.specs.Did.{after_all, MayAll}
-use Rattle.host_events.specs.Facts.{HostFacts, OwnsCommands}
+use Rattle.host_events.specs.Did.{after_all, Did, MayAll, Shelf}
+use Rattle.host_events.specs.declared.out.HostOut.{HostOut}
+use Rattle.host_events.specs.Facts.{HostFacts, IsCommandOf, OwnsCommands}
 use Rattle.host_facts.specs.Entries.{IsAside, entries_at, entries_all}
 use Rattle.host_facts.specs.Laws.{MayAccept, MayCarry, MayEnd, MayStand, HostLaws}
 use Rattle.host_facts.specs.Tables.{outcome_in, nodes_by, recorded}
 use Rattle.host_facts.specs.Facts.{AreAccepted, AreBegun, AreEntered, AreWaiting, IsInOrder, Facts}
-use Rattle.host_facts.proofs.Lists.{each-weaker, rises-left}
+use Rattle.host_facts.proofs.Lists.{all-weaker, each-weaker, rises-left}
+use Rattle.std.proofs.lemmas.Bool.{eq-eqb, eqb-true}
+use Rattle.std.proofs.lemmas.List.Elements.{recursion_from_All}
+use Rattle.zw_text.specs.declared.entry.Entry.TheVariants.{Accepted}
+use Rattle.zw_text.specs.Transcript.{where_same}
+use Rattle.host_facts.specs.Laws.{accepted_for, numbers_for}
+use Rattle.host_facts.proofs.Owned.{node_found}
 use Rattle.host_facts.proofs.Commands.{waits_so}
 use Rattle.host_facts.proofs.Views.{nodes-silent, numbers-silent, for-silent, sessions-silent, outcome-silent, silent}
-use Rattle.host_facts.proofs.Effect.{only_commands, SameNodes, Effect, Leaving, Unanswering, Accepting, Cancelling, Beginning, Finishing}
+use Rattle.host_facts.proofs.Effect.{only_commands, Effect, Leaving, Unanswering, Accepting, Cancelling, Beginning, Finishing}
 use Rattle.host_facts.proofs.Effects.{LeavesRecords, same_set, effect}
 use Rattle.host_facts.proofs.InOrder.{same_order, order_kept, oldest_is, oldest_waits}
 use Rattle.host_facts.proofs.Ending.{Ends, unanswered_ends, cancelled_ends, finished_ends}
@@ -118,6 +125,10 @@ module _ (host : HostKeeps) (law : LeavesRecords) where
       subst (λ (T : List Entry). Facts T (after_all (after h event) events)) (append_assoc past (entries_at h event) (entries_all (after h event) events))
       (all_kept (past ++ entries_at h event) (after h event) events (each_kept past h event f may.0) may.1)
 
+  pub done_kept : (past : List Entry) (events : List HostEvent) (old new : HostState) (before all : List HostOut) (shelf kept : Shelf) → Facts past old → Did events old new before all shelf kept
+      → Facts (past ++ entries_all old events) new
+  done_kept past events old new before all shelf kept f did = subst (λ (h : HostState). Facts (past ++ entries_all old events) h) (sym did.state) (all_kept past old events f did.may)
+
 -- ---- entries of others
 
 pub aside_kept : (past : List Entry) (h : HostState) (entry : Entry) → Facts past h → IsAside entry → Facts (past ++ entry ∷ []) h
@@ -185,6 +196,38 @@ first_kept keys host = record {
 
 -- ---- what follows
 
+-- a command that was accepted for a node is one of its commands
+has_left : {A : Type 0} (xs ys : List A) (x : A) → Has xs x → Has (xs ++ ys) x
+has_left [] ys x has = absurd has
+has_left (y ∷ xs) ys x (inl here) = inl here
+has_left (y ∷ xs) ys x (inr later) = inr (has_left xs ys x later)
+
+has_right : {A : Type 0} (xs ys : List A) (x : A) → Has ys x → Has (xs ++ ys) x
+has_right [] ys x has = has
+has_right (y ∷ xs) ys x has = inr (has_right xs ys x has)
+
+one_or_rest : (c k n m : ℕ) (rest : List ℕ) → Has (where_same c k n ++ rest) m → ((c ≡ k) × (n ≡ m)) ⊎ Has rest m
+one_or_rest c k n m rest has = by (c == k) refl has
+  where
+    by : (b : Bool) → (c == k) ≡ b → Has ((if b then n ∷ [] else []) ++ rest) m → ((c ≡ k) × (n ≡ m)) ⊎ Has rest m
+    by true e (inl here) = inl (eqb-true c k e, here)
+    by true e (inr later) = inr later
+    by false e later = inr later
+
+had_number : (T : List Entry) (k m : ℕ) → Has (accepted_for k T) m → Has (numbers_for m T) k
+had_number [] k m has = absurd has
+had_number (Accepted c n ∷ T) k m has = elim (one_or_rest c k n m (accepted_for k T) has) [
+  | inl here ↦ has_left (where_same n m c) (numbers_for m T) k
+      (subst (λ (l : List ℕ). Has l k) (sym (ap (λ (b : Bool). if b then c ∷ [] else []) (eq-eqb n m here.1))) (inl here.0))
+  | inr later ↦ has_right (where_same n m c) (numbers_for m T) k (had_number T k m later)
+]
+had_number (_ ∷ T) k m has = had_number T k m has
+
+numbers_had : (T : List Entry) (cs : List Command) (m : ℕ) (l : List ℕ) → AreAccepted T cs → All (IsCommandOf cs m) l → AllByRecursion (Has (numbers_for m T)) l
+numbers_had T cs m l accepted all =
+    all-weaker (IsCommandOf cs m) (Has (numbers_for m T))
+    (λ k one. had_number T k m (subst (λ (ns : List ℕ). Has ns m) (sym (accepted.nodes k ∙ node_found cs m k one)) (inl refl))) l (recursion_from_All (IsCommandOf cs m) l all)
+
 pub laws_hold : (past : List Entry) (h : HostState) → Facts past h → HostLaws past
 laws_hold past h f = record {
   accepts = each-weaker MayStand MayAccept (λ T e s. s.accept) [] past f.stand;
@@ -192,4 +235,6 @@ laws_hold past h f = record {
   carries = each-weaker MayStand MayCarry (λ T e s. s.carry) [] past f.stand;
   ends = each-weaker MayStand MayEnd (λ T e s. s.end) [] past f.stand;
   rise = λ m. subst Rises (sym (f.begun m)) (rises-left (node_of h.nodes m).book.commands (node_of h.nodes m).waiting (f.in_order m).rise);
+  accepted = λ m. subst (λ (l : List ℕ). AllByRecursion (Has (numbers_for m past)) l) (sym (f.begun m))
+      (numbers_had past h.commands m (node_of h.nodes m).book.commands f.accepted (f.host.owns m).sessions);
 }

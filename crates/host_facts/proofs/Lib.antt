@@ -14,3 +14,4 @@ mod Confirmed
 mod Standing
 mod Keeping
 mod Restarting
+mod Living

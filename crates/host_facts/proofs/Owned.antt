@@ -8,7 +8,7 @@ use Rattle.host_node.specs.State.{NodeState}
 use Rattle.host_events.specs.State.{Command, command_at}
 use Rattle.host_events.specs.Sessions.{command_by, open_command}
 use Rattle.host_events.specs.Facts.{IsCommandOf}
-use Rattle.host_facts.specs.Tables.{outcome_in, nodes_by}
+use Rattle.host_facts.specs.Tables.{nodes_by}
 use Rattle.host_facts.proofs.Lists.{all-weaker}
 
 -- ---- commands of nodes

@@ -1,6 +1,5 @@
 -- Outcomes whole, tables, and runs with restarts between.
 use Rattle.std.proofs.Common.{◌≡◌, ℕ, List, [], ◌∷◌, ◌++◌, length, Option, Some, None, refl, sym, ap, subst, ◌∙◌, append_assoc, append-nil}
-use Rattle.std.specs.Prelude.{filter}
 use Rattle.std.specs.List.{AllByRecursion}
 use Rattle.zw_text.specs.declared.entry.Entry.{Entry}
 use Rattle.zw_text.specs.declared.entry.Outcome.{Outcome}
@@ -22,7 +21,7 @@ use Rattle.host_events.specs.After.{after}
 use Rattle.host_events.specs.May.{May}
 use Rattle.host_events.specs.Did.{after_all, MayAll}
 use Rattle.host_facts.specs.Entries.{entries_at, entries_all}
-use Rattle.host_facts.specs.Laws.{IsUnderWay, numbers_for}
+use Rattle.host_facts.specs.Laws.{numbers_for}
 use Rattle.host_facts.specs.Tables.{outcome_in, recorded, taken_at}
 use Rattle.host_facts.specs.Stores.{given_by, IsKnown, AreStored, StoresLaw}
 use Rattle.host_facts.specs.Facts.{AreInOrder, Facts, AreShown, AreTold, StartsAs, Run, AreRuns, entries_of_runs, last_of_runs}

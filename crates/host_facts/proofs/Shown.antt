@@ -1,13 +1,12 @@
 -- What the entries of each event show is what the tables say after it: the orders accepted, the sessions begun, the outcomes.
-use Rattle.std.proofs.Common.{◌≡◌, ℕ, ◌+◌, List, [], ◌∷◌, ◌++◌, length, Some, inl, inr, refl, sym, ap, subst, ◌∙◌}
-use Rattle.std.specs.List.{AllByRecursion}
+use Rattle.std.proofs.Common.{◌≡◌, ℕ, ◌+◌, List, [], ◌∷◌, ◌++◌, length, Some, inl, inr, sym, ap, subst, ◌∙◌}
 use Rattle.std.proofs.lemmas.Bool.{cases_eq}
 use Rattle.std.proofs.lemmas.List.{length_push}
 use Rattle.zw_text.specs.declared.entry.Entry.{Entry}
 use Rattle.zw_text.specs.declared.entry.Entry.TheVariants.{Accepted, Begin, Out}
 use Rattle.zw_text.specs.declared.entry.Outcome.{Outcome}
 use Rattle.zw_text.specs.declared.entry.Outcome.TheVariants.{Waiting, Begun}
-use Rattle.zw_text.specs.Transcript.{accepted_numbers, sessions, outcome, outcome_of}
+use Rattle.zw_text.specs.Transcript.{sessions, outcome, outcome_of}
 use Rattle.supervision.specs.Host.{begun_of}
 use Rattle.host_node.specs.State.{NodeState}
 use Rattle.host_node.specs.Steps.{oldest}
@@ -18,7 +17,7 @@ use Rattle.host_facts.specs.Tables.{outcome_in, nodes_by}
 use Rattle.host_facts.specs.Facts.{AreAccepted, AreBegun}
 use Rattle.host_facts.proofs.Commands.{outcome_other, outcome_same, outcome_pushed, nodes_set, length-outcome, nodes_pushed, nodes_last, nodes_past}
 use Rattle.host_facts.proofs.Views.{nodes-silent, numbers-silent, sessions-silent, outcome-silent, nodes-ended, numbers-ended, sessions-ended, outcome-ended, outcome-other, nodes-begun, numbers-begun, sessions-begun, sessions-begun_other, outcome-begun, outcome-begun_other, nodes-accepted, nodes-accepted_other, count-accepted, sessions-accepted, outcome-accepted}
-use Rattle.host_facts.proofs.Effect.{only_commands, OneNode, Leaves, Accepts, Begins}
+use Rattle.host_facts.proofs.Effect.{Leaves, Accepts, Begins}
 use Rattle.host_facts.proofs.Ending.{Ends, asides_silent}
 
 -- by the equations of what an event does

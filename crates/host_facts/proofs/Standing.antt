@@ -1,5 +1,5 @@
 -- The entries of each event may stand after those before it.
-use Rattle.std.proofs.Common.{◌≡◌, ℕ, ◌+◌, ◌<◌, List, [], ◌∷◌, ◌++◌, length, Option, Some, None, refl, sym, ap, subst, ◌∙◌}
+use Rattle.std.proofs.Common.{◌≡◌, ℕ, ◌+◌, List, [], ◌∷◌, ◌++◌, length, Option, Some, None, sym, ap, subst, ◌∙◌}
 use Rattle.std.specs.List.{AllByRecursion}
 use Rattle.zw_text.specs.declared.entry.Entry.{Entry}
 use Rattle.zw_text.specs.declared.entry.Entry.TheVariants.{Accepted, Begin, Out}
@@ -15,7 +15,7 @@ use Rattle.host_events.specs.State.{Command}
 use Rattle.host_events.specs.Sessions.{open_command}
 use Rattle.host_events.specs.Facts.{IsCommandOf}
 use Rattle.host_facts.specs.Laws.{MayStand}
-use Rattle.host_facts.specs.Tables.{outcome_in, recorded}
+use Rattle.host_facts.specs.Tables.{outcome_in}
 use Rattle.host_facts.specs.Facts.{AreAccepted, AreBegun, AreEntered, IsInOrder}
 use Rattle.host_facts.proofs.Lists.{each-append, each-anywhere, all-weaker}
 use Rattle.host_facts.proofs.Commands.{waits_so, final_so}

@@ -1,23 +1,20 @@
 -- The values that are entered are those that the successful commands ask for, each behind its success.
-use Rattle.std.proofs.Common.{◌≡◌, ℕ, ◌+◌, ◌<◌, ◌≤◌, List, [], ◌∷◌, ◌++◌, length, Option, Some, None, inl, inr, refl, sym, ap, ap₂, subst, ◌∙◌, append-nil, arith}
+use Rattle.std.proofs.Common.{◌≡◌, ℕ, ◌+◌, ◌<◌, ◌≤◌, List, [], ◌∷◌, ◌++◌, length, Option, Some, None, refl, sym, ap, ap₂, subst, ◌∙◌, arith}
 use Rattle.std.specs.List.{AllByRecursion}
-use Rattle.std.proofs.lemmas.Bool.{cases_eq}
 use Rattle.std.proofs.lemmas.List.{length_push}
 use Rattle.zw_base.specs.declared.property.Setting.{Setting}
-use Rattle.zw_order.specs.declared.order.Order.{Order}
 use Rattle.zw_text.specs.declared.entry.Ended.{Ended}
 use Rattle.zw_text.specs.declared.entry.Ended.TheVariants as ended
 use Rattle.zw_text.specs.declared.entry.Entry.{Entry}
 use Rattle.zw_text.specs.declared.entry.Entry.TheVariants.{Accepted, Begin, Out, Store}
 use Rattle.zw_text.specs.declared.entry.Outcome.{Outcome}
-use Rattle.zw_text.specs.declared.entry.Outcome.TheVariants.{Waiting, Begun, Unanswered, Cancelled}
+use Rattle.zw_text.specs.declared.entry.Outcome.TheVariants.{Begun, Unanswered, Cancelled}
 use Rattle.zw_text.specs.Transcript.{shown}
 use Rattle.zw_text.proofs.Views.{shown-append}
 use Rattle.zw_laws.specs.Lists.{EachAfter}
 use Rattle.zw_laws.specs.Stores.{store_at, FollowsSuccess, MayStore}
 use Rattle.value_store.specs.Values.{Values}
 use Rattle.host_orders.specs.Settings.{settings}
-use Rattle.host_keep.specs.Kept.{Taken}
 use Rattle.host_keep.specs.declared.final_status.FinalStatus.{FinalStatus}
 use Rattle.host_keep.specs.declared.final_status.FinalStatus.TheVariants as final
 use Rattle.supervision.specs.Host.{begun_of}
@@ -36,7 +33,7 @@ use Rattle.host_facts.specs.Facts.{IsInOrder}
 use Rattle.host_facts.proofs.Lists.{all-append, all-weaker, each-append, each-anywhere}
 use Rattle.host_facts.proofs.Commands.{taken_set, taken_pushed, length-outcome}
 use Rattle.host_facts.proofs.Owned.{number_within}
-use Rattle.host_facts.proofs.Effect.{Leaves, Unanswers, Accepts, Cancels, Begins, Finishes, Effect, Leaving, Unanswering, Accepting, Cancelling, Beginning, Finishing}
+use Rattle.host_facts.proofs.Effect.{Finishes, Effect, Leaving, Unanswering, Accepting, Cancelling, Beginning, Finishing}
 use Rattle.host_facts.proofs.InOrder.{opened_is, waiting_is}
 
 -- ---- entries

@@ -1,14 +1,16 @@
 -- What values are confirmed once some are reserved, heard or confirmed.
-use Rattle.std.proofs.Common.{◌≡◌, ℕ, ◌<◌, Bool, true, false, cond, if◌then◌else◌, List, [], ◌∷◌, Option, Some, None, unwrap_or, inl, inr, ◌⊎◌, suc, refl, sym, ap, ap₂, subst, ◌∙◌, true≢false, arith}
+use Rattle.std.proofs.Common.{◌≡◌, ℕ, ◌<◌, ◌==◌, Bool, true, false, cond, if◌then◌else◌, List, [], ◌∷◌, Option, Some, None, unwrap_or, inl, inr, ◌⊎◌, suc, refl, sym, ap, ap₂, subst, ◌∙◌, true≢false, arith}
 use Rattle.std.specs.List.{AllByRecursion}
-use Rattle.std.specs.Ordering.{eq_by_cmp, is_eq, nat_cmp}
+use Rattle.std.specs.Ordering.{eq_by_cmp, is_eq, nat_cmp, ordering_then}
+use Rattle.std.proofs.lemmas.Bool.{eq-eqb, le-ltb, lt-ltb}
+use Rattle.zw_laws.specs.Table.{compare_properties}
+use Rattle.host_facts.specs.Stores.{AreSorted}
 use Rattle.std.specs.Cmp.Lexicographic.{slice_cmp}
 use Rattle.std.specs.declared.cmp.Ordering.{Ordering}
 use Rattle.std.specs.declared.cmp.Ordering.TheVariants.{Less, Equal, Greater}
 use Rattle.std.specs.FinMap as finmap
 use Rattle.std.proofs.lemmas.Cmp.{eq_by_cmp_equiv}
 use Rattle.zw_base.specs.PropertyOrder.{rank_of, same_property}
-use Rattle.zw_base.specs.declared.property.Name.{Name}
 use Rattle.zw_base.specs.declared.property.Name.TheVariants as names
 use Rattle.zw_base.specs.declared.property.Property.{Property}
 use Rattle.zw_base.specs.declared.property.Setting.{Setting}
@@ -18,7 +20,7 @@ use Rattle.zw_order.specs.declared.order.Order.{Order}
 use Rattle.value_store.specs.declared.stored.Stored.{Stored}
 use Rattle.value_store.specs.Values.{Key, Values, key_cmp, no_value, reserving, stored_of}
 use Rattle.value_store.proofs.Keys.{key_exact, key_total, property_exact, same_property_laws}
-use Rattle.host_orders.specs.Settings.{config_settings, setting, settings, settings_by}
+use Rattle.host_orders.specs.Settings.{config_settings, settings, settings_by}
 use Rattle.host_orders.specs.declared.actuator.Actuator.{Actuator}
 use Rattle.host_orders.specs.declared.actuator.Actuator.TheVariants.{Binary, Multilevel, Lock}
 use Rattle.host_keep.specs.Kept.{or_else, value_among}
@@ -148,3 +150,41 @@ settings_distinct actuator order = by actuator order.end order.what
     by a end (what.Dissociate group member) = (tt, tt)
     by a end (what.Interval seconds) = (tt, tt)
     by a end (what.Comfort mode kind tenths) = (((λ same. let e : names.Setpoint kind ≡ names.Mode = ap (λ (p : Property). p.name) same in cc), tt), (tt, tt))
+
+-- ---- the order of properties
+
+same_number : (n : ℕ) → nat_cmp n n ≡ Equal
+same_number n = ap₂ (λ (a b : Bool). cond a Less (cond b Equal Greater)) (le-ltb n n (omega arith)) (eq-eqb n n refl)
+
+less_number : (m n : ℕ) → m < n → nat_cmp m n ≡ Less
+less_number m n below = ap (λ (a : Bool). cond a Less (cond (m == n) Equal Greater)) (lt-ltb m n below)
+
+config_below : (end first later : ℕ) → first < later → compare_properties (record { end = end; name = names.Config first }) (record { end = end; name = names.Config later }) ≡ Less
+config_below end first later below =
+    ap (λ (o : Ordering). ordering_then o (ordering_then (nat_cmp first later) Equal)) (same_number end)
+    ∙ ap (λ (o : Ordering). ordering_then o Equal) (less_number first later below)
+
+later_sorted : (end first offset : ℕ) (values : List ℕ) → first < offset
+    → AllByRecursion (λ t. compare_properties (record { end = end; name = names.Config first }) t.property ≡ Less) (config_settings end offset values)
+later_sorted end first offset [] below = tt
+later_sorted end first offset (value ∷ more) below = (config_below end first offset below, later_sorted end first (suc offset) more (omega arith))
+
+config_sorted : (end offset : ℕ) (values : List ℕ) → AreSorted (config_settings end offset values)
+config_sorted end offset [] = tt
+config_sorted end offset (value ∷ more) = (later_sorted end offset (suc offset) more (omega arith), config_sorted end (suc offset) more)
+
+pub settings_sorted : (actuator : Actuator) (order : Order) → AreSorted (settings actuator order)
+settings_sorted actuator order = by actuator order.end order.what
+  where
+    by : (a : Actuator) (end : ℕ) (w : What) → AreSorted (settings_by a end w)
+    by Binary end (what.Value word) = (tt, tt)
+    by Multilevel end (what.Value word) = (tt, tt)
+    by Lock end (what.Value word) = (tt, tt)
+    by a end (what.Mode mode) = (tt, tt)
+    by a end (what.Setpoint kind tenths) = (tt, tt)
+    by a end (what.Config parameter value) = (tt, tt)
+    by a end (what.Bulk offset values) = config_sorted end offset values
+    by a end (what.Associate group member) = (tt, tt)
+    by a end (what.Dissociate group member) = (tt, tt)
+    by a end (what.Interval seconds) = (tt, tt)
+    by a end (what.Comfort mode kind tenths) = ((ap (λ (o : Ordering). ordering_then o Less) (same_number end), tt), (tt, tt))

@@ -1,6 +1,6 @@
 -- The commands that wait for a node are those of its accepted commands that are waiting.
-use Rattle.std.proofs.Common.{◌≡◌, ℕ, ◌+◌, ◌<◌, ◌==◌, ◌&&◌, Bool, true, false, if◌then◌else◌, cond, List, [], ◌∷◌, ◌++◌, length, drop, get_or, Option, Some, inl, inr, refl, sym, ap, subst, ◌∙◌, arith}
-use Rattle.std.specs.Prelude.{filter, not, Contains}
+use Rattle.std.proofs.Common.{◌≡◌, ℕ, ◌+◌, ◌<◌, ◌==◌, ◌&&◌, Bool, true, false, if◌then◌else◌, cond, List, [], ◌∷◌, ◌++◌, length, drop, get_or, Some, inl, inr, refl, sym, ap, subst, ◌∙◌, arith}
+use Rattle.std.specs.Prelude.{filter, not}
 use Rattle.std.specs.List.{AllByRecursion}
 use Rattle.std.proofs.lemmas.Bool.{cases_eq, eq-eqb, ne_eqb, eqb-true}
 use Rattle.std.proofs.lemmas.List.Elements.{filter_agree, filter-append}
@@ -14,7 +14,7 @@ use Rattle.zw_laws.specs.Commands.{is_waiting}
 use Rattle.zw_laws.specs.Lists.{Rises}
 use Rattle.value_store.specs.Values.{Values}
 use Rattle.host_node.specs.State.{NodeState}
-use Rattle.host_node.specs.Steps.{after_begin, after_cancel, after_put, oldest, with_final, without}
+use Rattle.host_node.specs.Steps.{after_begin, after_cancel, oldest, with_final, without}
 use Rattle.supervision.specs.Host.{begun_of}
 use Rattle.host_nodes.specs.State.{node_of}
 use Rattle.host_keep.specs.Status.{status_byte}
@@ -32,7 +32,7 @@ use Rattle.host_facts.proofs.Lists.{rises-right, all-append}
 use Rattle.host_facts.proofs.Commands.{outcome_other, outcome_same, outcome_pushed, outcome_past}
 use Rattle.host_facts.proofs.Views.{IsSilent, for-silent, for-ended, for-begun, for-accepted, for-accepted_other}
 use Rattle.host_facts.proofs.Owned.{apart}
-use Rattle.host_facts.proofs.Effect.{only_commands, SameNodes, OneNode, Leaves, Unanswers, Accepts, Cancels, Begins, Finishes, Effect, Leaving, Unanswering, Accepting, Cancelling, Beginning, Finishing}
+use Rattle.host_facts.proofs.Effect.{SameNodes, OneNode, Accepts, Effect, Leaving, Unanswering, Accepting, Cancelling, Beginning, Finishing}
 use Rattle.host_facts.proofs.InOrder.{waiting_above, opened_is, waiting_is, oldest_is, above}
 use Rattle.host_facts.proofs.Ending.{asides_silent, stores_silent}
 

@@ -1,11 +1,10 @@
 -- What holds of a host and of the transcript so far, after every event (this project's own), in families: what the entries show is
 -- what the tables say, and the tables are in order. A host that starts again takes an unanswered command for a begun one; else its
 -- tables are those of the host before it.
-use Rattle.std.specs.Prelude.{◌≡◌, ℕ, List, [], ◌∷◌, ◌++◌, filter, length, Option, Some, None}
+use Rattle.std.specs.Prelude.{◌≡◌, ℕ, List, [], ◌∷◌, ◌++◌, filter, length, Option, Some}
 use Rattle.std.specs.List.{AllByRecursion}
 use Rattle.zw_text.specs.declared.entry.Entry.{Entry}
-use Rattle.zw_text.specs.declared.entry.Outcome.{Outcome}
-use Rattle.zw_text.specs.declared.entry.Outcome.TheVariants.{Waiting, Begun, Unanswered}
+use Rattle.zw_text.specs.declared.entry.Outcome.TheVariants.{Waiting}
 use Rattle.zw_text.specs.Transcript.{accepted_numbers, sessions, outcome}
 use Rattle.zw_laws.specs.Commands.{is_waiting}
 use Rattle.zw_laws.specs.Lists.{EachAfter, Rises}

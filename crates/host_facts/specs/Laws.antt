@@ -8,7 +8,7 @@ use Rattle.zw_text.specs.declared.entry.Outcome.{Outcome}
 use Rattle.zw_text.specs.declared.entry.Outcome.TheVariants.{Waiting, Begun, Unanswered}
 use Rattle.zw_text.specs.Transcript.{shown, where_same, accepted_numbers, sessions, outcome}
 use Rattle.zw_laws.specs.Commands.{is_waiting}
-use Rattle.zw_laws.specs.Lists.{EachAfter, Rises}
+use Rattle.zw_laws.specs.Lists.{EachAfter, Has, Rises}
 use Rattle.zw_laws.specs.Sessions.{MayBegin, KeepsSessions}
 use Rattle.zw_laws.specs.Stores.{node_at}
 
@@ -67,3 +67,4 @@ pub record HostLaws (transcript : List Entry) : Type 0 where
   pub carries : EachAfter MayCarry [] transcript
   pub ends : EachAfter MayEnd [] transcript
   pub rise : (node : ℕ) → Rises (sessions node transcript)
+  pub accepted : (node : ℕ) → AllByRecursion (Has (numbers_for node transcript)) (sessions node transcript)

@@ -3,3 +3,5 @@ pub mod Laws
 pub mod Tables
 pub mod Stores
 pub mod Facts
+pub mod Wrong
+pub mod Lives

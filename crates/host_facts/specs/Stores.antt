@@ -1,7 +1,9 @@
 -- Which values are confirmed and entered as such, by the commands of a host (this project's own rule).
 use Rattle.std.specs.Prelude.{◌≡◌, ℕ, ◌+◌, ◌<◌, if◌then◌else◌, List, [], ◌∷◌, length, Option, Some, None}
 use Rattle.std.specs.List.{AllByRecursion}
+use Rattle.std.specs.declared.cmp.Ordering.TheVariants.{Less}
 use Rattle.zw_base.specs.declared.property.Property.{Property}
+use Rattle.zw_base.specs.declared.property.Setting.{Setting}
 use Rattle.zw_text.specs.declared.entry.Ended.TheVariants as ended
 use Rattle.zw_text.specs.declared.entry.Entry.{Entry}
 use Rattle.zw_text.specs.declared.entry.Entry.TheVariants.{Out}
@@ -9,13 +11,14 @@ use Rattle.zw_text.specs.declared.entry.Outcome.{Outcome}
 use Rattle.zw_text.specs.Transcript.{shown, sessions, outcome}
 use Rattle.zw_laws.specs.Lists.{EachAfter}
 use Rattle.zw_laws.specs.Stores.{store_at, MayStore}
+use Rattle.zw_laws.specs.Table.{compare_properties}
 use Rattle.zw_laws.specs.Values.{is_success, last_given}
 use Rattle.value_store.specs.Values.{Values, stored_of}
 use Rattle.host_orders.specs.Settings.{settings}
 use Rattle.host_keep.specs.Kept.{Taken, value_by}
 use Rattle.host_node.specs.State.{NodeState}
 use Rattle.host_nodes.specs.State.{node_of}
-use Rattle.host_events.specs.State.{HostState, Command, command_at}
+use Rattle.host_events.specs.State.{HostState, Command}
 use Rattle.host_events.specs.Outs.{stored_entries}
 use Rattle.host_facts.specs.Tables.{outcome_in, taken_at}
 
@@ -32,6 +35,11 @@ stores_by (Some taken) = stored_entries taken.order.node (settings taken.carriag
 abbrev pub stores_at : List Command → Entry → List Entry
 stores_at commands (Out number ended.Success) = stores_by (taken_at commands number)
 stores_at commands _ = []
+
+-- settings in the order of properties, each property once
+abbrev pub AreSorted : List Setting → Type 0
+AreSorted [] = Unit {0}
+AreSorted (made ∷ more) = AllByRecursion (λ later. compare_properties made.property later.property ≡ Less) more × AreSorted more
 
 -- an entry speaks of a command of this many, where it says that one ended
 abbrev pub IsKnown : ℕ → Entry → Type 0

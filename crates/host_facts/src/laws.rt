@@ -3,15 +3,20 @@
 ghost use Rattle.std.specs.Prelude.{◌≡◌, ℕ, List, [], ◌∷◌, ◌++◌};
 ghost use Rattle.s0_crypto.specs.declared.key_pair.Keys.{Keys};
 ghost use Rattle.zw_text.specs.declared.entry.Entry.{Entry};
+ghost use Rattle.zw_order.specs.declared.order.Order.{Order};
+ghost use Rattle.host_orders.specs.Settings.{settings};
+ghost use Rattle.host_orders.specs.declared.actuator.Actuator.{Actuator};
 ghost use Rattle.host_events.specs.State.{HostState, first_host};
 ghost use Rattle.host_events.specs.Events.{HostEvent};
 ghost use Rattle.host_events.specs.After.{after};
 ghost use Rattle.host_events.specs.May.{May};
-ghost use Rattle.host_events.specs.Did.{after_all, MayAll};
+ghost use Rattle.host_events.specs.Did.{after_all, Did, MayAll, Shelf};
+ghost use Rattle.host_events.specs.declared.out.HostOut.{HostOut};
 ghost use Rattle.host_facts.specs.Entries.{IsAside, entries_at, entries_all};
 ghost use Rattle.host_facts.specs.Facts.{AreRuns, AreShown, AreTold, Facts, Run, StartsAs, entries_of_runs, last_of_runs};
 ghost use Rattle.host_facts.specs.Laws.{HostLaws};
-ghost use Rattle.host_facts.specs.Stores.{StoresLaw};
+ghost use Rattle.host_facts.specs.Wrong.{begun_backwards, begun_cancelled, begun_early, begun_elsewhere, begun_twice, begun_unasked, cancelled_late, ended_twice, ended_unbegun, numbered_late};
+ghost use Rattle.host_facts.specs.Stores.{AreSorted, StoresLaw};
 
 use host_events::facts_are_kept;
 use host_node::a_restart_needs_the_records_alone;
@@ -23,10 +28,12 @@ pub fn first_facts_hold()
     facts_are_kept();
 }
 
-/// Each event that may happen keeps the facts, and events one after another do.
+/// Each event that may happen keeps the facts, and events one after another do, as a call does them.
 pub fn events_keep_facts()
     ensures each { (past : List Entry) (h : HostState) (event : HostEvent) → Facts past h → May h event → Facts (past ++ entries_at h event) (after h event) }
     ensures all { (past : List Entry) (h : HostState) (events : List HostEvent) → Facts past h → MayAll h events → Facts (past ++ entries_all h events) (after_all h events) }
+    ensures done { (past : List Entry) (events : List HostEvent) (old new : HostState) (before all : List HostOut) (shelf kept : Shelf) →
+        Facts past old → Did events old new before all shelf kept → Facts (past ++ entries_all old events) new }
 {
     facts_are_kept();
     a_restart_needs_the_records_alone();
@@ -78,3 +85,24 @@ pub fn hosts_keep_laws()
     restarts_keep_facts();
     laws_follow();
 }
+
+/// The values that an order sets, and which are entered at its success, are in the order of properties.
+pub fn values_are_in_order()
+    ensures { (actuator : Actuator) (order : Order) → AreSorted (settings actuator order) }
+{}
+
+/// Each of these breaks one of the laws: an order with a wrong number; a session for a command that was not accepted, or not for
+/// this node, that began before, was taken back, or whose turn it is not; one that begins too early; a final outcome of a command
+/// that was not begun, or a second one; and one taken back after it began.
+pub fn wrong_transcripts_are_rejected()
+    ensures late { HostLaws numbered_late → ⊥ }
+    ensures unasked { HostLaws begun_unasked → ⊥ }
+    ensures elsewhere { HostLaws begun_elsewhere → ⊥ }
+    ensures twice { HostLaws begun_twice → ⊥ }
+    ensures early { HostLaws begun_early → ⊥ }
+    ensures backwards { HostLaws begun_backwards → ⊥ }
+    ensures cancelled { HostLaws begun_cancelled → ⊥ }
+    ensures unbegun { HostLaws ended_unbegun → ⊥ }
+    ensures again { HostLaws ended_twice → ⊥ }
+    ensures cancelled_late { HostLaws cancelled_late → ⊥ }
+{}

@@ -2,14 +2,17 @@
 //! starts again.
 //!
 //! Each law is the contract of a function that does nothing, over the definitions of `host_events`: `specs/Entries` has the entries
-//! of an event, `specs/Laws` what holds of them, and `specs/Facts` the families that every event keeps, which tie them to the
+//! of an event, `specs/Laws` and `specs/Stores` what holds of them, and `specs/Facts` the families that every event keeps, which tie them to the
 //! tables of the host. `first_facts_hold`, `events_keep_facts`, `outcomes_are_told`, `asides_keep_facts` and `restarts_keep_facts` are
-//! the induction, `laws_follow` and `hosts_keep_laws` what comes of it.
+//! the induction, `laws_follow` and `hosts_keep_laws` what comes of it. `lives_keep_laws` says the same of a host that starts again and
+//! again from its records.
 #![tactic(auto)]
 
 mod laws;
+mod lives;
 
 pub use laws::{
     asides_keep_facts, events_keep_facts, first_facts_hold, hosts_keep_laws, laws_follow,
-    outcomes_are_told, restarts_keep_facts,
+    outcomes_are_told, restarts_keep_facts, values_are_in_order, wrong_transcripts_are_rejected,
 };
+pub use lives::{lives_keep_facts, lives_keep_laws, what_is_kept_starts_a_host};
