@@ -4,7 +4,7 @@ use Rattle.std.proofs.lemmas.List.{append-nil}
 use Rattle.device_sim.specs.State.{State}
 use Rattle.zw_text.specs.declared.entry.Entry.{Entry}
 use Rattle.outer_events.specs.State.{OuterState, Outside, outside, Outcome, silent, Does}
-use Rattle.outer_events.specs.Events.{OuterEvent, outcome, devices_after, May, stamp, has_entered, happens, entries, is_own, AreOwn}
+use Rattle.outer_events.specs.Events.{OuterEvent, outcome, devices_after, May, stamp, has_entered, entries, is_own, AreOwn}
 use Rattle.outer_events.specs.Schedules.{Arrivals, Givings, DeviceTicks}
 use Rattle.outer_events.proofs.Doing.{happens_all-append, entries_all-append, may_all-append}
 use Rattle.outer_events.specs.Did.{happens_all, entries_all, MayAll, Run, Goes, Enters, Stops, RunOf}
