@@ -2,8 +2,8 @@
 //!
 //! It promises which lines the machine has run at each status and in which order, that what is written is the text of its
 //! answers and of the last lines that the status adds, or a front of it, and the cause of each status.
-//! The definitions stand in `specs/`: `Machine` (what a machine is), `Reading` (the lines that were given), `Writing` (what was
-//! written) and `Run` (how a run ends).
+//! The definitions stand in `specs/`: `Machine` (what a machine is), `Input` (the lines of an input), `Writing` (what was
+//! written), `Run` (how a run ends) and `Complete` (which inputs are run to their end).
 #![tactic(auto)]
 
 mod machine;
@@ -16,3 +16,4 @@ pub use machine::Machine;
 pub use running::LinesEnd;
 pub use scenario::run_scenario;
 pub use status::Status;
+pub use writing::write_piece;

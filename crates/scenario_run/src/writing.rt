@@ -23,7 +23,7 @@ pub(crate) fn write_pieces<K: Sink>(sink: &mut K, pieces: &[Bytes]) -> Result<()
 }
 
 /// Writes a piece whole, however many bytes the sink takes at a time.
-pub(crate) fn write_piece<K: Sink>(sink: &mut K, piece: &[u8]) -> Result<(), Failed>
+pub fn write_piece<K: Sink>(sink: &mut K, piece: &[u8]) -> Result<(), Failed>
     ensures written { OnOk result (Appends (K.written sink.old) (K.written sink.new) piece.now) }
     ensures front { OnErr result (AppendsFront (K.written sink.old) (K.written sink.new) piece.now) }
     ensures never_falls { K.faults sink.old ≤ K.faults sink.new }
