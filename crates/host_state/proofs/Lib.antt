@@ -1,0 +1,13 @@
+pub mod Kept
+pub mod Ending
+pub mod Outcomes
+pub mod Found
+pub mod Answered
+pub mod Starting
+pub mod Lengths
+pub mod Cut
+pub mod Heard
+pub mod First
+pub mod Front
+pub mod Judged
+pub mod Sealed
