@@ -20,7 +20,7 @@ carriage_for h order = carriage_of (classes_of (known_of (node_of h order.node))
 abbrev pub refusal_for : HostState → Order → Option Refused
 refusal_for h order =
     refusal_of (known_of (node_of h order.node))
-        (count_with h.store order.node (properties_of (settings (carriage_for h order).actuator order))) order
+    (count_with h.store order.node (properties_of (settings (carriage_for h order).actuator order))) order
 
 -- the controller, and a node that is joined, do not join
 abbrev pub join_refusal : HostState → ℕ → Option Refused
