@@ -15,3 +15,4 @@ mod Standing
 mod Keeping
 mod Restarting
 mod Living
+mod Over

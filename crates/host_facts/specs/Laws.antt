@@ -5,7 +5,7 @@ use Rattle.zw_text.specs.declared.entry.Ended.TheVariants as ended
 use Rattle.zw_text.specs.declared.entry.Entry.{Entry}
 use Rattle.zw_text.specs.declared.entry.Entry.TheVariants.{Accepted, Begin, Out}
 use Rattle.zw_text.specs.declared.entry.Outcome.{Outcome}
-use Rattle.zw_text.specs.declared.entry.Outcome.TheVariants.{Waiting, Begun, Unanswered}
+use Rattle.zw_text.specs.declared.entry.Outcome.TheVariants.{Waiting, Begun, Success, Fail, NoSupport, Unanswered, Cancelled}
 use Rattle.zw_text.specs.Transcript.{shown, where_same, accepted_numbers, sessions, outcome}
 use Rattle.zw_laws.specs.Commands.{is_waiting}
 use Rattle.zw_laws.specs.Lists.{EachAfter, Has, Rises}
@@ -33,6 +33,14 @@ abbrev pub IsUnderWay : Outcome → Type 0
 IsUnderWay Begun = Unit {0}
 IsUnderWay Unanswered = Unit {0}
 IsUnderWay _ = ⊥
+
+-- a command that has a final outcome, or was taken back
+abbrev pub IsOver : Outcome → Type 0
+IsOver Success = Unit {0}
+IsOver Fail = Unit {0}
+IsOver NoSupport = Unit {0}
+IsOver Cancelled = Unit {0}
+IsOver _ = ⊥
 
 -- an order that is accepted has the next number
 abbrev pub MayAccept : List Entry → Entry → Type 0

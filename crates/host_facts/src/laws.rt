@@ -2,6 +2,7 @@
 
 ghost use Rattle.std.specs.Prelude.{◌≡◌, ℕ, List, [], ◌∷◌, ◌++◌};
 ghost use Rattle.s0_crypto.specs.declared.key_pair.Keys.{Keys};
+ghost use Rattle.zw_text.specs.Transcript.{outcome};
 ghost use Rattle.zw_text.specs.declared.entry.Entry.{Entry};
 ghost use Rattle.zw_order.specs.declared.order.Order.{Order};
 ghost use Rattle.host_orders.specs.Settings.{settings};
@@ -14,7 +15,7 @@ ghost use Rattle.host_events.specs.Did.{after_all, Did, MayAll, Shelf};
 ghost use Rattle.host_events.specs.declared.out.HostOut.{HostOut};
 ghost use Rattle.host_facts.specs.Entries.{IsAside, entries_at, entries_all};
 ghost use Rattle.host_facts.specs.Facts.{AreRuns, AreShown, AreTold, Facts, Run, StartsAs, entries_of_runs, last_of_runs};
-ghost use Rattle.host_facts.specs.Laws.{HostLaws};
+ghost use Rattle.host_facts.specs.Laws.{HostLaws, IsOver};
 ghost use Rattle.host_facts.specs.Wrong.{begun_backwards, begun_cancelled, begun_early, begun_elsewhere, begun_twice, begun_unasked, cancelled_late, ended_twice, ended_unbegun, numbered_late};
 ghost use Rattle.host_facts.specs.Stores.{AreSorted, StoresLaw};
 
@@ -68,6 +69,11 @@ pub fn laws_follow()
     ensures laws { (past : List Entry) (h : HostState) → Facts past h → HostLaws past }
     ensures tables { (past : List Entry) (h : HostState) → Facts past h → AreShown past h }
     ensures stores { (past : List Entry) (h : HostState) → Facts past h → StoresLaw past h }
+{}
+
+/// Where a transcript keeps the laws, a command that has a final outcome or was taken back has that outcome for good.
+pub fn what_is_over_stays()
+    ensures { (past more : List Entry) (number : ℕ) → HostLaws (past ++ more) → IsOver (outcome number past) → outcome number (past ++ more) ≡ outcome number past }
 {}
 
 /// So whatever happens to a host from its beginning, over any restarts, its transcript keeps the laws and shows its tables and its

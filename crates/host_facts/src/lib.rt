@@ -13,6 +13,7 @@ mod lives;
 
 pub use laws::{
     asides_keep_facts, events_keep_facts, first_facts_hold, hosts_keep_laws, laws_follow,
-    outcomes_are_told, restarts_keep_facts, values_are_in_order, wrong_transcripts_are_rejected,
+    outcomes_are_told, restarts_keep_facts, values_are_in_order, what_is_over_stays,
+    wrong_transcripts_are_rejected,
 };
 pub use lives::{lives_keep_facts, lives_keep_laws, what_is_kept_starts_a_host};

@@ -24,7 +24,7 @@ last_of-append : {A : Type 0} (before : Option A) (xs ys : List A) → last_of b
 last_of-append before [] ys = refl
 last_of-append before (x ∷ xs) ys = last_of-append (Some x) xs ys
 
-holds_more : (key : List ℕ) (node : ℕ) (T : List IncludeEntry) (w : WorldState) (did : Doing) → Holds key node T w → Step key node w did → Holds key node (T ++ did.entries) did.world
+pub holds_more : (key : List ℕ) (node : ℕ) (T : List IncludeEntry) (w : WorldState) (did : Doing) → Holds key node T w → Step key node w did → Holds key node (T ++ did.entries) did.world
 holds_more key node T w did h s = record {
   fact = s.fact;
   counted = ap says_secure (ap (λ (l : List Word). last_of None l) (flat_map-append (word_in node) T did.entries) ∙ last_of-append None (words node T) (words node did.entries)) ∙ s.counted (last_word node T) h.counted;
@@ -64,7 +64,7 @@ first_holds key node sixteen from to =
 
 -- ---- the law
 
-secure_said : (o : Option Word) → says_secure o ≡ true → o ≡ Some IsSecure
+pub secure_said : (o : Option Word) → says_secure o ≡ true → o ≡ Some IsSecure
 secure_said None e = absurd cc
 secure_said (Some IsSecure) e = refl
 secure_said (Some HasFailed) e = absurd cc

@@ -59,7 +59,7 @@ Tells key node lock Outward payload = OutIs key node lock payload (message_of pa
 abbrev pub OneKey : List ℕ → Option (List ℕ) → Type 0
 OneKey key o = (o ≡ None) ⊎ (o ≡ Some key)
 
-no_some : {A : Type 0} {x : A} {o : Option A} → o ≡ None → o ≡ Some x → ⊥
+pub no_some : {A : Type 0} {x : A} {o : Option A} → o ≡ None → o ≡ Some x → ⊥
 no_some e f = cc
 
 -- ---- a lock with the key: every frame is as it should be
@@ -137,7 +137,7 @@ out_if key node lock payload nonce true = tt
 out_if key node lock payload nonce false = tt
 
 -- a Nonce Report of eight bytes is one, and of other lengths is nothing
-report_is : (nonce : List ℕ) → (b : Bool) × (message_of (nonce_report nonce) ≡ cond b (NonceReport nonce) Other)
+pub report_is : (nonce : List ℕ) → (b : Bool) × (message_of (nonce_report nonce) ≡ cond b (NonceReport nonce) Other)
 unfolding message_of
 report_is nonce = (eqb (length (nonce_report nonce)) 10, rw (le-leb 2 (length (nonce_report nonce)) (omega arith)) refl)
 
@@ -180,7 +180,7 @@ named_at own text code first bytes n c e =
     let front : length (0x98 ∷ 0x81 ∷ (own ++ text)) ≡ length bytes - 9 = omega (arith, size, n, length-append own text) in
     ap (λ l. slice_index l (length bytes - 9)) (e ∙ regroup) ∙ get_or_at (0x98 ∷ 0x81 ∷ (own ++ text)) first code 0 (length bytes - 9) front
 
-seals_text : (keys : Keys) (own nonce : List ℕ) (ends : SealEnds) (plain : List ℕ) → Seals keys own nonce ends plain (sealed_text keys own nonce ends plain)
+pub seals_text : (keys : Keys) (own nonce : List ℕ) (ends : SealEnds) (plain : List ℕ) → Seals keys own nonce ends plain (sealed_text keys own nonce ends plain)
 unfolding sealed_text
 seals_text keys own nonce ends plain = record { cipher_text = cipher_text_of keys own nonce plain; enciphers = refl; layout = refl }
 
@@ -241,7 +241,7 @@ each_keyed key node lock has None = tt
 each_keyed key node lock has (Some payload) = (home_keyed key lock has (message_of payload), tt)
 
 -- a key that a lock has is the one key
-the_key : (key : List ℕ) (o : Option (List ℕ)) (k : List ℕ) → OneKey key o → o ≡ Some k → o ≡ Some key
+pub the_key : (key : List ℕ) (o : Option (List ℕ)) (k : List ℕ) → OneKey key o → o ≡ Some k → o ≡ Some key
 the_key key o k one e = ⊎_elim (λ none. absurd (no_some none e)) (λ same. same) one
 
 nonce_moves : (key : List ℕ) (node : ℕ) (lock : Joining) (nonce drawn : List ℕ) → OneKey key lock.key → (o : Option (List ℕ)) → lock.key ≡ o → Moves key node lock (takes_nonce lock nonce drawn o)
@@ -258,17 +258,17 @@ nonce_moves key node lock nonce drawn one (Some k) e =
     }
 
 -- a lock that has a key takes no other
-holds_on : (lock : Joining) (payload k : List ℕ) (o : Option (List ℕ)) → takes_for lock payload o (Some k) ≡ silent lock
+pub holds_on : (lock : Joining) (payload k : List ℕ) (o : Option (List ℕ)) → takes_for lock payload o (Some k) ≡ silent lock
 holds_on lock payload k None = refl
 holds_on lock payload k (Some nonce) = refl
 
 -- a lock without one takes the key
-spends : (nonce : List ℕ) (first : ℕ) (live : Option (List ℕ)) → live ≡ Some nonce → first ≡ slice_index nonce 0 → with_first live first ≡ Some nonce
+pub spends : (nonce : List ℕ) (first : ℕ) (live : Option (List ℕ)) → live ≡ Some nonce → first ≡ slice_index nonce 0 → with_first live first ≡ Some nonce
 spends nonce first live e f =
     ap (λ (o : Option (List ℕ)). with_first o first) e
     ∙ ap (λ (b : Bool). cond b (Some nonce) None) (eq-eqb (slice_index nonce 0) first (sym f))
 
-takes_it : (key : List ℕ) (node : ℕ) (lock : Joining) (payload : List ℕ) → length key ≡ 16 → lock.node ≡ node → lock.key ≡ None → Sets key node lock payload
+pub takes_it : (key : List ℕ) (node : ℕ) (lock : Joining) (payload : List ℕ) → length key ≡ 16 → lock.node ≡ node → lock.key ≡ None → Sets key node lock payload
     → takes_for (record lock { given = after_spend lock.given (nonce_named payload) }) payload (nonce_spent lock.given (nonce_named payload)) None
     ≡ takes_key (record lock { given = after_spend lock.given (nonce_named payload) }) (Some key)
 takes_it key node lock payload sixteen is_node none s =

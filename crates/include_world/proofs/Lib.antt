@@ -8,3 +8,12 @@ pub mod Saying
 pub mod WorldFacts
 pub mod Events
 pub mod Telling
+pub mod NearFacts
+pub mod ShowFacts
+pub mod HostShows
+pub mod NearWorld
+pub mod Stages
+pub mod HostStages
+pub mod Going
+pub mod Ticking
+pub mod Starting

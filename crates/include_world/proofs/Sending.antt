@@ -51,7 +51,7 @@ pub record Grows (old new : AirState) : Type 0 where
   pub landed : new.landed ≡ old.landed
   pub frames : length old.frames ≤ length new.frames
 
-departing_grows : (air : AirState) (node : ℕ) (heading : Heading) (payload : List ℕ) → Grows air (departing air node heading payload)
+pub departing_grows : (air : AirState) (node : ℕ) (heading : Heading) (payload : List ℕ) → Grows air (departing air node heading payload)
 unfolding departing
 departing_grows air node heading payload = record { landed = refl; frames = omega (arith, length-append air.frames (flight air node heading payload ∷ [])) }
 

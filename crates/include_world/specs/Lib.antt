@@ -3,3 +3,4 @@ pub mod Air
 pub mod World
 pub mod Line
 pub mod Added
+pub mod Ending

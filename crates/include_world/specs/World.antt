@@ -1,5 +1,5 @@
 -- The world of `include`, and what each event makes of it (this project's own rule, docs/INCLUSION.md).
-use Rattle.std.specs.Prelude.{◌≡◌, ℕ, ◌+◌, ◌==◌, ◌||◌, nat_lt, if◌then◌else◌, Bool, true, false, is_some, Option, Some, None, List, [], ◌∷◌, ◌++◌, length, map, replicate, slice_set, slice_index_or}
+use Rattle.std.specs.Prelude.{◌≡◌, ◌≤◌, ℕ, ◌+◌, ◌==◌, ◌||◌, nat_lt, if◌then◌else◌, Bool, true, false, is_some, Option, Some, None, List, [], ◌∷◌, ◌++◌, length, map, replicate, slice_set, slice_index_or}
 use Rattle.std.specs.List.{range_with_len, flat_map}
 use Rattle.inclusion.specs.Joining.{Joining, Joined, fresh_joiner, joiner_takes, forgetful}
 use Rattle.inclusion.specs.Including.{Including, Included, fresh_includer, includer_takes, is_secure, adding, exchange_after, failing_in, without_secure}
@@ -188,6 +188,10 @@ abbrev pub entries_all : WorldState → List IncludeEvent → List IncludeEntry
 entries_all world [] = []
 entries_all world (event ∷ events) = (does world event).entries ++ entries_all (does world event).world events
 
+-- no more frames have arrived than were sent
+abbrev pub AllSent : WorldState → Type 0
+AllSent world = world.air.landed ≤ length world.air.frames
+
 -- the bytes that are drawn for an event are eight
 abbrev pub IsDrawn : IncludeEvent → Type 0
 IsDrawn (Says line drawn) = length drawn ≡ 8
@@ -202,6 +206,7 @@ AllDrawn (event ∷ events) = IsDrawn event × AllDrawn events
 -- these events were done, and their entries were made
 pub record Did (events : List IncludeEvent) (old new : WorldState) (before all : List IncludeEntry) : Type 0 where
   pub drawn : AllDrawn events
+  pub arrives : AllSent old → AllSent new
   pub state : new ≡ after_all old events
   pub entries : all ≡ before ++ entries_all old events
 

@@ -14,5 +14,5 @@ mod units;
 mod world;
 
 pub use flight::{Flight, Heading, Pair};
-pub use laws::what_is_said_is_so;
+pub use laws::{exchange_ends, what_is_said_is_so};
 pub use world::IncludeWorld;

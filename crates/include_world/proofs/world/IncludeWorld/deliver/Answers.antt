@@ -13,7 +13,7 @@ loop-preserved g c =
     let same : length c.self.inside.air.state.frames - c.self.inside.air.state.landed ≡ flying c.args.self.now.air = ap (λ (w : WorldState). flying w.air) c.self.view_is in
     let test = c.loop-test.true in
     record {
-      arrived = one_arrived _ _ _ _ _ _ _ _ c.loop.invariant.arrived c.in_ok-land.ensures.eight c.in_ok-land.ensures.ok c.in_ok-land.ensures.outs;
+      arrived = one_arrived _ _ _ _ _ _ _ _ c.loop.invariant.arrived c.in_ok-land.ensures.eight (omega (arith, end, same, test)) c.in_ok-land.ensures.ok c.in_ok-land.ensures.outs;
       within = omega (arith, end, same, test);
     }
 
