@@ -1,5 +1,5 @@
-//! Tests of the crates that keep rules: sessions, mailboxes, values, routes, nonces, and the cipher and the seals beneath
-//! them, against vectors that were made outside this project or worked by hand.
+//! Tests of the crates that keep rules: sessions, mailboxes, values, routes, records, nonces, and the cipher and the seals
+//! beneath them, against vectors that were made outside this project or worked by hand.
 //!
 //! A crate that has tests is proved once with them and once without. So the crates below have none, and this one, which
 //! promises nothing, has theirs. Each public call is called here once with ample memory.
@@ -13,6 +13,8 @@ mod mailbox;
 mod nodes;
 #[cfg(test)]
 mod nonces;
+#[cfg(test)]
+mod records;
 #[cfg(test)]
 mod routes;
 #[cfg(test)]

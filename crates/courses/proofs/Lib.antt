@@ -1,0 +1,8 @@
+mod Lists
+mod Moving
+mod SessionEnds
+mod SessionSteps
+mod SessionKeeping
+mod NonceNumbers
+mod NodeNonceSteps
+mod HostNonceSteps

@@ -1,0 +1,10 @@
+pub mod Ways
+pub mod Flying
+pub mod Sessions
+pub mod SessionFacts
+pub mod SessionLaws
+pub mod NodeNonces
+pub mod NodeNonceFacts
+pub mod HostNonces
+pub mod HostNonceFacts
+pub mod NonceLaws

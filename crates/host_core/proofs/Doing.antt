@@ -1,0 +1,96 @@
+-- Calls of a host one after another.
+use Rattle.std.proofs.Common.{◌≡◌, ◌≤◌, List, [], ◌∷◌, ◌++◌, sym, subst, arith}
+use Rattle.std.specs.Prelude.{Bool, true, false, Result, Ok, Err, OnOk, OnErr}
+use Rattle.host_keep.specs.Keeping.{OptAdds, Kept}
+use Rattle.host_keep.specs.RecordText.{record_text}
+use Rattle.host_keep.specs.declared.record.Record.{Record}
+use Rattle.host_events.specs.State.{HostState}
+use Rattle.host_events.specs.Events.{HostEvent}
+use Rattle.host_events.specs.After.{after}
+use Rattle.host_events.specs.Outs.{outs}
+use Rattle.host_events.specs.Records.{records_at}
+use Rattle.host_events.specs.May.{May}
+use Rattle.host_events.specs.Did.{after_all, is_unkept, RoseIf, texts_of}
+use Rattle.host_events.specs.declared.out.HostOut.{HostOut}
+use Rattle.host_events.proofs.Doing.{none_added, did_nothing, did_one, did_both}
+use Rattle.host_state.specs.Choices.{chosen}
+use Rattle.host_core.specs.Calls.{Scene, beside, Does, Stops, DoesAlone, StopsAlone}
+
+-- ---- nothing
+
+pub does_nothing : (Kind : List HostEvent → Type 0) (a b : Scene) → Kind [] → b.host ≡ a.host → b.outs ≡ a.outs → OptAdds a.shelf.records b.shelf.records [] → a.shelf.faults ≤ b.shelf.faults → Does Kind a b
+does_nothing Kind a b are host outs records falls =
+    record { events = []; are = are; did = did_nothing a.host b.host a.outs b.outs a.shelf b.shelf host outs records falls }
+
+pub stops_at_once : (a b : Scene) → b.host ≡ a.host → b.outs ≡ a.outs → OptAdds a.shelf.records b.shelf.records [] → a.shelf.faults ≤ b.shelf.faults → Stops a b
+stops_at_once a b host outs records falls =
+    record { events = []; did = did_nothing a.host b.host a.outs b.outs a.shelf b.shelf host outs records falls }
+
+-- a call that asked no keeper did nothing
+pub nothing_alone : (Kind : List HostEvent → Type 0) (old new : HostState) (before all : List HostOut) → Kind [] → new ≡ old → all ≡ before → DoesAlone Kind old before new all
+nothing_alone Kind old new before all are host outs =
+    λ shelf. does_nothing Kind (beside shelf old before) (beside shelf new all) are host outs (none_added shelf.records) (omega arith)
+
+pub stops_alone : (old new : HostState) (before all : List HostOut) → new ≡ old → all ≡ before → StopsAlone old before new all
+stops_alone old new before all host outs = λ shelf. stops_at_once (beside shelf old before) (beside shelf new all) host outs (none_added shelf.records) (omega arith)
+
+-- ---- one event
+
+pub does_one : (Kind : List HostEvent → Type 0) (e : HostEvent) (a b : Scene) → Kind (e ∷ []) → May a.host e → b.host ≡ after a.host e → b.outs ≡ a.outs ++ outs a.host e
+    → OptAdds a.shelf.records b.shelf.records (texts_of (records_at a.host e)) → RoseIf (is_unkept e) a.shelf.faults b.shelf.faults → a.shelf.faults ≤ b.shelf.faults → Does Kind a b
+does_one Kind e a b are may host put records rose falls =
+    record { events = e ∷ []; are = are; did = did_one e a.host b.host a.outs b.outs a.shelf b.shelf may host put records rose falls }
+
+-- one that keeps no record
+pub one_alone : (Kind : List HostEvent → Type 0) (e : HostEvent) (old new : HostState) (before all : List HostOut) → Kind (e ∷ []) → May old e → records_at old e ≡ [] → is_unkept e ≡ false
+    → new ≡ after old e → all ≡ before ++ outs old e → DoesAlone Kind old before new all
+one_alone Kind e old new before all are may none kept host put =
+    λ shelf. does_one Kind e (beside shelf old before) (beside shelf new all) are may host put
+    (subst (λ (r : List Record). OptAdds shelf.records shelf.records (texts_of r)) (sym none) (none_added shelf.records))
+    (subst (λ (x : Bool). RoseIf x shelf.faults shelf.faults) (sym kept) tt) (omega arith)
+
+-- one whose record was kept, or the one that says that it was not
+pub does_kept : (Kind : List HostEvent → Type 0) (is_kept : Bool) (e u : HostEvent) (r : Record) (a b : Scene) → Kind (chosen is_kept e u ∷ []) → May a.host (chosen is_kept e u)
+    → records_at a.host e ≡ r ∷ [] → is_unkept e ≡ false → records_at a.host u ≡ [] → is_unkept u ≡ true
+    → Kept is_kept (record_text r) a.shelf.records b.shelf.records a.shelf.faults b.shelf.faults → b.host ≡ after a.host (chosen is_kept e u) → b.outs ≡ a.outs ++ outs a.host (chosen is_kept e u)
+    → a.shelf.faults ≤ b.shelf.faults → Does Kind a b
+does_kept Kind true e u r a b are may recorded kept_it none not_it kept host put falls =
+    does_one Kind e a b are may host put
+    (subst (λ (l : List Record). OptAdds a.shelf.records b.shelf.records (texts_of l)) (sym recorded) kept)
+    (subst (λ (x : Bool). RoseIf x a.shelf.faults b.shelf.faults) (sym kept_it) tt) falls
+does_kept Kind false e u r a b are may recorded kept_it none not_it kept host put falls =
+    does_one Kind u a b are may host put
+    (subst (λ (l : List Record). OptAdds a.shelf.records b.shelf.records (texts_of l)) (sym none) kept.0)
+    (subst (λ (x : Bool). RoseIf x a.shelf.faults b.shelf.faults) (sym not_it) kept.1) falls
+
+-- ---- one call after another
+
+pub then_does : (First Later Whole : List HostEvent → Type 0) (a b c : Scene) → Does First a b → Does Later b c → ((x y : List HostEvent) → b.host ≡ after_all a.host x → First x → Later y → Whole (x ++ y)) → Does Whole a c
+then_does First Later Whole a b c first later both =
+    record {
+      events = first.events ++ later.events;
+      are = both first.events later.events first.did.state first.are later.are;
+      did = did_both first.events later.events a.host b.host c.host a.outs b.outs c.outs a.shelf b.shelf c.shelf first.did later.did;
+    }
+
+pub then_stops : (First : List HostEvent → Type 0) (a b c : Scene) → Does First a b → Stops b c → Stops a c
+then_stops First a b c first later =
+    record {
+      events = first.events ++ later.events;
+      did = did_both first.events later.events a.host b.host c.host a.outs b.outs c.outs a.shelf b.shelf c.shelf first.did later.did;
+    }
+
+-- what is so of events is so
+pub does_as : (Kind Other : List HostEvent → Type 0) (a b : Scene) → Does Kind a b → ((events : List HostEvent) → Kind events → Other events) → Does Other a b
+does_as Kind Other a b does so = record { events = does.events; are = so does.events does.are; did = does.did }
+
+-- ---- answers
+
+-- what a call did, seen by its caller
+pub on_ok_as : {T E A B : Type 0} (r : Result T E) → OnOk r A → (A → B) → OnOk r B
+on_ok_as (Ok x) a so = so a
+on_ok_as (Err e) a so = tt
+
+pub on_err_as : {T E A B : Type 0} (r : Result T E) → OnErr r A → (A → B) → OnErr r B
+on_err_as (Ok x) a so = tt
+on_err_as (Err e) a so = so a

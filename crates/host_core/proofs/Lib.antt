@@ -1,0 +1,14 @@
+mod Asked
+mod Doing
+mod Followed
+mod Loops
+mod OneMessage
+mod OneNonce
+mod OneValue
+mod Pieces
+mod Reported
+mod Served
+mod Submitted
+mod Taken
+mod Told
+mod Unsealed

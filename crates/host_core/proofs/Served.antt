@@ -1,0 +1,195 @@
+-- What a turn of a pump finds to give.
+use Rattle.std.proofs.Common.{◌≡◌, ℕ, ◌+◌, ◌<◌, ◌≤◌, List, [], ◌∷◌, ◌++◌, length, refl, ap, sym, ◌∙◌, subst, arith, ◌⊎◌, inl, inr}
+use Rattle.std.specs.Prelude.{Bool, true, false, Option, Some, None, IsSome, IsTrue, ◌↔◌, ◌||◌, not, slice_get, slice_index}
+use Rattle.supervision.specs.Host.{begun_of, open_session, command_at as command_of_session}
+use Rattle.host_requests.specs.declared.task.Task.{Task}
+use Rattle.host_node.specs.State.{NodeState}
+use Rattle.host_node.specs.declared.series.Series.{Series}
+use Rattle.host_node.specs.declared.series.Series.TheVariants.{Idle, Due, Running}
+use Rattle.host_node.specs.declared.attempt.Plan.{Plan}
+use Rattle.host_nodes.specs.Search.{next_of}
+use Rattle.host_events.specs.State.{HostState, Command, node_of, command_at}
+use Rattle.host_events.specs.Sessions.{open_segment}
+use Rattle.host_events.specs.Events.{HostEvent, Submits_abort, Submits_front, Begins, Begin_unkept, Starts, Gives_text, Gives_segment}
+use Rattle.host_events.specs.Outs.{outs}
+use Rattle.host_keep.specs.Keeping.{OptAdds, Kept}
+use Rattle.host_keep.specs.RecordText.{record_text}
+use Rattle.host_keep.specs.declared.record.Record.TheVariants.{Begun}
+use Rattle.host_state.specs.Choices.{chosen}
+use Rattle.host_events.specs.After.{after, is_busy}
+use Rattle.host_events.specs.Did.{after_all}
+use Rattle.host_events.specs.Facts.{HostFacts}
+use Rattle.host_events.specs.May.{May, IsFree, IsServed, IsStart}
+use Rattle.host_events.specs.Pumping.{IsNext, IsNextOf, IsNextOfNodes, IsServedBy, GivesNext, IsPumped, HasNothing, turns_left}
+use Rattle.host_events.specs.declared.out.HostOut.{HostOut}
+use Rattle.host_state.specs.Sessions.{open_order, command_in}
+use Rattle.host_core.specs.Calls.{Scene, Does, DoesAlone, One}
+use Rattle.host_core.proofs.Doing.{does_one, does_kept, one_alone}
+use Rattle.host_core.proofs.Submitted.{served_is_next, abort_is_next, front_is_next}
+
+pub some_unless_none : {X : Type 0} (o : Option X) → (o ≡ None → ⊥) → IsSome o
+some_unless_none None there = absurd (there refl)
+some_unless_none (Some x) there = refl
+
+-- ---- whether a request may be submitted
+
+pub pumped_by : (h : HostState) (idle busy : Bool) → (IsTrue idle ↔ (h.requests.under_way ≡ None)) → busy ≡ is_busy h.side.turn → (not idle || busy) ≡ true → IsPumped h
+pumped_by h true true is_idle is_busy e = inl (λ (free : IsFree h). let no = free.free_line in cc)
+pumped_by h true false is_idle is_busy e = cc
+pumped_by h false busy is_idle is_busy e = inl (λ (free : IsFree h). let no : IsTrue false = is_idle.1 free.none_under_way in cc)
+
+pub free_by : (h : HostState) (idle busy : Bool) → (IsTrue idle ↔ (h.requests.under_way ≡ None)) → busy ≡ is_busy h.side.turn → (not idle || busy) ≡ false → IsFree h
+free_by h true true is_idle is_busy e = cc
+free_by h true false is_idle is_busy e = record { none_under_way = is_idle.0 refl; free_line = sym is_busy }
+free_by h false busy is_idle is_busy e = cc
+
+-- ---- one event
+
+-- a host after one event is the host after it
+after_one : (h new : HostState) (events : List HostEvent) (e : HostEvent) → new ≡ after_all h events → events ≡ e ∷ [] → new ≡ after h e
+after_one h new events e state are = state ∙ ap (λ (l : List HostEvent). after_all h l) are
+
+pub fewer_after : (a b : Scene) (Which : HostEvent → Type 0) → ((e : HostEvent) → Which e → turns_left (after a.host e) < turns_left a.host) → Does (One Which) a b → turns_left b.host < turns_left a.host
+fewer_after a b Which fewer does =
+    subst (λ (h : HostState). turns_left h < turns_left a.host) (sym (after_one a.host b.host does.events does.are.0 does.did.state does.are.2)) (fewer does.are.0 does.are.1)
+
+pub one_as : (Which Other : HostEvent → Type 0) (a b : Scene) → Does (One Which) a b → ((e : HostEvent) → Which e → Other e) → Does (One Other) a b
+one_as Which Other a b does so = record { events = does.events; are = (does.are.0, so does.are.0 does.are.1, does.are.2); did = does.did }
+
+-- ---- what a node that is served gives
+
+-- the next request of a host that is free is there
+abbrev pub FindsNext : Type 0
+FindsNext = (h : HostState) → HostFacts h → IsFree h → HasNothing h ⊎ ((event : HostEvent) × IsNext h event)
+
+next_by : (h : HostState) (n : ℕ) (owes : Bool) (queue : List Task) (next : Option ℕ) (e : HostEvent) → owes ≡ false → queue ≡ [] → next ≡ Some n → next_of h.nodes h.served ≡ next → IsNextOf h owes queue e
+    → IsServedBy h n (node_of h n).series e
+next_by h n owes queue next e paid none is found so =
+    subst (λ (o : Option ℕ). IsNextOfNodes h o e) (found ∙ is) (subst (λ (q : List Task). IsNextOf h false q e) none (subst (λ (b : Bool). IsNextOf h b queue e) paid so))
+
+pub gives_something : FindsNext → (h : HostState) (n : ℕ) → HostFacts h → IsServed h n → (event : HostEvent) × IsServedBy h n (node_of h n).series event
+gives_something law h n facts served = elim (law h facts served.free) [
+  | inl nothing ↦ let some = served.next in let none = nothing.no_work in absurd (not_both (next_of h.nodes h.served) none some)
+  | inr found ↦ (found.0, next_by h n h.requests.owes h.requests.queue (next_of h.nodes h.served) found.0 served.paid served.no_task served.next refl found.1.1)
+]
+  where
+    not_both : {m : ℕ} (o : Option ℕ) → o ≡ None → o ≡ Some m → ⊥
+    not_both o none some = cc
+
+-- a running attempt without a text has a segment
+pub segment_is_there : FindsNext → (h : HostState) (n : ℕ) → HostFacts h → IsServed h n → (node_of h n).series ≡ Running → (node_of h n).text ≡ None
+    → (payload : List ℕ) × (open_segment h (node_of h n) (open_session (node_of h n).book) (node_of h n).next_segment ≡ Some payload)
+segment_is_there law h n facts served running none =
+    let found = gives_something law h n facts served in
+    let gives = subst (λ (o : Option (List ℕ)). GivesNext h n o found.0) none (subst (λ (s : Series). IsServedBy h n s found.0) running found.1) in
+    (gives.0, gives.1)
+
+-- an attempt that is due starts
+pub start_is_there : FindsNext → (h : HostState) (n : ℕ) → HostFacts h → IsServed h n → (node_of h n).series ≡ Due → (plan : Plan) × (more : Bool) × (payload : List ℕ) × IsStart h n plan more payload
+start_is_there law h n facts served due =
+    let found = gives_something law h n facts served in
+    let gives = subst (λ (s : Series). IsServedBy h n s found.0) due found.1 in
+    (gives.0, gives.1, gives.2, gives.3)
+
+-- then its command is there
+pub order_is_there : (h : HostState) (n : ℕ) (plan : Plan) (more : Bool) (payload : List ℕ) → IsStart h n plan more payload → open_order h n ≡ None → ⊥
+order_is_there h n plan more payload start none =
+    found_or (open_order h n) none (open_is h n start.session start.carried.0 start.command start.opened start.carried.1 start.carried.2)
+  where
+    found_or : {command : Command} (o : Option Command) → o ≡ None → o ≡ Some command → ⊥
+    found_or o none some = cc
+
+    open_is : (h : HostState) (n session number : ℕ) (command : Command) → open_session (node_of h n).book ≡ Some session → command_of_session (node_of h n).book.commands session ≡ Some number
+        → command_at h.commands number ≡ Some command → open_order h n ≡ Some command
+    open_is h n session number command opened carried found = rw opened (ap (λ (o : Option ℕ). command_in h o) carried ∙ found)
+
+-- ---- what it did
+
+-- each next request may be submitted
+abbrev pub MayNext : Type 0
+MayNext = (h : HostState) (event : HostEvent) → HostFacts h → IsNext h event → May h event
+
+-- a session may begin for a node that is served, where its series is over
+pub begins_may : MayNext → (h : HostState) (n : ℕ) → HostFacts h → IsServed h n → (node_of h n).series ≡ Idle → May h (Begins n (begun_of (node_of h n).book + 1) (slice_index (node_of h n).waiting 0))
+begins_may law h n facts served idle =
+    let e : HostEvent = Begins n (begun_of (node_of h n).book + 1) (slice_index (node_of h n).waiting 0) in
+    law h e facts (served_is_next h n e served (subst (λ (s : Series). IsServedBy h n s e) (sym idle) (inl refl)))
+
+-- the oldest of those that wait
+pub oldest_is_there : (l : List ℕ) → 0 < length l → slice_get l 0 ≡ None → ⊥
+oldest_is_there [] some none = omega arith
+oldest_is_there (x ∷ more) some none = cc
+
+pub oldest_is : (l : List ℕ) (command : ℕ) → slice_get l 0 ≡ Some command → command ≡ slice_index l 0
+oldest_is [] command e = cc
+oldest_is (x ∷ more) command e = let is : x ≡ command = cc in sym is
+
+begun_or : (h : HostState) (n : ℕ) (is_kept : Bool) → IsServedBy h n Idle (chosen is_kept (Begins n (begun_of (node_of h n).book + 1) (slice_index (node_of h n).waiting 0)) (Begin_unkept n))
+begun_or h n true = inl refl
+begun_or h n false = inr refl
+
+may_begin_or : (h : HostState) (n session command : ℕ) (is_kept : Bool) → May h (Begins n session command) → May h (chosen is_kept (Begins n session command) (Begin_unkept n))
+may_begin_or h n session command true may = may
+may_begin_or h n session command false may = (may.0, may.1)
+
+pub session_begun : (n session command : ℕ) (is_kept : Bool) (a b : Scene) → May a.host (Begins n session command) → Kept is_kept (record_text (Begun n session command)) a.shelf.records b.shelf.records a.shelf.faults b.shelf.faults
+    → b.host ≡ after a.host (chosen is_kept (Begins n session command) (Begin_unkept n)) → b.outs ≡ a.outs ++ outs a.host (chosen is_kept (Begins n session command) (Begin_unkept n)) → a.shelf.faults ≤ b.shelf.faults
+    → Does (One (IsServedBy a.host n Idle)) a b
+session_begun n session command is_kept a b may kept host put falls =
+    does_kept (One (IsServedBy a.host n Idle)) is_kept (Begins n session command) (Begin_unkept n) (Begun n session command) a b (
+      chosen is_kept (Begins n session command) (Begin_unkept n),
+      subst (λ (s : ℕ). IsServedBy a.host n Idle (chosen is_kept (Begins n s command) (Begin_unkept n))) (sym may.2)
+          (subst (λ (c : ℕ). IsServedBy a.host n Idle (chosen is_kept (Begins n (begun_of (node_of a.host n).book + 1) c) (Begin_unkept n))) (sym may.3) (begun_or a.host n is_kept)),
+      refl,
+    )
+    (may_begin_or a.host n session command is_kept may) refl refl refl refl kept host put falls
+
+-- an attempt started
+pub attempt_started : (h : HostState) (n : ℕ) (plan : Plan) (more : Bool) (payload : List ℕ) (new : HostState) (before all : List HostOut) → May h (Starts n plan more payload)
+    → new ≡ after h (Starts n plan more payload) → all ≡ before ++ outs h (Starts n plan more payload) → DoesAlone (One (IsServedBy h n Due)) h before new all
+attempt_started h n plan more payload new before all may host put =
+    one_alone (One (IsServedBy h n Due)) (Starts n plan more payload) h new before all (Starts n plan more payload, (plan, more, payload, may.1, refl), refl) may refl refl host put
+
+-- it gave its sealed text
+pub text_given : (h : HostState) (n : ℕ) (text : Option (List ℕ)) (payload : List ℕ) (new : HostState) (before all : List HostOut) → text ≡ Some payload → May h (Gives_text n payload)
+    → new ≡ after h (Gives_text n payload) → all ≡ before ++ outs h (Gives_text n payload) → DoesAlone (One (GivesNext h n text)) h before new all
+text_given h n text payload new before all is may host put =
+    one_alone (One (GivesNext h n text)) (Gives_text n payload) h new before all
+    (Gives_text n payload, subst (λ (o : Option (List ℕ)). GivesNext h n o (Gives_text n payload)) (sym is) refl, refl) may refl refl host put
+
+-- it gave its next segment
+pub segment_given : (h : HostState) (n : ℕ) (more : Bool) (payload : List ℕ) (new : HostState) (before all : List HostOut) → May h (Gives_segment n more payload)
+    → new ≡ after h (Gives_segment n more payload) → all ≡ before ++ outs h (Gives_segment n more payload) → DoesAlone (One (GivesNext h n None)) h before new all
+segment_given h n more payload new before all may host put =
+    one_alone (One (GivesNext h n None)) (Gives_segment n more payload) h new before all
+    (Gives_segment n more payload, (payload, may.2, ap (λ (b : Bool). Gives_segment n b payload) may.3), refl) may refl refl host put
+
+-- the same, of what the node says
+pub begins_may_as : MayNext → (h : HostState) (n : ℕ) → HostFacts h → IsServed h n → (node_of h n).series ≡ Idle → (state : NodeState) → state ≡ node_of h n → (session command : ℕ)
+    → session ≡ begun_of state.book + 1 → slice_get state.waiting 0 ≡ Some command → May h (Begins n session command)
+begins_may_as law h n facts served idle state is session command next first =
+    let s : session ≡ begun_of (node_of h n).book + 1 = next ∙ ap (λ (x : NodeState). begun_of x.book + 1) is in
+    let k : command ≡ slice_index (node_of h n).waiting 0 = oldest_is (node_of h n).waiting command (ap (λ (x : NodeState). slice_get x.waiting 0) (sym is) ∙ first) in
+    subst (λ (x : ℕ). May h (Begins n x command)) (sym s)
+    (subst (λ (x : ℕ). May h (Begins n (begun_of (node_of h n).book + 1) x)) (sym k) (begins_may law h n facts served idle))
+
+pub oldest_waits : MayNext → (h : HostState) (n : ℕ) → HostFacts h → IsServed h n → (node_of h n).series ≡ Idle → (state : NodeState) (found : Option ℕ) → state ≡ node_of h n → found ≡ slice_get state.waiting 0 → IsSome found
+oldest_waits law h n facts served idle state found is oldest =
+    let may = begins_may law h n facts served idle in
+    some_unless_none found (λ (none : found ≡ None). oldest_is_there (node_of h n).waiting may.1.0 (ap (λ (x : NodeState). slice_get x.waiting 0) (sym is) ∙ sym oldest ∙ none))
+
+-- a series that is this one is served so
+pub served_as : (n : ℕ) (series one : Series) (a b : Scene) → series ≡ one → Does (One (IsServedBy a.host n one)) a b → Does (One (IsServedBy a.host n series)) a b
+served_as n series one a b is does = subst (λ (s : Series). Does (One (IsServedBy a.host n s)) a b) (sym is) does
+
+-- ---- an abort, or a task
+
+pub abort_submitted : (a b : Scene) → IsFree a.host → a.host.requests.owes ≡ true → b.host ≡ after a.host Submits_abort → b.outs ≡ a.outs ++ outs a.host Submits_abort
+    → OptAdds a.shelf.records b.shelf.records [] → a.shelf.faults ≤ b.shelf.faults → Does (One (IsNext a.host)) a b
+abort_submitted a b free owes host put records falls =
+    does_one (One (IsNext a.host)) Submits_abort a b (Submits_abort, abort_is_next a.host free owes, refl) (free, owes) host put records tt falls
+
+pub front_submitted : (a b : Scene) → IsFree a.host → a.host.requests.owes ≡ false → (a.host.requests.queue ≡ [] → ⊥) → b.host ≡ after a.host Submits_front → b.outs ≡ a.outs ++ outs a.host Submits_front
+    → OptAdds a.shelf.records b.shelf.records [] → a.shelf.faults ≤ b.shelf.faults → Does (One (IsNext a.host)) a b
+front_submitted a b free paid some host put records falls =
+    does_one (One (IsNext a.host)) Submits_front a b (Submits_front, front_is_next a.host free paid some, refl) (free, paid, some) host put records tt falls

@@ -1,0 +1,15 @@
+use Rattle.std.proofs.Common.{◌≡◌}
+use Rattle.host_events.specs.Pumping.{SubmitsSome, turns_left}
+use Rattle.host_core.specs.Calls.{scene, Does}
+use Rattle.host_core.proofs.pumping.submit.Given as goal
+
+abbrev pub invariant-loop : goal.invariant-loop
+invariant-loop g l = record {
+  submitted : Does (SubmitsSome l.fn.core.state)
+      (scene l.fn.core.state l.fn.out.items (g.P.Keeper.records l.fn.keeper) (g.P.Keeper.faults l.fn.keeper))
+      (scene l.core.state l.out.items (g.P.Keeper.records l.keeper) (g.P.Keeper.faults l.keeper));
+  decoder : l.core.decoder ≡ l.fn.core.decoder;
+}
+
+abbrev pub decreases-loop : goal.decreases-loop
+decreases-loop g l = turns_left l.core.state

@@ -1,0 +1,4 @@
+pub mod Calls
+pub mod Orders
+pub mod Network
+pub mod Updates
