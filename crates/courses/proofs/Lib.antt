@@ -1,4 +1,5 @@
 mod Lists
+mod Parts
 mod Moving
 mod SessionEnds
 mod SessionSteps

@@ -11,8 +11,9 @@ use Rattle.supervision.proofs.EndsLemmas.{EndsAgree-start, get_names, GetNames, 
 use Rattle.courses.specs.Sessions.{Course, Message, Cargo, Command, Of_host, Answer, Of_node, is_of_host, Step, Begins, Attempts, Writes, Up_loses, Up_doubles, Sends, Flies, Reports, Lands, Repeats, Finishes, Down_loses, Down_doubles, Judges, IsFresh, IsFreshCargo, MayRepeat, MayFly, first_course, after, after_all, May, MayAll, sends, lands, repeats, hears, judges, flies, after_message}
 use Rattle.courses.specs.Flying.{Flight, hosts, KeepsUp}
 use Rattle.courses.specs.SessionFacts.{FitsBy, Fits, IsOnTime, IsOfNext, CourseFacts}
-use Rattle.courses.specs.SessionLaws.{NamesOne, TellsOne, TakesNext, IsDone}
+use Rattle.courses.specs.SessionLaws.{NamesOne, TellsOne, TakesNext, IsDone, IsApplied}
 use Rattle.courses.proofs.Lists.{all-get}
+use Rattle.courses.proofs.Parts.{successes_part, told_success}
 use Rattle.courses.proofs.SessionEnds.{message-cases, get-cases}
 use Rattle.courses.proofs.SessionSteps.{begins-step, attempts-step, writes-step, up_loses-step, up_doubles-step, other-step, reports-step, sends-step, leaves-step, message-step, finishes-step, down_loses-step, down_doubles-step, report-step, judges-step}
 
@@ -264,3 +265,9 @@ done_by_facts c facts =
         | inr rests ↦ let taken : c.device.taken ≡ length c.ends = facts.ends_are.rests rests in omega arith
       ];
     }
+
+pub applied_by_facts : (c : Course) → CourseFacts c → IsApplied c
+applied_by_facts c facts = record {
+  part = successes_part c.host.commands c.ends;
+  reported = λ session is. told_success c.ends c.told facts.told_are.rest session facts.told_are.front is;
+}

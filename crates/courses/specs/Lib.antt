@@ -1,3 +1,4 @@
+pub mod Parts
 pub mod Ways
 pub mod Flying
 pub mod Sessions

@@ -1,11 +1,13 @@
 -- What follows of a course (this project's own rule).
 use Rattle.std.specs.Prelude.{◌≡◌, ℕ, ◌+◌, ◌≤◌, ◌⊎◌, List, ◌++◌, length, Some}
 use Rattle.supervision.specs.Session.{wire_id}
-use Rattle.supervision.specs.Host.{HostBook, begun_of, open_session, told_of}
+use Rattle.supervision.specs.Host.{HostBook, begun_of, open_session, command_at, told_of}
 use Rattle.supervision.specs.Device.{Taken, heard_of}
 use Rattle.supervision.specs.Ends.{Report}
 use Rattle.supervision.specs.declared.host_node.Told.TheVariants.{Final, Working}
 use Rattle.supervision.specs.declared.device_book.Heard.TheVariants.{New, Again}
+use Rattle.supervision.specs.declared.session.TheConstants.{SUCCESS}
+use Rattle.courses.specs.Parts.{IsPart, Has, picked, successes}
 use Rattle.courses.specs.Sessions.{Course, Message}
 
 -- a message that is heard is new only where it is of the session after the last that was taken, and again only where it is of that one
@@ -29,3 +31,9 @@ pub record IsDone (c : Course) : Type 0 where
   pub front : c.ends ≡ c.told ++ rest
   pub begun : begun_of c.host ≤ length c.told + 1
   pub ended : length c.ends ≤ begun_of c.host
+
+-- the commands of the sessions that ended in success are a part of those of all sessions, in order, each once; and a session of which the host was
+-- told success is one of them
+pub record IsApplied (c : Course) : Type 0 where
+  pub part : IsPart (picked c.host.commands (successes 1 c.ends)) c.host.commands
+  pub reported : (session : ℕ) → command_at c.told session ≡ Some SUCCESS → Has (successes 1 c.ends) session

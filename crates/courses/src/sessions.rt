@@ -6,7 +6,7 @@ ghost use Rattle.supervision.specs.Ends.{Report};
 ghost use Rattle.courses.specs.Flying.{Flight};
 ghost use Rattle.courses.specs.Sessions.{Course, Message, Cargo, Command, Step, first_course, after, after_all, May, MayAll, IsFresh};
 ghost use Rattle.courses.specs.SessionFacts.{CourseFacts};
-ghost use Rattle.courses.specs.SessionLaws.{NamesOne, TellsOne, TakesNext, IsDone};
+ghost use Rattle.courses.specs.SessionLaws.{NamesOne, TellsOne, TakesNext, IsDone, IsApplied};
 
 /// The facts hold where nothing has happened, and every step that may happen keeps them.
 pub fn courses_keep_facts()
@@ -27,8 +27,10 @@ pub fn ids_name_one_session()
 {}
 
 /// So over any steps from the first on: the device takes its sessions one after another, each once, none that the host did not begin; and what the
-/// host is told of each is what the device did.
+/// host is told of each is what the device did. The commands of the sessions that ended in success are a part of the commands of all, in order, each once, and those
+/// of which the host was told success are among them.
 pub fn what_is_told_was_done()
     ensures taken { (c : Course) (step : Step) → CourseFacts c → May c step → TakesNext c (after c step) }
     ensures done { (steps : List Step) → MayAll first_course steps → IsDone (after_all first_course steps) }
+    ensures applied { (steps : List Step) → MayAll first_course steps → IsApplied (after_all first_course steps) }
 {}

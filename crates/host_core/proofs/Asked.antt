@@ -128,10 +128,6 @@ get_some classes end = plain_some classes end (get_command (gettable_of classes)
 
 -- ---- an order
 
-not_one : (one : Option Refused) (more : List (Option Refused)) → first_some (one ∷ more) ≡ None → one ≡ None
-not_one None more e = refl
-not_one (Some refused) more e = cc
-
 listed_of : (joined : Bool) (classes : Option (List ℕ)) (waiting : ℕ) (order : Order) → first_refusal (record { joined = joined; classes = classes; waiting = waiting }) order ≡ None → (listed : List ℕ) × (classes ≡ Some listed)
 unfolding first_refusal
 listed_of joined None waiting order e = let refuses = rest_none (unless joined NotJoined) _ e in cc

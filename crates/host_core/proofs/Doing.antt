@@ -1,6 +1,6 @@
 -- Calls of a host one after another.
 use Rattle.std.proofs.Common.{◌≡◌, ◌≤◌, List, [], ◌∷◌, ◌++◌, sym, subst, arith}
-use Rattle.std.specs.Prelude.{Bool, true, false, Result, Ok, Err, OnOk, OnErr}
+use Rattle.std.specs.Prelude.{Bool, true, false}
 use Rattle.host_keep.specs.Keeping.{OptAdds, Kept}
 use Rattle.host_keep.specs.RecordText.{record_text}
 use Rattle.host_keep.specs.declared.record.Record.{Record}
@@ -83,14 +83,3 @@ then_stops First a b c first later =
 -- what is so of events is so
 pub does_as : (Kind Other : List HostEvent → Type 0) (a b : Scene) → Does Kind a b → ((events : List HostEvent) → Kind events → Other events) → Does Other a b
 does_as Kind Other a b does so = record { events = does.events; are = so does.events does.are; did = does.did }
-
--- ---- answers
-
--- what a call did, seen by its caller
-pub on_ok_as : {T E A B : Type 0} (r : Result T E) → OnOk r A → (A → B) → OnOk r B
-on_ok_as (Ok x) a so = so a
-on_ok_as (Err e) a so = tt
-
-pub on_err_as : {T E A B : Type 0} (r : Result T E) → OnErr r A → (A → B) → OnErr r B
-on_err_as (Ok x) a so = tt
-on_err_as (Err e) a so = so a

@@ -1,6 +1,6 @@
 -- What follows an item that was answered, and what a frame of the chip brings.
 use Rattle.std.proofs.Common.{◌≡◌, ℕ, ◌≤◌, List, [], ◌∷◌, ◌++◌, length, refl, ap, sym, ◌∙◌, subst, arith}
-use Rattle.std.specs.Prelude.{◌≢◌, Bool, true, false, Option, Some, None, IsSome, Result, Ok, Err, OnOk}
+use Rattle.std.specs.Prelude.{◌≢◌, Bool, Option, Some, None, IsSome, Result, Ok, Err, OnOk}
 use Rattle.serial_link.specs.declared.turn.Turn.{Turn}
 use Rattle.serial_frame.specs.declared.item.Item.{Item}
 use Rattle.serial_frame.specs.declared.frame.Kind.{Kind}
@@ -31,7 +31,7 @@ use Rattle.host_state.specs.Choices.{chosen}
 use Rattle.host_core.proofs.OneMessage.{kept_or}
 use Rattle.host_events.specs.After.{after}
 use Rattle.host_events.specs.Outs.{outs}
-use Rattle.host_events.specs.Taking.{IsFollowed, FrameEvents, ResponseEvents, NoticeEvents, InterviewEvents, told_requests, told_if}
+use Rattle.host_events.specs.Taking.{IsFollowed, FrameEvents, ResponseEvents, NoticeEvents, InterviewEvents, told_requests}
 use Rattle.host_events.specs.declared.out.HostOut.{HostOut}
 use Rattle.host_core.specs.Calls.{Scene, Does, DoesAlone, Are}
 use Rattle.host_core.proofs.Doing.{one_alone, nothing_alone, does_nothing, does_as, does_kept}
@@ -47,16 +47,6 @@ pub requests_alone : (event : RequestsEvent) (old new : HostState) (before all :
     → all ≡ before ++ outs old (Requests_do event BetweenTicks) → DoesAlone (Are (told_requests event)) old before new all
 requests_alone event old new before all may host put =
     one_alone (Are (told_requests event)) (Requests_do event BetweenTicks) old new before all refl may refl refl host put
-
--- it hears where that is so
-pub told_alone : (event : RequestsEvent) (old new : HostState) (before all : List HostOut) (b : Bool) → b ≡ true → request_may old.requests event → new ≡ after old (Requests_do event BetweenTicks)
-    → all ≡ before ++ outs old (Requests_do event BetweenTicks) → DoesAlone (Are (told_if b event)) old before new all
-told_alone event old new before all b is may host put =
-    subst (λ (x : Bool). DoesAlone (Are (told_if x event)) old before new all) (sym is) (requests_alone event old new before all may host put)
-
-pub untold_alone : (event : RequestsEvent) (old new : HostState) (before all : List HostOut) (b : Bool) → b ≡ false → new ≡ old → all ≡ before → DoesAlone (Are (told_if b event)) old before new all
-untold_alone event old new before all b is host put =
-    subst (λ (x : Bool). DoesAlone (Are (told_if x event)) old before new all) (sym is) (nothing_alone (Are []) old new before all refl host put)
 
 -- an update with which no interview ends well tells the request under way
 pub no_interview : (update : Update) (found : Option ℕ) (events : List HostEvent) → found ≡ None → events ≡ told_requests (request_updates update) → InterviewEvents update found events

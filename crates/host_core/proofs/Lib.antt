@@ -5,6 +5,7 @@ mod Loops
 mod OneMessage
 mod OneNonce
 mod OneValue
+mod Opened
 mod Pieces
 mod Reported
 mod Served

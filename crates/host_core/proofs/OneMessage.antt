@@ -2,15 +2,13 @@
 use Rattle.std.proofs.Common.{◌≡◌, ℕ, List, [], ◌∷◌, refl, ap, sym, ◌∙◌, subst, inl, inr}
 use Rattle.std.specs.Prelude.{◌==◌, Bool, true, false, Option, Some}
 use Rattle.class_info.specs.declared.report_status.ReportStatus.{ReportStatus}
-use Rattle.class_info.specs.Values.{status_byte}
-use Rattle.supervision.specs.Host.{told_of}
 use Rattle.std.specs.List.{list_any}
 use Rattle.host_orders.specs.Classes.{lists}
 use Rattle.host_heard.specs.declared.told.Told.{Told}
 use Rattle.host_heard.specs.declared.told.Told.TheVariants.{Report}
 use Rattle.host_events.specs.State.{HostState, node_of}
 use Rattle.host_events.specs.Events.{HostEvent, Unreads}
-use Rattle.host_events.specs.Taking.{IsTaken, ReportEvents, is_secure, IsKeptOr}
+use Rattle.host_events.specs.Taking.{IsTaken, is_secure, IsKeptOr}
 use Rattle.host_state.specs.Choices.{chosen}
 use Rattle.host_core.specs.Calls.{Scene, Does}
 use Rattle.host_core.proofs.Doing.{does_as}
@@ -19,16 +17,6 @@ use Rattle.host_core.proofs.Doing.{does_as}
 pub kept_or : (is_kept : Bool) (kept unkept : HostEvent) → IsKeptOr kept unkept (chosen is_kept kept unkept ∷ [])
 kept_or true kept unkept = inl refl
 kept_or false kept unkept = inr refl
-
--- a report is taken in a Security message, or from a node that does not list Security 0
-pub report_sealed : (h : HostState) (n : ℕ) (payload : List ℕ) (sealed : Bool) (id : ℕ) (status : ReportStatus) (wake_request : Bool) (events : List HostEvent) → sealed ≡ true
-    → ReportEvents h n id status wake_request (told_of (node_of h n).book id (status_byte status)) events → IsTaken h n payload sealed (Report id status wake_request) events
-report_sealed h n payload sealed id status wake_request events is takes = rw is takes
-
-pub report_plain : (h : HostState) (n : ℕ) (payload : List ℕ) (sealed : Bool) (id : ℕ) (status : ReportStatus) (wake_request : Bool) (events : List HostEvent) → sealed ≡ false
-    → is_secure (node_of h n).classes ≡ false
-    → ReportEvents h n id status wake_request (told_of (node_of h n).book id (status_byte status)) events → IsTaken h n payload sealed (Report id status wake_request) events
-report_plain h n payload sealed id status wake_request events is plain takes = rw is (rw plain takes)
 
 -- and else tells nothing
 pub report_unread : (h : HostState) (n : ℕ) (payload : List ℕ) (sealed : Bool) (id : ℕ) (status : ReportStatus) (wake_request : Bool) (events : List HostEvent) → sealed ≡ false

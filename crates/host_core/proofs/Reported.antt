@@ -1,5 +1,5 @@
 -- Supervision Reports: of no open session, of one at work, and of one that ends.
-use Rattle.std.proofs.Common.{◌≡◌, ℕ, ◌≤◌, List, [], ◌∷◌, ◌++◌, refl, sym, subst}
+use Rattle.std.proofs.Common.{◌≡◌, ℕ, ◌≤◌, [], ◌∷◌, ◌++◌, refl, sym, subst}
 use Rattle.std.specs.Prelude.{Bool, Option, Some}
 use Rattle.class_info.specs.declared.report_status.ReportStatus.{ReportStatus}
 use Rattle.class_info.specs.declared.report_status.ReportStatus.TheVariants as said
@@ -14,23 +14,17 @@ use Rattle.host_keep.specs.Status.{status_of, status_byte as final_byte}
 use Rattle.host_keep.specs.declared.final_status.FinalStatus.{FinalStatus}
 use Rattle.host_keep.specs.declared.final_status.FinalStatus.TheVariants as final
 use Rattle.host_events.specs.State.{HostState, node_of}
-use Rattle.host_events.specs.Events.{HostEvent, Reports_old, Works, Finishes, Is_unkept}
+use Rattle.host_events.specs.Events.{Reports_old, Works, Finishes, Is_unkept}
 use Rattle.host_events.specs.After.{after}
 use Rattle.host_events.specs.Outs.{outs}
 use Rattle.host_events.specs.May.{May}
 use Rattle.host_events.specs.Taking.{ReportEvents, FinalEvents}
 use Rattle.host_state.specs.Choices.{chosen}
 use Rattle.host_core.specs.Calls.{Scene, Does}
-use Rattle.host_core.proofs.Doing.{does_one, does_kept, does_as}
+use Rattle.host_core.proofs.Doing.{does_one, does_kept}
 use Rattle.host_core.proofs.OneMessage.{kept_or}
 use Rattle.host_core.proofs.OneNonce.{may_chosen}
 use Rattle.host_core.proofs.Told.{works_at_one}
-
--- a report that is this to the sessions is taken so
-pub report_as : (Kind : List HostEvent → Type 0) (n id : ℕ) (status : ReportStatus) (wake_request : Bool) (told one : Told) (a b : Scene) → told ≡ one → Does Kind a b
-    → ((events : List HostEvent) → Kind events → ReportEvents a.host n id status wake_request one events) → Does (ReportEvents a.host n id status wake_request told) a b
-report_as Kind n id status wake_request told one a b is does so =
-    does_as Kind (ReportEvents a.host n id status wake_request told) a b does (λ events kind. subst (λ (t : Told). ReportEvents a.host n id status wake_request t events) (sym is) (so events kind))
 
 pub old_reported : (n id : ℕ) (status : ReportStatus) (wake_request : Bool) (a b : Scene) → told_of (node_of a.host n).book id (status_byte status) ≡ Old → b.host ≡ a.host
     → b.outs ≡ a.outs ++ outs a.host (Reports_old n id) → OptAdds a.shelf.records b.shelf.records [] → a.shelf.faults ≤ b.shelf.faults

@@ -1,28 +1,23 @@
 -- What a turn of a pump finds to give.
-use Rattle.std.proofs.Common.{◌≡◌, ℕ, ◌+◌, ◌<◌, ◌≤◌, List, [], ◌∷◌, ◌++◌, length, refl, ap, sym, ◌∙◌, subst, arith, ◌⊎◌, inl, inr}
-use Rattle.std.specs.Prelude.{Bool, true, false, Option, Some, None, IsSome, IsTrue, ◌↔◌, ◌||◌, not, slice_get, slice_index}
-use Rattle.supervision.specs.Host.{begun_of, open_session, command_at as command_of_session}
-use Rattle.host_requests.specs.declared.task.Task.{Task}
+use Rattle.std.proofs.Common.{◌≡◌, ℕ, ◌+◌, ◌<◌, ◌≤◌, List, [], ◌∷◌, ◌++◌, length, refl, ap, sym, ◌∙◌, subst, arith, inl, inr}
+use Rattle.std.specs.Prelude.{Bool, true, false, Option, Some, None, IsSome, slice_get, slice_index}
+use Rattle.supervision.specs.Host.{begun_of}
 use Rattle.host_node.specs.State.{NodeState}
 use Rattle.host_node.specs.declared.series.Series.{Series}
-use Rattle.host_node.specs.declared.series.Series.TheVariants.{Idle, Due, Running}
+use Rattle.host_node.specs.declared.series.Series.TheVariants.{Idle, Due}
 use Rattle.host_node.specs.declared.attempt.Plan.{Plan}
-use Rattle.host_nodes.specs.Search.{next_of}
-use Rattle.host_events.specs.State.{HostState, Command, node_of, command_at}
-use Rattle.host_events.specs.Sessions.{open_segment}
+use Rattle.host_events.specs.State.{HostState, node_of}
 use Rattle.host_events.specs.Events.{HostEvent, Submits_abort, Submits_front, Begins, Begin_unkept, Starts, Gives_text, Gives_segment}
 use Rattle.host_events.specs.Outs.{outs}
 use Rattle.host_keep.specs.Keeping.{OptAdds, Kept}
 use Rattle.host_keep.specs.RecordText.{record_text}
 use Rattle.host_keep.specs.declared.record.Record.TheVariants.{Begun}
 use Rattle.host_state.specs.Choices.{chosen}
-use Rattle.host_events.specs.After.{after, is_busy}
-use Rattle.host_events.specs.Did.{after_all}
+use Rattle.host_events.specs.After.{after}
 use Rattle.host_events.specs.Facts.{HostFacts}
-use Rattle.host_events.specs.May.{May, IsFree, IsServed, IsStart}
-use Rattle.host_events.specs.Pumping.{IsNext, IsNextOf, IsNextOfNodes, IsServedBy, GivesNext, IsPumped, HasNothing, turns_left}
+use Rattle.host_events.specs.May.{May, IsFree, IsServed}
+use Rattle.host_events.specs.Pumping.{IsNext, IsServedBy, GivesNext}
 use Rattle.host_events.specs.declared.out.HostOut.{HostOut}
-use Rattle.host_state.specs.Sessions.{open_order, command_in}
 use Rattle.host_core.specs.Calls.{Scene, Does, DoesAlone, One}
 use Rattle.host_core.proofs.Doing.{does_one, does_kept, one_alone}
 use Rattle.host_core.proofs.Submitted.{served_is_next, abort_is_next, front_is_next}
@@ -30,78 +25,6 @@ use Rattle.host_core.proofs.Submitted.{served_is_next, abort_is_next, front_is_n
 pub some_unless_none : {X : Type 0} (o : Option X) → (o ≡ None → ⊥) → IsSome o
 some_unless_none None there = absurd (there refl)
 some_unless_none (Some x) there = refl
-
--- ---- whether a request may be submitted
-
-pub pumped_by : (h : HostState) (idle busy : Bool) → (IsTrue idle ↔ (h.requests.under_way ≡ None)) → busy ≡ is_busy h.side.turn → (not idle || busy) ≡ true → IsPumped h
-pumped_by h true true is_idle is_busy e = inl (λ (free : IsFree h). let no = free.free_line in cc)
-pumped_by h true false is_idle is_busy e = cc
-pumped_by h false busy is_idle is_busy e = inl (λ (free : IsFree h). let no : IsTrue false = is_idle.1 free.none_under_way in cc)
-
-pub free_by : (h : HostState) (idle busy : Bool) → (IsTrue idle ↔ (h.requests.under_way ≡ None)) → busy ≡ is_busy h.side.turn → (not idle || busy) ≡ false → IsFree h
-free_by h true true is_idle is_busy e = cc
-free_by h true false is_idle is_busy e = record { none_under_way = is_idle.0 refl; free_line = sym is_busy }
-free_by h false busy is_idle is_busy e = cc
-
--- ---- one event
-
--- a host after one event is the host after it
-after_one : (h new : HostState) (events : List HostEvent) (e : HostEvent) → new ≡ after_all h events → events ≡ e ∷ [] → new ≡ after h e
-after_one h new events e state are = state ∙ ap (λ (l : List HostEvent). after_all h l) are
-
-pub fewer_after : (a b : Scene) (Which : HostEvent → Type 0) → ((e : HostEvent) → Which e → turns_left (after a.host e) < turns_left a.host) → Does (One Which) a b → turns_left b.host < turns_left a.host
-fewer_after a b Which fewer does =
-    subst (λ (h : HostState). turns_left h < turns_left a.host) (sym (after_one a.host b.host does.events does.are.0 does.did.state does.are.2)) (fewer does.are.0 does.are.1)
-
-pub one_as : (Which Other : HostEvent → Type 0) (a b : Scene) → Does (One Which) a b → ((e : HostEvent) → Which e → Other e) → Does (One Other) a b
-one_as Which Other a b does so = record { events = does.events; are = (does.are.0, so does.are.0 does.are.1, does.are.2); did = does.did }
-
--- ---- what a node that is served gives
-
--- the next request of a host that is free is there
-abbrev pub FindsNext : Type 0
-FindsNext = (h : HostState) → HostFacts h → IsFree h → HasNothing h ⊎ ((event : HostEvent) × IsNext h event)
-
-next_by : (h : HostState) (n : ℕ) (owes : Bool) (queue : List Task) (next : Option ℕ) (e : HostEvent) → owes ≡ false → queue ≡ [] → next ≡ Some n → next_of h.nodes h.served ≡ next → IsNextOf h owes queue e
-    → IsServedBy h n (node_of h n).series e
-next_by h n owes queue next e paid none is found so =
-    subst (λ (o : Option ℕ). IsNextOfNodes h o e) (found ∙ is) (subst (λ (q : List Task). IsNextOf h false q e) none (subst (λ (b : Bool). IsNextOf h b queue e) paid so))
-
-pub gives_something : FindsNext → (h : HostState) (n : ℕ) → HostFacts h → IsServed h n → (event : HostEvent) × IsServedBy h n (node_of h n).series event
-gives_something law h n facts served = elim (law h facts served.free) [
-  | inl nothing ↦ let some = served.next in let none = nothing.no_work in absurd (not_both (next_of h.nodes h.served) none some)
-  | inr found ↦ (found.0, next_by h n h.requests.owes h.requests.queue (next_of h.nodes h.served) found.0 served.paid served.no_task served.next refl found.1.1)
-]
-  where
-    not_both : {m : ℕ} (o : Option ℕ) → o ≡ None → o ≡ Some m → ⊥
-    not_both o none some = cc
-
--- a running attempt without a text has a segment
-pub segment_is_there : FindsNext → (h : HostState) (n : ℕ) → HostFacts h → IsServed h n → (node_of h n).series ≡ Running → (node_of h n).text ≡ None
-    → (payload : List ℕ) × (open_segment h (node_of h n) (open_session (node_of h n).book) (node_of h n).next_segment ≡ Some payload)
-segment_is_there law h n facts served running none =
-    let found = gives_something law h n facts served in
-    let gives = subst (λ (o : Option (List ℕ)). GivesNext h n o found.0) none (subst (λ (s : Series). IsServedBy h n s found.0) running found.1) in
-    (gives.0, gives.1)
-
--- an attempt that is due starts
-pub start_is_there : FindsNext → (h : HostState) (n : ℕ) → HostFacts h → IsServed h n → (node_of h n).series ≡ Due → (plan : Plan) × (more : Bool) × (payload : List ℕ) × IsStart h n plan more payload
-start_is_there law h n facts served due =
-    let found = gives_something law h n facts served in
-    let gives = subst (λ (s : Series). IsServedBy h n s found.0) due found.1 in
-    (gives.0, gives.1, gives.2, gives.3)
-
--- then its command is there
-pub order_is_there : (h : HostState) (n : ℕ) (plan : Plan) (more : Bool) (payload : List ℕ) → IsStart h n plan more payload → open_order h n ≡ None → ⊥
-order_is_there h n plan more payload start none =
-    found_or (open_order h n) none (open_is h n start.session start.carried.0 start.command start.opened start.carried.1 start.carried.2)
-  where
-    found_or : {command : Command} (o : Option Command) → o ≡ None → o ≡ Some command → ⊥
-    found_or o none some = cc
-
-    open_is : (h : HostState) (n session number : ℕ) (command : Command) → open_session (node_of h n).book ≡ Some session → command_of_session (node_of h n).book.commands session ≡ Some number
-        → command_at h.commands number ≡ Some command → open_order h n ≡ Some command
-    open_is h n session number command opened carried found = rw opened (ap (λ (o : Option ℕ). command_in h o) carried ∙ found)
 
 -- ---- what it did
 

@@ -1,7 +1,6 @@
 -- What a report is to a node.
-use Rattle.std.proofs.Common.{◌≡◌, ℕ, ◌≤◌, refl, arith}
+use Rattle.std.proofs.Common.{◌≡◌, ℕ, refl}
 use Rattle.std.specs.Prelude.{Bool, true, false, Option, Some, None, ◌==◌, if◌then◌else◌}
-use Rattle.std.proofs.lemmas.Bool.Decides.{nat_tests}
 use Rattle.supervision.specs.Session.{wire_id}
 use Rattle.supervision.specs.Host.{HostBook, open_session, told_of}
 use Rattle.supervision.specs.declared.session.TheConstants.{WORKING}
@@ -18,13 +17,3 @@ works_by book id status (Some session) is e = let f = rw is at e in rw is (worki
 
 pub works_at_one : (book : HostBook) (id status : ℕ) → told_of book id status ≡ Working → told_of book id 1 ≡ Working
 works_at_one book id status e = works_by book id status (open_session book) refl e
-
--- an id of more than six bits is of no session
-no_session_by : (book : HostBook) (id status : ℕ) (o : Option ℕ) → open_session book ≡ o → 64 ≤ id → told_of book id status ≡ Old
-no_session_by book id status None is large = rw is refl
-no_session_by book id status (Some session) is large =
-    let other : (id == wire_id session) ≡ false = grind (arith, nat_tests) in
-    rw is (rw other refl)
-
-pub no_session_at : (book : HostBook) (id status : ℕ) → 64 ≤ id → told_of book id status ≡ Old
-no_session_at book id status large = no_session_by book id status (open_session book) refl large

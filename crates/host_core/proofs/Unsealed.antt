@@ -44,12 +44,6 @@ pub payload_unread : (n : ℕ) (payload : List ℕ) (heard : Heard) (a b : Scene
 payload_unread n payload heard a b is host put records falls =
     unread_does (PayloadEvents a.host n payload heard) n payload a b (subst (λ (x : Heard). PayloadEvents a.host n payload x (Unreads n payload ∷ [])) (sym is) refl) host put records falls
 
--- a payload that is this one is taken so
-pub payload_as : (Kind : List HostEvent → Type 0) (n : ℕ) (payload : List ℕ) (heard one : Heard) (a b : Scene) → heard ≡ one → Does Kind a b
-    → ((events : List HostEvent) → Kind events → PayloadEvents a.host n payload one events) → Does (PayloadEvents a.host n payload heard) a b
-payload_as Kind n payload heard one a b is does so =
-    does_as Kind (PayloadEvents a.host n payload heard) a b does (λ events kind. subst (λ (x : Heard). PayloadEvents a.host n payload x events) (sym is) (so events kind))
-
 -- one that names no live nonce
 pub unnamed_unread : (n : ℕ) (payload : List ℕ) (named : Option (List ℕ)) (a b : Scene) → named ≡ None → b.host ≡ a.host → b.outs ≡ a.outs ++ outs a.host (Unreads n payload)
     → OptAdds a.shelf.records b.shelf.records [] → a.shelf.faults ≤ b.shelf.faults → Does (SealedEvents a.host n payload named) a b

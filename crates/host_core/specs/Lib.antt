@@ -2,3 +2,4 @@ pub mod Calls
 pub mod Orders
 pub mod Network
 pub mod Updates
+pub mod Opening

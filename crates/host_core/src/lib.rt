@@ -10,6 +10,7 @@ mod host;
 mod judging;
 mod messages;
 mod nonces;
+mod opening;
 mod orders;
 mod pumping;
 mod reports;
@@ -19,4 +20,5 @@ mod values;
 
 pub use host::Host;
 pub use host_events::HostOut;
+pub use opening::OpenFault;
 pub use orders::{CancelFault, Question};

@@ -14,5 +14,5 @@ mod Confirmed
 mod Standing
 mod Keeping
 mod Restarting
-mod Living
+pub mod Living
 mod Over

@@ -85,7 +85,7 @@ legal_parts false o e = cc
 legal_whole : (b : Bool) (o : Option ℕ) → b ≡ true → o ≡ None → (if b then option_map suc o else Some 0) ≡ None
 legal_whole b o e f = ap₂ (λ (c : Bool) (p : Option ℕ). if c then option_map suc p else Some 0) e f
 
-legal_both : (kept : Kept) (a b : List Record) → first_illegal kept a ≡ None → first_illegal (kept_after_all kept a) b ≡ None → first_illegal kept (a ++ b) ≡ None
+pub legal_both : (kept : Kept) (a b : List Record) → first_illegal kept a ≡ None → first_illegal (kept_after_all kept a) b ≡ None → first_illegal kept (a ++ b) ≡ None
 unfolding first_illegal kept_after_all
 legal_both kept [] b first later = later
 legal_both kept (one ∷ a) b first later =

@@ -11,3 +11,5 @@ pub mod First
 pub mod Front
 pub mod Judged
 pub mod Sealed
+pub mod Restored
+pub mod Waiting

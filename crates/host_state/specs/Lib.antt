@@ -4,3 +4,4 @@ pub mod Ending
 pub mod Opening
 pub mod Sessions
 pub mod Parts
+pub mod Restoring

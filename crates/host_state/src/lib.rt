@@ -15,6 +15,7 @@ mod nonces;
 mod opening;
 mod orders;
 mod reports;
+mod restoring;
 mod sessions;
 mod submitting;
 mod ticks;

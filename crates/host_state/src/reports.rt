@@ -98,7 +98,11 @@ impl Core {
     }
 
     // What a final status of a command confirms.
-    fn confirmed_by(&self, command: u32, status: FinalStatus) -> Result<List<Setting>, NoMemory>
+    pub(crate) fn confirmed_by(
+        &self,
+        command: u32,
+        status: FinalStatus,
+    ) -> Result<List<Setting>, NoMemory>
         ensures { IfOk result (λ made. made.items ≡ settings_with status (command_at self.now.state.commands command)) }
     {
         match (status, self.command_at(command)) {
@@ -148,7 +152,7 @@ fn hold(nodes: &mut Nodes, node: NodeId, is_held: bool, out: &mut List<HostOut>)
 }
 
 // What a final status is to its command.
-fn outcome_of(status: FinalStatus) -> Outcome
+pub(crate) fn outcome_of(status: FinalStatus) -> Outcome
     ensures { result ≡ outcome_of status }
 {
     match status {

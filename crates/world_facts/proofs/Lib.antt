@@ -1,3 +1,5 @@
 pub mod Aside
 pub mod Notes
 pub mod Keeping
+pub mod Recording
+pub mod Devices

@@ -1,0 +1,9 @@
+pub mod Staying
+pub mod Moving
+pub mod GoingOn
+pub mod Once
+pub mod Others
+pub mod HostOuts
+pub mod Telling
+pub mod Told
+pub mod Showing

@@ -1,0 +1,24 @@
+-- What one event shows, many show.
+use Rattle.device_facts.proofs.Showing.{adds_by, event_shows, run_shows, stay_apart, shown_all, groups}
+use Rattle.device_facts.proofs.laws.changes_are_shown.Goals as goal
+
+pub returns-clause-each : goal.returns-clause-each
+returns-clause-each c =
+    event_shows
+    (adds_by c.when_changes_come.ensures.heard c.when_changes_come.ensures.ticked c.when_changes_come.ensures.woken c.when_changes_come.ensures.by_hand)
+    c.devices_go_on.ensures.each c.devices_stay_the_same.ensures.all
+
+pub returns-clause-all : goal.returns-clause-all
+returns-clause-all c =
+    run_shows
+    (adds_by c.when_changes_come.ensures.heard c.when_changes_come.ensures.ticked c.when_changes_come.ensures.woken c.when_changes_come.ensures.by_hand)
+    c.devices_go_on.ensures.each c.devices_stay_the_same.ensures.all
+
+pub returns-clause-apart : goal.returns-clause-apart
+returns-clause-apart c = λ old new go. stay_apart old new (c.devices_stay_the_same.ensures.all old new go)
+
+pub returns-clause-whole : goal.returns-clause-whole
+returns-clause-whole c = λ T old new go none shows. shown_all T old new (c.devices_stay_the_same.ensures.all old new go) none shows
+
+pub returns-clause-groups : goal.returns-clause-groups
+returns-clause-groups c = groups

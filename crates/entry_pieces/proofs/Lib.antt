@@ -1,0 +1,4 @@
+pub mod Growing
+pub mod Joining
+pub mod Telling
+pub mod Shown

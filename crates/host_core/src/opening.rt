@@ -1,0 +1,118 @@
+//! A host that starts from its records.
+
+ghost use Rattle.std.specs.Prelude.{◌≡◌, ◌<◌, ◌≤◌, ℕ, List as Items, [], Some, Err, IfOk, OnOk};
+ghost use Rattle.zw_base.specs.Faults.{Rose, raised};
+ghost use Rattle.host_keep.specs.Keeping.{OptAdds};
+ghost use Rattle.host_keep.specs.Legal.{IsFirstBad};
+ghost use Rattle.host_core.specs.Network.{keys_of};
+ghost use Rattle.host_core.specs.Opening.{Opens, ReadEach, IsRecordAt, IsNoneAt, Takes, MayTakeNone};
+
+use crate::Host;
+use host_keep::{
+    KeepFault, Keeper, Record, RecordFault, a_text_is_of_one_record, read_record, records_go_on,
+};
+use host_records::{a_record_restores_what_it_says, legal_records_restore_the_host};
+use host_state::Core;
+use s0_crypto::keys;
+use std::alloc::Global;
+use zw_base::NoMemory;
+
+/// Why a host does not start.
+#[derive(Clone, Copy, Debug, PartialEq, Eq)]
+pub enum OpenFault {
+    /// The keeper failed, and counted that.
+    KeeperFault,
+    /// The record of that place, from 0, is none, or may not follow those before it.
+    BadRecord(u64),
+    /// There was no memory.
+    NoMemory,
+}
+
+impl From<NoMemory> for OpenFault {
+    ghost use Rattle.std.specs.Prelude.{◌≡◌};
+    ghost use Rattle.host_core.specs.declared.opening.OpenFault.TheVariants.{NoMemory as no_memory};
+
+    ghost from_gives = { λ _ e. e ≡ no_memory };
+
+    fn from(_error: NoMemory) -> OpenFault {
+        OpenFault::NoMemory
+    }
+}
+
+impl Host {
+    /// The host that starts from the records of a keeper: each is read, in their order, and taken up. The keys are made of the
+    /// network's key.
+    pub fn open<P: Keeper>(alloc: Global, key: [u8; 16], keeper: &mut P) -> Result<Host, OpenFault>
+        ensures opens { IfOk result (Opens (keys_of key) (P.number keeper.old) (P.records keeper.old)) }
+        ensures bad { (at : ℕ) (texts : Items (Items ℕ)) → result ≡ Err (OpenFault.BadRecord at) → P.records keeper.old ≡ Some texts → IsFirstBad texts at }
+        ensures place { (at : ℕ) → result ≡ Err (OpenFault.BadRecord at) → at < P.number keeper.old }
+        ensures failed { result ≡ Err OpenFault.KeeperFault → Rose (P.faults keeper.old) (P.faults keeper.new) }
+        ensures reads { OnOk result (ReadEach (P.number keeper.old) (P.reads keeper.old) (P.reads keeper.new)) }
+        ensures number { P.number keeper.new ≡ P.number keeper.old }
+        ensures records { OptAdds (P.records keeper.old) (P.records keeper.new) [] }
+        ensures never_falls { P.faults keeper.old ≤ P.faults keeper.new }
+    {
+        legal_records_restore_the_host();
+        a_record_restores_what_it_says();
+        records_go_on();
+        let mut core = Core::new(alloc, keys(key))?;
+        for at in 0..keeper.count() {
+            if let Err(fault) = take_up(&mut core, alloc, keeper, at) {
+                return Err(fault);
+            }
+        }
+        core.restart();
+        Ok(Host { core })
+    }
+}
+
+// The record of a place is read and taken up.
+fn take_up<P: Keeper>(
+    core: &mut Core,
+    alloc: Global,
+    keeper: &mut P,
+    at: u64,
+) -> Result<(), OpenFault>
+    requires { at < P.number keeper.old }
+    ensures takes { OnOk result (Takes (P.records keeper.old) at core.old core.new) }
+    ensures bad { (place : ℕ) → result ≡ Err (OpenFault.BadRecord place) → (place ≡ at) × MayTakeNone (P.records keeper.old) at core.old.state }
+    ensures failed { result ≡ Err OpenFault.KeeperFault → Rose (P.faults keeper.old) (P.faults keeper.new) }
+    ensures reads { OnOk result (P.reads keeper.new ≡ raised (P.reads keeper.old)) }
+    ensures number { P.number keeper.new ≡ P.number keeper.old }
+    ensures records { P.records keeper.new ≡ P.records keeper.old }
+    ensures never_falls { P.faults keeper.old ≤ P.faults keeper.new }
+{
+    a_text_is_of_one_record();
+    let next = match record_at(alloc, keeper, at) {
+        Ok(next) => next,
+        Err(fault) => return Err(fault),
+    };
+    if core.restore(next)? {
+        Ok(())
+    } else {
+        Err(OpenFault::BadRecord(at))
+    }
+}
+
+// The record of a place is read.
+fn record_at<P: Keeper>(alloc: Global, keeper: &mut P, at: u64) -> Result<Record, OpenFault>
+    requires { at < P.number keeper.old }
+    ensures found { IfOk result (IsRecordAt (P.records keeper.old) at) }
+    ensures bad { (place : ℕ) → result ≡ Err (OpenFault.BadRecord place) → (place ≡ at) × IsNoneAt (P.records keeper.old) at }
+    ensures failed { result ≡ Err OpenFault.KeeperFault → Rose (P.faults keeper.old) (P.faults keeper.new) }
+    ensures reads { OnOk result (P.reads keeper.new ≡ raised (P.reads keeper.old)) }
+    ensures number { P.number keeper.new ≡ P.number keeper.old }
+    ensures records { P.records keeper.new ≡ P.records keeper.old }
+    ensures never_falls { P.faults keeper.old ≤ P.faults keeper.new }
+{
+    let text = match keeper.read(alloc, at) {
+        Ok(text) => text,
+        Err(KeepFault::Failed) => return Err(OpenFault::KeeperFault),
+        Err(KeepFault::NoMemory) => return Err(OpenFault::NoMemory),
+    };
+    match read_record(alloc, text.as_slice()) {
+        Ok(next) => Ok(next),
+        Err(RecordFault::Bad) => Err(OpenFault::BadRecord(at)),
+        Err(RecordFault::NoMemory) => Err(OpenFault::NoMemory),
+    }
+}

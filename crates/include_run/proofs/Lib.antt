@@ -1,0 +1,2 @@
+pub mod IncludePieces
+pub mod IncludeRun

@@ -1,0 +1,11 @@
+pub mod Lines
+pub mod Scenes
+pub mod Accepting
+pub mod Ending
+pub mod Beginning
+pub mod SessionRule
+pub mod Asking
+pub mod Groups
+pub mod Changing
+pub mod OnceRule
+pub mod Keeping

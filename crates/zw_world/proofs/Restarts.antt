@@ -1,0 +1,160 @@
+-- A host that starts from the records goes on in place of the one before.
+use Rattle.std.proofs.Common.{◌≡◌, ℕ, ◌≤◌, true, List, [], ◌∷◌, ◌++◌, map, refl, ap, sym, ◌∙◌, subst, inl, inr}
+use Rattle.std.specs.Prelude.{Option, Some, None, Result, Ok, Err, OnOk}
+use Rattle.std.proofs.lemmas.List.{append-nil}
+use Rattle.zw_base.specs.Faults.{Rose}
+use Rattle.serial_frame.specs.Stream.{Rest}
+use Rattle.s0_crypto.specs.declared.key_pair.Keys.{Keys}
+use Rattle.device_sim.specs.State.{State}
+use Rattle.zw_words.specs.declared.side.Side.TheVariants as side
+use Rattle.zw_text.specs.declared.line.Line.TheVariants.{Restart}
+use Rattle.zw_text.specs.declared.entry.Entry.{Entry}
+use Rattle.zw_text.specs.declared.entry.Entry.TheVariants.{Refused as refused_entry}
+use Rattle.zw_text.specs.declared.entry.Refusal.{Refusal}
+use Rattle.zw_text.specs.declared.entry.Refusal.TheVariants.{KeeperFault as keeper_fault}
+use Rattle.host_keep.specs.Keeping.{OptAdds}
+use Rattle.host_keep.specs.Legal.{IsFirstBad}
+use Rattle.host_events.specs.State.{HostParts}
+use Rattle.host_events.specs.Did.{RoseIf}
+use Rattle.host_core.specs.Opening.{Opens}
+use Rattle.host_core.specs.declared.opening.OpenFault.{OpenFault}
+use Rattle.host_core.specs.declared.opening.OpenFault.TheVariants as opening
+use Rattle.outer_events.specs.State.{OuterState, outside}
+use Rattle.outer_events.specs.Events.{OuterEvent, Clears_pipe, Host_notes, devices_after}
+use Rattle.outer_events.specs.Did.{Goes, Run as RunOutside, Stops as StopsOutside, StopsStill}
+use Rattle.outer_events.proofs.Doing.{ran_both as ran_both_outside}
+use Rattle.zw_machine.specs.State.{Machine, machine}
+use Rattle.zw_machine.specs.Refusals.{IsUnopened, HasBad}
+use Rattle.zw_machine.specs.Events.{Event, Outside_does, Refuses, Restarts, OpensFrom, happens, entries, May}
+use Rattle.zw_machine.specs.Did.{Run, Does, Stops, is_keeper_fault}
+use Rattle.zw_machine.specs.Lines.{IsRestart, restart_events}
+use Rattle.zw_machine.proofs.Doing.{ran_both}
+use Rattle.zw_machine.proofs.Outside.{ran_outside}
+use Rattle.zw_world.specs.Effects.{shown_unopened}
+use Rattle.zw_world.proofs.Scenes.{at, ran_refuses, none_more, stopped_out}
+use Rattle.zw_world.proofs.Asking.{fault_in, IsNothing}
+use Rattle.zw_world.proofs.Hosting.{did_as}
+
+-- ---- the new host
+
+opens_from : (keys : Keys) (number : ℕ) (r : Option (List (List ℕ))) (host : HostParts) → Opens keys number r host → OpensFrom keys r host.state
+opens_from keys number None host opens = tt
+opens_from keys number (Some texts) host opens = (opens.records, opens.are, opens.legal, ap (λ (h : HostParts). h.state) opens.state)
+
+starts : (keys : Keys) (number : ℕ) (host host' : HostParts) (o : OuterState) (ds : List State) (r : Option (List (List ℕ))) (before : List Entry) (f g : ℕ)
+    → Opens keys number r host' → f ≤ g → Run (Restarts host'.state ∷ []) (at keys host o ds r before f) (at keys host' o ds r before g)
+unfolding happens entries May
+starts keys number host host' o ds r before f g opens falls = record {
+  may = (opens_from keys number r host' opens, tt);
+  state = ap (λ (d : Rest). machine keys (record { decoder = d; state = host'.state }) o r ds) (ap (λ (h : HostParts). h.decoder) opens.state);
+  entries = sym (append-nil before);
+  counted = record { rose = tt; never_falls = falls };
+}
+
+pub restarted : (keys : Keys) (number : ℕ) (host host' : HostParts) (o o' : OuterState) (ds : List State) (r r' : Option (List (List ℕ))) (before all : List Entry) (f g : ℕ)
+    → Opens keys number r host' → OptAdds r r' [] → f ≤ g → Goes (Clears_pipe side.Host ∷ Clears_pipe side.Chip ∷ []) o o' before all
+    → Does (λ (m : Machine) (es : List Event). IsRestart es) (at keys host o ds r before f) (at keys host' o' ds r' all g)
+restarted keys number host host' o o' ds r r' before all f g opens kept falls goes =
+    let es = Clears_pipe side.Host ∷ Clears_pipe side.Chip ∷ [] in
+    let ran : Run (Restarts host'.state ∷ map Outside_does es) (at keys host o ds r before f) (at keys host' o' ds r all g) =
+    ran_both (Restarts host'.state ∷ []) (map Outside_does es) (at keys host o ds r before f) (at keys host' o ds r before g) (at keys host' o' ds r all g)
+    (starts keys number host host' o ds r before f g opens falls)
+    (ran_outside es (machine keys host' o r ds) (outside o' ds) before all g (refl, (refl, tt)) (goes ds)) in (
+      restart_events host'.state,
+      inl (host'.state, refl),
+      subst (λ (x : Option (List (List ℕ))). Run (restart_events host'.state) (at keys host o ds r before f) (at keys host' o' ds x all g)) (sym (none_more r r' kept)) ran,
+    )
+
+-- some of the bytes on their way were lost, for want of memory
+pub restart_stops : (keys keys' : Keys) (number : ℕ) (host host' host'' : HostParts) (o o' : OuterState) (ds : List State) (r r' : Option (List (List ℕ))) (before all : List Entry) (f g : ℕ)
+    → Opens keys number r host' → OptAdds r r' [] → f ≤ g → StopsStill o before all
+    → Stops (at keys host o ds r before f) (at keys' host'' o' ds r' all g)
+restart_stops keys keys' number host host' host'' o o' ds r r' before all f g opens kept falls stops =
+    subst (λ (x : Option (List (List ℕ))). Stops (at keys host o ds r before f) (at keys' host'' o' ds x all g)) (sym (none_more r r' kept))
+    (Rattle.zw_machine.proofs.Doing.stopped_later (Restarts host'.state ∷ []) (at keys host o ds r before f) (at keys host' o ds r before g) (at keys' host'' o' ds r all g)
+    (starts keys number host host' o ds r before f g opens falls)
+    (stopped_out keys keys' host' host'' o o' ds ds r before all g (stops ds)))
+
+-- ---- two pipes are cleared
+
+pub clears_both : (a b : OuterEvent) (o mid o' : OuterState) (before some all : List Entry) → Goes (a ∷ []) o mid before some → Goes (b ∷ []) mid o' some all → Goes (a ∷ b ∷ []) o o' before all
+clears_both a b o mid o' before some all first later ds = ran_both_outside (a ∷ []) (b ∷ []) (outside o ds) (outside mid ds) (outside o' ds) before some all (first ds) (later ds)
+
+pub clears_one : (a : OuterEvent) (o mid : OuterState) (before some all : List Entry) → Rattle.outer_events.specs.Events.is_own a ≡ true → Goes (a ∷ []) o mid before some → all ≡ some
+    → ((ds : List State) → ds ≡ (Rattle.outer_events.specs.Did.happens_all (outside o ds) (a ∷ [])).devices) → StopsStill o before all
+clears_one a o mid before some all own goes same still ds = record {
+  events = a ∷ [];
+  own = (own, tt);
+  may = (goes ds).may;
+  devices_are = still ds;
+  more = [];
+  front = append-nil all ∙ (same ∙ (goes ds).entries);
+}
+
+pub clears_none : (o : OuterState) (before all : List Entry) → all ≡ before → StopsStill o before all
+clears_none o before all same ds = record { events = []; own = tt; may = tt; devices_are = refl; more = []; front = ap (λ (l : List Entry). l ++ []) same }
+
+-- ---- no host
+
+unopened_as : (r : Option (List (List ℕ))) (answer : OpenFault) (entered : Refusal) → shown_unopened answer ≡ Some entered
+    → ((at : ℕ) (texts : List (List ℕ)) → answer ≡ opening.BadRecord at → r ≡ Some texts → IsFirstBad texts at) → IsUnopened r entered
+unopened_as r opening.KeeperFault entered seen bad = inl (sym (ap given seen))
+  where
+    given : Option Refusal → Refusal
+    given None = keeper_fault
+    given (Some x) = x
+unopened_as r (opening.BadRecord at) entered seen bad = inr (at, has_bad r (λ texts told. bad at texts refl told), sym (ap given seen))
+  where
+    given : Option Refusal → Refusal
+    given None = keeper_fault
+    given (Some x) = x
+
+    has_bad : (r : Option (List (List ℕ))) → ((texts : List (List ℕ)) → r ≡ Some texts → IsFirstBad texts at) → HasBad r at
+    has_bad None bad = tt
+    has_bad (Some texts) bad = bad texts refl
+unopened_as r opening.NoMemory entered seen bad = absurd (subst IsNothing seen tt)
+
+unopened_rose : (fault : OpenFault) (entered : Refusal) (f g : ℕ) → shown_unopened fault ≡ Some entered → (fault ≡ opening.KeeperFault → Rose f g) → RoseIf (is_keeper_fault entered) f g
+unopened_rose fault entered f g seen rose = subst (λ (x : Option Refusal). RoseIf (fault_in x) f g) seen (by_fault fault rose)
+  where
+    by_fault : (fault : OpenFault) → (fault ≡ opening.KeeperFault → Rose f g) → RoseIf (fault_in (shown_unopened fault)) f g
+    by_fault opening.KeeperFault rose = rose refl
+    by_fault (opening.BadRecord at) rose = tt
+    by_fault opening.NoMemory rose = tt
+
+pub unopened : (fault : OpenFault) (entered : Refusal) (keys : Keys) (host host' : HostParts) (o o' : OuterState) (ds : List State) (r r' : Option (List (List ℕ))) (before all : List Entry) (f g : ℕ)
+    → host' ≡ host → OptAdds r r' [] → shown_unopened fault ≡ Some entered
+    → ((at : ℕ) (texts : List (List ℕ)) → fault ≡ opening.BadRecord at → r ≡ Some texts → IsFirstBad texts at) → (fault ≡ opening.KeeperFault → Rose f g) → f ≤ g
+    → Goes (Host_notes (refused_entry entered) ∷ []) o o' before all
+    → Does (λ (m : Machine) (es : List Event). IsRestart es) (at keys host o ds r before f) (at keys host' o' ds r' all g)
+unopened fault entered keys host host' o o' ds r r' before all f g same kept seen bad rose falls goes = (
+  Refuses Restart entered ∷ [],
+  inr (entered, refl),
+  subst (λ (x : Option (List (List ℕ))). Run (Refuses Restart entered ∷ []) (at keys host o ds r before f) (at keys host' o' ds x all g)) (sym (none_more r r' kept))
+      (subst (λ (x : HostParts). Run (Refuses Restart entered ∷ []) (at keys host o ds r before f) (at keys x o' ds r all g)) (sym same)
+      (ran_refuses Restart entered keys host o o' ds r before all f g (unopened_as r fault entered seen bad) goes (unopened_rose fault entered f g seen rose) falls)),
+)
+
+-- ---- in all
+
+pub restarted_all : {T E : Type 0} (answer : Result T E) (keys keys' : Keys) (number : ℕ) (host mid host' : HostParts) (o o' : OuterState) (r r' : Option (List (List ℕ))) (before all : List Entry) (f g : ℕ)
+    → Opens keys number r mid → OptAdds r r' [] → f ≤ g → keys' ≡ keys → OnOk answer (Goes (Clears_pipe side.Host ∷ Clears_pipe side.Chip ∷ []) o o' before all) → OnOk answer (host' ≡ mid)
+    → OnOk answer ((ds : List State) → Does (λ (m : Machine) (es : List Event). IsRestart es) (at keys host o ds r before f) (at keys' host' o' ds r' all g))
+restarted_all (Err fault) keys keys' number host mid host' o o' r r' before all f g opens kept falls same_keys goes same_host = tt
+restarted_all (Ok value) keys keys' number host mid host' o o' r r' before all f g opens kept falls same_keys goes same_host = λ ds.
+    did_as (λ (m : Machine) (es : List Event). IsRestart es) (at keys host o ds r before f) keys keys' mid host' o' ds r' all g same_keys same_host
+    (restarted keys number host mid o o' ds r r' before all f g opens kept falls goes)
+
+pub unopened_all : {T E : Type 0} (answer : Result T E) (fault : OpenFault) (keys keys' : Keys) (host host' : HostParts) (o o' : OuterState) (r r' : Option (List (List ℕ))) (before all : List Entry) (f g : ℕ)
+    → host' ≡ host → OptAdds r r' []
+    → ((at : ℕ) (texts : List (List ℕ)) → fault ≡ opening.BadRecord at → r ≡ Some texts → IsFirstBad texts at) → (fault ≡ opening.KeeperFault → Rose f g) → f ≤ g → keys' ≡ keys
+    → OnOk answer ((entered : Refusal) × (shown_unopened fault ≡ Some entered) × Goes (Host_notes (refused_entry entered) ∷ []) o o' before all)
+    → OnOk answer ((ds : List State) → Does (λ (m : Machine) (es : List Event). IsRestart es) (at keys host o ds r before f) (at keys' host' o' ds r' all g))
+unopened_all (Err wanting) fault keys keys' host host' o o' r r' before all f g same kept bad rose falls same_keys goes = tt
+unopened_all (Ok value) fault keys keys' host host' o o' r r' before all f g same kept bad rose falls same_keys (entered, seen, goes) = λ ds.
+    did_as (λ (m : Machine) (es : List Event). IsRestart es) (at keys host o ds r before f) keys keys' host' host' o' ds r' all g same_keys refl
+    (unopened fault entered keys host host' o o' ds r r' before all f g same kept seen bad rose falls goes)
+
+pub clear_still : (o : OuterState) (ds : List State) → ds ≡ (Rattle.outer_events.specs.Did.happens_all (outside o ds) (Clears_pipe side.Host ∷ [])).devices
+unfolding devices_after
+clear_still o ds = refl

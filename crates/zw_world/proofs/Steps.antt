@@ -1,0 +1,121 @@
+-- A line: it begins, and then it is so many ticks, or its effect and a settling.
+use Rattle.std.proofs.Common.{◌≡◌, ℕ, Bool, true, false, refl, sym, subst}
+use Rattle.std.specs.Prelude.{Result, Ok, Err, OnOk, OnErr}
+use Rattle.zw_text.specs.declared.line.Line.{Line}
+use Rattle.zw_order.specs.declared.order.Order.{Order}
+use Rattle.zw_order.specs.declared.order.Word.{Word}
+use Rattle.zw_words.specs.declared.side.Side.{Side}
+use Rattle.zw_text.specs.declared.line.Line.TheVariants.{Command, Tick, Cut, Stall, Drop, Garble, Collide, Send, Get, Join, Interview, Lose, LoseAck, Repeat, Wake, Cancel, Link, Unlink, Discover, Neighbours, Failed, Probe, Local, Show, Store, Restart}
+use Rattle.zw_machine.specs.Did.{Scene, Does, Stops, Then}
+use Rattle.zw_machine.specs.Settling.{Settles}
+use Rattle.zw_machine.specs.Ticking.{Ticks}
+use Rattle.zw_machine.specs.Lines.{IsEffect, IsLineBegin, IsLineRest, IsLine}
+use Rattle.zw_machine.proofs.Schedules.{did_then, stopped_then}
+use Rattle.zw_world.specs.Effects.{is_tick, IsSetting}
+
+pub not_tick : (line : Line) → ((count : ℕ) → line ≡ Tick count → ⊥) → is_tick line ≡ false
+not_tick (Tick count) not = absurd (not count refl)
+not_tick line not = refl
+
+abbrev So : Bool → Type 0
+So true = Unit {0}
+So false = ⊥
+
+-- the effect of a line that was matched
+pub effect_as : {T E : Type 0} (answer : Result T E) (line known : Line) (s u : Scene) → line ≡ known → OnOk answer (Does (IsEffect known) s u) → OnOk answer (Does (IsEffect line) s u)
+effect_as answer line known s u is done = subst (λ (l : Line). OnOk answer (Does (IsEffect l) s u)) (sym is) done
+
+pub ticks_as : {T E : Type 0} (answer : Result T E) (line : Line) (count : ℕ) (s u : Scene) → line ≡ Tick count → OnOk answer (Does (Ticks count) s u) → OnOk answer (Does (IsLineRest line) s u)
+ticks_as answer line count s u is done = subst (λ (l : Line). OnOk answer (Does (IsLineRest l) s u)) (sym is) done
+
+rest_as : (line : Line) (s u : Scene) → is_tick line ≡ false → Does (Then (IsEffect line) Settles) s u → Does (IsLineRest line) s u
+rest_as (Tick count) s u not done = absurd (subst So not tt)
+rest_as line s u not done = done
+
+pub rest_done : {T E : Type 0} (answer : Result T E) (line : Line) (s t u : Scene) → is_tick line ≡ false → Does (IsEffect line) s t → OnOk answer (Does Settles t u) → OnOk answer (Does (IsLineRest line) s u)
+rest_done (Ok value) line s t u not first later = rest_as line s u not (did_then (IsEffect line) Settles s t u first later)
+rest_done (Err fault) line s t u not first later = tt
+
+pub rest_stops : {T E : Type 0} (answer : Result T E) (line : Line) (s t u : Scene) → Does (IsEffect line) s t → OnErr answer (Stops t u) → OnErr answer (Stops s u)
+rest_stops (Ok value) line s t u first later = tt
+rest_stops (Err fault) line s t u first later = stopped_then (IsEffect line) s t u first later
+
+pub line_done : {T E : Type 0} (answer : Result T E) (line : Line) (s t u : Scene) → Does IsLineBegin s t → OnOk answer (Does (IsLineRest line) t u) → OnOk answer (Does (IsLine line) s u)
+line_done (Ok value) line s t u first later = did_then IsLineBegin (IsLineRest line) s t u first later
+line_done (Err fault) line s t u first later = tt
+
+pub line_stops : {T E : Type 0} (answer : Result T E) (s t u : Scene) → Does IsLineBegin s t → OnErr answer (Stops t u) → OnErr answer (Stops s u)
+line_stops (Ok value) s t u first later = tt
+line_stops (Err fault) s t u first later = stopped_then IsLineBegin s t u first later
+
+pub effect_plain : (line known : Line) (s u : Scene) → line ≡ known → Does (IsEffect known) s u → Does (IsEffect line) s u
+effect_plain line known s u is done = subst (λ (l : Line). Does (IsEffect l) s u) (sym is) done
+
+-- what is left of the lines but `tick` sets something
+pub setting_of : (line : Line) → is_tick line ≡ false
+    → ((order : Order) → line ≡ Command order → ⊥)
+    → ((node : ℕ) (word : Word) → line ≡ Send node word → ⊥)
+    → ((node end : ℕ) → line ≡ Get node end → ⊥)
+    → ((node : ℕ) → line ≡ Interview node → ⊥)
+    → ((node : ℕ) → line ≡ Join node → ⊥)
+    → ((command : ℕ) → line ≡ Cancel command → ⊥)
+    → (line ≡ Discover → ⊥)
+    → ((node : ℕ) → line ≡ Neighbours node → ⊥)
+    → ((node : ℕ) → line ≡ Failed node → ⊥)
+    → (line ≡ Probe → ⊥)
+    → (line ≡ Restart → ⊥)
+    → ((node : ℕ) → line ≡ Store node → ⊥)
+    → ((frame : ℕ) → line ≡ Repeat frame → ⊥)
+    → ((node : ℕ) → line ≡ Wake node → ⊥)
+    → ((node value : ℕ) → line ≡ Local node value → ⊥)
+    → ((node : ℕ) → line ≡ Show node → ⊥)
+    → IsSetting line
+setting_of (Command order) other n0 n1 n2 n3 n4 n5 n6 n7 n8 n9 n10 n11 n12 n13 n14 n15 = absurd (n0 order refl)
+setting_of (Send node word) other n0 n1 n2 n3 n4 n5 n6 n7 n8 n9 n10 n11 n12 n13 n14 n15 = absurd (n1 node word refl)
+setting_of (Get node end) other n0 n1 n2 n3 n4 n5 n6 n7 n8 n9 n10 n11 n12 n13 n14 n15 = absurd (n2 node end refl)
+setting_of (Interview node) other n0 n1 n2 n3 n4 n5 n6 n7 n8 n9 n10 n11 n12 n13 n14 n15 = absurd (n3 node refl)
+setting_of (Join node) other n0 n1 n2 n3 n4 n5 n6 n7 n8 n9 n10 n11 n12 n13 n14 n15 = absurd (n4 node refl)
+setting_of (Cancel command) other n0 n1 n2 n3 n4 n5 n6 n7 n8 n9 n10 n11 n12 n13 n14 n15 = absurd (n5 command refl)
+setting_of Discover other n0 n1 n2 n3 n4 n5 n6 n7 n8 n9 n10 n11 n12 n13 n14 n15 = absurd (n6 refl)
+setting_of (Neighbours node) other n0 n1 n2 n3 n4 n5 n6 n7 n8 n9 n10 n11 n12 n13 n14 n15 = absurd (n7 node refl)
+setting_of (Failed node) other n0 n1 n2 n3 n4 n5 n6 n7 n8 n9 n10 n11 n12 n13 n14 n15 = absurd (n8 node refl)
+setting_of Probe other n0 n1 n2 n3 n4 n5 n6 n7 n8 n9 n10 n11 n12 n13 n14 n15 = absurd (n9 refl)
+setting_of Restart other n0 n1 n2 n3 n4 n5 n6 n7 n8 n9 n10 n11 n12 n13 n14 n15 = absurd (n10 refl)
+setting_of (Store node) other n0 n1 n2 n3 n4 n5 n6 n7 n8 n9 n10 n11 n12 n13 n14 n15 = absurd (n11 node refl)
+setting_of (Repeat frame) other n0 n1 n2 n3 n4 n5 n6 n7 n8 n9 n10 n11 n12 n13 n14 n15 = absurd (n12 frame refl)
+setting_of (Wake node) other n0 n1 n2 n3 n4 n5 n6 n7 n8 n9 n10 n11 n12 n13 n14 n15 = absurd (n13 node refl)
+setting_of (Local node value) other n0 n1 n2 n3 n4 n5 n6 n7 n8 n9 n10 n11 n12 n13 n14 n15 = absurd (n14 node value refl)
+setting_of (Show node) other n0 n1 n2 n3 n4 n5 n6 n7 n8 n9 n10 n11 n12 n13 n14 n15 = absurd (n15 node refl)
+setting_of (Tick count) other n0 n1 n2 n3 n4 n5 n6 n7 n8 n9 n10 n11 n12 n13 n14 n15 = absurd (subst So other tt)
+setting_of (Cut size) other n0 n1 n2 n3 n4 n5 n6 n7 n8 n9 n10 n11 n12 n13 n14 n15 = tt
+setting_of (Stall ticks) other n0 n1 n2 n3 n4 n5 n6 n7 n8 n9 n10 n11 n12 n13 n14 n15 = tt
+setting_of (Drop side) other n0 n1 n2 n3 n4 n5 n6 n7 n8 n9 n10 n11 n12 n13 n14 n15 = tt
+setting_of (Garble side place xor) other n0 n1 n2 n3 n4 n5 n6 n7 n8 n9 n10 n11 n12 n13 n14 n15 = tt
+setting_of Collide other n0 n1 n2 n3 n4 n5 n6 n7 n8 n9 n10 n11 n12 n13 n14 n15 = tt
+setting_of (Lose count) other n0 n1 n2 n3 n4 n5 n6 n7 n8 n9 n10 n11 n12 n13 n14 n15 = tt
+setting_of (LoseAck count) other n0 n1 n2 n3 n4 n5 n6 n7 n8 n9 n10 n11 n12 n13 n14 n15 = tt
+setting_of (Link first second) other n0 n1 n2 n3 n4 n5 n6 n7 n8 n9 n10 n11 n12 n13 n14 n15 = tt
+setting_of (Unlink first second) other n0 n1 n2 n3 n4 n5 n6 n7 n8 n9 n10 n11 n12 n13 n14 n15 = tt
+
+-- no other line sets anything
+pub no_setting : (line : Line) → IsSetting line
+    → ((size : ℕ) → line ≡ Cut size → ⊥)
+    → ((ticks : ℕ) → line ≡ Stall ticks → ⊥)
+    → ((side : Side) → line ≡ Drop side → ⊥)
+    → ((side : Side) (place xor : ℕ) → line ≡ Garble side place xor → ⊥)
+    → (line ≡ Collide → ⊥)
+    → ((count : ℕ) → line ≡ Lose count → ⊥)
+    → ((count : ℕ) → line ≡ LoseAck count → ⊥)
+    → ((first second : ℕ) → line ≡ Link first second → ⊥)
+    → ((first second : ℕ) → line ≡ Unlink first second → ⊥)
+    → ⊥
+no_setting (Cut size) sets n0 n1 n2 n3 n4 n5 n6 n7 n8 = n0 size refl
+no_setting (Stall ticks) sets n0 n1 n2 n3 n4 n5 n6 n7 n8 = n1 ticks refl
+no_setting (Drop side) sets n0 n1 n2 n3 n4 n5 n6 n7 n8 = n2 side refl
+no_setting (Garble side place xor) sets n0 n1 n2 n3 n4 n5 n6 n7 n8 = n3 side place xor refl
+no_setting Collide sets n0 n1 n2 n3 n4 n5 n6 n7 n8 = n4 refl
+no_setting (Lose count) sets n0 n1 n2 n3 n4 n5 n6 n7 n8 = n5 count refl
+no_setting (LoseAck count) sets n0 n1 n2 n3 n4 n5 n6 n7 n8 = n6 count refl
+no_setting (Link first second) sets n0 n1 n2 n3 n4 n5 n6 n7 n8 = n7 first second refl
+no_setting (Unlink first second) sets n0 n1 n2 n3 n4 n5 n6 n7 n8 = n8 first second refl
+no_setting line sets n0 n1 n2 n3 n4 n5 n6 n7 n8 = absurd sets

@@ -1,0 +1,63 @@
+-- The parts of a tick, one after another.
+use Rattle.std.proofs.Common.{◌≡◌, ℕ, List, [], ◌∷◌, refl, sym, subst, length}
+use Rattle.std.specs.Prelude.{Option}
+use Rattle.s0_crypto.specs.declared.key_pair.Keys.{Keys}
+use Rattle.device_sim.specs.State.{State}
+use Rattle.zw_text.specs.declared.entry.Entry.{Entry}
+use Rattle.host_events.specs.State.{HostParts}
+use Rattle.outer_events.specs.State.{OuterState, outside}
+use Rattle.outer_events.specs.Events.{Begins_tick, Chip_ticks}
+use Rattle.outer_events.specs.Did.{Goes, GoesFor, RunOf}
+use Rattle.outer_events.specs.Schedules.{Delivers, Givings, DeviceTicks}
+use Rattle.zw_machine.specs.Did.{Scene, Does, Stops, Then}
+use Rattle.zw_machine.specs.Settling.{Settles}
+use Rattle.zw_machine.specs.Ticking.{IsClockTick, IsDelivery, IsGiving, IsDeviceTick, IsChipTick, IsOutsideTick, IsHostTick, IsTick}
+use Rattle.zw_machine.proofs.Schedules.{did_then, stopped_then, arrivals_own, givings_own, ticks_own}
+use Rattle.zw_world.proofs.Scenes.{at, did_one, did_quiet, did_of}
+
+-- ---- outside the host
+
+module _ (keys : Keys) (host : HostParts) (r : Option (List (List ℕ))) (f : ℕ) where
+  abbrev pub spot : OuterState → List State → List Entry → Scene
+  spot o ds x = at keys host o ds r x f
+
+  pub delivered : (o o1 : OuterState) (ds ds1 : List State) (x x1 : List Entry) → RunOf (Delivers o) (outside o ds) (outside o1 ds1) x x1 → Does IsDelivery (spot o ds x) (spot o1 ds1 x1)
+  delivered o o1 ds ds1 x x1 run = did_of (Delivers o) keys host o o1 ds ds1 r x x1 f (arrivals_own _) run
+
+  pub given_due : (o o1 : OuterState) (ds : List State) (x x1 : List Entry) → GoesFor ds (Givings (length o.due)) o o1 x x1 → Does IsGiving (spot o ds x) (spot o1 ds x1)
+  given_due o o1 ds x x1 run = did_of (Givings (length o.due)) keys host o o1 ds ds r x x1 f (givings_own (length o.due)) run
+
+  pub devices_ticked : (n : ℕ) (o o1 : OuterState) (ds ds1 : List State) (x x1 : List Entry) → length ds ≡ n → RunOf (DeviceTicks 0 n) (outside o ds) (outside o1 ds1) x x1 → Does IsDeviceTick (spot o ds x) (spot o1 ds1 x1)
+  devices_ticked n o o1 ds ds1 x x1 many run =
+      did_of (DeviceTicks 0 (length ds)) keys host o o1 ds ds1 r x x1 f (ticks_own 0 (length ds))
+      (subst (λ (k : ℕ). RunOf (DeviceTicks 0 k) (outside o ds) (outside o1 ds1) x x1) (sym many) run)
+
+  pub chip_ticked : (o o1 : OuterState) (ds : List State) (x x1 : List Entry) → Goes (Chip_ticks ∷ []) o o1 x x1 → Does IsChipTick (spot o ds x) (spot o1 ds x1)
+  chip_ticked o o1 ds x x1 goes = did_one Chip_ticks keys host o o1 ds r x x1 f refl goes
+
+  pub clock_ticked : (o o1 : OuterState) (ds : List State) (x : List Entry) → Goes (Begins_tick ∷ []) o o1 [] [] → Does IsClockTick (spot o ds x) (spot o1 ds x)
+  clock_ticked o o1 ds x goes = did_quiet Begins_tick keys host o o1 ds r x f refl goes
+
+pub outside_ticked : (s t u v w : Scene) → Does IsDelivery s t → Does IsGiving t u → Does IsDeviceTick u v → Does IsChipTick v w → Does IsOutsideTick s w
+outside_ticked s t u v w a b c d =
+    did_then IsDelivery (Then IsGiving (Then IsDeviceTick IsChipTick)) s t w a
+    (did_then IsGiving (Then IsDeviceTick IsChipTick) t u w b (did_then IsDeviceTick IsChipTick u v w c d))
+
+pub stopped_two : (s t u v : Scene) → Does IsDelivery s t → Does IsGiving t u → Stops u v → Stops s v
+stopped_two s t u v a b stops = stopped_then IsDelivery s t v a (stopped_then IsGiving t u v b stops)
+
+pub stopped_three : (s t u v w : Scene) → Does IsDelivery s t → Does IsGiving t u → Does IsDeviceTick u v → Stops v w → Stops s w
+stopped_three s t u v w a b c stops = stopped_two s t u w a b (stopped_then IsDeviceTick u v w c stops)
+
+-- ---- the whole
+
+pub tick_done : (s t u v w : Scene) → Does IsClockTick s t → Does IsOutsideTick t u → Does IsHostTick u v → Does Settles v w → Does IsTick s w
+tick_done s t u v w a b c d =
+    did_then IsClockTick (Then IsOutsideTick (Then IsHostTick Settles)) s t w a
+    (did_then IsOutsideTick (Then IsHostTick Settles) t u w b (did_then IsHostTick Settles u v w c d))
+
+pub tick_two : (s t u v : Scene) → Does IsClockTick s t → Does IsOutsideTick t u → Stops u v → Stops s v
+tick_two s t u v a b stops = stopped_then IsClockTick s t v a (stopped_then IsOutsideTick t u v b stops)
+
+pub tick_three : (s t u v w : Scene) → Does IsClockTick s t → Does IsOutsideTick t u → Does IsHostTick u v → Stops v w → Stops s w
+tick_three s t u v w a b c stops = tick_two s t u w a b (stopped_then IsHostTick u v w c stops)

@@ -1,0 +1,37 @@
+-- Another host goes on, or none starts.
+use Rattle.std.proofs.Common.{ap, subst}
+use Rattle.std.specs.Prelude.{Err}
+use Rattle.host_core.specs.Opening.{Opens}
+use Rattle.host_core.specs.declared.opening.OpenFault.{OpenFault}
+use Rattle.zw_world.specs.World.{WorldState}
+use Rattle.zw_world.proofs.Scenes.{err_then}
+use Rattle.zw_world.proofs.Asking.{refusal_stops}
+use Rattle.zw_world.proofs.Restarts.{restarted_all, restart_stops, unopened_all}
+use Rattle.zw_world.proofs.world.World.restart.Goals as goal
+
+pub returns-in-Ok-clause-ok : goal.returns-in-Ok-clause-ok
+returns-in-Ok-clause-ok g c =
+    restarted_all c.go_on_with.result c.args.self.now.keys c.go_on_with.new.self.keys (g.P.Keeper.number c.args.keeper.now) c.args.self.now.host c.in-Ok.host c.go_on_with.new.self.host c.args.self.now.outer c.go_on_with.new.self.outer (g.P.Keeper.records c.args.keeper.now) (g.P.Keeper.records c.open.new.keeper)
+    c.args.out.now.items c.go_on_with.new.out.items (g.P.Keeper.faults c.args.keeper.now) (g.P.Keeper.faults c.open.new.keeper)
+    (subst (λ (x : WorldState). Opens x.keys (g.P.Keeper.number c.args.keeper.now) (g.P.Keeper.records c.args.keeper.now) c.in-Ok.host) c.self.view_is c.in-Ok.ensures.opens)
+    c.in-Ok.ensures.records c.in-Ok.ensures.never_falls c.go_on_with.ensures.keys c.go_on_with.ensures.ok c.go_on_with.ensures.host
+
+pub returns-in-Ok-clause-err : goal.returns-in-Ok-clause-err
+returns-in-Ok-clause-err g c = err_then c.go_on_with.result c.go_on_with.ensures.err
+    (λ stops ds.
+    restart_stops c.args.self.now.keys c.go_on_with.new.self.keys (g.P.Keeper.number c.args.keeper.now) c.args.self.now.host c.in-Ok.host c.go_on_with.new.self.host c.args.self.now.outer c.go_on_with.new.self.outer ds (g.P.Keeper.records c.args.keeper.now) (g.P.Keeper.records c.open.new.keeper)
+    c.args.out.now.items c.go_on_with.new.out.items (g.P.Keeper.faults c.args.keeper.now) (g.P.Keeper.faults c.open.new.keeper)
+    (subst (λ (x : WorldState). Opens x.keys (g.P.Keeper.number c.args.keeper.now) (g.P.Keeper.records c.args.keeper.now) c.in-Ok.host) c.self.view_is c.in-Ok.ensures.opens)
+    c.in-Ok.ensures.records c.in-Ok.ensures.never_falls stops)
+
+pub returns-in-Err-clause-ok : goal.returns-in-Err-clause-ok
+returns-in-Err-clause-ok g c =
+    unopened_all c.unopened.result c.in-Err.fault c.args.self.now.keys c.unopened.new.self.keys c.args.self.now.host c.unopened.new.self.host c.args.self.now.outer c.unopened.new.self.outer (g.P.Keeper.records c.args.keeper.now) (g.P.Keeper.records c.open.new.keeper)
+    c.args.out.now.items c.unopened.new.out.items (g.P.Keeper.faults c.args.keeper.now) (g.P.Keeper.faults c.open.new.keeper)
+    c.unopened.ensures.host c.in-Err.ensures.records (λ at texts e told. c.in-Err.ensures.bad at texts (ap (λ (x : OpenFault). Err x) e) told) (λ e. c.in-Err.ensures.failed (ap (λ (x : OpenFault). Err x) e))
+    c.in-Err.ensures.never_falls c.unopened.ensures.keys c.unopened.ensures.ok
+
+pub returns-in-Err-clause-err : goal.returns-in-Err-clause-err
+returns-in-Err-clause-err g c =
+    refusal_stops c.unopened.result c.args.self.now.keys c.unopened.new.self.keys c.args.self.now.host c.unopened.new.self.host c.args.self.now.outer c.unopened.new.self.outer (g.P.Keeper.records c.args.keeper.now) (g.P.Keeper.records c.open.new.keeper)
+    c.args.out.now.items c.unopened.new.out.items (g.P.Keeper.faults c.args.keeper.now) (g.P.Keeper.faults c.open.new.keeper) c.in-Err.ensures.records c.in-Err.ensures.never_falls c.unopened.ensures.err

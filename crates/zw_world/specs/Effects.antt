@@ -1,0 +1,73 @@
+-- What calls of the world tell of the effect of a line (this project's own).
+use Rattle.std.specs.Prelude.{◌≡◌, ℕ, Bool, true, false, List, [], ◌∷◌, Option, Some, None, Result, Ok, Err}
+use Rattle.zw_text.specs.declared.line.Line.{Line}
+use Rattle.zw_text.specs.declared.line.Line.TheVariants.{Tick, Cut, Stall, Drop, Garble, Collide, Lose, LoseAck, Link, Unlink, Discover, Neighbours as neighbours, Failed as failed, Probe as probe}
+use Rattle.zw_text.specs.declared.entry.Entry.{Entry}
+use Rattle.zw_text.specs.declared.entry.Entry.TheVariants.{Refused as refused_entry}
+use Rattle.zw_text.specs.declared.entry.Refusal.{Refusal}
+use Rattle.zw_text.specs.declared.entry.Refusal.TheVariants.{NotWaiting, KeeperFault, BadRecord}
+use Rattle.host_orders.specs.declared.refused.Refused.{Refused}
+use Rattle.host_events.specs.Asking.{places_refusal}
+use Rattle.host_core.specs.declared.orders.Question.{Question}
+use Rattle.host_core.specs.declared.orders.Question.TheVariants.{Members, Neighbours, Failed, Probe}
+use Rattle.host_core.specs.declared.opening.OpenFault.{OpenFault}
+use Rattle.host_core.specs.declared.opening.OpenFault.TheVariants as opening
+use Rattle.host_core.specs.declared.orders.CancelFault.{CancelFault}
+use Rattle.host_core.specs.declared.orders.CancelFault.TheVariants as cancel
+use Rattle.host_core.specs.Orders.{places_of, question_event}
+use Rattle.outer_events.specs.State.{OuterState}
+use Rattle.outer_events.specs.Events.{OuterEvent, Host_notes, Host_begins}
+use Rattle.outer_events.specs.Did.{Goes}
+use Rattle.zw_machine.specs.Refusals.{shown}
+use Rattle.zw_machine.specs.Did.{Schedule}
+use Rattle.zw_machine.specs.Lines.{Asks}
+
+abbrev pub is_tick : Line → Bool
+is_tick (Tick count) = true
+is_tick line = false
+
+-- a line that sets something outside the host
+abbrev pub IsSetting : Line → Type 0
+IsSetting (Cut size) = Unit {0}
+IsSetting (Stall ticks) = Unit {0}
+IsSetting (Drop side) = Unit {0}
+IsSetting (Garble side place xor) = Unit {0}
+IsSetting Collide = Unit {0}
+IsSetting (Lose count) = Unit {0}
+IsSetting (LoseAck count) = Unit {0}
+IsSetting (Link first second) = Unit {0}
+IsSetting (Unlink first second) = Unit {0}
+IsSetting line = ⊥
+
+-- the host took what was asked for, and nothing is entered; or its refusal is
+abbrev pub Answers : {A : Type 0} → Result A Refused → OuterState → OuterState → List Entry → List Entry → Type 0
+Answers (Ok value) old new before all = (new ≡ old) × (all ≡ before)
+Answers (Err refused) old new before all = (refusal : Refusal) × (shown refused ≡ Some refusal) × Goes (Host_notes (refused_entry refusal) ∷ []) old new before all
+
+-- the line that asks a question of the chip
+abbrev pub line_of : Question → Line
+line_of Members = Discover
+line_of (Neighbours node) = neighbours node
+line_of (Failed node) = failed node
+line_of Probe = probe
+
+-- a question is asked for, or refused
+abbrev pub IsAsked : Question → Schedule
+IsAsked question m events = Asks (places_refusal m.host.state (places_of question)) (line_of question) (question_event question) events
+
+-- what is entered of a command that is not cancelled; want of memory is no refusal
+abbrev pub shown_uncancelled : ℕ → CancelFault → Option Refusal
+shown_uncancelled command cancel.NotWaiting = Some (NotWaiting command)
+shown_uncancelled command cancel.KeeperFault = Some KeeperFault
+shown_uncancelled command cancel.NoMemory = None
+
+-- the air learns of a session that has begun
+abbrev pub begins_by : Option (ℕ × ℕ) → List OuterEvent
+begins_by None = []
+begins_by (Some begun) = Host_begins begun.0 begun.1 ∷ []
+
+-- what is entered where no host starts from the records
+abbrev pub shown_unopened : OpenFault → Option Refusal
+shown_unopened opening.KeeperFault = Some KeeperFault
+shown_unopened (opening.BadRecord at) = Some (BadRecord at)
+shown_unopened opening.NoMemory = None

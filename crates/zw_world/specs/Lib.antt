@@ -1,0 +1,4 @@
+pub mod World
+pub mod Moving
+pub mod Effects
+pub mod Listing

@@ -1,0 +1,207 @@
+//! What each line does of its own.
+
+ghost use Rattle.std.specs.Prelude.{◌≡◌, ◌<◌, ◌^◌, ℕ, length, map, List as Items, Option, OnOk, OnErr};
+ghost use Rattle.device_sim.specs.State.{State};
+ghost use Rattle.zw_text.specs.declared.line.Line.TheVariants as line;
+ghost use Rattle.zw_text.specs.declared.entry.Entry.{Entry as TheEntry};
+ghost use Rattle.zw_machine.specs.Did.{Does, Stops};
+ghost use Rattle.zw_machine.specs.Lines.{IsEffect};
+ghost use Rattle.zw_world.specs.World.{scene};
+ghost use Rattle.zw_world.specs.Effects.{IsSetting, IsAsked, is_tick};
+
+use crate::World;
+use device_sim::Device;
+use host_core::Question;
+use host_keep::Keeper;
+use serial_pipes::Garble;
+use zw_base::{Draw, EndPoint, List, NoMemory, NodeId};
+use zw_order::{Order, Word};
+use zw_text::{Ended, Entry, Line};
+
+impl World {
+    /// The effect of a line but `tick`.
+    pub(crate) fn effect<D: Draw, P: Keeper>(
+        &mut self,
+        line: &Line,
+        devices: &mut Vec<Box<dyn Device>>,
+        draw: &mut D,
+        keeper: &mut P,
+        out: &mut List<Entry>,
+    ) -> Result<(), NoMemory>
+        requires few { length devices.old.items < 2 ^ 64 }
+        requires effect { is_tick line.now ≡ Rattle.std.specs.Prelude.false }
+        ensures ok { OnOk result (Does (IsEffect line.now) (scene self.old (map (λ d. state d) devices.old.items) (P.records keeper.old) out.old.items (P.faults keeper.old)) (scene self.new (map (λ d. state d) devices.new.items) (P.records keeper.new) out.new.items (P.faults keeper.new))) }
+        ensures err { OnErr result (Stops (scene self.old (map (λ d. state d) devices.old.items) (P.records keeper.old) out.old.items (P.faults keeper.old)) (scene self.new (map (λ d. state d) devices.new.items) (P.records keeper.new) out.new.items (P.faults keeper.new))) }
+        ensures kept { length devices.new.items ≡ length devices.old.items }
+    {
+        match line {
+            Line::Command { order } => self.command(order, keeper, out),
+            Line::Send { node, word } => self.send(*node, *word, out),
+            Line::Get { node, end } => self.get(*node, *end, out),
+            Line::Interview { node } => self.interview(*node, out),
+            Line::Join { node } => self.join(*node, devices, keeper, out),
+            Line::Cancel { command } => self.cancel(*command, keeper, out),
+            Line::Discover => self.discover(out),
+            Line::Neighbours { node } => self.ask(Question::Neighbours(*node), out),
+            Line::Failed { node } => self.ask(Question::Failed(*node), out),
+            Line::Probe => self.ask(Question::Probe, out),
+            Line::Restart => self.restart(keeper, out),
+            Line::Store { node } => self.store(*node, out),
+            Line::Repeat { frame } => self.outer.repeat(*frame, devices, draw, out),
+            Line::Wake { node } => self.outer.wake(*node, devices, out),
+            Line::Local { node, value } => self.outer.local(*node, *value, devices, out),
+            Line::Show { node } => self.outer.show(*node, devices, out),
+            line => self.set(line),
+        }
+    }
+
+    // A line that sets something of the air, the chip, the serial line or time.
+    fn set(&mut self, line: &Line) -> Result<(), NoMemory>
+        requires { IsSetting line.now }
+        ensures ok { OnOk result ((ds : Items State) (records : Option (Items (Items ℕ))) (before : Items TheEntry) (faults : ℕ) → Does (IsEffect line.now) (scene self.old ds records before faults) (scene self.new ds records before faults)) }
+    {
+        match line {
+            Line::Cut { size } => {
+                self.outer.cut(*size);
+                Ok(())
+            }
+            Line::Stall { ticks } => self.outer.stall(*ticks),
+            Line::Drop { side } => self.outer.mark_loss(*side),
+            Line::Garble { side, place, xor } => self.outer.mark_change(
+                *side,
+                Garble {
+                    place: *place,
+                    xor: *xor,
+                },
+            ),
+            Line::Collide => self.outer.collide(),
+            Line::Lose { count } => self.outer.lose(*count),
+            Line::LoseAck { count } => self.outer.lose_ack(*count),
+            Line::Link { first, second } => {
+                self.outer.set_link(*first, *second, true);
+                Ok(())
+            }
+            Line::Unlink { first, second } => {
+                self.outer.set_link(*first, *second, false);
+                Ok(())
+            }
+            _ => unreachable!(),
+        }
+    }
+
+    // An order becomes the next command, and its number is entered; or it is refused.
+    fn command<P: Keeper>(
+        &mut self,
+        order: &Order,
+        keeper: &mut P,
+        out: &mut List<Entry>,
+    ) -> Result<(), NoMemory>
+        ensures ok { OnOk result ((ds : Items State) → Does (IsEffect (line.Command order.now)) (scene self.old ds (P.records keeper.old) out.old.items (P.faults keeper.old)) (scene self.new ds (P.records keeper.new) out.new.items (P.faults keeper.new))) }
+        ensures err { OnErr result ((ds : Items State) → Stops (scene self.old ds (P.records keeper.old) out.old.items (P.faults keeper.old)) (scene self.new ds (P.records keeper.new) out.new.items (P.faults keeper.new))) }
+    {
+        match self.host.command(order, keeper) {
+            Ok(command) => self.outer.note(
+                Entry::Accepted {
+                    command,
+                    node: order.node,
+                },
+                out,
+            ),
+            Err(refused) => self.refused(refused, out),
+        }
+    }
+
+    // A Set that is not reported is asked for.
+    fn send(&mut self, node: NodeId, word: Word, out: &mut List<Entry>) -> Result<(), NoMemory>
+        ensures ok { OnOk result ((ds : Items State) (records : Option (Items (Items ℕ))) (faults : ℕ) → Does (IsEffect (line.Send node word)) (scene self.old ds records out.old.items faults) (scene self.new ds records out.new.items faults)) }
+        ensures err { OnErr result (out.new.items ≡ out.old.items) }
+    {
+        let answer = self.host.send(node, word);
+        self.unless_refused(answer, out)
+    }
+
+    // A Get is asked for.
+    fn get(&mut self, node: NodeId, end: EndPoint, out: &mut List<Entry>) -> Result<(), NoMemory>
+        ensures ok { OnOk result ((ds : Items State) (records : Option (Items (Items ℕ))) (faults : ℕ) → Does (IsEffect (line.Get node end)) (scene self.old ds records out.old.items faults) (scene self.new ds records out.new.items faults)) }
+        ensures err { OnErr result (out.new.items ≡ out.old.items) }
+    {
+        let answer = self.host.get(node, end);
+        self.unless_refused(answer, out)
+    }
+
+    // An interview is asked for.
+    fn interview(&mut self, node: NodeId, out: &mut List<Entry>) -> Result<(), NoMemory>
+        ensures ok { OnOk result ((ds : Items State) (records : Option (Items (Items ℕ))) (faults : ℕ) → Does (IsEffect (line.Interview node)) (scene self.old ds records out.old.items faults) (scene self.new ds records out.new.items faults)) }
+        ensures err { OnErr result (out.new.items ≡ out.old.items) }
+    {
+        let answer = self.host.interview(node);
+        self.unless_refused(answer, out)
+    }
+
+    // A question to the chip is asked for.
+    fn ask(&mut self, question: Question, out: &mut List<Entry>) -> Result<(), NoMemory>
+        ensures ok { OnOk result ((ds : Items State) (records : Option (Items (Items ℕ))) (faults : ℕ) → Does (IsAsked question) (scene self.old ds records out.old.items faults) (scene self.new ds records out.new.items faults)) }
+        ensures err { OnErr result (out.new.items ≡ out.old.items) }
+    {
+        let answer = self.host.ask(question);
+        self.unless_refused(answer, out)
+    }
+
+    // The chip's table becomes the live links between known nodes, and then the members are asked for.
+    fn discover(&mut self, out: &mut List<Entry>) -> Result<(), NoMemory>
+        ensures ok { OnOk result ((ds : Items State) (records : Option (Items (Items ℕ))) (faults : ℕ) → Does (IsEffect line.Discover) (scene self.old ds records out.old.items faults) (scene self.new ds records out.new.items faults)) }
+        ensures err { OnErr result (out.new.items ≡ out.old.items) }
+    {
+        self.outer.discover();
+        self.ask(Question::Members, out)
+    }
+
+    // A node joins: the host, the air and the chip learn of it; or it is refused.
+    fn join<P: Keeper>(
+        &mut self,
+        node: NodeId,
+        devices: &Vec<Box<dyn Device>>,
+        keeper: &mut P,
+        out: &mut List<Entry>,
+    ) -> Result<(), NoMemory>
+        requires few { length devices.now.items < 2 ^ 64 }
+        ensures ok { OnOk result (Does (IsEffect (line.Join node)) (scene self.old (map (λ d. state d) devices.now.items) (P.records keeper.old) out.old.items (P.faults keeper.old)) (scene self.new (map (λ d. state d) devices.now.items) (P.records keeper.new) out.new.items (P.faults keeper.new))) }
+        ensures err { OnErr result (Stops (scene self.old (map (λ d. state d) devices.now.items) (P.records keeper.old) out.old.items (P.faults keeper.old)) (scene self.new (map (λ d. state d) devices.now.items) (P.records keeper.new) out.new.items (P.faults keeper.new))) }
+    {
+        match self.host.join(node, keeper) {
+            Ok(()) => self.outer.join(node, devices),
+            Err(refused) => self.refused(refused, out),
+        }
+    }
+
+    // A command that waits is taken back; or it is refused.
+    fn cancel<P: Keeper>(
+        &mut self,
+        command: u32,
+        keeper: &mut P,
+        out: &mut List<Entry>,
+    ) -> Result<(), NoMemory>
+        ensures ok { OnOk result ((ds : Items State) → Does (IsEffect (line.Cancel command)) (scene self.old ds (P.records keeper.old) out.old.items (P.faults keeper.old)) (scene self.new ds (P.records keeper.new) out.new.items (P.faults keeper.new))) }
+        ensures err { OnErr result ((ds : Items State) → Stops (scene self.old ds (P.records keeper.old) out.old.items (P.faults keeper.old)) (scene self.new ds (P.records keeper.new) out.new.items (P.faults keeper.new))) }
+    {
+        match self.host.cancel(command, keeper) {
+            Ok(()) => self.outer.note(
+                Entry::Out {
+                    command,
+                    ended: Ended::Cancelled,
+                },
+                out,
+            ),
+            Err(fault) => self.uncancelled(command, fault, out),
+        }
+    }
+
+    // The stored values of a node are shown.
+    fn store(&mut self, node: NodeId, out: &mut List<Entry>) -> Result<(), NoMemory>
+        ensures ok { OnOk result ((ds : Items State) (records : Option (Items (Items ℕ))) (faults : ℕ) → Does (IsEffect (line.Store node)) (scene self.old ds records out.old.items faults) (scene self.new ds records out.new.items faults)) }
+        ensures err { OnErr result (out.new.items ≡ out.old.items) }
+    {
+        let text = self.host.json(self.alloc, node)?;
+        self.outer.note(Entry::Json { text }, out)
+    }
+}

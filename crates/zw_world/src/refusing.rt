@@ -1,0 +1,110 @@
+//! Lines that are refused.
+
+ghost use Rattle.std.specs.Prelude.{◌≡◌, ◌∷◌, [], Some, IfOk, OnOk, OnErr};
+ghost use Rattle.zw_text.specs.declared.entry.Entry.TheVariants.{Refused as refused_entry};
+ghost use Rattle.zw_text.specs.declared.entry.Refusal.{Refusal as TheRefusal};
+ghost use Rattle.outer_events.specs.Events.{Host_notes};
+ghost use Rattle.outer_events.specs.Did.{Goes};
+ghost use Rattle.zw_machine.specs.Refusals.{shown};
+ghost use Rattle.zw_world.specs.Effects.{Answers, shown_uncancelled};
+
+use crate::World;
+use host_core::CancelFault;
+use host_orders::Refused;
+use zw_base::{List, NoMemory};
+use zw_text::{Entry, Refusal};
+
+impl World {
+    /// A line is refused so.
+    pub(crate) fn refuse(&mut self, refusal: Refusal, out: &mut List<Entry>) -> Result<(), NoMemory>
+        ensures ok { OnOk result (Goes (Host_notes (refused_entry refusal) ∷ []) self.old.outer self.new.outer out.old.items out.new.items) }
+        ensures host { self.new.host ≡ self.old.host }
+        ensures keys { self.new.keys ≡ self.old.keys }
+        ensures err { OnErr result (out.new.items ≡ out.old.items) }
+    {
+        self.outer.note(Entry::Refused { refusal }, out)
+    }
+
+    /// The host refuses a line; want of memory is no refusal.
+    pub(crate) fn refused(
+        &mut self,
+        refused: Refused,
+        out: &mut List<Entry>,
+    ) -> Result<(), NoMemory>
+        ensures ok { OnOk result ((refusal : TheRefusal) × (shown refused ≡ Some refusal)
+            × Goes (Host_notes (refused_entry refusal) ∷ []) self.old.outer self.new.outer out.old.items out.new.items) }
+        ensures host { self.new.host ≡ self.old.host }
+        ensures keys { self.new.keys ≡ self.old.keys }
+        ensures err { OnErr result (out.new.items ≡ out.old.items) }
+    {
+        let refusal = refusal_of(refused)?;
+        self.refuse(refusal, out)
+    }
+
+    /// A command is not taken back; want of memory is no refusal.
+    pub(crate) fn uncancelled(
+        &mut self,
+        command: u32,
+        fault: CancelFault,
+        out: &mut List<Entry>,
+    ) -> Result<(), NoMemory>
+        ensures ok { OnOk result ((refusal : TheRefusal) × (shown_uncancelled command fault ≡ Some refusal)
+            × Goes (Host_notes (refused_entry refusal) ∷ []) self.old.outer self.new.outer out.old.items out.new.items) }
+        ensures host { self.new.host ≡ self.old.host }
+        ensures keys { self.new.keys ≡ self.old.keys }
+        ensures err { OnErr result (out.new.items ≡ out.old.items) }
+    {
+        let refusal = uncancelled_as(command, fault)?;
+        self.refuse(refusal, out)
+    }
+
+    /// The host took what was asked for, and nothing is entered; or it refuses.
+    pub(crate) fn unless_refused(
+        &mut self,
+        answer: Result<(), Refused>,
+        out: &mut List<Entry>,
+    ) -> Result<(), NoMemory>
+        ensures ok { OnOk result (Answers answer self.old.outer self.new.outer out.old.items out.new.items) }
+        ensures host { self.new.host ≡ self.old.host }
+        ensures keys { self.new.keys ≡ self.old.keys }
+        ensures err { OnErr result (out.new.items ≡ out.old.items) }
+    {
+        match answer {
+            Ok(()) => Ok(()),
+            Err(refused) => self.refused(refused, out),
+        }
+    }
+}
+
+/// What is entered of a refusal of the host.
+fn refusal_of(refused: Refused) -> Result<Refusal, NoMemory>
+    ensures ok { IfOk result (λ refusal. shown refused ≡ Some refusal) }
+    ensures err { OnErr result (refused ≡ Refused.NoMemory) }
+{
+    match refused {
+        Refused::NotJoined => Ok(Refusal::NotJoined),
+        Refused::NotInterviewed => Ok(Refusal::NotInterviewed),
+        Refused::Unsupported(class) => Ok(Refusal::Unsupported { class }),
+        Refused::BadValue => Ok(Refusal::BadValue),
+        Refused::Unsupervised => Ok(Refusal::Unsupervised),
+        Refused::TooLong(bytes) => Ok(Refusal::TooLong { bytes }),
+        Refused::MailboxFull(waiting) => Ok(Refusal::MailboxFull { waiting }),
+        Refused::StoreFull(properties) => Ok(Refusal::StoreFull { properties }),
+        Refused::Secured => Ok(Refusal::Secured),
+        Refused::QueueFull(waiting) => Ok(Refusal::QueueFull { waiting }),
+        Refused::AlreadyJoined => Ok(Refusal::AlreadyJoined),
+        Refused::KeeperFault => Ok(Refusal::KeeperFault),
+        Refused::NoMemory => Err(NoMemory),
+    }
+}
+
+/// What is entered of a command that is not taken back.
+fn uncancelled_as(command: u32, fault: CancelFault) -> Result<Refusal, NoMemory>
+    ensures { IfOk result (λ refusal. shown_uncancelled command fault ≡ Some refusal) }
+{
+    match fault {
+        CancelFault::NotWaiting => Ok(Refusal::NotWaiting { command }),
+        CancelFault::KeeperFault => Ok(Refusal::KeeperFault),
+        CancelFault::NoMemory => Err(NoMemory),
+    }
+}

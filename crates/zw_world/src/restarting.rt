@@ -1,0 +1,72 @@
+//! The host stops, and a new one starts from the records.
+
+ghost use Rattle.std.specs.Prelude.{◌≡◌, ◌∷◌, [], Some, List as Items, OnOk, OnErr, IfOk};
+ghost use Rattle.device_sim.specs.State.{State};
+ghost use Rattle.zw_words.specs.declared.side.Side.TheVariants as side;
+ghost use Rattle.zw_text.specs.declared.line.Line.TheVariants as line;
+ghost use Rattle.zw_text.specs.declared.entry.Entry.TheVariants.{Refused as refused_entry};
+ghost use Rattle.zw_text.specs.declared.entry.Refusal.{Refusal as TheRefusal};
+ghost use Rattle.outer_events.specs.Events.{Clears_pipe, Host_notes};
+ghost use Rattle.outer_events.specs.Did.{Goes, StopsStill};
+ghost use Rattle.zw_machine.specs.Did.{Does, Stops};
+ghost use Rattle.zw_machine.specs.Lines.{IsEffect};
+ghost use Rattle.zw_world.specs.World.{scene};
+ghost use Rattle.zw_world.specs.Effects.{shown_unopened};
+
+use crate::World;
+use host_core::{Host, OpenFault};
+use host_keep::Keeper;
+use zw_base::{List, NoMemory};
+use zw_text::{Entry, Refusal, Side};
+
+impl World {
+    /// A host that starts from the records takes over, and the bytes on their way are lost; or that is refused, and the old host stays.
+    pub(crate) fn restart<P: Keeper>(
+        &mut self,
+        keeper: &mut P,
+        out: &mut List<Entry>,
+    ) -> Result<(), NoMemory>
+        ensures ok { OnOk result ((ds : Items State) → Does (IsEffect line.Restart) (scene self.old ds (P.records keeper.old) out.old.items (P.faults keeper.old)) (scene self.new ds (P.records keeper.new) out.new.items (P.faults keeper.new))) }
+        ensures err { OnErr result ((ds : Items State) → Stops (scene self.old ds (P.records keeper.old) out.old.items (P.faults keeper.old)) (scene self.new ds (P.records keeper.new) out.new.items (P.faults keeper.new))) }
+    {
+        match Host::open(self.alloc, self.key, keeper) {
+            Ok(host) => self.go_on_with(host, out),
+            Err(fault) => self.unopened(fault, out),
+        }
+    }
+
+    // Another host takes over, and the bytes on their way are lost.
+    fn go_on_with(&mut self, host: Host, out: &mut List<Entry>) -> Result<(), NoMemory>
+        ensures ok { OnOk result (Goes (Clears_pipe side.Host ∷ Clears_pipe side.Chip ∷ []) self.old.outer self.new.outer out.old.items out.new.items) }
+        ensures host { OnOk result (self.new.host ≡ host) }
+        ensures keys { self.new.keys ≡ self.old.keys }
+        ensures err { OnErr result (StopsStill self.old.outer out.old.items out.new.items) }
+    {
+        self.host = host;
+        self.outer.clear(Side::Host, out)?;
+        self.outer.clear(Side::Chip, out)
+    }
+
+    // No host starts, and the old one stays; want of memory is no refusal.
+    fn unopened(&mut self, fault: OpenFault, out: &mut List<Entry>) -> Result<(), NoMemory>
+        ensures ok { OnOk result ((refusal : TheRefusal) × (shown_unopened fault ≡ Some refusal)
+            × Goes (Host_notes (refused_entry refusal) ∷ []) self.old.outer self.new.outer out.old.items out.new.items) }
+        ensures host { self.new.host ≡ self.old.host }
+        ensures keys { self.new.keys ≡ self.old.keys }
+        ensures err { OnErr result (out.new.items ≡ out.old.items) }
+    {
+        let refusal = unopened_as(fault)?;
+        self.refuse(refusal, out)
+    }
+}
+
+/// What is entered where no host starts.
+fn unopened_as(fault: OpenFault) -> Result<Refusal, NoMemory>
+    ensures { IfOk result (λ refusal. shown_unopened fault ≡ Some refusal) }
+{
+    match fault {
+        OpenFault::KeeperFault => Ok(Refusal::KeeperFault),
+        OpenFault::BadRecord(place) => Ok(Refusal::BadRecord { place }),
+        OpenFault::NoMemory => Err(NoMemory),
+    }
+}

@@ -1,0 +1,80 @@
+//! Settling: bytes move until none does.
+
+ghost use Rattle.std.specs.Prelude.{◌≡◌, List as Items, IfOk, OnOk, OnErr};
+ghost use Rattle.device_sim.specs.State.{State};
+ghost use Rattle.zw_machine.specs.Did.{Does, Stops};
+ghost use Rattle.zw_machine.specs.Settling.{IsPump, Passes, Settles};
+ghost use Rattle.zw_world.specs.World.{scene};
+ghost use Rattle.zw_world.specs.Moving.{Pass};
+
+use crate::World;
+use host_keep::Keeper;
+use zw_base::{Draw, List, NoMemory};
+use zw_text::Entry;
+
+/// The most passes of a settling.
+const PASSES: u32 = 64;
+
+impl World {
+    /// The host submits what it may, and then bytes move, pass after pass, until none moves or there were 64 passes.
+    pub(crate) fn settle<D: Draw, P: Keeper>(
+        &mut self,
+        draw: &mut D,
+        keeper: &mut P,
+        out: &mut List<Entry>,
+    ) -> Result<(), NoMemory>
+        ensures ok { OnOk result ((ds : Items State) → Does Settles (scene self.old ds (P.records keeper.old) out.old.items (P.faults keeper.old)) (scene self.new ds (P.records keeper.new) out.new.items (P.faults keeper.new))) }
+        ensures err { OnErr result ((ds : Items State) → Stops (scene self.old ds (P.records keeper.old) out.old.items (P.faults keeper.old)) (scene self.new ds (P.records keeper.new) out.new.items (P.faults keeper.new))) }
+    {
+        self.pump(draw, keeper, out)?;
+        self.pass_all(draw, keeper, out)
+    }
+
+    // The passes.
+    fn pass_all<D: Draw, P: Keeper>(
+        &mut self,
+        draw: &mut D,
+        keeper: &mut P,
+        out: &mut List<Entry>,
+    ) -> Result<(), NoMemory>
+        ensures ok { OnOk result ((ds : Items State) → Does (Passes 64) (scene self.old ds (P.records keeper.old) out.old.items (P.faults keeper.old)) (scene self.new ds (P.records keeper.new) out.new.items (P.faults keeper.new))) }
+        ensures err { OnErr result ((ds : Items State) → Stops (scene self.old ds (P.records keeper.old) out.old.items (P.faults keeper.old)) (scene self.new ds (P.records keeper.new) out.new.items (P.faults keeper.new))) }
+    {
+        for _ in 0..PASSES {
+            if !self.pass(draw, keeper, out)? {
+                return Ok(());
+            }
+        }
+        Ok(())
+    }
+
+    // A pass: bytes move to the chip and to the host, and then the host pumps. The answer is whether any byte moved.
+    fn pass<D: Draw, P: Keeper>(
+        &mut self,
+        draw: &mut D,
+        keeper: &mut P,
+        out: &mut List<Entry>,
+    ) -> Result<bool, NoMemory>
+        ensures ok { IfOk result (λ moved. (ds : Items State) → Does (Pass moved) (scene self.old ds (P.records keeper.old) out.old.items (P.faults keeper.old)) (scene self.new ds (P.records keeper.new) out.new.items (P.faults keeper.new))) }
+        ensures err { OnErr result ((ds : Items State) → Stops (scene self.old ds (P.records keeper.old) out.old.items (P.faults keeper.old)) (scene self.new ds (P.records keeper.new) out.new.items (P.faults keeper.new))) }
+    {
+        let moved = self.move_bytes(draw, keeper, out)?;
+        self.pump(draw, keeper, out)?;
+        Ok(moved)
+    }
+
+    /// The host pumps.
+    pub(crate) fn pump<D: Draw, P: Keeper>(
+        &mut self,
+        draw: &mut D,
+        keeper: &mut P,
+        out: &mut List<Entry>,
+    ) -> Result<(), NoMemory>
+        ensures ok { OnOk result ((ds : Items State) → Does IsPump (scene self.old ds (P.records keeper.old) out.old.items (P.faults keeper.old)) (scene self.new ds (P.records keeper.new) out.new.items (P.faults keeper.new))) }
+        ensures err { OnErr result ((ds : Items State) → Stops (scene self.old ds (P.records keeper.old) out.old.items (P.faults keeper.old)) (scene self.new ds (P.records keeper.new) out.new.items (P.faults keeper.new))) }
+    {
+        let mut outs = List::new(self.alloc);
+        self.host.pump(draw, &mut outs, keeper)?;
+        self.route(outs, out)
+    }
+}

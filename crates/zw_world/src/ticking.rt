@@ -1,0 +1,87 @@
+//! Ticks of 100 ms.
+
+ghost use Rattle.std.specs.Prelude.{◌≡◌, ℕ, ◌<◌, ◌^◌, length, map, List as Items, OnOk, OnErr};
+ghost use Rattle.device_sim.specs.State.{State};
+ghost use Rattle.zw_machine.specs.Did.{Does, Stops};
+ghost use Rattle.zw_machine.specs.Ticking.{IsOutsideTick, IsHostTick, IsTick, Ticks};
+ghost use Rattle.zw_world.specs.World.{scene};
+
+use crate::World;
+use device_sim::Device;
+use host_keep::Keeper;
+use zw_base::{Draw, List, NoMemory};
+use zw_text::Entry;
+
+impl World {
+    /// So many ticks pass.
+    pub(crate) fn ticks<D: Draw, P: Keeper>(
+        &mut self,
+        count: u32,
+        devices: &mut Vec<Box<dyn Device>>,
+        draw: &mut D,
+        keeper: &mut P,
+        out: &mut List<Entry>,
+    ) -> Result<(), NoMemory>
+        requires few { length devices.old.items < 2 ^ 64 }
+        ensures ok { OnOk result (Does (Ticks count) (scene self.old (map (λ d. state d) devices.old.items) (P.records keeper.old) out.old.items (P.faults keeper.old)) (scene self.new (map (λ d. state d) devices.new.items) (P.records keeper.new) out.new.items (P.faults keeper.new))) }
+        ensures err { OnErr result (Stops (scene self.old (map (λ d. state d) devices.old.items) (P.records keeper.old) out.old.items (P.faults keeper.old)) (scene self.new (map (λ d. state d) devices.new.items) (P.records keeper.new) out.new.items (P.faults keeper.new))) }
+        ensures kept { length devices.new.items ≡ length devices.old.items }
+    {
+        for _ in 0..count {
+            self.tick(devices, draw, keeper, out)?;
+        }
+        Ok(())
+    }
+
+    // One tick passes: what is outside the host ticks, then the host, and the whole settles.
+    fn tick<D: Draw, P: Keeper>(
+        &mut self,
+        devices: &mut Vec<Box<dyn Device>>,
+        draw: &mut D,
+        keeper: &mut P,
+        out: &mut List<Entry>,
+    ) -> Result<(), NoMemory>
+        requires few { length devices.old.items < 2 ^ 64 }
+        ensures ok { OnOk result (Does IsTick (scene self.old (map (λ d. state d) devices.old.items) (P.records keeper.old) out.old.items (P.faults keeper.old)) (scene self.new (map (λ d. state d) devices.new.items) (P.records keeper.new) out.new.items (P.faults keeper.new))) }
+        ensures err { OnErr result (Stops (scene self.old (map (λ d. state d) devices.old.items) (P.records keeper.old) out.old.items (P.faults keeper.old)) (scene self.new (map (λ d. state d) devices.new.items) (P.records keeper.new) out.new.items (P.faults keeper.new))) }
+        ensures kept { length devices.new.items ≡ length devices.old.items }
+    {
+        self.outer.begin_tick()?;
+        self.tick_outside(devices, draw, out)?;
+        self.tick_host(draw, keeper, out)?;
+        self.settle(draw, keeper, out)
+    }
+
+    // Frames arrive, results are given to the chip, and devices and chip tick.
+    fn tick_outside<D: Draw>(
+        &mut self,
+        devices: &mut Vec<Box<dyn Device>>,
+        draw: &mut D,
+        out: &mut List<Entry>,
+    ) -> Result<(), NoMemory>
+        requires few { length devices.old.items < 2 ^ 64 }
+        ensures ok { OnOk result ((records : Rattle.std.specs.Prelude.Option (Items (Items ℕ))) (faults : ℕ) → Does IsOutsideTick (scene self.old (map (λ d. state d) devices.old.items) records out.old.items faults) (scene self.new (map (λ d. state d) devices.new.items) records out.new.items faults)) }
+        ensures err { OnErr result ((records : Rattle.std.specs.Prelude.Option (Items (Items ℕ))) (faults : ℕ) → Stops (scene self.old (map (λ d. state d) devices.old.items) records out.old.items faults) (scene self.new (map (λ d. state d) devices.new.items) records out.new.items faults)) }
+        ensures kept { length devices.new.items ≡ length devices.old.items }
+    {
+        self.outer.deliver(devices, draw, out)?;
+        self.outer.give_due(devices, out)?;
+        self.outer.tick_devices(devices, draw, out)?;
+        self.outer.tick_chip(out)
+    }
+
+    // The host ticks.
+    fn tick_host<D: Draw, P: Keeper>(
+        &mut self,
+        draw: &mut D,
+        keeper: &mut P,
+        out: &mut List<Entry>,
+    ) -> Result<(), NoMemory>
+        ensures ok { OnOk result ((ds : Items State) → Does IsHostTick (scene self.old ds (P.records keeper.old) out.old.items (P.faults keeper.old)) (scene self.new ds (P.records keeper.new) out.new.items (P.faults keeper.new))) }
+        ensures err { OnErr result ((ds : Items State) → Stops (scene self.old ds (P.records keeper.old) out.old.items (P.faults keeper.old)) (scene self.new ds (P.records keeper.new) out.new.items (P.faults keeper.new))) }
+    {
+        let mut outs = List::new(self.alloc);
+        self.host.tick(draw, &mut outs, keeper)?;
+        self.route(outs, out)
+    }
+}

@@ -1,0 +1,91 @@
+//! The world, and its lines.
+
+ghost use Rattle.std.specs.Prelude.{◌≡◌, ◌<◌, ◌^◌, length, map, IfOk, OnOk, OnErr};
+ghost use Rattle.zw_machine.specs.Did.{Does, Stops};
+ghost use Rattle.zw_machine.specs.Lines.{IsLine, IsLineRest};
+ghost use Rattle.zw_world.specs.World.{first_world, scene};
+
+use device_sim::Device;
+use host_core::Host;
+use host_keep::Keeper;
+use outer_world::Outer;
+use std::alloc::Global;
+use std::marker::Model;
+use zw_base::{Draw, List, NoMemory};
+use zw_text::{Entry, Line};
+
+/// A host, and all that is outside it but for the devices. Contracts see a `WorldState`.
+#[derive(Drop)]
+pub struct World {
+    pub(crate) alloc: Global,
+    pub(crate) key: [u8; 16],
+    pub(crate) host: Host,
+    pub(crate) outer: Outer,
+}
+
+impl Model for World {
+    ghost use Rattle.std.specs.Coded.{codes};
+    ghost use Rattle.value_store.specs.Values.{values_code};
+    ghost use Rattle.route_table.specs.Network.{network_code};
+    ghost use Rattle.host_core.specs.Network.{keys_of};
+    ghost use Rattle.zw_world.specs.World.{WorldState};
+
+    ghost Value = { WorldState };
+
+    ghost coded = { Prim.hlevel (codes, values_code, network_code) };
+
+    ghost view = { λ w. record { keys = keys_of w.key; host = w.host; outer = w.outer } };
+}
+
+impl World {
+    /// A world at clock 0: node 2 is joined, was interviewed, listens, and is linked to node 1.
+    pub fn new(alloc: Global, key: [u8; 16]) -> Result<World, NoMemory>
+        ensures { IfOk result (λ world. world ≡ first_world key) }
+    {
+        Ok(World {
+            alloc,
+            key,
+            host: Host::new(alloc, key)?,
+            outer: Outer::new(alloc)?,
+        })
+    }
+
+    /// Runs a line.
+    pub fn step<D: Draw, P: Keeper>(
+        &mut self,
+        line: &Line,
+        devices: &mut Vec<Box<dyn Device>>,
+        draw: &mut D,
+        keeper: &mut P,
+        out: &mut List<Entry>,
+    ) -> Result<(), NoMemory>
+        requires few { length devices.old.items < 2 ^ 64 }
+        ensures ok { OnOk result (Does (IsLine line.now) (scene self.old (map (λ d. state d) devices.old.items) (P.records keeper.old) out.old.items (P.faults keeper.old)) (scene self.new (map (λ d. state d) devices.new.items) (P.records keeper.new) out.new.items (P.faults keeper.new))) }
+        ensures err { OnErr result (Stops (scene self.old (map (λ d. state d) devices.old.items) (P.records keeper.old) out.old.items (P.faults keeper.old)) (scene self.new (map (λ d. state d) devices.new.items) (P.records keeper.new) out.new.items (P.faults keeper.new))) }
+        ensures kept { length devices.new.items ≡ length devices.old.items }
+    {
+        self.outer.begin_line();
+        self.run_line(line, devices, draw, keeper, out)
+    }
+
+    // What follows the beginning of a line: so many ticks, or its own effect and a settling.
+    fn run_line<D: Draw, P: Keeper>(
+        &mut self,
+        line: &Line,
+        devices: &mut Vec<Box<dyn Device>>,
+        draw: &mut D,
+        keeper: &mut P,
+        out: &mut List<Entry>,
+    ) -> Result<(), NoMemory>
+        requires few { length devices.old.items < 2 ^ 64 }
+        ensures ok { OnOk result (Does (IsLineRest line.now) (scene self.old (map (λ d. state d) devices.old.items) (P.records keeper.old) out.old.items (P.faults keeper.old)) (scene self.new (map (λ d. state d) devices.new.items) (P.records keeper.new) out.new.items (P.faults keeper.new))) }
+        ensures err { OnErr result (Stops (scene self.old (map (λ d. state d) devices.old.items) (P.records keeper.old) out.old.items (P.faults keeper.old)) (scene self.new (map (λ d. state d) devices.new.items) (P.records keeper.new) out.new.items (P.faults keeper.new))) }
+        ensures kept { length devices.new.items ≡ length devices.old.items }
+    {
+        if let Line::Tick { count } = line {
+            return self.ticks(*count, devices, draw, keeper, out);
+        }
+        self.effect(line, devices, draw, keeper, out)?;
+        self.settle(draw, keeper, out)
+    }
+}
