@@ -173,12 +173,22 @@ module _ (t : Traffic) (facts : RequestFacts t) where
   own_is_other (Some Abort) e other = absurd (other (facts.own e))
   own_is_other (Some Other) e other = (λ same. absurd (grind arith), tt)
 
+  -- an answered abort is an abort
+  still_abort : (pending : Option Pending) → IsAbort pending → IsAbort (answered_now pending)
+  still_abort None abort = absurd (grind (arith, abort.1))
+  still_abort (Some pending) abort = (true, ap answered_now abort.1)
+
+  -- and no SendData
+  no_send : (pending : Option Pending) → IsAbort pending → IsSend true (answered_now pending) → ⊥
+  no_send pending abort send =
+      let both : Some (record { word = Send; answered = true }) ≡ Some (record { word = Abort; answered = (still_abort pending abort).0 }) = sym send ∙ (still_abort pending abort).1 in absurd (grind (arith, both))
+
   pub answers-step : May t Answers → RequestFacts (after t Answers)
   answers-step may = record {
     between = facts.between;
     paid = facts.paid;
-    not_answered = λ e. subst (λ (up : List Word). NoAbort (up ++ linked t.link)) (sym may.0) (own_is_other t.link refl may.1);
-    own = λ e. absurd (may.1 (facts.own e));
+    not_answered = λ e. subst (λ (up : List Word). NoAbort (up ++ linked t.link)) (sym may) (own_is_other t.link refl (λ abort. no_send t.pending abort e));
+    own = λ e. still_abort t.pending (facts.own e);
     none_under_way = λ e. ap answered_now (facts.none_under_way e);
     few = facts.few;
     each_call = facts.each_call;
@@ -190,7 +200,7 @@ module _ (t : Traffic) (facts : RequestFacts t) where
     between = facts.between;
     paid = facts.paid;
     not_answered = λ e. absurd (grind arith);
-    own = λ e. absurd (may (facts.own e));
+    own = λ e. let none : t.link ≡ None = may (facts.own e) in absurd (grind (arith, sym none ∙ e));
     none_under_way = λ e. refl;
     few = facts.few;
     each_call = facts.each_call;

@@ -114,7 +114,7 @@ MaySubmit Other owes = owes ≡ false
 abbrev pub IsSend : Bool → Option Pending → Type 0
 IsSend answered pending = pending ≡ Some (record { word = Send; answered = answered })
 
--- an abort has no answer, and ends only with its frame
+-- the request under way is an abort
 abbrev pub IsAbort : Option Pending → Type 0
 IsAbort pending = (answered : Bool) × (pending ≡ Some (record { word = Abort; answered = answered }))
 
@@ -122,16 +122,16 @@ IsAbort pending = (answered : Bool) × (pending ≡ Some (record { word = Abort;
 abbrev pub IsFirst : Word → List Word → Type 0
 IsFirst word up = (rest : List Word) × (up ≡ word ∷ rest)
 
--- A request is submitted where none is under way and the line is free. The host hears of answers only while nothing of its own is on its way, since
--- the chip took all before. A request falls silent only while no call is to come, since those that were due came before. The chip takes a payload while it sends none, and gives up the one that it sends.
+-- A request is submitted where none is under way and the line is free. The host hears of answers only while nothing of its own is on its way, since the chip took all before. An abort ends no
+-- earlier than its frame. A request falls silent only while no call is to come, since those that were due came before. The chip takes a payload while it sends none, and gives up the one that it sends.
 abbrev pub May : Traffic → Step → Type 0
 May t (Submits word) = (t.pending ≡ None) × (t.link ≡ None) × MaySubmit word t.owes
 May t Copies = Unit {0}
 May t (Loses at) = Unit {0}
 May t Acknowledges = Unit {0}
 May t Gives_up = Unit {0}
-May t Answers = (t.up ≡ []) × (IsAbort t.pending → ⊥)
-May t Ends = IsAbort t.pending → ⊥
+May t Answers = t.up ≡ []
+May t Ends = IsAbort t.pending → t.link ≡ None
 May t Falls_silent = IsSend true t.pending × (t.calls ≡ [])
 May t (Takes flies) = IsFirst Send t.up × (t.sending ≡ false)
 May t Stops = IsFirst Abort t.up × (t.sending ≡ true)

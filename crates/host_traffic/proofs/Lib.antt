@@ -1,0 +1,5 @@
+mod Going
+mod Quiet
+mod Submitting
+mod Items
+mod Ticking
