@@ -1,0 +1,22 @@
+use Rattle.std.proofs.Common.{refl}
+use Rattle.serial_pipes.specs.Events.{Takes}
+use Rattle.serial_pipes.specs.Events as way
+use Rattle.chip_sim.specs.Nodes.{none_marked}
+use Rattle.outer_events.specs.State.{first_outer}
+use Rattle.outer_traffic.proofs.Judging.{items_go}
+use Rattle.outer_traffic.proofs.laws.outsides_make_requests.Goals as goal
+
+pub returns-clause-first : goal.returns-clause-first
+unfolding first_outer none_marked
+returns-clause-first c = record {
+  knows = record { aborted = refl; sending = refl; calls = refl };
+  await = record { frames = refl; results = refl };
+  fly = c.frames_fly_in_order.ensures.first;
+  joined = refl;
+}
+
+pub returns-clause-items : goal.returns-clause-items
+returns-clause-items c = λ t log flights o count rest ways later f is.
+    items_go c.frames_fly_in_order.ensures.goes t log flights
+    (record o { to_chip = way.after o.to_chip (Takes count); chip = record { decoder = rest; state = o.chip.state } }) ways later
+    (record { knows = record { aborted = f.knows.aborted; sending = f.knows.sending; calls = f.knows.calls }; await = record { frames = f.await.frames; results = f.await.results }; fly = f.fly; joined = f.joined }) is
