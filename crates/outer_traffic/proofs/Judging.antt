@@ -368,11 +368,11 @@ module _ (flying : Flying) (t : Traffic) (log : List Mark) (flights : List Flown
 
 -- ---- items, one after another
 
-steps-append : (t : Traffic) (a b : List Step) → course.after_all t (a ++ b) ≡ course.after_all (course.after_all t a) b
+pub steps-append : (t : Traffic) (a b : List Step) → course.after_all t (a ++ b) ≡ course.after_all (course.after_all t a) b
 steps-append t [] b = refl
 steps-append t (step ∷ a) b = steps-append (course.after t step) a b
 
-may-append : (t : Traffic) (a b : List Step) → course.MayAll t a → course.MayAll (course.after_all t a) b → course.MayAll t (a ++ b)
+pub may-append : (t : Traffic) (a b : List Step) → course.MayAll t a → course.MayAll (course.after_all t a) b → course.MayAll t (a ++ b)
 may-append t [] b first later = later
 may-append t (step ∷ a) b first later = (first.0, may-append (course.after t step) a b first.1 later)
 

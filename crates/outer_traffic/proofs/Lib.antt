@@ -1,3 +1,7 @@
 mod Functions
 mod Mild
 mod Judging
+mod Calls
+mod Results
+mod Arrivals
+mod Events

@@ -1,8 +1,8 @@
 -- What is outside the host has to do with the course of the host's requests (this project's own rule): the frames that the chip judges, the payload that it
 -- sends, the calls that it owes, and the frames on the air for them.
-use Rattle.std.specs.Prelude.{◌≡◌, ℕ, ◌+◌, Bool, true, false, List, [], ◌∷◌, ◌++◌, length, map}
+use Rattle.std.specs.Prelude.{◌<◌, ◌≡◌, ℕ, ◌+◌, Bool, true, false, List, [], ◌∷◌, ◌++◌, length, map}
 use Rattle.std.specs.Option.{is_some}
-use Rattle.std.specs.List.{flat_map}
+use Rattle.std.specs.List.{AllByRecursion, flat_map}
 use Rattle.serial_frame.specs.declared.item.Item.{Item}
 use Rattle.serial_frame.specs.declared.item.Item.TheVariants.{Good, Refused}
 use Rattle.air_frames.specs.declared.frame.Heading.{Heading}
@@ -14,7 +14,9 @@ use Rattle.outer_events.specs.declared.waits.Due.{Due}
 use Rattle.outer_events.specs.declared.waits.Due.TheVariants.{Info, NoRoute as no_route_due}
 use Rattle.outer_events.specs.declared.waits.Call.{Call}
 use Rattle.outer_events.specs.declared.waits.Call.TheVariants.{OfFrame, NoRoute as no_route_call}
+use Rattle.device_sim.specs.State.{State}
 use Rattle.outer_events.specs.State.{OuterState}
+use Rattle.outer_events.specs.Events.{OuterEvent, Gives, Chip_takes, Host_begins}
 use Rattle.request_course.specs.Requests.{Word, Traffic, Step}
 use Rattle.request_course.specs.Requests as course
 use Rattle.request_course.specs.Facts.{flying_in}
@@ -101,3 +103,16 @@ pub record Goes (t : Traffic) (log : List Mark) (flights : List Flown) (o : Oute
   pub follows : Follows (course.after_all t steps) (log ++ more) now o
   pub up_is : (course.after_all t steps).up ≡ up
   pub host : HostStays t (course.after_all t steps)
+
+-- ---- devices
+
+-- each device is of a node that has a place in the tables
+abbrev pub AreNodes : List State → Type 0
+AreNodes devices = AllByRecursion (λ (device : State). device.node < 233) devices
+
+-- a result is given only while no frame of the host is on the air
+abbrev pub InTurn : List Flown → OuterEvent → Type 0
+InTurn flights (Gives route) = outward flights ≡ 0
+InTurn flights (Chip_takes count rest ways) = ⊥
+InTurn flights (Host_begins node sessions) = node < 233
+InTurn flights event = Unit {0}
