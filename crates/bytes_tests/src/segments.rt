@@ -1,13 +1,9 @@
 //! The segments of whole datagrams, against an implementation outside this project.
 
+use std::alloc::Global;
 use std::test::Fail;
 use transport_segments::{Assembler, SegmentFault, Taken, cut, ends_datagram, segment_id};
-
-/// What stands for a whole datagram in the tables.
-const WHOLE: u16 = 1000;
-
-/// What stands for a segment that is kept.
-const KEPT: u16 = 1001;
+use zw_base::{Bytes, List};
 
 /// A Supervision Get with a Configuration Bulk Set of 200 parameters.
 fn bulk_set() -> [u8; 210] {
@@ -43,6 +39,73 @@ fn cuts_a_bulk_set(rt: HostRuntime) -> Result<(), Fail> {
     Ok(())
 }
 
+/// The segments of a datagram of 130 bytes in the order in which they come, and what each is answered by: it is kept, from
+/// which offset on bytes are missing, or the datagram is whole.
+const ORDERS: &str = "\
+0123 kept kept kept whole\n\
+0132 kept kept 78 whole\n\
+0213 kept kept kept whole\n\
+0231 kept kept 39 whole\n\
+0312 kept 39 78 whole\n\
+0321 kept 39 39 whole\n\
+1023 kept kept kept whole\n\
+1032 kept kept 78 whole\n\
+1203 kept kept kept whole\n\
+1230 kept kept 0 whole\n\
+1302 kept 0 78 whole\n\
+1320 kept 0 0 whole\n\
+2013 kept kept kept whole\n\
+2031 kept kept 39 whole\n\
+2103 kept kept kept whole\n\
+2130 kept kept 0 whole\n\
+2301 kept 0 39 whole\n\
+2310 kept 0 0 whole\n\
+3012 0 39 78 whole\n\
+3021 0 39 39 whole\n\
+3102 0 0 78 whole\n\
+3120 0 0 0 whole\n\
+3201 0 0 39 whole\n\
+3210 0 0 0 whole\n\
+001223 kept kept kept kept kept whole\n\
+332110 0 0 0 0 0 whole\n\
+01233012 kept kept kept whole 0 39 78 whole\n\
+2023011 kept kept kept 39 39 whole kept\n\
+";
+
+/// What a segment is answered by, in a word. A datagram is whole where it counts from 0.
+fn word_of(alloc: Global, taken: Taken) -> Result<String, Fail> {
+    match taken {
+        Taken::Kept => Ok(String::from_str(alloc, " kept")?),
+        Taken::Need(at) => Ok(format!(in alloc; " {at}")?),
+        Taken::Whole(whole) => {
+            let counts = whole
+                .as_slice()
+                .iter()
+                .zip(0..130u8)
+                .all(|(byte, i)| *byte == i);
+            let word = if counts && whole.len() == 130 {
+                " whole"
+            } else {
+                " other"
+            };
+            Ok(String::from_str(alloc, word)?)
+        }
+    }
+}
+
+/// The segments in this order, and behind it what they are answered by.
+fn joined(alloc: Global, segments: &List<Bytes>, order: &str) -> Result<String, Fail> {
+    let mut assembler = Assembler::new(alloc)?;
+    let mut text = String::from_str(alloc, order)?;
+    for digit in order.bytes() {
+        let at = usize::from(digit.saturating_sub(b'0'));
+        let segment = segments.as_slice().get(at).ok_or("no such segment")?;
+        let word = word_of(alloc, assembler.take(segment.as_slice())?)?;
+        text.push_str(word.as_str())?;
+    }
+    Ok(text)
+}
+
 #[test]
 fn joins_four_segments_in_any_order(rt: HostRuntime) -> Result<(), Fail> {
     let mut datagram = [0; 130];
@@ -51,58 +114,10 @@ fn joins_four_segments_in_any_order(rt: HostRuntime) -> Result<(), Fail> {
     }
     let segments = cut(rt.alloc(), 9, &datagram)?;
     assert_eq!(rt; segments.len(), 4);
-    let table: [(&[usize], &[u16]); 28] = [
-        (&[0, 1, 2, 3], &[KEPT, KEPT, KEPT, WHOLE]),
-        (&[0, 1, 3, 2], &[KEPT, KEPT, 78, WHOLE]),
-        (&[0, 2, 1, 3], &[KEPT, KEPT, KEPT, WHOLE]),
-        (&[0, 2, 3, 1], &[KEPT, KEPT, 39, WHOLE]),
-        (&[0, 3, 1, 2], &[KEPT, 39, 78, WHOLE]),
-        (&[0, 3, 2, 1], &[KEPT, 39, 39, WHOLE]),
-        (&[1, 0, 2, 3], &[KEPT, KEPT, KEPT, WHOLE]),
-        (&[1, 0, 3, 2], &[KEPT, KEPT, 78, WHOLE]),
-        (&[1, 2, 0, 3], &[KEPT, KEPT, KEPT, WHOLE]),
-        (&[1, 2, 3, 0], &[KEPT, KEPT, 0, WHOLE]),
-        (&[1, 3, 0, 2], &[KEPT, 0, 78, WHOLE]),
-        (&[1, 3, 2, 0], &[KEPT, 0, 0, WHOLE]),
-        (&[2, 0, 1, 3], &[KEPT, KEPT, KEPT, WHOLE]),
-        (&[2, 0, 3, 1], &[KEPT, KEPT, 39, WHOLE]),
-        (&[2, 1, 0, 3], &[KEPT, KEPT, KEPT, WHOLE]),
-        (&[2, 1, 3, 0], &[KEPT, KEPT, 0, WHOLE]),
-        (&[2, 3, 0, 1], &[KEPT, 0, 39, WHOLE]),
-        (&[2, 3, 1, 0], &[KEPT, 0, 0, WHOLE]),
-        (&[3, 0, 1, 2], &[0, 39, 78, WHOLE]),
-        (&[3, 0, 2, 1], &[0, 39, 39, WHOLE]),
-        (&[3, 1, 0, 2], &[0, 0, 78, WHOLE]),
-        (&[3, 1, 2, 0], &[0, 0, 0, WHOLE]),
-        (&[3, 2, 0, 1], &[0, 0, 39, WHOLE]),
-        (&[3, 2, 1, 0], &[0, 0, 0, WHOLE]),
-        (&[0, 0, 1, 2, 2, 3], &[KEPT, KEPT, KEPT, KEPT, KEPT, WHOLE]),
-        (&[3, 3, 2, 1, 1, 0], &[0, 0, 0, 0, 0, WHOLE]),
-        (
-            &[0, 1, 2, 3, 3, 0, 1, 2],
-            &[KEPT, KEPT, KEPT, WHOLE, 0, 39, 78, WHOLE],
-        ),
-        (
-            &[2, 0, 2, 3, 0, 1, 1],
-            &[KEPT, KEPT, KEPT, 39, 39, WHOLE, KEPT],
-        ),
-    ];
-    for (order, want) in table {
-        let mut assembler = Assembler::new(rt.alloc())?;
-        for (k, answer) in order.iter().zip(want) {
-            let Some(segment) = segments.as_slice().get(*k) else {
-                return Err("no such segment".into());
-            };
-            let got = match assembler.take(segment.as_slice())? {
-                Taken::Kept => KEPT,
-                Taken::Need(at) => at,
-                Taken::Whole(whole) => {
-                    assert_eq!(rt; whole.as_slice(), &datagram[..]);
-                    WHOLE
-                }
-            };
-            assert_eq!(rt; got, *answer, "at {k} of {order:?}");
-        }
+    for line in ORDERS.lines() {
+        let order = line.split_once(' ').map_or(line, |(order, _)| order);
+        let text = joined(rt.alloc(), &segments, order)?;
+        assert_eq!(rt; text.as_str(), line);
     }
     Ok(())
 }
@@ -156,5 +171,22 @@ fn refuses_segments_at_fault(rt: HostRuntime) -> Result<(), Fail> {
         }
     }
     assembler.clear();
+    Ok(())
+}
+
+#[test]
+fn faults_have_names(rt: HostRuntime) -> Result<(), Fail> {
+    let table = [
+        (SegmentFault::BadCrc { want: 1, got: 2 }, "badcrc"),
+        (SegmentFault::BadSize(513), "badsize"),
+        (SegmentFault::BadOffset(40), "badoffset"),
+        (SegmentFault::Extension, "extension"),
+        (SegmentFault::Short, "short"),
+        (SegmentFault::NoMemory, "nomemory"),
+    ];
+    for (fault, want) in table {
+        let text = format!(in rt.alloc(); "{fault}")?;
+        assert_eq!(rt; text.as_str(), want);
+    }
     Ok(())
 }

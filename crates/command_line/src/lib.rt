@@ -6,8 +6,6 @@
 
 mod asked;
 mod commands;
-#[cfg(test)]
-mod tests;
 
 pub use asked::{Asked, USAGE, WordsFault};
 pub use commands::read_words;

@@ -14,8 +14,6 @@ mod line;
 mod node_flow;
 mod print;
 mod read;
-#[cfg(test)]
-mod tests;
 mod world;
 
 pub use entry::{EventEntry, EventRefusal};

@@ -11,8 +11,6 @@ mod laws;
 mod no_more;
 mod node;
 mod series;
-#[cfg(test)]
-mod tests;
 
 pub use attempt::{AttemptEnd, Moment, Plan};
 pub use laws::{

@@ -23,6 +23,3 @@ pub use judging::judge;
 pub use refused::Refused;
 pub use setting::{properties_of, settings};
 pub use wrapping::write_message;
-
-#[cfg(test)]
-mod tests;

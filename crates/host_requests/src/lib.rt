@@ -12,8 +12,6 @@ mod laws;
 mod next;
 mod requests;
 mod task;
-#[cfg(test)]
-mod tests;
 mod under_way;
 
 pub use end::{End, How};

@@ -37,25 +37,3 @@ impl From<NoMemory> for SegmentFault {
         SegmentFault::NoMemory
     }
 }
-
-#[cfg(test)]
-mod tests {
-    use super::*;
-
-    #[test]
-    fn shows_its_name(rt: HostRuntime) -> Result<(), std::test::Fail> {
-        let table = [
-            (SegmentFault::BadCrc { want: 1, got: 2 }, "badcrc"),
-            (SegmentFault::BadSize(513), "badsize"),
-            (SegmentFault::BadOffset(40), "badoffset"),
-            (SegmentFault::Extension, "extension"),
-            (SegmentFault::Short, "short"),
-            (SegmentFault::NoMemory, "nomemory"),
-        ];
-        for (fault, want) in table {
-            let text = format!(in rt.alloc(); "{fault}")?;
-            assert_eq!(rt; text.as_str(), want);
-        }
-        Ok(())
-    }
-}

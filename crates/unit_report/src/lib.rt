@@ -11,8 +11,6 @@ mod hex_text;
 mod items;
 mod payload;
 mod reporting;
-#[cfg(test)]
-mod tests;
 mod words;
 
 pub use hex_text::CheckFault;

@@ -9,8 +9,6 @@ mod lists;
 mod parts;
 mod read;
 mod rows;
-#[cfg(test)]
-mod tests;
 
 pub use laws::{entries_without_feed, one_entry_each, one_transcript_each};
 pub use read::{EntryFault, read_entry};

@@ -6,7 +6,5 @@
 mod print;
 mod print_lists;
 mod print_parts;
-#[cfg(test)]
-mod tests;
 
 pub use print::print_entry;

@@ -12,8 +12,6 @@ mod laws;
 mod line;
 mod read;
 mod rows;
-#[cfg(test)]
-mod tests;
 mod word;
 
 pub use entry::{Done, Ended, Entry, Outcome, Refusal};

@@ -10,8 +10,6 @@ mod fault;
 mod fields;
 mod forms;
 mod side;
-#[cfg(test)]
-mod tests;
 mod words;
 
 pub use fault::{LineFault, ReadLineFault};

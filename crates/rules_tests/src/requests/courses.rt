@@ -1,8 +1,8 @@
 //! Each way in which a request begins and ends, from the beginning.
 
 use super::acts::{Act, Ask, At, Ending, Reply};
-use crate::Progress;
 use chip_functions::TransmitStatus;
+use host_requests::Progress;
 
 /// What is done, and where the requests are then.
 type Row = (Act, At);

@@ -1,7 +1,7 @@
 //! What `check` writes of texts, with ample memory.
 
-use crate::{CheckFault, check};
 use std::test::Fail;
+use unit_report::{CheckFault, check};
 use zw_words::Side;
 
 /// Every word of a line, at least once.

@@ -1,6 +1,6 @@
 //! Words that ask, and words that do not.
 
-use crate::{Asked, WordsFault, read_words};
+use command_line::{Asked, WordsFault, read_words};
 use std::test::Fail;
 use zw_words::Side;
 

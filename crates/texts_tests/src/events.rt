@@ -1,6 +1,6 @@
 //! Worked rows: what each line enters, and a last row for the table.
 
-use crate::{EventEntry, EventWorld, LineFault, ReadLineFault, print_event, read_event};
+use event_flow::{EventEntry, EventWorld, LineFault, ReadLineFault, print_event, read_event};
 use std::alloc::Global;
 use std::process::Abort;
 use std::test::Fail;

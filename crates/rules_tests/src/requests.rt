@@ -3,9 +3,9 @@
 mod acts;
 mod courses;
 
-use crate::*;
 use acts::{Act, Ask, At, is_at, payload, perform, push};
 use courses::COURSES;
+use host_requests::{QUEUE_CAPACITY, Requests, Task};
 use serial_frame::{Frame, Unit, encode};
 use std::alloc::Global;
 use std::process::Abort;

@@ -1,6 +1,6 @@
 //! An evening of one node, step by step, with ample memory.
 
-use crate::{AttemptEnd, Begun, Moment, NoMore, Node, Plan, Series};
+use host_node::{AttemptEnd, Begun, Moment, NoMore, Node, Plan, Series};
 use s0_crypto::{SealEnds, keys, seal};
 use std::alloc::Global;
 use std::process::Abort;

@@ -1,7 +1,7 @@
 //! What a test does to the requests, and where they are then.
 
-use crate::*;
 use chip_functions::{NodeMask, Response, TransmitStatus, Update};
+use host_requests::{End, How, Progress, Requests, Task};
 use std::alloc::Global;
 use std::process::Abort;
 use zw_base::{Bytes, NodeId, Payload, read_node};
