@@ -58,76 +58,107 @@ fn ends_as<D: Device>(
     Ok(())
 }
 
-/// A kind of device.
-#[derive(Clone, Copy)]
-enum Kind {
-    Switch,
-    Dimmer,
-    Lock,
-    Sensor,
-    Thermostat,
-    Strip,
-    Config,
-    Relay,
-}
-
-/// What is seen of a device that made its first change in its first session.
-const fn seen(number: u8, classes: &'static str, shown: usize, last: u32, settings: usize) -> Seen {
+fn expected(
+    number: u8,
+    classes: &'static str,
+    shown: usize,
+    last: u32,
+    by: By,
+    settings: usize,
+) -> Seen {
     Seen {
         number,
         listens: number != 5 && number != 101,
         classes,
         shown,
         last,
-        by: By::Session(1),
+        by,
         settings,
-    }
-}
-
-/// A device of each kind, what is played at it, and what is seen of it then.
-const ROWS: [(Kind, &str, Seen); 10] = [
-    (Kind::Switch, SWITCH, seen(2, "25856c", 4, 1, 1)),
-    (Kind::Dimmer, DIMMER, seen(3, "26856c", 2, 1, 1)),
-    (Kind::Dimmer, DIMMER_ON, seen(11, "26856c", 1, 99, 1)),
-    (Kind::Lock, LOCK, seen(4, "62986c", 1, 0, 1)),
-    (Kind::Sensor, SENSOR, seen(5, "3180846c", 2, 3, 1)),
-    (Kind::Sensor, LATER_SENSOR, seen(101, "3180846c", 2, 0, 1)),
-    (
-        Kind::Thermostat,
-        THERMOSTAT,
-        seen(6, "40438f856c", 3, 240, 2),
-    ),
-    (Kind::Strip, STRIP, seen(7, "25606c", 2, 255, 1)),
-    (Kind::Config, CONFIGURABLE, seen(8, "70556c", 200, 1, 200)),
-    (
-        Kind::Relay,
-        RELAY,
-        Seen {
-            by: By::Plain,
-            ..seen(9, "2556", 1, 255, 1)
-        },
-    ),
-];
-
-/// Makes a device of that kind and plays these steps at it.
-fn play(rt: &impl Abort, alloc: Global, kind: Kind, steps: &str, want: &Seen) -> Result<(), Fail> {
-    let at = node(want.number)?;
-    match kind {
-        Kind::Switch => ends_as(rt, alloc, make_switch(alloc, at, KEY)?, steps, want),
-        Kind::Dimmer => ends_as(rt, alloc, make_dimmer(alloc, at, KEY)?, steps, want),
-        Kind::Lock => ends_as(rt, alloc, make_lock(alloc, at, KEY)?, steps, want),
-        Kind::Sensor => ends_as(rt, alloc, make_sensor(alloc, at, KEY)?, steps, want),
-        Kind::Thermostat => ends_as(rt, alloc, make_thermostat(alloc, at, KEY)?, steps, want),
-        Kind::Strip => ends_as(rt, alloc, make_strip(alloc, at, KEY)?, steps, want),
-        Kind::Config => ends_as(rt, alloc, make_config(alloc, at, KEY)?, steps, want),
-        Kind::Relay => ends_as(rt, alloc, make_relay(alloc, at, KEY)?, steps, want),
     }
 }
 
 #[test]
 fn each_kind_plays_its_steps(rt: HostRuntime) -> Result<(), Fail> {
-    for (kind, steps, want) in ROWS {
-        play(&rt, rt.alloc(), kind, steps, &want)?;
-    }
-    Ok(())
+    let alloc = rt.alloc();
+    let first = By::Session(1);
+    let device = make_switch(alloc, node(2)?, KEY)?;
+    ends_as(
+        &rt,
+        alloc,
+        device,
+        SWITCH,
+        &expected(2, "25856c", 4, 1, first, 1),
+    )?;
+    let device = make_dimmer(alloc, node(3)?, KEY)?;
+    ends_as(
+        &rt,
+        alloc,
+        device,
+        DIMMER,
+        &expected(3, "26856c", 2, 1, first, 1),
+    )?;
+    let device = make_dimmer(alloc, node(11)?, KEY)?;
+    ends_as(
+        &rt,
+        alloc,
+        device,
+        DIMMER_ON,
+        &expected(11, "26856c", 1, 99, first, 1),
+    )?;
+    let device = make_lock(alloc, node(4)?, KEY)?;
+    ends_as(
+        &rt,
+        alloc,
+        device,
+        LOCK,
+        &expected(4, "62986c", 1, 0, first, 1),
+    )?;
+    let device = make_sensor(alloc, node(5)?, KEY)?;
+    ends_as(
+        &rt,
+        alloc,
+        device,
+        SENSOR,
+        &expected(5, "3180846c", 2, 3, first, 1),
+    )?;
+    let device = make_sensor(alloc, node(101)?, KEY)?;
+    ends_as(
+        &rt,
+        alloc,
+        device,
+        LATER_SENSOR,
+        &expected(101, "3180846c", 2, 0, first, 1),
+    )?;
+    let device = make_thermostat(alloc, node(6)?, KEY)?;
+    ends_as(
+        &rt,
+        alloc,
+        device,
+        THERMOSTAT,
+        &expected(6, "40438f856c", 3, 240, first, 2),
+    )?;
+    let device = make_strip(alloc, node(7)?, KEY)?;
+    ends_as(
+        &rt,
+        alloc,
+        device,
+        STRIP,
+        &expected(7, "25606c", 2, 255, first, 1),
+    )?;
+    let device = make_config(alloc, node(8)?, KEY)?;
+    ends_as(
+        &rt,
+        alloc,
+        device,
+        CONFIGURABLE,
+        &expected(8, "70556c", 200, 1, first, 200),
+    )?;
+    let device = make_relay(alloc, node(9)?, KEY)?;
+    ends_as(
+        &rt,
+        alloc,
+        device,
+        RELAY,
+        &expected(9, "2556", 1, 255, By::Plain, 1),
+    )
 }
