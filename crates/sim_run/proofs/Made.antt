@@ -1,5 +1,5 @@
 -- The lines of a scenario that is made from a number, turn by turn.
-use Rattle.std.proofs.Common.{◌≡◌, ℕ, ◌+◌, List, [], ◌∷◌, ◌++◌, map, sym, ap, ◌∙◌, arith}
+use Rattle.std.proofs.Common.{◌≡◌, ℕ, ◌+◌, List, ◌++◌, map, sym, ap, ◌∙◌, arith}
 use Rattle.std.specs.List.{flat_map, range_with_len}
 use Rattle.std.proofs.lemmas.List.{flat_map_more}
 use Rattle.std.proofs.lemmas.List.Folds.{flat_map-map}
@@ -7,7 +7,7 @@ use Rattle.std.proofs.lemmas.List.FromFn.{map-range_with_len_more}
 use Rattle.zw_text.specs.declared.line.Line.{Line}
 use Rattle.sim_run.specs.Generate.{command_lines}
 
-same : ℕ → ℕ
+abbrev same : ℕ → ℕ
 same turn = turn
 
 -- one more turn

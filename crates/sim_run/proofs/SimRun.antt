@@ -1,5 +1,6 @@
 -- What the world does with a text, and the transcript of a run.
-use Rattle.std.proofs.Common.{◌≡◌, ℕ, Bool, List, [], ◌∷◌, ◌++◌, Option, Some, None, Result, Ok, Err, IsOk, refl, sym, ap, ◌∙◌, subst, arith, append-nil}
+use Rattle.std.proofs.Common.{◌≡◌, ℕ, Bool, false, List, [], ◌∷◌, ◌++◌, Option, Some, None, Result, Ok, Err, IsOk, OnOk, is_err, refl, sym, ap, ◌∙◌, subst, arith, append-nil}
+use Rattle.std.specs.Io.KnownBytes.{Appends}
 use Rattle.zw_words.specs.Fields.{Gives}
 use Rattle.zw_words.specs.declared.fault.LineFault.{LineFault}
 use Rattle.zw_words.specs.declared.fault.ReadLineFault.{ReadLineFault}
@@ -15,11 +16,12 @@ use Rattle.zw_machine.proofs.Doing.{stopped_at_once, stopped_later}
 use Rattle.zw_machine.specs.Table.{table_entries}
 use Rattle.zw_world.specs.World.{WorldState, first_world, machine_of}
 use Rattle.scenario_run.specs.Machine.{RefusesBy}
-use Rattle.scenario_run.specs.Run.{HasRun}
+use Rattle.scenario_run.specs.Run.{ClosesWell, HasRun}
+use Rattle.scenario_run.specs.Writing.{text_of, AppendsFront}
 use Rattle.scenario_run.specs.declared.status.Status.{Status}
-use Rattle.scenario_run.specs.declared.status.Status.TheVariants.{NoMemory as no_memory}
+use Rattle.scenario_run.specs.declared.status.Status.TheVariants.{Ok as all_well, WriteFault as no_write, NoMemory as no_memory}
 use Rattle.entry_pieces.specs.Pieces.{pieces_of, said_text}
-use Rattle.entry_pieces.specs.Lines.{TextLine, DoesText, StopsText, LinesTold, fault_in, fault_by}
+use Rattle.entry_pieces.specs.Lines.{TextLine, StopsText, LinesTold, fault_in, fault_by}
 use Rattle.entry_pieces.proofs.Shown.{pieces-append, pieces_text}
 use Rattle.entry_pieces.proofs.Telling.{lines_told, none_told}
 use Rattle.sim_run.specs.Sim.{Point, SimRan, SimRuns, SimStops, LineRan, PartRan, IsTable, AnswersLine, StopsLine, at, point_of, said, shown_text}
@@ -83,6 +85,19 @@ unfolding IsTable
 is_table world devices none table shown sink out empty begun listed same is records faults =
     is ∙ ap (λ (o : List (List ℕ)). o ++ pieces_of false shown) begun ∙ ap (λ (es : List Entry). pieces_of false es) (same ∙ listed records)
     ∙ ap (λ (es : List Entry). pieces_of false (es ++ table_entries (machine_of world devices records))) empty
+
+-- what a fallible step says where it did not fail
+pub OnOk-is : {T E : Type 0} (r : Result T E) (P : Type 0) → is_err r ≡ false → OnOk r P → P
+OnOk-is (Ok x) P e p = p
+OnOk-is (Err e) P is p = absurd (grind (arith, is))
+
+-- the table is written, whole or in part
+module _ (point : Point) (pieces shown : List (List ℕ)) (sink sink' : Option (List ℕ)) (table : IsTable point pieces) (same : shown ≡ pieces) where
+  pub closed_well : Appends sink sink' (text_of shown) → ClosesWell IsTable all_well point sink sink'
+  closed_well a = (pieces, table, subst (λ (ps : List (List ℕ)). Appends sink sink' (text_of ps)) same a)
+
+  pub closed_in_part : AppendsFront sink sink' (text_of shown) → ClosesWell IsTable no_write point sink sink'
+  closed_in_part a = (pieces, table, subst (λ (ps : List (List ℕ)). AppendsFront sink sink' (text_of ps)) same a)
 
 -- ---- the run
 

@@ -1,8 +1,7 @@
 -- What `generate` runs and writes (this project's own rule).
-use Rattle.std.specs.Prelude.{◌≡◌, ℕ, zero, suc, ◌+◌, ◌*◌, ◌%◌, ◌==◌, nat_lt, if◌then◌else◌, List, [], ◌∷◌, ◌++◌, length, filter, map, codes, decimal, Bool, true, false, Option}
+use Rattle.std.specs.Prelude.{◌≡◌, ℕ, ◌+◌, ◌*◌, ◌%◌, ◌==◌, nat_lt, if◌then◌else◌, List, [], ◌∷◌, ◌++◌, length, filter, codes, decimal, Bool, true, false, Option}
 use Rattle.std.specs.List.{flat_map, range_with_len}
 use Rattle.std.specs.Io.KnownBytes.{Appends}
-use Rattle.zw_order.specs.declared.order.Order.{Order}
 use Rattle.zw_order.specs.declared.order.What.TheVariants.{Value}
 use Rattle.zw_order.specs.declared.order.Word.{Word}
 use Rattle.zw_order.specs.declared.order.Word.TheVariants.{On, Off}
@@ -11,7 +10,7 @@ use Rattle.zw_text.specs.declared.line.Line.TheVariants.{Command, Tick, Link, Jo
 use Rattle.zw_text.specs.declared.entry.Entry.{Entry}
 use Rattle.zw_text.specs.declared.entry.Entry.TheVariants.{Accepted, Out, TableEnd, TableNode, Device}
 use Rattle.zw_text.specs.declared.entry.Ended.TheVariants.{Success}
-use Rattle.zw_machine.specs.Did.{Scene, Does, Stops}
+use Rattle.zw_machine.specs.Did.{Scene, Does}
 use Rattle.zw_machine.specs.Lines.{IsLine}
 use Rattle.zw_machine.specs.Table.{table_entries}
 use Rattle.device_sim.specs.State.{State}

@@ -1,6 +1,5 @@
 -- What `sim` reads, runs and writes (this project's own rule, over the machine of `zw_machine`).
-use Rattle.std.specs.Prelude.{◌≡◌, ℕ, Bool, List, [], ◌∷◌, Option, Some, Result, Ok, false}
-use Rattle.zw_words.specs.declared.fault.LineFault.{LineFault}
+use Rattle.std.specs.Prelude.{◌≡◌, ℕ, Bool, List, [], ◌∷◌, Option, Some, Ok, false}
 use Rattle.zw_text.specs.Line.{line_at}
 use Rattle.zw_text.specs.Entry.{transcript_text}
 use Rattle.zw_text.specs.declared.line.Line.{Line}

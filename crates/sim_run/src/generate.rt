@@ -60,7 +60,14 @@ fn sum_up<D: Draw, P: Keeper>(
     let mut world = World::new(alloc, key)?;
     let lines = generated(alloc, hundreds)?;
     let mut entries = List::new(alloc);
-    run_all(lines.as_slice(), &mut world, devices, draw, keeper, &mut entries)?;
+    run_all(
+        lines.as_slice(),
+        &mut world,
+        devices,
+        draw,
+        keeper,
+        &mut entries,
+    )?;
     let mut table = List::new(alloc);
     world.table(devices, &mut table)?;
     summary(alloc, entries.as_slice(), table.as_slice())

@@ -1,5 +1,5 @@
 -- Line after line.
-use Rattle.std.proofs.Common.{◌∙◌, refl}
+use Rattle.std.proofs.Common.{◌∙◌}
 use Rattle.sim_run.proofs.Summing.{done_next}
 use Rattle.sim_run.proofs.generate.run_all.Goals as goal
 
