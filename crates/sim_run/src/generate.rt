@@ -1,9 +1,9 @@
 //! `generate`: a scenario that is made from a number is run, and summed up.
 
-ghost use Rattle.std.specs.Prelude.{◌≡◌, ◌<◌, ◌≤◌, ◌^◌, length, map, IfOk, OnOk};
+ghost use Rattle.std.specs.Prelude.{◌≡◌, ◌<◌, ◌≤◌, ◌^◌, length, map, List as Items, IfOk, OnOk, ℕ};
 ghost use Rattle.zw_base.specs.Faults.{Rose};
 ghost use Rattle.scenario_run.specs.Complete.{IsDone};
-ghost use Rattle.zw_world.specs.World.{scene};
+ghost use Rattle.zw_world.specs.World.{first_world, scene};
 ghost use Rattle.sim_run.specs.Generate.{AllDone, GenerateRan, SumsUp};
 
 use crate::generated::generated;
@@ -58,16 +58,27 @@ fn sum_up<D: Draw, P: Keeper>(
     ensures kept { length devices.new.items ≡ length devices.old.items }
 {
     let mut world = World::new(alloc, key)?;
+    run_made(alloc, hundreds, &mut world, devices, draw, keeper)
+}
+
+/// The same, in a world that is lent, so that none of the ways out of here drops it.
+fn run_made<D: Draw, P: Keeper>(
+    alloc: Global,
+    hundreds: u8,
+    world: &mut World,
+    devices: &mut Vec<Box<dyn Device>>,
+    draw: &mut D,
+    keeper: &mut P,
+) -> Result<Bytes, NoMemory>
+    requires { length devices.old.items < 2 ^ 64 }
+    ensures ok { IfOk result (λ text. (key : Items ℕ) → world.old ≡ first_world key →
+        SumsUp hundreds key (map (λ d. state d) devices.old.items) (map (λ d. state d) devices.new.items)
+        (P.records keeper.old) (P.records keeper.new) (P.faults keeper.old) (P.faults keeper.new) text) }
+    ensures kept { length devices.new.items ≡ length devices.old.items }
+{
     let lines = generated(alloc, hundreds)?;
     let mut entries = List::new(alloc);
-    run_all(
-        lines.as_slice(),
-        &mut world,
-        devices,
-        draw,
-        keeper,
-        &mut entries,
-    )?;
+    run_all(lines.as_slice(), world, devices, draw, keeper, &mut entries)?;
     let mut table = List::new(alloc);
     world.table(devices, &mut table)?;
     summary(alloc, entries.as_slice(), table.as_slice())

@@ -1,15 +1,6 @@
--- The scenario, its run, its table and its summary.
-use Rattle.std.proofs.Common.{map}
+-- In a world at its beginning.
 use Rattle.std.proofs.lemmas.Result.{IfOk-weaker}
-use Rattle.sim_run.proofs.Summing.{sums_up}
 use Rattle.sim_run.proofs.generate.sum_up.Goals as goal
 
 pub returns-clause-ok : goal.returns-clause-ok
-returns-clause-ok g c = IfOk-weaker c.summary.result _ _
-    (sums_up c.args.hundreds c.args.key (map (λ d. (goal.Device-dyn g (d.vtable, d.value)).state d.value) c.args.devices.now.items)
-    (map (λ d. (goal.Device-dyn g (d.vtable, d.value)).state d.value) c.run_all.new.devices.items)
-    (g.P.Keeper.records c.args.keeper.now) (g.P.Keeper.records c.run_all.new.keeper) (g.P.Keeper.faults c.args.keeper.now) (g.P.Keeper.faults c.run_all.new.keeper)
-    c.in_ok-world.world c.run_all.new.world c.in_ok-lines.lines.items c.as_slice.result.now c.new-entries.result.items c.run_all.new.entries.items c.as_slice-2.result.now
-    c.new-table.result.items c.table.new.out.items c.as_slice-3.result.now
-    c.in_ok-lines.ensures c.as_slice.ensures c.in_ok-world.ensures c.new-entries.ensures c.in_ok-run_all.ensures.ok c.new-table.ensures c.in_ok-table.ensures c.as_slice-2.ensures c.as_slice-3.ensures)
-    c.summary.ensures
+returns-clause-ok g c = IfOk-weaker c.run_made.result _ _ (λ text s. s c.args.key c.in_ok-world.ensures) c.run_made.ensures.ok
