@@ -13,7 +13,7 @@ mod status;
 mod writing;
 
 pub use machine::Machine;
-pub use running::LinesEnd;
-pub use scenario::run_scenario;
+pub use running::{LinesEnd, TextFault, end_at, end_of};
+pub use scenario::{end_badly, run_scenario};
 pub use status::Status;
-pub use writing::write_piece;
+pub use writing::{write_piece, write_pieces};

@@ -33,9 +33,12 @@ pub enum LinesEnd {
 
 /// Why the text of a line was not run, or not answered.
 #[derive(Clone, Copy, Debug, PartialEq, Eq)]
-pub(crate) enum TextFault {
+pub enum TextFault {
+    /// The text is no line.
     Bad(LineFault),
+    /// The sink failed.
     Write,
+    /// There was no memory.
     NoMemory,
 }
 
@@ -82,7 +85,7 @@ pub(crate) fn run_lines<A, B, C, M: Machine<A, B, C>, S: Source, K: Sink>(
 }
 
 /// Why no further line is run, where the reader gave none and the line of that number would have been next.
-fn end_of(next: Next, number: u32) -> LinesEnd
+pub fn end_of(next: Next, number: u32) -> LinesEnd
     ensures { result ≡ end_of next number }
 {
     match next {
@@ -97,7 +100,7 @@ fn end_of(next: Next, number: u32) -> LinesEnd
 }
 
 /// Why no further line is run after that line.
-fn end_at(fault: TextFault, number: u32) -> LinesEnd
+pub fn end_at(fault: TextFault, number: u32) -> LinesEnd
     ensures { result ≡ end_at fault number }
 {
     match fault {

@@ -94,7 +94,7 @@ fn end_well<A, B, C, M: Machine<A, B, C>, K: Sink>(
 }
 
 /// Writes the line that tells that a line is none.
-fn end_badly<K: Sink>(alloc: Global, sink: &mut K, line: u32, fault: LineFault) -> Status
+pub fn end_badly<K: Sink>(alloc: Global, sink: &mut K, line: u32, fault: LineFault) -> Status
     ensures closes { ClosesBadly line fault result (K.written sink.old) (K.written sink.new) }
     ensures never_falls { K.faults sink.old ≤ K.faults sink.new }
     ensures failed { result ≡ Status.WriteFault → Rose (K.faults sink.old) (K.faults sink.new) }

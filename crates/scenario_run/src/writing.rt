@@ -8,7 +8,7 @@ ghost use Rattle.scenario_run.specs.Writing.{text_of, AppendsFront};
 use zw_base::{Bytes, Failed, Sink};
 
 /// Writes pieces in their order.
-pub(crate) fn write_pieces<K: Sink>(sink: &mut K, pieces: &[Bytes]) -> Result<(), Failed>
+pub fn write_pieces<K: Sink>(sink: &mut K, pieces: &[Bytes]) -> Result<(), Failed>
     ensures written { OnOk result (Appends (K.written sink.old) (K.written sink.new) (text_of pieces.now)) }
     ensures front { OnErr result (AppendsFront (K.written sink.old) (K.written sink.new) (text_of pieces.now)) }
     ensures never_falls { K.faults sink.old ≤ K.faults sink.new }

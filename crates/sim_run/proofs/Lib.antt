@@ -1,0 +1,4 @@
+pub mod Made
+pub mod SimLines
+pub mod SimRun
+pub mod Summing

@@ -1,0 +1,16 @@
+//! The commands `sim` and `generate` of the program: a scenario is run by the world, from a text or as it is made from a number.
+//!
+//! It promises which lines were run and that what they did are the events that their schedules are; that what is written is the text of
+//! the entries of these events, and the last lines that the status adds, or a front of it; and the cause of each status.
+//! The definitions stand in `specs/`: `Sim` and `Generate`.
+#![tactic(auto)]
+
+mod generate;
+mod generated;
+mod running;
+mod sim;
+mod simulation;
+mod summary;
+
+pub use generate::run_generate;
+pub use sim::run_sim;
