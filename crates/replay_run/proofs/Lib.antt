@@ -1,0 +1,6 @@
+pub mod Doing
+pub mod Hosting
+pub mod Asking
+pub mod Steps
+pub mod Listing
+pub mod ReplayRun
