@@ -13,6 +13,7 @@ use Rattle.zw_text.specs.declared.entry.Entry.{Entry}
 use Rattle.zw_text.specs.declared.entry.Entry.TheVariants.{Refused}
 use Rattle.chip_sim.specs.State.{ChipParts}
 use Rattle.chip_sim.specs.Events.{ChipEvent}
+use Rattle.host_events.specs.State.{HostState}
 use Rattle.host_events.specs.Events.{HostEvent}
 use Rattle.host_events.specs.Did.{outs_all as host_outs_all}
 use Rattle.outer_events.specs.State.{OuterState, Outside}
@@ -21,6 +22,7 @@ use Rattle.outer_events.specs.Did.{happens_all as happens_all_outside}
 use Rattle.zw_machine.specs.State.{Machine, routed, host_does}
 use Rattle.zw_machine.specs.Events.{Event, Outside_does, Host_does, Host_takes, Decoder_ticks, Refuses, Shows_values, Restarts, happens, May, fed, notes, answers, host_answers, shown_values}
 use Rattle.zw_machine.specs.Did.{happens_all, MayAll}
+use Rattle.zw_machine.specs.Lines.{restart_events}
 use Rattle.line_facts.specs.Way.{Carries, written_all, items_all}
 use Rattle.line_facts.specs.Chip.{HasFrames}
 use Rattle.line_facts.specs.Line.{Carried, IsWhole, AreAtRest, ChipDid, LineAfter, IsAtRest, OuterAtRest, ClearedAtRest, AllAtRest, Stays, TakesWhole, OuterTakesAll, AllTakeWhole, WritesWell, AllWriteWell, Change, Grows, Becomes, up_change, down_change, host_writes, host_units, host_rest, chip_rest, outer_rest}
@@ -223,3 +225,25 @@ all_stay m (event ∷ events) whole rests may takes well =
     let here = at_rest m event rests in
     let later = all_stay (happens m event) events (whole_after m event whole may.0 here well.0) (rests_after m event whole rests may.0 takes.0 well.0) may.1 takes.1 well.1 in
     record { at_rest = (here, later.at_rest); whole = later.whole; rests = later.rests }
+
+-- ---- a restart
+
+-- nothing is on its way then
+pub restart_empties : (m : Machine) (state : HostState) (up down : List Item) → Carried m up down → HasFrames m.outside.outer.chip.state.port → AreAtRest m → MayAll m (restart_events state)
+    → Carried (happens_all m (restart_events state)) [] []
+restart_empties m state up down carried has rests may =
+    let starts = Restarts state in
+    let to_chip = Outside_does (Clears_pipe Host) in
+    let to_host = Outside_does (Clears_pipe Chip) in
+    let whole : IsWhole m = record { up = up; down = down; carried = carried; frames = has } in
+    let a = event_after m starts up down carried has may.0 rests.host tt in
+    let started = happens m starts in
+    let whole_then = whole_after m starts whole may.0 rests.host tt in
+    let rests_then = rests_after m starts whole rests may.0 tt tt in
+    let b = event_after started to_chip a.up_after a.down_after a.carried a.frames may.1.0 rests_then.chip tt in
+    let cleared = happens started to_chip in
+    let rests_now = rests_after started to_chip whole_then rests_then may.1.0 tt tt in
+    let c = event_after cleared to_host b.up_after b.down_after b.carried b.frames may.1.1.0 rests_now.host tt in
+    let none_up : c.up_after ≡ [] = c.up_is ∙ append-nil b.up_after ∙ b.up_is in
+    let none_down : c.down_after ≡ [] = c.down_is in
+    subst (λ (l : List Item). Carried (happens cleared to_host) l []) none_up (subst (λ (l : List Item). Carried (happens cleared to_host) c.up_after l) none_down c.carried)
