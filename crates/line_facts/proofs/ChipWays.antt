@@ -1,13 +1,11 @@
 -- Whatever happens outside the host but at the line itself: the chip does some events, and writes what they put out to the host.
-use Rattle.std.proofs.Common.{◌≡◌, ℕ, zero, suc, ◌+◌, ◌<◌, ◌≤◌, ◌-◌, ◌&&◌, ◌||◌, Bool, true, false, List, [], ◌∷◌, ◌++◌, length, map, refl, ap, sym, ◌∙◌, subst, inl, inr, arith, append_assoc, filter}
+use Rattle.std.proofs.Common.{◌≡◌, ℕ, zero, suc, ◌≤◌, ◌-◌, ◌&&◌, ◌||◌, Bool, true, false, List, [], ◌∷◌, ◌++◌, length, map, refl, ap, sym, ◌∙◌, subst, inl, inr, arith, filter}
 use Rattle.std.specs.Prelude.{Option, Some, None, nat_lt, nat_le, if◌then◌else◌, IsSome, drop, slice_get}
 use Rattle.std.specs.List.{AllByRecursion, flat_map, range_with_len}
-use Rattle.std.specs.Option.{unwrap_or, option_map, is_some}
+use Rattle.std.specs.Option.{unwrap_or, is_some}
 use Rattle.std.proofs.lemmas.Bool.{ltb-true, leb-true, and_parts}
 use Rattle.std.proofs.lemmas.List.{append-nil}
-use Rattle.zw_base.specs.declared.profile.Profile.{Profile}
 use Rattle.serial_frame.specs.declared.unit.Unit.{Unit as LineUnit}
-use Rattle.serial_frame.specs.declared.item.Item.{Item}
 use Rattle.serial_pipes.specs.State.{WayState}
 use Rattle.serial_pipes.specs.Events.{Writes}
 use Rattle.serial_pipes.specs.Events as way
@@ -18,7 +16,7 @@ use Rattle.chip_functions.specs.declared.notice.TransmitStatus.{TransmitStatus}
 use Rattle.chip_functions.specs.declared.notice.TransmitStatus.TheVariants.{Fail, NoRoute as no_route_status}
 use Rattle.chip_sim.specs.State.{ChipState, ChipParts}
 use Rattle.chip_sim.specs.Events.{ChipEvent, Done, Heard as chip_hears, Informed, Forgets, Joined, Linked, Collides, after, outs, May, OwesCall, FitsProfile}
-use Rattle.chip_sim.specs.Did.{MayAll, after_all, outs_all, judged_all}
+use Rattle.chip_sim.specs.Did.{MayAll, after_all, outs_all}
 use Rattle.chip_sim.specs.Link.{chip_units}
 use Rattle.chip_sim.specs.declared.out.Sending.{Sending}
 use Rattle.chip_sim.specs.declared.out.ChipOut.{ChipOut}
@@ -66,7 +64,7 @@ pub does_both : (a b : List ChipEvent) (o p q : OuterState) → ChipDoes a o p �
 does_both a b o p q first later =
     let s = o.chip.state in
     let all_outs : chip_units (outs_all s (a ++ b)) ≡ chip_units (outs_all s a) ++ chip_units (outs_all (after_all s a) b) =
-        ap chip_units (outs_all-append s a b) ∙ units-append (outs_all s a) (outs_all (after_all s a) b) in
+    ap chip_units (outs_all-append s a b) ∙ units-append (outs_all s a) (outs_all (after_all s a) b) in
     record {
       may = may_all-append s a b first.may (subst (λ (t : ChipState). MayAll t b) first.state later.may);
       state = later.state ∙ ap (λ (t : ChipState). after_all t b) first.state ∙ sym (after_all-append s a b);
@@ -174,6 +172,7 @@ owes s e = by (nat_lt 0 s.aborted) refl e
     sends : (sending : Option Sending) → is_some sending ≡ true → IsSome sending
     sends None bad = bad
     sends (Some x) good = good
+
     by : (b : Bool) → nat_lt 0 s.aborted ≡ b → (b || is_some s.sending) ≡ true → OwesCall s
     by true some all = inl (ltb-true 0 s.aborted some)
     by false none all = inr (sends s.sending all)

@@ -1,32 +1,27 @@
 -- What each event of the machine makes of what is on its way, and that both sides stay at rest where all bytes are taken.
 use Rattle.std.proofs.Common.{◌≡◌, ℕ, List, [], ◌∷◌, ◌++◌, length, map, refl, ap, sym, ◌∙◌, subst}
-use Rattle.std.specs.Prelude.{Option, take, drop}
-use Rattle.std.specs.List.{AllByRecursion}
+use Rattle.std.specs.Prelude.{take, drop}
 use Rattle.std.proofs.lemmas.List.{append-nil}
-use Rattle.serial_frame.specs.Stream.{Rest, Feeds, no_rest, after_tick}
+use Rattle.serial_frame.specs.Stream.{Rest, Feeds, no_rest}
 use Rattle.serial_frame.specs.declared.unit.Unit.{Unit as LineUnit}
 use Rattle.serial_frame.specs.declared.item.Item.{Item}
-use Rattle.serial_frame.specs.Items.{IsUnit}
 use Rattle.serial_pipes.specs.State.{WayState}
 use Rattle.zw_words.specs.declared.side.Side.TheVariants.{Host, Chip}
-use Rattle.zw_text.specs.declared.entry.Entry.{Entry}
 use Rattle.zw_text.specs.declared.entry.Entry.TheVariants.{Refused}
 use Rattle.chip_sim.specs.State.{ChipParts}
-use Rattle.chip_sim.specs.Events.{ChipEvent}
 use Rattle.host_events.specs.State.{HostState}
 use Rattle.host_events.specs.Events.{HostEvent}
 use Rattle.host_events.specs.Did.{outs_all as host_outs_all}
-use Rattle.outer_events.specs.State.{OuterState, Outside}
-use Rattle.outer_events.specs.Events.{OuterEvent, Host_takes as host_takes, Host_notes, Chip_takes, Chip_ticks, Clears_pipe, outcome, happens as happens_outside, May as MayOutside}
-use Rattle.outer_events.specs.Did.{happens_all as happens_all_outside}
-use Rattle.zw_machine.specs.State.{Machine, routed, host_does}
-use Rattle.zw_machine.specs.Events.{Event, Outside_does, Host_does, Host_takes, Decoder_ticks, Refuses, Shows_values, Restarts, happens, May, fed, notes, answers, host_answers, shown_values}
+use Rattle.outer_events.specs.State.{OuterState}
+use Rattle.outer_events.specs.Events.{OuterEvent, Chip_takes, Chip_ticks, Clears_pipe, outcome, May as MayOutside}
+use Rattle.zw_machine.specs.State.{Machine, host_does}
+use Rattle.zw_machine.specs.Events.{Event, Outside_does, Host_does, Host_takes, Decoder_ticks, Refuses, Shows_values, Restarts, happens, May, fed, answers, host_answers, shown_values}
 use Rattle.zw_machine.specs.Did.{happens_all, MayAll}
 use Rattle.zw_machine.specs.Lines.{restart_events}
 use Rattle.line_facts.specs.Way.{Carries, written_all, items_all}
 use Rattle.line_facts.specs.Chip.{HasFrames}
-use Rattle.line_facts.specs.Line.{Carried, IsWhole, AreAtRest, ChipDid, LineAfter, IsAtRest, OuterAtRest, ClearedAtRest, AllAtRest, Stays, TakesWhole, OuterTakesAll, AllTakeWhole, WritesWell, AllWriteWell, Change, Grows, Becomes, up_change, down_change, host_writes, host_units, host_rest, chip_rest, outer_rest}
-use Rattle.line_facts.proofs.Reading.{LeftOf, feeds_all}
+use Rattle.line_facts.specs.Line.{Carried, IsWhole, AreAtRest, LineAfter, IsAtRest, OuterAtRest, Stays, TakesWhole, OuterTakesAll, AllTakeWhole, WritesWell, AllWriteWell, Change, Grows, Becomes, up_change, down_change, host_writes, host_rest, chip_rest, outer_rest}
+use Rattle.line_facts.proofs.Reading.{feeds_all}
 use Rattle.line_facts.proofs.Ways.{carries_all, carries_left}
 use Rattle.line_facts.proofs.Outer.{Written, routed_all, notes_all, written_both, nothing_done, still_frames, outer_after, tick_still}
 

@@ -4,7 +4,7 @@ use Rattle.std.specs.Prelude.{Option}
 use Rattle.s0_crypto.specs.declared.key_pair.Keys.{Keys}
 use Rattle.device_sim.specs.State.{State}
 use Rattle.outer_events.specs.State.{first_outer}
-use Rattle.zw_machine.specs.State.{Machine, first_machine}
+use Rattle.zw_machine.specs.State.{first_machine}
 use Rattle.line_facts.specs.Chip.{HasFrames}
 use Rattle.line_facts.specs.Line.{Carried, IsWhole, AreAtRest}
 

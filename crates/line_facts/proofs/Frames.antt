@@ -1,24 +1,20 @@
 -- The chip writes frames that the format carries.
-use Rattle.std.proofs.Common.{◌≡◌, ℕ, ◌+◌, ◌≤◌, Bool, true, false, List, [], ◌∷◌, ◌++◌, length, refl, ap, sym, ◌∙◌, subst, arith, length-append}
-use Rattle.std.specs.Prelude.{Option, Some, None, nat_lt, nat_eq, ◌||◌, ◌-◌, ◌==◌, if◌then◌else◌, IsSome}
+use Rattle.std.proofs.Common.{◌≡◌, ℕ, ◌+◌, ◌≤◌, Bool, true, false, List, [], ◌∷◌, ◌++◌, length, refl, sym, subst, arith, length-append}
+use Rattle.std.specs.Prelude.{Option, Some, None, nat_eq, ◌||◌, ◌-◌, ◌==◌, if◌then◌else◌}
 use Rattle.std.specs.List.{AllByRecursion}
-use Rattle.std.specs.Int.{w16, w32, to_be_bytes}
 use Rattle.zw_base.specs.declared.profile.Profile.{Profile}
 use Rattle.serial_frame.specs.Frame.{FrameParts}
 use Rattle.serial_frame.specs.Items.{IsUnit}
-use Rattle.serial_frame.specs.declared.unit.Unit.{Unit as LineUnit}
 use Rattle.serial_frame.specs.declared.unit.Unit.TheVariants.{Ack, Nak, Can, Framed}
 use Rattle.serial_frame.specs.declared.item.Item.{Item}
 use Rattle.serial_frame.specs.declared.item.Item.TheVariants.{Good, Refused}
 use Rattle.serial_frame.specs.declared.item.Refusal.TheVariants.{Stray, BadLength, BadSum, BadKind, Aborted}
-use Rattle.serial_link.specs.State.{Side, hear, turn_heard, turn_refused, turn_ended, turn_ticked, copy_due, pause_after, tick_side}
+use Rattle.serial_link.specs.State.{Side, turn_heard, turn_refused, turn_ended, turn_ticked, copy_due, pause_after}
 use Rattle.serial_link.specs.declared.turn.Turn.{Turn}
 use Rattle.serial_link.specs.declared.turn.Turn.TheVariants.{Idle, Copied, Paused}
 use Rattle.route_table.specs.Network.{linked}
 use Rattle.route_table.specs.declared.route.Route.{Route}
 use Rattle.chip_functions.specs.Mask.{mask_of}
-use Rattle.chip_functions.specs.Response.{response_body}
-use Rattle.chip_functions.specs.Notice.{notice_body}
 use Rattle.chip_functions.specs.declared.notice.Notice.TheVariants.{ApplicationCommandHandler, ApplicationUpdate}
 use Rattle.chip_functions.specs.declared.notice.TransmitStatus.{TransmitStatus}
 use Rattle.chip_functions.specs.declared.notice.TransmitStatus.TheVariants.{Fail}
@@ -26,7 +22,7 @@ use Rattle.chip_functions.specs.declared.request.Request.{Request}
 use Rattle.chip_functions.specs.declared.request.Request.TheVariants.{GetInitData, GetCapabilities, SendData, GetVersion, SendDataAbort, MemoryGetId, GetNodeProtocolInfo, AddNode, RequestNodeInfo, IsFailedNode, GetRoutingInfo}
 use Rattle.chip_functions.proofs.MaskLemmas.{mask_len}
 use Rattle.chip_sim.specs.State.{ChipState}
-use Rattle.chip_sim.specs.Waiting.{PortState, is_full, queued, queued_at, queued_outs, queued_outs_at, served, served_at, served_outs, next_at, written, ticked, ticked_outs}
+use Rattle.chip_sim.specs.Waiting.{PortState, is_full, queued, queued_at, queued_outs, queued_outs_at, served, served_at, served_outs, next_at, written, ticked}
 use Rattle.chip_sim.specs.Nodes.{nodes_where, is_marked}
 use Rattle.chip_sim.specs.Answers.{response_frame, notice_frame, takes, init_data, routing_info}
 use Rattle.chip_sim.specs.Requests.{passed, answer_outs, reply_to, performed, performed_outs, requested, requested_outs, asked, heard, judged_frame, judged_outs, given_outs, sent, abort_frame, callback_frame, stopped, given_if}

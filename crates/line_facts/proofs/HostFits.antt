@@ -1,6 +1,6 @@
 -- The host writes frames that the format carries.
-use Rattle.std.proofs.Common.{◌≡◌, ℕ, zero, suc, ◌+◌, ◌≤◌, Bool, true, false, List, [], ◌∷◌, ◌++◌, length, map, get_or, refl, ap, sym, ◌∙◌, subst, arith, length-append}
-use Rattle.std.specs.Prelude.{Option, Some, None, nat_lt, if◌then◌else◌}
+use Rattle.std.proofs.Common.{◌≡◌, ℕ, zero, suc, ◌+◌, ◌≤◌, Bool, true, false, List, [], ◌∷◌, ◌++◌, length, get_or, refl, sym, subst, arith, length-append}
+use Rattle.std.specs.Prelude.{Option, Some, None, if◌then◌else◌}
 use Rattle.std.specs.List.{AllByRecursion}
 use Rattle.std.proofs.Math.ListN.{set}
 use Rattle.zw_text.specs.declared.entry.Entry.{Entry}
@@ -15,7 +15,7 @@ use Rattle.s0_session.specs.declared.account.Account.{Account}
 use Rattle.s0_session.specs.Nonces.{account_of, live_of, after_give, unused, new_nonce}
 use Rattle.chip_functions.specs.declared.request.TheConstants.{TRANSMIT_OPTIONS}
 use Rattle.host_requests.specs.Frames.{frame_of}
-use Rattle.host_requests.specs.State.{RequestsState, next_id, begun}
+use Rattle.host_requests.specs.State.{RequestsState, next_id}
 use Rattle.host_requests.specs.Next.{at_sent, at_response, at_callback, at_update, at_tick, after_next, next_from, went_on}
 use Rattle.host_requests.specs.Events.{RequestsEvent, after as after_request, end_at, front_begun}
 use Rattle.host_requests.specs.Events.RequestsEvent.{Pushes, PushesInterview, PushesProbe, BeginsAbort, BeginsFront, BeginsAttempt, IsSent, Fails, Responds, CallsBack, Updates, Ticks, Forgets}
@@ -30,7 +30,7 @@ use Rattle.host_requests.specs.declared.task.Task.TheVariants.{Plain, Offer, Seg
 use Rattle.host_requests.specs.declared.task.Purpose.{Purpose}
 use Rattle.host_requests.specs.declared.task.Purpose.TheVariants.{Housekeeping, Attempt, Abort}
 use Rattle.host_node.specs.State.{NodeState, unknown}
-use Rattle.host_node.specs.Steps.{attempt_end, tick_end, after_sign, after_no_more_end, after_attempt_end}
+use Rattle.host_node.specs.Steps.{attempt_end, tick_end}
 use Rattle.host_node.specs.Events.{NodeEvent, after as after_node}
 use Rattle.host_node.specs.Events.NodeEvent.{Accepts as node_accepts, Begins as node_begins, Blocks as node_blocks, Cancels as node_cancels, Drops_no_more as node_drops_no_more, Gives_segment as node_gives_segment, Gives_text as node_gives_text, Holds as node_holds, Interviews as node_interviews, Joins as node_joins, Notifies as node_notifies, Puts as node_puts, Queues_no_more as node_queues_no_more, Reports as node_reports, Starts as node_starts, Takes_nonce as node_takes_nonce, Ticks as node_ticks, Succeeds as node_succeeds, Ends_attempt as node_ends_attempt, Ends_no_more as node_ends_no_more}
 use Rattle.host_node.specs.declared.attempt.Moment.{Moment}
@@ -40,19 +40,15 @@ use Rattle.host_node.specs.declared.attempt.AttemptEnd.{AttemptEnd}
 use Rattle.host_node.specs.declared.attempt.AttemptEnd.TheVariants.{NoneRan, Again, Unanswered}
 use Rattle.host_nodes.specs.State.{nodes_after, node_of as node_among}
 use Rattle.host_keep.specs.Status.{status_byte}
-use Rattle.host_keep.specs.declared.final_status.FinalStatus.{FinalStatus}
 use Rattle.host_events.specs.State.{HostState, node_of, with_node, command_at}
 use Rattle.host_events.specs.Sessions.{open_command, open_segment, settings_with}
 use Rattle.supervision.specs.Host.{open_session}
-use Rattle.host_events.specs.Ends.{unanswered, attempt_ended, without_report, PartEnd, Good as well, Passed_over, Bad, part_end, after_part, after_task, after_end, after_end_if, attempt_entries}
-use Rattle.host_events.specs.After.{after, node_does, requests_do, request_does, submits, submits_part, front_purpose, is_full, is_held, queues_if_room, accepting, finishing, holding, giving, spending, offering, gives_up, line_ticked, failing_if, node_for}
+use Rattle.host_events.specs.Ends.{unanswered, attempt_ended, PartEnd, Good as well, Passed_over, Bad, part_end, after_part, after_task, after_end, after_end_if, attempt_entries}
+use Rattle.host_events.specs.After.{after, node_does, requests_do, request_does, submits, submits_part, front_purpose, is_full, is_held, queues_if_room, finishing, holding, giving, spending, offering, gives_up, line_ticked, failing_if, node_for}
 use Rattle.host_events.specs.Outs.{outs, answer_to, copy_out, noted, request_entries, failing_entries, dropped_if, stored_entries, held_entries}
 use Rattle.host_events.specs.May.{May, IsStart}
 use Rattle.host_events.specs.Facts.{HostFacts}
-use Rattle.host_events.specs.Did.{MayAll as MayAllHost, after_all, outs_all}
 use Rattle.host_events.specs.Events.{HostEvent, Accepts, Cancels, Joins, Queues, Queues_interview, Queues_probe, Hears, Requests_do, Interviews, Interview_unkept, Unreads, Is_unkept, Reports_old, Works, Finishes, Offers, Gives, Spends, Spends_unread, Takes_nonce, Notifies, Resends, Hears_value, Has_no_room, Line_ticks, Node_ticks, Queues_no_more, Drops_no_more, Submits_abort, Submits_front, Starts, Gives_text, Gives_segment, Begins, Begin_unkept}
-use Rattle.host_events.specs.declared.out.HostOut.{HostOut}
-use Rattle.host_events.specs.declared.out.HostOut.TheVariants.{Write, Note}
 use Rattle.line_facts.specs.Chip.{IsFrame, HasFrame}
 use Rattle.line_facts.specs.Line.{host_units}
 use Rattle.line_facts.specs.Host.{FitsTask, FitsIn, HasShortText, HasShortNonce, HostFits, FitsRequest, FitsEvent}
@@ -105,6 +101,7 @@ next_queue s next = by s.under_way
     went : (u : UnderWay) (n : Next) → (went_on s u n).queue ≡ s.queue
     went u (GoesOn progress) = refl
     went u (Ends how) = refl
+
     by : (under_way : Option UnderWay) → (next_from s next under_way).queue ≡ s.queue
     by None = refl
     by (Some u) = went u (next u)

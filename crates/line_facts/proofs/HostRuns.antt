@@ -1,17 +1,14 @@
 -- The host writes well in every run, restarts or not.
-use Rattle.std.proofs.Common.{◌≡◌, ℕ, zero, suc, ◌+◌, false, true, List, [], ◌∷◌, ◌++◌, length, map, take, drop, replicate, refl, ap, sym, ◌∙◌, subst, arith}
-use Rattle.std.specs.Prelude.{Option, Some, None, IsSome, ◌≤◌}
+use Rattle.std.proofs.Common.{◌≡◌, ℕ, zero, suc, ◌+◌, false, true, List, [], ◌∷◌, ◌++◌, length, map, take, drop, replicate, refl, sym, subst, arith}
+use Rattle.std.specs.Prelude.{Option, Some, None, IsSome}
 use Rattle.std.specs.List.{AllByRecursion}
 use Rattle.s0_crypto.specs.declared.key_pair.Keys.{Keys}
-use Rattle.s0_session.specs.declared.account.Account.{Account}
 use Rattle.s0_session.specs.Nonces.{unused, restored_account}
 use Rattle.serial_frame.specs.Items.{IsUnit}
-use Rattle.device_sim.specs.State.{State}
-use Rattle.host_node.specs.State.{NodeState, unknown}
+use Rattle.host_node.specs.State.{NodeState}
 use Rattle.host_node.specs.Steps.{after_restart}
-use Rattle.host_node.specs.Events.{NodeEvent, after as after_node}
-use Rattle.host_node.specs.Events.NodeEvent.{Joins, Interviews, Accepts as node_accepts, Puts as node_puts, Begins as node_begins, Cancels as node_cancels, Reports as node_reports, Restores_seen, Restarts as node_restarts}
-use Rattle.host_nodes.specs.State.{unknown_from, unknown_nodes, nodes_after, node_of as node_among}
+use Rattle.host_node.specs.Events.NodeEvent.{Joins, Interviews, Begins as node_begins, Cancels as node_cancels, Reports as node_reports, Restores_seen, Restarts as node_restarts}
+use Rattle.host_nodes.specs.State.{unknown_from, unknown_nodes, nodes_after}
 use Rattle.supervision.specs.Session.{wire_id}
 use Rattle.supervision.specs.Host.{command_at as command_of_session}
 use Rattle.host_keep.specs.Legal.{AreTextsOf, AreLegal}
@@ -20,10 +17,10 @@ use Rattle.host_keep.specs.Rows.{IsRecord}
 use Rattle.host_keep.specs.declared.final_status.FinalStatus.{FinalStatus}
 use Rattle.host_keep.specs.declared.record.Record.{Record}
 use Rattle.host_keep.specs.declared.record.Record.TheVariants.{Accepted, Joined, Classes, Begun, Final, Cancelled, Given, Spent, Seen}
-use Rattle.host_records.specs.Restoring.{restored, ending, given_again}
-use Rattle.host_records.specs.Opening.{restored_all, restarting, restarted, opened}
+use Rattle.host_records.specs.Restoring.{restored, ending}
+use Rattle.host_records.specs.Opening.{restored_all, restarting, opened}
 use Rattle.host_events.specs.State.{HostState, node_of, first_host, first_nodes, first_classes}
-use Rattle.host_events.specs.After.{after, node_does, accepting, finishing, node_for, spending}
+use Rattle.host_events.specs.After.{after, node_does, finishing, node_for}
 use Rattle.host_events.specs.Outs.{outs}
 use Rattle.host_events.specs.May.{May as MayHost}
 use Rattle.host_events.specs.Did.{MayAll as MayAllHost, after_all, outs_all}
@@ -31,13 +28,13 @@ use Rattle.host_events.specs.Events.{HostEvent}
 use Rattle.host_events.specs.Facts.{HostFacts}
 use Rattle.host_events.specs.declared.out.HostOut.{HostOut}
 use Rattle.host_events.specs.declared.out.HostOut.TheVariants.{Write, Note}
-use Rattle.zw_machine.specs.State.{Machine, first_machine}
+use Rattle.zw_machine.specs.State.{Machine}
 use Rattle.zw_machine.specs.Events.{Event, Outside_does, Host_does, Host_takes, Decoder_ticks, Refuses, Shows_values, Restarts, OpensFrom, happens, May}
-use Rattle.zw_machine.specs.Did.{happens_all, MayAll}
-use Rattle.line_facts.specs.Line.{host_units, host_writes, WritesWell, AllWriteWell}
+use Rattle.zw_machine.specs.Did.{MayAll}
+use Rattle.line_facts.specs.Line.{host_units, WritesWell, AllWriteWell}
 use Rattle.line_facts.specs.Host.{HasShortText, HasShortNonce, HostFits, FitsEvent, AsksWell, AllAskWell}
 use Rattle.line_facts.proofs.Frames.{all-append}
-use Rattle.line_facts.proofs.Texts.{BringsShort, event_short}
+use Rattle.line_facts.proofs.Texts.{event_short}
 use Rattle.line_facts.proofs.HostFits.{nodes_short, accepts_short, refit, does_fits, nonce_set, spending_fits, StartsShort, SegmentsShort, event_fits, event_units}
 
 -- ---- at first
@@ -62,7 +59,6 @@ pub first_fits : (keys : Keys) → HostFits (first_host keys)
 first_fits keys = record { turn = tt; queue = tt; texts = first_short; nonces = unused_short 233 }
 
 -- ---- a host that starts from records
-
 
 ending_fits : (h : HostState) (n session : ℕ) (status : FinalStatus) (command : Option ℕ) → HostFits h → HostFits (ending h n session status command)
 ending_fits h n session status None fits = fits

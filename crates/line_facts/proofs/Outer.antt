@@ -1,9 +1,7 @@
 -- What an event outside the host, or of the host at the line, makes of what is on its way.
-use Rattle.std.proofs.Common.{◌≡◌, ℕ, Bool, true, false, List, [], ◌∷◌, ◌++◌, length, map, refl, ap, sym, ◌∙◌, subst}
-use Rattle.std.specs.Prelude.{Option, Some, None, slice_get, take}
-use Rattle.std.specs.List.{AllByRecursion, flat_map}
+use Rattle.std.proofs.Common.{◌≡◌, ℕ, true, false, List, [], ◌∷◌, ◌++◌, map, refl, ap, sym, ◌∙◌, subst}
+use Rattle.std.specs.Prelude.{Option, Some, None, slice_get}
 use Rattle.std.proofs.lemmas.List.{append-nil}
-use Rattle.serial_frame.specs.Items.{IsUnit}
 use Rattle.serial_frame.specs.Stream.{Rest, Feeds, no_rest, after_tick}
 use Rattle.serial_frame.specs.declared.unit.Unit.{Unit as LineUnit}
 use Rattle.serial_frame.specs.declared.item.Item.{Item}
@@ -17,7 +15,7 @@ use Rattle.serial_pipes.specs.declared.marks.Garble.{Garble}
 use Rattle.route_table.specs.declared.route.Route.{Route}
 use Rattle.chip_sim.specs.State.{ChipState, ChipParts}
 use Rattle.chip_sim.specs.Events.{ChipEvent, Ticked}
-use Rattle.chip_sim.specs.Did.{MayAll as MayAllChip, outs_all, judged_all}
+use Rattle.chip_sim.specs.Did.{outs_all, judged_all}
 use Rattle.chip_sim.specs.Link.{chip_units}
 use Rattle.host_events.specs.declared.out.HostOut.{HostOut}
 use Rattle.host_events.specs.declared.out.HostOut.TheVariants.{Write, Note}
@@ -27,16 +25,14 @@ use Rattle.mesh_sim.specs.Fates.{place_of}
 use Rattle.mesh_sim.specs.Steps as mesh
 use Rattle.outer_events.specs.Results.{device_at}
 use Rattle.outer_events.specs.Nodes.{listens_at}
-use Rattle.outer_events.specs.State.{OuterState, Outside, outside}
-use Rattle.outer_events.specs.Chip.{chip_does}
+use Rattle.outer_events.specs.State.{OuterState, Outside}
 use Rattle.outer_events.specs.Events.{OuterEvent, Begins_line, Begins_tick, Host_writes, Host_takes as host_takes, Host_notes, Host_begins, Chip_takes, Arrives, Gives, Device_ticks, Chip_ticks, Repeats, Wakes_device, Sets_device, Shows, Joins, Discovers, Links, Loses, Loses_acks, Marks_loss, Marks_change, Clears_pipe, Collides_next, Stalls, Cuts, is_own, outcome, has_entered, happens as happens_outside, May as MayOutside}
 use Rattle.outer_events.specs.Did.{happens_all as happens_all_outside}
-use Rattle.zw_machine.specs.State.{Machine, routed, routed_one, noted_by, begun_in}
-use Rattle.zw_machine.specs.Events.{Event, Outside_does, happens, notes}
+use Rattle.zw_machine.specs.State.{Machine, routed, noted_by, begun_in}
+use Rattle.zw_machine.specs.Events.{Outside_does, happens, notes}
 use Rattle.line_facts.specs.Way.{Carries, written_all, items_all}
-use Rattle.line_facts.specs.Chip.{HasFrames, ChipDoes}
-use Rattle.line_facts.specs.Line.{Carried, ChipDid, chip_writes, Change, Grows, Judges, Vanishes, Becomes, outer_up, outer_down, outer_rest, LineAfter, OuterAtRest, host_unit, host_units}
-use Rattle.line_facts.proofs.Reading.{LeftOf}
+use Rattle.line_facts.specs.Chip.{HasFrames}
+use Rattle.line_facts.specs.Line.{Carried, ChipDid, Change, Grows, Becomes, outer_up, outer_down, outer_rest, LineAfter, OuterAtRest, host_units}
 use Rattle.line_facts.proofs.Ways.{carries_all, carries_left, carries_none}
 use Rattle.line_facts.proofs.Frames.{events_have, events_fit}
 use Rattle.line_facts.proofs.ChipWays.{ChipMoves, IsStill, still_does, still_moves, moves_both, moves_from, still_here, does_each, does_both, does_one, gives_moves, steps_moves, repeats_moves, at_moves, hand_moves, joins_moves, discovers_moves, collides_moves, written_all-append}

@@ -1,11 +1,7 @@
 -- In a line each side takes all bytes that are there.
-use Rattle.std.proofs.Common.{◌≡◌, ℕ, zero, suc, Bool, true, false, List, [], ◌∷◌, ◌++◌, length, map, refl, ap, sym, ◌∙◌, subst, inl, inr, ◌+◌, ◌-◌}
-use Rattle.std.specs.Prelude.{◌⊎◌, Option, Some, None}
+use Rattle.std.proofs.Common.{◌≡◌, ℕ, zero, suc, Bool, true, false, List, [], ◌∷◌, ◌++◌, length, map, refl, ap, sym, subst, inl, inr, ◌+◌, ◌-◌}
+use Rattle.std.specs.Prelude.{Option, Some, None}
 use Rattle.std.specs.List.{AllByRecursion}
-use Rattle.serial_frame.specs.declared.item.Item.{Item}
-use Rattle.serial_frame.specs.Stream.{Rest}
-use Rattle.route_table.specs.declared.route.Route.{Route}
-use Rattle.zw_words.specs.declared.side.Side.TheVariants as side
 use Rattle.zw_text.specs.declared.line.Line.{Line}
 use Rattle.zw_text.specs.declared.line.Line.TheVariants.{Command, Tick, Cut, Stall, Drop, Garble, Collide, Send, Get, Join, Interview, Lose, LoseAck, Repeat, Wake, Cancel, Link, Unlink, Discover, Neighbours, Failed, Probe, Local, Show, Store, Restart}
 use Rattle.host_orders.specs.declared.refused.Refused.{Refused}
@@ -17,16 +13,16 @@ use Rattle.host_events.specs.May.{known_of}
 use Rattle.host_events.specs.Asking.{places_refusal, interview_refusal}
 use Rattle.host_events.specs.Events.{HostEvent, Queues, Queues_interview, Queues_probe}
 use Rattle.host_events.specs.Ticking.{tick_events}
-use Rattle.outer_events.specs.State.{OuterState, is_stalled}
-use Rattle.outer_events.specs.Events.{OuterEvent, Chip_takes, Chip_ticks, Discovers, Begins_line, Begins_tick, Arrives, Gives, Device_ticks, Repeats, Wakes_device, Sets_device}
-use Rattle.outer_events.specs.Schedules.{TakesAll as ChipTakesAll, TakesBy as ChipTakesBy, ChipTakes, Arrivals, Delivers, Givings, DeviceTicks, IsRepeat, IsWake, IsSet}
+use Rattle.outer_events.specs.State.{is_stalled}
+use Rattle.outer_events.specs.Events.{OuterEvent, Chip_takes, Chip_ticks, Discovers, Begins_line, Begins_tick}
+use Rattle.outer_events.specs.Schedules.{TakesBy as ChipTakesBy, Arrivals, Delivers, Givings, DeviceTicks, IsRepeat, IsWake, IsSet}
 use Rattle.zw_machine.specs.State.{Machine}
-use Rattle.zw_machine.specs.Events.{Event, Outside_does, Host_does, Host_takes, Decoder_ticks, Refuses, happens}
-use Rattle.zw_machine.specs.Did.{happens_all, Schedule, Then, These}
-use Rattle.zw_machine.specs.Settling.{Outside, IsPump, IsChipPart, IsHostPart, TakesAll, TakesBy, IsMove, IfMoved, Passes, Settles}
+use Rattle.zw_machine.specs.Events.{Event, Outside_does, Host_does, Decoder_ticks, happens}
+use Rattle.zw_machine.specs.Did.{happens_all, Schedule, Then}
+use Rattle.zw_machine.specs.Settling.{Outside, IsPump, IsChipPart, IsHostPart, TakesBy, IsMove, IfMoved, Passes, Settles}
 use Rattle.zw_machine.specs.Ticking.{IsClockTick, IsDelivery, IsGiving, IsDeviceTick, IsChipTick, IsOutsideTick, IsHostTick, IsTick, Ticks}
-use Rattle.zw_machine.specs.Lines.{IsRefusal, IsDone, Asks, IsOne, IsRestart, IsDiscovery, IsEffect, IsLineBegin, IsLineRest, IsLine, restart_events}
-use Rattle.line_facts.specs.Line.{TakesWhole, OuterTakesAll, AllTakeWhole, AreLines}
+use Rattle.zw_machine.specs.Lines.{IsRefusal, IsDone, Asks, IsRestart, IsDiscovery, IsEffect, IsLineBegin, IsLineRest, IsLine}
+use Rattle.line_facts.specs.Line.{OuterTakesAll, AllTakeWhole, AreLines}
 
 -- ---- schedules
 

@@ -1,7 +1,6 @@
 -- What is judged is of what was written.
-use Rattle.std.proofs.Common.{◌≡◌, ℕ, Bool, true, false, List, [], ◌∷◌, ◌++◌, refl, ap, sym, ◌∙◌, subst, inl, inr, append_assoc}
+use Rattle.std.proofs.Common.{◌≡◌, Bool, true, false, List, [], ◌∷◌, ◌++◌, refl, ap, sym, ◌∙◌, subst, inl, inr, append_assoc}
 use Rattle.std.specs.Prelude.{◌⊎◌, ◌==◌, nat_lt, if◌then◌else◌}
-use Rattle.std.specs.List.{flat_map}
 use Rattle.std.proofs.lemmas.List.{append-nil}
 use Rattle.serial_frame.specs.Frame.{FrameParts}
 use Rattle.serial_frame.specs.Items.{unit_text}
@@ -18,16 +17,15 @@ use Rattle.chip_sim.specs.State.{ChipState}
 use Rattle.chip_sim.specs.Events.{ChipEvent}
 use Rattle.chip_sim.specs.Did.{MayAll as MayAllChip, after_all, outs_all}
 use Rattle.chip_sim.specs.Link.{chip_units}
-use Rattle.chip_sim.specs.declared.out.ChipOut.{ChipOut}
 use Rattle.chip_sim.proofs.Doing.{after_all-append, outs_all-append, may_all-append}
 use Rattle.courses.specs.Parts.{IsPart}
-use Rattle.outer_events.specs.Events.{OuterEvent, Chip_takes, Clears_pipe}
+use Rattle.outer_events.specs.Events.{Chip_takes, Clears_pipe}
 use Rattle.zw_machine.specs.State.{Machine}
-use Rattle.zw_machine.specs.Events.{Event, Outside_does, Host_does, Host_takes, happens, May}
+use Rattle.zw_machine.specs.Events.{Event, Outside_does, Host_does, Host_takes, happens}
 use Rattle.zw_machine.specs.Did.{happens_all, MayAll}
 use Rattle.line_facts.specs.Way.{wanted_sum, found_sum, items_of, unit_item, items_all}
 use Rattle.line_facts.specs.Chip.{HasFrames}
-use Rattle.line_facts.specs.Line.{Carried, ChipDid, chip_writes, chip_judges, host_judges, host_writes, host_writes_all, Change, Grows, Judges, Vanishes, Becomes, up_change, down_change, outer_up, LineAfter, IsAtRest, AllAtRest, WritesWell, AllWriteWell}
+use Rattle.line_facts.specs.Line.{Carried, ChipDid, chip_writes, chip_judges, host_judges, host_writes, host_writes_all, Change, Grows, Judges, Vanishes, Becomes, up_change, down_change, AllAtRest, AllWriteWell}
 use Rattle.line_facts.specs.Units.{IsOf, AreOf, good_unit, good_units, unit_frame, frames_of, chip_judged, host_judged, JudgesUnits, JudgesFrames}
 use Rattle.line_facts.proofs.ChipWays.{units-append}
 use Rattle.line_facts.proofs.Events.{event_after}
@@ -154,7 +152,7 @@ down_goes : (m : Machine) (event : Event) (units : List LineUnit) (past old new 
     → AreOf (past ++ old) written → AreOf ((past ++ host_judges event) ++ new) (written ++ units)
 down_goes m event units past old new written is are =
     let goes = subst (λ (l : List Item). AreOf ((past ++ l) ++ new) (written ++ written_by (down_change event units))) (down_judged event units)
-        (change_goes (down_change event units) m.outside.outer.to_host past old new written is are) in
+    (change_goes (down_change event units) m.outside.outer.to_host past old new written is are) in
     let items = (past ++ host_judges event) ++ new in
     elim (down_written event units) [
       | inl all ↦ subst (λ (l : List LineUnit). AreOf items (written ++ l)) all goes
@@ -204,8 +202,8 @@ goes_on m (event ∷ events) up down up_past down_past up_written down_written c
     let one = event_after m event up down carried has may.0 rests.0 well.0 in
     let units = chip_writes m one.chip_events in
     let more = goes_on n events one.up_after one.down_after (up_past ++ chip_judges event) (down_past ++ host_judges event) (up_written ++ host_writes m event) (down_written ++ units)
-        one.carried one.frames may.1 rests.1 well.1
-        (up_goes m event up_past up one.up_after up_written one.up_is up_are) (down_goes m event units down_past down one.down_after down_written one.down_is down_are) in
+    one.carried one.frames may.1 rests.1 well.1
+    (up_goes m event up_past up one.up_after up_written one.up_is up_are) (down_goes m event units down_past down one.down_after down_written one.down_is down_are) in
     record {
       chip_events = one.chip_events ++ more.chip_events;
       chip = did_both m n (happens_all n events) one.chip_events more.chip_events one.chip more.chip;

@@ -1,5 +1,5 @@
 -- What an event of one direction makes of the items on their way.
-use Rattle.std.proofs.Common.{◌≡◌, ℕ, ◌≤◌, Bool, true, false, List, [], ◌∷◌, ◌++◌, length, refl, ap, sym, ◌∙◌, subst, append_assoc}
+use Rattle.std.proofs.Common.{◌≡◌, ℕ, Bool, true, false, List, [], ◌∷◌, ◌++◌, length, refl, ap, sym, subst, append_assoc}
 use Rattle.std.specs.Prelude.{nat_lt, nat_le, if◌then◌else◌, take, drop, ◌+◌}
 use Rattle.std.specs.List.{AllByRecursion}
 use Rattle.std.proofs.lemmas.List.{append-nil}
@@ -9,14 +9,13 @@ use Rattle.serial_frame.specs.declared.unit.Unit.{Unit as LineUnit}
 use Rattle.serial_frame.specs.declared.unit.Unit.TheVariants.{Ack, Nak, Can, Framed}
 use Rattle.serial_frame.specs.declared.item.Item.{Item}
 use Rattle.serial_frame.specs.declared.item.Item.TheVariants.{Good}
-use Rattle.serial_pipes.specs.State.{WayState, MarksState, garbled, joined, fits, mark_for, change_for, oldest}
-use Rattle.serial_pipes.specs.Events.{after, passing, Writes, Takes, Clears}
+use Rattle.serial_pipes.specs.State.{WayState, garbled, joined, fits, change_for}
+use Rattle.serial_pipes.specs.Events.{after, passing, Writes, Clears}
 use Rattle.serial_pipes.specs.declared.pipe.TheConstants.{CAPACITY}
 use Rattle.serial_pipes.specs.declared.marks.Garble.{Garble}
-use Rattle.serial_pipes.specs.declared.marks.Mark.{Mark}
-use Rattle.serial_pipes.specs.declared.marks.Mark.TheVariants.{Free, Lost, Changed}
-use Rattle.line_facts.specs.Way.{Carries, items_of, marked_items, unit_item, frame_item, changed_item, written_all, items_all}
-use Rattle.line_facts.proofs.Reading.{feeds_more, feeds_left, feeds_all, LeftOf, AllOf}
+use Rattle.serial_pipes.specs.declared.marks.Mark.TheVariants.{Lost}
+use Rattle.line_facts.specs.Way.{Carries, items_of, unit_item, changed_item, written_all, items_all}
+use Rattle.line_facts.proofs.Reading.{feeds_more, feeds_left, LeftOf}
 use Rattle.line_facts.proofs.Changing.{changed_text, garbled_long}
 
 -- ---- one unit

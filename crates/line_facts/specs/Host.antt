@@ -1,5 +1,5 @@
 -- What the host may write (this project's own): payloads of the radio have at most 46 bytes, and nonces eight, so its frames are short.
-use Rattle.std.specs.Prelude.{◌≡◌, ℕ, ◌≤◌, List, [], ◌∷◌, length, Option, Some, None, IsSome}
+use Rattle.std.specs.Prelude.{ℕ, ◌≤◌, List, [], ◌∷◌, length, Option, Some, None, IsSome}
 use Rattle.std.specs.List.{AllByRecursion}
 use Rattle.s0_session.specs.declared.account.Account.{Account}
 use Rattle.host_requests.specs.Events.{RequestsEvent}
@@ -8,7 +8,6 @@ use Rattle.host_requests.specs.declared.task.Task.{Task}
 use Rattle.host_requests.specs.declared.task.Task.TheVariants.{Plain, Offer, Segment}
 use Rattle.host_node.specs.State.{NodeState}
 use Rattle.host_events.specs.State.{HostState}
-use Rattle.host_events.specs.After.{after}
 use Rattle.host_events.specs.Events.{HostEvent, Queues, Requests_do, Takes_nonce}
 use Rattle.zw_machine.specs.State.{Machine}
 use Rattle.zw_machine.specs.Events.{Event, Host_does, Host_takes, Restarts, happens}

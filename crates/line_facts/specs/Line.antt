@@ -1,6 +1,6 @@
 -- Both directions of the serial line of the machine: what is on its way, what an event makes of it, and where each side rests (this
 -- project's own).
-use Rattle.std.specs.Prelude.{◌≡◌, ℕ, length, List, [], ◌∷◌, ◌++◌, map}
+use Rattle.std.specs.Prelude.{◌≡◌, length, List, [], ◌∷◌, ◌++◌, map}
 use Rattle.std.specs.List.{AllByRecursion, flat_map}
 use Rattle.serial_frame.specs.Items.{IsUnit}
 use Rattle.serial_frame.specs.Stream.{Rest, no_rest}

@@ -1,6 +1,6 @@
 -- Items as the units that were written (this project's own): whole units in the order written, some perhaps left out, some refused for
 -- their checksum.
-use Rattle.std.specs.Prelude.{◌≡◌, ◌⊎◌, ℕ, List, [], ◌∷◌, ◌++◌}
+use Rattle.std.specs.Prelude.{◌≡◌, ◌⊎◌, List, [], ◌∷◌, ◌++◌}
 use Rattle.std.specs.List.{flat_map}
 use Rattle.serial_frame.specs.Frame.{FrameParts}
 use Rattle.serial_frame.specs.declared.unit.Unit.{Unit as LineUnit}
@@ -11,7 +11,7 @@ use Rattle.serial_frame.specs.declared.item.Refusal.{Refusal}
 use Rattle.serial_frame.specs.declared.item.Refusal.TheVariants.{Stray, BadLength, BadSum, BadKind, Aborted}
 use Rattle.courses.specs.Parts.{IsPart}
 use Rattle.zw_machine.specs.State.{Machine}
-use Rattle.zw_machine.specs.Events.{Event, happens}
+use Rattle.zw_machine.specs.Events.{Event}
 use Rattle.zw_machine.specs.Did.{happens_all}
 use Rattle.chip_sim.specs.Events.{ChipEvent}
 use Rattle.line_facts.specs.Line.{host_writes_all, chip_writes, chip_judges, host_judges, ChipDid, Carried}
