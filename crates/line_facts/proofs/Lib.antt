@@ -1,0 +1,13 @@
+pub mod Reading
+pub mod Changing
+pub mod Ways
+pub mod Frames
+pub mod ChipWays
+pub mod Outer
+pub mod Events
+pub mod Schedules
+pub mod Units
+pub mod First
+pub mod Texts
+pub mod HostFits
+pub mod HostRuns
