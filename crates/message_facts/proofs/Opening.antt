@@ -19,7 +19,7 @@ use Rattle.class_info.proofs.InfoLaws.{again}
 use Rattle.class_info.proofs.FormLaws.{form_spells}
 use Rattle.encap.specs.Begins.{Begins, IsTransport, IsMisplaced}
 use Rattle.encap.specs.Wraps.{Wraps, IsCommand, AllCommands, is_within}
-use Rattle.encap.specs.Written.{IsCount, IsWrappable, AreEnds, too_long, too_long_by, long_inside}
+use Rattle.encap.specs.Written.{only_of, batch_text, batched_form, IsCount, IsWrappable, AreEnds, too_long, too_long_by, long_inside}
 use Rattle.encap.specs.Opening.{opened_at}
 use Rattle.encap.specs.Layers.{seen_of}
 use Rattle.encap.specs.declared.plan.Plan.{Plan}
@@ -47,7 +47,7 @@ record IsNoWrap (class : ℕ) : Type 0 where
   sealed : class ≢ 152
   segment : class ≢ 85
 
-pub placed_by : (within : Bool) (class : ℕ) (rest : List ℕ) → IsNoWrap class → IsMisplaced within (class ∷ rest) → ⊥
+placed_by : (within : Bool) (class : ℕ) (rest : List ℕ) → IsNoWrap class → IsMisplaced within (class ∷ rest) → ⊥
 placed_by within class rest is (inl (inl b)) = is.batch b.class_is
 placed_by within class rest is (inl (inr (inl b))) = is.supervision b.class_is
 placed_by within class rest is (inl (inr (inr (inl b)))) = is.channel b.class_is
@@ -107,17 +107,21 @@ no_long : (b : Bool) (len : ℕ) → b ≡ false → (if b then Some len else No
 no_long true len e = cc
 no_long false len e = refl
 
-fits_by : (session : Supervised) (actuator : Actuator) (order : Order) (asked : What) → asked ≡ order.what
-    → nat_lt 255 (length (supervised_text actuator (record order { what = asked }))) ≡ false → too_long_by (is_batch asked) (Some session) (commands_of actuator asked) ≡ None
-fits_by session actuator order (what.Value word) e short = no_long _ _ short
-fits_by session actuator order (what.Mode mode) e short = no_long _ _ short
-fits_by session actuator order (what.Setpoint kind tenths) e short = no_long _ _ short
-fits_by session actuator order (what.Config parameter value) e short = no_long _ _ short
-fits_by session actuator order (what.Bulk offset values) e short = no_long _ _ short
-fits_by session actuator order (what.Associate group member) e short = no_long _ _ short
-fits_by session actuator order (what.Dissociate group member) e short = no_long _ _ short
-fits_by session actuator order (what.Interval seconds) e short = no_long _ _ short
-fits_by session actuator order (what.Comfort mode kind tenths) e short = no_long _ _ short
+alone_fits : (session : Supervised) (commands : List (List ℕ)) → nat_lt 255 (length (only_of commands)) ≡ false → too_long_by false (Some session) commands ≡ None
+alone_fits session commands short = no_long (nat_lt 255 (length (only_of commands))) (length (only_of commands)) short
+
+fits_by : (session : Supervised) (actuator : Actuator) (asked : What) → nat_lt 255 (length (batched_form (is_batch asked) (commands_of actuator asked))) ≡ false
+    → too_long_by (is_batch asked) (Some session) (commands_of actuator asked) ≡ None
+fits_by session actuator (what.Value word) short = alone_fits session (commands_of actuator (what.Value word)) short
+fits_by session actuator (what.Mode mode) short = alone_fits session (commands_of actuator (what.Mode mode)) short
+fits_by session actuator (what.Setpoint kind tenths) short = alone_fits session (commands_of actuator (what.Setpoint kind tenths)) short
+fits_by session actuator (what.Config parameter value) short = alone_fits session (commands_of actuator (what.Config parameter value)) short
+fits_by session actuator (what.Bulk offset values) short = alone_fits session (commands_of actuator (what.Bulk offset values)) short
+fits_by session actuator (what.Associate group member) short = alone_fits session (commands_of actuator (what.Associate group member)) short
+fits_by session actuator (what.Dissociate group member) short = alone_fits session (commands_of actuator (what.Dissociate group member)) short
+fits_by session actuator (what.Interval seconds) short = alone_fits session (commands_of actuator (what.Interval seconds)) short
+fits_by session actuator (what.Comfort mode kind tenths) short =
+    no_long (nat_lt 255 (length (batch_text (commands_of actuator (what.Comfort mode kind tenths))))) (length (batch_text (commands_of actuator (what.Comfort mode kind tenths)))) short
 
 pub ends_are : (end : ℕ) → end ≤ 127 → AreEnds (ends_of end)
 ends_are end most = by (nat_lt 0 end)
@@ -132,7 +136,7 @@ message_wraps carriage order session fit most =
     let plan : Plan = plan_of carriage order session in
     form_wraps plan (commands_of carriage.actuator order.what) (message_of carriage order session)
     (record { count = so_many carriage.actuator order.what; session = omega arith; plain = are_commands (is_within plan) carriage.actuator order.what })
-    (ends_are order.end most) (fits_by (supervised_of carriage.actuator order session) carriage.actuator order order.what refl fit.short) refl
+    (ends_are order.end most) (fits_by (supervised_of carriage.actuator order session) carriage.actuator order.what fit.short) refl
 
 pub message_opens : (carriage : Carriage) (order : Order) (session : ℕ) → IsFit carriage.actuator order → order.end ≤ 127
     → opened_at (message_of carriage order session) ≡ Some (message_in carriage order session)

@@ -16,6 +16,7 @@ use Rattle.supervision.specs.declared.device_book.Heard.{Heard as Known}
 use Rattle.supervision.specs.declared.device_book.Heard.TheVariants.{New, Again, Old}
 use Rattle.s0_crypto.specs.declared.key_pair.Keys.{Keys}
 use Rattle.s0_crypto.specs.declared.ends.SealEnds.{SealEnds}
+use Rattle.s0_crypto.specs.Seal.{code_of}
 use Rattle.s0_session.specs.Nonces.{after_spend, nonce_spent, nonce_given}
 use Rattle.s0_session.specs.Sending.{taken_from}
 use Rattle.class_fields.specs.Ranges.{is_node, is_level}
@@ -75,7 +76,7 @@ use Rattle.device_stack.proofs.WordedLemmas.{answer_text, wrappable}
 use Rattle.device_stack.specs.Effects.{end_of, set_plainly, effect_untold, telling, effect_alone, effect_in_session, effect_by, effect_of, takes, after_effect, answer_of, status_answer}
 use Rattle.device_stack.specs.Hearing.{Answered, answers, answers_opened, answers_bytes, sent_openly, hears_openly, nonce_named, sent_sealed, hears_inside, hears_plain, hears_for, hears_sealed, gives_nonce, seals_for, takes_nonce, hears_nonces, hears_securely, segment_session, assembles, repeats_segment, hears_segment, hears_in_segments, hears_by, active, hears}
 use Rattle.device_stack.specs.Ticking.{aged, works_out, ticked, woken, by_hand, main_told, tells_by_hand, set_by_hand}
-use Rattle.device_stack.specs.Sealing.{keys_of, unsealed_at, sealed_text}
+use Rattle.device_stack.specs.Sealing.{keys_of, cipher_text_of, unsealed_at, sealed_text}
 use Rattle.device_sim.specs.Event.{DeviceEvent, Hears, Ticks, Wakes, Sets, outcome_of, device_after, device_replies}
 use Rattle.message_facts.proofs.Bare.{bare, bare_opens, high_command, middle_command, low_command, never_begins, never_ends}
 use Rattle.message_facts.specs.Reporting.{asks_now, TellsOwn, IsNoReport, TellsNone, TellsTrue, CanBeAnswered, CanSay}
@@ -195,7 +196,11 @@ sealed_if b other e = rw e refl
 
 sealed_is : (keys : Keys) (own nonce plain : List ℕ) (ends : SealEnds) → heard_at (sealed_text keys own nonce ends plain) ≡ Sealed
 unfolding heard_at sealed_text
-sealed_is keys own nonce plain ends = sealed_if _ _ (sealed_begins _)
+sealed_is keys own nonce plain ends =
+    let text : List ℕ = cipher_text_of keys own nonce plain in
+    sealed_if (begins_with (0x98 ∷ 0x81 ∷ (own ++ (text ++ slice_index nonce 0 ∷ code_of keys (own ++ nonce) ends text))) 152 129)
+    (heard_by (told_in (opened_at (sealed_text keys own nonce ends plain))))
+    (sealed_begins (own ++ (text ++ slice_index nonce 0 ∷ code_of keys (own ++ nonce) ends text)))
 
 -- ---- what tells a value
 
@@ -255,13 +260,13 @@ all_by p x xs e = parts (p x) (list_all p xs) e
     parts true b e = (refl, e)
     parts false b e = cc
 
+kept_nodes : (b : Bool) (x : ℕ) (kept : List ℕ) → is_node x ≡ true → list_all is_node kept ≡ true → list_all is_node (if b then x ∷ kept else kept) ≡ true
+kept_nodes true x kept e all = rw e all
+kept_nodes false x kept e all = all
+
 filter_nodes : (keep : ℕ → Bool) (xs : List ℕ) → list_all is_node xs ≡ true → list_all is_node (filter keep xs) ≡ true
 filter_nodes keep [] e = refl
-filter_nodes keep (x ∷ xs) e = by (keep x) (all_by is_node x xs e)
-  where
-    by : (b : Bool) → (is_node x ≡ true) × (list_all is_node xs ≡ true) → list_all is_node (if b then x ∷ filter keep xs else filter keep xs) ≡ true
-    by true is = rw is.0 (filter_nodes keep xs is.1)
-    by false is = filter_nodes keep xs is.1
+filter_nodes keep (x ∷ xs) e = let is = all_by is_node x xs e in kept_nodes (keep x) x (filter keep xs) is.0 (filter_nodes keep xs is.1)
 
 take_nodes : (count : ℕ) (xs : List ℕ) → list_all is_node xs ≡ true → list_all is_node (take count xs) ≡ true
 take_nodes zero xs e = refl
@@ -270,7 +275,7 @@ take_nodes (suc count) (x ∷ xs) e = let is = all_by is_node x xs e in rw is.0 
 
 members_are : (values : Property → ℕ) (end group : ℕ) → list_all is_node (take 5 (members_of values end group)) ≡ true
 unfolding members_of nodes_from
-members_are values end group = take_nodes 5 _ (filter_nodes (is_member_of values end group) (range_with_len 1 232) (range_nodes 1 232 (omega arith) (omega arith)))
+members_are values end group = take_nodes 5 (filter (is_member_of values end group) (range_with_len 1 232)) (filter_nodes (is_member_of values end group) (range_with_len 1 232) (range_nodes 1 232 (omega arith) (omega arith)))
 
 few_members : (nodes : List ℕ) → length (take 5 nodes) ≤ 5
 few_members nodes = omega (arith, length-take 5 nodes)

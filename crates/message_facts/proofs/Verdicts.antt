@@ -109,7 +109,7 @@ put_after end offset parameter value set made less = rw (same_end end, after_it 
 put_last : (end offset value : ℕ) (made : List Setting) → AllByRecursion (IsBefore end offset) made
     → with_setting made (setting end (names.Config offset) value) ≡ made ++ setting end (names.Config offset) value ∷ []
 put_last end offset value [] all = refl
-put_last end offset value (one ∷ made) ((parameter, (set, (is, before))), all) =
+put_last end offset value (one ∷ made) ((parameter, set, is, before), all) =
     let last : Setting = setting end (names.Config offset) value in
     let first : Setting = setting end (names.Config parameter) set in
     subst (λ (x : Setting). with_setting (x ∷ made) last ≡ x ∷ (made ++ last ∷ [])) (sym is)
@@ -117,8 +117,8 @@ put_last end offset value (one ∷ made) ((parameter, (set, (is, before))), all)
 
 all_put : (end offset value : ℕ) (made : List Setting) → AllByRecursion (IsBefore end offset) made
     → AllByRecursion (IsBefore end (suc offset)) (made ++ setting end (names.Config offset) value ∷ [])
-all_put end offset value [] all = ((offset, (value, (refl, omega arith))), tt)
-all_put end offset value (one ∷ made) ((parameter, (set, (is, before))), all) = ((parameter, (set, (is, omega (arith, before)))), all_put end offset value made all)
+all_put end offset value [] all = ((offset, value, refl, omega arith), tt)
+all_put end offset value (one ∷ made) ((parameter, set, is, before), all) = ((parameter, set, is, omega (arith, before)), all_put end offset value made all)
 
 merged_row : (end offset : ℕ) (values : List ℕ) (made : List Setting) → AllByRecursion (IsBefore end offset) made
     → merged made (config_settings end offset values) ≡ made ++ config_settings end offset values

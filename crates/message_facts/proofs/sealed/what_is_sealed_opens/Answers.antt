@@ -2,5 +2,5 @@
 use Rattle.message_facts.proofs.Unsealing.{sealed_opens}
 use Rattle.message_facts.proofs.sealed.what_is_sealed_opens.Goals as goal
 
-pub returns-clause : goal.returns-clause
-returns-clause c = sealed_opens
+pub returns : goal.returns
+returns c = sealed_opens
