@@ -1,5 +1,5 @@
 -- Texts without wraps, and how bytes begin.
-use Rattle.std.proofs.Common.{◌≡◌, ◌≢◌, ℕ, ◌≤◌, inl, inr, Bool, true, false, ◌&&◌, Option, Some, None, List, [], ◌∷◌, refl, arith}
+use Rattle.std.proofs.Common.{◌≡◌, ◌≢◌, ℕ, ◌≤◌, inl, inr, Bool, true, false, ◌&&◌, Some, None, List, [], ◌∷◌, refl, arith}
 use Rattle.encap.specs.Begins.{IsMisplaced}
 use Rattle.encap.specs.Wraps.{IsCommand}
 use Rattle.encap.specs.Opening.{opened_at}

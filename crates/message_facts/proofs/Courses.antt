@@ -1,19 +1,18 @@
 -- What a device makes of a message is a step of its course.
-use Rattle.std.proofs.Common.{◌≡◌, ◌≢◌, ℕ, ◌+◌, ◌%◌, ◌==◌, ◌⊎◌, inl, inr, Bool, true, false, ◌&&◌, if◌then◌else◌, Option, Some, None, List, refl, ap, sym, ◌∙◌, subst}
+use Rattle.std.proofs.Common.{◌≡◌, ◌≢◌, ℕ, ◌+◌, ◌%◌, ◌⊎◌, inl, inr, Bool, true, false, if◌then◌else◌, Option, None, List, refl, ap}
 use Rattle.std.proofs.lemmas.Bool.Decides.{Decides-eqb}
 use Rattle.supervision.specs.Session.{wire_id}
 use Rattle.supervision.specs.Device.{Taken, is_new, is_again, heard_of, after_get, finished}
-use Rattle.supervision.specs.declared.session.TheConstants.{WORKING, SUCCESS}
-use Rattle.supervision.specs.declared.device_book.Heard.{Heard}
+use Rattle.supervision.specs.declared.session.TheConstants.{WORKING}
 use Rattle.supervision.specs.declared.device_book.Heard.TheVariants.{New, Again, Old}
-use Rattle.transport_segments.specs.Kept.{Reassembly, Empty, Partial}
-use Rattle.courses.specs.Sessions.{Message, is_segment_of_next, after_message, kept_after}
+use Rattle.transport_segments.specs.Kept.{Empty}
+use Rattle.courses.specs.Sessions.{is_segment_of_next}
 use Rattle.device_stack.specs.declared.verdict.Verdict.{Verdict}
 use Rattle.device_stack.specs.declared.verdict.Verdict.TheVariants.{NoSupport, Fails, Makes, Works}
 use Rattle.device_stack.specs.State.{State}
 use Rattle.device_stack.specs.Judging.{status_of}
 use Rattle.message_facts.specs.Asking.{HasTaken, Follows}
-use Rattle.message_facts.specs.Landing.{HasLanded, IsOf, LandsAs}
+use Rattle.message_facts.specs.Landing.{IsOf, LandsAs}
 use Rattle.message_facts.specs.Segments.{KeepsPart, IsWhole}
 
 abbrev working : ℕ → Taken

@@ -1,17 +1,15 @@
 -- What a device makes of the message of a session.
-use Rattle.std.proofs.Common.{◌≡◌, ◌≢◌, ℕ, ◌+◌, ◌≤◌, ◌==◌, ◌⊎◌, inl, inr, Bool, true, false, ◌&&◌, not, if◌then◌else◌, Option, Some, None, List, [], ◌∷◌, ◌++◌, length, refl, ap, sym, ◌∙◌, subst}
-use Rattle.std.specs.Prelude.{Result, Ok, Err, nat_le}
+use Rattle.std.proofs.Common.{◌≡◌, ◌≢◌, ℕ, ◌+◌, ◌≤◌, ◌==◌, ◌⊎◌, inl, inr, Bool, true, false, ◌&&◌, not, if◌then◌else◌, Option, Some, None, List, ◌∷◌, refl, ap, sym, ◌∙◌, subst}
+use Rattle.std.specs.Prelude.{Err}
 use Rattle.zw_order.specs.declared.order.Order.{Order}
 use Rattle.supervision.specs.Session.{wire_id}
 use Rattle.supervision.specs.Device.{Taken, is_new, is_again, heard_of}
 use Rattle.supervision.specs.declared.session.TheConstants.{WORKING}
 use Rattle.supervision.specs.declared.device_book.Heard.{Heard}
 use Rattle.supervision.specs.declared.device_book.Heard.TheVariants.{New, Again, Old}
-use Rattle.class_fields.specs.declared.fault.ClassFault.{ClassFault}
 use Rattle.class_fields.specs.declared.fault.ClassFault.TheVariants.{UnknownClass, UnknownCommand}
 use Rattle.class_fields.specs.Reading.{byte_at, in_class}
 use Rattle.class_core.specs.MessageReading.{message_at}
-use Rattle.class_info.specs.declared.message.InfoMessage.{InfoMessage}
 use Rattle.class_info.specs.InfoReading.{info_at, own_at}
 use Rattle.encap.specs.Opening.{Message, begins_with, opened_at}
 use Rattle.encap.specs.Written.{checked_form, addressed_form, supervised_form}
@@ -22,7 +20,7 @@ use Rattle.encap.specs.declared.plan.Outer.{Outer}
 use Rattle.encap.specs.declared.plan.Outer.TheVariants.{None as no_outer, Crc16, Security, Transport}
 use Rattle.transport_segments.specs.Taking.{is_segment}
 use Rattle.host_orders.specs.Refusals.{IsFit}
-use Rattle.host_orders.specs.Wrapping.{ends_of, plan_of, message_of, supervised_of}
+use Rattle.host_orders.specs.Wrapping.{ends_of, message_of, supervised_of}
 use Rattle.host_orders.specs.declared.carriage.Carriage.{Carriage}
 use Rattle.device_stack.specs.declared.kind.Kind.{Kind}
 use Rattle.device_stack.specs.declared.kind.Kind.TheVariants.{Relay, Switch, Dimmer, Lock, Sensor, Thermostat, Strip, Configurable}
@@ -32,9 +30,9 @@ use Rattle.device_stack.specs.Kind.{lists}
 use Rattle.device_stack.specs.State.{State, Outcome, silent, value_of, last_level_of}
 use Rattle.device_stack.specs.Judging.{judged_message}
 use Rattle.device_stack.specs.Effects.{end_of, effect_in_session, effect_of, takes, after_effect}
-use Rattle.device_stack.specs.Hearing.{answers, answers_opened, answers_bytes, sent_openly, hears_openly, hears_nonces, hears_securely, hears_in_segments, hears_by, active, hears}
+use Rattle.device_stack.specs.Hearing.{answers, answers_bytes, hears_openly, hears_nonces, hears_securely, hears_in_segments, hears_by, active, hears}
 use Rattle.device_sim.specs.Event.{Hears, outcome_of, device_after}
-use Rattle.message_facts.specs.Asking.{message_in, takes_openly, verdict_on, HasTaken, IsUntouched, IsLeft, Follows}
+use Rattle.message_facts.specs.Asking.{message_in, takes_openly, verdict_on, HasTaken, IsLeft, Follows}
 use Rattle.message_facts.proofs.Bare.{never_begins}
 use Rattle.message_facts.proofs.Opening.{message_opens, target_is}
 

@@ -1,8 +1,7 @@
 -- What is no message of a session leaves a device's sessions as they were.
-use Rattle.std.proofs.Common.{◌≡◌, ◌≢◌, ℕ, ◌≤◌, ◌==◌, inl, inr, Bool, true, false, ◌&&◌, not, if◌then◌else◌, Option, Some, None, List, [], ◌∷◌, ◌++◌, length, refl, ap, sym, ◌∙◌, subst, arith}
-use Rattle.std.specs.Prelude.{Result, Ok, Err, nat_le, nat_lt, slice_index}
+use Rattle.std.proofs.Common.{◌≡◌, ℕ, ◌≤◌, Bool, true, false, ◌&&◌, not, if◌then◌else◌, Option, Some, None, List, [], ◌∷◌, refl, sym, ◌∙◌, subst, arith}
+use Rattle.std.specs.Prelude.{Result, Ok, Err, slice_index}
 use Rattle.zw_order.specs.declared.order.Word.{Word}
-use Rattle.zw_base.specs.declared.property.Setting.{Setting}
 use Rattle.s0_session.specs.Sending.{taken_from}
 use Rattle.class_fields.specs.declared.fault.ClassFault.{ClassFault}
 use Rattle.class_core.specs.declared.message.CoreMessage.TheVariants.{SwitchBinarySet}
@@ -11,8 +10,8 @@ use Rattle.class_info.specs.declared.message.InfoMessage.{InfoMessage}
 use Rattle.class_info.specs.declared.message.InfoMessage.TheVariants.{Core, WakeUpNoMoreInformation, NonceGet, NonceReport}
 use Rattle.class_info.specs.InfoReading.{info_at}
 use Rattle.class_info.specs.InfoSpelling.{form}
-use Rattle.encap.specs.Wraps.{Wraps, IsCommand, is_within}
-use Rattle.encap.specs.Written.{AreEnds, only_of, checked_form, addressed_form}
+use Rattle.encap.specs.Wraps.{IsCommand, is_within}
+use Rattle.encap.specs.Written.{only_of, checked_form, addressed_form}
 use Rattle.encap.specs.Opening.{Message, begins_with, opened_at}
 use Rattle.encap.specs.Layers.{seen_of}
 use Rattle.encap.specs.declared.plan.Plan.{Plan}
@@ -30,13 +29,13 @@ use Rattle.host_orders.specs.declared.actuator.Actuator.TheVariants as actuators
 use Rattle.host_orders.specs.declared.errand.Gettable.{Gettable}
 use Rattle.host_orders.specs.declared.errand.Gettable.TheVariants as gettables
 use Rattle.device_stack.specs.declared.kind.Kind.{Kind}
-use Rattle.device_stack.specs.declared.kind.Kind.TheVariants.{Relay, Switch, Dimmer, Lock, Sensor, Thermostat, Strip, Configurable}
+use Rattle.device_stack.specs.declared.kind.Kind.TheVariants.{Lock, Sensor, Thermostat, Configurable}
 use Rattle.device_stack.specs.declared.effect.Effect.{Effect}
 use Rattle.device_stack.specs.declared.effect.Effect.TheVariants.{Ignores, Sleeps, Tells, Sets, Repeats, Takes}
 use Rattle.device_stack.specs.declared.verdict.Verdict.{Verdict}
 use Rattle.device_stack.specs.declared.verdict.Verdict.TheVariants.{NoSupport, Fails, Makes, Works}
 use Rattle.device_stack.specs.Kind.{listens, lists, has_end}
-use Rattle.device_stack.specs.State.{State, Outcome, silent, value_of, last_level_of}
+use Rattle.device_stack.specs.State.{State, value_of, last_level_of}
 use Rattle.device_stack.specs.Judging.{judged_set}
 use Rattle.device_stack.specs.Telling.{told}
 use Rattle.device_stack.specs.Effects.{end_of, set_plainly, effect_untold, telling, effect_alone, effect_by, effect_of, after_effect}
@@ -45,7 +44,7 @@ use Rattle.device_sim.specs.Event.{Hears, device_after}
 use Rattle.message_facts.specs.Asking.{IsLeft}
 use Rattle.message_facts.specs.Others.{IsNoGet, IsOther}
 use Rattle.message_facts.proofs.Opening.{ends_are, low_class, lock_class}
-use Rattle.message_facts.proofs.Following.{left, active_left, awake_after, asleep_after}
+use Rattle.message_facts.proofs.Following.{left, awake_after, asleep_after}
 use Rattle.message_facts.proofs.Bare.{bare, bare_opens, high_command, middle_command, never_begins, never_ends}
 
 -- ---- the texts of the host
@@ -98,19 +97,19 @@ pub send_other : (classes : List ℕ) (word : Word) → IsOther (send_text class
 send_other classes word = by (sendable_of classes)
   where
     by : (actuator : Actuator) → IsOther (plain_text classes 0 (core_form (value_message actuator word)))
-    by actuators.Binary = plain_other classes 0 _ (omega arith) (λ within. low_class within 0x25 _ (omega arith)) refl refl
-    by actuators.Multilevel = plain_other classes 0 _ (omega arith) (λ within. low_class within 0x26 _ (omega arith)) refl refl
-    by actuators.Lock = plain_other classes 0 _ (omega arith) (λ within. lock_class within _) refl refl
+    by actuators.Binary = plain_other classes 0 (core_form (value_message actuators.Binary word)) (omega arith) (λ within. low_class within 0x25 _ (omega arith)) refl refl
+    by actuators.Multilevel = plain_other classes 0 (core_form (value_message actuators.Multilevel word)) (omega arith) (λ within. low_class within 0x26 _ (omega arith)) refl refl
+    by actuators.Lock = plain_other classes 0 (core_form (value_message actuators.Lock word)) (omega arith) (λ within. lock_class within _) refl refl
 
 pub get_other : (classes : List ℕ) (end : ℕ) → end ≤ 127 → IsOther (get_text classes end)
 get_other classes end most = by (gettable_of classes)
   where
     by : (gettable : Gettable) → IsOther (plain_text classes end (get_command gettable))
-    by gettables.Binary = plain_other classes end _ most (λ within. low_class within 0x25 _ (omega arith)) refl refl
-    by gettables.Multilevel = plain_other classes end _ most (λ within. low_class within 0x26 _ (omega arith)) refl refl
-    by gettables.Lock = plain_other classes end _ most (λ within. lock_class within _) refl refl
-    by gettables.Thermostat = plain_other classes end _ most (λ within. low_class within 0x40 _ (omega arith)) refl refl
-    by gettables.Sensor = plain_other classes end _ most (λ within. low_class within 0x31 _ (omega arith)) refl refl
+    by gettables.Binary = plain_other classes end (get_command gettables.Binary) most (λ within. low_class within 0x25 _ (omega arith)) refl refl
+    by gettables.Multilevel = plain_other classes end (get_command gettables.Multilevel) most (λ within. low_class within 0x26 _ (omega arith)) refl refl
+    by gettables.Lock = plain_other classes end (get_command gettables.Lock) most (λ within. lock_class within _) refl refl
+    by gettables.Thermostat = plain_other classes end (get_command gettables.Thermostat) most (λ within. low_class within 0x40 _ (omega arith)) refl refl
+    by gettables.Sensor = plain_other classes end (get_command gettables.Sensor) most (λ within. low_class within 0x31 _ (omega arith)) refl refl
 
 -- ---- what they do
 

@@ -1,6 +1,6 @@
 -- The message of a session opens to the order's messages.
-use Rattle.std.proofs.Common.{◌≡◌, ◌≢◌, ℕ, ◌+◌, ◌%◌, ◌<◌, ◌≤◌, ◌==◌, ◌⊎◌, inl, inr, Bool, true, false, ◌&&◌, ◌||◌, not, nat_lt, if◌then◌else◌, Option, Some, None, List, [], ◌∷◌, length, map, refl, ap, sym, ◌∙◌, arith}
-use Rattle.std.specs.Prelude.{IsTrue, nat_le, Result, Ok, Err}
+use Rattle.std.proofs.Common.{◌≡◌, ◌≢◌, ℕ, ◌<◌, ◌≤◌, ◌==◌, inl, inr, Bool, true, false, ◌||◌, not, nat_lt, if◌then◌else◌, Some, None, List, [], ◌∷◌, length, map, refl, ap, ◌∙◌, arith}
+use Rattle.std.specs.Prelude.{IsTrue, nat_le, Result}
 use Rattle.std.proofs.lemmas.Bool.Decides.{nat_tests}
 use Rattle.zw_order.specs.declared.order.Word.{Word}
 use Rattle.zw_order.specs.declared.order.Word.TheVariants.{On, Off, Level}
@@ -10,26 +10,24 @@ use Rattle.zw_order.specs.declared.order.Order.{Order}
 use Rattle.class_fields.specs.declared.fault.ClassFault.{ClassFault}
 use Rattle.class_fields.specs.Ranges.{is_level, is_node}
 use Rattle.class_core.specs.declared.message.CoreMessage.{CoreMessage}
-use Rattle.class_core.specs.declared.message.CoreMessage.TheVariants.{SwitchBinarySet, SwitchMultilevelSet, DoorLockOperationSet, ThermostatModeSet, ThermostatSetpointSet, ConfigurationSet, ConfigurationBulkSet, AssociationSet, AssociationRemove, WakeUpIntervalSet}
+use Rattle.class_core.specs.declared.message.CoreMessage.TheVariants.{ThermostatModeSet, AssociationSet, AssociationRemove, WakeUpIntervalSet}
 use Rattle.class_core.specs.Spelling.{form, IsInRange}
 use Rattle.class_info.specs.declared.message.InfoMessage.{InfoMessage}
 use Rattle.class_info.specs.declared.message.InfoMessage.TheVariants.{Core}
 use Rattle.class_info.specs.InfoReading.{info_at}
 use Rattle.class_info.proofs.InfoLaws.{again}
 use Rattle.class_info.proofs.FormLaws.{form_spells}
-use Rattle.encap.specs.Begins.{Begins, IsTransport, IsMisplaced}
+use Rattle.encap.specs.Begins.{IsMisplaced}
 use Rattle.encap.specs.Wraps.{Wraps, IsCommand, AllCommands, is_within}
-use Rattle.encap.specs.Written.{only_of, batch_text, batched_form, IsCount, IsWrappable, AreEnds, too_long, too_long_by, long_inside}
+use Rattle.encap.specs.Written.{only_of, batch_text, batched_form, IsCount, AreEnds, too_long_by}
 use Rattle.encap.specs.Opening.{opened_at}
-use Rattle.encap.specs.Layers.{seen_of}
 use Rattle.encap.specs.declared.plan.Plan.{Plan}
 use Rattle.encap.specs.declared.plan.Supervised.{Supervised}
-use Rattle.encap.specs.declared.plan.Ends.{Ends}
 use Rattle.encap.proofs.FormLemmas.{form_wraps}
 use Rattle.encap.proofs.OpenedLemmas.{opened_there}
-use Rattle.host_orders.specs.Messages.{messages, commands_of, is_batch, value_message, level_of, setpoint_message}
-use Rattle.host_orders.specs.Refusals.{IsFit, is_bad, is_bad_word, is_bad_mode, is_bad_setpoint}
-use Rattle.host_orders.specs.Wrapping.{ends_of, plan_of, message_of, supervised_of, supervised_text}
+use Rattle.host_orders.specs.Messages.{messages, commands_of, is_batch, value_message, setpoint_message}
+use Rattle.host_orders.specs.Refusals.{IsFit, is_bad, is_bad_word, is_bad_setpoint}
+use Rattle.host_orders.specs.Wrapping.{ends_of, plan_of, message_of, supervised_of}
 use Rattle.host_orders.specs.declared.actuator.Actuator.{Actuator}
 use Rattle.host_orders.specs.declared.actuator.Actuator.TheVariants.{Binary, Multilevel, Lock}
 use Rattle.host_orders.specs.declared.carriage.Carriage.{Carriage}

@@ -1,5 +1,5 @@
 -- What is heard of the payloads of a device, event by event.
-use Rattle.std.proofs.Common.{◌≡◌, ◌≢◌, ℕ, zero, suc, ◌+◌, ◌-◌, ◌*◌, ◌%◌, ◌<◌, ◌≤◌, ◌==◌, ◌⊎◌, inl, inr, Bool, true, false, ◌&&◌, ◌||◌, not, nat_lt, min, if◌then◌else◌, Option, Some, None, List, [], ◌∷◌, ◌++◌, length, take, filter, refl, ap, sym, ◌∙◌, subst, arith}
+use Rattle.std.proofs.Common.{◌≡◌, ℕ, zero, suc, ◌+◌, ◌-◌, ◌*◌, ◌<◌, ◌≤◌, ◌==◌, inl, inr, Bool, true, false, ◌&&◌, ◌||◌, not, nat_lt, min, if◌then◌else◌, Option, Some, None, List, [], ◌∷◌, ◌++◌, length, take, filter, refl, ap, sym, ◌∙◌, subst, arith}
 use Rattle.std.specs.Prelude.{Result, Ok, Err, IsTrue, nat_le, slice_index}
 use Rattle.std.specs.List.{AllByRecursion, list_all, range_with_len}
 use Rattle.std.specs.Option.{option_map, option_to_list, option_and_then}
@@ -9,37 +9,32 @@ use Rattle.zw_base.specs.declared.property.Name.{Name}
 use Rattle.zw_base.specs.declared.property.Name.TheVariants as names
 use Rattle.zw_base.specs.declared.property.Property.{Property}
 use Rattle.zw_base.specs.declared.property.Setting.{Setting}
-use Rattle.supervision.specs.Session.{wire_id, IsStatus, is_status}
-use Rattle.supervision.specs.Device.{Taken, is_new, is_again, heard_of}
+use Rattle.supervision.specs.Session.{wire_id, IsStatus}
+use Rattle.supervision.specs.Device.{is_new, is_again, heard_of}
 use Rattle.supervision.specs.declared.session.TheConstants.{WORKING, SUCCESS}
-use Rattle.supervision.specs.declared.device_book.Heard.{Heard as Known}
 use Rattle.supervision.specs.declared.device_book.Heard.TheVariants.{New, Again, Old}
 use Rattle.s0_crypto.specs.declared.key_pair.Keys.{Keys}
 use Rattle.s0_crypto.specs.declared.ends.SealEnds.{SealEnds}
 use Rattle.s0_crypto.specs.Seal.{code_of}
-use Rattle.s0_session.specs.Nonces.{after_spend, nonce_spent, nonce_given}
+use Rattle.s0_session.specs.Nonces.{after_spend, nonce_spent}
 use Rattle.s0_session.specs.Sending.{taken_from}
 use Rattle.class_fields.specs.Ranges.{is_node, is_level}
 use Rattle.class_fields.specs.Reading.{◌>>=◌, byte_at, bits_at, in_class}
 use Rattle.class_fields.specs.Cell.{bits}
 use Rattle.class_fields.specs.declared.fault.ClassFault.{ClassFault}
-use Rattle.class_fields.specs.declared.number.Number.TheVariants.{One, Two, Four}
-use Rattle.class_core.specs.declared.message.CoreMessage.{CoreMessage}
-use Rattle.class_core.specs.declared.message.CoreMessage.TheVariants.{SwitchBinarySet, SwitchBinaryGet, SwitchBinaryReport, SwitchMultilevelGet, SwitchMultilevelReport, ThermostatModeGet, ThermostatModeReport, ThermostatSetpointGet, ThermostatSetpointReport, ConfigurationGet, ConfigurationReport}
+use Rattle.class_core.specs.declared.message.CoreMessage.TheVariants.{SwitchBinarySet, SwitchBinaryReport, SwitchMultilevelReport, ThermostatModeReport, ThermostatSetpointReport, ConfigurationReport}
 use Rattle.class_core.specs.MessageReading.{message_at}
 use Rattle.class_info.specs.declared.message.InfoMessage.{InfoMessage}
-use Rattle.class_info.specs.declared.message.InfoMessage.TheVariants.{Core, SensorMultilevelGet, SensorMultilevelReport, BatteryGet, BatteryReport, WakeUpIntervalGet, WakeUpIntervalReport, AssociationGet, AssociationReport, SupervisionReport, WakeUpNotification, WakeUpNoMoreInformation, NonceGet, NonceReport, TransportRequest, TransportComplete}
-use Rattle.class_info.specs.declared.report_status.ReportStatus.{ReportStatus}
+use Rattle.class_info.specs.declared.message.InfoMessage.TheVariants.{Core, SensorMultilevelReport, BatteryReport, WakeUpIntervalReport, AssociationGet, AssociationReport, SupervisionReport, WakeUpNotification, WakeUpNoMoreInformation, NonceGet, NonceReport, TransportRequest, TransportComplete}
 use Rattle.class_info.specs.declared.report_status.ReportStatus.TheVariants as statuses
 use Rattle.class_info.specs.InfoReading.{info_at, own_at, nonce_at, transport_request_at}
 use Rattle.class_info.specs.InfoSpelling.{form, IsInRange}
 use Rattle.class_info.specs.Values.{status_byte}
 use Rattle.class_info.proofs.InfoLaws.{again}
 use Rattle.class_info.proofs.FormLaws.{form_spells}
-use Rattle.encap.specs.Begins.{IsMisplaced}
-use Rattle.encap.specs.Wraps.{Wraps, IsChannelOf, Addresses, IsCommand}
+use Rattle.encap.specs.Wraps.{Addresses, IsCommand}
 use Rattle.std.proofs.lemmas.List.{length-take}
-use Rattle.encap.specs.Written.{AreEnds, only_of, written_form, addressed_form, checked_form}
+use Rattle.encap.specs.Written.{AreEnds, only_of, written_form, addressed_form}
 use Rattle.encap.specs.Opening.{Message, begins_with, opened_at}
 use Rattle.encap.specs.Layers.{seen_of}
 use Rattle.encap.specs.declared.plan.Plan.{Plan}
@@ -59,27 +54,27 @@ use Rattle.host_heard.specs.declared.payload.Heard.{Heard}
 use Rattle.host_heard.specs.declared.payload.Heard.TheVariants.{Messages, Sealed, Unread}
 use Rattle.host_heard.specs.declared.told.Told.{Told}
 use Rattle.host_heard.specs.declared.told.Told.TheVariants.{Report}
-use Rattle.host_heard.specs.Telling.{told_by, told_all, told_in, heard_by, heard_at, end_of as from_end}
+use Rattle.host_heard.specs.Telling.{told_by, told_in, heard_by, heard_at, end_of as from_end}
 use Rattle.device_stack.specs.declared.kind.Kind.{Kind}
-use Rattle.device_stack.specs.declared.kind.Kind.TheVariants.{Relay, Switch, Dimmer, Lock, Sensor, Thermostat, Strip, Configurable}
+use Rattle.device_stack.specs.declared.kind.Kind.TheVariants.{Switch, Lock, Sensor, Configurable}
 use Rattle.device_stack.specs.declared.effect.Effect.{Effect}
 use Rattle.device_stack.specs.declared.effect.Effect.TheVariants.{Ignores, Sleeps, Tells, Sets, Repeats, Takes}
 use Rattle.device_stack.specs.declared.verdict.Verdict.{Verdict}
 use Rattle.device_stack.specs.declared.verdict.Verdict.TheVariants.{NoSupport, Fails, Makes, Works}
-use Rattle.device_stack.specs.Kind.{listens, lists, has_end, tells, all_nodes, nodes_from, main_name_of}
-use Rattle.device_stack.specs.State.{State, Outcome, silent, value_of, last_level_of, fresh, host_node}
+use Rattle.device_stack.specs.Kind.{listens, lists, has_end, tells, nodes_from, main_name_of}
+use Rattle.device_stack.specs.State.{State, Outcome, silent, value_of, last_level_of}
 use Rattle.device_stack.specs.Judging.{judged_set, status_of}
 use Rattle.device_stack.specs.Telling.{report_of, asked_name, members_of, is_member_of, value_told, told}
 use Rattle.device_stack.specs.Answers.{report_status, asks_to_wake, status_report, final_report, swapped, answer_plan, worded}
 use Rattle.device_stack.specs.Worded.{IsAnswer}
-use Rattle.device_stack.proofs.WordedLemmas.{answer_text, wrappable}
-use Rattle.device_stack.specs.Effects.{end_of, set_plainly, effect_untold, telling, effect_alone, effect_in_session, effect_by, effect_of, takes, after_effect, answer_of, status_answer}
-use Rattle.device_stack.specs.Hearing.{Answered, answers, answers_opened, answers_bytes, sent_openly, hears_openly, nonce_named, sent_sealed, hears_inside, hears_plain, hears_for, hears_sealed, gives_nonce, seals_for, takes_nonce, hears_nonces, hears_securely, segment_session, assembles, repeats_segment, hears_segment, hears_in_segments, hears_by, active, hears}
+use Rattle.device_stack.proofs.WordedLemmas.{wrappable}
+use Rattle.device_stack.specs.Effects.{end_of, set_plainly, effect_untold, telling, effect_alone, effect_in_session, effect_by, effect_of, takes, after_effect, answer_of}
+use Rattle.device_stack.specs.Hearing.{Answered, answers, answers_opened, answers_bytes, sent_openly, hears_openly, nonce_named, sent_sealed, hears_inside, hears_plain, hears_for, hears_sealed, seals_for, hears_nonces, hears_securely, segment_session, assembles, repeats_segment, hears_segment, hears_in_segments, hears_by, active, hears}
 use Rattle.device_stack.specs.Ticking.{aged, works_out, ticked, woken, by_hand, main_told, tells_by_hand, set_by_hand}
 use Rattle.device_stack.specs.Sealing.{keys_of, cipher_text_of, unsealed_at, sealed_text}
 use Rattle.device_sim.specs.Event.{DeviceEvent, Hears, Ticks, Wakes, Sets, outcome_of, device_after, device_replies}
 use Rattle.message_facts.proofs.Bare.{bare, bare_opens, high_command, middle_command, low_command, never_begins, never_ends}
-use Rattle.message_facts.specs.Reporting.{asks_now, TellsOwn, IsNoReport, TellsNone, TellsTrue, CanBeAnswered, CanSay}
+use Rattle.message_facts.specs.Reporting.{TellsOwn, IsNoReport, TellsNone, TellsTrue, CanBeAnswered, CanSay}
 
 -- ---- statuses
 

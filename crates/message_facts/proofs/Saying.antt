@@ -1,8 +1,8 @@
 -- What a device says can be said, whatever happens to it.
-use Rattle.std.proofs.Common.{◌≡◌, ℕ, ◌+◌, ◌-◌, ◌==◌, Bool, true, false, ◌&&◌, nat_lt, if◌then◌else◌, Option, Some, None, List, [], ◌∷◌, length, refl, sym, subst}
+use Rattle.std.proofs.Common.{◌≡◌, ℕ, ◌+◌, ◌-◌, ◌==◌, Bool, true, false, nat_lt, if◌then◌else◌, Option, Some, None, List, [], ◌∷◌, length, refl}
 use Rattle.std.specs.Prelude.{Result, Ok, Err, slice_index}
 use Rattle.supervision.specs.Session.{IsStatus}
-use Rattle.s0_session.specs.Nonces.{after_spend, nonce_spent}
+use Rattle.s0_session.specs.Nonces.{nonce_spent}
 use Rattle.s0_session.specs.Sending.{taken_from}
 use Rattle.class_fields.specs.declared.fault.ClassFault.{ClassFault}
 use Rattle.class_info.specs.declared.message.InfoMessage.{InfoMessage}
@@ -17,17 +17,17 @@ use Rattle.encap.specs.declared.plan.Supervised.{Supervised}
 use Rattle.encap.specs.declared.plan.Ends.{Ends}
 use Rattle.encap.specs.declared.plan.Outer.{Outer}
 use Rattle.transport_segments.specs.Segment.{id_of}
-use Rattle.transport_segments.specs.Taking.{is_segment, ends_its_datagram, taken_at}
+use Rattle.transport_segments.specs.Taking.{is_segment, taken_at}
 use Rattle.transport_segments.specs.declared.assembler.Taken.{Taken as Segment}
 use Rattle.transport_segments.specs.declared.assembler.Taken.TheVariants.{Kept, Need, Whole}
 use Rattle.device_stack.specs.declared.kind.Kind.{Kind}
-use Rattle.device_stack.specs.declared.kind.Kind.TheVariants.{Relay, Switch, Dimmer, Lock, Sensor, Thermostat, Strip, Configurable}
+use Rattle.device_stack.specs.declared.kind.Kind.TheVariants.{Lock, Configurable}
 use Rattle.device_stack.specs.declared.effect.Effect.{Effect}
 use Rattle.device_stack.specs.declared.effect.Effect.TheVariants.{Ignores, Sleeps, Tells, Sets, Repeats, Takes}
 use Rattle.device_stack.specs.declared.verdict.Verdict.{Verdict}
 use Rattle.device_stack.specs.declared.verdict.Verdict.TheVariants.{NoSupport, Fails, Makes, Works}
 use Rattle.device_stack.specs.Kind.{listens}
-use Rattle.device_stack.specs.State.{State, Outcome, silent, fresh}
+use Rattle.device_stack.specs.State.{State, silent, fresh}
 use Rattle.device_stack.specs.Answers.{swapped}
 use Rattle.device_stack.specs.Effects.{effect_of, late_answer, takes, after_effect}
 use Rattle.device_stack.specs.Hearing.{Answered, answers, answers_opened, answers_bytes, sent_openly, hears_openly, nonce_named, sent_sealed, hears_inside, hears_plain, hears_for, hears_sealed, seals_for, hears_nonces, hears_securely, segment_session, assembles, repeats_segment, hears_segment, hears_in_segments, hears_by, active, hears}

@@ -1,21 +1,18 @@
 -- What a device makes of a segment of a message.
-use Rattle.std.proofs.Common.{◌≡◌, ◌≢◌, ℕ, zero, suc, ◌+◌, ◌-◌, ◌*◌, ◌/◌, ◌%◌, ◌<◌, ◌≤◌, ◌==◌, ◌⊎◌, inl, inr, Bool, true, false, ◌&&◌, nat_lt, if◌then◌else◌, Option, Some, None, List, [], ◌∷◌, length, map, get_or, refl, ap, sym, ◌∙◌, subst, arith}
-use Rattle.std.specs.Prelude.{nat_le, slice_get, slice_index, slice_index_or, is_some}
+use Rattle.std.proofs.Common.{◌≡◌, ◌≢◌, ℕ, zero, suc, ◌+◌, ◌-◌, ◌*◌, ◌/◌, ◌%◌, ◌<◌, ◌≤◌, ◌==◌, ◌⊎◌, inl, inr, Bool, true, false, ◌&&◌, nat_lt, if◌then◌else◌, Option, Some, None, List, [], ◌∷◌, length, map, refl, ap, sym, ◌∙◌, subst, arith}
+use Rattle.std.specs.Prelude.{nat_le, slice_get, slice_index_or, is_some}
 use Rattle.std.specs.List.{range_with_len}
 use Rattle.std.proofs.lemmas.Bool.Decides.{Decides-eqb, nat_tests}
 use Rattle.zw_base.specs.Crc.{crc}
 use Rattle.encap.specs.Begins.{IsMisplaced}
-use Rattle.encap.specs.Wraps.{IsCommand}
-use Rattle.encap.specs.Opening.{begins_with}
 use Rattle.transport_segments.specs.Segment.{IsSegment, id_of, size_of, offset_of, payload_of, extension_of, check_of, covered_of, segment_text}
-use Rattle.transport_segments.specs.Parts.{Parts, slice_at}
+use Rattle.transport_segments.specs.Parts.{slice_at}
 use Rattle.transport_segments.specs.Faults.{IsSound}
-use Rattle.transport_segments.specs.Places.{IsMissing, IsThere, IsLeastMissing, present}
+use Rattle.transport_segments.specs.Places.{IsThere, IsLeastMissing, present}
 use Rattle.transport_segments.specs.Kept.{Reassembly, Empty, Partial}
-use Rattle.transport_segments.specs.Reassembly.{places_after, Takes}
+use Rattle.transport_segments.specs.Reassembly.{places_after}
 use Rattle.transport_segments.specs.Runs.{IsDatagram, IsPart, Agrees}
 use Rattle.transport_segments.specs.Taking.{is_segment, is_sound, ends_its_datagram, first_missing, taken_by, taken_at, kept_after}
-use Rattle.transport_segments.specs.declared.assembler.Taken.{Taken}
 use Rattle.transport_segments.specs.declared.assembler.Taken.TheVariants.{Kept, Need, Whole}
 use Rattle.transport_segments.proofs.PartLemmas.{are_parts}
 use Rattle.transport_segments.proofs.PlacesLemmas.{there_at, missing_at}
@@ -27,7 +24,7 @@ use Rattle.device_stack.specs.Kind.{lists}
 use Rattle.device_stack.specs.State.{State, Outcome, silent}
 use Rattle.device_stack.specs.Hearing.{hears_openly, segment_session, assembles, repeats_segment, hears_segment, hears_in_segments, hears_by, active}
 use Rattle.device_sim.specs.Event.{Hears, device_after}
-use Rattle.message_facts.specs.Asking.{IsUntouched, IsLeft}
+use Rattle.message_facts.specs.Asking.{IsLeft}
 use Rattle.message_facts.specs.Others.{IsNoGet}
 use Rattle.message_facts.specs.Segments.{KeepsPart, IsWhole}
 use Rattle.message_facts.proofs.Bare.{never_begins}

@@ -1,56 +1,55 @@
 -- What a lock makes of a message that was sealed for its live nonce.
-use Rattle.std.proofs.Common.{◌≡◌, ℕ, ◌+◌, ◌-◌, ◌/◌, ◌%◌, ◌<◌, ◌≤◌, ◌==◌, Bool, true, false, ◌&&◌, not, nat_lt, if◌then◌else◌, Option, Some, None, List, [], ◌∷◌, ◌++◌, length, take, drop, replicate, get_or, refl, ap, sym, ◌∙◌, subst, arith, length-append}
+use Rattle.std.proofs.Common.{◌≡◌, ℕ, ◌+◌, ◌-◌, ◌/◌, ◌≤◌, ◌==◌, Bool, true, false, not, nat_lt, if◌then◌else◌, Option, Some, None, List, ◌∷◌, ◌++◌, length, get_or, refl, ap, sym, ◌∙◌, subst, arith}
 use Rattle.std.specs.Prelude.{slice_index, nat_le, zero, suc}
 use Rattle.std.specs.Option.{option_map}
 use Rattle.std.proofs.lemmas.Bool.{eqb-true}
 use Rattle.std.proofs.lemmas.Bool.Decides.{Decides-eqb, nat_tests}
-use Rattle.std.proofs.lemmas.List.{length-take, length-drop, length-take-le, get_or-append_right}
+use Rattle.std.proofs.lemmas.List.{length-take-le, get_or-append_right}
 use Rattle.zw_order.specs.declared.order.Order.{Order}
 use Rattle.supervision.specs.Session.{wire_id}
-use Rattle.supervision.specs.Device.{Taken, is_new, is_again, heard_of}
+use Rattle.supervision.specs.Device.{is_new, is_again, heard_of}
 use Rattle.supervision.specs.declared.session.TheConstants.{WORKING}
 use Rattle.supervision.specs.declared.device_book.Heard.{Heard}
 use Rattle.supervision.specs.declared.device_book.Heard.TheVariants.{New, Again, Old}
 use Rattle.aes_block.specs.Cipher.{aes, add_round_key}
 use Rattle.s0_crypto.specs.declared.key_pair.Keys.{Keys}
 use Rattle.s0_crypto.specs.declared.ends.SealEnds.{SealEnds}
-use Rattle.s0_crypto.specs.Modes.{chained, cbc_mac, ofb}
+use Rattle.s0_crypto.specs.Modes.{chained, cbc_mac}
 use Rattle.s0_crypto.specs.Seal.{Seals, covered, code_of}
 use Rattle.s0_crypto.specs.Opening.{nonce_in}
 use Rattle.s0_crypto.proofs.MessageLemmas.{length_of_layout, nonce_of_layout}
 use Rattle.s0_crypto.proofs.OpeningLemmas.{one_plain_text}
 use Rattle.s0_crypto.proofs.StreamLemmas.{length-ofb_from}
 use Rattle.s0_session.specs.declared.account.Account.{Account}
-use Rattle.s0_session.specs.Nonces.{after_spend, nonce_spent, with_first}
+use Rattle.s0_session.specs.Nonces.{nonce_spent, with_first}
 use Rattle.encap.specs.Wraps.{is_crc16}
 use Rattle.encap.specs.Written.{AreEnds}
 use Rattle.encap.specs.Opening.{Message, begins_with, opened_at}
-use Rattle.encap.specs.Layers.{seen_of}
 use Rattle.encap.specs.declared.plan.Plan.{Plan}
 use Rattle.encap.specs.declared.plan.Supervised.{Supervised}
 use Rattle.encap.specs.declared.plan.Ends.{Ends}
 use Rattle.encap.specs.declared.plan.Outer.{Outer}
-use Rattle.encap.specs.declared.plan.Outer.TheVariants.{None as no_outer, Crc16, Security, Transport}
+use Rattle.encap.specs.declared.plan.Outer.TheVariants.{Security}
 use Rattle.host_orders.specs.Refusals.{IsFit}
-use Rattle.host_orders.specs.Wrapping.{ends_of, plan_of, message_of, supervised_of}
+use Rattle.host_orders.specs.Wrapping.{ends_of, message_of, supervised_of}
 use Rattle.host_orders.specs.declared.carriage.Carriage.{Carriage}
 use Rattle.device_stack.specs.declared.kind.Kind.{Kind}
 use Rattle.device_stack.specs.declared.kind.Kind.TheVariants.{Lock}
 use Rattle.device_stack.specs.declared.verdict.Verdict.{Verdict}
 use Rattle.device_stack.specs.Kind.{lists}
-use Rattle.device_stack.specs.State.{State, Outcome, silent, host_node, value_of, last_level_of}
+use Rattle.device_stack.specs.State.{State, Outcome, host_node, value_of, last_level_of}
 use Rattle.device_stack.specs.Answers.{swapped, answer_plan, worded}
 use Rattle.device_stack.specs.Judging.{judged_message}
 use Rattle.device_stack.specs.Sealing.{keys_of, cipher_text_of, unsealed_at, sealed_text}
 use Rattle.device_stack.proofs.SealingLemmas.{opened_is}
 use Rattle.device_stack.specs.Effects.{end_of, effect_of, effect_in_session, answer_of, after_effect}
-use Rattle.device_stack.specs.Hearing.{Answered, answers, nonce_named, sent_sealed, hears_inside, hears_plain, hears_for, hears_sealed, hears_securely, hears_by, active}
+use Rattle.device_stack.specs.Hearing.{Answered, answers, sent_sealed, hears_sealed, hears_securely, hears_by, active}
 use Rattle.device_sim.specs.Event.{Hears, device_after}
-use Rattle.message_facts.specs.Asking.{message_in, verdict_on, HasTaken, IsLeft, Follows}
-use Rattle.message_facts.specs.Reporting.{TellsOwn, PendingTellsOwn, HasAnswered}
-use Rattle.message_facts.proofs.Opening.{message_opens, target_is, ends_are}
+use Rattle.message_facts.specs.Asking.{message_in, verdict_on, Follows}
+use Rattle.message_facts.specs.Reporting.{HasAnswered}
+use Rattle.message_facts.proofs.Opening.{message_opens, target_is}
 use Rattle.message_facts.proofs.Following.{supervised_follows, awake_after}
-use Rattle.message_facts.proofs.Reporting.{spent, text_by, own_heard, taken_own, first_holds, second_holds}
+use Rattle.message_facts.proofs.Reporting.{spent, own_heard, taken_own, first_holds, second_holds}
 
 -- ---- sealing and opening
 
@@ -248,5 +247,5 @@ sealed_answered device own nonce drawn carriage order session fit end sealed awa
     let known : lists device.kind 0x6C ≡ true = ap (λ (k : Kind). lists k 0x6C) kind in
     subst (λ (new : State). HasAnswered device new heard)
     (sym (sealed_heard device own nonce drawn carriage order session fit end sealed awake kind eight live))
-    (spent_answered device _ (slice_index nonce 0) heard
+    (spent_answered device (sent_sealed (answers hearer message)).device (slice_index nonce 0) heard
     (supervised_answered hearer message.plan.batch (supervised_of carriage.actuator order session) message.plan.channel message.plan.outer message.commands (swapped_ends order.end end) known))

@@ -1,6 +1,6 @@
 -- What the commands of an order come to at a device: they make the order's settings, or nothing.
-use Rattle.std.proofs.Common.{◌≡◌, ℕ, zero, suc, ◌+◌, ◌<◌, ◌≤◌, ◌==◌, Bool, true, false, ◌&&◌, ◌||◌, not, nat_lt, if◌then◌else◌, List, [], ◌∷◌, ◌++◌, length, refl, ap, sym, ◌∙◌, subst, arith, append-nil, append_assoc}
-use Rattle.std.specs.Prelude.{Result, Ok, Err, nat_le}
+use Rattle.std.proofs.Common.{◌≡◌, ℕ, suc, ◌+◌, ◌<◌, ◌≤◌, ◌==◌, Bool, true, false, ◌&&◌, ◌||◌, not, if◌then◌else◌, List, [], ◌∷◌, ◌++◌, length, refl, ap, sym, ◌∙◌, subst, arith, append-nil, append_assoc}
+use Rattle.std.specs.Prelude.{Result, Err, nat_le}
 use Rattle.std.specs.List.{AllByRecursion}
 use Rattle.std.specs.Cmp.{nat_cmp_is}
 use Rattle.std.specs.Ordering.{nat_cmp}
@@ -22,13 +22,13 @@ use Rattle.class_fields.specs.declared.fault.ClassFault.TheVariants.{BadValue}
 use Rattle.class_fields.specs.Ranges.{is_node}
 use Rattle.class_fields.specs.Reading.{byte_at, nodes_at, in_class}
 use Rattle.class_core.specs.declared.message.CoreMessage.{CoreMessage}
-use Rattle.class_core.specs.declared.message.CoreMessage.TheVariants.{SwitchMultilevelSet, ThermostatModeSet, ConfigurationSet, ConfigurationBulkSet, AssociationSet, AssociationRemove, WakeUpIntervalSet}
+use Rattle.class_core.specs.declared.message.CoreMessage.TheVariants.{ThermostatModeSet, ConfigurationSet, ConfigurationBulkSet, AssociationSet, AssociationRemove, WakeUpIntervalSet}
 use Rattle.class_core.specs.MessageReading.{message_at, association_at}
 use Rattle.class_core.specs.Spelling.{form, IsInRange}
 use Rattle.class_info.specs.declared.message.InfoMessage.{InfoMessage}
 use Rattle.class_info.specs.InfoReading.{info_at}
-use Rattle.host_orders.specs.Messages.{commands_of, is_batch, value_message, setpoint_message, level_of}
-use Rattle.host_orders.specs.Refusals.{is_bad, is_bad_word, is_bad_mode, is_bad_setpoint}
+use Rattle.host_orders.specs.Messages.{commands_of, is_batch, value_message, setpoint_message}
+use Rattle.host_orders.specs.Refusals.{is_bad, is_bad_word}
 use Rattle.host_orders.specs.Settings.{setting, settings, settings_by, value_setting, config_settings}
 use Rattle.host_orders.specs.declared.actuator.Actuator.{Actuator}
 use Rattle.host_orders.specs.declared.actuator.Actuator.TheVariants.{Binary, Multilevel, Lock}
@@ -40,8 +40,8 @@ use Rattle.device_stack.specs.Kind.{lists, has_end}
 use Rattle.device_stack.specs.State.{State, value_of, last_level_of}
 use Rattle.device_stack.specs.Values.{value_by}
 use Rattle.device_stack.specs.Settings.{with_setting, merged}
-use Rattle.device_stack.specs.Judging.{setting_of, where_listed, where_inside, level_meant, is_setpoint, configured, member_count, memberships, judged_members, judged_set, judged, judged_all, judged_message}
-use Rattle.message_facts.specs.Asking.{read_as, verdict_on, MakesOnly}
+use Rattle.device_stack.specs.Judging.{where_inside, level_meant, is_setpoint, configured, member_count, memberships, judged_members, judged_set, judged, judged_all, judged_message}
+use Rattle.message_facts.specs.Asking.{verdict_on, MakesOnly}
 use Rattle.message_facts.proofs.Opening.{reads, value_in_range, mode_in_range, setpoint_in_range, first_of, second_of}
 
 -- ---- verdicts

@@ -1,6 +1,6 @@
 -- What the message of a session asks of a device, and what the device makes of it (this project's own; the wraps are those of the Z-Wave
 -- Transport-Encapsulation Command Class Specification).
-use Rattle.std.specs.Prelude.{◌≡◌, ◌≢◌, ℕ, ◌≤◌, ◌⊎◌, Bool, true, false, IsTrue, List, Result, Ok}
+use Rattle.std.specs.Prelude.{◌≡◌, ◌≢◌, ℕ, Bool, true, false, IsTrue, List, Result, Ok}
 use Rattle.zw_base.specs.declared.property.Setting.{Setting}
 use Rattle.zw_order.specs.declared.order.What.{What}
 use Rattle.zw_order.specs.declared.order.What.TheVariants as what

@@ -1,7 +1,7 @@
 -- What a segment of the message of a session is to a device (this project's own; First and Subsequent Segment are those of the Z-Wave
 -- Transport Service Command Class).
-use Rattle.std.specs.Prelude.{◌≡◌, ◌⊎◌, ℕ, List, Option}
-use Rattle.transport_segments.specs.Kept.{Reassembly, Empty, Partial}
+use Rattle.std.specs.Prelude.{◌≡◌, ℕ, List, Option}
+use Rattle.transport_segments.specs.Kept.{Empty, Partial}
 use Rattle.transport_segments.specs.Runs.{Agrees}
 use Rattle.device_stack.specs.State.{State}
 use Rattle.message_facts.specs.Asking.{IsUntouched}
