@@ -29,7 +29,7 @@ use Rattle.host_orders.specs.declared.actuator.Actuator.TheVariants as actuators
 use Rattle.host_orders.specs.declared.errand.Gettable.{Gettable}
 use Rattle.host_orders.specs.declared.errand.Gettable.TheVariants as gettables
 use Rattle.device_stack.specs.declared.kind.Kind.{Kind}
-use Rattle.device_stack.specs.declared.kind.Kind.TheVariants.{Lock, Sensor, Thermostat, Configurable}
+use Rattle.device_stack.specs.declared.kind.Kind.TheVariants.{Lock, Configurable}
 use Rattle.device_stack.specs.declared.effect.Effect.{Effect}
 use Rattle.device_stack.specs.declared.effect.Effect.TheVariants.{Ignores, Sleeps, Tells, Sets, Repeats, Takes}
 use Rattle.device_stack.specs.declared.verdict.Verdict.{Verdict}

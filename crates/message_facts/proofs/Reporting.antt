@@ -56,7 +56,7 @@ use Rattle.host_heard.specs.declared.told.Told.{Told}
 use Rattle.host_heard.specs.declared.told.Told.TheVariants.{Report}
 use Rattle.host_heard.specs.Telling.{told_by, told_in, heard_by, heard_at, end_of as from_end}
 use Rattle.device_stack.specs.declared.kind.Kind.{Kind}
-use Rattle.device_stack.specs.declared.kind.Kind.TheVariants.{Switch, Lock, Sensor, Configurable}
+use Rattle.device_stack.specs.declared.kind.Kind.TheVariants.{Lock, Configurable}
 use Rattle.device_stack.specs.declared.effect.Effect.{Effect}
 use Rattle.device_stack.specs.declared.effect.Effect.TheVariants.{Ignores, Sleeps, Tells, Sets, Repeats, Takes}
 use Rattle.device_stack.specs.declared.verdict.Verdict.{Verdict}
