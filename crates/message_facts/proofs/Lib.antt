@@ -1,0 +1,10 @@
+mod Bare
+mod Opening
+mod Verdicts
+mod Following
+mod Leaving
+mod Reporting
+mod Saying
+mod Segmenting
+mod Courses
+mod Unsealing

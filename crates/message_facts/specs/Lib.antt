@@ -1,0 +1,5 @@
+pub mod Asking
+pub mod Others
+pub mod Reporting
+pub mod Segments
+pub mod Landing

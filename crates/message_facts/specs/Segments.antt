@@ -1,0 +1,18 @@
+-- What a segment of the message of a session is to a device (this project's own; First and Subsequent Segment are those of the Z-Wave
+-- Transport Service Command Class).
+use Rattle.std.specs.Prelude.{◌≡◌, ℕ, List, Option}
+use Rattle.transport_segments.specs.Kept.{Empty, Partial}
+use Rattle.transport_segments.specs.Runs.{Agrees}
+use Rattle.device_stack.specs.State.{State}
+use Rattle.message_facts.specs.Asking.{IsUntouched}
+
+-- the device keeps bytes of the message and no others, and is else as it was
+pub record KeepsPart (message : List ℕ) (id : ℕ) (old new : State) : Type 0 where
+  pub untouched : IsUntouched old new
+  pub places : List (Option ℕ)
+  pub kept : new.reassembly ≡ Partial id places
+  pub agrees : Agrees message id new.reassembly
+
+-- the message is whole, and heard: nothing of it is kept
+abbrev pub IsWhole : State → State → Type 0
+IsWhole heard new = new ≡ record heard { reassembly = Empty }
