@@ -18,6 +18,8 @@ mod nonces;
 #[cfg(test)]
 mod orders;
 #[cfg(test)]
+mod outside;
+#[cfg(test)]
 mod records;
 #[cfg(test)]
 mod requests;

@@ -1,48 +1,36 @@
-//! The console of the simulator: it reads a scenario and writes the transcript of all that it does.
-//!
-//! `run` is the whole of it, and its clause `headline` is the theorem of docs/THEOREM.md. Host, chip, line and air stand in
-//! the crate `first_world`; the definitions that the clauses cite are those of `first_laws`, `first_facts`, `first_world` and this
-//! crate's `specs/`. `main` makes the devices, the input and the output.
+//! The program: makes the devices, the key, the input and the output, and hands them to `run` of `console_run`.
 #![tactic(auto)]
 
-mod chacha;
-#[cfg(test)]
-mod edge_tests;
-mod input;
-mod output;
-mod run;
-mod status;
-#[cfg(test)]
-mod tests;
-#[cfg(test)]
-mod texts;
-
-use crate::chacha::ChaChaDraw;
-use crate::run::run;
-use crate::status::Status;
-use first_devices::{Device, make_switch};
+use command_line::USAGE;
+use console_run::{ChaChaDraw, run};
+use device_sim::{
+    Device, Recorder, make_config, make_dimmer, make_lock, make_relay, make_sensor, make_strip,
+    make_switch, make_thermostat,
+};
+use host_keep::PlainKeeper;
+use scenario_run::Status;
 use std::alloc::Global;
 use std::env;
 use std::io::ErrorKind;
 use std::process::ExitCode;
-use zw_base::{NoMemory, StdSink, StdSource, read_node};
+use zw_base::{NoMemory, NodeId, Sink, Source, StdSink, StdSource, read_node};
 
-/// The network key of the simulated devices.
+/// The network key of the host and of the simulated devices.
 const KEY: [u8; 16] = [
     0x00, 0x01, 0x02, 0x03, 0x04, 0x05, 0x06, 0x07, 0x08, 0x09, 0x0A, 0x0B, 0x0C, 0x0D, 0x0E, 0x0F,
 ];
 
-/// A node is a switch where its number leaves this when it is divided by the number of kinds.
-const SWITCHES: u8 = 2;
-
-/// How many kinds of devices there are.
+/// How many kinds of devices there are: the kind of a node's device is by its number.
 const KINDS: u8 = 8;
 
-/// The words that this stage takes.
-const USAGE: &str = "usage: zwave_console sim";
+/// The greatest number of a node.
+const LAST: u8 = 232;
 
 fn main(rt: HostRuntime) -> ExitCode {
-    let status = start(&rt);
+    let status = match start(&rt) {
+        Ok(status) => status,
+        Err(NoMemory) => Status::NoMemory,
+    };
     if status == Status::Usage {
         let _ = eprintln!(rt; "{USAGE}");
     }
@@ -65,41 +53,72 @@ fn words_of(rt: &HostRuntime) -> Result<Vec<String>, Status> {
     Ok(words)
 }
 
+// Adds the device of a node, of the kind that its number says. The devices are lent, so that no way out drops them.
+fn add_device(
+    alloc: Global,
+    node: NodeId,
+    devices: &mut Vec<Box<dyn Device>>,
+) -> Result<(), NoMemory> {
+    match node.number() % KINDS {
+        0 => devices.push(Box::new(alloc, make_config(alloc, node, KEY)?)?)?,
+        1 => devices.push(Box::new(alloc, make_relay(alloc, node, KEY)?)?)?,
+        2 => devices.push(Box::new(alloc, make_switch(alloc, node, KEY)?)?)?,
+        3 => devices.push(Box::new(alloc, make_dimmer(alloc, node, KEY)?)?)?,
+        4 => devices.push(Box::new(alloc, make_lock(alloc, node, KEY)?)?)?,
+        5 => devices.push(Box::new(alloc, make_sensor(alloc, node, KEY)?)?)?,
+        6 => devices.push(Box::new(alloc, make_thermostat(alloc, node, KEY)?)?)?,
+        _ => devices.push(Box::new(alloc, make_strip(alloc, node, KEY)?)?)?,
+    }
+    Ok(())
+}
+
+// Adds a device for each node from 2 to 232, in this order, of which that of node 2 records what it hears.
+fn add_devices(alloc: Global, devices: &mut Vec<Box<dyn Device>>) -> Result<(), NoMemory> {
+    if let Some(node) = read_node(2) {
+        let switch = make_switch(alloc, node, KEY)?;
+        devices.push(Box::new(alloc, Recorder::new(alloc, switch))?)?;
+    }
+    for number in 3..=LAST {
+        if let Some(node) = read_node(number) {
+            add_device(alloc, node, devices)?;
+        }
+    }
+    Ok(())
+}
+
+// The call of `run`, whose contract is large, stands alone: what comes behind it does not carry it along.
+fn run_words<S: Source, K: Sink>(
+    alloc: Global,
+    words: &[String],
+    source: &mut S,
+    sink: &mut K,
+    devices: &mut Vec<Box<dyn Device>>,
+    draw: &mut ChaChaDraw,
+    keeper: &mut PlainKeeper,
+) -> Status {
+    run(alloc, words, source, sink, devices, KEY, draw, keeper)
+}
+
 // Makes the devices and the real input and output, and runs the command.
-fn start(rt: &HostRuntime) -> Status {
+fn start(rt: &HostRuntime) -> Result<Status, NoMemory> {
     let alloc = rt.alloc();
     let words = match words_of(rt) {
         Ok(words) => words,
-        Err(status) => return status,
+        Err(status) => return Ok(status),
     };
     let mut devices: Vec<Box<dyn Device>> = Vec::new(alloc);
-    for number in 2..=232u8 {
-        if number % KINDS != SWITCHES {
-            continue;
-        }
-        let Some(node) = read_node(number) else {
-            continue;
-        };
-        let Ok(switch) = make_switch(alloc, node, KEY) else {
-            return Status::NoMemory;
-        };
-        let Ok(device) = Box::new(alloc, switch) else {
-            return Status::NoMemory;
-        };
-        if devices.push(device).is_err() {
-            return Status::NoMemory;
-        }
-    }
+    add_devices(alloc, &mut devices)?;
     let mut source = StdSource::new(rt.stdin());
     let mut sink = StdSink::new(rt.stdout());
     let mut draw = ChaChaDraw::new([0; 32]);
-    run(
+    let mut keeper = PlainKeeper::new(alloc);
+    Ok(run_words(
         alloc,
         words.as_slice(),
         &mut source,
         &mut sink,
         &mut devices,
-        KEY,
         &mut draw,
-    )
+        &mut keeper,
+    ))
 }

@@ -1,0 +1,92 @@
+-- What was asked, and how the program ends.
+use Rattle.std.proofs.Common.{◌≡◌, ◌≢◌, ◌⊎◌, inl, inr, ℕ, List, Bool, Option, Result, Ok, Err, refl, sym, ap, subst, ◌∙◌, arith}
+use Rattle.zw_words.specs.declared.side.Side.{Side}
+use Rattle.device_sim.specs.State.{State}
+use Rattle.scenario_run.specs.Complete.{IsDone}
+use Rattle.scenario_run.specs.Run.{Closes}
+use Rattle.scenario_run.specs.Status.{code_of}
+use Rattle.scenario_run.specs.declared.running.LinesEnd.{LinesEnd}
+use Rattle.scenario_run.specs.declared.running.LinesEnd.TheVariants.{All, Bad, ReadFailed, TooMuch, WriteFailed, NoMemory}
+use Rattle.scenario_run.specs.declared.status.Status.{Status}
+use Rattle.scenario_run.specs.declared.status.Status.TheVariants as status
+use Rattle.command_line.specs.Valid.{AreWordsFor, IsAnswered}
+use Rattle.command_line.specs.declared.asked.Asked.{Asked}
+use Rattle.command_line.specs.declared.asked.WordsFault.{WordsFault}
+use Rattle.command_line.specs.declared.asked.WordsFault.TheVariants.{Usage as no_command, NoMemory as no_words}
+use Rattle.command_runs.specs.Check.{HasChecked}
+use Rattle.command_runs.specs.Events.{EventsRan}
+use Rattle.include_run.specs.Run.{IncludeRan}
+use Rattle.replay_run.specs.Replay.{ReplayRan}
+use Rattle.sim_run.specs.Sim.{SimRan}
+use Rattle.sim_run.specs.Generate.{GenerateRan}
+use Rattle.console_run.specs.Commands.{Around, Does, DoesUnlessRefused, HasGoodInputFor, IsThere}
+
+differ : (a b : Status) → a ≡ b → code_of a ≢ code_of b → ⊥
+differ a b e other = other (ap code_of e)
+
+-- a run of lines never ends as one that refuses its words
+closes_not : {X : Type 0} (ends : X → List (List ℕ) → Type 0) (end : LinesEnd) (world : X) (sink sink' : Option (List ℕ)) → Closes ends end status.Usage world sink sink' → ⊥
+closes_not ends All world sink sink' c = c
+closes_not ends (Bad number fault) world sink sink' c = c
+closes_not ends ReadFailed world sink sink' c = differ status.Usage status.ReadFault c.0 (λ e. omega (arith, e))
+closes_not ends TooMuch world sink sink' c = differ status.Usage status.InputTooLong c.0 (λ e. omega (arith, e))
+closes_not ends WriteFailed world sink sink' c = differ status.Usage status.WriteFault c.0 (λ e. omega (arith, e))
+closes_not ends NoMemory world sink sink' c = differ status.Usage status.NoMemory c.0 (λ e. omega (arith, e))
+
+-- no command that is there refuses its words
+pub checked_is : (ended : Status) (from : Side) (left left' sink sink' : Option (List ℕ)) → HasChecked ended from left left' sink sink' → ended ≢ status.Usage
+checked_is ended from left left' sink sink' h e =
+    let c : HasChecked status.Usage from left left' sink sink' = subst (λ (s : Status). HasChecked s from left left' sink sink') e h in
+    c.ended.2
+
+pub events_is : (ended : Status) (left left' sink sink' : Option (List ℕ)) → EventsRan ended left left' sink sink' → ended ≢ status.Usage
+events_is ended left left' sink sink' h e =
+    let c : EventsRan status.Usage left left' sink sink' = subst (λ (s : Status). EventsRan s left left' sink sink') e h in
+    closes_not _ c.end _ c.mid sink' c.closes
+
+pub include_is : (ended : Status) (key : List ℕ) (left left' sink sink' : Option (List ℕ)) → IncludeRan ended key left left' sink sink' → ended ≢ status.Usage
+include_is ended key left left' sink sink' h e =
+    let c : IncludeRan status.Usage key left left' sink sink' = subst (λ (s : Status). IncludeRan s key left left' sink sink') e h in
+    closes_not _ c.told.end _ c.told.mid sink' c.told.closes
+
+pub sim_is : (ended : Status) (quiet : Bool) (key : List ℕ) (left left' : Option (List ℕ)) (before after : List State) (records records' : Option (List (List ℕ))) (faults faults' : ℕ)
+    (sink sink' : Option (List ℕ)) → SimRan ended quiet key left left' before after records records' faults faults' sink sink' → ended ≢ status.Usage
+sim_is ended quiet key left left' before after records records' faults faults' sink sink' h e =
+    let c : SimRan status.Usage quiet key left left' before after records records' faults faults' sink sink' =
+    subst (λ (s : Status). SimRan s quiet key left left' before after records records' faults faults' sink sink') e h in
+    closes_not _ c.told.end _ c.told.mid sink' c.told.closes
+
+pub generate_is : (ended : Status) (hundreds : ℕ) (key : List ℕ) (before after : List State) (records records' : Option (List (List ℕ))) (faults faults' : ℕ)
+    (sink sink' : Option (List ℕ)) → GenerateRan ended hundreds key before after records records' faults faults' sink sink' → ended ≢ status.Usage
+generate_is ended hundreds key before after records records' faults faults' sink sink' h e =
+    subst (λ (s : Status). GenerateRan s hundreds key before after records records' faults faults' sink sink') e h
+
+pub replay_is : (ended : Status) (key : List ℕ) (left left' : Option (List ℕ)) (records records' : Option (List (List ℕ))) (faults faults' : ℕ)
+    (sink sink' : Option (List ℕ)) → ReplayRan ended key left left' records records' faults faults' sink sink' → ended ≢ status.Usage
+replay_is ended key left left' records records' faults faults' sink sink' h e =
+    let c : ReplayRan status.Usage key left left' records records' faults faults' sink sink' =
+    subst (λ (s : Status). ReplayRan s key left left' records records' faults faults' sink sink') e h in
+    closes_not _ c.told.end _ c.told.mid sink' c.told.closes
+
+-- ---- what the words ask for is done
+
+pub valid_words : (given : Asked) (ended : Status) (texts : List (List ℕ)) → ((asked : Asked) → AreWordsFor asked texts → IsAnswered asked (Ok given))
+    → (IsThere given → ended ≢ status.Usage) → (asked : Asked) → AreWordsFor asked texts → IsThere asked → ended ≢ status.Usage
+valid_words given ended texts valid there asked are is = there (subst (λ (a : Asked). IsThere a) (sym (valid asked are)) is)
+
+pub does_words : (given : Asked) (key : List ℕ) (ended : Status) (old new : Around) (texts : List (List ℕ)) → ((asked : Asked) → AreWordsFor asked texts → IsAnswered asked (Ok given))
+    → Does given key ended old new → (asked : Asked) → AreWordsFor asked texts → DoesUnlessRefused asked key ended old new
+does_words given key ended old new texts valid does asked are = inl (subst (λ (a : Asked). Does a key ended old new) (valid asked are) does)
+
+pub complete_words : (given : Asked) (ended : Status) (texts : List (List ℕ)) (left : Option (List ℕ)) (NoRead NoWrite : Type 0)
+    → ((asked : Asked) → AreWordsFor asked texts → IsAnswered asked (Ok given)) → (HasGoodInputFor given left → NoRead → NoWrite → IsDone ended)
+    → (asked : Asked) → AreWordsFor asked texts → HasGoodInputFor asked left → NoRead → NoWrite → IsDone ended
+complete_words given ended texts left NoRead NoWrite valid complete asked are good = complete (subst (λ (a : Asked). HasGoodInputFor a left) (sym (valid asked are)) good)
+
+abbrev fault_code : WordsFault → ℕ
+fault_code no_command = 1
+fault_code no_words = 2
+
+-- words that are refused are not valid
+pub never_refused : no_command ≡ no_words → ⊥
+never_refused e = let codes_are : 1 ≡ 2 = ap fault_code e in absurd (omega (arith, codes_are))

@@ -1,0 +1,144 @@
+-- What a run of `sim` keeps true (this project's own): its story is the lines that were run, each with the events of the machine that it was,
+-- and the laws are of this story.
+use Rattle.std.specs.Prelude.{◌≡◌, ℕ, Bool, ◌⊎◌, List, [], ◌∷◌, ◌++◌, map}
+use Rattle.std.specs.List.{AllByRecursion}
+use Rattle.device_sim.specs.State.{State}
+use Rattle.zw_text.specs.Line.{line_at}
+use Rattle.zw_text.specs.declared.line.Line.{Line}
+use Rattle.zw_text.specs.declared.entry.Entry.{Entry}
+use Rattle.zw_text.specs.declared.entry.Entry.TheVariants.{Said}
+use Rattle.host_core.specs.Network.{keys_of}
+use Rattle.zw_machine.specs.State.{Machine, first_machine}
+use Rattle.zw_machine.specs.Events.{Event}
+use Rattle.zw_machine.specs.Did.{happens_all, entries_all, MayAll}
+use Rattle.zw_machine.specs.Lines.{IsLine}
+use Rattle.scenario_run.specs.declared.running.LinesEnd.{LinesEnd}
+use Rattle.scenario_run.specs.declared.running.LinesEnd.TheVariants.{NoMemory}
+use Rattle.scenario_run.specs.declared.status.Status.{Status}
+use Rattle.entry_pieces.specs.Pieces.{said_text}
+use Rattle.entry_pieces.specs.Lines.{TextLine, lines_in}
+use Rattle.scenario_run.specs.declared.status.Status.TheVariants as status
+use Rattle.sim_run.specs.Sim.{SimRan}
+use Rattle.host_facts.specs.Facts.{AreShown}
+use Rattle.host_facts.specs.Laws.{HostLaws}
+use Rattle.host_facts.specs.Stores.{StoresLaw}
+use Rattle.device_facts.specs.GoingOn.{AreInOrder, AreSame, TakeOnce}
+use Rattle.device_facts.specs.Showing.{AreApart, IsShown}
+use Rattle.zw_laws.specs.Headline.{IsAsMade}
+use Rattle.world_facts.specs.Devices.{GroupsSessions}
+use Rattle.world_facts.specs.Restarts.{AllKeepWell, BeginsEmpty}
+use Rattle.console_run.specs.Commands.{Around, Refuses}
+
+-- ---- stories
+
+-- a line, and the events of the machine that it was
+pub record Ran : Type 0 where
+  pub line : TextLine Line
+  pub events : List Event
+
+-- the events of a story, one after another
+abbrev pub events_of : List Ran → List Event
+events_of [] = []
+events_of (ran ∷ more) = ran.events ++ events_of more
+
+-- its entries from a machine on: the words of each line, and then the entries of its events
+abbrev pub transcript_from : Machine → List Ran → List Entry
+transcript_from m [] = []
+transcript_from m (ran ∷ more) = Said (said_text ran.line.text) ∷ (entries_all m ran.events ++ transcript_from (happens_all m ran.events) more)
+
+-- the events of each line are its schedule
+abbrev pub AreSchedules : Machine → List Ran → Type 0
+AreSchedules m [] = Unit {0}
+AreSchedules m (ran ∷ more) = IsLine ran.line.line m ran.events × AreSchedules (happens_all m ran.events) more
+
+-- the same of all lines but the last, which was run in part
+pub record AreSchedulesButLast (m : Machine) (story : List Ran) : Type 0 where
+  pub front : List Ran
+  pub last : Ran
+  pub are : story ≡ front ++ last ∷ []
+  pub schedules : AreSchedules m front
+
+-- each line was run whole; where there was no memory, the last perhaps in part
+abbrev pub AreScheduled : LinesEnd → Machine → List Ran → Type 0
+AreScheduled NoMemory m story = AreSchedules m story ⊎ AreSchedulesButLast m story
+AreScheduled end m story = AreSchedules m story
+
+-- the machine ended so, and no entry is left out; want of memory may leave entries out, and the host as it was in between
+abbrev pub IsWhole : LinesEnd → List Entry → Machine → Machine → Type 0
+IsWhole NoMemory more machine last = Unit {0}
+IsWhole end more machine last = (more ≡ []) × (machine ≡ last)
+
+-- ---- the story of a run
+
+-- the machine at the beginning of a run, with the devices and the keeper that the program was given
+abbrev pub first : List ℕ → Around → Machine
+first key old = first_machine (keys_of key) old.records old.devices
+
+-- the machine after a story
+abbrev pub last : List ℕ → Around → List Ran → Machine
+last key old story = happens_all (first key old) (events_of story)
+
+-- the transcript of a story
+abbrev pub transcript : List ℕ → Around → List Ran → List Entry
+transcript key old story = transcript_from (first key old) story
+
+-- A run of `sim` has this story: its lines are those that were run, its events those that were done, and its transcript is what was written as
+-- `SimRan` says, but for what want of memory left out.
+pub record Tells (ended : Status) (quiet : Bool) (key : List ℕ) (old new : Around) (story : List Ran) : Type 0 where
+  pub ran : SimRan ended quiet key old.left new.left old.devices new.devices old.records new.records old.faults new.faults old.written new.written
+  pub lines : map (λ (r : Ran). r.line) story ≡ lines_in line_at ran.told.texts
+  pub scheduled : AreScheduled ran.told.end (first key old) story
+  pub may : MayAll (first key old) (events_of story)
+  pub more : List Entry
+  pub entered : ran.told.transcript ++ more ≡ transcript key old story
+  pub whole : IsWhole ran.told.end more ran.point.machine (last key old story)
+  pub devices : new.devices ≡ (last key old story).outside.devices
+  pub records : new.records ≡ (last key old story).records
+
+-- ---- premises of the laws
+
+-- The keeper began without records, it tells them where a host starts from them, their numbers are in range, and an interview that ends
+-- well is of a node that is joined.
+pub record KeepsRecords (key : List ℕ) (old : Around) (story : List Ran) : Type 0 where
+  pub empty : BeginsEmpty old.records
+  pub well : AllKeepWell (first key old) (events_of story)
+
+-- ---- what every story of a run keeps
+
+-- the words `sim` run it, so that it has a story; or there was no memory to read them
+abbrev pub IsTold : Status → Bool → List ℕ → Around → Around → Type 0
+IsTold ended quiet key old new = ((story : List Ran) × Tells ended quiet key old new story) ⊎ Refuses status.NoMemory ended old new
+
+-- a law of every story that a run has
+abbrev pub Always : Status → List ℕ → Around → Around → (List Ran → Type 0) → Type 0
+Always ended key old new Law = (quiet : Bool) (story : List Ran) → Tells ended quiet key old new story → Law story
+
+-- orders, sessions and outcomes keep their laws
+abbrev pub KeepsOrders : Status → List ℕ → Around → Around → Type 0
+KeepsOrders ended key old new = Always ended key old new (λ story. KeepsRecords key old story → HostLaws (transcript key old story))
+
+-- the tables of the host are what the transcript shows
+abbrev pub ShowsTables : Status → List ℕ → Around → Around → Type 0
+ShowsTables ended key old new = Always ended key old new (λ story. KeepsRecords key old story → AreShown (transcript key old story) (last key old story).host.state)
+
+-- a confirmed value is that of the last successful session that sets it
+abbrev pub ConfirmsValues : Status → List ℕ → Around → Around → Type 0
+ConfirmsValues ended key old new = Always ended key old new (λ story. KeepsRecords key old story → StoresLaw (transcript key old story) (last key old story).host.state)
+
+-- each device changes at most once by each session, in their order
+abbrev pub AppliesOnce : Status → List ℕ → Around → Around → Type 0
+AppliesOnce ended key old new = Always ended key old new (λ story. AreInOrder old.devices → TakeOnce new.devices)
+
+-- each device keeps its node, its kind and its key
+abbrev pub KeepsDevices : Status → List ℕ → Around → Around → Type 0
+KeepsDevices ended key old new = Always ended key old new (λ story. AreSame old.devices new.devices)
+
+-- of devices as their makers left them, one a node, the transcript shows every change
+abbrev pub ShowsChanges : Status → List ℕ → Around → Around → Type 0
+ShowsChanges ended key old new = Always ended key old new
+    (λ story. AllByRecursion (IsAsMade key) old.devices → AreApart old.devices → AllByRecursion (IsShown (transcript key old story)) new.devices)
+
+-- and those of one session stand together
+abbrev pub GroupsChanges : Status → List ℕ → Around → Around → Type 0
+GroupsChanges ended key old new = Always ended key old new
+    (λ story. AllByRecursion (IsAsMade key) old.devices → AreApart old.devices → AllByRecursion (GroupsSessions (transcript key old story)) new.devices)

@@ -1,0 +1,8 @@
+//! Tests of the console over memory: worked inputs of each command, and reads and writes that fail.
+//!
+//! A crate that has tests is proved once with them and once without. So `console_run` has none, and this one, which promises
+//! nothing, has its tests.
+#![tactic(auto)]
+
+#[cfg(test)]
+mod worked;

@@ -1,4 +1,0 @@
-pub mod Kind
-pub mod State
-pub mod Hearing
-pub mod Switch

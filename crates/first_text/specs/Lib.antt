@@ -1,4 +1,0 @@
-pub mod Line
-pub mod Entry
-pub mod Printable
-pub mod Transcript
