@@ -19,7 +19,8 @@ use Rattle.include_run.specs.Run.{IncludeRan}
 use Rattle.replay_run.specs.Replay.{ReplayRan}
 use Rattle.sim_run.specs.Sim.{SimRan}
 use Rattle.sim_run.specs.Generate.{GenerateRan}
-use Rattle.console_run.specs.Commands.{Around, Does, DoesUnlessRefused, HasGoodInputFor, IsThere}
+use Rattle.sim_laws.specs.Around.{Around}
+use Rattle.console_run.specs.Commands.{Refuses, Runs, RunsAnswer}
 
 differ : (a b : Status) → a ≡ b → code_of a ≢ code_of b → ⊥
 differ a b e other = other (ap code_of e)
@@ -68,25 +69,16 @@ replay_is ended key left left' records records' faults faults' sink sink' h e =
     subst (λ (s : Status). ReplayRan s key left left' records records' faults faults' sink sink') e h in
     closes_not _ c.told.end _ c.told.mid sink' c.told.closes
 
--- ---- what the words ask for is done
+-- ---- what the words name is run
 
-pub valid_words : (given : Asked) (ended : Status) (texts : List (List ℕ)) → ((asked : Asked) → AreWordsFor asked texts → IsAnswered asked (Ok given))
-    → (IsThere given → ended ≢ status.Usage) → (asked : Asked) → AreWordsFor asked texts → IsThere asked → ended ≢ status.Usage
-valid_words given ended texts valid there asked are is = there (subst (λ (a : Asked). IsThere a) (sym (valid asked are)) is)
-
-pub does_words : (given : Asked) (key : List ℕ) (ended : Status) (old new : Around) (texts : List (List ℕ)) → ((asked : Asked) → AreWordsFor asked texts → IsAnswered asked (Ok given))
-    → Does given key ended old new → (asked : Asked) → AreWordsFor asked texts → DoesUnlessRefused asked key ended old new
-does_words given key ended old new texts valid does asked are = inl (subst (λ (a : Asked). Does a key ended old new) (valid asked are) does)
-
-pub complete_words : (given : Asked) (ended : Status) (texts : List (List ℕ)) (left : Option (List ℕ)) (NoRead NoWrite : Type 0)
-    → ((asked : Asked) → AreWordsFor asked texts → IsAnswered asked (Ok given)) → (HasGoodInputFor given left → NoRead → NoWrite → IsDone ended)
-    → (asked : Asked) → AreWordsFor asked texts → HasGoodInputFor asked left → NoRead → NoWrite → IsDone ended
-complete_words given ended texts left NoRead NoWrite valid complete asked are good = complete (subst (λ (a : Asked). HasGoodInputFor a left) (sym (valid asked are)) good)
+pub named_runs : (given : Asked) (key : List ℕ) (ended : Status) (old new : Around) (words : List (List ℕ)) → ((asked : Asked) → AreWordsFor asked words → IsAnswered asked (Ok given))
+    → Runs given words key ended old new → (asked : Asked) → AreWordsFor asked words → Runs asked words key ended old new ⊎ Refuses status.NoMemory ended old new
+named_runs given key ended old new words valid runs asked are = inl (subst (λ (a : Asked). Runs a words key ended old new) (valid asked are) runs)
 
 abbrev fault_code : WordsFault → ℕ
 fault_code no_command = 1
 fault_code no_words = 2
 
--- words that are refused are not valid
+-- words that are refused name no command
 pub never_refused : no_command ≡ no_words → ⊥
 never_refused e = let codes_are : 1 ≡ 2 = ap fault_code e in absurd (omega (arith, codes_are))

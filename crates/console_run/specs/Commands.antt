@@ -1,12 +1,13 @@
 -- What each command of the program does (this project's own rule).
-use Rattle.std.specs.Prelude.{◌≡◌, ◌⊎◌, ℕ, List, Option, Result, Ok, Err}
+use Rattle.std.specs.Prelude.{◌≡◌, ◌≤◌, ◌⊎◌, ℕ, List, Option, Result, Ok, Err}
+use Rattle.zw_base.specs.Faults.{Rose}
 use Rattle.zw_text.specs.Line.{line_at, replay_at}
-use Rattle.device_sim.specs.State.{State}
-use Rattle.scenario_run.specs.Complete.{HasGoodInput}
+use Rattle.scenario_run.specs.Complete.{HasGoodInput, IsDone}
 use Rattle.scenario_run.specs.declared.status.Status.{Status}
 use Rattle.scenario_run.specs.declared.status.Status.TheVariants as status
 use Rattle.entry_pieces.specs.Lines.{fault_by}
 use Rattle.command_line.specs.Asked.{AnswersWords}
+use Rattle.command_line.specs.Valid.{AreWordsFor}
 use Rattle.command_line.specs.declared.asked.Asked.{Asked}
 use Rattle.command_line.specs.declared.asked.Asked.TheVariants.{Sim, Check, Generate, Replay, Events, Include, Host, Audit}
 use Rattle.command_line.specs.declared.asked.WordsFault.{WordsFault}
@@ -16,26 +17,16 @@ use Rattle.command_runs.specs.Events.{EventsRan, event_fault}
 use Rattle.include_text.specs.Line.{line_at as include_at}
 use Rattle.include_run.specs.Run.{IncludeRan}
 use Rattle.replay_run.specs.Replay.{ReplayRan}
-use Rattle.sim_run.specs.Sim.{SimRan}
 use Rattle.sim_run.specs.Generate.{GenerateRan}
-
--- what the program is given: the bytes that the source has left, the devices, what the keeper holds and how often it failed, and what
--- was written, each where it is told
-pub record Around : Type 0 where
-  pub left : Option (List ℕ)
-  pub devices : List State
-  pub records : Option (List (List ℕ))
-  pub faults : ℕ
-  pub written : Option (List ℕ)
-
-abbrev pub around : Option (List ℕ) → List State → Option (List (List ℕ)) → ℕ → Option (List ℕ) → Around
-around left devices records faults written = record { left = left; devices = devices; records = records; faults = faults; written = written }
+use Rattle.sim_laws.specs.Around.{Around}
+use Rattle.sim_laws.specs.Laws.{RunsSim}
 
 -- devices and keeper are as before
 pub record LeavesDevices (old new : Around) : Type 0 where
   pub devices : new.devices ≡ old.devices
+  pub kept : new.kept ≡ old.kept
   pub records : new.records ≡ old.records
-  pub faults : new.faults ≡ old.faults
+  pub faults : new.keeper_faults ≡ old.keeper_faults
 
 -- the command is there; those that are not yet are refused as words that are no command
 abbrev pub IsThere : Asked → Type 0
@@ -48,37 +39,22 @@ pub record Refuses (why ended : Status) (old new : Around) : Type 0 where
   pub is : ended ≡ why
   pub unchanged : new ≡ old
 
--- what was asked is done, as the status says
-abbrev pub Does : Asked → List ℕ → Status → Around → Around → Type 0
-Does (Sim quiet) key ended old new =
-    SimRan ended quiet key old.left new.left old.devices new.devices old.records new.records old.faults new.faults old.written new.written
-Does (Check from) key ended old new = HasChecked ended from old.left new.left old.written new.written × LeavesDevices old new
-Does (Generate hundreds) key ended old new =
-    GenerateRan ended hundreds key old.devices new.devices old.records new.records old.faults new.faults old.written new.written × (new.left ≡ old.left)
-Does Replay key ended old new =
-    ReplayRan ended key old.left new.left old.records new.records old.faults new.faults old.written new.written × (new.devices ≡ old.devices)
-Does Events key ended old new = EventsRan ended old.left new.left old.written new.written × LeavesDevices old new
-Does Include key ended old new = IncludeRan ended key old.left new.left old.written new.written × LeavesDevices old new
-Does Host key ended old new = Refuses status.Usage ended old new
-Does Audit key ended old new = Refuses status.Usage ended old new
-
-abbrev pub DoesBy : Result Asked WordsFault → List ℕ → Status → Around → Around → Type 0
-DoesBy (Ok asked) key ended old new = Does asked key ended old new
-DoesBy (Err no_command) key ended old new = Refuses status.Usage ended old new
-DoesBy (Err no_words) key ended old new = Refuses status.NoMemory ended old new
-
--- the words ask for a command as its command line takes them, and that command is run
-pub record CommandRan (words : List (List ℕ)) (key : List ℕ) (ended : Status) (old new : Around) : Type 0 where
-  pub answer : Result Asked WordsFault
-  pub asked : AnswersWords words answer
-  pub did : DoesBy answer key ended old new
-
--- the same, or there was no memory to read the words
-abbrev pub DoesUnlessRefused : Asked → List ℕ → Status → Around → Around → Type 0
-DoesUnlessRefused asked key ended old new = Does asked key ended old new ⊎ Refuses status.NoMemory ended old new
+-- what was asked by these words is done, as the status says
+unfoldable pub Does : Asked → List (List ℕ) → List ℕ → Status → Around → Around → Type 0
+Does (Sim quiet) words key ended old new = RunsSim ended quiet key old new
+Does (Check from) words key ended old new = HasChecked ended from old.left new.left old.written new.written × LeavesDevices old new
+Does (Generate hundreds) words key ended old new =
+    GenerateRan ended hundreds key old.devices new.devices old.records new.records old.keeper_faults new.keeper_faults old.written new.written
+    × (new.left ≡ old.left)
+Does Replay words key ended old new =
+    ReplayRan ended key old.left new.left old.records new.records old.keeper_faults new.keeper_faults old.written new.written × (new.devices ≡ old.devices)
+Does Events words key ended old new = EventsRan ended old.left new.left old.written new.written × LeavesDevices old new
+Does Include words key ended old new = IncludeRan ended key old.left new.left old.written new.written × LeavesDevices old new
+Does Host words key ended old new = Refuses status.Usage ended old new
+Does Audit words key ended old new = Refuses status.Usage ended old new
 
 -- the input is one that the command runs to its end
-abbrev pub HasGoodInputFor : Asked → Option (List ℕ) → Type 0
+unfoldable pub HasGoodInputFor : Asked → Option (List ℕ) → Type 0
 HasGoodInputFor (Sim quiet) left = HasGoodInput (fault_by line_at) left
 HasGoodInputFor (Check from) left = HasHex left
 HasGoodInputFor (Generate hundreds) left = Unit {0}
@@ -87,3 +63,28 @@ HasGoodInputFor Events left = HasGoodInput event_fault left
 HasGoodInputFor Include left = HasGoodInput (fault_by include_at) left
 HasGoodInputFor Host left = ⊥
 HasGoodInputFor Audit left = ⊥
+
+-- The command was run, and each status has its cause: a command that is there does not end as words that are none; a fault is told only
+-- where a count of faults rose; and without one a good input is run to its end.
+pub record Runs (asked : Asked) (words : List (List ℕ)) (key : List ℕ) (ended : Status) (old new : Around) : Type 0 where
+  pub does : Does asked words key ended old new
+  pub there : IsThere asked → (ended ≡ status.Usage → ⊥)
+  pub read_fault : ended ≡ status.ReadFault → Rose old.read_faults new.read_faults
+  pub write_fault : ended ≡ status.WriteFault → Rose old.write_faults new.write_faults
+  pub complete : HasGoodInputFor asked old.left → (Rose old.read_faults new.read_faults → ⊥) → (Rose old.write_faults new.write_faults → ⊥) → IsDone ended
+  pub source_never_falls : old.read_faults ≤ new.read_faults
+  pub sink_never_falls : old.write_faults ≤ new.write_faults
+
+-- what is asked is run; what is no command, or finds no memory, is refused
+abbrev pub RunsAnswer : Result Asked WordsFault → List (List ℕ) → List ℕ → Status → Around → Around → Type 0
+RunsAnswer (Ok asked) words key ended old new = Runs asked words key ended old new
+RunsAnswer (Err no_command) words key ended old new = Refuses status.Usage ended old new
+RunsAnswer (Err no_words) words key ended old new = Refuses status.NoMemory ended old new
+
+-- The words ask for a command as its command line takes them, and that command is run. Words that name one are refused for want of
+-- memory alone.
+pub record RunsWords (words : List (List ℕ)) (key : List ℕ) (ended : Status) (old new : Around) : Type 0 where
+  pub answer : Result Asked WordsFault
+  pub asked : AnswersWords words answer
+  pub runs : RunsAnswer answer words key ended old new
+  pub named : (asked : Asked) → AreWordsFor asked words → Runs asked words key ended old new ⊎ Refuses status.NoMemory ended old new

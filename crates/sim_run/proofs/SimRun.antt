@@ -21,7 +21,7 @@ use Rattle.scenario_run.specs.Writing.{text_of, AppendsFront}
 use Rattle.scenario_run.specs.declared.status.Status.{Status}
 use Rattle.scenario_run.specs.declared.status.Status.TheVariants.{Ok as all_well, WriteFault as no_write, NoMemory as no_memory}
 use Rattle.entry_pieces.specs.Pieces.{pieces_of, said_text}
-use Rattle.entry_pieces.specs.Lines.{TextLine, StopsText, LinesTold, fault_in, fault_by}
+use Rattle.entry_pieces.specs.Lines.{TextLine, DoesText, StopsText, LinesTold, fault_in, fault_by}
 use Rattle.entry_pieces.proofs.Shown.{pieces-append, pieces_text}
 use Rattle.entry_pieces.proofs.Telling.{lines_told, none_told}
 use Rattle.sim_run.specs.Sim.{Point, SimRan, SimRuns, SimStops, LineRan, PartRan, IsTable, AnswersLine, StopsLine, at, point_of, said, shown_text}
@@ -45,8 +45,28 @@ no_line quiet text point pieces none (Ok (Some line)) ok = not_run quiet text li
 no_line quiet text point pieces none (Err fault) ok = absurd (grind (arith, ok))
 
 -- the text was not read
+-- the text was read as no line
+pub none_runs : (quiet : Bool) (text : List ℕ) (point : Point) (pieces : List (List ℕ)) → Gives (Ok None) (line_at text) → pieces ≡ [] → SimRuns quiet point text point pieces
+unfolding SimRuns
+none_runs quiet text point pieces gives none =
+    subst (λ (read : Result (Option Line) LineFault). DoesText LineRan (pieces_of quiet) text read point point pieces) (sym gives) (refl, none)
+
+-- it was read as a line, which was run, or run in part
+pub line_runs : (quiet : Bool) (text : List ℕ) (line : Line) (old new : Point) (pieces : List (List ℕ)) → Gives (Ok (Some line)) (line_at text)
+    → AnswersLine quiet text line old new pieces → SimRuns quiet old text new pieces
+unfolding SimRuns
+line_runs quiet text line old new pieces gives answers =
+    subst (λ (read : Result (Option Line) LineFault). DoesText LineRan (pieces_of quiet) text read old new pieces) (sym gives) answers
+
+pub line_stops : (quiet : Bool) (text : List ℕ) (line : Line) (old new : Point) (pieces : List (List ℕ)) → Gives (Ok (Some line)) (line_at text)
+    → StopsLine quiet text line old new pieces → RefusesBy no_text_memory (SimStops quiet) (fault_by line_at text) old text new pieces
+unfolding SimStops
+line_stops quiet text line old new pieces gives stops =
+    subst (λ (read : Result (Option Line) LineFault). StopsText PartRan (pieces_of quiet) text read old new pieces) (sym gives) stops
+
 pub not_read : (quiet : Bool) (fault : ReadLineFault) (point : Point) (text : List ℕ) (pieces : List (List ℕ)) → Gives (Err fault) (line_at text) → pieces ≡ []
     → RefusesBy fault (SimStops quiet) (fault_by line_at text) point text point pieces
+unfolding SimStops
 not_read quiet (bad_text fault) point text pieces gives none = (ap fault_in gives, refl)
 not_read quiet no_text_memory point text pieces gives none = no_line quiet text point pieces none (line_at text) gives
 
@@ -104,6 +124,7 @@ module _ (point : Point) (pieces shown : List (List ℕ)) (sink sink' : Option (
 told : (quiet : Bool) (status : Status) (left left' : Option (List ℕ)) (old new : Point) (sink sink' : Option (List ℕ))
     → HasRun status (fault_by line_at) (SimRuns quiet) (SimStops quiet) IsTable left left' old new sink sink'
     → LinesTold status line_at LineRan PartRan (shown_text quiet) IsTable left left' old new sink sink'
+unfolding SimRuns SimStops
 told quiet status left left' old new sink sink' h =
     lines_told line_at LineRan PartRan (pieces_of quiet) (shown_text quiet) IsTable (SimRuns quiet) (SimStops quiet) IsTable (λ (x : Point). Unit {0}) (λ (x : Point). x)
     refl (pieces-append quiet) (pieces_text quiet) (λ x words y out is r. (tt, r)) (λ x words y out is r. r) (λ x out e. e) status left left' old new sink sink' h tt

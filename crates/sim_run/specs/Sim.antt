@@ -58,10 +58,10 @@ abbrev pub StopsLine : Bool → List ℕ → Line → Point → Point → List (
 StopsLine quiet text line old new pieces = StopsText PartRan (pieces_of quiet) text (Ok (Some line)) old new pieces
 
 -- the same of a text
-abbrev pub SimRuns : Bool → Point → List ℕ → Point → List (List ℕ) → Type 0
+unfoldable pub SimRuns : Bool → Point → List ℕ → Point → List (List ℕ) → Type 0
 SimRuns quiet old text new pieces = DoesText LineRan (pieces_of quiet) text (line_at text) old new pieces
 
-abbrev pub SimStops : Bool → Point → List ℕ → Point → List (List ℕ) → Type 0
+unfoldable pub SimStops : Bool → Point → List ℕ → Point → List (List ℕ) → Type 0
 SimStops quiet old text new pieces = StopsText PartRan (pieces_of quiet) text (line_at text) old new pieces
 
 -- ---- the run

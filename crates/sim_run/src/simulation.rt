@@ -46,10 +46,10 @@ impl Simulation {
         ensures kept { length devices.new.items ≡ length devices.old.items }
     {
         match read_line(self.alloc, text) {
-            Ok(Some(line)) => {
-                self.run_one(text, &line, devices, draw, keeper, out)?;
-                Ok(())
-            }
+            Ok(Some(line)) => match self.run_one(text, &line, devices, draw, keeper, out) {
+                Ok(()) => Ok(()),
+                Err(NoMemory) => Err(ReadLineFault::NoMemory),
+            },
             Ok(None) => Ok(()),
             Err(fault) => Err(fault),
         }

@@ -53,30 +53,39 @@ fn words_of(rt: &HostRuntime) -> Result<Vec<String>, Status> {
     Ok(words)
 }
 
-// Adds the device of a node, of the kind that its number says. The devices are lent, so that no way out drops them.
+// Puts a device behind the others, which are lent, so that no way out drops them.
+fn put<T: Device>(
+    alloc: Global,
+    device: T,
+    devices: &mut Vec<Box<dyn Device>>,
+) -> Result<(), NoMemory> {
+    devices.push(Box::new(alloc, device)?)?;
+    Ok(())
+}
+
+// Adds the device of a node, of the kind that its number says.
 fn add_device(
     alloc: Global,
     node: NodeId,
     devices: &mut Vec<Box<dyn Device>>,
 ) -> Result<(), NoMemory> {
     match node.number() % KINDS {
-        0 => devices.push(Box::new(alloc, make_config(alloc, node, KEY)?)?)?,
-        1 => devices.push(Box::new(alloc, make_relay(alloc, node, KEY)?)?)?,
-        2 => devices.push(Box::new(alloc, make_switch(alloc, node, KEY)?)?)?,
-        3 => devices.push(Box::new(alloc, make_dimmer(alloc, node, KEY)?)?)?,
-        4 => devices.push(Box::new(alloc, make_lock(alloc, node, KEY)?)?)?,
-        5 => devices.push(Box::new(alloc, make_sensor(alloc, node, KEY)?)?)?,
-        6 => devices.push(Box::new(alloc, make_thermostat(alloc, node, KEY)?)?)?,
-        _ => devices.push(Box::new(alloc, make_strip(alloc, node, KEY)?)?)?,
+        0 => put(alloc, make_config(alloc, node, KEY)?, devices),
+        1 => put(alloc, make_relay(alloc, node, KEY)?, devices),
+        2 => put(alloc, make_switch(alloc, node, KEY)?, devices),
+        3 => put(alloc, make_dimmer(alloc, node, KEY)?, devices),
+        4 => put(alloc, make_lock(alloc, node, KEY)?, devices),
+        5 => put(alloc, make_sensor(alloc, node, KEY)?, devices),
+        6 => put(alloc, make_thermostat(alloc, node, KEY)?, devices),
+        _ => put(alloc, make_strip(alloc, node, KEY)?, devices),
     }
-    Ok(())
 }
 
 // Adds a device for each node from 2 to 232, in this order, of which that of node 2 records what it hears.
 fn add_devices(alloc: Global, devices: &mut Vec<Box<dyn Device>>) -> Result<(), NoMemory> {
     if let Some(node) = read_node(2) {
         let switch = make_switch(alloc, node, KEY)?;
-        devices.push(Box::new(alloc, Recorder::new(alloc, switch))?)?;
+        put(alloc, Recorder::new(alloc, switch), devices)?;
     }
     for number in 3..=LAST {
         if let Some(node) = read_node(number) {

@@ -16,7 +16,7 @@ use Rattle.device_facts.specs.Showing.{IsShown, NeverFalls}
 use Rattle.world_facts.specs.Devices.{GroupsSessions}
 use Rattle.world_facts.specs.Restarts.{StartsWell, AllStartWell, AllKeepWell, IsHeld}
 use Rattle.sim_run.specs.Sim.{said}
-use Rattle.console_run.specs.Laws.{Ran, events_of, transcript_from}
+use Rattle.sim_laws.specs.Laws.{Ran, events_of, transcript_from}
 
 -- ---- events of two lists
 

@@ -16,9 +16,8 @@ use Rattle.scenario_run.specs.declared.running.LinesEnd.TheVariants.{All, Bad, R
 use Rattle.scenario_run.specs.declared.status.Status.{Status}
 use Rattle.entry_pieces.specs.Lines.{TextLine, lines_in, AllRan, StopsIn, RanLines}
 use Rattle.sim_run.specs.Sim.{Point, point_of, LineRan, PartRan, SimRan, said}
-use Rattle.command_line.specs.declared.asked.Asked.TheVariants.{Sim as AskedSim}
-use Rattle.console_run.specs.Commands.{Around, DoesUnlessRefused}
-use Rattle.console_run.specs.Laws.{Ran, events_of, transcript_from, AreSchedules, AreSchedulesButLast, AreScheduled, IsWhole, first, last, IsTold, Tells}
+use Rattle.sim_laws.specs.Around.{Around}
+use Rattle.sim_laws.specs.Laws.{Ran, RunsSim, events_of, transcript_from, AreSchedules, AreSchedulesButLast, AreScheduled, IsWhole, first, last, Tells}
 
 -- lines that were run whole, with their events
 pub record Tale (lines : List (TextLine Line)) (m m' : Machine) (T : List Entry) : Type 0 where
@@ -177,11 +176,10 @@ story_of WriteFailed lines old new T ran =
     whole_story WriteFailed lines old.machine new.machine T (λ story schedules. schedules) (λ s is. (refl, is)) (tale_of lines old new T ran)
 story_of NoMemory lines old new T ran = some_story lines old new T ran
 
-pub has_story : (ended : Status) (quiet : Bool) (key : List ℕ) (old new : Around)
-    → SimRan ended quiet key old.left new.left old.devices new.devices old.records new.records old.faults new.faults old.written new.written
+pub has_story : (ended : Status) (key : List ℕ) (old new : Around) (quiet : Bool) → RunsSim ended quiet key old new
     → (story : List Ran) × Tells ended quiet key old new story
-has_story ended quiet key old new ran =
-    let s = story_of ran.told.end (lines_in line_at ran.told.texts) (point_of (first_world key) old.devices old.records old.faults) ran.point ran.told.transcript ran.told.ran in (
+has_story ended key old new quiet ran =
+    let s = story_of ran.told.end (lines_in line_at ran.told.texts) (point_of (first_world key) old.devices old.records old.keeper_faults) ran.point ran.told.transcript ran.told.ran in (
       s.story,
       record {
         ran = ran;
@@ -195,8 +193,3 @@ has_story ended quiet key old new ran =
         records = sym ran.records_are ∙ s.records;
       },
     )
-
--- the words `sim` run it
-pub told_of : (ended : Status) (quiet : Bool) (key : List ℕ) (old new : Around) → DoesUnlessRefused (AskedSim quiet) key ended old new → IsTold ended quiet key old new
-told_of ended quiet key old new (inl ran) = inl (has_story ended quiet key old new ran)
-told_of ended quiet key old new (inr refused) = inr refused

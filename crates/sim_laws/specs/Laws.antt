@@ -17,7 +17,6 @@ use Rattle.scenario_run.specs.declared.running.LinesEnd.TheVariants.{NoMemory}
 use Rattle.scenario_run.specs.declared.status.Status.{Status}
 use Rattle.entry_pieces.specs.Pieces.{said_text}
 use Rattle.entry_pieces.specs.Lines.{TextLine, lines_in}
-use Rattle.scenario_run.specs.declared.status.Status.TheVariants as status
 use Rattle.sim_run.specs.Sim.{SimRan}
 use Rattle.host_facts.specs.Facts.{AreShown}
 use Rattle.host_facts.specs.Laws.{HostLaws}
@@ -27,7 +26,12 @@ use Rattle.device_facts.specs.Showing.{AreApart, IsShown}
 use Rattle.zw_laws.specs.Headline.{IsAsMade}
 use Rattle.world_facts.specs.Devices.{GroupsSessions}
 use Rattle.world_facts.specs.Restarts.{AllKeepWell, BeginsEmpty}
-use Rattle.console_run.specs.Commands.{Around, Refuses}
+use Rattle.sim_laws.specs.Around.{Around}
+
+-- `sim` ran so, with what it was given and what it leaves
+abbrev pub RunsSim : Status → Bool → List ℕ → Around → Around → Type 0
+RunsSim ended quiet key old new =
+    SimRan ended quiet key old.left new.left old.devices new.devices old.records new.records old.keeper_faults new.keeper_faults old.written new.written
 
 -- ---- stories
 
@@ -85,7 +89,7 @@ transcript key old story = transcript_from (first key old) story
 -- A run of `sim` has this story: its lines are those that were run, its events those that were done, and its transcript is what was written as
 -- `SimRan` says, but for what want of memory left out.
 pub record Tells (ended : Status) (quiet : Bool) (key : List ℕ) (old new : Around) (story : List Ran) : Type 0 where
-  pub ran : SimRan ended quiet key old.left new.left old.devices new.devices old.records new.records old.faults new.faults old.written new.written
+  pub ran : RunsSim ended quiet key old new
   pub lines : map (λ (r : Ran). r.line) story ≡ lines_in line_at ran.told.texts
   pub scheduled : AreScheduled ran.told.end (first key old) story
   pub may : MayAll (first key old) (events_of story)
@@ -105,9 +109,9 @@ pub record KeepsRecords (key : List ℕ) (old : Around) (story : List Ran) : Typ
 
 -- ---- what every story of a run keeps
 
--- the words `sim` run it, so that it has a story; or there was no memory to read them
-abbrev pub IsTold : Status → Bool → List ℕ → Around → Around → Type 0
-IsTold ended quiet key old new = ((story : List Ran) × Tells ended quiet key old new story) ⊎ Refuses status.NoMemory ended old new
+-- a run of `sim` has a story
+abbrev pub HasStory : Status → List ℕ → Around → Around → Type 0
+HasStory ended key old new = (quiet : Bool) → RunsSim ended quiet key old new → (story : List Ran) × Tells ended quiet key old new story
 
 -- a law of every story that a run has
 abbrev pub Always : Status → List ℕ → Around → Around → (List Ran → Type 0) → Type 0
@@ -142,3 +146,16 @@ ShowsChanges ended key old new = Always ended key old new
 abbrev pub GroupsChanges : Status → List ℕ → Around → Around → Type 0
 GroupsChanges ended key old new = Always ended key old new
     (λ story. AllByRecursion (IsAsMade key) old.devices → AreApart old.devices → AllByRecursion (GroupsSessions (transcript key old story)) new.devices)
+
+-- ---- all of them
+
+-- What holds of every run of `sim`, at every status: its story, and the laws of every story that it has.
+pub record KeepsLaws (ended : Status) (key : List ℕ) (old new : Around) : Type 0 where
+  pub story : HasStory ended key old new
+  pub orders : KeepsOrders ended key old new
+  pub tables : ShowsTables ended key old new
+  pub values : ConfirmsValues ended key old new
+  pub once : AppliesOnce ended key old new
+  pub same : KeepsDevices ended key old new
+  pub shown : ShowsChanges ended key old new
+  pub groups : GroupsChanges ended key old new

@@ -6,9 +6,9 @@ use Rattle.device_facts.specs.GoingOn.{AreSame, TakeOnce}
 use Rattle.device_facts.specs.Showing.{IsShown}
 use Rattle.host_core.specs.Network.{keys_of}
 use Rattle.world_facts.specs.Devices.{GroupsSessions}
-use Rattle.console_run.specs.Laws.{events_of, first, last, transcript}
-use Rattle.console_run.proofs.Keeping.{all_shown, all_group}
-use Rattle.console_run.proofs.laws.stories_take_once.Goals as goal
+use Rattle.sim_laws.specs.Laws.{events_of, first, last, transcript}
+use Rattle.sim_laws.proofs.Keeping.{all_shown, all_group}
+use Rattle.sim_laws.proofs.laws.stories_take_once.Goals as goal
 
 pub returns-clause-once : goal.returns-clause-once
 returns-clause-once c = λ ended key old new quiet story tells order.

@@ -1,9 +1,9 @@
 -- The facts go through the lines of a story, and the laws follow from them.
 use Rattle.std.proofs.Common.{[]}
 use Rattle.host_core.specs.Network.{keys_of}
-use Rattle.console_run.specs.Laws.{events_of, first}
-use Rattle.console_run.proofs.Keeping.{story_keeps}
-use Rattle.console_run.proofs.laws.stories_keep_laws.Goals as goal
+use Rattle.sim_laws.specs.Laws.{events_of, first}
+use Rattle.sim_laws.proofs.Keeping.{story_keeps}
+use Rattle.sim_laws.proofs.laws.stories_keep_laws.Goals as goal
 
 pub returns-clause-orders : goal.returns-clause-orders
 returns-clause-orders c = λ ended key old new quiet story tells well.

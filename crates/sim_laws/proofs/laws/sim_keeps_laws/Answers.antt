@@ -1,0 +1,14 @@
+-- All laws together.
+use Rattle.sim_laws.proofs.laws.sim_keeps_laws.Goals as goal
+
+pub returns : goal.returns
+returns c = λ ended key old new. record {
+  story = c.runs_have_stories.ensures ended key old new;
+  orders = c.stories_keep_laws.ensures.orders ended key old new;
+  tables = c.stories_keep_laws.ensures.tables ended key old new;
+  values = c.stories_keep_laws.ensures.values ended key old new;
+  once = c.stories_take_once.ensures.once ended key old new;
+  same = c.stories_take_once.ensures.same ended key old new;
+  shown = c.stories_take_once.ensures.shown ended key old new;
+  groups = c.stories_take_once.ensures.groups ended key old new;
+}

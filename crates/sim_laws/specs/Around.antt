@@ -1,0 +1,27 @@
+-- What a command of the program is given and leaves (this project's own rule).
+use Rattle.std.specs.Prelude.{ℕ, List, Option}
+use Rattle.device_sim.specs.State.{State}
+
+-- the bytes that the source has left and how often it failed, what the sink was given and how often it failed, the devices, and how many
+-- records the keeper holds, which, and how often it failed: bytes and records where they are told
+pub record Around : Type 0 where
+  pub left : Option (List ℕ)
+  pub read_faults : ℕ
+  pub written : Option (List ℕ)
+  pub write_faults : ℕ
+  pub devices : List State
+  pub kept : ℕ
+  pub records : Option (List (List ℕ))
+  pub keeper_faults : ℕ
+
+abbrev pub around : Option (List ℕ) → ℕ → Option (List ℕ) → ℕ → List State → ℕ → Option (List (List ℕ)) → ℕ → Around
+around left read_faults written write_faults devices kept records keeper_faults = record {
+  left = left;
+  read_faults = read_faults;
+  written = written;
+  write_faults = write_faults;
+  devices = devices;
+  kept = kept;
+  records = records;
+  keeper_faults = keeper_faults;
+}
