@@ -1,5 +1,5 @@
 -- The next frame on the air arrives: it is there no longer, and only frames of devices come behind the others.
-use Rattle.std.proofs.Common.{◌≡◌, ℕ, zero, suc, ◌+◌, ◌<◌, Bool, true, false, Option, Some, None, List, [], ◌∷◌, ◌++◌, refl, ap, sym, ◌∙◌, subst, append_assoc, arith}
+use Rattle.std.proofs.Common.{◌≡◌, ℕ, zero, suc, ◌+◌, ◌<◌, Bool, true, false, Option, Some, None, List, [], ◌∷◌, ◌++◌, refl, sym, subst, append_assoc, arith}
 use Rattle.std.specs.Prelude.{nat_lt, ◌||◌, drop, option_map, slice_get}
 use Rattle.std.specs.Option.{is_none, unwrap_or}
 use Rattle.std.specs.List.{AllByRecursion}
@@ -40,10 +40,6 @@ none_home log flights frames fly = record {
   fly = subst (λ (l : List Mark). Fly l (flights ++ []) frames) (sym (append-nil log)) (subst (λ (fs : List Flown). Fly log fs frames) (sym (append-nil flights)) fly);
   none_outward = refl;
 }
-
-pub outward_both : (a b : List Flown) → outward (a ++ b) ≡ outward a + outward b
-outward_both [] b = omega arith
-outward_both (flight ∷ a) b = let later : outward (a ++ b) ≡ outward a + outward b = outward_both a b in omega arith
 
 -- ---- each frame is of a node that has a place
 

@@ -1,5 +1,5 @@
 -- What the host does at the line, and what is entered: the chip, its calls, what is due and the frames on the air are as they were; only sessions may have begun.
-use Rattle.std.proofs.Common.{◌≡◌, ℕ, ◌<◌, ◌≤◌, Bool, true, false, Option, Some, None, List, [], ◌∷◌, ◌++◌, length, replicate, refl, ap, sym, ◌∙◌, subst, append_assoc, arith}
+use Rattle.std.proofs.Common.{◌≡◌, ℕ, ◌≤◌, Bool, true, false, Option, Some, None, List, [], ◌∷◌, ◌++◌, length, replicate, refl, ap, sym, ◌∙◌, subst, append_assoc, arith}
 use Rattle.std.specs.Prelude.{◌-◌, nat_le, nat_lt, slice_set}
 use Rattle.std.proofs.Math.Seq.{set_out}
 use Rattle.std.proofs.lemmas.List.{append-nil}
@@ -18,7 +18,7 @@ use Rattle.host_events.specs.Events.{HostEvent}
 use Rattle.host_events.specs.declared.out.HostOut.{HostOut}
 use Rattle.host_events.specs.declared.out.HostOut.TheVariants.{Write, Note}
 use Rattle.outer_events.specs.State.{OuterState, Outside}
-use Rattle.outer_events.specs.Events.{Host_writes, Host_takes as host_takes, Host_notes, Host_begins, begins, outcome, has_entered, happens as happens_outside}
+use Rattle.outer_events.specs.Events.{Host_writes, Host_notes, Host_begins, begins, outcome, has_entered, happens as happens_outside}
 use Rattle.outer_events.specs.Did.{happens_all as happens_all_outside}
 use Rattle.zw_machine.specs.State.{Machine, routed, noted_by, begun_in, host_does}
 use Rattle.zw_machine.specs.Events.{Host_does, Host_takes, answers, notes, fed, enters, happens}

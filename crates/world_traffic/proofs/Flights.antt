@@ -1,6 +1,8 @@
 -- The frames on the air are those of every history, and the course of requests bounds how many are the host's.
-use Rattle.std.proofs.Common.{◌≡◌, ℕ, ◌+◌, ◌-◌, ◌≤◌, Bool, true, false, List, [], ◌∷◌, length, drop, refl, ap, sym, ◌∙◌, subst, length-drop, arith}
+use Rattle.std.proofs.Common.{◌≡◌, ℕ, ◌+◌, ◌-◌, ◌≤◌, Bool, true, false, List, [], ◌∷◌, ◌++◌, length, drop, ap, sym, ◌∙◌, subst, length-drop, arith}
 use Rattle.std.proofs.lemmas.List.{drop-drop}
+use Rattle.air_frames.specs.declared.frame.Heading.{Heading}
+use Rattle.air_frames.specs.declared.frame.Heading.TheVariants.{Outward}
 use Rattle.air_frames.specs.Flown.{Flown}
 use Rattle.air_frames.specs.Frames.{FramesState, kept}
 use Rattle.air_frames.specs.History.{Mark, IsOf}
@@ -9,8 +11,8 @@ use Rattle.air_flights.specs.Flights.{flown_in, Fly}
 use Rattle.outer_events.specs.State.{OuterState}
 use Rattle.request_course.specs.Requests.{Traffic}
 use Rattle.request_course.specs.Facts.{RequestFacts, one_if, flying_in, flying}
-use Rattle.outer_traffic.specs.Traffic.{outward, Follows}
-use Rattle.world_traffic.specs.OnAir.{on_air, hosts_on_air, IsFew}
+use Rattle.outer_traffic.specs.Traffic.{one_outward, outward, Follows}
+use Rattle.world_traffic.specs.OnAir.{on_air, IsFew}
 
 -- all that fly are the last that are kept
 pub flights_are : (log : List Mark) (flights : List Flown) (frames : FramesState) → Fly log flights frames → flights ≡ on_air frames
@@ -51,3 +53,16 @@ hosts_few t log flights o f facts =
 -- with those that are on the air
 pub follows_on_air : (t : Traffic) (log : List Mark) (flights : List Flown) (o : OuterState) → Follows t log flights o → Follows t log (on_air o.air.frames) o
 follows_on_air t log flights o f = subst (λ (fs : List Flown). Follows t log fs o) (flights_are log flights o.air.frames f.fly) f
+
+-- ---- room for one
+
+pub outward_both : (a b : List Flown) → outward (a ++ b) ≡ outward a + outward b
+outward_both [] b = omega arith
+outward_both (flight ∷ a) b = let later : outward (a ++ b) ≡ outward a + outward b = outward_both a b in omega arith
+
+pub room_before : (log : List Mark) (before : List Flown) (flight : Flown) (o : OuterState) → Fly log (before ++ flight ∷ []) o.air.frames → flight.heading ≡ Outward → IsFew o → outward before ≤ 1
+room_before log before flight o fly out few =
+    let all : outward (before ++ flight ∷ []) ≤ 2 = subst (λ (fs : List Flown). outward fs ≤ 2) (sym (flights_are log (before ++ flight ∷ []) o.air.frames fly)) few in
+    let one : outward (flight ∷ []) ≡ 1 = ap (λ (h : Heading). one_outward h + 0) out in
+    let both : outward (before ++ flight ∷ []) ≡ outward before + outward (flight ∷ []) = outward_both before (flight ∷ []) in
+    omega arith

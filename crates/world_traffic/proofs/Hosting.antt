@@ -1,7 +1,6 @@
 -- What the host does is steps of the course: of itself, when it takes bytes, when a line asks it, and when it starts again.
 use Rattle.std.proofs.Common.{◌≡◌, ◌≤◌, ℕ, Bool, true, false, List, [], ◌∷◌, ◌++◌, length, map, refl, ap, sym, ◌∙◌, subst, append_assoc}
 use Rattle.std.specs.Prelude.{Option, Some, None, IsSome}
-use Rattle.std.specs.Option.{is_some}
 use Rattle.std.proofs.lemmas.List.{append-nil}
 use Rattle.std.proofs.lemmas.List.Concat.{flat_map-append}
 use Rattle.s0_crypto.specs.declared.key_pair.Keys.{Keys}
@@ -12,10 +11,8 @@ use Rattle.serial_link.specs.State.{Side}
 use Rattle.zw_words.specs.declared.side.Side.{Side as LineSide}
 use Rattle.zw_words.specs.declared.side.Side.TheVariants as side
 use Rattle.zw_text.specs.declared.line.Line.{Line}
-use Rattle.zw_text.specs.declared.entry.Entry.{Entry}
 use Rattle.zw_text.specs.declared.entry.Entry.TheVariants.{Refused}
 use Rattle.zw_text.specs.declared.entry.Refusal.{Refusal}
-use Rattle.air_frames.specs.Flown.{Flown}
 use Rattle.air_frames.specs.History.{Mark}
 use Rattle.air_flights.specs.Flights.{Fly}
 use Rattle.chip_sim.specs.State.{ChipState}
@@ -33,7 +30,6 @@ use Rattle.host_events.specs.Did.{after_all, outs_all}
 use Rattle.host_events.specs.Events.{HostEvent, Accepts, Cancels, Joins, Queues, Queues_interview, Queues_probe}
 use Rattle.host_events.specs.Taking.{AreJudged}
 use Rattle.host_events.specs.declared.out.HostOut.{HostOut}
-use Rattle.host_node.specs.State.{NodeState}
 use Rattle.host_keep.specs.declared.final_status.FinalStatus.{FinalStatus}
 use Rattle.outer_events.specs.State.{OuterState, Outside}
 use Rattle.outer_events.specs.Events.{Clears_pipe, outcome, happens as happens_outside}
@@ -45,13 +41,11 @@ use Rattle.outer_traffic.specs.Traffic.{outward, words_all}
 use Rattle.outer_traffic.specs.Traffic as outer
 use Rattle.zw_machine.specs.State.{Machine}
 use Rattle.zw_machine.specs.Events.{Event, Outside_does, Host_does, Host_takes, Decoder_ticks, Refuses, Shows_values, Restarts, OpensFrom, shown_values, May, happens}
-use Rattle.zw_machine.specs.Did.{happens_all, MayAll}
+use Rattle.zw_machine.specs.Did.{happens_all}
 use Rattle.zw_machine.specs.Lines.{restart_events}
-use Rattle.zw_machine.proofs.Doing.{happens_all-append}
 use Rattle.line_facts.specs.Chip.{HasFrames}
 use Rattle.line_facts.specs.Way.{items_all}
-use Rattle.line_facts.specs.Line.{Carried, IsWhole, AreAtRest, LineAfter, Change, Grows, Becomes, up_change, host_units, host_writes, TakesWhole, Stays}
-use Rattle.line_facts.specs.Host.{AsksWell}
+use Rattle.line_facts.specs.Line.{Carried, IsWhole, AreAtRest, LineAfter, Change, Grows, Becomes, up_change, host_writes, TakesWhole}
 use Rattle.line_facts.proofs.Events.{event_after, at_rest, rests_after, all_stay, restart_empties}
 use Rattle.world_traffic.specs.OnAir.{on_air, IsFew, EventStaysFew, AlwaysFew}
 use Rattle.world_traffic.specs.Course.{Follows, Goes}

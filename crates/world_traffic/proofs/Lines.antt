@@ -1,5 +1,5 @@
 -- Lines, one after another.
-use Rattle.std.proofs.Common.{◌≡◌, ℕ, true, false, List, [], ◌∷◌, ◌++◌, length, map, refl, ap, sym, ◌∙◌, subst, inl, inr}
+use Rattle.std.proofs.Common.{◌≡◌, ℕ, true, false, List, [], ◌∷◌, ◌++◌, length, map, refl, ap, ◌∙◌, inl, inr}
 use Rattle.std.specs.Prelude.{Option, Some, None}
 use Rattle.serial_frame.specs.declared.item.Item.{Item}
 use Rattle.air_frames.specs.History.{Mark}
@@ -20,14 +20,14 @@ use Rattle.request_course.specs.Requests.{Traffic}
 use Rattle.request_course.specs.Requests as course
 use Rattle.zw_machine.specs.State.{Machine}
 use Rattle.zw_machine.specs.Events.{Event, Outside_does, Host_does, Refuses, Shows_values, happens}
-use Rattle.zw_machine.specs.Did.{happens_all, Schedule, Then}
+use Rattle.zw_machine.specs.Did.{Then}
 use Rattle.zw_machine.specs.Settling.{Outside, Settles}
-use Rattle.zw_machine.specs.Lines.{IsRefusal, IsDone, Asks, IsOne, restart_events, IsRestart, IsDiscovery, IsEffect, IsLineBegin, IsLineRest, IsLine}
+use Rattle.zw_machine.specs.Lines.{IsRefusal, IsDone, Asks, restart_events, IsRestart, IsDiscovery, IsEffect, IsLineBegin, IsLineRest, IsLine}
 use Rattle.line_facts.specs.Line.{Grows, outer_up, OuterTakesAll, AreLines}
 use Rattle.world_traffic.specs.OnAir.{on_air, OuterStaysFew}
 use Rattle.world_traffic.specs.Course.{Follows, Goes}
 use Rattle.world_traffic.proofs.Parts.{Laws}
-use Rattle.world_traffic.proofs.Going.{Fair, AllFair, GoesOf, goes_nowhere, goes_both, goes_parts, goes_then, goes_as}
+use Rattle.world_traffic.proofs.Going.{AllFair, GoesOf, goes_nowhere, goes_both, goes_parts, goes_then, goes_as}
 use Rattle.world_traffic.proofs.Outside.{outside_goes}
 use Rattle.world_traffic.proofs.Hosting.{IsAsked, asks_go, refuses_goes, shows_goes, restart_goes}
 use Rattle.world_traffic.proofs.Settling.{settles_go}

@@ -1,8 +1,7 @@
 -- Of what the host writes some may be lost: then the course loses it too.
-use Rattle.std.proofs.Common.{◌≡◌, ℕ, zero, suc, Bool, true, false, if◌then◌else◌, List, [], ◌∷◌, ◌++◌, length, refl, ap, sym, ◌∙◌, subst, inl, inr, append_assoc}
+use Rattle.std.proofs.Common.{◌≡◌, Bool, true, false, if◌then◌else◌, List, [], ◌∷◌, ◌++◌, length, refl, ap, sym, ◌∙◌, subst, inl, inr, append_assoc}
 use Rattle.std.specs.Prelude.{nat_lt, ◌==◌}
 use Rattle.std.specs.List.{remove, flat_map}
-use Rattle.std.proofs.lemmas.List.{append-nil}
 use Rattle.std.proofs.lemmas.List.Concat.{flat_map-append}
 use Rattle.serial_frame.specs.Frame.{FrameParts}
 use Rattle.serial_frame.specs.Items.{unit_text}
@@ -17,7 +16,7 @@ use Rattle.host_events.specs.declared.out.HostOut.{HostOut}
 use Rattle.host_events.specs.declared.out.HostOut.TheVariants.{Write, Note}
 use Rattle.request_course.specs.Requests.{Word, Traffic, Step, Loses}
 use Rattle.request_course.specs.Requests as course
-use Rattle.host_traffic.specs.Traffic.{word_of, words_in, words_out}
+use Rattle.host_traffic.specs.Traffic.{words_in, words_out}
 use Rattle.outer_traffic.specs.Traffic.{words_of, words_all}
 use Rattle.line_facts.specs.Way.{unit_item, changed_item, items_of, items_all}
 use Rattle.line_facts.specs.Line.{host_units}

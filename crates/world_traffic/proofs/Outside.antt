@@ -8,14 +8,12 @@ use Rattle.route_table.specs.declared.route.Route.{Route}
 use Rattle.air_frames.specs.Flown.{Flown}
 use Rattle.air_frames.specs.History.{Mark}
 use Rattle.air_flights.specs.Flights.{Fly}
-use Rattle.mesh_sim.specs.Air.{AirState}
 use Rattle.chip_sim.specs.State.{ChipState}
 use Rattle.chip_sim.specs.Events.{Judged}
 use Rattle.chip_sim.specs.Did.{judged_all}
 use Rattle.host_events.specs.State.{HostState}
 use Rattle.outer_events.specs.declared.waits.Call.{Call}
-use Rattle.outer_events.specs.declared.waits.Due.{Due}
-use Rattle.outer_events.specs.State.{OuterState, Outside, each}
+use Rattle.outer_events.specs.State.{OuterState, each}
 use Rattle.outer_events.specs.Chip.{chip_does, chip_takes}
 use Rattle.outer_events.specs.Events.{OuterEvent, Chip_takes, outcome, happens as happens_outside, May as MayOutside}
 use Rattle.std.specs.Option.{is_some}
@@ -25,9 +23,9 @@ use Rattle.request_course.specs.Facts.{RequestFacts, flying_in}
 use Rattle.host_traffic.specs.Traffic.{Knows}
 use Rattle.outer_traffic.specs.Traffic.{flags, no_routes_due, without_frame, words_all, HostStays, InTurn, Goes as OuterGoes}
 use Rattle.outer_traffic.specs.Traffic as outer
-use Rattle.zw_machine.specs.State.{Machine, with_outside}
+use Rattle.zw_machine.specs.State.{Machine}
 use Rattle.zw_machine.specs.Events.{Event, Outside_does, May, happens}
-use Rattle.line_facts.specs.Line.{IsWhole, LineAfter, Change, Grows, Becomes, outer_up, OuterTakesAll}
+use Rattle.line_facts.specs.Line.{LineAfter, Change, Grows, Becomes, outer_up, OuterTakesAll}
 use Rattle.line_facts.proofs.Reading.{feeds_all}
 use Rattle.line_facts.proofs.Events.{event_after, at_rest, rests_after}
 use Rattle.world_traffic.specs.OnAir.{on_air, IsFew, StaysFew, fed_chip, OuterStaysFew}
@@ -137,8 +135,7 @@ module _ (laws : Laws) (t : Traffic) (log : List Mark) (up down : List Item) (m 
         let longer : List (Item × Option Route) = front ++ way ∷ [] in
         let there : t.up ≡ words_all (map (λ w. w.0) (longer ++ back)) ++ later = is ∙ ap (λ (l : List (Item × Option Route)). words_all (map (λ w. w.0) l) ++ later) (sym (append_assoc front (way ∷ []) back)) in
         let same : (chip_takes m.outside.outer count rest longer).outer ≡ (chip_does (chip_takes m.outside.outer count rest front).outer (Judged way.0 way.1)).outer =
-        judged_one_more front way (fed_chip m.outside.outer count rest) in
-        (
+        judged_one_more front way (fed_chip m.outside.outer count rest) in (
           subst IsFew same (front_few longer back there),
           subst (λ (o : OuterState). StaysFew o back) same (takes_few longer back there),
         )

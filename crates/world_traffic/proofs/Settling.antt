@@ -4,7 +4,6 @@ use Rattle.std.specs.Prelude.{take}
 use Rattle.serial_frame.specs.Stream.{Rest, Feeds, no_rest}
 use Rattle.serial_frame.specs.declared.item.Item.{Item}
 use Rattle.air_frames.specs.History.{Mark}
-use Rattle.host_events.specs.Events.{HostEvent}
 use Rattle.outer_events.specs.State.{is_stalled}
 use Rattle.outer_events.specs.Events.{OuterEvent}
 use Rattle.outer_events.specs.Schedules.{TakesBy as ChipTakesBy}
@@ -12,9 +11,8 @@ use Rattle.request_course.specs.Requests.{Traffic}
 use Rattle.request_course.specs.Requests as course
 use Rattle.zw_machine.specs.State.{Machine}
 use Rattle.zw_machine.specs.Events.{Event, Outside_does, Host_does, Host_takes}
-use Rattle.zw_machine.specs.Did.{happens_all, Schedule, Then}
-use Rattle.zw_machine.specs.Settling.{IsPump, IsChipPart, IsHostPart, TakesBy, IsMove, IfMoved, Passes, Settles}
-use Rattle.line_facts.specs.Line.{Carried}
+use Rattle.zw_machine.specs.Did.{happens_all, Schedule}
+use Rattle.zw_machine.specs.Settling.{IsPump, TakesBy, IsMove, IfMoved, Passes, Settles}
 use Rattle.line_facts.proofs.Reading.{feeds_all}
 use Rattle.world_traffic.specs.Course.{Follows, Goes}
 use Rattle.world_traffic.proofs.Parts.{Laws}

@@ -1,5 +1,5 @@
 -- What the chip tells the host changes nothing of the air, and neither its calls nor what is due to it.
-use Rattle.std.proofs.Common.{◌≡◌, ℕ, zero, suc, Bool, true, false, if◌then◌else◌, Option, Some, None, List, [], ◌∷◌, ◌++◌, length, refl, ap, sym, ◌∙◌, subst}
+use Rattle.std.proofs.Common.{◌≡◌, ℕ, zero, suc, Bool, true, false, if◌then◌else◌, Option, Some, None, List, [], ◌∷◌, ◌++◌, length, refl, ap, sym, ◌∙◌}
 use Rattle.std.specs.Prelude.{◌==◌, ◌&&◌, nat_le, drop, slice_get}
 use Rattle.std.specs.Option.{unwrap_or}
 use Rattle.std.specs.List.{AllByRecursion}
@@ -22,7 +22,6 @@ use Rattle.route_table.specs.declared.route.Route.{Route}
 use Rattle.route_table.specs.Network.{linked}
 use Rattle.device_sim.specs.State.{State}
 use Rattle.device_sim.specs.Event.{DeviceEvent, Ticks}
-use Rattle.mesh_sim.specs.Air.{AirState}
 use Rattle.mesh_sim.specs.Steps as mesh
 use Rattle.mesh_sim.specs.Steps.{mesh_after, mesh_outs}
 use Rattle.mesh_sim.specs.declared.event.AirEvent.{AirEvent}

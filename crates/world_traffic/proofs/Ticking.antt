@@ -1,5 +1,5 @@
 -- A tick: all frames on the air arrive, then all results are given to the chip, so that no call is to come when the host's waits are counted.
-use Rattle.std.proofs.Common.{◌≡◌, ℕ, zero, suc, ◌+◌, ◌-◌, Bool, true, false, List, [], ◌∷◌, ◌++◌, length, map, refl, ap, sym, ◌∙◌, subst, append_assoc, arith}
+use Rattle.std.proofs.Common.{◌≡◌, ℕ, zero, suc, ◌+◌, ◌-◌, List, [], ◌∷◌, ◌++◌, length, map, refl, ap, sym, ◌∙◌, subst, append_assoc, arith}
 use Rattle.std.specs.Prelude.{drop}
 use Rattle.std.proofs.lemmas.List.{append-nil}
 use Rattle.serial_frame.specs.declared.item.Item.{Item}
@@ -15,7 +15,7 @@ use Rattle.outer_events.specs.declared.waits.Call.TheVariants.{OfFrame, NoRoute 
 use Rattle.outer_events.specs.declared.waits.Due.{Due}
 use Rattle.outer_events.specs.State.{OuterState, Outside}
 use Rattle.outer_events.specs.Events.{OuterEvent, Begins_tick, Arrives, Gives, Device_ticks, Chip_ticks, happens as happens_outside}
-use Rattle.outer_events.specs.Schedules.{Arrivals, Delivers, Givings, DeviceTicks}
+use Rattle.outer_events.specs.Schedules.{Arrivals, Givings, DeviceTicks}
 use Rattle.request_course.specs.Requests.{Traffic}
 use Rattle.request_course.specs.Requests as course
 use Rattle.request_course.specs.Facts.{flying_in}
@@ -26,13 +26,13 @@ use Rattle.zw_machine.specs.Events.{Event, Outside_does, Host_does, Decoder_tick
 use Rattle.zw_machine.specs.Did.{happens_all, Then}
 use Rattle.zw_machine.proofs.Doing.{happens_all-append}
 use Rattle.zw_machine.specs.Settling.{Settles}
-use Rattle.zw_machine.specs.Ticking.{IsClockTick, IsDelivery, IsGiving, IsDeviceTick, IsChipTick, IsOutsideTick, IsHostTick, IsTick, Ticks}
+use Rattle.zw_machine.specs.Ticking.{IsClockTick, IsDelivery, IsGiving, IsDeviceTick, IsOutsideTick, IsHostTick, IsTick, Ticks}
 use Rattle.world_traffic.specs.OnAir.{on_air, hosts_on_air}
 use Rattle.world_traffic.specs.Course.{Follows, Goes}
 use Rattle.world_traffic.proofs.Parts.{Laws}
-use Rattle.world_traffic.proofs.Flights.{flights_are}
+use Rattle.world_traffic.proofs.Flights.{flights_are, outward_both}
 use Rattle.world_traffic.proofs.Telling.{Given, given_first, device_calls, ticks_calls}
-use Rattle.world_traffic.proofs.Arriving.{Homes, arrives_home, outward_both}
+use Rattle.world_traffic.proofs.Arriving.{Homes, arrives_home}
 use Rattle.world_traffic.proofs.Going.{Fair, AllFair, fair_first, fair_later, GoesOf, goes_nowhere, goes_both, goes_parts, goes_then, goes_as}
 use Rattle.world_traffic.proofs.Outside.{outside_goes}
 use Rattle.world_traffic.proofs.Hosting.{host_goes, decoder_goes}
