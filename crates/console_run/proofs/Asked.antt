@@ -69,6 +69,23 @@ replay_is ended key left left' records records' faults faults' sink sink' h e =
     subst (λ (s : Status). ReplayRan s key left left' records records' faults faults' sink sink') e h in
     closes_not _ c.told.end _ c.told.mid sink' c.told.closes
 
+-- the scenario that is made reads nothing, so no read fails
+pub generate_never_reads : (ended : Status) (hundreds : ℕ) (key : List ℕ) (before after : List State) (records records' : Option (List (List ℕ))) (faults faults' : ℕ)
+    (sink sink' : Option (List ℕ)) → GenerateRan ended hundreds key before after records records' faults faults' sink sink' → ended ≢ status.ReadFault
+generate_never_reads ended hundreds key before after records records' faults faults' sink sink' h e =
+    subst (λ (s : Status). GenerateRan s hundreds key before after records records' faults faults' sink sink') e h
+
+-- words that are refused are no fault
+pub not_read : status.Usage ≢ status.ReadFault
+not_read e = differ status.Usage status.ReadFault e (λ codes. omega (arith, codes))
+
+pub not_written : status.Usage ≢ status.WriteFault
+not_written e = differ status.Usage status.WriteFault e (λ codes. omega (arith, codes))
+
+-- what is asked is this command, and it was run
+pub as_asked : {asked given : Asked} {words : List (List ℕ)} {key : List ℕ} {ended : Status} {old new : Around} → asked ≡ given → Runs given words key ended old new → Runs asked words key ended old new
+as_asked {asked} {given} {words} {key} {ended} {old} {new} is runs = subst (λ (a : Asked). Runs a words key ended old new) (sym is) runs
+
 -- ---- what the words name is run
 
 pub named_runs : (given : Asked) (key : List ℕ) (ended : Status) (old new : Around) (words : List (List ℕ)) → ((asked : Asked) → AreWordsFor asked words → IsAnswered asked (Ok given))

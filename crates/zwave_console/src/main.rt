@@ -4,8 +4,8 @@
 use command_line::USAGE;
 use console_run::{ChaChaDraw, run};
 use device_sim::{
-    Device, Recorder, make_config, make_dimmer, make_lock, make_relay, make_sensor, make_strip,
-    make_switch, make_thermostat,
+    Device, Recorder, Switch, make_config, make_dimmer, make_lock, make_relay, make_sensor,
+    make_strip, make_switch, make_thermostat,
 };
 use host_keep::PlainKeeper;
 use scenario_run::Status;
@@ -23,7 +23,9 @@ const KEY: [u8; 16] = [
 /// How many kinds of devices there are: the kind of a node's device is by its number.
 const KINDS: u8 = 8;
 
-/// The greatest number of a node.
+/// The nodes that have a device; that of the first records what it hears.
+const FIRST: u8 = 2;
+
 const LAST: u8 = 232;
 
 fn main(rt: HostRuntime) -> ExitCode {
@@ -53,81 +55,62 @@ fn words_of(rt: &HostRuntime) -> Result<Vec<String>, Status> {
     Ok(words)
 }
 
-// Puts a device behind the others, which are lent, so that no way out drops them.
-fn put<T: Device>(
-    alloc: Global,
-    device: T,
-    devices: &mut Vec<Box<dyn Device>>,
-) -> Result<(), NoMemory> {
-    devices.push(Box::new(alloc, device)?)?;
-    Ok(())
+// A device in a box, where there was memory for it.
+fn boxed<T: Drop>(alloc: Global, device: Result<T, NoMemory>) -> Result<Box<T>, NoMemory> {
+    Ok(Box::new(alloc, device?)?)
 }
 
-// Adds the device of a node, of the kind that its number says.
-fn add_device(
-    alloc: Global,
-    node: NodeId,
-    devices: &mut Vec<Box<dyn Device>>,
-) -> Result<(), NoMemory> {
-    match node.number() % KINDS {
-        0 => put(alloc, make_config(alloc, node, KEY)?, devices),
-        1 => put(alloc, make_relay(alloc, node, KEY)?, devices),
-        2 => put(alloc, make_switch(alloc, node, KEY)?, devices),
-        3 => put(alloc, make_dimmer(alloc, node, KEY)?, devices),
-        4 => put(alloc, make_lock(alloc, node, KEY)?, devices),
-        5 => put(alloc, make_sensor(alloc, node, KEY)?, devices),
-        6 => put(alloc, make_thermostat(alloc, node, KEY)?, devices),
-        _ => put(alloc, make_strip(alloc, node, KEY)?, devices),
-    }
+// A switch that records what it hears.
+fn make_recorder(alloc: Global, node: NodeId) -> Result<Recorder<Switch>, NoMemory> {
+    Ok(Recorder::new(alloc, make_switch(alloc, node, KEY)?))
 }
 
-// Adds a device for each node from 2 to 232, in this order, of which that of node 2 records what it hears.
-fn add_devices(alloc: Global, devices: &mut Vec<Box<dyn Device>>) -> Result<(), NoMemory> {
-    if let Some(node) = read_node(2) {
-        let switch = make_switch(alloc, node, KEY)?;
-        put(alloc, Recorder::new(alloc, switch), devices)?;
-    }
-    for number in 3..=LAST {
-        if let Some(node) = read_node(number) {
-            add_device(alloc, node, devices)?;
-        }
-    }
-    Ok(())
-}
-
-// The call of `run`, whose contract is large, stands alone: what comes behind it does not carry it along.
-fn run_words<S: Source, K: Sink>(
+// Makes a device for each node, of the kind that its number says, and runs the command over them.
+fn run_with_devices<S: Source, K: Sink>(
     alloc: Global,
     words: &[String],
     source: &mut S,
     sink: &mut K,
-    devices: &mut Vec<Box<dyn Device>>,
-    draw: &mut ChaChaDraw,
-    keeper: &mut PlainKeeper,
-) -> Status {
-    run(alloc, words, source, sink, devices, KEY, draw, keeper)
+) -> Result<Status, NoMemory> {
+    let mut devices: Vec<Box<dyn Device>> = Vec::new(alloc);
+    for number in FIRST..=LAST {
+        let Some(node) = read_node(number) else {
+            continue;
+        };
+        let device: Box<dyn Device> = match number % KINDS {
+            _ if number == FIRST => boxed(alloc, make_recorder(alloc, node))?,
+            0 => boxed(alloc, make_config(alloc, node, KEY))?,
+            1 => boxed(alloc, make_relay(alloc, node, KEY))?,
+            2 => boxed(alloc, make_switch(alloc, node, KEY))?,
+            3 => boxed(alloc, make_dimmer(alloc, node, KEY))?,
+            4 => boxed(alloc, make_lock(alloc, node, KEY))?,
+            5 => boxed(alloc, make_sensor(alloc, node, KEY))?,
+            6 => boxed(alloc, make_thermostat(alloc, node, KEY))?,
+            _ => boxed(alloc, make_strip(alloc, node, KEY))?,
+        };
+        devices.push(device)?;
+    }
+    let mut draw = ChaChaDraw::new([0; 32]);
+    let mut keeper = PlainKeeper::new(alloc);
+    Ok(run(
+        alloc,
+        words,
+        source,
+        sink,
+        &mut devices,
+        KEY,
+        &mut draw,
+        &mut keeper,
+    ))
 }
 
-// Makes the devices and the real input and output, and runs the command.
+// Makes the real input and output, and runs the command.
 fn start(rt: &HostRuntime) -> Result<Status, NoMemory> {
-    let alloc = rt.alloc();
     let words = match words_of(rt) {
         Ok(words) => words,
         Err(status) => return Ok(status),
     };
-    let mut devices: Vec<Box<dyn Device>> = Vec::new(alloc);
-    add_devices(alloc, &mut devices)?;
     let mut source = StdSource::new(rt.stdin());
     let mut sink = StdSink::new(rt.stdout());
-    let mut draw = ChaChaDraw::new([0; 32]);
-    let mut keeper = PlainKeeper::new(alloc);
-    Ok(run_words(
-        alloc,
-        words.as_slice(),
-        &mut source,
-        &mut sink,
-        &mut devices,
-        &mut draw,
-        &mut keeper,
-    ))
+    run_with_devices(rt.alloc(), words.as_slice(), &mut source, &mut sink)
 }
