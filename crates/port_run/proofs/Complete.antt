@@ -44,7 +44,7 @@ left_over (Takes bytes ∷ steps) xs m (None, took, more) = absurd took
 left_over (Takes bytes ∷ steps) xs m (Some zs, took, more) =
     let l = left_over steps zs m more in
     (l.0, l.1, took ∙ ap (λ (b : List ℕ). bytes ++ b) l.2 ∙ sym (append_assoc bytes (bytes_of steps) l.0))
-left_over (Rests ∷ steps) xs m (None, took, more) = absurd took
+left_over (Rests ∷ steps) xs m (None, took, ended, more) = absurd took
 left_over (Rests ∷ steps) xs m (Some zs, took, ended, more) =
     let l = left_over steps zs m more in
     (l.0, l.1, took ∙ l.2)

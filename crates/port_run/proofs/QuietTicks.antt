@@ -2,6 +2,7 @@
 use Rattle.std.proofs.Common.{◌≡◌, ℕ, zero, suc, ◌+◌, ◌-◌, ◌<◌, ◌≤◌, ◌⊎◌, inl, inr, Bool, true, false, List, [], ◌∷◌, ◌++◌, length, refl, ap, sym, ◌∙◌, subst, append_assoc, arith}
 use Rattle.std.specs.Prelude.{Option, Some, None, min}
 use Rattle.std.specs.Io.KnownBytes.{Consumes, IsAtEnd}
+use Rattle.std.proofs.lemmas.Bool.Decides.{nat_tests}
 use Rattle.s0_crypto.specs.declared.key_pair.Keys.{Keys}
 use Rattle.zw_text.specs.declared.line.Line.{Line}
 use Rattle.port_run.specs.declared.asking.Answer.{Answer}
@@ -15,6 +16,7 @@ use Rattle.port_run.specs.Schedule.{
   Turn,
   IsTurn,
   is_quiet,
+  quiet_ticks,
   due,
   piece_steps,
   tick_steps,
@@ -76,9 +78,19 @@ follow_first rested (Takes bytes ∷ first) later both = follow_first false firs
 follow_first rested (Pumps ∷ first) later both = follow_first false first later both
 
 follow_in : (whole : List Step) (stop : Stop) (steps : List Step) → Follow false whole → CutIn whole stop steps → Follow false steps
-follow_in whole stop steps follow (late, rest, are) = follow_first false steps rest (subst (λ (l : List Step). Follow false l) are follow)
+follow_in whole stop steps follow (late, (rest, are)) = follow_first false steps rest (subst (λ (l : List Step). Follow false l) are follow)
+
+follow_behind : (before whole : List Step) (stop : Stop) (steps : List Step) → Follow false (before ++ whole) → CutIn whole stop steps → Follow false (before ++ steps)
+follow_behind before whole stop steps follow (late, (rest, are)) =
+    follow_first false (before ++ steps) rest (subst (λ (l : List Step). Follow false l) (ap (λ (l : List Step). before ++ l) are ∙ sym (append_assoc before steps rest)) follow)
 
 -- ---- turns
+
+quiet_some : (n : ℕ) → quiet_ticks (suc n) ≡ 0
+quiet_some n = grind (arith, nat_tests)
+
+due_some : (n left : ℕ) → due (suc n) 0 left ≡ 0
+due_some n left = grind (arith, nat_tests)
 
 -- no bytes are one tick at most, and bytes are none
 ticks_follow : (ticks : ℕ) → ticks ≤ 1 → Follow true (tick_steps ticks)
@@ -92,8 +104,8 @@ turn_follows left [] ticks turn =
     let few : ticks ≤ 1 = omega (arith, subst (λ (p : ℕ). ticks ≡ due 0 p left) told turn.ticks_are) in
     ticks_follow ticks few
 turn_follows left (byte ∷ bytes) ticks turn =
-    let told : turn.passed ≡ 0 = turn.told in
-    let none : ticks ≡ 0 = omega (arith, subst (λ (p : ℕ). ticks ≡ due (suc (length bytes)) p left) told turn.ticks_are) in
+    let told : turn.passed ≡ 0 = turn.told ∙ quiet_some (length bytes) in
+    let none : ticks ≡ 0 = subst (λ (p : ℕ). ticks ≡ due (suc (length bytes)) p left) told turn.ticks_are ∙ due_some (length bytes) left in
     subst (λ (t : ℕ). Follow false (Takes (byte ∷ bytes) ∷ Pumps ∷ tick_steps t)) (sym none) tt
 
 turns_follow : (left : ℕ) (turns : List Turn) (left' : ℕ) → Turns is_quiet left turns left' → Follow false (steps_of turns)
@@ -132,10 +144,8 @@ read_follows bytes stop steps (some, inr cut) = taking_follows bytes stop steps 
 
 in_turn_follows : (left : ℕ) (turn : Turn) (stop : Stop) (steps : List Step) → IsTurn is_quiet left turn → CutSteps turn stop steps → Follow false steps
 in_turn_follows left turn stop steps is (inl cut) = read_follows turn.piece stop steps cut
-in_turn_follows left turn stop steps is (inr (ticks, are, (late, rest, parts))) =
-    let whole : turn_steps turn ≡ steps ++ rest =
-    ap (λ (l : List Step). piece_steps turn.piece ++ l) parts ∙ sym (append_assoc (piece_steps turn.piece) ticks rest) ∙ ap (λ (l : List Step). l ++ rest) (sym are) in
-    follow_first false steps rest (subst (λ (l : List Step). Follow false l) whole (turn_follows left turn.piece turn.ticks is))
+in_turn_follows left turn stop steps is (inr (ticks, are, cut)) =
+    subst (λ (l : List Step). Follow false l) (sym are) (follow_behind (piece_steps turn.piece) (tick_steps turn.ticks) stop ticks (turn_follows left turn.piece turn.ticks is) cut)
 
 cut_turn_follows : (left : ℕ) (stop : Stop) (steps : List Step) → CutTurn is_quiet left stop steps → Follow false steps
 cut_turn_follows left ReadFault steps cut = subst (λ (l : List Step). Follow false l) (sym cut) tt
@@ -175,7 +185,7 @@ are_read rested [] xs m none follow reads = tt
 are_read rested (Ticks ∷ steps) xs m none follow reads = (none follow.0, are_read false steps xs m (λ e. absurd (cc e)) follow.1 reads)
 are_read rested (Takes bytes ∷ steps) xs m none follow (None, took, reads) = absurd took
 are_read rested (Takes bytes ∷ steps) xs m none follow (Some ys, took, reads) = (ys, took, are_read false steps ys m (λ e. absurd (cc e)) follow reads)
-are_read rested (Rests ∷ steps) xs m none follow (None, took, reads) = absurd took
+are_read rested (Rests ∷ steps) xs m none follow (None, took, ended, reads) = absurd took
 are_read rested (Rests ∷ steps) xs m none follow (Some ys, took, ended, reads) =
     are_read true steps xs m (λ e. sym ended ∙ sym took) follow (subst (λ (l : List ℕ). Reads steps (Some l) m) (sym took) reads)
 are_read rested (Asks line answer ∷ steps) xs m none follow reads = are_read false steps xs m (λ e. absurd (cc e)) follow reads
