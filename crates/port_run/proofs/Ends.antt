@@ -35,6 +35,7 @@ module _ (Tells : Telling) (keys : Keys) (texts : List (List ℕ)) (lines : List
   pub ended_all : (end : Served) (answers : List Answer)
       → ((steps : List Step) × (taken : ℕ) × RunSteps Tells lines answers steps × Went steps (place h mid g) (place h' r' f') s s' l l' 0 taken × (taken ≤ MAX_INPUT)) → JudgedBy end h'.state answers
       → Ended end Tells keys n texts (desk l s r f) (desk l' s' r' f')
+  unfolding started
   ended_all end answers (steps, taken, are, went, within) judged = go end judged
     where
       all : (end' : Served) → JudgedBy end' h'.state answers → RanAll end' Tells keys n texts (desk l s r f) (desk l' s' r' f')
@@ -52,6 +53,7 @@ module _ (Tells : Telling) (keys : Keys) (texts : List (List ℕ)) (lines : List
 
   -- no further step was done
   pub ended_some : (end : Served) (reason : Stop) → end ≡ served_of reason → Broke (CutRun Tells lines) reason (place h mid g) (place h' r' f') s s' l l' 0 → Ended end Tells keys n texts (desk l s r f) (desk l' s' r' f')
+  unfolding started
   ended_some end reason is broke =
       subst (λ (e : Served). Ended e Tells keys n texts (desk l s r f) (desk l' s' r' f')) (sym is) (go reason broke)
     where

@@ -39,11 +39,11 @@ broke_still Cut Whole stop a b s t so one = λ l n within. broke_as Cut Whole st
 
 -- a front of a front
 pub cut-front : (whole after : List Step) (stop : Stop) (steps : List Step) → CutIn whole stop steps → CutIn (whole ++ after) stop steps
-cut-front whole after stop steps (late, rest, are) = (late, rest ++ after, ap (λ (l : List Step). l ++ after) are ∙ append_assoc steps rest after)
+cut-front whole after stop steps (late, (rest, are)) = (late, (rest ++ after, ap (λ (l : List Step). l ++ after) are ∙ append_assoc steps rest after))
 
 -- what comes behind
 pub cut-behind : (before whole : List Step) (stop : Stop) (steps : List Step) → CutIn whole stop steps → CutIn (before ++ whole) stop (before ++ steps)
-cut-behind before whole stop steps (late, rest, are) = (late, rest, ap (λ (l : List Step). before ++ l) are ∙ sym (append_assoc before steps rest))
+cut-behind before whole stop steps (late, (rest, are)) = (late, (rest, ap (λ (l : List Step). before ++ l) are ∙ sym (append_assoc before steps rest)))
 
 pub still_both : (first later : List Step) (a b c : Place) (s t u : Option (List ℕ)) → WentStill first a b s t → WentStill later b c t u → WentStill (first ++ later) a c s u
 still_both first later a b c s t u one two = λ l n. went_both first later a b c s t u l l l n n n (one l n) (two l n)

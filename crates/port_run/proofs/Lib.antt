@@ -1,4 +1,5 @@
 pub mod Doing
+pub mod Asked
 pub mod Joining
 pub mod Stepping
 pub mod Ticking

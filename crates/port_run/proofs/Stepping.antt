@@ -221,7 +221,7 @@ asked_went line answer old new s asked = λ l n. went_one (Asks line answer) old
 pub unasked : (line : Line) (old new : Place) (s : Option (List ℕ)) → IsStill old new → BrokeStill (CutPlain line) NoMemory old new s s
 unasked line old new s still = λ l n within. record {
   steps = [];
-  cut = (answer.Taken, (tt, Asks line answer.Taken ∷ Pumps ∷ [], refl));
+  cut = (answer.Taken, (tt, (Asks line answer.Taken ∷ Pumps ∷ [], refl)));
   halts = record {
     mid = old;
     some = [];

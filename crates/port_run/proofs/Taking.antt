@@ -46,7 +46,7 @@ rested [] a s none l m n took ended = record {
   where
     nothing : (o : Option (List ℕ)) → Appends o o []
     nothing o = Appends-nil o
-rested (byte ∷ bytes) a s none l m n took ended = absurd (grind none)
+rested (byte ∷ bytes) a s none l m n took ended = absurd (cc none)
 
 -- some bytes
 pub piece_ok : {T E : Type 0} (answer : Result T E) (bytes : List ℕ) (a b : Place) (s t : Option (List ℕ)) → 0 < length bytes → OnOk answer (WentOver bytes (Takes bytes ∷ Pumps ∷ []) a b s t)

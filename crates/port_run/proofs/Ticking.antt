@@ -9,9 +9,10 @@ use Rattle.port_run.specs.Serving.{Went, Broke}
 use Rattle.port_run.proofs.Doing.{went_both, broke_after}
 use Rattle.port_run.proofs.Joining.{WentStill, BrokeStill}
 
-pub ticks-add : (i k : ℕ) → tick_steps (i + k) ≡ tick_steps i ++ tick_steps k
-ticks-add zero k = refl
-ticks-add (suc i) k = ap (λ (l : List Step). Ticks ∷ Pumps ∷ l) (ticks-add i k)
+pub ticks-add : (i k n : ℕ) → i + k ≡ n → tick_steps n ≡ tick_steps i ++ tick_steps k
+ticks-add zero k n same = ap tick_steps (omega (arith, same))
+ticks-add (suc i) k zero same = absurd (omega (arith, same))
+ticks-add (suc i) k (suc n) same = ap (λ (l : List Step). Ticks ∷ Pumps ∷ l) (ticks-add i k n (omega (arith, same)))
 
 -- steps are the first of a whole that has them in its middle
 pub first-in : (before steps whole after all : List Step) → IsFirst steps whole → all ≡ before ++ (whole ++ after) → IsFirst (before ++ steps) all
@@ -24,12 +25,12 @@ cut-in before whole after all steps stop (late, first) parts = (late, first-in b
 ticks-split : (i n : ℕ) → i < n → tick_steps n ≡ tick_steps i ++ (Ticks ∷ Pumps ∷ tick_steps (n - i - 1))
 ticks-split i n within =
     let whole : i + suc (n - i - 1) ≡ n = omega (arith, within) in
-    subst (λ (m : ℕ). tick_steps m ≡ tick_steps i ++ (Ticks ∷ Pumps ∷ tick_steps (n - i - 1))) whole (ticks-add i (suc (n - i - 1)))
+    ticks-add i (suc (n - i - 1)) n whole
 
 -- so many ticks, and one more
 pub ticks_went : (i : ℕ) (a b c : Place) (s t u : Option (List ℕ)) → WentStill (tick_steps i) a b s t → WentStill (Ticks ∷ Pumps ∷ []) b c t u → WentStill (tick_steps (i + 1)) a c s u
 ticks_went i a b c s t u one two = λ l n.
-    subst (λ (st : List Step). Went st a c s u l l n n) (sym (ticks-add i 1)) (went_both (tick_steps i) (Ticks ∷ Pumps ∷ []) a b c s t u l l l n n n (one l n) (two l n))
+    subst (λ (st : List Step). Went st a c s u l l n n) (sym (ticks-add i 1 (i + 1) refl)) (went_both (tick_steps i) (Ticks ∷ Pumps ∷ []) a b c s t u l l l n n n (one l n) (two l n))
 
 pub ticks_broke : (i n : ℕ) (stop : Stop) (a b c : Place) (s t u : Option (List ℕ)) → i < n → WentStill (tick_steps i) a b s t → BrokeStill (CutIn (Ticks ∷ Pumps ∷ [])) stop b c t u
     → BrokeStill (CutIn (tick_steps n)) stop a c s u
