@@ -37,7 +37,7 @@ broke_taking bytes stop a b s t one = λ l m n took within. broke_as (CutTaking 
 -- ---- what a read gave
 
 -- nothing
-pub rested : (bytes : List ℕ) (a : Place) (s : Option (List ℕ)) → bytes ≡ [] → (l m : Option (List ℕ)) (n : ℕ) → Consumes l m bytes → (length bytes ≡ 0 → IsAtEnd m) → Went (piece_steps bytes) a a s s l m n (n + length bytes)
+pub rested : (bytes : List ℕ) (a : Place) (s : Option (List ℕ)) → length bytes ≡ 0 → (l m : Option (List ℕ)) (n : ℕ) → Consumes l m bytes → (length bytes ≡ 0 → IsAtEnd m) → Went (piece_steps bytes) a a s s l m n (n + length bytes)
 rested [] a s none l m n took ended = record {
   wrote = record { outs = []; ran = (a, [], [], (refl, refl), (refl, refl), refl); written = nothing s };
   reads = (m, took, ended refl, Keeps-refl m);
@@ -46,7 +46,7 @@ rested [] a s none l m n took ended = record {
   where
     nothing : (o : Option (List ℕ)) → Appends o o []
     nothing o = Appends-nil o
-rested (byte ∷ bytes) a s none l m n took ended = absurd (cc none)
+rested (byte ∷ bytes) a s none l m n took ended = absurd (omega (arith, none))
 
 -- some bytes
 pub piece_ok : {T E : Type 0} (answer : Result T E) (bytes : List ℕ) (a b : Place) (s t : Option (List ℕ)) → 0 < length bytes → OnOk answer (WentOver bytes (Takes bytes ∷ Pumps ∷ []) a b s t)
