@@ -1,13 +1,13 @@
 -- A turn, and turn after turn.
-use Rattle.std.proofs.Common.{◌≡◌, ℕ, ◌+◌, ◌-◌, ◌≤◌, ◌<◌, ◌⊎◌, List, [], ◌∷◌, ◌++◌, length, Result, Ok, Err, inl, inr, refl, ap, sym, ◌∙◌, subst, append_assoc, append-nil, arith}
+use Rattle.std.proofs.Common.{◌≡◌, ℕ, ◌+◌, ◌-◌, ◌≤◌, ◌<◌, ◌⊎◌, List, [], ◌∷◌, ◌++◌, length, length-take, take, Result, Ok, Err, inl, inr, refl, ap, sym, ◌∙◌, subst, append_assoc, append-nil, arith}
 use Rattle.std.specs.Prelude.{Option, Some, None}
-use Rattle.std.specs.Io.KnownBytes.{Consumes, Keeps}
+use Rattle.std.specs.Io.KnownBytes.{Consumes, Keeps, IsAtEnd}
 use Rattle.std.proofs.KnownBytes.{Keeps-refl, Appends-nil, Consumes-nil, Consumes-kept}
 use Rattle.line_stream.specs.declared.reader.TheConstants.{PIECE, MAX_INPUT}
 use Rattle.port_run.specs.declared.stop.Stop.{Stop}
 use Rattle.port_run.specs.declared.stop.Stop.TheVariants.{ReadFault, WriteFault, InputTooLong, NoMemory}
 use Rattle.port_run.specs.Steps.{Place, Step}
-use Rattle.port_run.specs.Schedule.{Telling, Turn, IsTurn, turn_steps, piece_steps, tick_steps, Waited, CutIn, CutRead, CutTurn, CutWait}
+use Rattle.port_run.specs.Schedule.{Telling, Turn, IsTurn, due, turn_steps, piece_steps, tick_steps, Waited, CutIn, CutRead, CutTurn, CutWait}
 use Rattle.port_run.specs.Serving.{Wrote, Went, Broke}
 use Rattle.port_run.proofs.Doing.{went_nothing, went_both, broke_after, broke_as}
 use Rattle.port_run.proofs.Joining.{WentStill, BrokeStill}
@@ -74,6 +74,40 @@ broke_ticking Tells left turn stop a b c s t u l m n k is one within two =
 
 pub turn_went : (turn : Turn) (a b c : Place) (s t u l m : Option (List ℕ)) (n k : ℕ) → Went (piece_steps turn.piece) a b s t l m n k → WentStill (tick_steps turn.ticks) b c t u → Went (turn_steps turn) a c s u l m n k
 turn_went turn a b c s t u l m n k one two = went_both (piece_steps turn.piece) (tick_steps turn.ticks) a b c s t u l m m n k k one (two m k)
+
+-- ---- a turn, from what its calls answered
+
+module _ (Tells : Telling) (left got passed ticks : ℕ) (buffer : List ℕ) (at_most : got ≤ length buffer) (whole : length buffer ≡ PIECE) (told : Tells got passed) (are : ticks ≡ due got passed left) where
+  abbrev this : Turn
+  this = record { piece = take got buffer; ticks = ticks }
+
+  got_so_many : length (take got buffer) ≡ got
+  got_so_many = omega (arith, at_most, length-take got buffer)
+
+  is_turn : IsTurn Tells left this
+  is_turn = record {
+    short = omega (arith, got_so_many, at_most, whole);
+    passed = passed;
+    told = subst (λ (n : ℕ). Tells n passed) (sym got_so_many) told;
+    ticks_are = subst (λ (n : ℕ). ticks ≡ due n passed left) (sym got_so_many) are;
+  }
+
+  module _ (a b : Place) (s t l m : Option (List ℕ)) (n : ℕ) (took : Consumes l m (take got buffer)) (within : n + got ≤ MAX_INPUT) where
+    pub turn_reading : (stop : Stop) → ((l' m' : Option (List ℕ)) (k : ℕ) → Consumes l' m' (take got buffer) → k + length (take got buffer) ≤ MAX_INPUT → Broke (CutRead (take got buffer)) stop a b s t l' m' k)
+        → Broke (CutTurn Tells left) stop a b s t l m n
+    turn_reading stop broke = broke_reading Tells left this stop a b s t l m n is_turn (broke l m n took (omega (arith, got_so_many, within)))
+
+    module _ (at_end : got ≡ 0 → 0 < length buffer → IsAtEnd m)
+        (one : (l' m' : Option (List ℕ)) (k : ℕ) → Consumes l' m' (take got buffer) → (length (take got buffer) ≡ 0 → IsAtEnd m') → Went (piece_steps (take got buffer)) a b s t l' m' k (k + length (take got buffer)))
+        (c : Place) (u : Option (List ℕ)) where
+      read : Went (piece_steps (take got buffer)) a b s t l m n (n + got)
+      read = subst (λ (k : ℕ). Went (piece_steps (take got buffer)) a b s t l m n (n + k)) got_so_many (one l m n took (λ none. at_end (omega (arith, none, got_so_many)) (omega (arith, whole))))
+
+      pub turn_done : WentStill (tick_steps ticks) b c t u → (turn : Turn) × IsTurn Tells left turn × (ticks ≡ turn.ticks) × Went (turn_steps turn) a c s u l m n (n + got)
+      turn_done two = (this, is_turn, refl, turn_went this a b c s t u l m n (n + got) read two)
+
+      pub turn_ticking : (stop : Stop) → BrokeStill (CutIn (tick_steps ticks)) stop b c t u → Broke (CutTurn Tells left) stop a c s u l m n
+      turn_ticking stop two = broke_ticking Tells left this stop a b c s t u l m n (n + got) is_turn read within two
 
 -- ---- waits
 

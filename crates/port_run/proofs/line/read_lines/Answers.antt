@@ -1,6 +1,7 @@
-use Rattle.std.proofs.Common.{arith, rules}
-use Rattle.port_run.proofs.Answered.{read_more}
 use Rattle.port_run.proofs.line.read_lines.Goals as goal
 
 pub loop-at-preserved : goal.loop-at-preserved
-loop-at-preserved c = record { read = search rules; count = search rules }
+loop-at-preserved c = let h = c.loop-at in let i = c.read_wanted in let j = c.in-Ok-read_wanted in ?
+
+pub returns-clause-few : goal.returns-clause-few
+returns-clause-few c = let h = c.loop-at in ?
