@@ -1,14 +1,16 @@
 -- Lines, one after another.
 use Rattle.std.proofs.Common.{◌≡◌, ℕ, suc, ◌+◌, ◌-◌, ◌≤◌, ◌<◌, ◌⊎◌, List, [], ◌∷◌, ◌++◌, length, take, drop, get_or, take-append-drop, Result, Ok, Err, inl, inr, refl, ap, sym, ◌∙◌, subst, append_assoc, append-nil, arith}
-use Rattle.std.specs.Prelude.{Option, Some, None, OnOk, IfErr}
+use Rattle.std.specs.Prelude.{Option, Some, None, OnOk, IfOk, IfErr}
 use Rattle.std.proofs.lemmas.List.{take_more, drop_all}
 use Rattle.std.proofs.Math.Seq.{drop-cons}
 use Rattle.line_stream.specs.declared.reader.TheConstants.{MAX_INPUT}
 use Rattle.port_run.specs.declared.asking.Answer.{Answer}
+use Rattle.zw_text.specs.declared.line.Line.{Line}
 use Rattle.port_run.specs.declared.line.PortLine.{PortLine}
+use Rattle.port_run.specs.declared.line.PortLine.TheVariants.{Plain}
 use Rattle.port_run.specs.declared.stop.Stop.{Stop}
-use Rattle.port_run.specs.Steps.{Place, Step, Pumps}
-use Rattle.port_run.specs.Schedule.{Telling, LineSteps, AllSteps, RunSteps, CutIn, CutLine, CutLines, CutRun}
+use Rattle.port_run.specs.Steps.{Place, Step, Asks, Pumps}
+use Rattle.port_run.specs.Schedule.{Telling, LineSteps, AllSteps, RunSteps, CutIn, CutPlain, CutLine, CutLines, CutRun}
 use Rattle.port_run.specs.Serving.{Went, Broke}
 use Rattle.port_run.proofs.Doing.{went_nothing, went_both, broke_after, broke_as}
 use Rattle.port_run.proofs.Joining.{WentStill, BrokeStill}
@@ -44,6 +46,22 @@ pub lines_over : (Tells : Telling) (lines : List PortLine) (i : ℕ) (answers : 
 lines_over Tells lines i answers a b s t l m k over within (steps, all, went) =
     let whole : take i lines ≡ lines = sym (append-nil (take i lines)) ∙ ap (λ (x : List PortLine). take i lines ++ x) (sym (drop_all i lines over)) ∙ take-append-drop i lines in
     (steps, k, subst (λ (x : List PortLine). AllSteps Tells x answers steps) whole all, went, within)
+
+-- a line but `wait`
+module _ (Tells : Telling) (answer : Result Answer Stop) (line : PortLine) (own : Line) (is : line ≡ Plain own) (a b : Place) (s t l : Option (List ℕ)) (n : ℕ) where
+  pub plain_ok : IfOk answer (λ taken. WentStill (Asks own taken ∷ Pumps ∷ []) a b s t) → IfOk answer (λ taken. (steps : List Step) × LineSteps Tells line taken steps × Went steps a b s t l l n n)
+  plain_ok one = go answer one
+    where
+      go : (answer' : Result Answer Stop) → IfOk answer' (λ taken. WentStill (Asks own taken ∷ Pumps ∷ []) a b s t) → IfOk answer' (λ taken. (steps : List Step) × LineSteps Tells line taken steps × Went steps a b s t l l n n)
+      go (Ok taken) one' = (Asks own taken ∷ Pumps ∷ [], subst (λ (p : PortLine). LineSteps Tells p taken (Asks own taken ∷ Pumps ∷ [])) (sym is) refl, one' l n)
+      go (Err stop) one' = tt
+
+  pub plain_err : n ≤ MAX_INPUT → IfErr answer (λ stop. BrokeStill (CutPlain own) stop a b s t) → IfErr answer (λ stop. Broke (CutLine Tells line) stop a b s t l l n)
+  plain_err within one = go answer one
+    where
+      go : (answer' : Result Answer Stop) → IfErr answer' (λ stop. BrokeStill (CutPlain own) stop a b s t) → IfErr answer' (λ stop. Broke (CutLine Tells line) stop a b s t l l n)
+      go (Ok taken) one' = tt
+      go (Err stop) one' = broke_as (CutPlain own) (CutLine Tells line) stop a b s t l l n (one' l n within) (λ steps cut. subst (λ (p : PortLine). CutLine Tells p stop steps) (sym is) cut)
 
 -- ---- a run
 
