@@ -1,5 +1,5 @@
 -- Answers and texts, one after another.
-use Rattle.std.proofs.Common.{◌≡◌, ℕ, ◌+◌, ◌≤◌, ◌<◌, List, [], ◌∷◌, ◌++◌, map, true, All, Ok, length, take, get_or, take-append-drop, append-nil, refl, ap, sym, ◌∙◌, subst, arith}
+use Rattle.std.proofs.Common.{◌≡◌, ℕ, ◌+◌, ◌≤◌, ◌<◌, List, [], ◌∷◌, ◌++◌, map, true, All, Ok, length, length-append, take, get_or, take-append-drop, append-nil, refl, ap, sym, ◌∙◌, subst, arith}
 use Rattle.std.specs.Prelude.{String, string_bytes}
 use Rattle.std.proofs.lemmas.List.{take_more, drop_all, map-append, length-map}
 use Rattle.std.proofs.lemmas.List.Elements.{All-push}
@@ -12,6 +12,9 @@ use Rattle.port_run.specs.Lines.{texts_of, wanted_at, AreRead}
 
 take_whole : {X : Type 0} (xs : List X) (i : ℕ) → length xs ≤ i → take i xs ≡ xs
 take_whole xs i over = sym (append-nil (take i xs)) ∙ ap (λ l. take i xs ++ l) (sym (drop_all i xs over)) ∙ take-append-drop i xs
+
+pub count_more : {X : Type 0} (xs ys : List X) (x : X) (n : ℕ) → ys ≡ xs ++ x ∷ [] → length xs ≡ n → length ys ≡ n + 1
+count_more xs ys x n grown count = omega (arith, count, ap length grown, length-append xs (x ∷ []))
 
 pub done_more : (h : HostState) (answers : List Answer) (i : ℕ) (answer : Answer) → i < length answers → AreDone h (take i answers) → is_done h (get_or answers i answer) ≡ true → AreDone h (take (i + 1) answers)
 done_more h answers i answer within before done =

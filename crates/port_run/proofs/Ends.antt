@@ -1,6 +1,6 @@
 -- How a run ends, from what its calls answer.
 use Rattle.std.proofs.Common.{◌≡◌, ℕ, ◌≤◌, ◌⊎◌, List, [], ◌∷◌, Result, Ok, Err, inl, inr, refl, sym, subst, arith}
-use Rattle.std.specs.Prelude.{Option}
+use Rattle.std.specs.Prelude.{Option, OnOk, IfErr, MatchResult}
 use Rattle.line_stream.specs.declared.reader.TheConstants.{MAX_INPUT}
 use Rattle.s0_crypto.specs.declared.key_pair.Keys.{Keys}
 use Rattle.host_keep.specs.Keeping.{OptAdds}
@@ -9,15 +9,17 @@ use Rattle.host_events.specs.State.{HostParts}
 use Rattle.host_core.specs.Opening.{Opens}
 use Rattle.port_run.specs.declared.asking.Answer.{Answer}
 use Rattle.port_run.specs.declared.line.PortLine.{PortLine}
+use Rattle.port_run.specs.declared.line.LinesFault.{LinesFault}
+use Rattle.port_run.specs.declared.line.LinesFault.TheVariants as lines_fault
 use Rattle.port_run.specs.declared.stop.Stop.{Stop}
 use Rattle.port_run.specs.declared.stop.Stop.TheVariants as stop
 use Rattle.port_run.specs.declared.ending.Served.{Served}
 use Rattle.port_run.specs.declared.ending.Served.TheVariants as served
-use Rattle.port_run.specs.Lines.{AreRead}
+use Rattle.port_run.specs.Lines.{AreRead, FailsBy}
 use Rattle.port_run.specs.Steps.{place, Step}
 use Rattle.port_run.specs.Schedule.{Telling, RunSteps, CutRun}
 use Rattle.port_run.specs.Serving.{Went, Broke}
-use Rattle.port_run.specs.Ending.{JudgedBy, desk, IsUntouched, Started, RanAll, RanSome, Ended, served_of}
+use Rattle.port_run.specs.Ending.{Desk, JudgedBy, desk, IsUntouched, Started, RanAll, RanSome, Ended, unread_of, served_of}
 
 -- nothing was done
 pub untouched : (l s : Option (List ℕ)) (r r' : Option (List (List ℕ))) (f f' : ℕ) → OptAdds r r' [] → f ≤ f' → IsUntouched (desk l s r f) (desk l s r' f')
@@ -25,6 +27,15 @@ untouched l s r r' f f' same falls = record { left = refl; written = refl; recor
 
 pub unchanged : (l s : Option (List ℕ)) (r : Option (List (List ℕ))) (f : ℕ) → IsUntouched (desk l s r f) (desk l s r f)
 unchanged l s r f = untouched l s r r f f (none_added r) (omega arith)
+
+-- words are not lines
+pub ended_unread : (end : Served) (fault : LinesFault) (Tells : Telling) (keys : Keys) (number : ℕ) (texts : List (List ℕ)) (old new : Desk) → end ≡ unread_of fault → FailsBy fault texts → IsUntouched old new
+    → Ended end Tells keys number texts old new
+ended_unread end fault Tells keys number texts old new is fails still = subst (λ (e : Served). Ended e Tells keys number texts old new) (sym is) (go fault fails)
+  where
+    go : (fault' : LinesFault) → FailsBy fault' texts → Ended (unread_of fault') Tells keys number texts old new
+    go (lines_fault.Bad line why) fails' = (fails', still)
+    go lines_fault.NoMemory fails' = inl still
 
 module _ (Tells : Telling) (keys : Keys) (texts : List (List ℕ)) (lines : List PortLine) (read : AreRead texts lines) (h h' : HostParts) (l l' s s' : Option (List ℕ)) (n : ℕ) (r mid r' : Option (List (List ℕ))) (f g f' : ℕ)
     (opens : Opens keys n r h) (same : OptAdds r mid []) (falls : f ≤ g) where
@@ -65,3 +76,12 @@ module _ (Tells : Telling) (keys : Keys) (texts : List (List ℕ)) (lines : List
       go stop.WriteFault broke' = some stop.WriteFault broke'
       go stop.InputTooLong broke' = some stop.InputTooLong broke'
       go stop.NoMemory broke' = inr (some stop.NoMemory broke')
+
+  module _ (given : List PortLine) (same : given ≡ lines) (answers shown : List Answer) (equal : shown ≡ answers) (end : Served) where
+    pub ended : {T : Type 0} (run : Result T Stop) → MatchResult run (λ value. JudgedBy end h'.state shown) (λ reason. end ≡ served_of reason)
+        → OnOk run ((steps : List Step) × (taken : ℕ) × RunSteps Tells given answers steps × Went steps (place h mid g) (place h' r' f') s s' l l' 0 taken × (taken ≤ MAX_INPUT))
+        → IfErr run (λ reason. Broke (CutRun Tells given) reason (place h mid g) (place h' r' f') s s' l l' 0) → Ended end Tells keys n texts (desk l s r f) (desk l' s' r' f')
+    ended (Ok value) judged (steps, taken, are, went, within) some =
+        ended_all end answers (steps, taken, subst (λ (p : List PortLine). RunSteps Tells p answers steps) same are, went, within) (subst (λ (a : List Answer). JudgedBy end h'.state a) equal judged)
+    ended (Err reason) judged all some =
+        ended_some end reason judged (subst (λ (p : List PortLine). Broke (CutRun Tells p) reason (place h mid g) (place h' r' f') s s' l l' 0) same some)

@@ -60,7 +60,7 @@ module _ (Tells : Telling) (answer : Result Answer Stop) (line : PortLine) (own 
   plain_err within one = go answer one
     where
       go : (answer' : Result Answer Stop) → IfErr answer' (λ stop. BrokeStill (CutPlain own) stop a b s t) → IfErr answer' (λ stop. Broke (CutLine Tells line) stop a b s t l l n)
-      go (Ok taken) one' = tt
+      go (Ok value) one' = tt
       go (Err stop) one' = broke_as (CutPlain own) (CutLine Tells line) stop a b s t l l n (one' l n within) (λ steps cut. subst (λ (p : PortLine). CutLine Tells p stop steps) (sym is) cut)
 
 -- ---- a run

@@ -21,6 +21,8 @@ use Rattle.scenario_run.specs.declared.status.Status.TheVariants as status
 use Rattle.port_run.specs.declared.asking.Answer.{Answer}
 use Rattle.port_run.specs.declared.asking.Answer.TheVariants.{Taken, Command, Refused}
 use Rattle.port_run.specs.declared.line.PortLine.{PortLine}
+use Rattle.port_run.specs.declared.line.LinesFault.{LinesFault}
+use Rattle.port_run.specs.declared.line.LinesFault.TheVariants.{Bad as bad_lines, NoMemory as no_lines}
 use Rattle.port_run.specs.declared.stop.Stop.{Stop}
 use Rattle.port_run.specs.declared.stop.Stop.TheVariants as stop
 use Rattle.port_run.specs.declared.ending.Served.{Served}
@@ -132,6 +134,11 @@ Ended ReadFault Tells keys number texts old new = RanSome stop.ReadFault Tells k
 Ended WriteFault Tells keys number texts old new = RanSome stop.WriteFault Tells keys number texts old new
 Ended InputTooLong Tells keys number texts old new = RanSome stop.InputTooLong Tells keys number texts old new
 Ended NoMemory Tells keys number texts old new = IsUntouched old new ⊎ RanSome stop.NoMemory Tells keys number texts old new
+
+-- an end for words that are not lines
+abbrev pub unread_of : LinesFault → Served
+unread_of (bad_lines line fault) = BadLine line fault
+unread_of no_lines = NoMemory
 
 -- an end for want of a further step
 abbrev pub served_of : Stop → Served

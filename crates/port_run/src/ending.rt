@@ -1,10 +1,10 @@
 //! How a run ends.
 
 ghost use Rattle.std.specs.Prelude.{◌≡◌, ◌<◌, ◌^◌, length, MatchOption};
-ghost use Rattle.port_run.specs.Ending.{is_done, AreDone, IsFirstUndone, served_of, status_of, opening_status};
+ghost use Rattle.port_run.specs.Ending.{is_done, AreDone, IsFirstUndone, unread_of, served_of, status_of, opening_status};
 
-use crate::Stop;
 use crate::asking::Answer;
+use crate::{LinesFault, Stop};
 use host_core::{Host, OpenFault};
 use scenario_run::Status;
 use zw_text::Outcome;
@@ -56,6 +56,16 @@ fn opening_status(fault: OpenFault) -> Status
         OpenFault::KeeperFault => Status::KeeperFault,
         OpenFault::BadRecord(at) => Status::BadRecord(at),
         OpenFault::NoMemory => Status::NoMemory,
+    }
+}
+
+/// The end, where words are not lines.
+pub(crate) fn unread_of(fault: LinesFault) -> Served
+    ensures { result ≡ unread_of fault }
+{
+    match fault {
+        LinesFault::Bad { line, fault } => Served::BadLine { line, fault },
+        LinesFault::NoMemory => Served::NoMemory,
     }
 }
 

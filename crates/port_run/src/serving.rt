@@ -1,6 +1,6 @@
 //! A run from its words to its end.
 
-ghost use Rattle.std.specs.Prelude.{◌≡◌, [], ◌<◌, ◌≤◌, ◌^◌, ℕ, List as Items, length, IfOk, OnOk, IfErr, IsErrOf};
+ghost use Rattle.std.specs.Prelude.{◌≡◌, [], ◌<◌, ◌≤◌, ◌^◌, ℕ, List as Items, length, IfOk, OnOk, IfErr, IsErrOf, MatchResult};
 ghost use Rattle.line_stream.specs.declared.reader.TheConstants.{MAX_INPUT};
 ghost use Rattle.zw_base.specs.Faults.{Rose};
 ghost use Rattle.host_core.specs.Network.{keys_of};
@@ -9,14 +9,14 @@ ghost use Rattle.port_run.specs.Lines.{texts_of};
 ghost use Rattle.port_run.specs.Steps.{place, Step};
 ghost use Rattle.port_run.specs.Schedule.{LineSteps, AllSteps, RunSteps, CutLine, CutLines, CutRun};
 ghost use Rattle.port_run.specs.Serving.{Went, Broke};
-ghost use Rattle.port_run.specs.Ending.{desk, Ended, JudgedBy};
+ghost use Rattle.port_run.specs.Ending.{desk, Ended, JudgedBy, served_of};
 
 use crate::asking::Answer;
-use crate::ending::{first_undone, served_of};
+use crate::ending::{first_undone, served_of, unread_of};
 use crate::line::read_lines;
 use crate::steps::{pump, run_plain};
 use crate::waiting::wait;
-use crate::{Clock, LinesFault, PortLine, Served, Stop};
+use crate::{Clock, PortLine, Served, Stop};
 use host_core::{Host, OpenFault};
 use host_keep::Keeper;
 use std::alloc::Global;
@@ -43,8 +43,7 @@ pub fn serve<S: Source, K: Sink, C: Clock, D: Draw, P: Keeper>(
 {
     let lines = match read_lines(alloc, lines) {
         Ok(lines) => lines,
-        Err(LinesFault::Bad { line, fault }) => return Served::BadLine { line, fault },
-        Err(LinesFault::NoMemory) => return Served::NoMemory,
+        Err(fault) => return unread_of(fault),
     };
     let mut answers = List::new(alloc);
     if answers.reserve(lines.len()).is_err() {
@@ -66,8 +65,16 @@ pub fn serve<S: Source, K: Sink, C: Clock, D: Draw, P: Keeper>(
         draw,
         keeper,
     );
+    end_of(run, &host, answers.as_slice())
+}
+
+// How a run ends: by its answers, where all lines were run, or by what stopped it.
+fn end_of(run: Result<(), Stop>, host: &Host, answers: &[Answer]) -> Served
+    requires { OnOk run (length answers.now < 2 ^ 32) }
+    ensures { MatchResult run (λ _. JudgedBy result host.now.state answers.now) (λ stop. result ≡ served_of stop) }
+{
     match run {
-        Ok(()) => judged(&host, answers.as_slice()),
+        Ok(()) => judged(host, answers),
         Err(stop) => served_of(stop),
     }
 }

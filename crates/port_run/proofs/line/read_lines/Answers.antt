@@ -1,11 +1,11 @@
-use Rattle.std.proofs.Common.{ap, arith, rules, length, length-append}
-use Rattle.port_run.proofs.Answered.{read_more, read_all}
+use Rattle.std.proofs.Common.{rules}
+use Rattle.port_run.proofs.Answered.{count_more, read_more, read_all}
 use Rattle.port_run.proofs.line.read_lines.Goals as goal
 
 pub loop-at-preserved : goal.loop-at-preserved
 loop-at-preserved c = record {
   read = read_more c.args.texts.now c.loop-at.lines.items c.push.new.self.items c.loop-at.at c.index-texts-at.result c.as_bytes.result.now c.in-Ok-read_wanted.line c.loop-at-test.true c.index-texts-at.is (cc) c.loop-at.invariant.read c.in-Ok-read_wanted.ensures c.in_ok-push-in-Ok-read_wanted.ensures.ok;
-  count = omega (arith, c.loop-at.invariant.count, ap length c.in_ok-push-in-Ok-read_wanted.ensures.ok, length-append c.loop-at.lines.items _);
+  count = count_more _ _ _ _ c.in_ok-push-in-Ok-read_wanted.ensures.ok c.loop-at.invariant.count;
   few = search rules;
 }
 
