@@ -77,11 +77,11 @@ module _ (Tells : Telling) (keys : Keys) (texts : List (List ℕ)) (lines : List
       go stop.InputTooLong broke' = some stop.InputTooLong broke'
       go stop.NoMemory broke' = inr (some stop.NoMemory broke')
 
-  module _ (given : List PortLine) (same : given ≡ lines) (answers shown : List Answer) (equal : shown ≡ answers) (end : Served) where
+  module _ (given : List PortLine) (alike : given ≡ lines) (answers shown : List Answer) (equal : shown ≡ answers) (end : Served) where
     pub ended : {T : Type 0} (run : Result T Stop) → MatchResult run (λ value. JudgedBy end h'.state shown) (λ reason. end ≡ served_of reason)
         → OnOk run ((steps : List Step) × (taken : ℕ) × RunSteps Tells given answers steps × Went steps (place h mid g) (place h' r' f') s s' l l' 0 taken × (taken ≤ MAX_INPUT))
         → IfErr run (λ reason. Broke (CutRun Tells given) reason (place h mid g) (place h' r' f') s s' l l' 0) → Ended end Tells keys n texts (desk l s r f) (desk l' s' r' f')
     ended (Ok value) judged (steps, taken, are, went, within) some =
-        ended_all end answers (steps, taken, subst (λ (p : List PortLine). RunSteps Tells p answers steps) same are, went, within) (subst (λ (a : List Answer). JudgedBy end h'.state a) equal judged)
+        ended_all end answers (steps, taken, subst (λ (p : List PortLine). RunSteps Tells p answers steps) alike are, went, within) (subst (λ (a : List Answer). JudgedBy end h'.state a) equal judged)
     ended (Err reason) judged all some =
-        ended_some end reason judged (subst (λ (p : List PortLine). Broke (CutRun Tells p) reason (place h mid g) (place h' r' f') s s' l l' 0) same some)
+        ended_some end reason judged (subst (λ (p : List PortLine). Broke (CutRun Tells p) reason (place h mid g) (place h' r' f') s s' l l' 0) alike some)
