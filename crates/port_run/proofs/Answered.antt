@@ -1,5 +1,5 @@
 -- Answers and texts, one after another.
-use Rattle.std.proofs.Common.{◌≡◌, ℕ, ◌+◌, ◌≤◌, ◌<◌, List, [], ◌∷◌, ◌++◌, map, true, All, Ok, length, length-append, take, get_or, take-append-drop, append-nil, refl, ap, sym, ◌∙◌, subst, arith}
+use Rattle.std.proofs.Common.{◌≡◌, ℕ, ◌+◌, ◌≤◌, ◌<◌, List, [], ◌∷◌, ◌++◌, map, true, All, Ok, length, length-append, take, get_or, take-append-drop, append-nil, ap, sym, ◌∙◌, subst, arith}
 use Rattle.std.specs.Prelude.{String, string_bytes}
 use Rattle.std.proofs.lemmas.List.{take_more, drop_all, map-append, length-map}
 use Rattle.std.proofs.lemmas.List.Elements.{All-push}

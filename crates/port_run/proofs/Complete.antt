@@ -1,8 +1,7 @@
 -- Why a run with good lines, over a source that has no more than may be read, comes to its end.
-use Rattle.std.proofs.Common.{◌≡◌, ℕ, zero, suc, ◌+◌, ◌<◌, ◌≤◌, List, [], ◌∷◌, ◌++◌, length, length-append, Err, refl, ap, sym, ◌∙◌, subst, append_assoc, arith}
+use Rattle.std.proofs.Common.{◌≡◌, ℕ, zero, suc, ◌<◌, ◌≤◌, List, [], ◌∷◌, ◌++◌, length, length-append, Err, refl, ap, sym, ◌∙◌, subst, append_assoc, arith}
 use Rattle.std.specs.Prelude.{Option, Some, None, slice_index_or}
 use Rattle.std.specs.Io.KnownBytes.{Consumes}
-use Rattle.line_stream.specs.declared.reader.TheConstants.{MAX_INPUT}
 use Rattle.zw_words.specs.declared.fault.LineFault.{LineFault}
 use Rattle.s0_crypto.specs.declared.key_pair.Keys.{Keys}
 use Rattle.host_core.specs.Network.{keys_of}

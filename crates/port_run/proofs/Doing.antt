@@ -1,18 +1,16 @@
 -- Steps of a port, one after another.
 use Rattle.std.proofs.Common.{◌≡◌, ℕ, ◌+◌, ◌≤◌, List, [], ◌∷◌, ◌++◌, length, refl, ap, sym, ◌∙◌, subst, append_assoc, append-nil, length-append, arith}
 use Rattle.std.specs.Prelude.{Option, Some, None}
-use Rattle.std.specs.List.{flat_map}
 use Rattle.std.proofs.lemmas.Grind.{flat_map-append}
 use Rattle.std.specs.Io.KnownBytes.{Keeps, Consumes, Appends}
-use Rattle.std.proofs.KnownBytes.{Keeps-refl, Keeps-trans, Consumes-nil, Consumes-trans, Consumes-kept, Appends-nil, Appends-trans}
-use Rattle.scenario_run.specs.Writing.{AppendsFront, IsFrontOf}
-use Rattle.line_stream.specs.declared.reader.TheConstants.{PIECE, MAX_INPUT}
+use Rattle.std.proofs.KnownBytes.{Keeps-refl, Keeps-trans, Appends-nil, Appends-trans}
+use Rattle.scenario_run.specs.Writing.{AppendsFront}
+use Rattle.line_stream.specs.declared.reader.TheConstants.{MAX_INPUT}
 use Rattle.host_events.specs.declared.out.HostOut.{HostOut}
 use Rattle.port_run.specs.declared.stop.Stop.{Stop}
 use Rattle.port_run.specs.declared.stop.Stop.TheVariants.{ReadFault, WriteFault, InputTooLong, NoMemory}
 use Rattle.port_run.specs.Steps.{Place, Step, Asks, Takes, Rests, Ticks, Pumps, Ran, AllRan}
-use Rattle.port_run.specs.Schedule.{IsFirst}
-use Rattle.port_run.specs.Serving.{unit_bytes, units_of, Wrote, WroteFront, Stopped, Halts, bytes_at, bytes_of, Reads, Went, EndsReading, Broke}
+use Rattle.port_run.specs.Serving.{unit_bytes, units_of, Wrote, Halts, bytes_at, bytes_of, Reads, Went, EndsReading, Broke}
 
 -- ---- runs of the host
 

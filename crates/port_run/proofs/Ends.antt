@@ -1,5 +1,5 @@
 -- How a run ends, from what its calls answer.
-use Rattle.std.proofs.Common.{◌≡◌, ℕ, ◌≤◌, ◌⊎◌, List, [], ◌∷◌, Result, Ok, Err, inl, inr, refl, sym, subst, arith}
+use Rattle.std.proofs.Common.{◌≡◌, ℕ, ◌≤◌, List, [], Result, Ok, Err, inl, inr, refl, sym, subst, arith}
 use Rattle.std.specs.Prelude.{Option, OnOk, IfErr, MatchResult}
 use Rattle.line_stream.specs.declared.reader.TheConstants.{MAX_INPUT}
 use Rattle.s0_crypto.specs.declared.key_pair.Keys.{Keys}

@@ -1,12 +1,10 @@
 -- Calls one after another, as they answer.
-use Rattle.std.proofs.Common.{◌≡◌, ℕ, ◌+◌, ◌≤◌, ◌<◌, List, [], ◌∷◌, ◌++◌, length, Result, Ok, Err, inl, inr, refl, ap, sym, ◌∙◌, subst, append_assoc, append-nil, arith}
-use Rattle.std.specs.Prelude.{Option, Some, None, OnOk, OnErr, IfErr}
-use Rattle.std.specs.Io.KnownBytes.{Consumes}
-use Rattle.line_stream.specs.declared.reader.TheConstants.{PIECE, MAX_INPUT}
+use Rattle.std.proofs.Common.{ℕ, ◌≤◌, List, ◌++◌, Result, Ok, Err, ap, sym, ◌∙◌, append_assoc}
+use Rattle.std.specs.Prelude.{Option, OnOk, IfErr}
+use Rattle.line_stream.specs.declared.reader.TheConstants.{MAX_INPUT}
 use Rattle.port_run.specs.declared.stop.Stop.{Stop}
-use Rattle.port_run.specs.declared.stop.Stop.TheVariants.{ReadFault, WriteFault, InputTooLong, NoMemory}
-use Rattle.port_run.specs.Steps.{Place, Step, Takes, Pumps}
-use Rattle.port_run.specs.Schedule.{IsFirst, IsLate, CutIn, CutTaking, CutPiece}
+use Rattle.port_run.specs.Steps.{Place, Step}
+use Rattle.port_run.specs.Schedule.{CutIn}
 use Rattle.port_run.specs.Serving.{Went, Broke}
 use Rattle.port_run.proofs.Doing.{went_both, broke_after, broke_as}
 

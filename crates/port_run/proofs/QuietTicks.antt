@@ -1,10 +1,8 @@
 -- With a clock that takes a quiet moment for a tick, each tick comes right after a read of no bytes.
-use Rattle.std.proofs.Common.{◌≡◌, ℕ, zero, suc, ◌+◌, ◌-◌, ◌<◌, ◌≤◌, ◌⊎◌, inl, inr, Bool, true, false, List, [], ◌∷◌, ◌++◌, length, refl, ap, sym, ◌∙◌, subst, append_assoc, arith}
-use Rattle.std.specs.Prelude.{Option, Some, None, min}
-use Rattle.std.specs.Io.KnownBytes.{Consumes, IsAtEnd}
+use Rattle.std.proofs.Common.{◌≡◌, ℕ, zero, suc, ◌-◌, ◌≤◌, inl, inr, Bool, true, false, List, [], ◌∷◌, ◌++◌, length, refl, ap, sym, ◌∙◌, subst, append_assoc, arith}
+use Rattle.std.specs.Prelude.{Option, Some, None}
 use Rattle.std.proofs.lemmas.Bool.Decides.{nat_tests}
 use Rattle.s0_crypto.specs.declared.key_pair.Keys.{Keys}
-use Rattle.zw_text.specs.declared.line.Line.{Line}
 use Rattle.port_run.specs.declared.asking.Answer.{Answer}
 use Rattle.port_run.specs.declared.ending.Served.{Served}
 use Rattle.port_run.specs.declared.line.PortLine.{PortLine}
@@ -12,34 +10,7 @@ use Rattle.port_run.specs.declared.line.PortLine.TheVariants.{Plain, Wait}
 use Rattle.port_run.specs.declared.stop.Stop.{Stop}
 use Rattle.port_run.specs.declared.stop.Stop.TheVariants.{ReadFault, WriteFault, InputTooLong, NoMemory}
 use Rattle.port_run.specs.Steps.{Step, Asks, Takes, Rests, Ticks, Pumps}
-use Rattle.port_run.specs.Schedule.{
-  Turn,
-  IsTurn,
-  is_quiet,
-  quiet_ticks,
-  due,
-  piece_steps,
-  tick_steps,
-  turn_steps,
-  Turns,
-  steps_of,
-  Waited,
-  LineSteps,
-  AllSteps,
-  RunSteps,
-  IsFirst,
-  CutIn,
-  CutTaking,
-  CutPiece,
-  CutRead,
-  CutSteps,
-  CutTurn,
-  CutWait,
-  CutPlain,
-  CutLine,
-  CutLines,
-  CutRun,
-}
+use Rattle.port_run.specs.Schedule.{Turn, IsTurn, is_quiet, quiet_ticks, due, piece_steps, tick_steps, turn_steps, Turns, steps_of, Waited, LineSteps, AllSteps, RunSteps, CutIn, CutTaking, CutRead, CutSteps, CutTurn, CutWait, CutLine, CutLines, CutRun}
 use Rattle.port_run.specs.Serving.{bytes_of, Reads}
 use Rattle.port_run.specs.Ending.{Desk, RanAll, RanSome}
 use Rattle.port_run.specs.Quiet.{TicksComeLast}

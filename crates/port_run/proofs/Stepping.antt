@@ -1,21 +1,19 @@
 -- One step of the host, with what is written at it.
-use Rattle.std.proofs.Common.{◌≡◌, ℕ, suc, ◌+◌, ◌≤◌, ◌<◌, List, [], ◌∷◌, ◌++◌, length, length-append, take, drop, get_or, take-append-drop, Result, Ok, Err, inl, inr, refl, ap, sym, ◌∙◌, subst, append_assoc, append-nil, arith}
-use Rattle.std.specs.Prelude.{Option, Some, None, OnOk, OnErr, IfErr}
-use Rattle.std.specs.Io.KnownBytes.{Consumes, Appends, Keeps}
+use Rattle.std.proofs.Common.{◌≡◌, ℕ, suc, ◌+◌, ◌≤◌, ◌<◌, List, [], ◌∷◌, ◌++◌, length, length-append, take, drop, get_or, take-append-drop, Result, Ok, Err, refl, ap, sym, ◌∙◌, subst, append_assoc, append-nil, arith}
+use Rattle.std.specs.Prelude.{Option, Some, None, OnOk, IfErr}
+use Rattle.std.specs.Io.KnownBytes.{Consumes, Appends}
 use Rattle.std.proofs.KnownBytes.{Consumes-nil, Appends-nil, Keeps-refl}
 use Rattle.scenario_run.specs.Writing.{AppendsFront}
 use Rattle.line_stream.specs.declared.reader.TheConstants.{PIECE, MAX_INPUT}
-use Rattle.host_events.specs.State.{HostState, HostParts}
-use Rattle.host_events.specs.Did.{Shelf, Did}
-use Rattle.host_events.specs.Events.{HostEvent}
+use Rattle.host_events.specs.State.{HostParts}
 use Rattle.host_events.specs.declared.out.HostOut.{HostOut}
 use Rattle.host_events.proofs.Doing.{none_added, did_nothing}
 use Rattle.host_core.specs.Calls.{beside, Stops}
 use Rattle.port_run.specs.declared.stop.Stop.{Stop}
 use Rattle.port_run.specs.declared.stop.Stop.TheVariants.{ReadFault, WriteFault, InputTooLong, NoMemory}
-use Rattle.port_run.specs.Steps.{Place, Step, Asks, Takes, Rests, Ticks, Pumps, Ran, AllRan}
-use Rattle.port_run.specs.Schedule.{IsFirst, IsLate}
-use Rattle.port_run.specs.Serving.{units_of, WritesPart, Wrote, WroteFront, Stopped, Halts, bytes_of, Reads, Went, EndsReading, Broke}
+use Rattle.port_run.specs.Steps.{Place, Step, Asks, Takes, Ticks, Pumps, Ran}
+use Rattle.port_run.specs.Schedule.{IsLate}
+use Rattle.port_run.specs.Serving.{units_of, WritesPart, Halts, bytes_of, Reads, Went, EndsReading, Broke}
 use Rattle.port_run.proofs.Doing.{units-append, ran_one, went_one}
 use Rattle.port_run.proofs.Joining.{WentStill, BrokeStill}
 use Rattle.scenario_run.proofs.Pieces.{AppendsFront-append, AppendsFront-more}

@@ -1,11 +1,11 @@
 -- Bytes that are taken, and what may be is submitted.
-use Rattle.std.proofs.Common.{◌≡◌, ℕ, ◌+◌, ◌≤◌, ◌<◌, List, [], ◌∷◌, ◌++◌, length, Result, Ok, Err, inl, inr, refl, ap, sym, ◌∙◌, subst, append_assoc, append-nil, arith}
-use Rattle.std.specs.Prelude.{Option, Some, None, OnOk, IfErr}
+use Rattle.std.proofs.Common.{◌≡◌, ℕ, ◌+◌, ◌≤◌, ◌<◌, List, [], ◌∷◌, length, Result, Ok, Err, inl, inr, refl, arith}
+use Rattle.std.specs.Prelude.{Option, OnOk, IfErr}
 use Rattle.std.specs.Io.KnownBytes.{Consumes, IsAtEnd, Appends}
 use Rattle.std.proofs.KnownBytes.{Keeps-refl, Appends-nil}
 use Rattle.line_stream.specs.declared.reader.TheConstants.{MAX_INPUT}
 use Rattle.port_run.specs.declared.stop.Stop.{Stop}
-use Rattle.port_run.specs.Steps.{Place, Step, Takes, Rests, Pumps}
+use Rattle.port_run.specs.Steps.{Place, Step, Takes, Pumps}
 use Rattle.port_run.specs.Schedule.{CutIn, CutTaking, CutPiece, CutRead, piece_steps}
 use Rattle.port_run.specs.Serving.{Went, Broke}
 use Rattle.port_run.proofs.Doing.{went_both, broke_after, broke_as}

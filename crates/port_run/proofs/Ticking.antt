@@ -1,11 +1,11 @@
 -- Ticks that are each followed by a pump.
-use Rattle.std.proofs.Common.{◌≡◌, ℕ, zero, suc, ◌+◌, ◌-◌, ◌<◌, List, [], ◌∷◌, ◌++◌, refl, ap, sym, ◌∙◌, subst, append_assoc, append-nil, arith}
+use Rattle.std.proofs.Common.{◌≡◌, ℕ, zero, suc, ◌+◌, ◌-◌, ◌<◌, List, [], ◌∷◌, ◌++◌, refl, ap, sym, ◌∙◌, subst, append_assoc, arith}
 use Rattle.port_run.specs.declared.stop.Stop.{Stop}
 use Rattle.port_run.specs.Steps.{Step, Ticks, Pumps}
 use Rattle.std.specs.Prelude.{Option}
 use Rattle.port_run.specs.Steps.{Place}
 use Rattle.port_run.specs.Schedule.{tick_steps, IsFirst, CutIn}
-use Rattle.port_run.specs.Serving.{Went, Broke}
+use Rattle.port_run.specs.Serving.{Went}
 use Rattle.port_run.proofs.Doing.{went_both, broke_after}
 use Rattle.port_run.proofs.Joining.{WentStill, BrokeStill}
 

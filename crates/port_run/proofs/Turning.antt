@@ -1,12 +1,10 @@
 -- Turns of a wait, and lines, one after another.
-use Rattle.std.proofs.Common.{◌≡◌, ℕ, ◌+◌, ◌-◌, ◌<◌, ◌≤◌, ◌⊎◌, inl, inr, List, [], ◌∷◌, ◌++◌, length, refl, ap, sym, ◌∙◌, subst, append_assoc, append-nil, arith}
-use Rattle.std.specs.List.{flat_map}
+use Rattle.std.proofs.Common.{◌≡◌, ℕ, ◌-◌, ◌<◌, List, [], ◌∷◌, ◌++◌, refl, ap, sym, ◌∙◌, subst, append_assoc, append-nil}
 use Rattle.std.proofs.lemmas.Grind.{flat_map-append}
 use Rattle.port_run.specs.declared.asking.Answer.{Answer}
-use Rattle.port_run.specs.declared.asking.Answer.TheVariants.{Taken}
 use Rattle.port_run.specs.declared.line.PortLine.{PortLine}
 use Rattle.port_run.specs.declared.stop.Stop.{Stop}
-use Rattle.port_run.specs.Steps.{Step, Asks, Takes, Rests, Ticks, Pumps}
+use Rattle.port_run.specs.Steps.{Step}
 use Rattle.port_run.specs.Schedule.{Telling, Turn, IsTurn, turn_steps, Turns, steps_of, Waited, CutTurn, CutWait, LineSteps, AllSteps, CutLine, CutLines}
 
 turns-more : (Tells : Telling) (from mid : ℕ) (turns : List Turn) (turn : Turn) → Turns Tells from turns mid → 0 < mid → IsTurn Tells mid turn → Turns Tells from (turns ++ turn ∷ []) (mid - turn.ticks)

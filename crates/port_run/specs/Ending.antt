@@ -1,8 +1,6 @@
 -- How a run of `host` ends, and why (this project's own rule).
-use Rattle.std.specs.Prelude.{◌≡◌, ℕ, ◌+◌, ◌<◌, ◌≤◌, ◌⊎◌, Bool, true, false, List, [], ◌∷◌, length, map, take, slice_index_or, Option, Some, None, All}
-use Rattle.std.specs.Io.KnownBytes.{Keeps}
+use Rattle.std.specs.Prelude.{◌≡◌, ℕ, ◌+◌, ◌<◌, ◌≤◌, ◌⊎◌, Bool, true, false, List, [], length, take, slice_index_or, Option, Some, None, All}
 use Rattle.line_stream.specs.declared.reader.TheConstants.{MAX_INPUT}
-use Rattle.zw_words.specs.declared.fault.LineFault.{LineFault}
 use Rattle.zw_text.specs.declared.entry.Outcome.{Outcome}
 use Rattle.zw_text.specs.declared.entry.Outcome.TheVariants.{Success}
 use Rattle.host_keep.specs.Keeping.{OptAdds}

@@ -1,4 +1,4 @@
-use Rattle.std.proofs.Common.{sym, ◌∙◌}
+use Rattle.std.proofs.Common.{sym}
 use Rattle.port_run.proofs.Answered.{done_more, done_all}
 use Rattle.port_run.proofs.ending.first_undone.Goals as goal
 

@@ -1,4 +1,4 @@
-use Rattle.std.proofs.Common.{arith, rules}
+use Rattle.std.proofs.Common.{rules}
 use Rattle.port_run.specs.Steps.{place}
 use Rattle.port_run.proofs.Taking.{rested, piece_ok, piece_err}
 use Rattle.port_run.proofs.waiting.take_read.Goals as goal
