@@ -1,0 +1,14 @@
+pub mod Doing
+pub mod Asked
+pub mod Joining
+pub mod Stepping
+pub mod Ticking
+pub mod Taking
+pub mod Turning
+pub mod TurnByTurn
+pub mod Answered
+pub mod LineByLine
+pub mod Ends
+pub mod Statuses
+pub mod Complete
+pub mod QuietTicks

@@ -1,0 +1,6 @@
+pub mod Lines
+pub mod Steps
+pub mod Schedule
+pub mod Serving
+pub mod Ending
+pub mod Quiet
