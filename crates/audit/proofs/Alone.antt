@@ -1,5 +1,5 @@
 -- A text has one answer.
-use Rattle.std.proofs.Common.{◌≡◌, ℕ, zero, suc, ◌<◌, ◌≤◌, ◌+◌, length, List, [], ◌∷◌, ◌++◌, Option, Some, None, arith, ap, ap₂, refl, sym, subst, ◌∙◌, append-nil, length-append, ⊎_elim, ◌⊎◌, inl, inr}
+use Rattle.std.proofs.Common.{◌≡◌, ℕ, zero, suc, ◌<◌, length, List, [], ◌∷◌, ◌++◌, Option, Some, None, arith, ap, ap₂, refl, sym, subst, ◌∙◌, append-nil, length-append, ⊎_elim, ◌⊎◌, inl, inr}
 use Rattle.std.proofs.lemmas.List.{append_assoc}
 use Rattle.std.proofs.lemmas.Bool.{cases_eq}
 use Rattle.zw_base.specs.declared.property.Setting.{Setting}
@@ -9,7 +9,7 @@ use Rattle.transcript_books.specs.declared.group.Maker.{Maker}
 use Rattle.transcript_books.specs.Groups.{EndsGroup, IsBehind, IsGroup, maker_at, setting_by}
 use Rattle.transcript_books.specs.Lines.{IsNext, IsNoLine}
 use Rattle.transcript_books.proofs.Cuts.{next-entry, next-rest}
-use Rattle.audit.specs.Breaking.{Ends, Examined, HasOneAnswer, IsBroken, IsJudged, Keeps}
+use Rattle.audit.specs.Breaking.{Ends, HasOneAnswer, IsBroken, IsJudged, Keeps}
 use Rattle.audit.specs.declared.breaks.Break.{Break}
 use Rattle.audit.specs.declared.breaks.Break.TheVariants.{Air, Once, Payload, Sessions, Store, Table, Text}
 

@@ -1,10 +1,10 @@
 -- What is kept for the table goes with the transcript, and judges the next entry as the rule of the table.
-use Rattle.std.proofs.Common.{◌≡◌, ℕ, zero, suc, ◌<◌, ◌≤◌, ◌+◌, cond, eqb, not, Bool, true, false, List, [], ◌∷◌, ◌++◌, length, map, get_or, replicate, Option, Some, None, arith, ap, ap₂, refl, sym, subst, ◌∙◌, append-nil, length-append, ⊎_elim}
+use Rattle.std.proofs.Common.{◌≡◌, ℕ, ◌<◌, ◌≤◌, ◌+◌, cond, eqb, not, Bool, true, false, List, [], ◌∷◌, ◌++◌, length, replicate, Option, Some, None, arith, ap, ap₂, refl, sym, subst, ◌∙◌, append-nil, ⊎_elim}
 use Rattle.std.specs.Prelude.{◌||◌, ◌&&◌, filter, slice_index_or, slice_get, unwrap_or}
 use Rattle.std.specs.List.{flat_map, list_any, AllByRecursion}
 use Rattle.std.proofs.Math.ListN.{set}
 use Rattle.std.proofs.lemmas.Grind.{flat_map-append}
-use Rattle.std.proofs.lemmas.List.{append_assoc, get_or-set_same, get_or-set_other, length-set}
+use Rattle.std.proofs.lemmas.List.{get_or-set_same, get_or-set_other, length-set}
 use Rattle.std.proofs.lemmas.List.Folds.{list_any-append}
 use Rattle.std.proofs.lemmas.Bool.{false≢true, cases_eq, eq-eqb, ne_eqb}
 use Rattle.zw_base.specs.declared.property.Setting.{Setting}
@@ -14,15 +14,15 @@ use Rattle.zw_text.specs.declared.line.Line.TheVariants as lines
 use Rattle.zw_text.specs.declared.entry.Entry.{Entry}
 use Rattle.zw_text.specs.declared.entry.Entry.TheVariants.{Refused, Dev, Report, TableEnd, TableNode, TableValue, Device}
 use Rattle.zw_text.specs.Fits.{EntryFits}
-use Rattle.zw_text.specs.Transcript.{Doing, Made, doing_step, doing_lines, endings, folded, join_of, joined, line_behind, line_last, line_of, lines_done, made, made_at, reported, reported_at, sessions}
+use Rattle.zw_text.specs.Transcript.{Doing, Made, doing_step, endings, folded, join_of, line_behind, line_last, line_of, lines_done, made, made_at, reported, reported_at, sessions}
 use Rattle.zw_laws.specs.Restarts.{begins_refused, is_restart, since_restart, since_restart_from}
 use Rattle.transcript_books.specs.declared.endings.Ending.{Ending}
 use Rattle.transcript_books.specs.Beginning.{sessions_of}
 use Rattle.transcript_books.specs.Ending.{no_ending}
 use Rattle.transcript_books.specs.Keeping.{ending_from, lines_of}
 use Rattle.audit.specs.Scene.{accepting_at}
-use Rattle.audit.specs.TableRule.{before_end, behind_end, breaks_end, breaks_row, breaks_table, has_end, is_end, is_row, next_row, rows, settings_made, value_shown}
-use Rattle.audit.specs.Knowing.{Closing, IsWithin, Knowns, after_line, all_rows, breaks_closing, breaks_closing_by, breaks_due, closing_after, closing_shown, counts_row, ends_with, first_joined, known_at, line_done, no_closing, no_values, row_shown, values_of, values_with, with_last}
+use Rattle.audit.specs.TableRule.{before_end, behind_end, breaks_end, breaks_row, breaks_table, has_end, is_end, is_row, next_row, rows, settings_made}
+use Rattle.audit.specs.Knowing.{Closing, IsWithin, Knowns, after_line, all_rows, breaks_closing, breaks_closing_by, breaks_due, closing_after, closing_shown, counts_row, ends_with, first_joined, line_done, no_closing, no_values, values_of, values_with, with_last}
 use Rattle.audit.specs.Keeping.{AreClosingOf, AreLast, Since, doing, is_joined, is_refusal, since, since_behind}
 use Rattle.audit.proofs.Views.{folded-more, length-same, or-false, same-at, shown-more}
 use Rattle.audit.proofs.Knows.{last-more, none-last}

@@ -6,7 +6,7 @@ use Rattle.zw_base.specs.declared.property.Setting.{Setting}
 use Rattle.zw_laws.specs.Units.{Carried}
 use Rattle.transcript_books.specs.Asking.{IsNoneThere, is_setting}
 use Rattle.audit.specs.PayloadRule.{same_carried}
-use Rattle.audit.specs.Sending.{Sendings, behind, settled}
+use Rattle.audit.specs.Sending.{behind, settled}
 use Rattle.audit.specs.Knowing.{Knowns, with_commands, with_settings}
 
 -- the item at a place, and those behind it

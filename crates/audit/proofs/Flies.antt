@@ -1,9 +1,9 @@
 -- The frames on the air go with the transcript, and judge the next entry as the rule of the air.
 use Rattle.std.proofs.Common.{◌≡◌, ℕ, zero, suc, ◌<◌, ◌≤◌, ◌+◌, ◌-◌, cond, eqb, leb, ltb, not, Bool, true, false, List, [], ◌∷◌, ◌++◌, length, map, Option, Some, None, is_none, arith, ap, ap₂, refl, sym, subst, ◌∙◌, append-nil, length-append}
-use Rattle.std.specs.Prelude.{◌||◌, ◌&&◌, nat_le, nat_lt, nat_eq, slice_get}
+use Rattle.std.specs.Prelude.{◌||◌, ◌&&◌, nat_le, nat_lt, slice_get}
 use Rattle.std.specs.List.{flat_map, list_any}
 use Rattle.std.proofs.Math.ListN.{set}
-use Rattle.std.proofs.lemmas.Bool.{false≢true, cases_eq, eq-eqb, ne_eqb, eqb-true}
+use Rattle.std.proofs.lemmas.Bool.{false≢true, eq-eqb, ne_eqb, eqb-true}
 use Rattle.std.proofs.lemmas.Bool.Decides.{leb_tells, eqb_tells}
 use Rattle.std.proofs.lemmas.List.Folds.{list_any-append}
 use Rattle.air_frames.specs.Ages.{is_class, stale_by}
@@ -15,7 +15,6 @@ use Rattle.zw_text.specs.declared.entry.Entry.{Entry}
 use Rattle.zw_text.specs.declared.entry.Entry.TheVariants.{Air, Heard, Lost, Unheard, Begin}
 use Rattle.zw_text.specs.Fits.{EntryFits}
 use Rattle.zw_text.specs.Transcript.{AirFrame, frame_at, frames, line_last, session_at, session_number_at, session_numbers, sessions}
-use Rattle.zw_laws.specs.Lists.{listed}
 use Rattle.zw_laws.specs.Nodes.{controller}
 use Rattle.zw_laws.specs.Repeats.{frame_of, later_nonces, later_sessions, new_nonces, node_of, nonces_shown, up_to_frame}
 use Rattle.transcript_books.specs.Scenes.{Scenery}
@@ -23,8 +22,8 @@ use Rattle.transcript_books.specs.Beginning.{sessions_of}
 use Rattle.transcript_books.specs.Keeping.{lines_of}
 use Rattle.audit.specs.declared.frames.Flown.{Flown}
 use Rattle.audit.specs.Scene.{runs_ticks}
-use Rattle.audit.specs.AirRule.{asks_for, breaks_air, breaks_fate, fate_of, has_landed, is_fresh, is_sent, landed, landed_at, may_hear}
-use Rattle.audit.specs.Flying.{Flying, no_nonces as blank, at_number, breaks_flying, breaks_landing, flying_after, is_fresh_now, is_there, is_true, is_young, landing_if, lands, may_hear_now, no_frames, node_between, none_shown, repeats_frame, sending, showing, shown_at, shown_count, with_frame}
+use Rattle.audit.specs.AirRule.{asks_for, breaks_air, breaks_fate, fate_of, has_landed, is_fresh, is_sent, landed, landed_at}
+use Rattle.audit.specs.Flying.{Flying, no_nonces as blank, at_number, breaks_flying, breaks_landing, flying_after, is_fresh_now, is_there, is_true, is_young, landing_if, lands, no_frames, node_between, none_shown, repeats_frame, sending, showing, shown_at, shown_count}
 use Rattle.audit.specs.Keeping.{AreFlyingOf, AreNumbered, flown_of, shown_by}
 use Rattle.audit.proofs.Views.{after-more, and-true, get-map, length-map, length-same, map-append, not-false, on_some, or-both, or-false, same-at, shown-more}
 use Rattle.audit.proofs.Nonces.{counts-are, homeward-more, outward-more, places-shown, showing_of}

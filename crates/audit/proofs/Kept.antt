@@ -1,9 +1,6 @@
 -- All that is kept goes with the transcript, and judges the next entry.
-use Rattle.std.proofs.Common.{◌≡◌, ℕ, ◌<◌, cond, Bool, true, false, List, [], ◌∷◌, ◌++◌, Option, Some, None, ap, ap₂, refl, sym, subst, ◌∙◌}
-use Rattle.std.proofs.lemmas.Bool.{false≢true}
+use Rattle.std.proofs.Common.{◌≡◌, ℕ, cond, Bool, true, false, List, [], ◌∷◌, ◌++◌, Option, Some, None, ap, ap₂, refl, sym, subst, ◌∙◌}
 use Rattle.zw_base.specs.declared.property.Setting.{Setting}
-use Rattle.zw_order.specs.declared.order.Order.{Order}
-use Rattle.zw_text.specs.declared.line.Line.{Line}
 use Rattle.zw_text.specs.declared.entry.Entry.{Entry}
 use Rattle.zw_text.specs.declared.entry.Entry.TheVariants.{Said}
 use Rattle.zw_text.specs.Fits.{EntryFits}
@@ -14,17 +11,17 @@ use Rattle.transcript_books.specs.Changing.{Changing, IsChangingAfter, no_change
 use Rattle.transcript_books.specs.Ending.{ending_after, ending_in, no_ending}
 use Rattle.transcript_books.specs.Groups.{IsBehind, maker_at}
 use Rattle.transcript_books.specs.Keeping.{AreChangesOf, AreOf, BeginSo, ChangesBegin, ChangesGoOn, GoOn}
-use Rattle.transcript_books.specs.Scenes.{Scenery, is_tick, line_in, no_line, scene_after}
+use Rattle.transcript_books.specs.Scenes.{Scenery, no_line, scene_after}
 use Rattle.transcript_books.specs.OnceRule.{breaks_once}
 use Rattle.transcript_books.specs.SessionRule.{breaks_sessions}
 use Rattle.audit.specs.declared.breaks.Break.{Break}
-use Rattle.audit.specs.declared.breaks.Break.TheVariants.{Air, Once, Payload, Sessions, Store, Table, Text}
-use Rattle.audit.specs.Scene.{Accepting, accepting_at, accepting_behind, line_shown, runs_ticks, ticks_behind}
+use Rattle.audit.specs.declared.breaks.Break.TheVariants.{Air, Once, Payload, Sessions, Store, Table}
+use Rattle.audit.specs.Scene.{Accepting, accepting_at, accepting_behind, line_shown, ticks_behind}
 use Rattle.audit.specs.AirRule.{breaks_air}
 use Rattle.audit.specs.PayloadRule.{breaks_payload}
 use Rattle.audit.specs.StoreRule.{breaks_store, breaks_storing, storing_behind}
 use Rattle.audit.specs.TableRule.{breaks_table}
-use Rattle.audit.specs.Breaking.{IsJudged, first_broken, first_of_rest}
+use Rattle.audit.specs.Breaking.{IsJudged, first_of_rest}
 use Rattle.audit.specs.Flying.{breaks_flying, flying_after, no_frames}
 use Rattle.audit.specs.Knowing.{IsWithin, breaks_closing, closing_after, no_closing}
 use Rattle.audit.specs.Sending.{breaks_sending, no_sendings, sendings_after}

@@ -1,12 +1,11 @@
 -- What is known of properties.
-use Rattle.std.proofs.Common.{◌≡◌, ℕ, cond, Bool, true, false, List, [], ◌∷◌, ◌++◌, map, drop, Option, Some, None, ap, ap₂, refl, sym, subst, ◌∙◌}
+use Rattle.std.proofs.Common.{◌≡◌, ℕ, cond, Bool, true, false, List, [], ◌∷◌, ◌++◌, drop, Option, Some, None, ap, refl, sym, subst, ◌∙◌}
 use Rattle.std.specs.Prelude.{unwrap_or, if◌then◌else◌, ◌==◌}
 use Rattle.std.specs.List.{flat_map}
 use Rattle.std.specs.declared.cmp.Ordering.{Ordering}
 use Rattle.std.specs.declared.cmp.Ordering.TheVariants.{Less, Equal, Greater}
 use Rattle.std.specs.Cmp.{IsTotalOrder}
-use Rattle.std.specs.Cmp.Lexicographic.{slice_cmp}
-use Rattle.std.specs.Ordering.{is_eq, nat_cmp, ordering_reverse}
+use Rattle.std.specs.Ordering.{is_eq, ordering_reverse}
 use Rattle.std.specs.FinMap.{nat_cmp-IsAntisymmetric, slice_cmp-IsAntisymmetric}
 use Rattle.std.specs.Map.{keys_of, lookup}
 use Rattle.std.specs.BTreeMap.{insert_entry, is_at}
@@ -22,7 +21,7 @@ use Rattle.zw_laws.specs.Stores.{last_value}
 use Rattle.zw_laws.specs.Table.{compare_properties, in_order, put_in_order}
 use Rattle.zw_laws.specs.Values.{last_given}
 use Rattle.audit.specs.declared.values.Known.{Known}
-use Rattle.audit.specs.Knowing.{Knowns, known_at, nothing_known, with_commands, with_confirmed, with_last, with_settings}
+use Rattle.audit.specs.Knowing.{Knowns, known_at, nothing_known, with_commands, with_last, with_settings}
 use Rattle.audit.specs.Keeping.{AreLast}
 use Rattle.audit.proofs.Ordered.{in-order-more, keys-insert, lookup-insert, putting, putting-append, putting-swap}
 use Rattle.audit.proofs.Views.{map-append}

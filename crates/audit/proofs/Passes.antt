@@ -1,5 +1,5 @@
 -- Entries of which none breaks a rule, one by one.
-use Rattle.std.proofs.Common.{◌≡◌, ℕ, ◌+◌, eqb, true, length, List, [], ◌∷◌, ◌++◌, Option, Some, None, arith, refl, sym, subst, append-nil, length-append}
+use Rattle.std.proofs.Common.{◌≡◌, ℕ, ◌+◌, eqb, true, length, List, [], ◌∷◌, ◌++◌, Some, None, arith, refl, sym, subst, append-nil, length-append}
 use Rattle.std.proofs.lemmas.Bool.{eqb-true}
 use Rattle.std.proofs.lemmas.List.{append_assoc}
 use Rattle.zw_text.specs.declared.entry.Entry.{Entry}

@@ -1,27 +1,26 @@
 -- What the host asked for and the controller sent goes with the transcript, and judges the next entry as the rule of payloads.
-use Rattle.std.proofs.Common.{◌≡◌, ℕ, cond, eqb, not, Bool, true, false, List, [], ◌∷◌, ◌++◌, length, map, Option, Some, None, is_none, is_some, Result, Ok, Err, ap, ap₂, refl, sym, subst, ◌∙◌, append-nil}
+use Rattle.std.proofs.Common.{◌≡◌, ℕ, cond, eqb, not, Bool, true, false, List, [], ◌∷◌, ◌++◌, Option, Some, None, is_none, is_some, Result, Ok, Err, ap, ap₂, refl, sym, subst, ◌∙◌, append-nil}
 use Rattle.std.specs.Prelude.{◌||◌, ◌&&◌}
 use Rattle.std.specs.List.{flat_map}
 use Rattle.std.proofs.lemmas.Grind.{flat_map-append}
-use Rattle.std.proofs.lemmas.List.{append_assoc}
 use Rattle.std.proofs.lemmas.Bool.{false≢true}
 use Rattle.chip_functions.specs.declared.fault.BodyFault.{BodyFault}
 use Rattle.chip_functions.specs.declared.request.Request.{Request}
 use Rattle.chip_functions.specs.declared.request.Request.TheVariants.{SendData}
 use Rattle.chip_functions.specs.Request.{request_of}
-use Rattle.zw_words.specs.declared.side.Side.TheVariants.{Host, Chip}
+use Rattle.zw_words.specs.declared.side.Side.TheVariants.{Host}
 use Rattle.zw_text.specs.declared.entry.Entry.{Entry}
 use Rattle.zw_text.specs.declared.entry.Entry.TheVariants.{Written, Dropped, Garbled, Overrun, Air}
-use Rattle.zw_text.specs.Transcript.{AirFrame, Unit_on, Way, frame_at, frames, last_with, unit_step, units}
+use Rattle.zw_text.specs.Transcript.{Unit_on, Way, frame_at, frames, last_with, unit_step, units}
 use Rattle.zw_text.specs.Transcript.Way.{Whole, Missed, Changed}
 use Rattle.zw_laws.specs.Carrying.{outward, sent_out}
 use Rattle.zw_laws.specs.Lists.{listed}
 use Rattle.zw_laws.specs.Nodes.{controller}
 use Rattle.zw_laws.specs.Units.{Carried, arrived_of, function_in, read_well, sending_of}
 use Rattle.audit.specs.PayloadRule.{are_picked, asked, asked_by, asked_in, body_of, breaks_payload, is_request, same_carried}
-use Rattle.audit.specs.Sending.{Sendings, asked_for, behind, breaks_sending, changed, first_of, is_that, joined_to, kept_unmet, may_send, no_sendings, sendings_after, sent, sent_by, sent_found, settled, wrote}
+use Rattle.audit.specs.Sending.{Sendings, asked_for, behind, breaks_sending, changed, first_of, is_that, kept_unmet, may_send, no_sendings, sendings_after, sent, sent_by, sent_found, settled, wrote}
 use Rattle.audit.specs.Keeping.{AreSendingsOf, Picked, but_last, has_unit, last_unit, picking}
-use Rattle.audit.proofs.Views.{folded-more, not-false, or-false, shown-more}
+use Rattle.audit.proofs.Views.{folded-more, shown-more}
 
 -- ---- picking
 

@@ -1,12 +1,12 @@
 -- The lines of the table are those that the transcript gives.
-use Rattle.std.proofs.Common.{◌≡◌, ℕ, zero, suc, ◌<◌, ◌≤◌, ◌+◌, cond, eqb, ltb, not, Bool, true, false, List, [], ◌∷◌, ◌++◌, length, map, get_or, Option, Some, None, arith, ap, ap₂, refl, sym, subst, ◌∙◌, append-nil, ⊎_elim}
-use Rattle.std.specs.Prelude.{◌||◌, ◌&&◌, filter, slice_index_or}
+use Rattle.std.proofs.Common.{◌≡◌, ℕ, zero, suc, ◌<◌, ◌≤◌, ◌+◌, cond, eqb, ltb, Bool, true, false, List, [], ◌∷◌, ◌++◌, Option, arith, ap, ap₂, refl, sym, ◌∙◌, ⊎_elim}
+use Rattle.std.specs.Prelude.{◌||◌, filter, slice_index_or}
 use Rattle.std.specs.List.{flat_map, list_any, AllByRecursion}
 use Rattle.std.specs.declared.cmp.Ordering.TheVariants.{Less, Equal, Greater}
 use Rattle.std.specs.Ordering.{nat_cmp}
 use Rattle.std.specs.Map.{keys_of}
-use Rattle.std.proofs.lemmas.Bool.{false≢true, cases_eq, cases_lt, eq-eqb, ne_eqb, eqb-true}
-use Rattle.std.proofs.lemmas.Bool.Decides.{leb_tells, eqb_tells}
+use Rattle.std.proofs.lemmas.Bool.{cases_eq, eq-eqb, ne_eqb}
+use Rattle.std.proofs.lemmas.Bool.Decides.{leb_tells}
 use Rattle.zw_base.specs.declared.property.Property.{Property}
 use Rattle.zw_base.specs.declared.property.Setting.{Setting}
 use Rattle.zw_order.specs.declared.order.Order.{Order}
@@ -24,13 +24,13 @@ use Rattle.transcript_books.specs.declared.endings.Ending.{Ending}
 use Rattle.transcript_books.specs.Accepting.{order_at}
 use Rattle.transcript_books.specs.Asking.{is_setting}
 use Rattle.transcript_books.specs.Beginning.{sessions_of}
-use Rattle.transcript_books.specs.Ending.{ended_so, is_success, no_ending}
+use Rattle.transcript_books.specs.Ending.{ended_so, no_ending}
 use Rattle.transcript_books.specs.Keeping.{ending_from}
 use Rattle.audit.specs.Scene.{accepting_at, settings_by}
 use Rattle.audit.specs.TableRule.{confirmed, confirmed_by, ends_well, node_rows, properties_known, rows}
 use Rattle.audit.specs.Knowing.{Closing, Knowns, all_rows, confirmed_of, known_at, known_line, known_lines, lines_of_node, marked, nodes_marked, values_of, with_commands}
 use Rattle.audit.specs.Keeping.{AreLast}
-use Rattle.audit.proofs.Ordered.{in-order-append, in-order-putting, putting, putting-append}
+use Rattle.audit.proofs.Ordered.{in-order-append, putting}
 use Rattle.audit.proofs.Knows.{commands-confirmed, commands-keys, commands-last, exact, total}
 
 -- ---- numbers that are marked, in order

@@ -1,7 +1,6 @@
 -- How what a transcript shows grows by an entry.
-use Rattle.std.proofs.Common.{◌≡◌, ℕ, zero, suc, ◌<◌, ◌≤◌, ◌+◌, ◌-◌, cond, eqb, leb, ltb, Bool, true, false, not, List, [], ◌∷◌, ◌++◌, length, map, get_or, set, replicate, Option, Some, None, arith, ap, ap₂, refl, sym, ◌∙◌, append-nil, length-append}
+use Rattle.std.proofs.Common.{◌≡◌, ℕ, zero, suc, Bool, true, false, not, List, [], ◌∷◌, ◌++◌, length, map, get_or, replicate, Option, Some, None, ap, refl, sym, ◌∙◌, append-nil}
 use Rattle.std.specs.Prelude.{◌||◌, ◌&&◌, slice_get}
-use Rattle.std.specs.List.{flat_map, list_any}
 use Rattle.std.proofs.lemmas.Grind.{flat_map-append}
 use Rattle.std.proofs.lemmas.List.{append_assoc}
 use Rattle.std.proofs.lemmas.Bool.{false≢true}

@@ -1,6 +1,6 @@
 -- The rule of the air: numbers, one fate each in ticks, and further hearings only where a fresh frame is repeated (this
 -- project's own rule).
-use Rattle.std.specs.Prelude.{ℕ, ◌+◌, ◌==◌, ◌&&◌, ◌||◌, not, nat_le, nat_lt, Bool, true, false, if◌then◌else◌, List, [], ◌∷◌, length, Option, Some, None, is_none}
+use Rattle.std.specs.Prelude.{ℕ, ◌+◌, ◌==◌, ◌&&◌, ◌||◌, not, nat_le, nat_lt, Bool, false, if◌then◌else◌, List, [], ◌∷◌, length, Option, Some, None, is_none}
 use Rattle.std.specs.List.{list_any}
 use Rattle.air_frames.specs.Ages.{stale_by}
 use Rattle.zw_text.specs.declared.line.Line.{Line}

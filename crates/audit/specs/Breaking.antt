@@ -1,6 +1,6 @@
 -- Whether a transcript is in order: which rule a line breaks, and which line is the first that breaks one (this project's own
 -- rule).
-use Rattle.std.specs.Prelude.{◌≡◌, ℕ, ◌+◌, Bool, if◌then◌else◌, List, [], ◌∷◌, ◌++◌, length, Option, Some, None}
+use Rattle.std.specs.Prelude.{◌≡◌, ℕ, ◌+◌, if◌then◌else◌, List, [], ◌∷◌, ◌++◌, length, Option, Some, None}
 use Rattle.zw_base.specs.declared.property.Setting.{Setting}
 use Rattle.zw_text.specs.declared.entry.Entry.{Entry}
 use Rattle.transcript_books.specs.Lines.{IsNext, IsNoLine}

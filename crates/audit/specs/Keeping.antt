@@ -1,5 +1,5 @@
 -- That the tables are those of a transcript.
-use Rattle.std.specs.Prelude.{◌≡◌, ℕ, suc, ◌+◌, ◌-◌, ◌<◌, ◌≤◌, ◌==◌, ◌&&◌, not, Bool, true, false, if◌then◌else◌, List, [], ◌∷◌, ◌++◌, length, map, filter, slice_index_or, Option, Some, None}
+use Rattle.std.specs.Prelude.{◌≡◌, ℕ, suc, ◌<◌, ◌≤◌, ◌==◌, ◌&&◌, not, Bool, true, false, if◌then◌else◌, List, [], ◌∷◌, ◌++◌, length, map, filter, slice_index_or, Option, Some, None}
 use Rattle.std.specs.List.{flat_map, list_any, AllByRecursion}
 use Rattle.std.specs.Map.{keys_of}
 use Rattle.air_frames.specs.Ages.{is_class}
@@ -11,8 +11,7 @@ use Rattle.zw_words.specs.declared.side.Side.TheVariants.{Host}
 use Rattle.zw_text.specs.declared.line.Line.{Line}
 use Rattle.zw_text.specs.declared.entry.Entry.{Entry}
 use Rattle.zw_text.specs.declared.entry.Entry.TheVariants.{Refused}
-use Rattle.zw_text.specs.Fits.{EntryFits}
-use Rattle.zw_text.specs.Transcript.{AirFrame, Doing, Unit_on, Way, doing_step, folded, frames, join_of, line_of, made, reported, session_numbers, units}
+use Rattle.zw_text.specs.Transcript.{AirFrame, Doing, Unit_on, doing_step, folded, frames, join_of, line_of, made, reported, session_numbers, units}
 use Rattle.zw_laws.specs.Carrying.{sent_out}
 use Rattle.zw_laws.specs.Lists.{listed}
 use Rattle.zw_laws.specs.Nodes.{controller}
@@ -31,7 +30,6 @@ use Rattle.audit.specs.Breaking.{IsJudged}
 use Rattle.audit.specs.declared.frames.Flown.{Flown}
 use Rattle.audit.specs.declared.frames.Shown.{Shown}
 use Rattle.audit.specs.declared.stores.Storing.{Storing}
-use Rattle.audit.specs.declared.values.Known.{Known}
 use Rattle.audit.specs.Scene.{accepting_at, runs_ticks}
 use Rattle.audit.specs.StoreRule.{storing_last}
 use Rattle.audit.specs.AirRule.{breaks_air, has_landed, is_sent}

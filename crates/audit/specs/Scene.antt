@@ -1,5 +1,5 @@
 -- What the entries before a line show of the line that is run and of accepted orders (this project's own rule).
-use Rattle.std.specs.Prelude.{ℕ, Bool, false, List, [], ◌∷◌, ◌++◌, Option, Some, None}
+use Rattle.std.specs.Prelude.{ℕ, Bool, false, List, [], Option, Some, None}
 use Rattle.zw_base.specs.declared.property.Setting.{Setting}
 use Rattle.zw_order.specs.declared.order.Order.{Order}
 use Rattle.zw_text.specs.declared.line.Line.{Line}

@@ -1,7 +1,6 @@
 -- What is kept of the host's units and the controller's frames, in place of their lists (this project's own rule).
 use Rattle.std.specs.Prelude.{ℕ, ◌==◌, ◌&&◌, ◌||◌, not, Bool, true, false, if◌then◌else◌, List, [], ◌∷◌, ◌++◌, Option, Some, None, is_none, is_some}
-use Rattle.zw_words.specs.declared.side.Side.{Side}
-use Rattle.zw_words.specs.declared.side.Side.TheVariants.{Host, Chip}
+use Rattle.zw_words.specs.declared.side.Side.TheVariants.{Host}
 use Rattle.zw_text.specs.declared.entry.Entry.{Entry}
 use Rattle.zw_text.specs.declared.entry.Entry.TheVariants.{Written, Dropped, Garbled, Overrun, Air}
 use Rattle.zw_laws.specs.Nodes.{controller}

@@ -1,4 +1,4 @@
-use Rattle.std.proofs.Common.{◌+◌, ◌++◌, arith, ap, refl, ◌∙◌}
+use Rattle.std.proofs.Common.{◌++◌, arith, ap, refl, ◌∙◌}
 use Rattle.transcript_books.specs.Ending.{ending_in}
 use Rattle.audit.specs.Knowing.{lines_of_node, values_of}
 use Rattle.audit.proofs.Marks.{lines-same, rows-end, rows-first, rows-marked, rows-unmarked}

@@ -1,4 +1,4 @@
-use Rattle.std.proofs.Common.{◌≡◌, ℕ, ◌+◌, ◌-◌, ◌<◌, arith, ap, sym, drop, filter, length, ◌∙◌}
+use Rattle.std.proofs.Common.{◌≡◌, ◌+◌, ◌-◌, arith, ap, sym, drop, filter, ◌∙◌}
 use Rattle.transcript_books.specs.Asking.{is_setting, settings_asked}
 use Rattle.audit.specs.Knowing.{with_confirmed, with_settings}
 use Rattle.audit.proofs.Drops.{settings-none, settings-one}

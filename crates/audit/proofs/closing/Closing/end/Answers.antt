@@ -2,7 +2,7 @@ use Rattle.std.proofs.Common.{ap, not, ◌∙◌}
 use Rattle.std.specs.Prelude.{option_map}
 use Rattle.std.specs.List.{flat_map}
 use Rattle.transcript_books.specs.Ending.{ending_in}
-use Rattle.audit.specs.Knowing.{Closing, all_rows, ends_with, lines_of_node, no_values, nodes_marked}
+use Rattle.audit.specs.Knowing.{Closing, all_rows, ends_with, lines_of_node, nodes_marked}
 use Rattle.audit.proofs.Marks.{ends-begin, none-mapped}
 use Rattle.audit.proofs.closing.Closing.end.Goals as goal
 use Rattle.audit.proofs.closing.Closing.end.Goals.{in-Some-1, in-None-1}
