@@ -11,3 +11,4 @@ mod input;
 
 pub use check::run_check;
 pub use events::run_events;
+pub use input::{InputFault, read_input};

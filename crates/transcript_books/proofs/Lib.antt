@@ -1,4 +1,4 @@
-mod Cuts
+pub mod Cuts
 mod Pushed
 mod Views
 mod Accepts

@@ -3,6 +3,8 @@ use Rattle.std.proofs.Common.{◌≡◌, ℕ, zero, suc, ◌<◌, ◌≤◌, ◌
 use Rattle.std.specs.Prelude.{◌&&◌, slice_get}
 use Rattle.std.specs.List.{AllByRecursion}
 use Rattle.std.specs.Cmp.Lexicographic.{slice_cmp}
+use Rattle.std.proofs.lemmas.Bool.{false≢true}
+use Rattle.std.proofs.lemmas.Bool.Decides.{leb_tells}
 use Rattle.std.specs.FinMap.{nat_cmp-IsAntisymmetric, slice_cmp-IsAntisymmetric}
 use Rattle.std.specs.Ordering.{is_eq, nat_cmp}
 use Rattle.std.specs.declared.cmp.Ordering.{Ordering}
@@ -12,9 +14,9 @@ use Rattle.zw_base.specs.declared.property.Name.{Name}
 use Rattle.zw_base.specs.declared.property.Name.TheVariants as names
 use Rattle.zw_base.specs.declared.property.Property.{Property}
 use Rattle.zw_base.specs.declared.property.Setting.{Setting}
-use Rattle.zw_text.specs.Fits.{NameFits, PropertyFits}
+use Rattle.zw_text.specs.Fits.{NameFits, PropertyFits, SettingFits}
 use Rattle.host_orders.specs.Settings.{config_settings, setting}
-use Rattle.transcript_books.specs.Asking.{IsNoneThere, is_there, same_setting, same_settings}
+use Rattle.transcript_books.specs.Asking.{IsNoneThere, is_named, is_there, same_setting, same_settings}
 
 -- the setting of a parameter at its place
 pub config-within : (end offset : ℕ) (values : List ℕ) (at : ℕ) → at < length values →
@@ -33,7 +35,7 @@ config-past end offset (first ∷ values) zero past = absurd (omega (arith, past
 config-past end offset (first ∷ values) (suc at) past = config-past end (suc offset) values at (omega (arith, past))
 
 pub none-there : (there : Option Setting) → there ≡ None → IsNoneThere there
-none-there there e = subst IsNoneThere (sym e) (λ other fits. refl)
+none-there there e = subst IsNoneThere (sym e) tt
 
 pub config-count : (end offset : ℕ) (values : List ℕ) → length (config_settings end offset values) ≡ length values
 config-count end offset [] = refl
@@ -64,9 +66,21 @@ not-same end p other fits high Greater e = refl
 not-same end p other fits high Equal e =
     absurd (name-below other.name p fits.1 high (ap tail_from (slice_cmp-IsAntisymmetric nat_cmp-IsAntisymmetric (end ∷ 5 ∷ p ∷ []) (rank_of other) e)))
 
-pub none-beyond : (end p value : ℕ) → 256 ≤ p → IsNoneThere (Some (setting end (names.Config p) value))
+none-beyond : (end p value : ℕ) → 256 ≤ p → (other : Setting) → SettingFits other → is_there (Some (setting end (names.Config p) value)) other ≡ false
 none-beyond end p value high other fits =
     ap (λ b. b && eqb value other.value) (not-same end p other.property fits.0 high (slice_cmp nat_cmp (end ∷ 5 ∷ p ∷ []) (rank_of other.property)) refl)
+
+none-named : (made : Setting) (name : Name) → made.property.name ≡ name → is_named name ≡ false →
+    (other : Setting) → SettingFits other → same_setting made other ≡ false
+none-named made (names.Config p) is none other fits =
+    ap (λ (n : Name). is_eq (slice_cmp nat_cmp (made.property.end ∷ name_rank_of n) (rank_of other.property)) && eqb made.value other.value) is
+    ∙ none-beyond made.property.end p made.value (grind (arith, none, leb_tells (suc p) 256)) other fits
+none-named made name is none other fits = absurd (false≢true (sym none))
+
+-- a setting in range is not there
+pub none-fits : (there : Option Setting) → IsNoneThere there → (other : Setting) → SettingFits other → is_there there other ≡ false
+none-fits None none other fits = refl
+none-fits (Some made) none other fits = none-named made made.property.name refl none other fits
 
 -- ---- lists of settings, one by one
 

@@ -1,9 +1,10 @@
 -- Which kind the device of a node has, and which settings an order asks of it (this project's own rule).
-use Rattle.std.specs.Prelude.{◌≡◌, ℕ, ◌%◌, ◌==◌, ◌&&◌, Bool, true, false, if◌then◌else◌, List, [], ◌∷◌, Option, Some, None}
+use Rattle.std.specs.Prelude.{◌≡◌, ℕ, ◌%◌, ◌==◌, ◌&&◌, nat_lt, Bool, true, false, if◌then◌else◌, List, [], ◌∷◌, Option, Some, None}
 use Rattle.zw_base.specs.PropertyOrder.{same_property}
+use Rattle.zw_base.specs.declared.property.Name.{Name}
+use Rattle.zw_base.specs.declared.property.Name.TheVariants.{Config}
 use Rattle.zw_base.specs.declared.property.Setting.{Setting}
 use Rattle.zw_order.specs.declared.order.Order.{Order}
-use Rattle.zw_text.specs.Fits.{SettingFits}
 use Rattle.host_orders.specs.Classes.{actuator_of}
 use Rattle.host_orders.specs.Settings.{settings}
 use Rattle.host_orders.specs.declared.actuator.Actuator.{Actuator}
@@ -51,6 +52,16 @@ abbrev pub is_there : Option Setting → Setting → Bool
 is_there None setting = false
 is_there (Some made) setting = same_setting made setting
 
+-- whether there is such a property: parameters have numbers of one byte
+abbrev pub is_named : Name → Bool
+is_named (Config parameter) = nat_lt parameter 256
+is_named _ = true
+
+-- whether a device may have the setting
+abbrev pub is_setting : Setting → Bool
+is_setting setting = is_named setting.property.name
+
 -- no setting that a device may have is there
 abbrev pub IsNoneThere : Option Setting → Type 0
-IsNoneThere there = (setting : Setting) → SettingFits setting → is_there there setting ≡ false
+IsNoneThere None = Unit {0}
+IsNoneThere (Some setting) = is_setting setting ≡ false
