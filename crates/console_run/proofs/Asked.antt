@@ -1,5 +1,5 @@
 -- What was asked, and how the program ends.
-use Rattle.std.proofs.Common.{◌≡◌, ◌≢◌, ◌⊎◌, inl, inr, ℕ, List, Bool, Option, Result, Ok, Err, refl, sym, ap, subst, ◌∙◌, arith}
+use Rattle.std.proofs.Common.{◌≡◌, ◌≢◌, ◌≤◌, ◌⊎◌, inl, inr, ℕ, List, [], ◌∷◌, drop, String, Bool, Option, Result, Ok, Err, refl, sym, ap, subst, ◌∙◌, arith}
 use Rattle.zw_words.specs.declared.side.Side.{Side}
 use Rattle.device_sim.specs.State.{State}
 use Rattle.scenario_run.specs.Complete.{IsDone}
@@ -19,8 +19,16 @@ use Rattle.include_run.specs.Run.{IncludeRan}
 use Rattle.replay_run.specs.Replay.{ReplayRan}
 use Rattle.sim_run.specs.Sim.{SimRan}
 use Rattle.sim_run.specs.Generate.{GenerateRan}
+use Rattle.zw_base.specs.Faults.{Rose}
+use Rattle.command_line.specs.Parsing.{texts_of}
+use Rattle.host_core.specs.declared.opening.OpenFault.TheVariants as opening
+use Rattle.port_run.specs.Ending.{Desk, desk, HostRan, HasGoodPort, IsServed, status_of}
+use Rattle.port_run.specs.declared.ending.Served.{Served}
+use Rattle.port_run.specs.declared.ending.Served.TheVariants as served
+use Rattle.audit_run.specs.Audited.{HasAudited}
+use Rattle.command_line.specs.declared.asked.Asked.TheVariants.{Host}
 use Rattle.sim_laws.specs.Around.{Around}
-use Rattle.console_run.specs.Commands.{Refuses, Runs, RunsAnswer}
+use Rattle.console_run.specs.Commands.{Refuses, Runs, Does, HasGoodInputFor, ComesToItsEnd}
 
 differ : (a b : Status) → a ≡ b → code_of a ≢ code_of b → ⊥
 differ a b e other = other (ap code_of e)
@@ -75,12 +83,54 @@ pub generate_never_reads : (ended : Status) (hundreds : ℕ) (key : List ℕ) (b
 generate_never_reads ended hundreds key before after records records' faults faults' sink sink' h e =
     subst (λ (s : Status). GenerateRan s hundreds key before after records records' faults faults' sink sink') e h
 
--- words that are refused are no fault
-pub not_read : status.Usage ≢ status.ReadFault
-not_read e = differ status.Usage status.ReadFault e (λ codes. omega (arith, codes))
+pub audited_is : (ended : Status) (left left' sink sink' : Option (List ℕ)) → HasAudited ended left left' sink sink' → ended ≢ status.Usage
+audited_is ended left left' sink sink' h e =
+    let c : HasAudited status.Usage left left' sink sink' = subst (λ (s : Status). HasAudited s left left' sink sink') e h in
+    c.ended.2
 
-pub not_written : status.Usage ≢ status.WriteFault
-not_written e = differ status.Usage status.WriteFault e (λ codes. omega (arith, codes))
+-- no end of `host` is that of words that are no command
+served_code : (end : Served) → code_of (status_of end) ≢ 2
+served_code served.Ok e = omega (arith, e)
+served_code (served.Undone number) e = omega (arith, e)
+served_code (served.BadLine number fault) e = omega (arith, e)
+served_code (served.Opening opening.KeeperFault) e = omega (arith, e)
+served_code (served.Opening (opening.BadRecord at)) e = omega (arith, e)
+served_code (served.Opening opening.NoMemory) e = omega (arith, e)
+served_code served.ReadFault e = omega (arith, e)
+served_code served.WriteFault e = omega (arith, e)
+served_code served.InputTooLong e = omega (arith, e)
+served_code served.NoMemory e = omega (arith, e)
+
+host_is : (ended : Status) (key : List ℕ) (number : ℕ) (texts : List (List ℕ)) (old new : Desk) → HostRan ended key number texts old new → ended ≢ status.Usage
+host_is ended key number texts old new h e = served_code h.end (ap code_of (sym h.status_is ∙ e))
+
+-- the texts of the words behind the first
+pub later_texts : {A : Type 0} (words later : List (String A)) → later ≡ drop 1 words → texts_of later ≡ drop 1 (texts_of words)
+later_texts {A} [] later is = ap (λ (l : List (String A)). texts_of l) is
+later_texts {A} (word ∷ words) later is = ap (λ (l : List (String A)). texts_of l) is
+
+-- `host` was run over the words behind the first
+pub host_runs : (words lines : List (List ℕ)) (key : List ℕ) (ended : Status) (old new : Around) → lines ≡ drop 1 words
+    → HostRan ended key old.kept lines (desk old.left old.written old.records old.keeper_faults) (desk new.left new.written new.records new.keeper_faults)
+    → new.devices ≡ old.devices → (ended ≡ status.KeeperFault → Rose old.keeper_faults new.keeper_faults)
+    → (ended ≡ status.ReadFault → Rose old.read_faults new.read_faults) → (ended ≡ status.WriteFault → Rose old.write_faults new.write_faults)
+    → (HasGoodPort lines old.left → (Rose old.read_faults new.read_faults → ⊥) → (Rose old.write_faults new.write_faults → ⊥)
+    → (Rose old.keeper_faults new.keeper_faults → ⊥) → IsServed ended)
+    → old.read_faults ≤ new.read_faults → old.write_faults ≤ new.write_faults → Runs Host words key ended old new
+unfolding Does HasGoodInputFor ComesToItsEnd
+host_runs words lines key ended old new are ran devices kept read written complete source sink = record {
+  does = (
+    subst (λ (l : List (List ℕ)). HostRan ended key old.kept l (desk old.left old.written old.records old.keeper_faults) (desk new.left new.written new.records new.keeper_faults)) are ran,
+    devices,
+    kept,
+  );
+  known = host_is ended key old.kept lines _ _ ran;
+  read_fault = read;
+  write_fault = written;
+  complete = λ good free. complete (subst (λ (l : List (List ℕ)). HasGoodPort l old.left) (sym are) good) free.read free.written;
+  source_never_falls = source;
+  sink_never_falls = sink;
+}
 
 -- what is asked is this command, and it was run
 pub as_asked : {asked given : Asked} {words : List (List ℕ)} {key : List ℕ} {ended : Status} {old new : Around} → asked ≡ given → Runs given words key ended old new → Runs asked words key ended old new

@@ -1,5 +1,5 @@
 -- What each command of the program does (this project's own rule).
-use Rattle.std.specs.Prelude.{◌≡◌, ◌≤◌, ◌⊎◌, ℕ, List, Option, Result, Ok, Err}
+use Rattle.std.specs.Prelude.{◌≡◌, ◌≤◌, ◌⊎◌, ℕ, List, drop, Option, Result, Ok, Err}
 use Rattle.zw_base.specs.Faults.{Rose}
 use Rattle.zw_text.specs.Line.{line_at, replay_at}
 use Rattle.scenario_run.specs.Complete.{HasGoodInput, IsDone}
@@ -18,6 +18,8 @@ use Rattle.include_text.specs.Line.{line_at as include_at}
 use Rattle.include_run.specs.Run.{IncludeRan}
 use Rattle.replay_run.specs.Replay.{ReplayRan}
 use Rattle.sim_run.specs.Generate.{GenerateRan}
+use Rattle.port_run.specs.Ending.{desk, HostRan, HasGoodPort, IsServed}
+use Rattle.audit_run.specs.Audited.{HasAudited, IsInOrder}
 use Rattle.sim_laws.specs.Around.{Around}
 use Rattle.sim_laws.specs.Laws.{RunsSim}
 
@@ -27,12 +29,6 @@ pub record LeavesDevices (old new : Around) : Type 0 where
   pub kept : new.kept ≡ old.kept
   pub records : new.records ≡ old.records
   pub faults : new.keeper_faults ≡ old.keeper_faults
-
--- the command is there; those that are not yet are refused as words that are no command
-abbrev pub IsThere : Asked → Type 0
-IsThere Host = ⊥
-IsThere Audit = ⊥
-IsThere asked = Unit {0}
 
 -- nothing was read, done or written, and the status says why
 pub record Refuses (why ended : Status) (old new : Around) : Type 0 where
@@ -50,28 +46,40 @@ Does Replay words key ended old new =
     ReplayRan ended key old.left new.left old.records new.records old.keeper_faults new.keeper_faults old.written new.written × (new.devices ≡ old.devices)
 Does Events words key ended old new = EventsRan ended old.left new.left old.written new.written × LeavesDevices old new
 Does Include words key ended old new = IncludeRan ended key old.left new.left old.written new.written × LeavesDevices old new
-Does Host words key ended old new = Refuses status.Usage ended old new
-Does Audit words key ended old new = Refuses status.Usage ended old new
+Does Host words key ended old new =
+    HostRan ended key old.kept (drop 1 words) (desk old.left old.written old.records old.keeper_faults) (desk new.left new.written new.records new.keeper_faults)
+    × (new.devices ≡ old.devices) × (ended ≡ status.KeeperFault → Rose old.keeper_faults new.keeper_faults)
+Does Audit words key ended old new = HasAudited ended old.left new.left old.written new.written × LeavesDevices old new
 
--- the input is one that the command runs to its end
-unfoldable pub HasGoodInputFor : Asked → Option (List ℕ) → Type 0
-HasGoodInputFor (Sim quiet) left = HasGoodInput (fault_by line_at) left
-HasGoodInputFor (Check from) left = HasHex left
-HasGoodInputFor (Generate hundreds) left = Unit {0}
-HasGoodInputFor Replay left = HasGoodInput (fault_by replay_at) left
-HasGoodInputFor Events left = HasGoodInput event_fault left
-HasGoodInputFor Include left = HasGoodInput (fault_by include_at) left
-HasGoodInputFor Host left = ⊥
-HasGoodInputFor Audit left = ⊥
+-- the input is one that the command runs to its end; of `host`, its words too
+unfoldable pub HasGoodInputFor : Asked → List (List ℕ) → Option (List ℕ) → Type 0
+HasGoodInputFor (Sim quiet) words left = HasGoodInput (fault_by line_at) left
+HasGoodInputFor (Check from) words left = HasHex left
+HasGoodInputFor (Generate hundreds) words left = Unit {0}
+HasGoodInputFor Replay words left = HasGoodInput (fault_by replay_at) left
+HasGoodInputFor Events words left = HasGoodInput event_fault left
+HasGoodInputFor Include words left = HasGoodInput (fault_by include_at) left
+HasGoodInputFor Host words left = HasGoodPort (drop 1 words) left
+HasGoodInputFor Audit words left = IsInOrder left
 
--- The command was run, and each status has its cause: a command that is there does not end as words that are none; a fault is told only
--- where a count of faults rose; and without one a good input is run to its end.
+-- neither source nor sink failed
+pub record HasNoFault (old new : Around) : Type 0 where
+  pub read : Rose old.read_faults new.read_faults → ⊥
+  pub written : Rose old.write_faults new.write_faults → ⊥
+
+-- what such an input comes to: all is done; of `host`, where its keeper did not fail either, all words were run or no host could start
+unfoldable pub ComesToItsEnd : Asked → Status → Around → Around → Type 0
+ComesToItsEnd Host ended old new = (Rose old.keeper_faults new.keeper_faults → ⊥) → IsServed ended
+ComesToItsEnd asked ended old new = IsDone ended
+
+-- The command was run, and each status has its cause: no command ends as words that are none; a fault is told only where a count of
+-- faults rose; and without one a good input is run to its end.
 pub record Runs (asked : Asked) (words : List (List ℕ)) (key : List ℕ) (ended : Status) (old new : Around) : Type 0 where
   pub does : Does asked words key ended old new
-  pub there : IsThere asked → (ended ≡ status.Usage → ⊥)
+  pub known : ended ≡ status.Usage → ⊥
   pub read_fault : ended ≡ status.ReadFault → Rose old.read_faults new.read_faults
   pub write_fault : ended ≡ status.WriteFault → Rose old.write_faults new.write_faults
-  pub complete : HasGoodInputFor asked old.left → (Rose old.read_faults new.read_faults → ⊥) → (Rose old.write_faults new.write_faults → ⊥) → IsDone ended
+  pub complete : HasGoodInputFor asked words old.left → HasNoFault old new → ComesToItsEnd asked ended old new
   pub source_never_falls : old.read_faults ≤ new.read_faults
   pub sink_never_falls : old.write_faults ≤ new.write_faults
 

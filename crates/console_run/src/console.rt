@@ -1,16 +1,18 @@
 //! The top call: a command, from its words to its status.
 
-ghost use Rattle.std.specs.Prelude.{◌≡◌, ◌^◌, ◌<◌, length, map};
+ghost use Rattle.std.specs.Prelude.{◌≡◌, ◌^◌, ◌<◌, drop, length, map};
 ghost use Rattle.command_line.specs.Parsing.{texts_of};
 ghost use Rattle.sim_laws.specs.Around.{around};
 ghost use Rattle.sim_laws.specs.Laws.{KeepsLaws};
 ghost use Rattle.console_run.specs.Commands.{Refuses, Runs, RunsWords};
 
+use audit_run::run_audit;
 use command_line::{Asked, WordsFault, read_words};
 use command_runs::{run_check, run_events};
 use device_sim::Device;
 use host_keep::Keeper;
 use include_run::run_include;
+use port_run::run_host;
 use replay_run::run_replay;
 use scenario_run::Status;
 use sim_laws::sim_keeps_laws;
@@ -84,7 +86,17 @@ fn run_asked<S: Source, K: Sink, D: Draw, P: Keeper>(
         Asked::Replay => run_replay(alloc, key, source, sink, draw, keeper),
         Asked::Events => run_events(alloc, source, sink),
         Asked::Include => run_include(alloc, key, source, sink, draw),
-        Asked::Host => Status::Usage,
-        Asked::Audit => Status::Usage,
+        Asked::Host => run_host(alloc, later_words(words), source, sink, key, draw, keeper),
+        Asked::Audit => run_audit(alloc, source, sink),
+    }
+}
+
+/// The words behind the first.
+fn later_words(words: &[String]) -> &[String]
+    ensures { result.now ≡ drop 1 words.now }
+{
+    match words.split_first() {
+        Some((_, later)) => later,
+        None => words,
     }
 }
