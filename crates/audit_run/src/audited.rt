@@ -13,7 +13,7 @@ use zw_base::{Failed, NoMemory, Sink, Source};
 
 /// The name of a rule.
 fn rule_name(broken: Break) -> &'static str
-    ensures { Rattle.std.specs.Prelude.string_bytes result ≡ name_of broken }
+    ensures { result.now ≡ name_of broken }
 {
     match broken {
         Break::Text => "text",
