@@ -102,6 +102,10 @@ fn commands_answer(rt: HostRuntime) -> Result<(), Fail> {
         line: 2,
         fault: LineFault::Unknown,
     };
+    let missing = Status::BadLine {
+        line: 1,
+        fault: LineFault::Missing,
+    };
     for (words, input, status, written) in [
         (
             "sim",
@@ -148,7 +152,14 @@ fn commands_answer(rt: HostRuntime) -> Result<(), Fail> {
             Status::Ok,
             "> chip 010B00040002056C0201FF0066\nh 15\nend 0\nnode 2 sessions -\n",
         ),
-        ("host wait", "", Status::Usage, ""),
+        ("host wait", "", missing, ""),
+        ("audit", "", Status::Ok, "yes\n"),
+        (
+            "audit",
+            "> set 2 on\naccepted 1 node 2\nbegin 2 1 1\nbegin 2 1 1\n",
+            Status::No(4),
+            "no 4 sessions\n",
+        ),
         ("simulate", "", Status::Usage, ""),
     ] {
         let mut source = MemorySource::new(rt.alloc(), input.as_bytes(), &[])?;

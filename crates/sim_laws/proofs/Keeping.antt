@@ -4,7 +4,7 @@ use Rattle.std.proofs.lemmas.Grind.{flat_map-append}
 use Rattle.std.specs.List.{AllByRecursion, flat_map}
 use Rattle.device_sim.specs.State.{State}
 use Rattle.zw_text.specs.declared.entry.Entry.{Entry}
-use Rattle.zw_text.specs.Transcript.{Made, made_at, made, by_session, applied}
+use Rattle.zw_text.specs.Transcript.{Made, made_at, made, by_session}
 use Rattle.host_events.specs.State.{HostState}
 use Rattle.zw_machine.specs.State.{Machine}
 use Rattle.zw_machine.specs.Events.{Event, happens}
@@ -14,7 +14,7 @@ use Rattle.host_facts.specs.Entries.{IsAside}
 use Rattle.host_facts.specs.Facts.{Facts}
 use Rattle.device_facts.specs.Showing.{IsShown, NeverFalls}
 use Rattle.world_facts.specs.Devices.{GroupsSessions}
-use Rattle.world_facts.specs.Restarts.{StartsWell, AllStartWell, AllKeepWell, IsHeld}
+use Rattle.world_facts.specs.Restarts.{AllStartWell}
 use Rattle.sim_run.specs.Sim.{said}
 use Rattle.sim_laws.specs.Laws.{Ran, events_of, transcript_from}
 

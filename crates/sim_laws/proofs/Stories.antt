@@ -1,13 +1,12 @@
 -- The story of a run: the events of its lines, one after another.
 use Rattle.std.proofs.Common.{◌≡◌, ℕ, Bool, ◌⊎◌, inl, inr, List, [], ◌∷◌, ◌++◌, map, refl, sym, ap, ap₂, subst, ◌∙◌, append_assoc, append-nil}
 use Rattle.std.proofs.lemmas.List.{map-append}
-use Rattle.device_sim.specs.State.{State}
 use Rattle.zw_text.specs.Line.{line_at}
 use Rattle.zw_text.specs.declared.line.Line.{Line}
 use Rattle.zw_text.specs.declared.entry.Entry.{Entry}
 use Rattle.zw_machine.specs.State.{Machine}
 use Rattle.zw_machine.specs.Events.{Event}
-use Rattle.zw_machine.specs.Did.{happens_all, entries_all, MayAll, Scene, Run, Stops}
+use Rattle.zw_machine.specs.Did.{happens_all, entries_all, MayAll}
 use Rattle.zw_machine.specs.Lines.{IsLine}
 use Rattle.zw_machine.proofs.Doing.{happens_all-append, may_all-append}
 use Rattle.zw_world.specs.World.{first_world}
@@ -15,9 +14,9 @@ use Rattle.scenario_run.specs.declared.running.LinesEnd.{LinesEnd}
 use Rattle.scenario_run.specs.declared.running.LinesEnd.TheVariants.{All, Bad, ReadFailed, TooMuch, WriteFailed, NoMemory}
 use Rattle.scenario_run.specs.declared.status.Status.{Status}
 use Rattle.entry_pieces.specs.Lines.{TextLine, lines_in, AllRan, StopsIn, RanLines}
-use Rattle.sim_run.specs.Sim.{Point, point_of, LineRan, PartRan, SimRan, said}
+use Rattle.sim_run.specs.Sim.{Point, point_of, LineRan, PartRan, said}
 use Rattle.sim_laws.specs.Around.{Around}
-use Rattle.sim_laws.specs.Laws.{Ran, RunsSim, events_of, transcript_from, AreSchedules, AreSchedulesButLast, AreScheduled, IsWhole, first, last, Tells}
+use Rattle.sim_laws.specs.Laws.{Ran, RunsSim, events_of, transcript_from, AreSchedules, AreScheduled, IsWhole, Tells}
 
 -- lines that were run whole, with their events
 pub record Tale (lines : List (TextLine Line)) (m m' : Machine) (T : List Entry) : Type 0 where
