@@ -3,7 +3,6 @@
 ghost use Rattle.std.specs.Prelude.{◌≡◌, ◌≤◌, ℕ, List, [], ◌++◌, length, Some, None};
 ghost use Rattle.include_text.specs.declared.entry.IncludeEntry.{IncludeEntry as AnyEntry};
 ghost use Rattle.include_text.specs.declared.line.IncludeLine.{IncludeLine as AnyLine};
-ghost use Rattle.inclusion.specs.Including.{is_secure};
 ghost use Rattle.include_world.specs.World.{WorldState, IncludeEvent, Did, entries_all, first_world, joiner_of};
 ghost use Rattle.include_world.specs.Line.{IsLine};
 ghost use Rattle.include_world.specs.Added.{IsSecure, last_word};
