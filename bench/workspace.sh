@@ -4,6 +4,22 @@
 work=$(mktemp -d /tmp/moundurn-bench.XXXXXX)
 trap 'rm -rf "$work"' EXIT
 
+# all_below CRATE..: these crates and all crates of the repository that they stand on.
+all_below() {
+    found=" $* "
+    more=1
+    while [ -n "$more" ]; do
+        more=
+        for crate in $found; do
+            for below in $(sed -n "s/^$crate://p" "$top/crates.txt"); do
+                case "$found" in *" $below "*) continue ;; esac
+                if [ -d "$top/crates/$below" ]; then found="$found$below "; more=1; fi
+            done
+        done
+    done
+    echo $found
+}
+
 # workspace_of PROGRAM SOURCE CRATE..: a workspace in that folder, of these crates as the repository has them and of a
 # program over them with this source.
 workspace_of() {
