@@ -1,10 +1,8 @@
 -- What a user asks for without Supervision is short.
-use Rattle.std.proofs.Common.{◌≡◌, ℕ, ◌+◌, ◌≤◌, Bool, true, false, if◌then◌else◌, List, [], ◌∷◌, ◌++◌, length, Option, Some, None, arith, length-append}
+use Rattle.std.proofs.Common.{ℕ, ◌≤◌, List, length, Option, Some, None, arith, length-append}
 use Rattle.zw_order.specs.declared.order.Word.{Word}
-use Rattle.zw_order.specs.declared.order.Word.TheVariants.{On, Off, Level}
 use Rattle.class_core.specs.Spelling.{form}
 use Rattle.encap.specs.Written.{addressed_form, checked_form}
-use Rattle.encap.specs.Wraps.{crc16_text}
 use Rattle.encap.specs.declared.plan.Ends.{Ends}
 use Rattle.encap.specs.declared.plan.Outer.{Outer}
 use Rattle.encap.specs.declared.plan.Outer.TheVariants.{None as no_outer, Crc16, Security, Transport}

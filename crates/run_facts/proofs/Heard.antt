@@ -1,7 +1,6 @@
 -- What the chip's bytes make the host do is of nodes in range: a notice that names no node is not read.
-use Rattle.std.proofs.Common.{◌≡◌, ℕ, ◌≤◌, ◌&&◌, Bool, true, false, cond, eqb, List, [], ◌∷◌, ◌++◌, refl, sym, ap, subst, inl, inr}
+use Rattle.std.proofs.Common.{◌≡◌, ℕ, ◌&&◌, Bool, true, false, cond, eqb, List, [], ◌∷◌, refl, sym, ap, subst, inl, inr}
 use Rattle.std.specs.Prelude.{Option, Some, None, Result, Ok, Err, nat_lt, nat_le, if◌then◌else◌}
-use Rattle.std.specs.List.{AllByRecursion}
 use Rattle.std.proofs.lemmas.Bool.{cases_Bool, and_parts, leb-true}
 use Rattle.zw_base.specs.declared.property.Setting.{Setting}
 use Rattle.serial_frame.specs.declared.frame.Kind.{Kind}
@@ -19,7 +18,7 @@ use Rattle.chip_functions.specs.declared.notice.Notice.{Notice}
 use Rattle.chip_functions.specs.declared.notice.Notice.TheVariants.{ApplicationCommandHandler, SendData, ApplicationUpdate, AddNode}
 use Rattle.chip_functions.specs.declared.notice.Update.{Update}
 use Rattle.chip_functions.specs.declared.notice.Update.TheVariants.{Received, RequestFailed}
-use Rattle.chip_functions.specs.Place.{Place, Reading, start_of, byte_from, found_at}
+use Rattle.chip_functions.specs.Place.{Place, start_of, byte_from, found_at}
 use Rattle.chip_functions.specs.Field.{Field, node, byte, counted, ◌then◌, read_as}
 use Rattle.chip_functions.specs.Classes.{classes as class_list}
 use Rattle.chip_functions.specs.Response.{response_of}
@@ -34,7 +33,7 @@ use Rattle.supervision.specs.declared.host_node.Told.{Told as TheTold}
 use Rattle.supervision.specs.declared.host_node.Told.TheVariants as told
 use Rattle.value_store.specs.Values.{count_with}
 use Rattle.host_requests.specs.Events.{interviewed_by}
-use Rattle.host_requests.specs.Events.RequestsEvent.{CallsBack as request_calls_back, Fails as request_fails, IsSent as request_is_sent, Responds as request_responds, Updates as request_updates}
+use Rattle.host_requests.specs.Events.RequestsEvent.{Fails as request_fails, IsSent as request_is_sent}
 use Rattle.host_keep.specs.Rows.{IsNode}
 use Rattle.host_keep.specs.declared.final_status.FinalStatus.{FinalStatus}
 use Rattle.host_heard.specs.Telling.{heard_at}
@@ -46,8 +45,8 @@ use Rattle.host_events.specs.State.{HostState, node_of}
 use Rattle.host_events.specs.After.{after, is_busy, gives_up}
 use Rattle.host_events.specs.May.{says_listens}
 use Rattle.host_events.specs.Did.{after_all}
-use Rattle.host_events.specs.Events.{HostEvent, Hears, Requests_do, Interviews, Interview_unkept, Unreads, Is_unkept, Reports_old, Works, Finishes, Offers, Gives, Spends, Spends_unread, Takes_nonce, Notifies, Resends, Hears_value, Has_no_room}
-use Rattle.host_events.specs.Taking.{is_secure, FinalEvents, ReportEvents, NonceGetEvents, NonceReportEvents, resent, value_event, value_events, IsTaken, AreTaken, IsOpened, SealedEvents, PayloadEvents, told_requests, InterviewEvents, ResponseEvents, NoticeEvents, FrameEvents, told_if, IsFollowed, IsJudged, AreJudged}
+use Rattle.host_events.specs.Events.{HostEvent, Hears, Interviews, Interview_unkept, Unreads, Is_unkept, Reports_old, Works, Finishes, Offers, Gives, Spends, Spends_unread, Takes_nonce, Notifies, Resends, Hears_value, Has_no_room}
+use Rattle.host_events.specs.Taking.{is_secure, FinalEvents, ReportEvents, NonceGetEvents, NonceReportEvents, resent, value_event, value_events, IsTaken, AreTaken, IsOpened, SealedEvents, PayloadEvents, InterviewEvents, ResponseEvents, NoticeEvents, FrameEvents, told_if, IsFollowed, IsJudged, AreJudged}
 use Rattle.line_facts.proofs.Frames.{all-append}
 use Rattle.run_facts.proofs.Always.{AlwaysAsked, AreAsked, one, none, either}
 

@@ -1,18 +1,18 @@
 -- What records give is counted by them: no more commands, sessions of a node, and nonces given to it or seen of it than there are records.
-use Rattle.std.proofs.Common.{◌≡◌, ℕ, zero, suc, ◌+◌, ◌≤◌, ◌&&◌, Bool, true, false, if◌then◌else◌, List, [], ◌∷◌, ◌++◌, length, get_or, map, replicate, Option, Some, None, refl, sym, ap, ◌∙◌, subst, arith, length-append}
+use Rattle.std.proofs.Common.{◌≡◌, ℕ, zero, suc, ◌+◌, ◌≤◌, ◌&&◌, Bool, true, false, if◌then◌else◌, List, [], ◌∷◌, length, get_or, replicate, Option, Some, None, refl, sym, ap, ◌∙◌, subst, arith, length-append}
 use Rattle.std.specs.Prelude.{◌==◌, option_map, is_none, slice_index, ◌%◌}
 use Rattle.std.proofs.Math.ListN.{set}
 use Rattle.std.proofs.lemmas.Bool.{eqb-true}
 use Rattle.std.proofs.lemmas.List.{length-map}
-use Rattle.s0_session.specs.Nonces.{account_of, given_of}
+use Rattle.s0_session.specs.Nonces.{given_of}
 use Rattle.supervision.specs.Host.{begun_of}
-use Rattle.host_keep.specs.Kept.{Kept, KeptNode, Session, Taken, blank_node, first_node, first_nodes, first_kept, node_of as kept_of_node, after, after_all, kept_of, taking, cancelling, ending, is_open, node_with, command_of}
+use Rattle.host_keep.specs.Kept.{Kept, KeptNode, Session, Taken, blank_node, first_node, first_nodes, first_kept, node_of as kept_of_node, after, after_all, kept_of, ending, node_with, command_of}
 use Rattle.host_keep.specs.Legal.{AreTextsOf, is_legal, first_illegal}
 use Rattle.host_keep.specs.declared.final_status.FinalStatus.{FinalStatus}
 use Rattle.host_keep.specs.declared.record.Record.{Record}
 use Rattle.host_keep.specs.declared.record.Record.TheVariants.{Accepted, Joined, Classes, Begun, Final, Cancelled, Given, Spent, Seen}
 use Rattle.host_events.specs.State.{HostState, node_of}
-use Rattle.host_records.specs.Holding.{Holds, commands_of, taken_as}
+use Rattle.host_records.specs.Holding.{Holds, taken_as}
 use Rattle.world_facts.specs.Restarts.{AreHeld}
 
 -- ---- bounds

@@ -24,7 +24,6 @@ use Rattle.host_node.specs.declared.attempt.Moment.{Moment}
 use Rattle.host_node.specs.declared.attempt.Moment.TheVariants.{BetweenTicks, BeforeItsTick}
 use Rattle.host_node.specs.declared.attempt.AttemptEnd.{AttemptEnd}
 use Rattle.host_node.specs.declared.attempt.AttemptEnd.TheVariants.{NoneRan, Again, Unanswered}
-use Rattle.host_node.specs.declared.attempt.Plan.{Plan}
 use Rattle.host_node.specs.declared.attempt.Plan.TheVariants.{Whole, Segments, Sealed}
 use Rattle.host_nodes.specs.State.{nodes_after, node_of as node_among}
 use Rattle.host_keep.specs.Status.{status_byte}
@@ -134,10 +133,10 @@ event_stays n node_restarts brings = follow (record { joined = λ is. is; plain 
 abbrev pub AllStay : List NodeState → List NodeState → Type 0
 AllStay old new = (n : ℕ) → Stays (node_among old n) (node_among new n)
 
-all_same : (nodes : List NodeState) → AllStay nodes nodes
+pub all_same : (nodes : List NodeState) → AllStay nodes nodes
 all_same nodes n = same (node_among nodes n)
 
-all_follow : (a b c : List NodeState) → AllStay a b → AllStay b c → AllStay a c
+pub all_follow : (a b c : List NodeState) → AllStay a b → AllStay b c → AllStay a c
 all_follow a b c first later n = follow (first n) (later n)
 
 set_stays : (nodes : List NodeState) (at : ℕ) (new d : NodeState) → Stays (get_or nodes at d) new → (n : ℕ) → Stays (get_or nodes n d) (get_or (set nodes at new) n d)

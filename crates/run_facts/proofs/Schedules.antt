@@ -1,31 +1,28 @@
 -- In a line the host is asked what is in range, and nothing else.
-use Rattle.std.proofs.Common.{◌≡◌, ℕ, zero, suc, ◌+◌, ◌-◌, Bool, true, false, if◌then◌else◌, List, [], ◌∷◌, ◌++◌, length, map, refl, ap, sym, subst, inl, inr}
-use Rattle.std.specs.Prelude.{Option, Some, None, nat_lt}
+use Rattle.std.proofs.Common.{◌≡◌, ℕ, zero, suc, Bool, true, false, if◌then◌else◌, List, [], ◌∷◌, ◌++◌, length, map, refl, sym, subst, inl, inr}
+use Rattle.std.specs.Prelude.{Option, Some, None}
 use Rattle.std.specs.List.{AllByRecursion}
 use Rattle.zw_text.specs.declared.line.Line.{Line}
 use Rattle.zw_text.specs.declared.line.Line.TheVariants.{Command, Tick, Cut, Stall, Drop, Garble, Collide, Send, Get, Join, Interview, Lose, LoseAck, Repeat, Wake, Cancel, Link, Unlink, Discover, Neighbours, Failed, Probe, Local, Show, Store, Restart}
-use Rattle.host_keep.specs.Rows.{IsNode, IsOrder}
 use Rattle.host_orders.specs.declared.refused.Refused.{Refused}
 use Rattle.host_orders.specs.declared.refused.Refused.TheVariants.{NotJoined}
 use Rattle.host_orders.specs.Refusals.{classes_of}
 use Rattle.host_orders.specs.Errands.{send_refusal, send_text, get_refusal, get_text}
-use Rattle.host_requests.specs.Events.{RequestsEvent}
 use Rattle.host_requests.specs.declared.task.Task.{Task}
 use Rattle.host_requests.specs.declared.task.Task.TheVariants as task
-use Rattle.host_node.specs.State.{NodeState}
 use Rattle.host_node.specs.declared.series.Series.{Series}
 use Rattle.host_node.specs.declared.series.Series.TheVariants.{Idle, Due, Running}
 use Rattle.host_nodes.specs.Search.{next_of}
 use Rattle.host_events.specs.State.{HostState, node_of}
 use Rattle.host_events.specs.May.{known_of}
 use Rattle.host_events.specs.After.{after, is_full}
-use Rattle.host_events.specs.Asking.{places_refusal, interview_refusal, carriage_for}
+use Rattle.host_events.specs.Asking.{places_refusal, interview_refusal}
 use Rattle.host_events.specs.Did.{after_all}
-use Rattle.host_events.specs.Events.{HostEvent, Accepts, Cancels, Joins as joins_host, Queues, Queues_interview, Queues_probe, Hears, Requests_do, Interviews, Interview_unkept, Unreads, Is_unkept, Reports_old, Works, Finishes, Offers, Gives, Spends, Spends_unread, Takes_nonce, Notifies, Resends, Hears_value, Has_no_room, Line_ticks, Node_ticks, Queues_no_more, Drops_no_more, Submits_abort, Submits_front, Starts, Gives_text, Gives_segment, Begins, Begin_unkept}
-use Rattle.host_events.specs.Pumping.{LetsSleep, no_more_event, GivesNext, IsServedBy, IsNextOfNodes, IsNextOf, IsNext, Submits, Pumps}
+use Rattle.host_events.specs.Events.{HostEvent, Queues, Queues_interview, Queues_probe, Node_ticks, Queues_no_more, Drops_no_more}
+use Rattle.host_events.specs.Pumping.{LetsSleep, GivesNext, IsServedBy, IsNextOfNodes, IsNextOf, Submits, Pumps}
 use Rattle.host_events.specs.Ticking.{tick_events, ticking_nodes, first_ticks}
 use Rattle.outer_events.specs.State.{is_stalled}
-use Rattle.outer_events.specs.Events.{OuterEvent, Discovers, Joins}
+use Rattle.outer_events.specs.Events.{OuterEvent, Discovers}
 use Rattle.zw_machine.specs.State.{Machine}
 use Rattle.zw_machine.specs.Events.{Event, Outside_does, Host_does, Decoder_ticks, happens}
 use Rattle.zw_machine.specs.Did.{happens_all, Schedule, Then}
@@ -93,7 +90,7 @@ ticks_none h = ((λ h. tt), ((λ h. tt), nodes_none (ticking_nodes (after_all h 
 abbrev pub AsksWellAt : Schedule → Type 0
 AsksWellAt Kind = (m : Machine) (events : List Event) → Kind m events → AllAsked m events
 
-asked_both : (m : Machine) (a b : List Event) → AllAsked m a → AllAsked (happens_all m a) b → AllAsked m (a ++ b)
+pub asked_both : (m : Machine) (a b : List Event) → AllAsked m a → AllAsked (happens_all m a) b → AllAsked m (a ++ b)
 asked_both m [] b first later = later
 asked_both m (event ∷ a) b first later = (first.0, asked_both (happens m event) a b first.1 later)
 

@@ -1,6 +1,5 @@
 -- What is premised of a run (this project's own): bytes that the machine's events bring from outside it, and how many records there are.
 use Rattle.std.specs.Prelude.{◌≡◌, ◌<◌, ◌^◌, ℕ, Option, Some, None, List, [], ◌∷◌, length}
-use Rattle.s0_session.specs.Nonces.{new_nonce}
 use Rattle.host_keep.specs.Rows.{AreBytes}
 use Rattle.host_node.specs.State.{SealsText}
 use Rattle.host_events.specs.State.{HostState, node_of}
