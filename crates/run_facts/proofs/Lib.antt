@@ -3,6 +3,8 @@ pub mod Errands
 pub mod Always
 pub mod Schedules
 pub mod Heard
+pub mod Telling
+pub mod Ports
 pub mod Kept
 pub mod Nodes
 pub mod Tasks
