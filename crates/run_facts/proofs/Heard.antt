@@ -1,6 +1,7 @@
 -- What the chip's bytes make the host do is of nodes in range: a notice that names no node is not read.
 use Rattle.std.proofs.Common.{◌≡◌, ℕ, ◌&&◌, Bool, true, false, cond, eqb, List, [], ◌∷◌, refl, sym, ap, subst, inl, inr}
 use Rattle.std.specs.Prelude.{Option, Some, None, Result, Ok, Err, nat_lt, nat_le, if◌then◌else◌}
+use Rattle.std.specs.List.{AllByRecursion}
 use Rattle.std.proofs.lemmas.Bool.{cases_Bool, and_parts, leb-true}
 use Rattle.zw_base.specs.declared.property.Setting.{Setting}
 use Rattle.serial_frame.specs.declared.frame.Kind.{Kind}
@@ -48,78 +49,120 @@ use Rattle.host_events.specs.Did.{after_all}
 use Rattle.host_events.specs.Events.{HostEvent, Hears, Interviews, Interview_unkept, Unreads, Is_unkept, Reports_old, Works, Finishes, Offers, Gives, Spends, Spends_unread, Takes_nonce, Notifies, Resends, Hears_value, Has_no_room}
 use Rattle.host_events.specs.Taking.{is_secure, FinalEvents, ReportEvents, NonceGetEvents, NonceReportEvents, resent, value_event, value_events, IsTaken, AreTaken, IsOpened, SealedEvents, PayloadEvents, InterviewEvents, ResponseEvents, NoticeEvents, FrameEvents, told_if, IsFollowed, IsJudged, AreJudged}
 use Rattle.line_facts.proofs.Frames.{all-append}
-use Rattle.run_facts.proofs.Always.{AlwaysAsked, AreAsked, one, none, either}
+use Rattle.run_facts.proofs.Always.{AlwaysInOrder, one, none, either}
 
 -- ---- payloads of a node
 
-module _ (n : ℕ) (is_node : IsNode n) where
-  final : (session id : ℕ) (command : Option ℕ) (status : Option FinalStatus) (wake : Bool) (events : List HostEvent) → FinalEvents n session id command status wake events → AreAsked events
-  final session id (Some command) (Some status) wake events is = either (Finishes n session id command status wake) (Is_unkept n) events (λ h. is_node) (λ h. tt) is
-  final session id (Some command) None wake events is = none events is
-  final session id None (Some status) wake events is = none events is
-  final session id None None wake events is = none events is
+-- an event that a payload of this node may bring
+abbrev pub IsOfPayload : ℕ → HostEvent → Type 0
+IsOfPayload n (Finishes other session id command status wake_request) = other ≡ n
+IsOfPayload n (Gives other drawn) = other ≡ n
+IsOfPayload n (Spends other) = other ≡ n
+IsOfPayload n (Spends_unread other payload) = other ≡ n
+IsOfPayload n (Takes_nonce other seen text) = other ≡ n
+IsOfPayload n (Unreads other payload) = Unit {0}
+IsOfPayload n (Is_unkept other) = Unit {0}
+IsOfPayload n (Reports_old other id) = Unit {0}
+IsOfPayload n (Works other id) = Unit {0}
+IsOfPayload n (Offers other) = Unit {0}
+IsOfPayload n (Notifies other) = Unit {0}
+IsOfPayload n (Resends other payload) = Unit {0}
+IsOfPayload n (Hears_value other setting) = Unit {0}
+IsOfPayload n (Has_no_room other property) = Unit {0}
+IsOfPayload n event = ⊥
 
-  reported : (h : HostState) (id : ℕ) (status : ReportStatus) (wake : Bool) (told : TheTold) (events : List HostEvent) → ReportEvents h n id status wake told events → AreAsked events
-  reported h id status wake told.Old events is = one (Reports_old n id) events (λ h. tt) is
-  reported h id status wake told.Working events is = one (Works n id) events (λ h. tt) is
+module _ (n : ℕ) where
+  abbrev Of : List HostEvent → Type 0
+  Of events = AllByRecursion (IsOfPayload n) events
+
+  final : (session id : ℕ) (command : Option ℕ) (status : Option FinalStatus) (wake : Bool) (events : List HostEvent) → FinalEvents n session id command status wake events → Of events
+  final session id (Some command) (Some status) wake events is = either (IsOfPayload n) (Finishes n session id command status wake) (Is_unkept n) events refl tt is
+  final session id (Some command) None wake events is = none (IsOfPayload n) events is
+  final session id None (Some status) wake events is = none (IsOfPayload n) events is
+  final session id None None wake events is = none (IsOfPayload n) events is
+
+  reported : (h : HostState) (id : ℕ) (status : ReportStatus) (wake : Bool) (told : TheTold) (events : List HostEvent) → ReportEvents h n id status wake told events → Of events
+  reported h id status wake told.Old events is = one (IsOfPayload n) (Reports_old n id) events tt is
+  reported h id status wake told.Working events is = one (IsOfPayload n) (Works n id) events tt is
   reported h id status wake (told.Final session) events is = final session id _ _ wake events is
 
-  asked : (live : Option (List ℕ)) (events : List HostEvent) → NonceGetEvents n live events → AreAsked events
-  asked (Some nonce) events is = one (Offers n) events (λ h. tt) is
-  asked None events is = either (Gives n is.0) (Is_unkept n) events (λ h. is_node) (λ h. tt) is.2
+  asked : (live : Option (List ℕ)) (events : List HostEvent) → NonceGetEvents n live events → Of events
+  asked (Some nonce) events is = one (IsOfPayload n) (Offers n) events tt is
+  asked None events is = either (IsOfPayload n) (Gives n is.0) (Is_unkept n) events refl tt is.2
 
-  given : (h : HostState) (nonce : List ℕ) (count : Option ℕ) (events : List HostEvent) → NonceReportEvents h n nonce count events → AreAsked events
-  given h nonce None events is = none events is
-  given h nonce (Some seen) events is = either (Takes_nonce n seen is.1) (Is_unkept n) events (λ h. is_node) (λ h. tt) is.3
+  given : (h : HostState) (nonce : List ℕ) (count : Option ℕ) (events : List HostEvent) → NonceReportEvents h n nonce count events → Of events
+  given h nonce None events is = none (IsOfPayload n) events is
+  given h nonce (Some seen) events is = either (IsOfPayload n) (Takes_nonce n seen is.1) (Is_unkept n) events refl tt is.3
 
-  resends : (payload : Option (List ℕ)) (events : List HostEvent) → events ≡ resent n payload → AreAsked events
-  resends None events is = none events is
-  resends (Some payload) events is = one (Resends n payload) events (λ h. tt) is
+  resends : (payload : Option (List ℕ)) (events : List HostEvent) → events ≡ resent n payload → Of events
+  resends None events is = none (IsOfPayload n) events is
+  resends (Some payload) events is = one (IsOfPayload n) (Resends n payload) events tt is
 
-  value : (b : Bool) (s : Setting) → AlwaysAsked (if b then Has_no_room n s.property else Hears_value n s)
-  value true s = λ h. tt
-  value false s = λ h. tt
+  value : (b : Bool) (s : Setting) → IsOfPayload n (if b then Has_no_room n s.property else Hears_value n s)
+  value true s = tt
+  value false s = tt
 
-  values : (h : HostState) (settings : List Setting) → AreAsked (value_events h n settings)
+  values : (h : HostState) (settings : List Setting) → Of (value_events h n settings)
   values h [] = tt
   values h (s ∷ more) = (value (nat_lt 512 (count_with h.store n (s.property ∷ []))) s, values (after h (value_event h n s)) more)
 
-  plain : (h : HostState) (payload : List ℕ) (id : ℕ) (status : ReportStatus) (wake : Bool) (events : List HostEvent) → IsTaken h n payload false (Report id status wake) events → AreAsked events
+  plain : (h : HostState) (payload : List ℕ) (id : ℕ) (status : ReportStatus) (wake : Bool) (events : List HostEvent) → IsTaken h n payload false (Report id status wake) events → Of events
   plain h payload id status wake events is = elim (cases_Bool (is_secure (node_of h n).classes)) [
-    | inl secure ↦ one (Unreads n payload) events (λ h. tt) (rw secure at is)
+    | inl secure ↦ one (IsOfPayload n) (Unreads n payload) events tt (rw secure at is)
     | inr not_secure ↦ reported h id status wake (told_of (node_of h n).book id (status_byte status)) events (rw not_secure at is)
   ]
 
-  taken : (h : HostState) (payload : List ℕ) (sealed : Bool) (message : Told) (events : List HostEvent) → IsTaken h n payload sealed message events → AreAsked events
+  taken : (h : HostState) (payload : List ℕ) (sealed : Bool) (message : Told) (events : List HostEvent) → IsTaken h n payload sealed message events → Of events
   taken h payload true (Report id status wake) events is = reported h id status wake _ events is
   taken h payload false (Report id status wake) events is = plain h payload id status wake events is
   taken h payload sealed NonceGet events is = asked _ events is
   taken h payload sealed (NonceReport nonce) events is = given h nonce _ events is
-  taken h payload sealed Notification events is = one (Notifies n) events (λ h. tt) is
+  taken h payload sealed Notification events is = one (IsOfPayload n) (Notifies n) events tt is
   taken h payload sealed (SegmentRequest id offset) events is = resends _ events is
-  taken h payload sealed (Values settings) events is = subst (λ (l : List HostEvent). AreAsked l) (sym is) (values h settings)
+  taken h payload sealed (Values settings) events is = subst (λ (l : List HostEvent). Of l) (sym is) (values h settings)
 
-  all_taken : (h : HostState) (payload : List ℕ) (sealed : Bool) (messages : List Told) (events : List HostEvent) → AreTaken h n payload sealed messages events → AreAsked events
-  all_taken h payload sealed [] events is = none events is
+  all_taken : (h : HostState) (payload : List ℕ) (sealed : Bool) (messages : List Told) (events : List HostEvent) → AreTaken h n payload sealed messages events → Of events
+  all_taken h payload sealed [] events is = none (IsOfPayload n) events is
   all_taken h payload sealed (message ∷ more) events (first, rest, are, first_is, others) =
-      subst (λ (l : List HostEvent). AreAsked l) (sym are)
-      (all-append AlwaysAsked first rest (taken h payload sealed message first first_is) (all_taken (after_all h first) payload sealed more rest others))
+      subst (λ (l : List HostEvent). Of l) (sym are)
+      (all-append (IsOfPayload n) first rest (taken h payload sealed message first first_is) (all_taken (after_all h first) payload sealed more rest others))
 
-  opened : (h : HostState) (nonce payload : List ℕ) (events : List HostEvent) → IsOpened h n nonce payload events → AreAsked events
-  opened h nonce payload events (inl are) = one (Is_unkept n) events (λ h. tt) are
-  opened h nonce payload events (inr (inl vain)) = one (Spends_unread n payload) events (λ h. is_node) vain.1
+  opened : (h : HostState) (nonce payload : List ℕ) (events : List HostEvent) → IsOpened h n nonce payload events → Of events
+  opened h nonce payload events (inl are) = one (IsOfPayload n) (Is_unkept n) events tt are
+  opened h nonce payload events (inr (inl vain)) = one (IsOfPayload n) (Spends_unread n payload) events refl vain.1
   opened h nonce payload events (inr (inr opens)) =
       let (messages, rest, to, are, taken_so) = opens in
-      subst (λ (l : List HostEvent). AreAsked l) (sym are) ((λ h. is_node), all_taken (after h (Spends n)) payload true messages rest taken_so)
+      subst (λ (l : List HostEvent). Of l) (sym are) (refl, all_taken (after h (Spends n)) payload true messages rest taken_so)
 
-  sealed : (h : HostState) (payload : List ℕ) (nonce : Option (List ℕ)) (events : List HostEvent) → SealedEvents h n payload nonce events → AreAsked events
-  sealed h payload None events is = one (Unreads n payload) events (λ h. tt) is
+  sealed : (h : HostState) (payload : List ℕ) (nonce : Option (List ℕ)) (events : List HostEvent) → SealedEvents h n payload nonce events → Of events
+  sealed h payload None events is = one (IsOfPayload n) (Unreads n payload) events tt is
   sealed h payload (Some nonce) events is = opened h nonce payload events is
 
-  payload_asked : (h : HostState) (payload : List ℕ) (heard : Heard) (events : List HostEvent) → PayloadEvents h n payload heard events → AreAsked events
-  payload_asked h payload (Messages messages) events is = all_taken h payload false messages events is
-  payload_asked h payload Sealed events is = sealed h payload _ events is
-  payload_asked h payload Unread events is = one (Unreads n payload) events (λ h. tt) is
+  pub payload_of : (h : HostState) (payload : List ℕ) (heard : Heard) (events : List HostEvent) → PayloadEvents h n payload heard events → Of events
+  payload_of h payload (Messages messages) events is = all_taken h payload false messages events is
+  payload_of h payload Sealed events is = sealed h payload _ events is
+  payload_of h payload Unread events is = one (IsOfPayload n) (Unreads n payload) events tt is
+
+payload_in_order : (n : ℕ) (event : HostEvent) → IsNode n → IsOfPayload n event → AlwaysInOrder event
+payload_in_order n (Finishes other session id command status wake_request) is of_it h = subst IsNode (sym of_it) is
+payload_in_order n (Gives other drawn) is of_it h = subst IsNode (sym of_it) is
+payload_in_order n (Spends other) is of_it h = subst IsNode (sym of_it) is
+payload_in_order n (Spends_unread other payload) is of_it h = subst IsNode (sym of_it) is
+payload_in_order n (Takes_nonce other seen text) is of_it h = subst IsNode (sym of_it) is
+payload_in_order n (Unreads other payload) is of_it h = tt
+payload_in_order n (Is_unkept other) is of_it h = tt
+payload_in_order n (Reports_old other id) is of_it h = tt
+payload_in_order n (Works other id) is of_it h = tt
+payload_in_order n (Offers other) is of_it h = tt
+payload_in_order n (Notifies other) is of_it h = tt
+payload_in_order n (Resends other payload) is of_it h = tt
+payload_in_order n (Hears_value other setting) is of_it h = tt
+payload_in_order n (Has_no_room other property) is of_it h = tt
+payload_in_order n _ is of_it h = absurd of_it
+
+all_in_order : (n : ℕ) (events : List HostEvent) → IsNode n → AllByRecursion (IsOfPayload n) events → AllByRecursion AlwaysInOrder events
+all_in_order n [] is all = tt
+all_in_order n (event ∷ events) is all = (payload_in_order n event is all.0, all_in_order n events is all.1)
 
 -- ---- notices that are read
 
@@ -189,52 +232,52 @@ notice_names function body v is =
 
 -- ---- frames of the chip
 
-response_asked : (r : Result Response BodyFault) (events : List HostEvent) → ResponseEvents r events → AreAsked events
-response_asked (Ok r) events is = one _ events (λ h. tt) is
-response_asked (Err fault) events is = none events is
+response_in_order : (r : Result Response BodyFault) (events : List HostEvent) → ResponseEvents r events → AllByRecursion AlwaysInOrder events
+response_in_order (Ok r) events is = one AlwaysInOrder _ events (λ h. tt) is
+response_in_order (Err fault) events is = none AlwaysInOrder events is
 
-interview_asked : (update : Update) (brought : Option ℕ) (events : List HostEvent) → IsUpdate update → InterviewEvents update brought events → AreAsked events
-interview_asked (Received n basic generic specific classes) (Some capability) events names is =
-    either (Interviews n (says_listens capability) classes (Received n basic generic specific classes)) (Interview_unkept n (Received n basic generic specific classes)) events (λ h. names) (λ h. tt) is
-interview_asked RequestFailed (Some capability) events names is = none events is
-interview_asked (Received n basic generic specific classes) None events names is = one _ events (λ h. tt) is
-interview_asked RequestFailed None events names is = one _ events (λ h. tt) is
+interview_in_order : (update : Update) (brought : Option ℕ) (events : List HostEvent) → IsUpdate update → InterviewEvents update brought events → AllByRecursion AlwaysInOrder events
+interview_in_order (Received n basic generic specific classes) (Some capability) events names is =
+    either AlwaysInOrder (Interviews n (says_listens capability) classes (Received n basic generic specific classes)) (Interview_unkept n (Received n basic generic specific classes)) events (λ h. names) (λ h. tt) is
+interview_in_order RequestFailed (Some capability) events names is = none AlwaysInOrder events is
+interview_in_order (Received n basic generic specific classes) None events names is = one AlwaysInOrder _ events (λ h. tt) is
+interview_in_order RequestFailed None events names is = one AlwaysInOrder _ events (λ h. tt) is
 
-notice_asked : (h : HostState) (notice : Result Notice BodyFault) (events : List HostEvent) → ((v : Notice) → notice ≡ Ok v → NamesNode v) → NoticeEvents h notice events → AreAsked events
-notice_asked h (Ok (ApplicationCommandHandler rx_status source payload)) events names is =
-    payload_asked source (names (ApplicationCommandHandler rx_status source payload) refl) h payload (heard_at payload) events is
-notice_asked h (Ok (SendData callback_id status)) events names is = one _ events (λ h. tt) is
-notice_asked h (Ok (ApplicationUpdate update)) events names is = interview_asked update (interviewed_by h.requests update) events (names (ApplicationUpdate update) refl) is
-notice_asked h (Ok (AddNode callback_id status information)) events names is = none events is
-notice_asked h (Err fault) events names is = none events is
+notice_in_order : (h : HostState) (notice : Result Notice BodyFault) (events : List HostEvent) → ((v : Notice) → notice ≡ Ok v → NamesNode v) → NoticeEvents h notice events → AllByRecursion AlwaysInOrder events
+notice_in_order h (Ok (ApplicationCommandHandler rx_status source payload)) events names is =
+    all_in_order source events (names (ApplicationCommandHandler rx_status source payload) refl) (payload_of source h payload (heard_at payload) events is)
+notice_in_order h (Ok (SendData callback_id status)) events names is = one AlwaysInOrder _ events (λ h. tt) is
+notice_in_order h (Ok (ApplicationUpdate update)) events names is = interview_in_order update (interviewed_by h.requests update) events (names (ApplicationUpdate update) refl) is
+notice_in_order h (Ok (AddNode callback_id status information)) events names is = none AlwaysInOrder events is
+notice_in_order h (Err fault) events names is = none AlwaysInOrder events is
 
-frame_asked : (h : HostState) (k : Kind) (function : ℕ) (body : List ℕ) (events : List HostEvent) → FrameEvents h k function body events → AreAsked events
-frame_asked h kind.Response function body events is = response_asked (response_of function body) events is
-frame_asked h kind.Request function body events is = notice_asked h (notice_of function body) events (notice_names function body) is
+frame_in_order : (h : HostState) (k : Kind) (function : ℕ) (body : List ℕ) (events : List HostEvent) → FrameEvents h k function body events → AllByRecursion AlwaysInOrder events
+frame_in_order h kind.Response function body events is = response_in_order (response_of function body) events is
+frame_in_order h kind.Request function body events is = notice_in_order h (notice_of function body) events (notice_names function body) is
 
 -- ---- items
 
-sent_if_asked : (b : Bool) (events : List HostEvent) → events ≡ told_if b request_is_sent → AreAsked events
-sent_if_asked true events is = one _ events (λ h. tt) is
-sent_if_asked false events is = none events is
+sent_if_in_order : (b : Bool) (events : List HostEvent) → events ≡ told_if b request_is_sent → AllByRecursion AlwaysInOrder events
+sent_if_in_order true events is = one AlwaysInOrder _ events (λ h. tt) is
+sent_if_in_order false events is = none AlwaysInOrder events is
 
-fails_if_asked : (b : Bool) (events : List HostEvent) → events ≡ told_if b request_fails → AreAsked events
-fails_if_asked true events is = one _ events (λ h. tt) is
-fails_if_asked false events is = none events is
+fails_if_in_order : (b : Bool) (events : List HostEvent) → events ≡ told_if b request_fails → AllByRecursion AlwaysInOrder events
+fails_if_in_order true events is = one AlwaysInOrder _ events (λ h. tt) is
+fails_if_in_order false events is = none AlwaysInOrder events is
 
-followed_asked : (h : HostState) (turn : Turn) (item : Item) (events : List HostEvent) → IsFollowed h turn item events → AreAsked events
-followed_asked h turn (Good Ack) events is = sent_if_asked (is_busy turn) events is
-followed_asked h turn (Good Nak) events is = fails_if_asked (gives_up turn h.side.turn) events is
-followed_asked h turn (Good Can) events is = fails_if_asked (gives_up turn h.side.turn) events is
-followed_asked h turn (Good (Framed f)) events is = frame_asked h f.kind f.func f.body events is
-followed_asked h turn (Refused refusal) events is = none events is
+followed_in_order : (h : HostState) (turn : Turn) (item : Item) (events : List HostEvent) → IsFollowed h turn item events → AllByRecursion AlwaysInOrder events
+followed_in_order h turn (Good Ack) events is = sent_if_in_order (is_busy turn) events is
+followed_in_order h turn (Good Nak) events is = fails_if_in_order (gives_up turn h.side.turn) events is
+followed_in_order h turn (Good Can) events is = fails_if_in_order (gives_up turn h.side.turn) events is
+followed_in_order h turn (Good (Framed f)) events is = frame_in_order h f.kind f.func f.body events is
+followed_in_order h turn (Refused refusal) events is = none AlwaysInOrder events is
 
-judged_asked : (h : HostState) (item : Item) (events : List HostEvent) → IsJudged h item events → AreAsked events
-judged_asked h item events (rest, are, followed) =
-    subst (λ (l : List HostEvent). AreAsked l) (sym are) ((λ h. tt), followed_asked (after h (Hears item)) h.side.turn item rest followed)
+judged_in_order : (h : HostState) (item : Item) (events : List HostEvent) → IsJudged h item events → AllByRecursion AlwaysInOrder events
+judged_in_order h item events (rest, are, followed) =
+    subst (λ (l : List HostEvent). AllByRecursion AlwaysInOrder l) (sym are) ((λ h. tt), followed_in_order (after h (Hears item)) h.side.turn item rest followed)
 
-pub all_judged_asked : (h : HostState) (items : List Item) (events : List HostEvent) → AreJudged h items events → AreAsked events
-all_judged_asked h [] events is = none events is
-all_judged_asked h (item ∷ items) events (first, rest, are, judged, more) =
-    subst (λ (l : List HostEvent). AreAsked l) (sym are)
-    (all-append AlwaysAsked first rest (judged_asked h item first judged) (all_judged_asked (after_all h first) items rest more))
+pub all_judged_in_order : (h : HostState) (items : List Item) (events : List HostEvent) → AreJudged h items events → AllByRecursion AlwaysInOrder events
+all_judged_in_order h [] events is = none AlwaysInOrder events is
+all_judged_in_order h (item ∷ items) events (first, rest, are, judged, more) =
+    subst (λ (l : List HostEvent). AllByRecursion AlwaysInOrder l) (sym are)
+    (all-append AlwaysInOrder first rest (judged_in_order h item first judged) (all_judged_in_order (after_all h first) items rest more))

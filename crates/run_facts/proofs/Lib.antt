@@ -5,6 +5,8 @@ pub mod Schedules
 pub mod Heard
 pub mod Telling
 pub mod Ports
+pub mod Informing
+pub mod Hearing
 pub mod Kept
 pub mod Nodes
 pub mod Tasks

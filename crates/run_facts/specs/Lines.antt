@@ -42,23 +42,23 @@ AsksNothing (Pushes task) = ⊥
 AsksNothing (PushesInterview n) = ⊥
 AsksNothing event = Unit {0}
 
--- The numbers that an event of the host brings are in range, an interview is asked of a node that is joined, and a task that is asked for is
--- an errand.
+-- What the host does of itself or for a line: the order and the node that it is asked for are in range, an interview is asked of a node that is joined, and
+-- a task that is asked for is an errand. It is nothing that only the chip's bytes bring.
 abbrev pub IsAsked : HostState → HostEvent → Type 0
 IsAsked h (Accepts order carriage) = IsOrder order
 IsAsked h (Joins n) = IsNode n
 IsAsked h (Queues task) = IsErrand task
 IsAsked h (Queues_interview n) = (node_of h n).joined ≡ true
 IsAsked h (Requests_do event moment) = AsksNothing event
-IsAsked h (Interviews n listens classes update) = IsNode n
-IsAsked h (Finishes n session id command status wake_request) = IsNode n
-IsAsked h (Gives n drawn) = IsNode n
-IsAsked h (Spends n) = IsNode n
-IsAsked h (Spends_unread n payload) = IsNode n
-IsAsked h (Takes_nonce n seen text) = IsNode n
+IsAsked h (Interviews n listens classes update) = ⊥
+IsAsked h (Finishes n session id command status wake_request) = ⊥
+IsAsked h (Gives n drawn) = ⊥
+IsAsked h (Spends n) = ⊥
+IsAsked h (Spends_unread n payload) = ⊥
+IsAsked h (Takes_nonce n seen text) = ⊥
 IsAsked h event = Unit {0}
 
--- so for what the host does of itself or for a line. What the chip's bytes make it do needs no such word: it is by those bytes
+-- so at an event of the machine. What the chip's bytes make the host do is by those bytes
 abbrev pub AsksWell : Machine → Event → Type 0
 AsksWell m (Host_does event) = IsAsked m.host.state event
 AsksWell m event = Unit {0}

@@ -1,35 +1,51 @@
--- What is premised of a run (this project's own): bytes that the machine's events bring from outside it, and how many records there are.
+-- What is premised of a run (this project's own): what is drawn is bytes, and how many records there are; and the class lists that interviews
+-- hear, which lines of the machine bring as bytes.
 use Rattle.std.specs.Prelude.{◌≡◌, ◌<◌, ◌^◌, ℕ, Option, Some, None, List, [], ◌∷◌, length}
+use Rattle.std.specs.List.{AllByRecursion}
 use Rattle.host_keep.specs.Rows.{AreBytes}
 use Rattle.host_node.specs.State.{SealsText}
 use Rattle.host_events.specs.State.{HostState, node_of}
 use Rattle.host_events.specs.Events.{HostEvent, Interviews, Gives, Takes_nonce}
 use Rattle.host_events.specs.After.{after}
 use Rattle.zw_machine.specs.State.{Machine}
-use Rattle.zw_machine.specs.Events.{Event, Host_does, Host_takes, happens}
+use Rattle.zw_machine.specs.Events.{Event, Host_takes, happens}
 
--- numbers that are drawn for a nonce, and those that an interview heard, are bytes; a text was sealed under a nonce of the host's own of eight
--- bytes. Of these the machine does not say it, since its numbers have no width
-abbrev pub BringsBytes : HostState → HostEvent → Type 0
-BringsBytes h (Interviews n listens classes update) = AreBytes classes
-BringsBytes h (Gives n drawn) = AreBytes drawn
-BringsBytes h (Takes_nonce n seen text) = (own_nonce nonce : List ℕ) × (length own_nonce ≡ 8) × SealsText (node_of h n) h.keys own_nonce nonce text
-BringsBytes h event = Unit {0}
+-- ---- what is drawn
 
-abbrev pub HostsBringBytes : HostState → List HostEvent → Type 0
-HostsBringBytes h [] = Unit {0}
-HostsBringBytes h (event ∷ events) = BringsBytes h event × HostsBringBytes (after h event) events
+-- what is drawn for a nonce is bytes, and a text is sealed under a nonce of the host's own of eight bytes. The machine does not say it of what it
+-- draws, since its numbers have no width
+abbrev pub DrawsBytes : HostState → HostEvent → Type 0
+DrawsBytes h (Gives n drawn) = AreBytes drawn
+DrawsBytes h (Takes_nonce n seen text) = (own_nonce nonce : List ℕ) × (length own_nonce ≡ 8) × SealsText (node_of h n) h.keys own_nonce nonce text
+DrawsBytes h event = Unit {0}
 
--- so for what the host does at an event of the machine
-abbrev pub BringBytes : Machine → Event → Type 0
-BringBytes m (Host_does event) = BringsBytes m.host.state event
-BringBytes m (Host_takes count rest items events) = HostsBringBytes m.host.state events
-BringBytes m event = Unit {0}
+abbrev pub HostsDrawBytes : HostState → List HostEvent → Type 0
+HostsDrawBytes h [] = Unit {0}
+HostsDrawBytes h (event ∷ events) = DrawsBytes h event × HostsDrawBytes (after h event) events
+
+-- so where the host takes bytes: elsewhere it draws nothing
+abbrev pub DrawBytes : Machine → Event → Type 0
+DrawBytes m (Host_takes count rest items events) = HostsDrawBytes m.host.state events
+DrawBytes m event = Unit {0}
 
 -- so for each of these events
-abbrev pub AllBringBytes : Machine → List Event → Type 0
-AllBringBytes m [] = Unit {0}
-AllBringBytes m (event ∷ events) = BringBytes m event × AllBringBytes (happens m event) events
+abbrev pub AllDrawBytes : Machine → List Event → Type 0
+AllDrawBytes m [] = Unit {0}
+AllDrawBytes m (event ∷ events) = DrawBytes m event × AllDrawBytes (happens m event) events
+
+-- ---- what is heard
+
+-- the class list that an interview heard is of bytes
+abbrev pub HearsBytes : HostEvent → Type 0
+HearsBytes (Interviews n listens classes update) = AreBytes classes
+HearsBytes event = Unit {0}
+
+-- so where the host takes bytes
+abbrev pub HearBytes : Event → Type 0
+HearBytes (Host_takes count rest items events) = AllByRecursion HearsBytes events
+HearBytes event = Unit {0}
+
+-- ---- records
 
 -- the keeper holds fewer than 2 ^ 32 records, where it tells them: so many numbers a command may have
 abbrev pub AreFew : Option (List (List ℕ)) → Type 0
