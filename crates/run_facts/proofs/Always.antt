@@ -1,5 +1,5 @@
 -- What an event of the host needs for its records, and lists of events that the chip's bytes bring.
-use Rattle.std.proofs.Common.{◌≡◌, ℕ, List, [], ◌∷◌, sym, subst, inl, inr}
+use Rattle.std.proofs.Common.{◌≡◌, List, [], ◌∷◌, sym, subst, inl, inr}
 use Rattle.std.specs.List.{AllByRecursion}
 use Rattle.host_keep.specs.Rows.{IsNode}
 use Rattle.host_events.specs.State.{HostState}

@@ -1,11 +1,10 @@
 -- The frames on their way to the host tell class lists of bytes, and so the interviews that they end hear bytes.
-use Rattle.std.proofs.Common.{◌≡◌, ℕ, Bool, true, false, List, [], ◌∷◌, ◌++◌, map, refl, ap, sym, ◌∙◌, subst, inl, inr}
-use Rattle.std.specs.Prelude.{Option, Some, None, Result, Ok, Err, nat_lt, ◌==◌, if◌then◌else◌, take, drop, slice_get}
+use Rattle.std.proofs.Common.{◌≡◌, ℕ, Bool, true, false, List, [], ◌∷◌, ◌++◌, refl, sym, subst}
+use Rattle.std.specs.Prelude.{Option, Some, None, Result, Ok, Err, nat_lt, ◌==◌, if◌then◌else◌, slice_get}
 use Rattle.std.specs.List.{AllByRecursion}
-use Rattle.std.proofs.lemmas.List.{append-nil}
 use Rattle.serial_frame.specs.Frame.{FrameParts}
 use Rattle.serial_frame.specs.Items.{unit_text}
-use Rattle.serial_frame.specs.Stream.{Rest, Feeds, no_rest, after_tick}
+use Rattle.serial_frame.specs.Stream.{Rest, no_rest, after_tick}
 use Rattle.serial_frame.specs.declared.frame.Kind.{Kind}
 use Rattle.serial_frame.specs.declared.frame.Kind.TheVariants as kind
 use Rattle.serial_frame.specs.declared.unit.Unit.{Unit as LineUnit}
@@ -34,8 +33,8 @@ use Rattle.chip_functions.specs.declared.response.Response.{Response}
 use Rattle.chip_functions.specs.Response.{response_of}
 use Rattle.chip_functions.specs.Notice.{notice_of}
 use Rattle.chip_sim.specs.State.{ChipState, ChipParts}
-use Rattle.chip_sim.specs.Events.{ChipEvent, Judged, Ticked}
-use Rattle.chip_sim.specs.Did.{after_all as chip_after_all, outs_all as chip_outs_all, judged_all}
+use Rattle.chip_sim.specs.Events.{Ticked}
+use Rattle.chip_sim.specs.Did.{outs_all as chip_outs_all, judged_all}
 use Rattle.chip_sim.specs.Link.{chip_units}
 use Rattle.host_requests.specs.Events.{interviewed_by}
 use Rattle.host_requests.specs.Events.RequestsEvent.{Fails as request_fails, IsSent as request_is_sent}
@@ -45,7 +44,7 @@ use Rattle.host_events.specs.After.{after, is_busy, gives_up}
 use Rattle.host_events.specs.May.{says_listens}
 use Rattle.host_events.specs.Did.{after_all as host_after_all, outs_all as host_outs_all}
 use Rattle.host_events.specs.Events.{HostEvent, Hears, Interviews, Interview_unkept}
-use Rattle.host_events.specs.Taking.{InterviewEvents, ResponseEvents, NoticeEvents, FrameEvents, told_if, IsFollowed, IsJudged, AreJudged}
+use Rattle.host_events.specs.Taking.{InterviewEvents, ResponseEvents, NoticeEvents, FrameEvents, told_if, IsFollowed, AreJudged}
 use Rattle.device_sim.specs.Event.{Ticks, Wakes, Sets}
 use Rattle.air_frames.specs.Ages.{refusal_of}
 use Rattle.mesh_sim.specs.Fates.{place_of}
@@ -54,23 +53,22 @@ use Rattle.outer_events.specs.Results.{device_at}
 use Rattle.outer_events.specs.Nodes.{listens_at}
 use Rattle.outer_events.specs.State.{OuterState, Outside, first_outer}
 use Rattle.outer_events.specs.Events.{OuterEvent, Begins_line, Begins_tick, Host_writes, Host_takes as host_takes, Host_notes, Host_begins, Chip_takes, Arrives, Gives, Device_ticks, Chip_ticks, Repeats, Wakes_device, Sets_device, Shows, Joins, Discovers, Links, Loses, Loses_acks, Marks_loss, Marks_change, Clears_pipe, Collides_next, Stalls, Cuts, is_own, outcome, happens as happens_outside, May as MayOutside}
-use Rattle.outer_events.specs.Did.{happens_all as happens_all_outside}
 use Rattle.zw_machine.specs.State.{Machine, host_does, first_machine}
 use Rattle.zw_machine.specs.Events.{Event, Outside_does, Host_does, Host_takes, Decoder_ticks, Refuses, Shows_values, Restarts, happens, May, fed, answers, shown_values}
-use Rattle.zw_machine.specs.Did.{happens_all, MayAll}
-use Rattle.line_facts.specs.Way.{Carries, wanted_sum, found_sum, items_of, unit_item, changed_item, marked_items, items_all, written_all}
-use Rattle.line_facts.specs.Chip.{HasFrames, ChipDoes}
-use Rattle.line_facts.specs.Line.{host_units, OuterAtRest, IsAtRest, AllAtRest}
+use Rattle.zw_machine.specs.Did.{MayAll}
+use Rattle.line_facts.specs.Way.{Carries, wanted_sum, found_sum, items_of, unit_item, changed_item, marked_items, items_all}
+use Rattle.line_facts.specs.Chip.{HasFrames}
+use Rattle.line_facts.specs.Line.{OuterAtRest, IsAtRest, AllAtRest}
 use Rattle.line_facts.proofs.Frames.{all-append, events_have, events_fit}
 use Rattle.line_facts.proofs.Ways.{carries_all, carries_left, carries_none}
-use Rattle.line_facts.proofs.ChipWays.{IsStill, does_each, does_one}
-use Rattle.line_facts.proofs.Outer.{entered_still, routed_all, notes_all, Written, written_both, tick_still}
+use Rattle.line_facts.proofs.ChipWays.{does_each, does_one}
+use Rattle.line_facts.proofs.Outer.{entered_still, routed_all, notes_all, Written, tick_still}
 use Rattle.run_facts.specs.Premises.{HearsBytes, HearBytes}
 use Rattle.run_facts.proofs.Always.{one, none, either}
 use Rattle.run_facts.proofs.Heard.{IsOfPayload, payload_of}
 use Rattle.run_facts.proofs.Telling.{NoticeTells, UpdateTells}
 use Rattle.run_facts.proofs.Ports.{UnitTells, IsTelling, FrameTells, PortTells, EventTells, events_port, events_out}
-use Rattle.run_facts.proofs.Informing.{Informs, here, both, still_informs, gives_informs, steps_inform, repeats_inform, at_informs, hand_informs, joins_inform, discovers_inform, collides_inform}
+use Rattle.run_facts.proofs.Informing.{Informs, here, still_informs, gives_informs, steps_inform, repeats_inform, at_informs, hand_informs, joins_inform, discovers_inform, collides_inform}
 
 -- ---- items
 

@@ -1,5 +1,5 @@
 -- Whatever happens outside the host, the chip is told of nodes only what kinds of devices list, which is of bytes.
-use Rattle.std.proofs.Common.{◌≡◌, ℕ, zero, suc, ◌≤◌, ◌-◌, ◌&&◌, ◌||◌, Bool, true, false, List, [], ◌∷◌, ◌++◌, length, map, refl, ap, sym, ◌∙◌, subst, inl, inr, arith, filter}
+use Rattle.std.proofs.Common.{◌≡◌, ℕ, zero, suc, ◌≤◌, ◌-◌, ◌&&◌, ◌||◌, Bool, true, false, List, [], ◌∷◌, ◌++◌, length, map, refl, ap, sym, ◌∙◌, inl, inr, arith, filter}
 use Rattle.std.specs.Prelude.{Option, Some, None, nat_lt, nat_le, if◌then◌else◌, IsSome, drop, slice_get}
 use Rattle.std.specs.List.{AllByRecursion, flat_map, range_with_len}
 use Rattle.std.specs.Option.{unwrap_or, is_some}
@@ -19,7 +19,6 @@ use Rattle.chip_sim.specs.declared.out.Sending.{Sending}
 use Rattle.chip_sim.specs.declared.out.ChipOut.{ChipOut}
 use Rattle.device_stack.specs.declared.kind.Kind.{Kind}
 use Rattle.device_stack.specs.declared.kind.Kind.TheVariants.{Relay, Switch, Dimmer, Lock, Sensor, Thermostat, Strip, Configurable}
-use Rattle.device_sim.specs.Kind.{classes_of}
 use Rattle.device_sim.specs.State.{State}
 use Rattle.device_sim.specs.Event.{DeviceEvent}
 use Rattle.mesh_sim.specs.Air.{AirState, is_joined, joining}
@@ -42,7 +41,6 @@ use Rattle.line_facts.specs.Way.{written_all}
 use Rattle.line_facts.specs.Chip.{ChipDoes}
 use Rattle.line_facts.proofs.Frames.{all-append}
 use Rattle.line_facts.proofs.ChipWays.{IsStill, still_does, does_both, does_one}
-use Rattle.run_facts.proofs.Telling.{IsByte}
 use Rattle.run_facts.proofs.Ports.{ProfileTells, EventTells}
 
 -- some events of the chip were done, none of which tells it of a node what is no byte

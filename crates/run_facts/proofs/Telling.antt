@@ -1,18 +1,18 @@
 -- What is read of a notice: the class list of a node is of bytes, where the bytes behind its length are.
-use Rattle.std.proofs.Common.{◌≡◌, ℕ, zero, suc, ◌+◌, ◌-◌, ◌<◌, ◌^◌, ◌&&◌, Bool, true, false, cond, eqb, List, [], ◌∷◌, length, get_or, take, drop, refl, sym, ap, subst, arith}
-use Rattle.std.specs.Prelude.{Option, Some, None, Result, Ok, Err, nat_lt, nat_le, if◌then◌else◌, slice_index}
+use Rattle.std.proofs.Common.{◌≡◌, ℕ, zero, suc, ◌+◌, ◌-◌, ◌<◌, ◌^◌, ◌&&◌, Bool, true, false, cond, eqb, List, [], ◌∷◌, length, take, drop, ap, subst, arith}
+use Rattle.std.specs.Prelude.{Some, None, Ok, Err, nat_lt, nat_le, if◌then◌else◌}
 use Rattle.std.specs.List.{AllByRecursion}
 use Rattle.chip_functions.specs.declared.fault.BodyFault.{BodyFault}
 use Rattle.chip_functions.specs.declared.fault.BodyFault.TheVariants.{UnknownFunction, BadField, Short}
 use Rattle.chip_functions.specs.declared.function.TheConstants.{APPLICATION_COMMAND_HANDLER, SEND_DATA, ADD_NODE, APPLICATION_UPDATE}
 use Rattle.chip_functions.specs.declared.notice.TheConstants.{UPDATE_RECEIVED, UPDATE_FAILED}
 use Rattle.chip_functions.specs.declared.notice.Notice.{Notice}
-use Rattle.chip_functions.specs.declared.notice.Notice.TheVariants.{ApplicationCommandHandler, SendData, ApplicationUpdate, AddNode}
+use Rattle.chip_functions.specs.declared.notice.Notice.TheVariants.{ApplicationUpdate}
 use Rattle.chip_functions.specs.declared.notice.Update.{Update}
 use Rattle.chip_functions.specs.declared.notice.Update.TheVariants.{Received, RequestFailed}
-use Rattle.chip_functions.specs.Place.{Place, Reading, start_of, byte_from, piece_from, found_at}
+use Rattle.chip_functions.specs.Place.{Place, start_of, byte_from, found_at}
 use Rattle.chip_functions.specs.Field.{Field, node, byte, piece, ◌then◌, read_as}
-use Rattle.chip_functions.specs.Classes.{Classes, classes as class_list, classes_of, classes_after}
+use Rattle.chip_functions.specs.Classes.{classes as class_list, classes_of, classes_after}
 use Rattle.chip_functions.specs.Notice.{handler, received, request_failed, callback, update, handler_at, callback_at, add_notice_at, update_at, received_at, request_failed_at, notice_at, notice_of}
 use Rattle.chip_functions.specs.AddNode.{add_notice}
 use Rattle.chip_functions.proofs.FieldLaws.{bind_ok, found_ok, ok_is, as_takes}
@@ -71,9 +71,10 @@ piece_is false fault good found is = ok_is good found is
 piece_tells : (count : ℕ) → Tells (piece count) 0 0 (AllByRecursion IsByte)
 piece_tells count p x q bytes is =
     let after : Place = record { before = p.before + count; rest = drop count p.rest } in
-    let e : (take count p.rest, after) ≡ (x, q) = piece_is (nat_lt (length p.rest) count) (Short (p.before + count) (p.before + length p.rest)) (take count p.rest, after) (x, q) is in
-    (subst (AllByRecursion IsByte) (ap (λ (z : List ℕ × Place). z.0) e) (take_bytes count p.rest bytes),
-    subst (λ (r : Place). BytesFrom 0 r) (ap (λ (z : List ℕ × Place). z.1) e) (drop_bytes count p.rest bytes))
+    let e : (take count p.rest, after) ≡ (x, q) = piece_is (nat_lt (length p.rest) count) (Short (p.before + count) (p.before + length p.rest)) (take count p.rest, after) (x, q) is in (
+      subst (AllByRecursion IsByte) (ap (λ (z : List ℕ × Place). z.0) e) (take_bytes count p.rest bytes),
+      subst (λ (r : Place). BytesFrom 0 r) (ap (λ (z : List ℕ × Place). z.1) e) (drop_bytes count p.rest bytes),
+    )
 
 then_tells : {A B : Type 0} (first : Field A) (second : Field B) (k mid left : ℕ) (F : A → Type 0) (G : B → Type 0) → Tells first k mid F → Tells second mid left G → Tells (first then second) k left (λ x. F x.0 × G x.1)
 then_tells {A} {B} first second k mid left F G tells also p x q bytes is =

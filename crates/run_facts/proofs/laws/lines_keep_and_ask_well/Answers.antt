@@ -23,6 +23,7 @@ returns-clause-heard c = λ keys devices lines events read are may draws.
 pub returns-clause-all : goal.returns-clause-all
 returns-clause-all c = λ keys devices lines events read are may draws few.
     let m = first_machine keys (Some []) devices in
-    let asked = c.lines_ask_well.ensures.lines lines m events (all_in lines read) are in
-    (c.runs_keep_and_ask_well.ensures.keeps keys devices events may asked draws (returns-clause-heard c keys devices lines events read are may draws) few,
-    c.runs_keep_and_ask_well.ensures.asks keys devices events may asked draws)
+    let asked = c.lines_ask_well.ensures.lines lines m events (all_in lines read) are in (
+      c.runs_keep_and_ask_well.ensures.keeps keys devices events may asked draws (returns-clause-heard c keys devices lines events read are may draws) few,
+      c.runs_keep_and_ask_well.ensures.asks keys devices events may asked draws,
+    )
