@@ -1,0 +1,15 @@
+pub mod Reading
+pub mod Errands
+pub mod Always
+pub mod Schedules
+pub mod Heard
+pub mod Telling
+pub mod Ports
+pub mod Informing
+pub mod Hearing
+pub mod Kept
+pub mod Nodes
+pub mod Tasks
+pub mod Hosts
+pub mod Opening
+pub mod Runs

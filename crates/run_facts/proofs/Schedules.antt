@@ -1,0 +1,269 @@
+-- In a line the host is asked what is in range, and nothing else.
+use Rattle.std.proofs.Common.{◌≡◌, ℕ, zero, suc, Bool, true, false, if◌then◌else◌, List, [], ◌∷◌, ◌++◌, length, map, refl, sym, subst, inl, inr}
+use Rattle.std.specs.Prelude.{Option, Some, None}
+use Rattle.std.specs.List.{AllByRecursion}
+use Rattle.zw_text.specs.declared.line.Line.{Line}
+use Rattle.zw_text.specs.declared.line.Line.TheVariants.{Command, Tick, Cut, Stall, Drop, Garble, Collide, Send, Get, Join, Interview, Lose, LoseAck, Repeat, Wake, Cancel, Link, Unlink, Discover, Neighbours, Failed, Probe, Local, Show, Store, Restart}
+use Rattle.host_orders.specs.declared.refused.Refused.{Refused}
+use Rattle.host_orders.specs.declared.refused.Refused.TheVariants.{NotJoined}
+use Rattle.host_orders.specs.Refusals.{classes_of}
+use Rattle.host_orders.specs.Errands.{send_refusal, send_text, get_refusal, get_text}
+use Rattle.host_requests.specs.declared.task.Task.{Task}
+use Rattle.host_requests.specs.declared.task.Task.TheVariants as task
+use Rattle.host_node.specs.declared.series.Series.{Series}
+use Rattle.host_node.specs.declared.series.Series.TheVariants.{Idle, Due, Running}
+use Rattle.host_nodes.specs.Search.{next_of}
+use Rattle.host_events.specs.State.{HostState, node_of}
+use Rattle.host_events.specs.May.{known_of}
+use Rattle.host_events.specs.After.{after, is_full}
+use Rattle.host_events.specs.Asking.{places_refusal, interview_refusal}
+use Rattle.host_events.specs.Did.{after_all}
+use Rattle.host_events.specs.Events.{HostEvent, Queues, Queues_interview, Queues_probe, Node_ticks, Queues_no_more, Drops_no_more}
+use Rattle.host_events.specs.Pumping.{LetsSleep, GivesNext, IsServedBy, IsNextOfNodes, IsNextOf, Submits, Pumps}
+use Rattle.host_events.specs.Ticking.{tick_events, ticking_nodes, first_ticks}
+use Rattle.outer_events.specs.State.{is_stalled}
+use Rattle.outer_events.specs.Events.{OuterEvent, Discovers}
+use Rattle.zw_machine.specs.State.{Machine}
+use Rattle.zw_machine.specs.Events.{Event, Outside_does, Host_does, Decoder_ticks, happens}
+use Rattle.zw_machine.specs.Did.{happens_all, Schedule, Then}
+use Rattle.zw_machine.specs.Settling.{Outside, IsPump, IsChipPart, IsHostPart, TakesBy, IsMove, IfMoved, Passes, Settles}
+use Rattle.zw_machine.specs.Ticking.{IsClockTick, IsDelivery, IsGiving, IsDeviceTick, IsChipTick, IsOutsideTick, IsHostTick, IsTick, Ticks}
+use Rattle.zw_machine.specs.Lines.{IsRefusal, IsDone, Asks, IsRestart, IsDiscovery, IsEffect, IsLineBegin, IsLineRest, IsLine}
+use Rattle.line_facts.specs.Line.{AreLines}
+use Rattle.line_facts.proofs.Frames.{all-append}
+use Rattle.run_facts.specs.Lines.{IsInRange, IsAsked, AllAsked}
+use Rattle.run_facts.proofs.Always.{AlwaysAsked}
+use Rattle.run_facts.proofs.Errands.{send_short, get_short}
+
+-- ---- what the host does of itself
+
+hosts_asked : (m : Machine) (inner : List HostEvent) → AllByRecursion AlwaysAsked inner → AllAsked m (map Host_does inner)
+hosts_asked m [] all = tt
+hosts_asked m (event ∷ inner) all = (all.0 m.host.state, hosts_asked (happens m (Host_does event)) inner all.1)
+
+no_more_none : (n : ℕ) (full : Bool) → AlwaysAsked (if full then Drops_no_more n else Queues_no_more n)
+no_more_none n true = λ h. tt
+no_more_none n false = λ h. tt
+
+sleep_none : (h : HostState) (inner : List HostEvent) → LetsSleep h inner → AllByRecursion AlwaysAsked inner
+sleep_none h [] is = tt
+sleep_none h (event ∷ inner) (n, wants, is, more) = (subst AlwaysAsked (sym is) (no_more_none n (is_full h)), sleep_none (after h event) inner more)
+
+gives_none : (h : HostState) (n : ℕ) (text : Option (List ℕ)) (event : HostEvent) → GivesNext h n text event → AlwaysAsked event
+gives_none h n (Some text) event is = subst AlwaysAsked (sym is) (λ h. tt)
+gives_none h n None event (payload, found, is) = subst AlwaysAsked (sym is) (λ h. tt)
+
+served_none : (h : HostState) (n : ℕ) (series : Series) (event : HostEvent) → IsServedBy h n series event → AlwaysAsked event
+served_none h n Running event is = gives_none h n (node_of h n).text event is
+served_none h n Due event (plan, more, payload, start, is) = subst AlwaysAsked (sym is) (λ h. tt)
+served_none h n Idle event (inl is) = subst AlwaysAsked (sym is) (λ h. tt)
+served_none h n Idle event (inr is) = subst AlwaysAsked (sym is) (λ h. tt)
+
+node_none : (h : HostState) (next : Option ℕ) (event : HostEvent) → IsNextOfNodes h next event → AlwaysAsked event
+node_none h None event is = absurd is
+node_none h (Some n) event is = served_none h n (node_of h n).series event is
+
+next_none : (h : HostState) (owes : Bool) (queue : List Task) (event : HostEvent) → IsNextOf h owes queue event → AlwaysAsked event
+next_none h true queue event is = subst AlwaysAsked (sym is) (λ h. tt)
+next_none h false (task ∷ more) event is = subst AlwaysAsked (sym is) (λ h. tt)
+next_none h false [] event is = node_none h (next_of h.nodes h.served) event is
+
+submits_none : (h : HostState) (inner : List HostEvent) → Submits h inner → AllByRecursion AlwaysAsked inner
+submits_none h [] is = tt
+submits_none h (event ∷ inner) is = (next_none h h.requests.owes h.requests.queue event is.0.1, submits_none (after h event) inner is.1)
+
+pumps_none : (h : HostState) (inner : List HostEvent) → Pumps h inner → AllByRecursion AlwaysAsked inner
+pumps_none h inner (first, rest, are, sleeps, submits) =
+    subst (λ (l : List HostEvent). AllByRecursion AlwaysAsked l) (sym are)
+    (all-append AlwaysAsked first rest (sleep_none h first sleeps) (submits_none (after_all h first) rest submits))
+
+nodes_none : (nodes : List ℕ) → AllByRecursion AlwaysAsked (map Node_ticks nodes)
+nodes_none [] = tt
+nodes_none (n ∷ nodes) = ((λ h. tt), nodes_none nodes)
+
+ticks_none : (h : HostState) → AllByRecursion AlwaysAsked (tick_events h)
+ticks_none h = ((λ h. tt), ((λ h. tt), nodes_none (ticking_nodes (after_all h first_ticks))))
+
+-- ---- schedules
+
+-- the events of a schedule ask well
+abbrev pub AsksWellAt : Schedule → Type 0
+AsksWellAt Kind = (m : Machine) (events : List Event) → Kind m events → AllAsked m events
+
+pub asked_both : (m : Machine) (a b : List Event) → AllAsked m a → AllAsked (happens_all m a) b → AllAsked m (a ++ b)
+asked_both m [] b first later = later
+asked_both m (event ∷ a) b first later = (first.0, asked_both (happens m event) a b first.1 later)
+
+asked_then : (First Second : Schedule) → AsksWellAt First → AsksWellAt Second → AsksWellAt (Then First Second)
+asked_then First Second first second m events (a, b, are, is_first, is_second) =
+    subst (λ (l : List Event). AllAsked m l) (sym are) (asked_both m a b (first m a is_first) (second (happens_all m a) b is_second))
+
+outer_asked : (m : Machine) (inner : List OuterEvent) → AllAsked m (map Outside_does inner)
+outer_asked m [] = tt
+outer_asked m (event ∷ inner) = (tt, outer_asked (happens m (Outside_does event)) inner)
+
+outside_asked : (Kind : List OuterEvent → Type 0) (m : Machine) (events : List Event) → Outside Kind events → AllAsked m events
+outside_asked Kind m events (inner, is, are) = subst (λ (l : List Event). AllAsked m l) (sym are) (outer_asked m inner)
+
+one_outside : (m : Machine) (event : OuterEvent) (events : List Event) → events ≡ Outside_does event ∷ [] → AllAsked m events
+one_outside m event events are = subst (λ (l : List Event). AllAsked m l) (sym are) (tt, tt)
+
+none_asked : (m : Machine) (events : List Event) → events ≡ [] → AllAsked m events
+none_asked m events are = subst (λ (l : List Event). AllAsked m l) (sym are) tt
+
+-- ---- a settling
+
+pump_asked : AsksWellAt IsPump
+pump_asked m events (inner, pumps, are) = subst (λ (l : List Event). AllAsked m l) (sym are) (hosts_asked m inner (pumps_none m.host.state inner pumps))
+
+host_asked_by : (m : Machine) (stalled : Bool) (bytes : List ℕ) (events : List Event) → TakesBy stalled bytes events → AllAsked m events
+host_asked_by m true bytes events is = none_asked m events is
+host_asked_by m false [] events is = none_asked m events is
+host_asked_by m false (byte ∷ bytes) events (rest, items, inner, are) = subst (λ (l : List Event). AllAsked m l) (sym are) (tt, tt)
+
+host_part_asked : AsksWellAt IsHostPart
+host_part_asked m events is = host_asked_by m (is_stalled m.outside.outer) m.outside.outer.to_host.bytes events is
+
+move_asked : AsksWellAt IsMove
+move_asked = asked_then IsChipPart IsHostPart (λ m events is. outside_asked _ m events is) host_part_asked
+
+if_moved_asked : (moved : List Event) (More : Schedule) → AsksWellAt More → AsksWellAt (IfMoved moved More)
+if_moved_asked [] More more m events is = none_asked m events is
+if_moved_asked (one ∷ moved) More more m events is = more m events is
+
+passes_asked : (count : ℕ) → AsksWellAt (Passes count)
+passes_asked zero m events is = none_asked m events is
+passes_asked (suc more) m events (moves, rest, are, moved, after) =
+    subst (λ (l : List Event). AllAsked m l) (sym are)
+    (asked_both m moves rest (move_asked m moves moved)
+    (asked_then IsPump (IfMoved moves (Passes more)) pump_asked (if_moved_asked moves (Passes more) (passes_asked more)) (happens_all m moves) rest after))
+
+settling_asked : AsksWellAt Settles
+settling_asked = asked_then IsPump (Passes 64) pump_asked (passes_asked 64)
+
+-- ---- ticks
+
+host_tick_asked : AsksWellAt IsHostTick
+host_tick_asked m events are = subst (λ (l : List Event). AllAsked m l) (sym are) (tt, hosts_asked (happens m Decoder_ticks) (tick_events m.host.state) (ticks_none m.host.state))
+
+outside_tick_asked : AsksWellAt IsOutsideTick
+outside_tick_asked =
+    asked_then IsDelivery (Then IsGiving (Then IsDeviceTick IsChipTick)) (λ m events is. outside_asked _ m events is)
+    (asked_then IsGiving (Then IsDeviceTick IsChipTick) (λ m events is. outside_asked _ m events is)
+    (asked_then IsDeviceTick IsChipTick (λ m events is. outside_asked _ m events is) (λ m events are. one_outside m _ events are)))
+
+tick_asked : AsksWellAt IsTick
+tick_asked =
+    asked_then IsClockTick (Then IsOutsideTick (Then IsHostTick Settles)) (λ m events are. one_outside m _ events are)
+    (asked_then IsOutsideTick (Then IsHostTick Settles) outside_tick_asked (asked_then IsHostTick Settles host_tick_asked settling_asked))
+
+ticks_asked : (count : ℕ) → AsksWellAt (Ticks count)
+ticks_asked zero m events is = none_asked m events is
+ticks_asked (suc more) m events is = asked_then IsTick (Ticks more) tick_asked (ticks_asked more) m events is
+
+-- ---- lines
+
+refusal_asked : (line : Line) (m : Machine) (events : List Event) → IsRefusal line events → AllAsked m events
+refusal_asked line m events (refusal, are) = subst (λ (l : List Event). AllAsked m l) (sym are) (tt, tt)
+
+-- where no rule refuses a request, it is asked well
+asks_asked : (rule : Option Refused) (line : Line) (event : HostEvent) (m : Machine) (events : List Event) → (rule ≡ None → IsAsked m.host.state event) → Asks rule line event events → AllAsked m events
+asks_asked None line event m events well are = subst (λ (l : List Event). AllAsked m l) (sym are) (well refl, tt)
+asks_asked (Some refused) line event m events well (refusal, shown, are) = subst (λ (l : List Event). AllAsked m l) (sym are) (tt, tt)
+
+done_asked : (line : Line) (these : List Event) (m : Machine) (events : List Event) → IsDone line these events → AllAsked m these → AllAsked m events
+done_asked line these m events (inl are) asked = subst (λ (l : List Event). AllAsked m l) (sym are) asked
+done_asked line these m events (inr refused) asked = refusal_asked line m events refused
+
+restart_asked : (m : Machine) (events : List Event) → IsRestart events → AllAsked m events
+restart_asked m events (inl (state, are)) = subst (λ (l : List Event). AllAsked m l) (sym are) (tt, (tt, (tt, tt)))
+restart_asked m events (inr refused) = refusal_asked Restart m events refused
+
+discovery_asked : (m : Machine) (events : List Event) → IsDiscovery m events → AllAsked m events
+discovery_asked m events (asked, asks, are) =
+    subst (λ (l : List Event). AllAsked m l) (sym are)
+    (tt, asks_asked (places_refusal m.host.state 1) Discover (Queues task.Members) (happens m (Outside_does Discovers)) asked (λ none. tt) asks)
+
+-- an interview that no rule refuses is of a node that is joined
+interview_joined : (joined : Bool) (places : Option Refused) → (if joined then places else Some NotJoined) ≡ None → joined ≡ true
+interview_joined true places none = refl
+interview_joined false places none = absurd cc
+
+interview_asked : (h : HostState) (n : ℕ) → interview_refusal h n ≡ None → IsAsked h (Queues_interview n)
+interview_asked h n none = interview_joined (node_of h n).joined (places_refusal h 2) none
+
+effect_asked : (line : Line) → IsInRange line → AsksWellAt (IsEffect line)
+effect_asked (Command order) range m events is = done_asked (Command order) _ m events is (range, tt)
+effect_asked (Tick count) range m events is = absurd is
+effect_asked (Cut size) range m events is = one_outside m _ events is
+effect_asked (Stall ticks) range m events is = one_outside m _ events is
+effect_asked (Drop by) range m events is = one_outside m _ events is
+effect_asked (Garble by place xor) range m events is = one_outside m _ events is
+effect_asked Collide range m events is = one_outside m _ events is
+effect_asked (Send node word) range m events is =
+    let classes = classes_of (known_of (node_of m.host.state node)) in
+    asks_asked (send_refusal (known_of (node_of m.host.state node)) (length m.host.state.requests.queue) word) (Send node word)
+    (Queues (task.Plain node (send_text classes word))) m events (λ none. send_short classes word) is
+effect_asked (Get node end) range m events is =
+    let classes = classes_of (known_of (node_of m.host.state node)) in
+    asks_asked (get_refusal (known_of (node_of m.host.state node)) (length m.host.state.requests.queue) end) (Get node end)
+    (Queues (task.Plain node (get_text classes end))) m events (λ none. get_short classes end) is
+effect_asked (Join node) range m events is = done_asked (Join node) _ m events is (range, (tt, tt))
+effect_asked (Interview node) range m events is =
+    asks_asked (interview_refusal m.host.state node) (Interview node) (Queues_interview node) m events (interview_asked m.host.state node) is
+effect_asked (Lose count) range m events is = one_outside m _ events is
+effect_asked (LoseAck count) range m events is = one_outside m _ events is
+effect_asked (Repeat frame) range m events is = outside_asked _ m events is
+effect_asked (Wake node) range m events is = outside_asked _ m events is
+effect_asked (Cancel command) range m events is = done_asked (Cancel command) _ m events is (tt, tt)
+effect_asked (Link first second) range m events is = one_outside m _ events is
+effect_asked (Unlink first second) range m events is = one_outside m _ events is
+effect_asked Discover range m events is = discovery_asked m events is
+effect_asked (Neighbours node) range m events is = asks_asked (places_refusal m.host.state 1) (Neighbours node) (Queues (task.Neighbours node)) m events (λ none. tt) is
+effect_asked (Failed node) range m events is = asks_asked (places_refusal m.host.state 1) (Failed node) (Queues (task.IsFailed node)) m events (λ none. tt) is
+effect_asked Probe range m events is = asks_asked (places_refusal m.host.state 3) Probe Queues_probe m events (λ none. tt) is
+effect_asked (Local node value) range m events is = outside_asked _ m events is
+effect_asked (Show node) range m events is = one_outside m _ events is
+effect_asked (Store node) range m events is = subst (λ (l : List Event). AllAsked m l) (sym is) (tt, tt)
+effect_asked Restart range m events is = restart_asked m events is
+
+begin_asked : AsksWellAt IsLineBegin
+begin_asked m events are = one_outside m _ events are
+
+plain_line : (line : Line) → IsInRange line → AsksWellAt (Then (IsEffect line) Settles)
+plain_line line range = asked_then (IsEffect line) Settles (effect_asked line range) settling_asked
+
+rest_asked : (line : Line) → IsInRange line → AsksWellAt (IsLineRest line)
+rest_asked (Command order) range = plain_line (Command order) range
+rest_asked (Tick count) range = ticks_asked count
+rest_asked (Cut size) range = plain_line (Cut size) range
+rest_asked (Stall ticks) range = plain_line (Stall ticks) range
+rest_asked (Drop by) range = plain_line (Drop by) range
+rest_asked (Garble by place xor) range = plain_line (Garble by place xor) range
+rest_asked Collide range = plain_line Collide range
+rest_asked (Send node word) range = plain_line (Send node word) range
+rest_asked (Get node end) range = plain_line (Get node end) range
+rest_asked (Join node) range = plain_line (Join node) range
+rest_asked (Interview node) range = plain_line (Interview node) range
+rest_asked (Lose count) range = plain_line (Lose count) range
+rest_asked (LoseAck count) range = plain_line (LoseAck count) range
+rest_asked (Repeat frame) range = plain_line (Repeat frame) range
+rest_asked (Wake node) range = plain_line (Wake node) range
+rest_asked (Cancel command) range = plain_line (Cancel command) range
+rest_asked (Link first second) range = plain_line (Link first second) range
+rest_asked (Unlink first second) range = plain_line (Unlink first second) range
+rest_asked Discover range = plain_line Discover range
+rest_asked (Neighbours node) range = plain_line (Neighbours node) range
+rest_asked (Failed node) range = plain_line (Failed node) range
+rest_asked Probe range = plain_line Probe range
+rest_asked (Local node value) range = plain_line (Local node value) range
+rest_asked (Show node) range = plain_line (Show node) range
+rest_asked (Store node) range = plain_line (Store node) range
+rest_asked Restart range = plain_line Restart range
+
+pub line_asked : (line : Line) → IsInRange line → AsksWellAt (IsLine line)
+line_asked line range = asked_then IsLineBegin (IsLineRest line) begin_asked (rest_asked line range)
+
+pub lines_asked : (lines : List Line) → AllByRecursion IsInRange lines → AsksWellAt (AreLines lines)
+lines_asked [] range m events is = none_asked m events is
+lines_asked (line ∷ lines) range m events is = asked_then (IsLine line) (AreLines lines) (line_asked line range.0) (lines_asked lines range.1) m events is

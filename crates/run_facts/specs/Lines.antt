@@ -1,0 +1,69 @@
+-- What the lines of a scenario ask of the host (this project's own): every number that a line names is in its range, and nothing else is asked.
+use Rattle.std.specs.Prelude.{◌≡◌, ◌≤◌, ℕ, true, List, [], ◌∷◌, length, Ok, Some}
+use Rattle.zw_text.specs.Line.{line_at}
+use Rattle.zw_text.specs.declared.line.Line.{Line}
+use Rattle.zw_text.specs.declared.line.Line.TheVariants.{Command, Join}
+use Rattle.host_keep.specs.Rows.{IsNode, IsOrder}
+use Rattle.host_requests.specs.Events.{RequestsEvent}
+use Rattle.host_requests.specs.Events.RequestsEvent.{Pushes, PushesInterview}
+use Rattle.host_requests.specs.declared.task.Task.{Task}
+use Rattle.host_requests.specs.declared.task.Task.TheVariants.{Plain, Offer, Segment, First, Second}
+use Rattle.host_events.specs.State.{HostState, node_of}
+use Rattle.host_events.specs.Events.{HostEvent, Accepts, Joins, Queues, Queues_interview, Requests_do, Interviews, Finishes, Gives, Spends, Spends_unread, Takes_nonce}
+use Rattle.zw_machine.specs.State.{Machine}
+use Rattle.zw_machine.specs.Events.{Event, Host_does, happens}
+
+-- ---- lines
+
+-- a line that was read from a text
+abbrev pub IsRead : Line → Type 0
+IsRead line = (text : List ℕ) × (line_at text ≡ Ok (Some line))
+
+-- the numbers of its order, and the node that is to join, are in range
+abbrev pub IsInRange : Line → Type 0
+IsInRange (Command order) = IsOrder order
+IsInRange (Join node) = IsNode node
+IsInRange line = Unit {0}
+
+-- ---- what the host is asked
+
+-- a message of a user's own, that fits a frame of the radio, or a question; an interview is asked for as a whole
+abbrev pub IsErrand : Task → Type 0
+IsErrand (Plain n payload) = length payload ≤ 46
+IsErrand (Offer n nonce) = ⊥
+IsErrand (Segment n payload) = ⊥
+IsErrand (First n) = ⊥
+IsErrand (Second n) = ⊥
+IsErrand task = Unit {0}
+
+-- the requests are asked for nothing behind the host's back
+abbrev pub AsksNothing : RequestsEvent → Type 0
+AsksNothing (Pushes task) = ⊥
+AsksNothing (PushesInterview n) = ⊥
+AsksNothing event = Unit {0}
+
+-- What the host does of itself or for a line: the order and the node that it is asked for are in range, an interview is asked of a node that is joined, and
+-- a task that is asked for is an errand. It is nothing that only the chip's bytes bring.
+abbrev pub IsAsked : HostState → HostEvent → Type 0
+IsAsked h (Accepts order carriage) = IsOrder order
+IsAsked h (Joins n) = IsNode n
+IsAsked h (Queues task) = IsErrand task
+IsAsked h (Queues_interview n) = (node_of h n).joined ≡ true
+IsAsked h (Requests_do event moment) = AsksNothing event
+IsAsked h (Interviews n listens classes update) = ⊥
+IsAsked h (Finishes n session id command status wake_request) = ⊥
+IsAsked h (Gives n drawn) = ⊥
+IsAsked h (Spends n) = ⊥
+IsAsked h (Spends_unread n payload) = ⊥
+IsAsked h (Takes_nonce n seen text) = ⊥
+IsAsked h event = Unit {0}
+
+-- so at an event of the machine. What the chip's bytes make the host do is by those bytes
+abbrev pub AsksWell : Machine → Event → Type 0
+AsksWell m (Host_does event) = IsAsked m.host.state event
+AsksWell m event = Unit {0}
+
+-- so for each of these events
+abbrev pub AllAsked : Machine → List Event → Type 0
+AllAsked m [] = Unit {0}
+AllAsked m (event ∷ events) = AsksWell m event × AllAsked (happens m event) events
