@@ -1,0 +1,4 @@
+pub mod Thinning
+pub mod Flights
+pub mod Saying
+pub mod Devices

@@ -1,0 +1,4 @@
+pub mod Ways
+pub mod Meaning
+pub mod Air
+pub mod Device

@@ -1,0 +1,10 @@
+//! That the machine goes, for each node, a course of its sessions.
+#![tactic(auto)]
+
+mod air;
+mod device;
+mod ways;
+
+pub use air::frames_follow_the_course;
+pub use device::devices_follow_the_course;
+pub use ways::ways_may_thin;
