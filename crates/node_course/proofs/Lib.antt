@@ -2,3 +2,5 @@ pub mod Thinning
 pub mod Flights
 pub mod Saying
 pub mod Devices
+pub mod Replies
+pub mod Arriving

@@ -2,3 +2,4 @@ pub mod Ways
 pub mod Meaning
 pub mod Air
 pub mod Device
+pub mod Mesh

@@ -3,8 +3,10 @@
 
 mod air;
 mod device;
+mod mesh;
 mod ways;
 
 pub use air::frames_follow_the_course;
 pub use device::devices_follow_the_course;
+pub use mesh::arrivals_follow_the_course;
 pub use ways::ways_may_thin;
