@@ -4,3 +4,5 @@ pub mod Saying
 pub mod Devices
 pub mod Replies
 pub mod Arriving
+pub mod Moving
+pub mod Chipping

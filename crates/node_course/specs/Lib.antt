@@ -3,3 +3,5 @@ pub mod Meaning
 pub mod Air
 pub mod Device
 pub mod Mesh
+pub mod Lines
+pub mod Chip
