@@ -1,0 +1,12 @@
+pub mod Parts
+pub mod Flights
+pub mod Telling
+pub mod Arriving
+pub mod Losing
+pub mod Calm
+pub mod Going
+pub mod Outside
+pub mod Hosting
+pub mod Settling
+pub mod Ticking
+pub mod Lines
