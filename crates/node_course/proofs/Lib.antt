@@ -6,3 +6,5 @@ pub mod Replies
 pub mod Arriving
 pub mod Moving
 pub mod Chipping
+pub mod ChipTelling
+pub mod Outer

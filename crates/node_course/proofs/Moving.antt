@@ -31,7 +31,7 @@ thinned_same (x ∷ xs) = inl (refl, more x xs)
     more x (y ∷ xs) = inr (inl (refl, more y xs))
 
 -- what is left out before
-thinned_behind : {X : Type 0} (front xs ys : List X) → Thinned xs ys → Thinned (front ++ xs) ys
+pub thinned_behind : {X : Type 0} (front xs ys : List X) → Thinned xs ys → Thinned (front ++ xs) ys
 thinned_behind [] xs ys is = is
 thinned_behind (x ∷ front) xs [] is = tt
 thinned_behind (x ∷ front) xs (y ∷ ys) is = inr (thinned_behind front xs (y ∷ ys) is)

@@ -5,3 +5,4 @@ pub mod Device
 pub mod Mesh
 pub mod Lines
 pub mod Chip
+pub mod Outside

@@ -5,6 +5,7 @@ mod air;
 mod device;
 mod lines;
 mod mesh;
+mod outside;
 mod ways;
 
 pub use air::frames_follow_the_course;
