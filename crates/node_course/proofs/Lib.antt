@@ -8,3 +8,4 @@ pub mod Moving
 pub mod Chipping
 pub mod ChipTelling
 pub mod Outer
+pub mod OuterEvents

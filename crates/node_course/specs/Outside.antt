@@ -2,13 +2,15 @@
 use Rattle.std.specs.Prelude.{◌≡◌, ℕ, ◌≤◌, Option, List, [], ◌∷◌}
 use Rattle.supervision.specs.Ends.{Report}
 use Rattle.courses.specs.Sessions.{Course, Message}
-use Rattle.serial_frame.specs.Stream.{Rest}
+use Rattle.serial_frame.specs.Stream.{Rest, no_rest}
+use Rattle.zw_words.specs.declared.side.Side.{Side}
+use Rattle.zw_words.specs.declared.side.Side.TheVariants as side
 use Rattle.serial_frame.specs.declared.item.Item.{Item}
 use Rattle.serial_link.specs.declared.turn.Turn.{Turn}
 use Rattle.route_table.specs.declared.route.Route.{Route}
 use Rattle.chip_sim.specs.Rules.{WaitsWell}
 use Rattle.outer_events.specs.State.{Outside}
-use Rattle.outer_events.specs.Events.{mesh_of}
+use Rattle.outer_events.specs.Events.{OuterEvent, Chip_ticks, Clears_pipe, mesh_of}
 use Rattle.line_facts.specs.Way.{Carries}
 use Rattle.line_facts.specs.Chip.{HasFrames}
 use Rattle.node_course.specs.Ways.{Goes}
@@ -36,3 +38,13 @@ pub record OuterGoes (node : ℕ) (orders : List Asked) (c : Course) (rest : Res
   pub up : List Item
   pub down : List Item
   pub follows : Follows node orders later rest turn up down w
+
+-- who ticks, or loses what is on its way to it, has nothing unfinished; `rest` is what is unfinished at the host
+abbrev pub SideRests : Rest → Outside → Side → Type 0
+SideRests rest w side.Host = w.outer.chip.decoder ≡ no_rest
+SideRests rest w side.Chip = rest ≡ no_rest
+
+abbrev pub Rests : Rest → Outside → OuterEvent → Type 0
+Rests rest w Chip_ticks = w.outer.chip.decoder ≡ no_rest
+Rests rest w (Clears_pipe side) = SideRests rest w side
+Rests rest w event = Unit {0}

@@ -12,4 +12,5 @@ pub use air::frames_follow_the_course;
 pub use device::devices_follow_the_course;
 pub use lines::chips_carry_reports;
 pub use mesh::arrivals_follow_the_course;
+pub use outside::outsides_follow_the_course;
 pub use ways::ways_may_thin;
