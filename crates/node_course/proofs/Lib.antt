@@ -9,3 +9,5 @@ pub mod Chipping
 pub mod ChipTelling
 pub mod Outer
 pub mod OuterEvents
+pub mod NodeKeeping
+pub mod HostFrames

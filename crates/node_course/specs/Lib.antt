@@ -6,3 +6,4 @@ pub mod Mesh
 pub mod Lines
 pub mod Chip
 pub mod Outside
+pub mod Host
