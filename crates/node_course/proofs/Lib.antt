@@ -11,3 +11,5 @@ pub mod Outer
 pub mod OuterEvents
 pub mod NodeKeeping
 pub mod HostFrames
+pub mod HostDoing
+pub mod HostEvents

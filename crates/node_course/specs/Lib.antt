@@ -7,3 +7,4 @@ pub mod Lines
 pub mod Chip
 pub mod Outside
 pub mod Host
+pub mod HostGoing

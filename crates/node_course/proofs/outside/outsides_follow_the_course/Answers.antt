@@ -2,6 +2,8 @@
 use Rattle.node_course.proofs.OuterEvents.{Laws, event_goes, first_follows}
 use Rattle.node_course.proofs.NodeKeeping.{failing_same}
 use Rattle.node_course.proofs.HostFrames.{frame_sends}
+use Rattle.node_course.proofs.HostDoing.{writes_go}
+use Rattle.node_course.proofs.HostEvents.{session_numbered}
 use Rattle.node_course.proofs.outside.outsides_follow_the_course.Goals as goal
 
 pub returns-clause-first : goal.returns-clause-first
