@@ -39,11 +39,14 @@ use Rattle.host_node.specs.Steps.{tick_end}
 use Rattle.host_node.specs.declared.attempt.Plan.{Plan}
 use Rattle.host_node.specs.declared.attempt.Plan.TheVariants.{Whole, Segments, Sealed as seals}
 use Rattle.host_keep.specs.Status.{status_byte}
+use Rattle.host_keep.specs.declared.final_status.FinalStatus.{FinalStatus}
 use Rattle.s0_session.specs.Nonces.{live_of}
 use Rattle.host_events.specs.State.{HostState, Command, node_of, with_node, command_at}
-use Rattle.host_events.specs.Sessions.{message_for, segment_by, segment_of, command_if, open_segment, open_command, Start, start_by, start_of}
+use Rattle.host_events.specs.Sessions.{message_for, segment_by, segment_of, command_if, open_segment, open_command, settings_with, Start, start_by, start_of}
 use Rattle.host_events.specs.After.{after as after_host, node_does, requests_do, submits, submits_part, front_purpose, queues_if_room, offering, giving, finishing, holding, is_held, is_busy, gives_up, line_ticked, failing_if, node_for, is_full, outcome_of}
-use Rattle.host_events.specs.Outs.{outs, answer_to, copy_out, noted}
+use Rattle.host_events.specs.Outs.{outs, answer_to, copy_out, noted, request_entries, failing_entries, dropped_if, ended_of, stored_entries, held_entries}
+use Rattle.host_events.specs.Ends.{attempt_entries}
+use Rattle.zw_text.specs.declared.entry.Entry.TheVariants.{Out}
 use Rattle.host_events.specs.May.{May, IsStart, IsFree, IsServed}
 use Rattle.host_events.specs.Facts.{HostFacts, IsCommandOf, IsSound}
 use Rattle.host_events.specs.Events.{HostEvent, Accepts, Cancels, Joins, Queues, Queues_interview, Queues_probe, Hears, Requests_do, Interviews, Interview_unkept, Unreads, Is_unkept, Reports_old, Works, Finishes, Offers, Gives, Spends, Spends_unread, Takes_nonce, Notifies, Resends, Hears_value, Has_no_room, Line_ticks, Node_ticks, Queues_no_more, Drops_no_more, Submits_abort, Submits_front, Starts, Gives_text, Gives_segment, Begins, Begin_unkept}
@@ -245,3 +248,114 @@ module _ (nonces : (nonce : List ℕ) → IsOther (nonce_report nonce)) (no_more
           submits_message node orders c h at (after_host h (Starts n plan more payload)) (frame_of (Attempt n more payload) (next_id h.requests.last_id))
           (part_same n more payload (node_starts plan) (λ e. subst (λ (q : Plan). IsQuiet (node_starts q)) (sym whole) tt)) refl free some
           (attempt_asks nonces no_more node orders c.host.commands n more payload (next_id h.requests.last_id) (Some (record { session = begun_of c.host; is_segment = false })) (λ e. (refl, message)))
+
+  free_turn : IsFree h → is_busy h.side.turn ≡ false
+  free_turn free = free.free_line
+
+  -- a task that waited is submitted
+  front_other : (queue : List Task) (id : ℕ) → AllByRecursion (IsOtherTask node) queue → Asks node orders c.host.commands (frame_of (front_purpose queue) id) None
+  front_other [] id all = abort_asks nonces no_more node orders c.host.commands id
+  front_other (queued ∷ rest) id all = task_asks nonces no_more node orders c.host.commands queued id all.0
+
+  text_given : (n : ℕ) (payload : List ℕ) → (node_of h n).text ≡ Some payload → n ≡ node → ⊥
+  text_given n payload is own = let bad : None ≡ Some payload = sym at.node_as.1.1.0 ∙ (ap (λ (k : ℕ). (node_of h k).text) (sym own) ∙ is) in absurd cc
+
+  nonce_taken : (n seen : ℕ) (text : List ℕ) → May h (Takes_nonce n seen text) → SameHost node h (node_does h n (node_takes_nonce seen text))
+  nonce_taken n seen text (nonce, own, count, sealed) = by (n == node) refl
+    where
+      by : (b : Bool) → (n == node) ≡ b → SameHost node h (node_does h n (node_takes_nonce seen text))
+      by true mine =
+          let same : n ≡ node = eqb-true n node mine in
+          let bad : None ≡ Some sealed.plain = sym at.node_as.1.1.1 ∙ (ap (λ (k : ℕ). (node_of h k).pending) (sym same) ∙ sealed.is_pending) in absurd cc
+      by false other = other_same node h n (after_node (node_of h n) (node_takes_nonce seen text)) (λ e. absurd (grind (arith, other, e)))
+
+  finished_same : (n session id command : ℕ) (status : FinalStatus) (wake_request : Bool) → n ≢ node → SameHost node h (after_host h (Finishes n session id command status wake_request))
+  finished_same n session id command status wake_request apart =
+      let done : HostState = with_node h n (after_node (node_of h n) (node_reports id (status_byte status))) in
+      same_then node h done (after_host h (Finishes n session id command status wake_request)) (other_same node h n (after_node (node_of h n) (node_reports id (status_byte status))) apart)
+      (same_then node done (finishing h n id command status) (after_host h (Finishes n session id command status wake_request))
+      (same_host node done (finishing h n id command status) refl (outcome_orders h.commands command (outcome_of status)) refl refl)
+      (holding_same node (finishing h n id command status) n (is_held h n wake_request)))
+
+  line_ticks : Wrote node orders c h (after_host h Line_ticks) (host_units (outs h Line_ticks))
+  line_ticks =
+      let ticked : HostState = line_ticked h in
+      let b : Bool = gives_up h.side.turn (tick_side h.side).turn in
+      let same : SameHost node ticked (after_host h Line_ticks) = failing_same node b ticked in
+      let there : AtHost node orders c.host (after_host h Line_ticks) = record {
+        node_as = same.node_as c.host.commands c.host.outcome at.node_as;
+        orders_are = at.orders_are ∙ sym same.orders;
+        plain = at.plain;
+        queue = same.queue at.queue;
+      } in
+      subst (λ (us : List LineUnit). Wrote node orders c h (after_host h Line_ticks) us) (sym (copy_units (copy_due h.side.turn) (failing_entries (gives_up h.side.turn (tick_side h.side).turn) (line_ticked h))))
+      (turns node orders c h at (after_host h Line_ticks) (copies_of (copy_due h.side.turn)) there
+      (λ Is. subst (λ (s : Side). Moves Is h.side.turn [] (copies_of (copy_due h.side.turn)) s.turn [] []) (sym same.side) (move_ticked Is h.side.turn [])))
+
+  pub event_wrote : (event : HostEvent) → May h event → AsksPlainly node event → IsAside node event → Wrote node orders c h (after_host h event) (host_units (outs h event))
+  event_wrote (Accepts order carriage) may asks aside = accepted order carriage asks
+  event_wrote (Cancels command) may asks aside =
+      quiet (after_host h (Cancels command)) (Cancels command)
+      (same_then node h (node_does h (node_for h command) (node_cancels command)) (after_host h (Cancels command)) (does_same node h (node_for h command) (node_cancels command) tt)
+      (same_host node (node_does h (node_for h command) (node_cancels command)) (after_host h (Cancels command)) refl (outcome_orders h.commands command _) refl refl)) refl
+  event_wrote (Joins n) may asks aside = quiet (after_host h (Joins n)) (Joins n) (does_same node h n node_joins tt) refl
+  event_wrote (Queues queued) may asks aside = quiet (after_host h (Queues queued)) (Queues queued) (requests_same node h (Pushes queued) asks) refl
+  event_wrote (Queues_interview n) may asks aside = quiet (after_host h (Queues_interview n)) (Queues_interview n) (requests_same node h (PushesInterview n) tt) refl
+  event_wrote Queues_probe may asks aside = quiet (after_host h Queues_probe) Queues_probe (requests_same node h PushesProbe tt) refl
+  event_wrote (Hears item) may asks aside =
+      turns node orders c h at (after_host h (Hears item)) (host_units (answer_to item)) (record { node_as = at.node_as; orders_are = at.orders_are; plain = at.plain; queue = at.queue }) (answered item)
+  event_wrote (Requests_do event moment) may asks aside = quiet (after_host h (Requests_do event moment)) (Requests_do event moment) (request_same node h event moment asks) (noted_none (request_entries h event))
+  event_wrote (Interviews n listens classes update) may asks aside =
+      quiet (after_host h (Interviews n listens classes update)) (Interviews n listens classes update)
+      (same_then node h (requests_do h (Updates update)) (after_host h (Interviews n listens classes update)) (requests_same node h (Updates update) tt) (does_same node (requests_do h (Updates update)) n (node_interviews listens classes) tt)) refl
+  event_wrote (Interview_unkept n update) may asks aside = quiet (after_host h (Interview_unkept n update)) (Interview_unkept n update) (requests_same node h (Updates update) tt) refl
+  event_wrote (Unreads n payload) may asks aside = quiet h (Unreads n payload) (same_host node h h refl refl refl refl) refl
+  event_wrote (Is_unkept n) may asks aside = quiet h (Is_unkept n) (same_host node h h refl refl refl refl) refl
+  event_wrote (Reports_old n id) may asks aside = quiet h (Reports_old n id) (same_host node h h refl refl refl refl) refl
+  event_wrote (Works n id) may asks aside =
+      quiet (after_host h (Works n id)) (Works n id) (record {
+        node_as = λ cs o was. set_as cs o h node n (after_node (node_of h n) (node_reports id 1)) was (λ e. works_keeps cs o (node_of h n) id may (subst (λ (k : ℕ). NodeAs cs o (node_of h k)) (sym e) was));
+        orders = refl;
+        queue = λ all. all;
+        side = refl;
+      }) refl
+  event_wrote (Finishes n session id command status wake_request) may asks apart =
+      quiet (after_host h (Finishes n session id command status wake_request)) (Finishes n session id command status wake_request) (finished_same n session id command status wake_request apart) (noted_none (Out command (ended_of status) ∷ (stored_entries n (settings_with status (command_at h.commands command)) ++ held_entries n (is_held h n wake_request))))
+  event_wrote (Offers n) may asks aside = quiet (after_host h (Offers n)) (Offers n) (offering_same h n (live_of h.nonces n)) (noted_none (dropped_if (is_full h) n))
+  event_wrote (Gives n drawn) may asks aside =
+      quiet (after_host h (Gives n drawn)) (Gives n drawn)
+      (same_then node h (giving h n drawn) (after_host h (Gives n drawn)) (same_host node h (giving h n drawn) refl refl refl refl) (offering_same (giving h n drawn) n (live_of (giving h n drawn).nonces n))) (noted_none (dropped_if (is_full h) n))
+  event_wrote (Spends n) may asks aside = quiet (after_host h (Spends n)) (Spends n) (same_host node h (after_host h (Spends n)) refl refl refl refl) refl
+  event_wrote (Spends_unread n payload) may asks aside = quiet (after_host h (Spends_unread n payload)) (Spends_unread n payload) (same_host node h (after_host h (Spends_unread n payload)) refl refl refl refl) refl
+  event_wrote (Takes_nonce n seen text) may asks aside = quiet (after_host h (Takes_nonce n seen text)) (Takes_nonce n seen text) (nonce_taken n seen text may) refl
+  event_wrote (Notifies n) may asks aside = quiet (after_host h (Notifies n)) (Notifies n) (does_same node h n node_notifies tt) refl
+  event_wrote (Resends n payload) (k, found) asks aside =
+      quiet (after_host h (Resends n payload)) (Resends n payload)
+      (room_same node h (task.Segment n payload) (λ own. absurd (no_segment (open_session (node_of h node).book) k payload (subst (λ (m : ℕ). open_segment h (node_of h m) (open_session (node_of h m).book) k ≡ Some payload) own found)))) (noted_none (dropped_if (is_full h) n))
+  event_wrote (Hears_value n setting) may asks aside = quiet (after_host h (Hears_value n setting)) (Hears_value n setting) (same_host node h (after_host h (Hears_value n setting)) refl refl refl refl) refl
+  event_wrote (Has_no_room n property) may asks aside = quiet h (Has_no_room n property) (same_host node h h refl refl refl refl) refl
+  event_wrote Line_ticks may asks aside = line_ticks
+  event_wrote (Node_ticks n) may asks aside =
+      quiet (after_host h (Node_ticks n)) (Node_ticks n)
+      (same_then node h (node_does h n node_ticks) (after_host h (Node_ticks n)) (does_same node h n node_ticks tt) (ended_same node (node_does h n node_ticks) (tick_end (node_of h n)) (open_command (node_of h n)))) (noted_none (attempt_entries n (tick_end (node_of h n)) (open_command (node_of h n))))
+  event_wrote (Queues_no_more n) may asks aside =
+      quiet (after_host h (Queues_no_more n)) (Queues_no_more n)
+      (same_then node h (node_does h n node_queues_no_more) (after_host h (Queues_no_more n)) (does_same node h n node_queues_no_more tt) (requests_same node (node_does h n node_queues_no_more) (Pushes (task.NoMore n)) tt)) refl
+  event_wrote (Drops_no_more n) may asks aside = quiet (after_host h (Drops_no_more n)) (Drops_no_more n) (does_same node h n node_drops_no_more tt) refl
+  event_wrote Submits_abort may asks aside =
+      submits_other node orders c h at (after_host h Submits_abort) (frame_of Abort (next_id h.requests.last_id)) (requests_same node h BeginsAbort tt) refl (free_turn may.0)
+      (abort_asks nonces no_more node orders c.host.commands (next_id h.requests.last_id))
+  event_wrote Submits_front may asks aside =
+      submits_other node orders c h at (after_host h Submits_front) (frame_of (front_purpose h.requests.queue) (next_id h.requests.last_id)) (requests_same node h BeginsFront tt) refl (free_turn may.0)
+      (front_other h.requests.queue (next_id h.requests.last_id) at.queue)
+  event_wrote (Starts n plan more payload) may asks aside = started n plan more payload (free_turn may.0.free) may.1
+  event_wrote (Gives_text n payload) may asks aside =
+      submits_other node orders c h at (after_host h (Gives_text n payload)) (frame_of (Attempt n false payload) (next_id h.requests.last_id)) (part_same n false payload node_gives_text (λ own. tt)) refl (free_turn may.0.free)
+      (attempt_asks nonces no_more node orders c.host.commands n false payload (next_id h.requests.last_id) None (λ own. absurd (text_given n payload may.1 own)))
+  event_wrote (Gives_segment n more payload) may asks aside =
+      submits_other node orders c h at (after_host h (Gives_segment n more payload)) (frame_of (Attempt n more payload) (next_id h.requests.last_id)) (part_same n more payload node_gives_segment (λ own. tt)) refl (free_turn may.0.free)
+      (attempt_asks nonces no_more node orders c.host.commands n more payload (next_id h.requests.last_id) None
+      (λ own. absurd (no_segment (open_session (node_of h node).book) (node_of h node).next_segment payload
+      (subst (λ (m : ℕ). open_segment h (node_of h m) (open_session (node_of h m).book) (node_of h m).next_segment ≡ Some payload) own may.2))))
+  event_wrote (Begins n session command) may asks aside = absurd aside
+  event_wrote (Begin_unkept n) may asks aside = quiet (after_host h (Begin_unkept n)) (Begin_unkept n) (does_same node h n node_blocks tt) refl

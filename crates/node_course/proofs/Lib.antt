@@ -13,3 +13,4 @@ pub mod NodeKeeping
 pub mod HostFrames
 pub mod HostDoing
 pub mod HostEvents
+pub mod HostEntries
