@@ -3,22 +3,33 @@ use Rattle.std.specs.Prelude.{◌≡◌, ℕ, List, [], ◌++◌}
 use Rattle.courses.specs.Sessions.{Course}
 use Rattle.serial_frame.specs.Stream.{Rest}
 use Rattle.serial_frame.specs.declared.item.Item.{Item}
+use Rattle.chip_sim.specs.Rules.{WaitsWell}
 use Rattle.host_events.specs.State.{HostState}
 use Rattle.outer_events.specs.State.{Outside}
+use Rattle.outer_events.specs.Events.{mesh_of}
+use Rattle.line_facts.specs.Way.{Carries}
+use Rattle.line_facts.specs.Chip.{HasFrames}
 use Rattle.node_course.specs.Ways.{Goes}
 use Rattle.node_course.specs.Meaning.{Asked}
-use Rattle.node_course.specs.Outside.{Follows}
+use Rattle.node_course.specs.Mesh.{InMesh}
+use Rattle.node_course.specs.Lines.{Tells, Asks, OnWay}
 use Rattle.node_course.specs.Host.{AtHost}
 
--- the course is where the host is, and what is outside it
-pub record HostFollows (node : ℕ) (orders : List Asked) (c : Course) (rest : Rest) (up down : List Item) (h : HostState) (w : Outside) : Type 0 where
-  pub outside : Follows node orders c rest h.side.turn up down w
+-- The course is where the host is, and what is outside it; the host has taken `yet` out of its pipe, and judges these items next
+pub record HostFollows (node : ℕ) (orders : List Asked) (c : Course) (rest : Rest) (up yet down : List Item) (h : HostState) (w : Outside) : Type 0 where
+  pub mesh : InMesh node orders c (mesh_of w)
+  pub to_chip : Carries w.outer.chip.decoder w.outer.to_chip up
+  pub to_host : Carries rest w.outer.to_host down
+  pub frames : HasFrames w.outer.chip.state.port
+  pub waits : WaitsWell w.outer.chip.state.port
+  pub messages : OnWay (Asks node orders c.host.commands) c.up up h.side.turn []
+  pub reports : OnWay (Tells node) c.down (yet ++ down) w.outer.chip.state.port.side.turn w.outer.chip.state.port.waiting
   pub host : AtHost node orders c.host h
 
 -- steps of the course lead to where the host is then, and what is outside it; the items on their way to the host stay
-pub record HostGoes (node : ℕ) (c : Course) (rest : Rest) (down : List Item) (h : HostState) (w : Outside) : Type 0 where
+pub record HostGoes (node : ℕ) (c : Course) (rest : Rest) (yet down : List Item) (h : HostState) (w : Outside) : Type 0 where
   pub orders : List Asked
   pub later : Course
   pub goes : Goes c later
   pub up : List Item
-  pub follows : HostFollows node orders later rest up down h w
+  pub follows : HostFollows node orders later rest up yet down h w

@@ -5,6 +5,7 @@ use Rattle.node_course.proofs.HostFrames.{frame_sends}
 use Rattle.node_course.proofs.HostDoing.{writes_go}
 use Rattle.node_course.proofs.HostEvents.{session_numbered}
 use Rattle.node_course.proofs.HostEntries.{event_begins_none}
+use Rattle.node_course.proofs.HostDoing.{begin_goes}
 use Rattle.node_course.proofs.outside.outsides_follow_the_course.Goals as goal
 
 pub returns-clause-first : goal.returns-clause-first
