@@ -318,11 +318,11 @@ module _ (laws : AirLaws) (node : ℕ) (orders : List Asked) (host : HostBook) (
       by false e = (log, on)
 
 -- an open session is told by commands and outcome alone
-open_same : (a b : HostBook) → a.commands ≡ b.commands → a.outcome ≡ b.outcome → open_session a ≡ open_session b
+pub open_same : (a b : HostBook) → a.commands ≡ b.commands → a.outcome ≡ b.outcome → open_session a ≡ open_session b
 open_same a b commands outcomes =
     ap (λ (cs : List ℕ). open_session (record { commands = cs; outcome = a.outcome; attempts = 0 })) commands ∙ ap (λ (o : Option ℕ). open_session (record { commands = b.commands; outcome = o; attempts = 0 })) outcomes
 
-set_here : {A : Type 0} (xs : List A) (n : ℕ) (y d : A) → n < length xs → get_or (set xs n y) n d ≡ y
+pub set_here : {A : Type 0} (xs : List A) (n : ℕ) (y d : A) → n < length xs → get_or (set xs n y) n d ≡ y
 set_here [] n y d within = absurd (omega (arith, within))
 set_here (x ∷ xs) zero y d within = refl
 set_here (x ∷ xs) (suc n) y d within = set_here xs n y d (omega (arith, within))

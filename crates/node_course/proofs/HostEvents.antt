@@ -111,7 +111,7 @@ map_more : (commands : List Command) (command : Command) → map asked_of (comma
 map_more [] command = refl
 map_more (x ∷ commands) command = ap (λ l. asked_of x ∷ l) (map_more commands command)
 
-noted_none : (entries : List Entry) → host_units (noted entries) ≡ []
+pub noted_none : (entries : List Entry) → host_units (noted entries) ≡ []
 noted_none [] = refl
 noted_none (e ∷ entries) = noted_none entries
 

@@ -14,3 +14,5 @@ pub mod HostFrames
 pub mod HostDoing
 pub mod HostEvents
 pub mod HostEntries
+pub mod HostJudging
+pub mod HostItems
