@@ -33,6 +33,7 @@ use Rattle.host_events.specs.After.{requests_do, is_full, is_held, gives_up, lin
 use Rattle.host_events.specs.Outs.{outs, answer_to, copy_out, noted, request_entries, failing_entries, dropped_if, stored_entries, held_entries}
 use Rattle.host_events.specs.Events.{HostEvent, Accepts, Cancels, Joins, Queues, Queues_interview, Queues_probe, Hears, Requests_do, Interviews, Interview_unkept, Unreads, Is_unkept, Reports_old, Works, Finishes, Offers, Gives, Spends, Spends_unread, Takes_nonce, Notifies, Resends, Hears_value, Has_no_room, Line_ticks, Node_ticks, Queues_no_more, Drops_no_more, Submits_abort, Submits_front, Starts, Gives_text, Gives_segment, Begins, Begin_unkept}
 use Rattle.zw_machine.specs.State.{begun_in}
+use Rattle.node_course.specs.HostGoing.{IsNoBegin}
 use Rattle.node_course.proofs.HostDoing.{BeginsNone}
 
 -- entries of which none begins a session
@@ -127,11 +128,6 @@ stored_aside n (s ∷ settings) = (refl, stored_aside n settings)
 held_aside : (n : ℕ) (held : Bool) → AreAside (held_entries n held)
 held_aside n true = (refl, tt)
 held_aside n false = tt
-
--- an event at which no session begins
-abbrev pub IsNoBegin : HostEvent → Type 0
-IsNoBegin (Begins n session command) = ⊥
-IsNoBegin event = Unit {0}
 
 pub event_begins_none : (h : HostState) (event : HostEvent) → IsNoBegin event → AllByRecursion BeginsNone (outs h event)
 event_begins_none h (Hears item) is = answer_none item

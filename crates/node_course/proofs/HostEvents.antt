@@ -54,6 +54,7 @@ use Rattle.line_facts.specs.Line.{host_units}
 use Rattle.message_facts.specs.Others.{IsOther}
 use Rattle.node_course.specs.Meaning.{Asked, IsMessageOf, HostMeans}
 use Rattle.node_course.specs.Lines.{Asks, Moves}
+use Rattle.node_course.specs.HostGoing.{IsAside}
 use Rattle.node_course.specs.Host.{NodeAs, asked_of, IsPlainFor, IsOtherTask, AtHost, AsksPlainly}
 use Rattle.node_course.proofs.Moving.{move_same, move_sign, move_heard, move_ticked, moves_both, copies_of}
 use Rattle.node_course.proofs.NodeKeeping.{IsQuiet, SameHost, same_host, same_then, does_same, other_same, requests_same, request_same, room_same, holding_same, failing_same, ended_same, works_keeps, outcome_orders, set_as}
@@ -120,12 +121,6 @@ copy_units None entries = noted_none entries
 copy_units (Some f) entries = ap (λ (l : List LineUnit). Framed f ∷ l) (noted_none entries)
 
 -- ---- the events
-
--- these are told apart: sessions of the node that begin or end
-abbrev pub IsAside : ℕ → HostEvent → Type 0
-IsAside node (Begins n session command) = ⊥
-IsAside node (Finishes n session id command status wake_request) = n ≢ node
-IsAside node event = Unit {0}
 
 module _ (nonces : (nonce : List ℕ) → IsOther (nonce_report nonce)) (no_more : IsOther no_more_information) (node : ℕ) (orders : List Asked) (c : Course) (h : HostState) (facts : HostFacts h) (at : AtHost node orders c.host h) where
   commands_are : (node_of h node).book.commands ≡ c.host.commands

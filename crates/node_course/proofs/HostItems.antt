@@ -28,6 +28,8 @@ use Rattle.zw_text.specs.declared.entry.Entry.{Entry}
 use Rattle.zw_text.specs.declared.entry.Entry.TheVariants.{Out}
 use Rattle.host_keep.specs.declared.final_status.FinalStatus.{FinalStatus}
 use Rattle.host_keep.specs.Status.{status_byte}
+use Rattle.class_fields.specs.Cell.{written as cells_written}
+use Rattle.class_info.specs.Values.{wholes}
 use Rattle.host_requests.specs.Frames.{nonce_report, no_more_information}
 use Rattle.host_node.specs.State.{NodeState, unknown}
 use Rattle.host_node.specs.Steps.{after_told, with_final}
@@ -54,22 +56,17 @@ use Rattle.node_course.specs.Air.{OnAir}
 use Rattle.node_course.specs.Mesh.{HasDevice, InMesh, labels}
 use Rattle.node_course.specs.Lines.{Tells, Asks, ItemIs, OnWay}
 use Rattle.node_course.specs.Host.{NodeAs, asked_of, IsPlainFor, AtHost, AsksPlainly}
-use Rattle.node_course.specs.HostGoing.{HostFollows, HostGoes}
+use Rattle.node_course.specs.HostGoing.{HostFollows, HostGoes, IsAside, IsNoBegin, EndsNone, UnitsAll, AllWell}
 use Rattle.node_course.proofs.Thinning.{goes_nowhere, goes_on, goes_once, down_thins}
 use Rattle.node_course.proofs.Moving.{thinned_same, thinned_behind}
 use Rattle.node_course.proofs.Outer.{has_same, mesh_down}
 use Rattle.node_course.proofs.NodeKeeping.{SameHost, holding_same, outcome_orders, same_host}
 use Rattle.node_course.proofs.HostDoing.{AirLaws, BeginsNone, SameAir, routed_air, writes_go, begin_goes, open_same, set_here}
-use Rattle.node_course.proofs.HostEvents.{IsAside, event_wrote, noted_none}
-use Rattle.node_course.proofs.HostEntries.{IsNoBegin, event_begins_none}
+use Rattle.node_course.proofs.HostEvents.{event_wrote, noted_none}
+use Rattle.node_course.proofs.HostEntries.{event_begins_none}
 use Rattle.node_course.proofs.HostJudging.{AllAside, IsFinish, Bytes, item_told}
 
 -- ---- lists of events
-
--- the units of each event are those that the format carries
-abbrev pub UnitsAll : HostState → List HostEvent → Type 0
-UnitsAll h [] = Unit {0}
-UnitsAll h (event ∷ events) = AllByRecursion IsUnit (host_units (outs h event)) × UnitsAll (after_host h event) events
 
 routed-append : (a b : List HostOut) → routed (a ++ b) ≡ routed a ++ routed b
 routed-append [] b = refl
@@ -90,12 +87,6 @@ outs_then : (h : HostState) (a b : List HostEvent) → outs_all h (a ++ b) ≡ o
 outs_then h [] b = refl
 outs_then h (event ∷ a) b = ap (λ l. outs h event ++ l) (outs_then (after_host h event) a b) ∙ sym (append_assoc (outs h event) (outs_all (after_host h event) a) (outs_all (after_all (after_host h event) a) b))
 
--- what is asked of events, one after another
-pub record AllWell (node : ℕ) (h : HostState) (events : List HostEvent) : Type 0 where
-  pub may : MayAll h events
-  pub asks : AllByRecursion (AsksPlainly node) events
-  pub units : UnitsAll h events
-
 well_front : (node : ℕ) (h : HostState) (a b : List HostEvent) → AllWell node h (a ++ b) → AllWell node h a × AllWell node (after_all h a) b
 well_front node h [] b is = (record { may = tt; asks = tt; units = tt }, is)
 well_front node h (event ∷ a) b is =
@@ -112,6 +103,13 @@ judged_final c report now session e = rw e refl
 
 final_node : (n : NodeState) (id status session : ℕ) → told_of n.book id status ≡ Final session → after_node n (node_reports id status) ≡ with_final n status
 final_node n id status session e = ap (after_told n status) e
+
+written_wholes : (bytes : List ℕ) → cells_written (wholes bytes) ≡ bytes
+written_wholes [] = refl
+written_wholes (b ∷ bytes) = ap (λ l. b ∷ l) (written_wholes bytes)
+
+pub nonces_other : ((nonce : List ℕ) → IsOther (152 ∷ 128 ∷ cells_written (wholes nonce))) → (nonce : List ℕ) → IsOther (nonce_report nonce)
+nonces_other law nonce = subst (λ (l : List ℕ). IsOther (152 ∷ 128 ∷ l)) (written_wholes nonce) (law nonce)
 
 -- the laws that are used
 pub record Laws : Type 0 where
@@ -288,7 +286,7 @@ module _ (laws : Laws) (node : ℕ) (rest : Rest) (down : List Item) where
               goes_then c yet yet k (after_all k later) v (happens_all_outside v (routed (outs_all k later))) dropped (asides_go dropped.orders dropped.later dropped.up yet k v later dropped.follows facts well aside)
           told_by orders c up k v mark now f are on facts well (inr finish) = ended orders c up k v mark now f are on facts well finish later refl
 
-  facts_then : (h : HostState) (events : List HostEvent) → HostFacts h → MayAll h events → HostFacts (after_all h events)
+  pub facts_then : (h : HostState) (events : List HostEvent) → HostFacts h → MayAll h events → HostFacts (after_all h events)
   facts_then h [] facts may = facts
   facts_then h (event ∷ events) facts may = facts_then (after_host h event) events (laws.kept h event facts may.0) may.1
 
@@ -311,9 +309,8 @@ module _ (laws : Laws) (node : ℕ) (rest : Rest) (down : List Item) where
 
   -- what the host does of itself, or is asked for: it judges no report of the node
   pub own_goes : (orders : List Asked) (c : Course) (up : List Item) (h : HostState) (w : Outside) (event : HostEvent) → HostFollows node orders c rest up [] down h w → HostFacts h → May h event → AsksPlainly node event
-      → IsAside node event → IsNoBegin event → AllByRecursion IsUnit (host_units (outs h event)) → HostGoes node c rest [] down (after_host h event) (happens_all_outside w (routed (outs h event)))
-  own_goes orders c up h w event f facts may asks aside none units = aside_goes orders c up [] h w event f facts may asks aside none units
-
-  pub begun_goes : (orders : List Asked) (c : Course) (up : List Item) (h : HostState) (w : Outside) (n session command : ℕ) → HostFollows node orders c rest up [] down h w → HostFacts h → May h (Begins n session command)
-      → HostGoes node c rest [] down (after_host h (Begins n session command)) (happens_all_outside w (routed (outs h (Begins n session command))))
-  begun_goes orders c up h w n session command f facts may = begin_goes laws.air node orders c rest up [] down h w facts f n session command may
+      → EndsNone node event → AllByRecursion IsUnit (host_units (outs h event)) → HostGoes node c rest [] down (after_host h event) (happens_all_outside w (routed (outs h event)))
+  own_goes orders c up h w (Begins n session command) f facts may asks none units = begin_goes laws.air node orders c rest up [] down h w facts f n session command may
+  own_goes orders c up h w (Finishes n session id command status wake_request) f facts may asks none units =
+      aside_goes orders c up [] h w (Finishes n session id command status wake_request) f facts may asks none tt units
+  own_goes orders c up h w event f facts may asks none units = aside_goes orders c up [] h w event f facts may asks tt tt units

@@ -49,8 +49,7 @@ use Rattle.message_facts.specs.Reporting.{IsNoReport, TellsNone}
 use Rattle.node_course.specs.Meaning.{NodeMeans, Reports}
 use Rattle.node_course.specs.Mesh.{told_as}
 use Rattle.node_course.specs.Lines.{Tells, ItemIs}
-use Rattle.node_course.proofs.HostEvents.{IsAside}
-use Rattle.node_course.proofs.HostEntries.{IsNoBegin}
+use Rattle.node_course.specs.HostGoing.{IsAside, IsNoBegin}
 
 -- events that leave the node's sessions
 abbrev pub AllAside : ℕ → List HostEvent → Type 0

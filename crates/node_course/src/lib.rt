@@ -3,6 +3,7 @@
 
 mod air;
 mod device;
+mod host;
 mod lines;
 mod mesh;
 mod outside;
@@ -10,6 +11,7 @@ mod ways;
 
 pub use air::frames_follow_the_course;
 pub use device::devices_follow_the_course;
+pub use host::hosts_follow_the_course;
 pub use lines::chips_carry_reports;
 pub use mesh::arrivals_follow_the_course;
 pub use outside::outsides_follow_the_course;

@@ -1,15 +1,5 @@
 -- Each clause is a lemma, over the laws of the air, of devices and of arrivals.
 use Rattle.node_course.proofs.OuterEvents.{Laws, event_goes, first_follows}
-use Rattle.node_course.proofs.NodeKeeping.{failing_same}
-use Rattle.node_course.proofs.HostFrames.{frame_sends}
-use Rattle.node_course.proofs.HostDoing.{writes_go}
-use Rattle.node_course.proofs.HostJudging.{item_told}
-use Rattle.node_course.proofs.HostItems.{judge_items}
-use Rattle.node_course.proofs.HostEvents.{session_numbered}
-use Rattle.node_course.proofs.HostEntries.{event_begins_none}
-use Rattle.node_course.proofs.HostDoing.{begin_goes}
-use Rattle.node_course.proofs.HostJudging.{item_told}
-use Rattle.node_course.proofs.HostItems.{judge_items}
 use Rattle.node_course.proofs.outside.outsides_follow_the_course.Goals as goal
 
 pub returns-clause-first : goal.returns-clause-first
