@@ -16,3 +16,6 @@ pub mod HostEvents
 pub mod HostEntries
 pub mod HostJudging
 pub mod HostItems
+pub mod Whole
+pub mod Hearing
+pub mod Running

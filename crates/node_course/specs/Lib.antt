@@ -8,3 +8,4 @@ pub mod Chip
 pub mod Outside
 pub mod Host
 pub mod HostGoing
+pub mod World
