@@ -310,11 +310,13 @@ module _ (laws : AirLaws) (node : ℕ) (orders : List Asked) (host : HostBook) (
       by : (b : Bool) → nat_le (peer_of a.frames n).begun sessions ≡ b → (later : List Mark) × OnAir node orders host air old later flights (if b then beginning a n sessions else a).frames
       by true e =
           let k : ℕ = sessions - (peer_of a.frames n).begun in
-          let more : List Mark = replicate k (begins_mark n) in
-          (log ++ more, air_stays node orders host air old log more flights a.frames (beginning a n sessions).frames on
-              (stamped-append [] log more ∙ (ap (λ fs. flown_in log ++ fs) (stamped-begins log n k) ∙ append-nil (flown_in log)))
-              (begins_in-begins node n k false apart)
-              (laws.begins log flights a.frames n sessions within (grind (arith, e)) on.fly))
+          let more : List Mark = replicate k (begins_mark n) in (
+            log ++ more,
+            air_stays node orders host air old log more flights a.frames (beginning a n sessions).frames on
+                (stamped-append [] log more ∙ (ap (λ fs. flown_in log ++ fs) (stamped-begins log n k) ∙ append-nil (flown_in log)))
+                (begins_in-begins node n k false apart)
+                (laws.begins log flights a.frames n sessions within (grind (arith, e)) on.fly),
+          )
       by false e = (log, on)
 
 -- an open session is told by commands and outcome alone

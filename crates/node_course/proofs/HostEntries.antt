@@ -137,9 +137,11 @@ event_begins_none h (Interview_unkept n update) is = (refl, tt)
 event_begins_none h (Unreads n payload) is = (refl, tt)
 event_begins_none h (Is_unkept n) is = (refl, tt)
 event_begins_none h (Reports_old n id) is = (refl, tt)
-event_begins_none h (Finishes n session id command status wake_request) is =
-    (refl, noted_aside (stored_entries n (settings_with status (command_at h.commands command)) ++ held_entries n (is_held h n wake_request))
-    (aside-append (stored_entries n (settings_with status (command_at h.commands command))) (held_entries n (is_held h n wake_request)) (stored_aside n (settings_with status (command_at h.commands command))) (held_aside n (is_held h n wake_request))))
+event_begins_none h (Finishes n session id command status wake_request) is = (
+  refl,
+  noted_aside (stored_entries n (settings_with status (command_at h.commands command)) ++ held_entries n (is_held h n wake_request))
+      (aside-append (stored_entries n (settings_with status (command_at h.commands command))) (held_entries n (is_held h n wake_request)) (stored_aside n (settings_with status (command_at h.commands command))) (held_aside n (is_held h n wake_request))),
+)
 event_begins_none h (Offers n) is = noted_aside (dropped_if (is_full h) n) (dropped_aside (is_full h) n)
 event_begins_none h (Gives n drawn) is = noted_aside (dropped_if (is_full h) n) (dropped_aside (is_full h) n)
 event_begins_none h (Spends_unread n payload) is = (refl, tt)

@@ -152,21 +152,41 @@ module _ (laws : Laws) (node : ℕ) (orders : List Asked) (c : Course) (rest : R
   -- marks of the line
   loses_go : (w : Outside) (side : Side) → Follows node orders c rest turn up down w → OuterGoes node orders c rest turn (outside (with_way w.outer side (way.after (way_of w.outer side) way.Loses)) w.devices)
   loses_go w Host f = record {
-    later = c; goes = goes_nowhere c; host = refl; told = refl; up = up; down = down;
+    later = c;
+    goes = goes_nowhere c;
+    host = refl;
+    told = refl;
+    up = up;
+    down = down;
     follows = record { mesh = f.mesh; to_chip = f.to_chip; to_host = f.to_host; frames = f.frames; waits = f.waits; messages = f.messages; reports = f.reports };
   }
   loses_go w Chip f = record {
-    later = c; goes = goes_nowhere c; host = refl; told = refl; up = up; down = down;
+    later = c;
+    goes = goes_nowhere c;
+    host = refl;
+    told = refl;
+    up = up;
+    down = down;
     follows = record { mesh = f.mesh; to_chip = f.to_chip; to_host = f.to_host; frames = f.frames; waits = f.waits; messages = f.messages; reports = f.reports };
   }
 
   changes_go : (w : Outside) (side : Side) (garble : Garble) → Follows node orders c rest turn up down w → OuterGoes node orders c rest turn (outside (with_way w.outer side (way.after (way_of w.outer side) (way.Changes garble))) w.devices)
   changes_go w Host garble f = record {
-    later = c; goes = goes_nowhere c; host = refl; told = refl; up = up; down = down;
+    later = c;
+    goes = goes_nowhere c;
+    host = refl;
+    told = refl;
+    up = up;
+    down = down;
     follows = record { mesh = f.mesh; to_chip = f.to_chip; to_host = f.to_host; frames = f.frames; waits = f.waits; messages = f.messages; reports = f.reports };
   }
   changes_go w Chip garble f = record {
-    later = c; goes = goes_nowhere c; host = refl; told = refl; up = up; down = down;
+    later = c;
+    goes = goes_nowhere c;
+    host = refl;
+    told = refl;
+    up = up;
+    down = down;
     follows = record { mesh = f.mesh; to_chip = f.to_chip; to_host = f.to_host; frames = f.frames; waits = f.waits; messages = f.messages; reports = f.reports };
   }
 

@@ -12,7 +12,8 @@ ghost use Rattle.node_course.specs.Device.{AtDevice, GoesAs};
 use device_course::devices_end_sessions;
 use device_facts::devices_stay_the_same;
 use message_facts::{
-    messages_do_what_is_asked, messages_follow_the_course, messages_open, others_are_no_messages, reports_tell,
+    messages_do_what_is_asked, messages_follow_the_course, messages_open, others_are_no_messages,
+    reports_tell,
 };
 
 /// A device that takes what is not sealed goes on as the course has it: it hears a payload of the host for it, it ticks, wakes up or is set by hand. What it says then is a report
