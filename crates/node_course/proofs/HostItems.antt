@@ -56,7 +56,7 @@ use Rattle.node_course.specs.Air.{OnAir}
 use Rattle.node_course.specs.Mesh.{HasDevice, InMesh, labels}
 use Rattle.node_course.specs.Lines.{Tells, Asks, ItemIs, OnWay}
 use Rattle.node_course.specs.Host.{NodeAs, asked_of, IsPlainFor, AtHost, AsksPlainly}
-use Rattle.node_course.specs.HostGoing.{HostFollows, HostGoes, IsAside, IsNoBegin, EndsNone, UnitsAll, AllWell}
+use Rattle.node_course.specs.HostGoing.{HostFollows, HostGoes, IsAside, IsNoBegin, IsAnswer, EndsNone, UnitsAll, AllWell}
 use Rattle.node_course.proofs.Thinning.{goes_nowhere, goes_on, goes_once, down_thins}
 use Rattle.node_course.proofs.Moving.{thinned_same, thinned_behind}
 use Rattle.node_course.proofs.Outer.{has_same, mesh_down}
@@ -87,11 +87,11 @@ outs_then : (h : HostState) (a b : List HostEvent) → outs_all h (a ++ b) ≡ o
 outs_then h [] b = refl
 outs_then h (event ∷ a) b = ap (λ l. outs h event ++ l) (outs_then (after_host h event) a b) ∙ sym (append_assoc (outs h event) (outs_all (after_host h event) a) (outs_all (after_all (after_host h event) a) b))
 
-well_front : (node : ℕ) (h : HostState) (a b : List HostEvent) → AllWell node h (a ++ b) → AllWell node h a × AllWell node (after_all h a) b
-well_front node h [] b is = (record { may = tt; asks = tt; units = tt }, is)
-well_front node h (event ∷ a) b is =
-    let later = well_front node (after_host h event) a b (record { may = is.may.1; asks = is.asks.1; units = is.units.1 }) in
-    (record { may = (is.may.0, later.0.may); asks = (is.asks.0, later.0.asks); units = (is.units.0, later.0.units) }, later.1)
+well_front : (h : HostState) (a b : List HostEvent) → AllWell h (a ++ b) → AllWell h a × AllWell (after_all h a) b
+well_front h [] b is = (record { may = tt; units = tt }, is)
+well_front h (event ∷ a) b is =
+    let later = well_front (after_host h event) a b (record { may = is.may.1; units = is.units.1 }) in
+    (record { may = (is.may.0, later.0.may); units = (is.units.0, later.0.units) }, later.1)
 
 told_same : (a b : HostBook) (id status : ℕ) → a.commands ≡ b.commands → a.outcome ≡ b.outcome → told_of a id status ≡ told_of b id status
 told_same a b id status commands outcomes =
@@ -110,6 +110,14 @@ written_wholes (b ∷ bytes) = ap (λ l. b ∷ l) (written_wholes bytes)
 
 pub nonces_other : ((nonce : List ℕ) → IsOther (152 ∷ 128 ∷ cells_written (wholes nonce))) → (nonce : List ℕ) → IsOther (nonce_report nonce)
 nonces_other law nonce = subst (λ (l : List ℕ). IsOther (152 ∷ 128 ∷ l)) (written_wholes nonce) (law nonce)
+
+answer_asks : (node : ℕ) (event : HostEvent) → IsAnswer node event → AsksPlainly node event
+answer_asks node (Begins n session command) is = absurd is
+answer_asks node event is = is
+
+answer_no_begin : (node : ℕ) (event : HostEvent) → IsAnswer node event → IsNoBegin event
+answer_no_begin node (Begins n session command) is = absurd is
+answer_no_begin node event is = tt
 
 -- the laws that are used
 pub record Laws : Type 0 where
@@ -130,15 +138,15 @@ module _ (laws : Laws) (node : ℕ) (rest : Rest) (down : List Item) where
   aside_goes orders c up yet h w event f facts may asks aside none units =
       writes_go node orders c rest up yet down h (after_host h event) w (outs h event) f (event_wrote laws.nonces laws.no_more node orders c h facts f.host event may asks aside) (event_begins_none h event none) units
 
-  asides_go : (orders : List Asked) (c : Course) (up yet : List Item) (h : HostState) (w : Outside) (events : List HostEvent) → HostFollows node orders c rest up yet down h w → HostFacts h → AllWell node h events → AllAside node events
+  asides_go : (orders : List Asked) (c : Course) (up yet : List Item) (h : HostState) (w : Outside) (events : List HostEvent) → HostFollows node orders c rest up yet down h w → HostFacts h → AllWell h events → AllAside node events
       → HostGoes node c rest yet down (after_all h events) (happens_all_outside w (routed (outs_all h events)))
   asides_go orders c up yet h w [] f facts well aside = record { orders = orders; later = c; goes = goes_nowhere c; up = up; follows = f }
   asides_go orders c up yet h w (event ∷ events) f facts well aside =
       let v : Outside = happens_all_outside w (routed (outs h event)) in
-      let one : HostGoes node c rest yet down (after_host h event) v = aside_goes orders c up yet h w event f facts well.may.0 well.asks.0 aside.0.0 aside.0.1 well.units.0 in
+      let one : HostGoes node c rest yet down (after_host h event) v = aside_goes orders c up yet h w event f facts well.may.0 (answer_asks node event aside.0.1) aside.0.0 (answer_no_begin node event aside.0.1) well.units.0 in
       subst (λ (u : Outside). HostGoes node c rest yet down (after_all (after_host h event) events) u) (sym (routed_then w (outs h event) (outs_all (after_host h event) events)))
       (goes_then c yet yet (after_host h event) (after_all (after_host h event) events) v _ one
-      (asides_go one.orders one.later one.up yet (after_host h event) v events one.follows (laws.kept h event facts well.may.0) (record { may = well.may.1; asks = well.asks.1; units = well.units.1 }) aside.1))
+      (asides_go one.orders one.later one.up yet (after_host h event) v events one.follows (laws.kept h event facts well.may.0) (record { may = well.may.1; units = well.units.1 }) aside.1))
 
   -- ---- a report ends the last session
 
@@ -250,36 +258,36 @@ module _ (laws : Laws) (node : ℕ) (rest : Rest) (down : List Item) where
     };
   }
 
-  judge_item : (orders : List Asked) (c : Course) (up yet : List Item) (h : HostState) (w : Outside) (item : Item) (events : List HostEvent) → node < 233 → HostFollows node orders c rest up (item ∷ yet) down h w → HostFacts h → AllWell node h events
+  judge_item : (orders : List Asked) (c : Course) (up yet : List Item) (h : HostState) (w : Outside) (item : Item) (events : List HostEvent) → node < 233 → HostFollows node orders c rest up (item ∷ yet) down h w → HostFacts h → AllWell h events
       → IsJudged h item events → HostGoes node c rest yet down (after_all h events) (happens_all_outside w (routed (outs_all h events)))
   judge_item orders c up yet h w item events within f facts well (later, are, followed) =
       subst (λ (es : List HostEvent). HostGoes node c rest yet down (after_all h es) (happens_all_outside w (routed (outs_all h es)))) (sym are)
-      (by (subst (λ (es : List HostEvent). AllWell node h es) are well))
+      (by (subst (λ (es : List HostEvent). AllWell h es) are well))
     where
-      by : AllWell node h (Hears item ∷ later) → HostGoes node c rest yet down (after_all (after_host h (Hears item)) later) (happens_all_outside w (routed (outs h (Hears item) ++ outs_all (after_host h (Hears item)) later)))
+      by : AllWell h (Hears item ∷ later) → HostGoes node c rest yet down (after_all (after_host h (Hears item)) later) (happens_all_outside w (routed (outs h (Hears item) ++ outs_all (after_host h (Hears item)) later)))
       by these =
           let k : HostState = after_host h (Hears item) in
           let v : Outside = happens_all_outside w (routed (outs h (Hears item))) in
-          let one : HostGoes node c rest (item ∷ yet) down k v = aside_goes orders c up (item ∷ yet) h w (Hears item) f facts these.may.0 these.asks.0 tt tt these.units.0 in
+          let one : HostGoes node c rest (item ∷ yet) down k v = aside_goes orders c up (item ∷ yet) h w (Hears item) f facts these.may.0 tt tt tt these.units.0 in
           let label = first_label one.later item (yet ++ down) v.outer.chip.state.port.side.turn v.outer.chip.state.port.waiting one.follows.reports in
-          let more : AllWell node k later = record { may = these.may.1; asks = these.asks.1; units = these.units.1 } in
+          let more : AllWell k later = record { may = these.may.1; units = these.units.1 } in
           let facts' : HostFacts k = laws.kept h (Hears item) facts these.may.0 in
           subst (λ (u : Outside). HostGoes node c rest yet down (after_all k later) u) (sym (routed_then w (outs h (Hears item)) (outs_all k later)))
           (goes_then c (item ∷ yet) yet k (after_all k later) v (happens_all_outside v (routed (outs_all k later))) one
           (told_by one.orders one.later one.up k v label.0 label.1.1.0 one.follows label.1.1.1.0 label.1.1.1.1 facts' more (item_told node laws.bytes k h.side.turn item label.0 later label.1.0 followed)))
         where
           ended : (orders : List Asked) (c : Course) (up : List Item) (k : HostState) (v : Outside) (mark : Option Report) (now : List Report) → HostFollows node orders c rest up (item ∷ yet) down k v → c.down ≡ option_to_list mark ++ now
-              → OnWay (Tells node) now (yet ++ down) v.outer.chip.state.port.side.turn v.outer.chip.state.port.waiting → HostFacts k → AllWell node k later → (is : IsFinish node mark later) → (events : List HostEvent) → events ≡ later
+              → OnWay (Tells node) now (yet ++ down) v.outer.chip.state.port.side.turn v.outer.chip.state.port.waiting → HostFacts k → AllWell k later → (is : IsFinish node mark later) → (events : List HostEvent) → events ≡ later
               → HostGoes node c rest yet down (after_all k later) (happens_all_outside v (routed (outs_all k later)))
           ended orders c up k v mark now f are on facts well is events named =
               let finish : HostEvent = Finishes node is.session (wire_id is.report.session) is.command is.status is.wake_request in
-              let w2 : AllWell node k (finish ∷ []) = subst (λ (es : List HostEvent). AllWell node k es) is.are well in
+              let w2 : AllWell k (finish ∷ []) = subst (λ (es : List HostEvent). AllWell k es) is.are well in
               let g = finish_goes orders c up yet k v item f facts within is.report now (are ∙ ap (λ (m : Option Report). option_to_list m ++ now) is.labelled) on is.session is.command is.status is.wake_request is.status_is w2.may.0 in
               subst (λ (es : List HostEvent). HostGoes node c rest yet down (after_all k es) (happens_all_outside v (routed (outs_all k es)))) (sym is.are)
               (subst (λ (os : List HostOut). HostGoes node c rest yet down (after_host k finish) (happens_all_outside v (routed os))) (sym (append-nil (outs k finish))) g)
 
           told_by : (orders : List Asked) (c : Course) (up : List Item) (k : HostState) (v : Outside) (mark : Option Report) (now : List Report) → HostFollows node orders c rest up (item ∷ yet) down k v → c.down ≡ option_to_list mark ++ now
-              → OnWay (Tells node) now (yet ++ down) v.outer.chip.state.port.side.turn v.outer.chip.state.port.waiting → HostFacts k → AllWell node k later → AllAside node later ⊎ IsFinish node mark later
+              → OnWay (Tells node) now (yet ++ down) v.outer.chip.state.port.side.turn v.outer.chip.state.port.waiting → HostFacts k → AllWell k later → AllAside node later ⊎ IsFinish node mark later
               → HostGoes node c rest yet down (after_all k later) (happens_all_outside v (routed (outs_all k later)))
           told_by orders c up k v mark now f are on facts well (inl aside) =
               let dropped : HostGoes node c rest yet down k v = without_label orders c up yet k v item mark now f are on in
@@ -291,12 +299,12 @@ module _ (laws : Laws) (node : ℕ) (rest : Rest) (down : List Item) where
   facts_then h (event ∷ events) facts may = facts_then (after_host h event) events (laws.kept h event facts may.0) may.1
 
   -- items one after another
-  pub judge_items : (orders : List Asked) (c : Course) (up : List Item) (h : HostState) (w : Outside) (items : List Item) (events : List HostEvent) → node < 233 → HostFollows node orders c rest up items down h w → HostFacts h → AllWell node h events
+  pub judge_items : (orders : List Asked) (c : Course) (up : List Item) (h : HostState) (w : Outside) (items : List Item) (events : List HostEvent) → node < 233 → HostFollows node orders c rest up items down h w → HostFacts h → AllWell h events
       → AreJudged h items events → HostGoes node c rest [] down (after_all h events) (happens_all_outside w (routed (outs_all h events)))
   judge_items orders c up h w [] events within f facts well none =
       subst (λ (es : List HostEvent). HostGoes node c rest [] down (after_all h es) (happens_all_outside w (routed (outs_all h es)))) (sym none) (record { orders = orders; later = c; goes = goes_nowhere c; up = up; follows = f })
   judge_items orders c up h w (item ∷ items) events within f facts well (first, later, are, one, more) =
-      let both = well_front node h first later (subst (λ (es : List HostEvent). AllWell node h es) are well) in
+      let both = well_front h first later (subst (λ (es : List HostEvent). AllWell h es) are well) in
       let v : Outside = happens_all_outside w (routed (outs_all h first)) in
       let g : HostGoes node c rest items down (after_all h first) v = judge_item orders c up items h w item first within f facts both.0 one in
       let rest_goes : HostGoes node g.later rest [] down (after_all (after_all h first) later) (happens_all_outside v (routed (outs_all (after_all h first) later))) =

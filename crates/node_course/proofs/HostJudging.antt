@@ -49,11 +49,12 @@ use Rattle.message_facts.specs.Reporting.{IsNoReport, TellsNone}
 use Rattle.node_course.specs.Meaning.{NodeMeans, Reports}
 use Rattle.node_course.specs.Mesh.{told_as}
 use Rattle.node_course.specs.Lines.{Tells, ItemIs}
-use Rattle.node_course.specs.HostGoing.{IsAside, IsNoBegin}
+use Rattle.node_course.specs.Host.{PushesOther}
+use Rattle.node_course.specs.HostGoing.{IsAside, IsAnswer}
 
 -- events that leave the node's sessions
 abbrev pub AllAside : ℕ → List HostEvent → Type 0
-AllAside node events = AllByRecursion (λ (e : HostEvent). IsAside node e × IsNoBegin e) events
+AllAside node events = AllByRecursion (λ (e : HostEvent). IsAside node e × IsAnswer node e) events
 
 aside-append : (node : ℕ) (a b : List HostEvent) → AllAside node a → AllAside node b → AllAside node (a ++ b)
 aside-append node [] b first later = later
@@ -71,13 +72,13 @@ pub record IsFinish (node : ℕ) (mark : Option Reported) (events : List HostEve
   pub status_is : report.status ≡ status_byte status
 
 module _ (node : ℕ) where
-  these_aside : (event : HostEvent) (events : List HostEvent) → IsAside node event → IsNoBegin event → events ≡ event ∷ [] → AllAside node events
+  these_aside : (event : HostEvent) (events : List HostEvent) → IsAside node event → IsAnswer node event → events ≡ event ∷ [] → AllAside node events
   these_aside event events aside none is = subst (λ (es : List HostEvent). AllAside node es) (sym is) ((aside, none), tt)
 
   none_aside : (events : List HostEvent) → events ≡ [] → AllAside node events
   none_aside events is = subst (λ (es : List HostEvent). AllAside node es) (sym is) tt
 
-  kept_aside : (kept unkept : HostEvent) (events : List HostEvent) → IsAside node kept → IsNoBegin kept → IsAside node unkept → IsNoBegin unkept → IsKeptOr kept unkept events → AllAside node events
+  kept_aside : (kept unkept : HostEvent) (events : List HostEvent) → IsAside node kept → IsAnswer node kept → IsAside node unkept → IsAnswer node unkept → IsKeptOr kept unkept events → AllAside node events
   kept_aside kept unkept events a b c d (inl is) = these_aside kept events a b is
   kept_aside kept unkept events a b c d (inr is) = these_aside unkept events c d is
 
@@ -106,10 +107,10 @@ module _ (node : ℕ) where
   resent_aside n None = tt
   resent_aside n (Some payload) = ((tt, tt), tt)
 
-  value_aside : (h : HostState) (n : ℕ) (s : Setting) → IsAside node (value_event h n s) × IsNoBegin (value_event h n s)
+  value_aside : (h : HostState) (n : ℕ) (s : Setting) → IsAside node (value_event h n s) × IsAnswer node (value_event h n s)
   value_aside h n s = by (nat_lt 512 (count_with h.store n (s.property ∷ [])))
     where
-      by : (b : Bool) → IsAside node (if b then Has_no_room n s.property else Hears_value n s) × IsNoBegin (if b then Has_no_room n s.property else Hears_value n s)
+      by : (b : Bool) → IsAside node (if b then Has_no_room n s.property else Hears_value n s) × IsAnswer node (if b then Has_no_room n s.property else Hears_value n s)
       by true = (tt, tt)
       by false = (tt, tt)
 
@@ -257,13 +258,13 @@ module _ (node : ℕ) where
     frame_by h f mark kind.Response events e tells is = inl (response_aside (response_of f.func f.body) events is)
     frame_by h f mark kind.Request events e tells is = notice_by h f mark (notice_of f.func f.body) events refl e tells is
 
-    told_aside : (b : Bool) (event : RequestsEvent) (events : List HostEvent) → events ≡ told_if b event → AllAside node events
-    told_aside true event events is = these_aside _ events tt tt is
-    told_aside false event events is = none_aside events is
+    told_aside : (b : Bool) (event : RequestsEvent) (events : List HostEvent) → events ≡ told_if b event → PushesOther node event → AllAside node events
+    told_aside true event events is none = these_aside _ events tt none is
+    told_aside false event events is none = none_aside events is
 
     pub item_told : (h : HostState) (turn : Turn) (item : Item) (mark : Option Reported) (events : List HostEvent) → ItemIs (Tells node) item mark → IsFollowed h turn item events → AllAside node events ⊎ IsFinish node mark events
-    item_told h turn (Good Ack) mark events tells is = inl (told_aside (is_busy turn) _ events is)
-    item_told h turn (Good Nak) mark events tells is = inl (told_aside (gives_up turn h.side.turn) _ events is)
-    item_told h turn (Good Can) mark events tells is = inl (told_aside (gives_up turn h.side.turn) _ events is)
+    item_told h turn (Good Ack) mark events tells is = inl (told_aside (is_busy turn) _ events is tt)
+    item_told h turn (Good Nak) mark events tells is = inl (told_aside (gives_up turn h.side.turn) _ events is tt)
+    item_told h turn (Good Can) mark events tells is = inl (told_aside (gives_up turn h.side.turn) _ events is tt)
     item_told h turn (Good (Framed f)) mark events tells is = frame_by h f mark f.kind events refl (tells f refl) is
     item_told h turn (Refused refusal) mark events tells is = inl (none_aside events is)

@@ -189,7 +189,7 @@ pub record Laws : Type 0 where
   pub does : (node : ℕ) (orders : List Asked) (c : Course) (rest : Rest) (up down : List Item) (h : HostState) (w : Outside) (event : HostEvent) → HostFollows node orders c rest up [] down h w → HostFacts h → MayHost h event →
       AsksPlainly node event → EndsNone node event → AllByRecursion IsUnit (host_units (outs h event)) → HostGoes node c rest [] down (after_host h event) (happens_all_outside w (routed (outs h event)))
   pub judges : (node : ℕ) (orders : List Asked) (c : Course) (rest : Rest) (up down items : List Item) (h : HostState) (w : Outside) (events : List HostEvent) → node < 233 → HostFollows node orders c rest up items down h w → HostFacts h →
-      AllWell node h events → AreJudged h items events → HostGoes node c rest [] down (after_all h events) (happens_all_outside w (routed (outs_all h events)))
+      AllWell h events → AreJudged h items events → HostGoes node c rest [] down (after_all h events) (happens_all_outside w (routed (outs_all h events)))
   pub kept : (h : HostState) (event : HostEvent) → HostFacts h → MayHost h event → HostFacts (after_host h event)
 
 module _ (laws : Laws) (node : ℕ) (within : node < 233) where
@@ -225,14 +225,14 @@ module _ (laws : Laws) (node : ℕ) (within : node < 233) where
       (notes_go node c m.host.decoder down (after_host h event) (happens_all_outside m.outside (routed (outs_all h (event ∷ [])))) (answers h event) same)
 
   takes_goes : (orders : List Asked) (c : Course) (up down : List Item) (m : Machine) (count : ℕ) (rest : Rest) (items : List Item) (events : List HostEvent) → WorldFollows node orders c up down m → MayTake m count rest items events
-      → AllByRecursion (AsksPlainly node) events → AllByRecursion IsUnit (host_units (outs_all m.host.state events)) → WorldGoes node c (happens m (Host_takes count rest items events))
+      → AllByRecursion IsUnit (host_units (outs_all m.host.state events)) → WorldGoes node c (happens m (Host_takes count rest items events))
   unfolding happens
-  takes_goes orders c up down m count rest items events f may asks units =
+  takes_goes orders c up down m count rest items events f may units =
       let h : HostState = m.host.state in
       let left = carries_left m.host.decoder rest count m.outside.outer.to_host down items may.feeds f.outside.to_host in
       in_world node c left.left (happens m (Host_takes count rest items events)) (facts_all h events f.facts may.may)
       (laws.judges node orders c rest up left.left items h (happens_outside m.outside (host_takes count)) events within (fed_follows node orders c up down m count rest items left f) f.facts
-      (record { may = may.may; asks = asks; units = units_each h events units }) may.judged)
+      (record { may = may.may; units = units_each h events units }) may.judged)
 
   ticks_goes : (orders : List Asked) (c : Course) (up down : List Item) (m : Machine) → WorldFollows node orders c up down m → m.host.decoder ≡ no_rest → WorldGoes node c (happens m Decoder_ticks)
   unfolding happens
@@ -256,7 +256,7 @@ module _ (laws : Laws) (node : ℕ) (within : node < 233) where
   unfolding happens May
   event_goes orders c up down m (Outside_does event) f may rests well few plain none = outside_goes orders c up down m event f may.0 may.1 rests few
   event_goes orders c up down m (Host_does event) f may rests well few plain none = host_goes orders c up down m event f may plain none well
-  event_goes orders c up down m (Host_takes count rest items events) f may rests well few plain none = takes_goes orders c up down m count rest items events f may plain well
+  event_goes orders c up down m (Host_takes count rest items events) f may rests well few plain none = takes_goes orders c up down m count rest items events f may well
   event_goes orders c up down m Decoder_ticks f may rests well few plain none = ticks_goes orders c up down m f rests
   event_goes orders c up down m (Refuses line refusal) f may rests well few plain none = enters_goes orders c up down m (Refused refusal) f
   event_goes orders c up down m (Shows_values n) f may rests well few plain none = enters_goes orders c up down m (shown_values m.host.state n) f

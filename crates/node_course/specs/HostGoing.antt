@@ -52,6 +52,11 @@ abbrev pub IsNoBegin : HostEvent → Type 0
 IsNoBegin (Begins n session command) = ⊥
 IsNoBegin event = Unit {0}
 
+-- an event at which no session begins, and at which nothing is asked for that is a message of a session
+abbrev pub IsAnswer : ℕ → HostEvent → Type 0
+IsAnswer node (Begins n session command) = ⊥
+IsAnswer node event = AsksPlainly node event
+
 -- an event at which no session of the node ends; one may begin
 abbrev pub EndsNone : ℕ → HostEvent → Type 0
 EndsNone node (Finishes n session id command status wake_request) = n ≢ node
@@ -62,8 +67,7 @@ abbrev pub UnitsAll : HostState → List HostEvent → Type 0
 UnitsAll h [] = Unit {0}
 UnitsAll h (event ∷ events) = AllByRecursion IsUnit (host_units (outs h event)) × UnitsAll (after_host h event) events
 
--- what is asked of events, one after another
-pub record AllWell (node : ℕ) (h : HostState) (events : List HostEvent) : Type 0 where
+-- they may happen, one after another, and write such units
+pub record AllWell (h : HostState) (events : List HostEvent) : Type 0 where
   pub may : MayAll h events
-  pub asks : AllByRecursion (AsksPlainly node) events
   pub units : UnitsAll h events

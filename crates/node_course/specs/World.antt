@@ -1,15 +1,12 @@
 -- The whole machine, in the course of one node (this project's own rule).
 use Rattle.std.specs.Prelude.{ℕ, List}
-use Rattle.std.specs.List.{AllByRecursion}
 use Rattle.courses.specs.Sessions.{Course}
 use Rattle.courses.specs.SessionFacts.{CourseFacts}
 use Rattle.courses.specs.SessionLaws.{IsDone, IsApplied}
-use Rattle.serial_frame.specs.Items.{IsUnit}
 use Rattle.serial_frame.specs.declared.item.Item.{Item}
-use Rattle.host_events.specs.State.{HostState}
 use Rattle.host_events.specs.Facts.{HostFacts}
 use Rattle.zw_machine.specs.State.{Machine}
-use Rattle.zw_machine.specs.Events.{Event, Outside_does, Host_does, Host_takes, Restarts}
+use Rattle.zw_machine.specs.Events.{Event, Host_does, Restarts}
 use Rattle.node_course.specs.Ways.{Goes}
 use Rattle.node_course.specs.Meaning.{Asked}
 use Rattle.node_course.specs.Outside.{Follows}
@@ -48,7 +45,6 @@ pub record HasCourse (node : ℕ) (m : Machine) : Type 0 where
 -- the orders for the node go whole and unsealed, what else is queued for it is no message of a session, and no host starts again
 abbrev pub IsPlainly : ℕ → Event → Type 0
 IsPlainly node (Host_does event) = AsksPlainly node event
-IsPlainly node (Host_takes count rest items events) = AllByRecursion (AsksPlainly node) events
 IsPlainly node (Restarts state) = ⊥
 IsPlainly node event = Unit {0}
 

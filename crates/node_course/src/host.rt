@@ -32,7 +32,7 @@ pub fn hosts_follow_the_course()
     ensures does { (node : ℕ) (orders : List Asked) (c : Course) (rest : Rest) (up down : List Item) (h : HostState) (w : Outside) (event : HostEvent) → HostFollows node orders c rest up [] down h w → HostFacts h → May h event →
         AsksPlainly node event → EndsNone node event → AllByRecursion IsUnit (host_units (outs h event)) → HostGoes node c rest [] down (after h event) (happens_all w (routed (outs h event))) }
     ensures judges { (node : ℕ) (orders : List Asked) (c : Course) (rest : Rest) (up down items : List Item) (h : HostState) (w : Outside) (events : List HostEvent) → node < 233 → HostFollows node orders c rest up items down h w → HostFacts h →
-        AllWell node h events → AreJudged h items events → HostGoes node c rest [] down (after_all h events) (happens_all w (routed (outs_all h events))) }
+        AllWell h events → AreJudged h items events → HostGoes node c rest [] down (after_all h events) (happens_all w (routed (outs_all h events))) }
 {
     frames_fly_in_order();
     facts_are_kept();
