@@ -1,12 +1,12 @@
 -- Frames arrive, or are heard again, in the course of one node.
-use Rattle.std.proofs.Common.{◌≡◌, ◌≢◌, ℕ, zero, suc, ◌+◌, ◌-◌, ◌<◌, ◌==◌, Bool, true, false, ◌||◌, if◌then◌else◌, Option, Some, None, List, [], ◌∷◌, ◌++◌, length, refl, ap, sym, ◌∙◌, subst, append-nil, arith}
+use Rattle.std.proofs.Common.{◌≡◌, ◌≢◌, ℕ, zero, suc, ◌+◌, ◌-◌, ◌<◌, ◌==◌, Bool, true, false, if◌then◌else◌, Option, Some, None, List, [], ◌∷◌, ◌++◌, length, refl, ap, sym, ◌∙◌, subst, append-nil, arith}
 use Rattle.std.specs.Prelude.{slice_get}
 use Rattle.std.specs.Option.{option_map}
 use Rattle.std.proofs.lemmas.Bool.{eqb-true}
-use Rattle.supervision.specs.Host.{HostBook, begun_of}
+use Rattle.supervision.specs.Host.{HostBook}
 use Rattle.supervision.specs.Ends.{Report}
 use Rattle.courses.specs.Flying.{Flight}
-use Rattle.courses.specs.Sessions.{Course, Message, Cargo, Command, Of_host, Answer, Of_node, Lands as lands_step, Repeats as repeats_step, hears, lands, repeats, after, MayRepeat}
+use Rattle.courses.specs.Sessions.{Course, Cargo, Command, Of_host, Answer, Of_node, Lands as lands_step, Repeats as repeats_step, hears, lands, repeats, MayRepeat}
 use Rattle.route_table.specs.declared.route.Route.{Route}
 use Rattle.air_frames.specs.declared.frame.Heading.{Heading}
 use Rattle.air_frames.specs.declared.frame.Heading.TheVariants.{Outward, Homeward}
@@ -24,16 +24,16 @@ use Rattle.mesh_sim.specs.declared.fate.Fate.TheVariants as fate
 use Rattle.mesh_sim.specs.Routes.{backwards}
 use Rattle.mesh_sim.specs.Air.{AirState, is_joined, departing}
 use Rattle.mesh_sim.specs.Fates.{Mesh, place_of, is_awake, awake_at, listener_of, fate_by, fate_of, dead_hop_of}
-use Rattle.mesh_sim.specs.Steps.{Arrives, Repeats, landed, acknowledged, status_of, done_of, changed, answers, answers_if, air_hearing, outs_hearing, heard_at, outs_at, arriving_as, arriving, arrival_outs_as, arrival_outs, heard_again, outs_again, repeating_by, repeating, repeat_outs_by, repeat_outs, mesh_after, mesh_outs, MayHappen}
+use Rattle.mesh_sim.specs.Steps.{Arrives, Repeats, landed, acknowledged, status_of, done_of, changed, answers, answers_if, outs_hearing, heard_at, outs_at, arriving_as, arrival_outs_as, heard_again, outs_again, repeating_by, repeating, repeat_outs_by, repeat_outs, mesh_after, mesh_outs, MayHappen}
 use Rattle.device_facts.specs.GoingOn.{IsSame}
 use Rattle.device_facts.proofs.Telling.{place_is, listener_is, fate_listens}
-use Rattle.node_course.specs.Ways.{Beside, Goes}
+use Rattle.node_course.specs.Ways.{Goes}
 use Rattle.node_course.specs.Meaning.{Asked, HostMeans, NodeMeans}
-use Rattle.node_course.specs.Air.{BearsBy, Bears, OnAir, Lands, WasThere}
+use Rattle.node_course.specs.Air.{BearsBy, OnAir, Lands, WasThere}
 use Rattle.node_course.specs.Device.{AtDevice, GoesAs}
-use Rattle.node_course.specs.Mesh.{HasDevice, InMesh, labels, told_as, brought_by, brought, Brings, Adds, MeshGoes}
-use Rattle.node_course.proofs.Thinning.{goes_nowhere, goes_on, goes_once}
-use Rattle.node_course.proofs.Replies.{Flying, OnlyAir, device_stays, Airs, KeepsWays, ways_stay, airs_of, mesh_then, device_moves, device_goes}
+use Rattle.node_course.specs.Mesh.{HasDevice, InMesh, brought_by, brought, MeshGoes}
+use Rattle.node_course.proofs.Thinning.{goes_nowhere, goes_once}
+use Rattle.node_course.proofs.Replies.{Flying, Airs, KeepsWays, ways_stay, airs_of, mesh_then, device_moves, device_goes}
 
 -- ---- what brings nothing to the chip
 

@@ -1,26 +1,24 @@
 -- Whatever happens outside the host but at the line itself: what the chip does, what it is given of the node, and that the air stays.
-use Rattle.std.proofs.Common.{◌≡◌, ℕ, zero, suc, ◌+◌, ◌-◌, ◌≤◌, ◌<◌, ◌==◌, ◌&&◌, ◌||◌, Bool, true, false, List, [], ◌∷◌, ◌++◌, length, map, refl, ap, sym, ◌∙◌, subst, inl, inr, arith, filter, nat_lt, nat_le, if◌then◌else◌, append-nil, append_assoc}
-use Rattle.std.specs.Prelude.{Option, Some, None, IsSome, drop, slice_get}
+use Rattle.std.proofs.Common.{◌≡◌, ℕ, zero, suc, ◌-◌, ◌≤◌, ◌==◌, ◌&&◌, ◌||◌, Bool, true, false, List, [], ◌∷◌, ◌++◌, length, map, refl, ap, sym, ◌∙◌, subst, inl, inr, arith, filter, nat_lt, nat_le, if◌then◌else◌, append-nil}
+use Rattle.std.specs.Prelude.{Option, Some, None, IsSome, drop}
 use Rattle.std.specs.List.{AllByRecursion, flat_map, range_with_len}
 use Rattle.std.specs.Option.{unwrap_or, is_some, option_to_list}
 use Rattle.std.proofs.lemmas.Bool.{ltb-true, leb-true, and_parts}
 use Rattle.supervision.specs.Ends.{Report}
-use Rattle.serial_frame.specs.declared.unit.Unit.{Unit as LineUnit}
 use Rattle.serial_frame.specs.Frame.{FrameParts}
 use Rattle.serial_link.specs.State.{copy_due}
 use Rattle.serial_link.specs.declared.turn.Turn.{Turn}
 use Rattle.serial_link.specs.declared.turn.Turn.TheVariants.{Idle, Copied, Paused}
-use Rattle.serial_pipes.specs.State.{WayState}
 use Rattle.route_table.specs.declared.route.Route.{Route}
 use Rattle.route_table.specs.Network.{linked}
 use Rattle.chip_functions.specs.Notice.{status_of}
 use Rattle.chip_functions.specs.declared.notice.TransmitStatus.{TransmitStatus}
 use Rattle.chip_functions.specs.declared.notice.TransmitStatus.TheVariants.{Fail, NoRoute as no_route_status}
-use Rattle.chip_sim.specs.State.{ChipState, ChipParts}
+use Rattle.chip_sim.specs.State.{ChipState}
 use Rattle.chip_sim.specs.Events.{ChipEvent, Judged, Ticked, Done, Heard as chip_hears, Informed, Forgets, Joined, Linked, Collides, after, outs, May, OwesCall, FitsProfile, ended_outs}
-use Rattle.chip_sim.specs.Did.{MayAll, after_all, outs_all}
+use Rattle.chip_sim.specs.Did.{after_all}
 use Rattle.chip_sim.specs.Link.{chip_units}
-use Rattle.chip_sim.specs.Waiting.{PortState, is_full, queued_outs, queued_outs_at, served_outs, next_at, written, ticked, ticked_outs}
+use Rattle.chip_sim.specs.Waiting.{PortState, is_full, queued_outs, queued_outs_at, served_outs, next_at, written, ticked}
 use Rattle.chip_sim.specs.declared.out.Sending.{Sending}
 use Rattle.chip_sim.specs.declared.out.ChipOut.{ChipOut}
 use Rattle.chip_sim.specs.declared.out.ChipOut.TheVariants as chip_out
@@ -35,16 +33,16 @@ use Rattle.mesh_sim.specs.declared.event.AirEvent.TheVariants as air_event
 use Rattle.zw_text.specs.declared.entry.Entry.TheVariants.{Forget}
 use Rattle.outer_events.specs.declared.waits.Due.{Due}
 use Rattle.outer_events.specs.declared.waits.Due.TheVariants.{Info, NoRoute as no_route_due}
-use Rattle.outer_events.specs.State.{OuterState, Outside, Outcome, silent, tells, and_then, each, with_chip}
+use Rattle.outer_events.specs.State.{OuterState, silent, tells, each, with_chip}
 use Rattle.outer_events.specs.Chip.{put_out, chip_does}
-use Rattle.outer_events.specs.Results.{owes_call, call_back, no_route, no_routes, leading, forgets, frame_ends, gives, without_no_route, told_profile, profile_of, profile_for, device_at, informs}
+use Rattle.outer_events.specs.Results.{owes_call, call_back, no_route, no_routes, leading, forgets, frame_ends, gives, without_no_route, told_profile, profile_of, profile_for, device_at}
 use Rattle.outer_events.specs.Air.{to_chip, deals}
-use Rattle.outer_events.specs.Nodes.{joins, discovers, links_of, pairs_of, all_pairs, is_known}
+use Rattle.outer_events.specs.Nodes.{discovers, links_of, pairs_of, all_pairs, is_known}
 use Rattle.line_facts.specs.Way.{written_all}
 use Rattle.line_facts.specs.Chip.{ChipDoes}
 use Rattle.line_facts.proofs.ChipWays.{does_both, does_one, IsStill, still_does}
 use Rattle.node_course.specs.Ways.{Beside, Thinned}
-use Rattle.node_course.specs.Mesh.{labels, brought_by, brought, Brings}
+use Rattle.node_course.specs.Mesh.{labels, brought, Brings}
 use Rattle.node_course.specs.Chip.{GivesAs}
 use Rattle.node_course.proofs.Moving.{beside-both, labels-append, thinned_same, thinned_both}
 

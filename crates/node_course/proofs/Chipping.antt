@@ -1,27 +1,24 @@
 -- The chip's side of the line: what is on its way to the host keeps its labels, event by event.
-use Rattle.std.proofs.Common.{◌≡◌, ◌≢◌, ℕ, zero, suc, ◌+◌, ◌<◌, ◌≤◌, ◌==◌, ◌&&◌, Bool, true, false, nat_lt, nat_le, if◌then◌else◌, Option, Some, None, List, [], ◌∷◌, ◌++◌, length, ◌-◌, refl, ap, sym, ◌∙◌, subst, append-nil, arith}
+use Rattle.std.proofs.Common.{◌≡◌, ℕ, ◌≤◌, ◌==◌, ◌&&◌, Bool, true, false, nat_le, if◌then◌else◌, Option, Some, None, List, [], ◌∷◌, ◌++◌, length, ◌-◌, refl, sym, ◌∙◌, subst, append-nil, arith}
 use Rattle.std.specs.Prelude.{Result, Ok, Err}
 use Rattle.std.specs.Option.{option_to_list}
-use Rattle.std.proofs.lemmas.Bool.{eqb-true, leb-true, and_parts}
+use Rattle.std.proofs.lemmas.Bool.{leb-true, and_parts}
 use Rattle.supervision.specs.Ends.{Report}
 use Rattle.serial_frame.specs.Frame.{FrameParts}
-use Rattle.serial_frame.specs.declared.frame.Kind.TheVariants as kind
 use Rattle.serial_frame.specs.declared.unit.Unit.{Unit as LineUnit}
 use Rattle.serial_frame.specs.declared.unit.Unit.TheVariants.{Ack, Nak, Can, Framed}
 use Rattle.serial_frame.specs.declared.item.Item.{Item}
 use Rattle.serial_frame.specs.declared.item.Item.TheVariants.{Good, Refused}
-use Rattle.serial_frame.specs.declared.item.Refusal.{Refusal}
 use Rattle.serial_frame.specs.declared.item.Refusal.TheVariants.{Stray, BadLength, BadSum, BadKind, Aborted}
 use Rattle.serial_link.specs.State.{turn_heard}
 use Rattle.serial_link.specs.declared.turn.Turn.{Turn}
 use Rattle.serial_link.specs.declared.turn.Turn.TheVariants.{Idle, Copied, Paused}
 use Rattle.route_table.specs.declared.route.Route.{Route}
-use Rattle.zw_base.specs.declared.profile.Profile.{Profile}
-use Rattle.chip_functions.specs.Field.{IsNode, read_as}
-use Rattle.chip_functions.specs.Place.{Place, Reading, start_of, byte_from, ◌>>=◌}
-use Rattle.chip_functions.specs.Notice.{notice_of, notice_at, notice_body, notice_function, handler_at, callback_at, add_notice_at, update, update_at, IsNoticeBody}
+use Rattle.chip_functions.specs.Field.{read_as}
+use Rattle.chip_functions.specs.Place.{Place, Reading, start_of, ◌>>=◌}
+use Rattle.chip_functions.specs.Notice.{notice_of, notice_at, notice_body, notice_function, handler_at, update, update_at}
 use Rattle.chip_functions.specs.declared.fault.BodyFault.{BodyFault}
-use Rattle.chip_functions.specs.declared.function.TheConstants.{APPLICATION_COMMAND_HANDLER, SEND_DATA, APPLICATION_UPDATE}
+use Rattle.chip_functions.specs.declared.function.TheConstants.{APPLICATION_COMMAND_HANDLER}
 use Rattle.chip_functions.specs.declared.notice.Notice.{Notice}
 use Rattle.chip_functions.specs.declared.notice.Notice.TheVariants.{ApplicationCommandHandler, SendData as callback_notice, ApplicationUpdate}
 use Rattle.chip_functions.specs.declared.notice.TransmitStatus.{TransmitStatus}
@@ -30,14 +27,13 @@ use Rattle.chip_functions.specs.declared.notice.Update.{Update}
 use Rattle.chip_functions.specs.declared.request.Request.{Request}
 use Rattle.chip_functions.specs.declared.request.Request.TheVariants.{GetInitData, GetCapabilities, SendData, GetVersion, SendDataAbort, MemoryGetId, GetNodeProtocolInfo, AddNode, RequestNodeInfo, IsFailedNode, GetRoutingInfo}
 use Rattle.chip_functions.specs.declared.response.Response.{Response}
-use Rattle.chip_functions.proofs.FieldLaws.{bind_ok, ok_is}
 use Rattle.chip_functions.proofs.NoticeLaws.{notice_only}
 use Rattle.chip_sim.specs.State.{ChipState}
 use Rattle.chip_sim.specs.Waiting.{PortState, is_full, queued, queued_at, queued_outs, queued_outs_at, served, served_at, served_outs, next_at, written, ticked, ticked_outs}
 use Rattle.chip_sim.specs.Answers.{response_frame, notice_frame, init_data, capabilities, version, memory_id, protocol_info, routing_info, takes}
 use Rattle.chip_sim.specs.Nodes.{is_marked}
 use Rattle.chip_functions.specs.declared.response.Response.TheVariants.{SendData as send_answer, RequestNodeInfo as info_answer, IsFailedNode as failed_answer}
-use Rattle.chip_sim.specs.Requests.{passed, answer_outs, reply_to, performed, performed_outs, requested, requested_outs, asked, heard, judged_frame, judged_outs, given, given_if, given_outs, sent, abort_frame, callback_frame, stopped, closed}
+use Rattle.chip_sim.specs.Requests.{passed, answer_outs, reply_to, performed, performed_outs, requested, requested_outs, asked, heard, judged_frame, judged_outs, given_if, given_outs, sent, abort_frame, callback_frame, stopped}
 use Rattle.chip_sim.specs.Events.{ChipEvent, Judged, Ticked, Heard, Done, Informed, Joined, Linked, Forgets, Collides, after, outs, May, collides, ended, ended_outs, update_of}
 use Rattle.chip_sim.specs.Link.{chip_units}
 use Rattle.chip_sim.specs.Did.{MayAll, after_all, outs_all}
@@ -51,7 +47,7 @@ use Rattle.line_facts.proofs.ChipWays.{units-append}
 use Rattle.node_course.specs.Meaning.{NodeMeans}
 use Rattle.node_course.specs.Mesh.{labels, told_as, Brings}
 use Rattle.node_course.specs.Ways.{Beside}
-use Rattle.node_course.specs.Lines.{Tells, own_frames, Moves}
+use Rattle.node_course.specs.Lines.{Tells, Moves}
 use Rattle.node_course.specs.Chip.{GivesAs, ChipMoves}
 use Rattle.node_course.proofs.Moving.{move_same, move_sign, move_heard, move_ticked, move_serve, move_submit, move_wait, move_lost, moves_both, copies_of}
 

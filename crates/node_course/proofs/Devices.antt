@@ -1,18 +1,18 @@
 -- The device of a node goes on as its course has it.
-use Rattle.std.proofs.Common.{◌≡◌, ◌≢◌, ℕ, zero, suc, ◌+◌, ◌-◌, ◌<◌, ◌≤◌, ◌==◌, ◌⊎◌, inl, inr, Bool, true, false, ◌&&◌, not, if◌then◌else◌, Option, Some, None, List, [], ◌∷◌, ◌++◌, length, refl, ap, sym, ◌∙◌, subst, append-nil, arith}
+use Rattle.std.proofs.Common.{◌≡◌, ◌≢◌, ℕ, zero, suc, ◌+◌, ◌<◌, ◌≤◌, ◌==◌, ◌⊎◌, inl, inr, Bool, true, false, ◌&&◌, not, if◌then◌else◌, Option, Some, None, List, [], ◌∷◌, ◌++◌, length, refl, ap, sym, ◌∙◌, subst, append-nil, arith}
 use Rattle.std.specs.List.{AllByRecursion}
 use Rattle.std.proofs.lemmas.List.{length-append}
 use Rattle.std.proofs.lemmas.Bool.{eqb-true}
 use Rattle.std.proofs.lemmas.Bool.Decides.{nat_tests}
 use Rattle.zw_order.specs.declared.order.Order.{Order}
 use Rattle.supervision.specs.Session.{wire_id}
-use Rattle.supervision.specs.Device.{Taken, is_new, heard_of, after_get, finished}
+use Rattle.supervision.specs.Device.{Taken, is_new, heard_of, finished}
 use Rattle.supervision.specs.declared.session.TheConstants.{WORKING, SUCCESS}
 use Rattle.courses.specs.Parts.{numbered}
 use Rattle.courses.specs.Sessions.{Course, Message, Cargo, Command, Of_host, Answer, Of_node, first_course, hears, after_message, kept_after, MayAll, after_all}
 use Rattle.transport_segments.specs.Kept.{Reassembly, Empty, Partial}
 use Rattle.transport_segments.specs.Taking.{is_segment}
-use Rattle.encap.specs.Opening.{Message as Opened, opened_at}
+use Rattle.encap.specs.Opening.{opened_at}
 use Rattle.encap.specs.declared.plan.Supervised.{Supervised}
 use Rattle.host_orders.specs.Refusals.{IsFit}
 use Rattle.host_orders.specs.Wrapping.{message_of, supervised_of}
@@ -22,18 +22,18 @@ use Rattle.device_stack.specs.declared.kind.Kind.TheVariants.{Relay, Switch, Dim
 use Rattle.device_stack.specs.declared.verdict.Verdict.{Verdict}
 use Rattle.device_stack.specs.Kind.{lists, listens}
 use Rattle.device_stack.specs.Hearing.{hears_openly, hears_by, active, hears as device_hears}
-use Rattle.device_stack.specs.Ticking.{aged, works_out, ticked, woken, set_by_hand}
-use Rattle.device_stack.specs.State.{Outcome, silent}
+use Rattle.device_stack.specs.Ticking.{ticked, woken, set_by_hand}
+use Rattle.device_stack.specs.State.{Outcome}
 use Rattle.device_sim.specs.State.{State, fresh}
 use Rattle.device_sim.specs.Event.{DeviceEvent, Hears, Ticks, Wakes, Sets, outcome_of, device_after, device_replies}
 use Rattle.device_facts.specs.GoingOn.{IsSame}
 use Rattle.device_course.specs.Ending.{one_at_work, HasEnded}
 use Rattle.message_facts.specs.Asking.{message_in, takes_openly, verdict_on, IsLeft, Follows}
 use Rattle.message_facts.specs.Landing.{HasLanded, IsOf, LandsAs}
-use Rattle.message_facts.specs.Others.{IsNoGet, IsOther}
+use Rattle.message_facts.specs.Others.{IsOther}
 use Rattle.message_facts.specs.Reporting.{TellsOwn, TellsTrue, CanSay}
-use Rattle.host_orders.specs.Wrapping.{plan_of, ends_of}
-use Rattle.encap.specs.Written.{addressed_form, supervised_form, batched_form}
+use Rattle.host_orders.specs.Wrapping.{ends_of}
+use Rattle.encap.specs.Written.{addressed_form, supervised_form}
 use Rattle.encap.specs.declared.plan.Outer.{Outer}
 use Rattle.encap.specs.declared.plan.Outer.TheVariants.{None as no_outer, Crc16, Security, Transport}
 use Rattle.encap.specs.declared.plan.Ends.{Ends}

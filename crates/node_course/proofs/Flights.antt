@@ -1,5 +1,5 @@
 -- Frames on the air, in the course of one node.
-use Rattle.std.proofs.Common.{◌≡◌, ℕ, zero, suc, ◌+◌, ◌-◌, ◌<◌, ◌≤◌, ◌==◌, Bool, true, false, if◌then◌else◌, Option, Some, None, List, [], ◌∷◌, ◌++◌, length, refl, ap, sym, ◌∙◌, subst, arith}
+use Rattle.std.proofs.Common.{◌≡◌, ℕ, zero, suc, ◌+◌, ◌-◌, ◌<◌, ◌≤◌, ◌==◌, Bool, true, false, if◌then◌else◌, Some, None, List, [], ◌∷◌, ◌++◌, length, refl, ap, sym, ◌∙◌, subst, arith}
 use Rattle.std.proofs.lemmas.Bool.{eqb-true}
 use Rattle.std.specs.Prelude.{slice_get, nat_lt, nat_le, ◌&&◌, ◌||◌}
 use Rattle.supervision.specs.Host.{HostBook, no_sessions, begins, begun_of}
@@ -9,13 +9,12 @@ use Rattle.courses.specs.Sessions.{Cargo, Command, Of_host, Answer, Of_node, IsF
 use Rattle.air_frames.specs.declared.frame.Departure.{Departure}
 use Rattle.air_frames.specs.declared.frame.Heading.{Heading}
 use Rattle.air_frames.specs.declared.frame.Heading.TheVariants.{Outward, Homeward}
-use Rattle.air_frames.specs.declared.ages.Refusal.{Refusal}
-use Rattle.air_frames.specs.declared.ages.Refusal.TheVariants.{NeverSent, Forgotten, Stale}
+use Rattle.air_frames.specs.declared.ages.Refusal.TheVariants.{NeverSent, Stale}
 use Rattle.air_frames.specs.Flown.{Flown}
 use Rattle.air_frames.specs.Frames.{FramesState, no_frames, peer_of, putting, landing, remembered}
 use Rattle.air_frames.specs.Ages.{is_class, stale_by, stale_of, stale_if, refusal_of}
 use Rattle.air_frames.specs.History.{Mark, Goes, Begins, begins_in}
-use Rattle.air_frames.proofs.Logs.{stamped-append, begins_in-append, stamped-begins}
+use Rattle.air_frames.proofs.Logs.{stamped-append, begins_in-append}
 use Rattle.air_flights.specs.Flights.{flown_in, flown_now, Fly}
 use Rattle.node_course.specs.Ways.{Beside}
 use Rattle.node_course.specs.Meaning.{Asked, IsMessageOf, HostMeans, NodeMeans}

@@ -1,5 +1,5 @@
 -- In a line the host ends no session but by what it has taken out of its pipe.
-use Rattle.std.proofs.Common.{◌≡◌, ℕ, zero, suc, Bool, true, false, List, [], ◌∷◌, ◌++◌, length, map, refl, ap, sym, subst, inl, inr, ◌+◌, ◌-◌}
+use Rattle.std.proofs.Common.{◌≡◌, ℕ, zero, suc, Bool, true, false, List, [], ◌∷◌, ◌++◌, length, map, refl, sym, subst, inl, inr, ◌+◌, ◌-◌}
 use Rattle.std.specs.Prelude.{if◌then◌else◌, Option, Some, None}
 use Rattle.std.specs.List.{AllByRecursion}
 use Rattle.zw_text.specs.declared.line.Line.{Line}
@@ -25,7 +25,7 @@ use Rattle.zw_machine.specs.Ticking.{IsClockTick, IsDelivery, IsGiving, IsDevice
 use Rattle.zw_machine.specs.Lines.{IsRefusal, IsDone, Asks, IsRestart, IsDiscovery, IsEffect, IsLineBegin, IsLineRest, IsLine}
 use Rattle.host_events.specs.After.{is_full, after as after_host}
 use Rattle.host_events.specs.Did.{after_all as after_host_all}
-use Rattle.host_events.specs.Pumping.{no_more_event, LetsSleep, GivesNext, IsServedBy, IsNextOfNodes, IsNextOf, IsNext, Submits, Pumps}
+use Rattle.host_events.specs.Pumping.{LetsSleep, GivesNext, IsServedBy, IsNextOfNodes, IsNextOf, Submits, Pumps}
 use Rattle.host_nodes.specs.Search.{next_of}
 use Rattle.host_node.specs.declared.series.Series.{Series}
 use Rattle.host_node.specs.declared.series.Series.TheVariants.{Idle, Due, Running}

@@ -1,73 +1,47 @@
 -- What the host does of itself or is asked for, in the course of one node: all but what it judges.
-use Rattle.std.proofs.Common.{◌≡◌, ◌≢◌, ℕ, zero, suc, ◌+◌, ◌-◌, ◌<◌, ◌≤◌, ◌==◌, ◌&&◌, ◌⊎◌, inl, inr, Bool, true, false, nat_lt, nat_le, if◌then◌else◌, Option, Some, None, List, [], ◌∷◌, ◌++◌, All, map, replicate, get_or, set, length, refl, ap, sym, ◌∙◌, subst, append-nil, arith}
-use Rattle.std.specs.Prelude.{slice_get, slice_set, slice_index}
+use Rattle.std.proofs.Common.{◌≡◌, ℕ, zero, suc, ◌+◌, ◌-◌, ◌<◌, ◌≤◌, ◌==◌, Bool, true, false, nat_lt, nat_le, if◌then◌else◌, Option, Some, None, List, [], ◌∷◌, ◌++◌, replicate, get_or, set, length, refl, ap, sym, ◌∙◌, subst, append-nil, arith}
+use Rattle.std.specs.Prelude.{slice_set, slice_index}
 use Rattle.std.proofs.lemmas.List.{get_or_past}
 use Rattle.supervision.specs.Ends.{Report}
 use Rattle.courses.specs.Flying.{Flight}
 use Rattle.std.specs.List.{AllByRecursion}
-use Rattle.std.specs.Option.{option_to_list}
 use Rattle.std.proofs.lemmas.Bool.{eqb-true}
-use Rattle.supervision.specs.Host.{HostBook, begun_of, open_session, command_at as command_of_session, told_of, begins}
-use Rattle.supervision.specs.declared.host_node.Told.TheVariants.{Working}
-use Rattle.supervision.proofs.OnceLemmas.{All-slice_get}
-use Rattle.courses.specs.Parts.{numbered}
-use Rattle.courses.specs.Sessions.{Course, Message, Cargo, Command as command_cargo, Writes, Begins as begins_step, after, May as MayStep}
+use Rattle.supervision.specs.Host.{HostBook, begun_of, open_session, begins}
+use Rattle.courses.specs.Sessions.{Course, Message, Cargo, Writes, Begins as begins_step, after}
 use Rattle.serial_frame.specs.Frame.{FrameParts}
 use Rattle.serial_frame.specs.Items.{IsUnit}
 use Rattle.serial_frame.specs.Stream.{Rest}
 use Rattle.serial_frame.specs.declared.unit.Unit.{Unit as LineUnit}
-use Rattle.serial_frame.specs.declared.unit.Unit.TheVariants.{Ack, Nak, Can, Framed}
+use Rattle.serial_frame.specs.declared.unit.Unit.TheVariants.{Framed}
 use Rattle.serial_frame.specs.declared.item.Item.{Item}
-use Rattle.serial_frame.specs.declared.item.Item.TheVariants.{Good, Refused}
-use Rattle.serial_frame.specs.declared.item.Refusal.TheVariants.{Stray, BadLength, BadSum, BadKind, Aborted}
-use Rattle.serial_link.specs.State.{Side, turn_heard, tick_side, copy_due}
+use Rattle.serial_link.specs.State.{Side}
 use Rattle.serial_link.specs.declared.turn.Turn.{Turn}
 use Rattle.serial_link.specs.declared.turn.Turn.TheVariants.{Idle, Copied, Paused}
 use Rattle.serial_pipes.specs.State.{WayState}
 use Rattle.zw_text.specs.declared.entry.Entry.{Entry}
 use Rattle.zw_text.specs.declared.entry.Entry.TheVariants as entry
-use Rattle.route_table.specs.declared.route.Route.{Route}
 use Rattle.chip_sim.specs.State.{ChipParts}
 use Rattle.chip_sim.specs.Rules.{WaitsWell}
-use Rattle.air_frames.specs.declared.peer.Peer.{Peer}
 use Rattle.air_frames.specs.Flown.{Flown}
 use Rattle.air_frames.specs.Frames.{FramesState, peer_of}
-use Rattle.air_frames.specs.History.{Mark, Begins as begins_mark, begins_in}
+use Rattle.air_frames.specs.History.{Mark, Begins as begins_mark}
 use Rattle.air_frames.proofs.Logs.{stamped-append, stamped-begins, begins_in-begins}
 use Rattle.air_flights.specs.Flights.{Fly, flown_in}
 use Rattle.device_sim.specs.State.{State}
 use Rattle.mesh_sim.specs.Air.{AirState, beginning}
-use Rattle.mesh_sim.specs.Fates.{Mesh}
-use Rattle.outer_events.specs.State.{OuterState, Outside, outside}
-use Rattle.outer_events.specs.Events.{Host_writes, Host_notes, Host_begins, outcome, devices_after, has_entered, begins as air_begins, happens as happens_outside, mesh_of}
+use Rattle.outer_events.specs.State.{OuterState, Outside}
+use Rattle.outer_events.specs.Events.{Host_writes, Host_notes, outcome, devices_after, has_entered, begins as air_begins, happens as happens_outside, mesh_of}
 use Rattle.outer_events.specs.Did.{happens_all as happens_all_outside}
 use Rattle.zw_machine.specs.State.{begun_in, noted_by, routed}
-use Rattle.host_orders.specs.Wrapping.{form_of}
-use Rattle.host_orders.specs.declared.carriage.Carriage.{Carriage}
-use Rattle.host_orders.specs.declared.carriage.Form.{Form}
-use Rattle.host_orders.specs.declared.carriage.Form.TheVariants.{Plain, Cut, Sealed}
-use Rattle.host_requests.specs.Frames.{nonce_report, no_more_information, frame_of}
-use Rattle.host_requests.specs.State.{RequestsState, next_id}
-use Rattle.host_requests.specs.Events.{RequestsEvent}
-use Rattle.host_requests.specs.Events.RequestsEvent.{Pushes, PushesInterview, PushesProbe, BeginsAbort, BeginsFront, BeginsAttempt, Updates}
-use Rattle.host_requests.specs.declared.task.Task.{Task}
-use Rattle.host_requests.specs.declared.task.Task.TheVariants as task
-use Rattle.host_requests.specs.declared.task.Purpose.{Purpose}
-use Rattle.host_requests.specs.declared.task.Purpose.TheVariants.{Housekeeping, Attempt, Abort}
-use Rattle.host_node.specs.State.{NodeState, unknown, SealsText}
-use Rattle.host_node.specs.Events.{NodeEvent, after as after_node}
-use Rattle.host_node.specs.Events.NodeEvent.{Joins as node_joins, Interviews as node_interviews, Puts as node_puts, Accepts as node_accepts, Cancels as node_cancels, Begins as node_begins, Blocks as node_blocks, Starts as node_starts, Gives_segment as node_gives_segment, Gives_text as node_gives_text, Reports as node_reports, Takes_nonce as node_takes_nonce, Notifies as node_notifies, Queues_no_more as node_queues_no_more, Drops_no_more as node_drops_no_more, Ticks as node_ticks}
-use Rattle.host_node.specs.Steps.{tick_end}
-use Rattle.host_node.specs.declared.attempt.Plan.{Plan}
-use Rattle.host_node.specs.declared.attempt.Plan.TheVariants.{Whole, Segments, Sealed as seals}
-use Rattle.host_keep.specs.declared.final_status.FinalStatus.{FinalStatus}
-use Rattle.host_events.specs.State.{HostState, Command, node_of, with_node, command_at}
-use Rattle.host_events.specs.Sessions.{message_for, segment_by, segment_of, command_if, open_segment, open_command, start_by, start_of}
+use Rattle.host_node.specs.State.{NodeState, unknown}
+use Rattle.host_node.specs.Events.{after as after_node}
+use Rattle.host_node.specs.Events.NodeEvent.{Begins as node_begins}
+use Rattle.host_events.specs.State.{HostState, node_of, with_node}
 use Rattle.host_events.specs.declared.out.HostOut.{HostOut}
 use Rattle.host_events.specs.declared.out.HostOut.TheVariants.{Write, Note}
-use Rattle.host_events.specs.After.{after as after_host, node_does, requests_do, submits, submits_part, front_purpose, queues_if_room, offering, giving, is_busy, gives_up, line_ticked, failing_if}
-use Rattle.host_events.specs.May.{May, IsStart, IsFree, IsServed}
-use Rattle.host_events.specs.Facts.{HostFacts, IsCommandOf}
+use Rattle.host_events.specs.After.{after as after_host, node_does, is_busy}
+use Rattle.host_events.specs.May.{May}
+use Rattle.host_events.specs.Facts.{HostFacts}
 use Rattle.host_events.specs.Events.{HostEvent}
 use Rattle.host_events.specs.Events as host
 use Rattle.line_facts.specs.Way.{Carries, items_all, written_all}
@@ -75,22 +49,18 @@ use Rattle.line_facts.specs.Line.{host_units}
 use Rattle.line_facts.specs.Chip.{HasFrames}
 use Rattle.line_facts.proofs.Ways.{carries_all}
 use Rattle.line_facts.proofs.Outer.{Written, routed_all}
-use Rattle.message_facts.specs.Others.{IsOther}
-use Rattle.node_course.specs.Ways.{Beside, Thinned, Goes}
-use Rattle.node_course.specs.Meaning.{Asked, IsMessageOf, HostMeans}
-use Rattle.node_course.specs.Air.{Bears, OnAir}
-use Rattle.node_course.specs.Device.{AtDevice}
-use Rattle.node_course.specs.Mesh.{HasDevice, InMesh, labels}
+use Rattle.node_course.specs.Ways.{Goes}
+use Rattle.node_course.specs.Meaning.{Asked, HostMeans}
+use Rattle.node_course.specs.Air.{OnAir}
+use Rattle.node_course.specs.Mesh.{HasDevice, InMesh}
 use Rattle.node_course.specs.Lines.{Tells, Asks, asked_as, ItemIs, own_frames, OnWay, Later, Moves}
-use Rattle.node_course.specs.Outside.{Follows}
-use Rattle.node_course.specs.Host.{NodeAs, asked_of, IsPlainFor, IsOtherTask, PushesOther, AtHost, AsksPlainly}
+use Rattle.node_course.specs.Host.{NodeAs, AtHost}
 use Rattle.node_course.specs.HostGoing.{HostFollows, HostGoes}
 use Rattle.node_course.proofs.Thinning.{goes_nowhere, goes_on, goes_once, up_thins}
-use Rattle.node_course.proofs.Flights.{beside-weaker, meaning_stays, bears_stays, order_accepted, session_begins, air_stays}
-use Rattle.node_course.proofs.Moving.{IsSign, move_same, move_sign, move_heard, move_ticked, move_submit, moves_both, copies_of}
-use Rattle.node_course.proofs.Outer.{SameDevice, has_same, mesh_up}
-use Rattle.node_course.proofs.NodeKeeping.{IsQuiet, set_as, SameHost, same_host, same_then, does_same, other_same, requests_same, request_same, room_same, holding_same, failing_same, ended_same, works_keeps, outcome_orders}
-use Rattle.node_course.proofs.HostFrames.{attempt_asks, abort_asks, task_asks}
+use Rattle.node_course.proofs.Flights.{beside-weaker, meaning_stays, order_accepted, session_begins, air_stays}
+use Rattle.node_course.proofs.Moving.{move_same, move_submit}
+use Rattle.node_course.proofs.Outer.{SameDevice, has_same}
+use Rattle.node_course.proofs.NodeKeeping.{SameHost, same_host, same_then, other_same, outcome_orders}
 
 -- ---- more orders
 

@@ -1,5 +1,5 @@
 -- What the host enters at its events begins no session, but where one begins.
-use Rattle.std.proofs.Common.{◌≡◌, ℕ, Bool, true, false, Option, Some, None, List, [], ◌∷◌, ◌++◌, map, refl}
+use Rattle.std.proofs.Common.{◌≡◌, ℕ, Bool, true, false, Option, Some, None, List, [], ◌∷◌, ◌++◌, refl}
 use Rattle.std.specs.List.{AllByRecursion}
 use Rattle.zw_base.specs.declared.property.Setting.{Setting}
 use Rattle.serial_frame.specs.Frame.{FrameParts}
@@ -8,17 +8,15 @@ use Rattle.serial_frame.specs.declared.item.Item.{Item}
 use Rattle.serial_frame.specs.declared.item.Item.TheVariants.{Good, Refused}
 use Rattle.serial_frame.specs.declared.item.Refusal.TheVariants.{Stray, BadLength, BadSum, BadKind, Aborted}
 use Rattle.serial_link.specs.State.{tick_side, copy_due}
-use Rattle.chip_functions.specs.declared.response.Response.{Response}
 use Rattle.chip_functions.specs.declared.response.Response.TheVariants.{GetRoutingInfo, IsFailedNode}
 use Rattle.zw_text.specs.declared.entry.Entry.{Entry}
-use Rattle.zw_text.specs.declared.entry.Entry.TheVariants as entry
-use Rattle.host_requests.specs.Events.{RequestsEvent, end_at}
+use Rattle.host_requests.specs.Events.{end_at}
 use Rattle.host_requests.specs.Events.RequestsEvent.{Fails}
 use Rattle.host_requests.specs.declared.end.End.{End}
 use Rattle.host_requests.specs.declared.end.How.{How}
-use Rattle.host_requests.specs.declared.end.How.TheVariants.{AtCallback, AtResponse, AtUpdate, Refused as was_refused, Silent, LinkFailed, AbortSent}
+use Rattle.host_requests.specs.declared.end.How.TheVariants.{AtResponse}
 use Rattle.host_requests.specs.declared.task.Task.{Task}
-use Rattle.host_requests.specs.declared.task.Task.TheVariants.{Plain, Offer, Segment, NoMore, First, Second, Members, Neighbours, IsFailed, Version, MemoryId, Capabilities}
+use Rattle.host_requests.specs.declared.task.Task.TheVariants.{Plain, NoMore, Second, Neighbours, IsFailed}
 use Rattle.host_requests.specs.declared.task.Purpose.{Purpose}
 use Rattle.host_requests.specs.declared.task.Purpose.TheVariants.{Housekeeping, Attempt, Abort}
 use Rattle.host_node.specs.Steps.{attempt_end, tick_end, falls_asleep}
@@ -27,11 +25,10 @@ use Rattle.host_node.specs.declared.attempt.AttemptEnd.TheVariants.{NoneRan, Aga
 use Rattle.host_events.specs.State.{HostState, node_of, command_at}
 use Rattle.host_events.specs.Sessions.{open_command, settings_with}
 use Rattle.host_events.specs.declared.out.HostOut.{HostOut}
-use Rattle.host_events.specs.declared.out.HostOut.TheVariants.{Write, Note}
-use Rattle.host_events.specs.Ends.{PartEnd, Good as well, Passed_over, Bad, part_end, part_entries, without_report_entries, asleep_entry, out_entry, attempt_entries, neighbours_entry, failed_entry, task_entries, end_entries, end_entries_if}
+use Rattle.host_events.specs.Ends.{PartEnd, Good as well, Passed_over, Bad, part_end, part_entries, asleep_entry, out_entry, attempt_entries, neighbours_entry, failed_entry, task_entries, end_entries, end_entries_if}
 use Rattle.host_events.specs.After.{requests_do, is_full, is_held, gives_up, line_ticked}
 use Rattle.host_events.specs.Outs.{outs, answer_to, copy_out, noted, request_entries, failing_entries, dropped_if, stored_entries, held_entries}
-use Rattle.host_events.specs.Events.{HostEvent, Accepts, Cancels, Joins, Queues, Queues_interview, Queues_probe, Hears, Requests_do, Interviews, Interview_unkept, Unreads, Is_unkept, Reports_old, Works, Finishes, Offers, Gives, Spends, Spends_unread, Takes_nonce, Notifies, Resends, Hears_value, Has_no_room, Line_ticks, Node_ticks, Queues_no_more, Drops_no_more, Submits_abort, Submits_front, Starts, Gives_text, Gives_segment, Begins, Begin_unkept}
+use Rattle.host_events.specs.Events.{HostEvent, Hears, Requests_do, Interviews, Interview_unkept, Unreads, Is_unkept, Reports_old, Finishes, Offers, Gives, Spends_unread, Notifies, Resends, Hears_value, Has_no_room, Line_ticks, Node_ticks, Drops_no_more, Submits_abort, Submits_front, Starts, Gives_text, Gives_segment, Begins, Begin_unkept}
 use Rattle.zw_machine.specs.State.{begun_in}
 use Rattle.node_course.specs.HostGoing.{IsNoBegin}
 use Rattle.node_course.proofs.HostDoing.{BeginsNone}

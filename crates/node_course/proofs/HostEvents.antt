@@ -1,5 +1,5 @@
 -- Each event of the host that judges no report of the node and begins no session, in the course of the node.
-use Rattle.std.proofs.Common.{◌≡◌, ◌≢◌, ℕ, zero, suc, ◌+◌, ◌-◌, ◌<◌, ◌≤◌, ◌==◌, ◌&&◌, Bool, true, false, nat_lt, nat_le, if◌then◌else◌, Option, Some, None, List, [], ◌∷◌, ◌++◌, All, map, length, refl, ap, sym, ◌∙◌, subst, append-nil, arith}
+use Rattle.std.proofs.Common.{◌≡◌, ◌≢◌, ℕ, zero, suc, ◌+◌, ◌<◌, ◌≤◌, ◌==◌, Bool, true, false, Option, Some, None, List, [], ◌∷◌, ◌++◌, All, map, length, refl, ap, sym, ◌∙◌, subst, arith}
 use Rattle.std.specs.Prelude.{slice_get}
 use Rattle.std.specs.List.{AllByRecursion}
 use Rattle.std.proofs.lemmas.Bool.{eqb-true}
@@ -14,8 +14,6 @@ use Rattle.serial_frame.specs.declared.item.Item.{Item}
 use Rattle.serial_frame.specs.declared.item.Item.TheVariants.{Good, Refused}
 use Rattle.serial_frame.specs.declared.item.Refusal.TheVariants.{Stray, BadLength, BadSum, BadKind, Aborted}
 use Rattle.serial_link.specs.State.{Side, turn_heard, tick_side, copy_due}
-use Rattle.serial_link.specs.declared.turn.Turn.{Turn}
-use Rattle.serial_link.specs.declared.turn.Turn.TheVariants.{Idle, Copied, Paused}
 use Rattle.zw_text.specs.declared.entry.Entry.{Entry}
 use Rattle.zw_text.specs.declared.entry.Outcome.TheVariants.{Waiting}
 use Rattle.zw_order.specs.declared.order.Order.{Order}
@@ -23,40 +21,37 @@ use Rattle.host_orders.specs.declared.carriage.Carriage.{Carriage}
 use Rattle.host_orders.specs.Refusals.{IsFit}
 use Rattle.host_orders.specs.Wrapping.{form_of}
 use Rattle.host_orders.specs.declared.carriage.Form.{Form}
-use Rattle.host_orders.specs.declared.carriage.Form.TheVariants.{Plain, Cut, Sealed}
+use Rattle.host_orders.specs.declared.carriage.Form.TheVariants.{Plain}
 use Rattle.host_requests.specs.Frames.{nonce_report, no_more_information, frame_of}
 use Rattle.host_requests.specs.State.{next_id}
-use Rattle.host_requests.specs.Events.{RequestsEvent}
 use Rattle.host_requests.specs.Events.RequestsEvent.{Pushes, PushesInterview, PushesProbe, BeginsAbort, BeginsFront, BeginsAttempt, Updates}
 use Rattle.host_requests.specs.declared.task.Task.{Task}
 use Rattle.host_requests.specs.declared.task.Task.TheVariants as task
-use Rattle.host_requests.specs.declared.task.Purpose.{Purpose}
-use Rattle.host_requests.specs.declared.task.Purpose.TheVariants.{Housekeeping, Attempt, Abort}
-use Rattle.host_node.specs.State.{NodeState}
+use Rattle.host_requests.specs.declared.task.Purpose.TheVariants.{Attempt, Abort}
 use Rattle.host_node.specs.Events.{NodeEvent, after as after_node}
 use Rattle.host_node.specs.Events.NodeEvent.{Joins as node_joins, Interviews as node_interviews, Puts as node_puts, Accepts as node_accepts, Cancels as node_cancels, Blocks as node_blocks, Starts as node_starts, Gives_segment as node_gives_segment, Gives_text as node_gives_text, Reports as node_reports, Takes_nonce as node_takes_nonce, Notifies as node_notifies, Queues_no_more as node_queues_no_more, Drops_no_more as node_drops_no_more, Ticks as node_ticks}
 use Rattle.host_node.specs.Steps.{tick_end}
 use Rattle.host_node.specs.declared.attempt.Plan.{Plan}
-use Rattle.host_node.specs.declared.attempt.Plan.TheVariants.{Whole, Segments, Sealed as seals}
+use Rattle.host_node.specs.declared.attempt.Plan.TheVariants.{Whole}
 use Rattle.host_keep.specs.Status.{status_byte}
 use Rattle.host_keep.specs.declared.final_status.FinalStatus.{FinalStatus}
 use Rattle.s0_session.specs.Nonces.{live_of}
 use Rattle.host_events.specs.State.{HostState, Command, node_of, with_node, command_at}
 use Rattle.host_events.specs.Sessions.{message_for, segment_by, segment_of, command_if, open_segment, open_command, settings_with, Start, start_by, start_of}
-use Rattle.host_events.specs.After.{after as after_host, node_does, requests_do, submits, submits_part, front_purpose, queues_if_room, offering, giving, finishing, holding, is_held, is_busy, gives_up, line_ticked, failing_if, node_for, is_full, outcome_of}
+use Rattle.host_events.specs.After.{after as after_host, node_does, requests_do, submits_part, front_purpose, offering, giving, finishing, is_held, is_busy, gives_up, line_ticked, node_for, is_full, outcome_of}
 use Rattle.host_events.specs.Outs.{outs, answer_to, copy_out, noted, request_entries, failing_entries, dropped_if, ended_of, stored_entries, held_entries}
 use Rattle.host_events.specs.Ends.{attempt_entries}
 use Rattle.zw_text.specs.declared.entry.Entry.TheVariants.{Out}
-use Rattle.host_events.specs.May.{May, IsStart, IsFree, IsServed}
+use Rattle.host_events.specs.May.{May, IsStart, IsFree}
 use Rattle.host_events.specs.Facts.{HostFacts, IsCommandOf, IsSound}
 use Rattle.host_events.specs.Events.{HostEvent, Accepts, Cancels, Joins, Queues, Queues_interview, Queues_probe, Hears, Requests_do, Interviews, Interview_unkept, Unreads, Is_unkept, Reports_old, Works, Finishes, Offers, Gives, Spends, Spends_unread, Takes_nonce, Notifies, Resends, Hears_value, Has_no_room, Line_ticks, Node_ticks, Queues_no_more, Drops_no_more, Submits_abort, Submits_front, Starts, Gives_text, Gives_segment, Begins, Begin_unkept}
 use Rattle.line_facts.specs.Line.{host_units}
 use Rattle.message_facts.specs.Others.{IsOther}
-use Rattle.node_course.specs.Meaning.{Asked, IsMessageOf, HostMeans}
+use Rattle.node_course.specs.Meaning.{Asked, IsMessageOf}
 use Rattle.node_course.specs.Lines.{Asks, Moves}
 use Rattle.node_course.specs.HostGoing.{IsAside}
 use Rattle.node_course.specs.Host.{NodeAs, asked_of, IsPlainFor, IsOtherTask, AtHost, AsksPlainly}
-use Rattle.node_course.proofs.Moving.{move_same, move_sign, move_heard, move_ticked, moves_both, copies_of}
+use Rattle.node_course.proofs.Moving.{move_sign, move_heard, move_ticked, copies_of}
 use Rattle.node_course.proofs.NodeKeeping.{IsQuiet, SameHost, same_host, same_then, does_same, other_same, requests_same, request_same, room_same, holding_same, failing_same, ended_same, works_keeps, outcome_orders, set_as}
 use Rattle.node_course.proofs.HostFrames.{attempt_asks, abort_asks, task_asks}
 use Rattle.node_course.proofs.HostDoing.{Wrote, quietly, accepts, turns, submits_other, submits_message}

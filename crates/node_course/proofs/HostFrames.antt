@@ -1,28 +1,25 @@
 -- Which frames of the host ask to send the node a payload, and which.
-use Rattle.std.proofs.Common.{◌≡◌, ℕ, zero, suc, ◌+◌, ◌<◌, ◌≤◌, ◌==◌, ◌&&◌, Bool, true, false, nat_lt, nat_le, if◌then◌else◌, Option, Some, None, List, [], ◌∷◌, ◌++◌, length, take, drop, refl, ap, sym, ◌∙◌, subst, arith}
+use Rattle.std.proofs.Common.{◌≡◌, ℕ, ◌+◌, ◌&&◌, Bool, true, false, nat_lt, nat_le, if◌then◌else◌, Option, Some, None, List, [], ◌∷◌, ◌++◌, length, take, drop, refl, ap, sym, ◌∙◌, subst, arith}
 use Rattle.std.specs.Prelude.{Result, Ok, Err}
-use Rattle.std.specs.List.{AllByRecursion}
 use Rattle.serial_frame.specs.Frame.{FrameParts}
 use Rattle.serial_frame.specs.declared.frame.Kind.{Kind}
 use Rattle.serial_frame.specs.declared.frame.Kind.TheVariants as kind
 use Rattle.courses.specs.Sessions.{Message}
 use Rattle.chip_functions.specs.AddNode.{add_request}
-use Rattle.chip_functions.specs.Place.{Place, Reading, start_of, byte_from, piece_from, found_at, ended_from, ◌>>=◌}
+use Rattle.chip_functions.specs.Place.{Place, Reading, start_of, piece_from, ended_from, ◌>>=◌}
 use Rattle.chip_functions.specs.Field.{node as node_field, byte, byte_within, counted, ◌then◌, read_as}
-use Rattle.chip_functions.specs.Request.{send_data, get_routing_info, request_function, request_body, request_of, request_at, send_data_at, add_request_at, get_routing_info_at}
+use Rattle.chip_functions.specs.Request.{send_data, get_routing_info, request_of, request_at, send_data_at, add_request_at, get_routing_info_at}
 use Rattle.chip_functions.specs.declared.fault.BodyFault.{BodyFault}
 use Rattle.chip_functions.specs.declared.fault.BodyFault.TheVariants.{UnknownFunction, BadField, Short}
 use Rattle.chip_functions.specs.declared.function.TheConstants.{GET_INIT_DATA, GET_CAPABILITIES, SEND_DATA, GET_VERSION, SEND_DATA_ABORT, MEMORY_GET_ID, GET_NODE_PROTOCOL_INFO, ADD_NODE, REQUEST_NODE_INFO, IS_FAILED_NODE, GET_ROUTING_INFO}
 use Rattle.chip_functions.specs.declared.request.Request.{Request}
 use Rattle.chip_functions.specs.declared.request.Request.TheVariants.{GetInitData, GetCapabilities, SendData, GetVersion, SendDataAbort, MemoryGetId, GetNodeProtocolInfo, AddNode, RequestNodeInfo, IsFailedNode, GetRoutingInfo}
-use Rattle.chip_functions.specs.declared.request.TheConstants.{TRANSMIT_OPTIONS}
 use Rattle.chip_functions.proofs.FieldLaws.{bind_ok, ok_is, found_ok, guard_ok}
 use Rattle.chip_functions.proofs.RowLaws.{reads_to, no_row, row_cases, ended_ok}
 use Rattle.chip_sim.specs.Requests.{asked, asked_by, read_of}
-use Rattle.host_requests.specs.Frames.{nonce_report, no_more_information, send, task_request, request_of as purpose_request, request_frame, frame_of}
+use Rattle.host_requests.specs.Frames.{nonce_report, no_more_information, send, request_frame, frame_of}
 use Rattle.host_requests.specs.declared.task.Task.{Task}
 use Rattle.host_requests.specs.declared.task.Task.TheVariants as task
-use Rattle.host_requests.specs.declared.task.Purpose.{Purpose}
 use Rattle.host_requests.specs.declared.task.Purpose.TheVariants.{Housekeeping, Attempt, Abort}
 use Rattle.message_facts.specs.Others.{IsOther}
 use Rattle.node_course.specs.Meaning.{Asked, HostMeans}

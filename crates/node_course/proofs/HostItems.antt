@@ -1,13 +1,12 @@
 -- The host judges items, one after another, in the course of one node; and what it does of itself.
-use Rattle.std.proofs.Common.{◌≡◌, ◌≢◌, ℕ, zero, suc, ◌+◌, ◌<◌, ◌==◌, ◌⊎◌, inl, inr, Bool, true, false, Option, Some, None, List, [], ◌∷◌, ◌++◌, map, length, get_or, set, refl, ap, sym, ◌∙◌, subst, append-nil, append_assoc, arith}
+use Rattle.std.proofs.Common.{◌≡◌, ℕ, ◌<◌, ◌⊎◌, inl, inr, Bool, Option, Some, List, [], ◌∷◌, ◌++◌, refl, ap, sym, ◌∙◌, subst, append-nil, append_assoc, arith}
 use Rattle.std.specs.List.{AllByRecursion}
 use Rattle.std.specs.Option.{option_to_list}
 use Rattle.supervision.specs.Session.{wire_id}
-use Rattle.supervision.specs.Host.{HostBook, open_session, told_of, after_report}
+use Rattle.supervision.specs.Host.{HostBook, told_of}
 use Rattle.supervision.specs.Ends.{Report}
-use Rattle.supervision.specs.declared.host_node.Told.{Told}
-use Rattle.supervision.specs.declared.host_node.Told.TheVariants.{Final, Working, Old}
-use Rattle.courses.specs.Sessions.{Course, Message, Judges, judges, after}
+use Rattle.supervision.specs.declared.host_node.Told.TheVariants.{Final}
+use Rattle.courses.specs.Sessions.{Course, Judges, judges}
 use Rattle.serial_frame.specs.Frame.{FrameParts}
 use Rattle.serial_frame.specs.Items.{IsUnit}
 use Rattle.serial_frame.specs.Stream.{Rest}
@@ -20,11 +19,10 @@ use Rattle.chip_sim.specs.State.{ChipParts}
 use Rattle.chip_sim.specs.Rules.{WaitsWell}
 use Rattle.device_sim.specs.State.{State}
 use Rattle.mesh_sim.specs.Air.{AirState}
-use Rattle.outer_events.specs.State.{OuterState, Outside}
+use Rattle.outer_events.specs.State.{Outside}
 use Rattle.outer_events.specs.Events.{OuterEvent, mesh_of, happens as happens_outside}
 use Rattle.outer_events.specs.Did.{happens_all as happens_all_outside}
 use Rattle.zw_machine.specs.State.{routed, routed_one}
-use Rattle.zw_text.specs.declared.entry.Entry.{Entry}
 use Rattle.zw_text.specs.declared.entry.Entry.TheVariants.{Out}
 use Rattle.host_keep.specs.declared.final_status.FinalStatus.{FinalStatus}
 use Rattle.host_keep.specs.Status.{status_byte}
@@ -38,14 +36,14 @@ use Rattle.host_node.specs.Events.NodeEvent.{Reports as node_reports}
 use Rattle.host_events.specs.State.{HostState, node_of, with_node, command_at}
 use Rattle.host_events.specs.Sessions.{settings_with}
 use Rattle.host_events.specs.declared.out.HostOut.{HostOut}
-use Rattle.host_events.specs.After.{after as after_host, finishing, holding, is_held, outcome_of}
+use Rattle.host_events.specs.After.{after as after_host, finishing, is_held, outcome_of}
 use Rattle.host_events.specs.Did.{after_all, outs_all, MayAll}
-use Rattle.host_events.specs.Outs.{outs, noted, ended_of, stored_entries, held_entries}
+use Rattle.host_events.specs.Outs.{outs, ended_of, stored_entries, held_entries}
 use Rattle.host_events.specs.May.{May}
 use Rattle.host_events.specs.Facts.{HostFacts}
-use Rattle.host_events.specs.Taking.{IsJudged, AreJudged, IsFollowed}
+use Rattle.host_events.specs.Taking.{IsJudged, AreJudged}
 use Rattle.host_events.specs.Events.{HostEvent, Hears, Finishes, Begins}
-use Rattle.line_facts.specs.Way.{Carries, items_all}
+use Rattle.line_facts.specs.Way.{Carries}
 use Rattle.line_facts.specs.Line.{host_units}
 use Rattle.line_facts.specs.Chip.{HasFrames}
 use Rattle.line_facts.proofs.Outer.{Written, routed_all}
@@ -53,15 +51,15 @@ use Rattle.message_facts.specs.Others.{IsOther}
 use Rattle.node_course.specs.Ways.{Beside, Thinned, Goes}
 use Rattle.node_course.specs.Meaning.{Asked}
 use Rattle.node_course.specs.Air.{OnAir}
-use Rattle.node_course.specs.Mesh.{HasDevice, InMesh, labels}
+use Rattle.node_course.specs.Mesh.{HasDevice, labels}
 use Rattle.node_course.specs.Lines.{Tells, Asks, ItemIs, OnWay}
-use Rattle.node_course.specs.Host.{NodeAs, asked_of, IsPlainFor, AtHost, AsksPlainly}
-use Rattle.node_course.specs.HostGoing.{HostFollows, HostGoes, IsAside, IsNoBegin, IsAnswer, EndsNone, UnitsAll, AllWell}
+use Rattle.node_course.specs.Host.{NodeAs, AsksPlainly}
+use Rattle.node_course.specs.HostGoing.{HostFollows, HostGoes, IsAside, IsNoBegin, IsAnswer, EndsNone, AllWell}
 use Rattle.node_course.proofs.Thinning.{goes_nowhere, goes_on, goes_once, down_thins}
 use Rattle.node_course.proofs.Moving.{thinned_same, thinned_behind}
 use Rattle.node_course.proofs.Outer.{has_same, mesh_down}
-use Rattle.node_course.proofs.NodeKeeping.{SameHost, holding_same, outcome_orders, same_host}
-use Rattle.node_course.proofs.HostDoing.{AirLaws, BeginsNone, SameAir, routed_air, writes_go, begin_goes, open_same, set_here}
+use Rattle.node_course.proofs.NodeKeeping.{SameHost, holding_same, outcome_orders}
+use Rattle.node_course.proofs.HostDoing.{AirLaws, SameAir, routed_air, writes_go, begin_goes, set_here}
 use Rattle.node_course.proofs.HostEvents.{event_wrote, noted_none}
 use Rattle.node_course.proofs.HostEntries.{event_begins_none}
 use Rattle.node_course.proofs.HostJudging.{AllAside, IsFinish, Bytes, item_told}

@@ -1,5 +1,5 @@
 -- What the host makes of an item: events that leave the sessions of the node, or the end of its last one.
-use Rattle.std.proofs.Common.{◌≡◌, ◌≢◌, ℕ, zero, suc, ◌+◌, ◌==◌, ◌&&◌, ◌⊎◌, inl, inr, Bool, true, false, nat_lt, if◌then◌else◌, Option, Some, None, List, [], ◌∷◌, ◌++◌, length, refl, ap, sym, ◌∙◌, subst, append-nil, arith}
+use Rattle.std.proofs.Common.{◌≡◌, ◌≢◌, ℕ, ◌==◌, ◌⊎◌, inl, inr, Bool, true, false, nat_lt, if◌then◌else◌, Option, Some, None, List, [], ◌∷◌, ◌++◌, refl, ap, sym, ◌∙◌, subst, append-nil, arith}
 use Rattle.std.specs.Prelude.{Result, Ok, Err}
 use Rattle.std.specs.List.{AllByRecursion}
 use Rattle.std.proofs.lemmas.Bool.{eqb-true}
@@ -26,7 +26,7 @@ use Rattle.chip_functions.specs.declared.notice.Update.{Update}
 use Rattle.chip_functions.specs.declared.notice.Update.TheVariants.{Received, RequestFailed}
 use Rattle.class_info.specs.declared.report_status.ReportStatus.{ReportStatus}
 use Rattle.class_info.specs.Values.{status_byte as byte_of}
-use Rattle.encap.specs.Opening.{Message as Opened, begins_with, opened_at}
+use Rattle.encap.specs.Opening.{begins_with, opened_at}
 use Rattle.host_requests.specs.Events.{RequestsEvent, interviewed_by}
 use Rattle.host_keep.specs.declared.final_status.FinalStatus.{FinalStatus}
 use Rattle.host_keep.specs.declared.final_status.FinalStatus.TheVariants as final
@@ -38,15 +38,14 @@ use Rattle.host_heard.specs.declared.told.Told.{Told}
 use Rattle.host_heard.specs.declared.told.Told.TheVariants.{Report, NonceGet, NonceReport, Notification, SegmentRequest, Values}
 use Rattle.value_store.specs.Values.{count_with}
 use Rattle.s0_session.specs.Nonces.{live_of}
-use Rattle.host_node.specs.State.{count_at}
 use Rattle.device_stack.specs.Answers.{report_status}
 use Rattle.host_events.specs.State.{HostState, node_of}
 use Rattle.host_events.specs.After.{after, is_busy, gives_up}
 use Rattle.host_events.specs.Did.{after_all}
-use Rattle.host_events.specs.Taking.{IsKeptOr, is_secure, FinalEvents, ReportEvents, NonceGetEvents, NonceReportEvents, wanted_segment, resent, value_event, value_events, IsTaken, AreTaken, named_by, IsOpened, SealedEvents, PayloadEvents, told_requests, InterviewEvents, ResponseEvents, NoticeEvents, FrameEvents, told_if, IsFollowed}
-use Rattle.host_events.specs.Events.{HostEvent, Hears, Requests_do, Interviews, Interview_unkept, Unreads, Is_unkept, Reports_old, Works, Finishes, Offers, Gives, Spends, Spends_unread, Takes_nonce, Notifies, Resends, Hears_value, Has_no_room}
+use Rattle.host_events.specs.Taking.{IsKeptOr, is_secure, FinalEvents, ReportEvents, NonceGetEvents, NonceReportEvents, resent, value_event, value_events, IsTaken, AreTaken, named_by, IsOpened, SealedEvents, PayloadEvents, InterviewEvents, ResponseEvents, NoticeEvents, FrameEvents, told_if, IsFollowed}
+use Rattle.host_events.specs.Events.{HostEvent, Interview_unkept, Unreads, Is_unkept, Reports_old, Works, Finishes, Offers, Gives, Spends, Spends_unread, Takes_nonce, Notifies, Hears_value, Has_no_room}
 use Rattle.message_facts.specs.Reporting.{IsNoReport, TellsNone}
-use Rattle.node_course.specs.Meaning.{NodeMeans, Reports}
+use Rattle.node_course.specs.Meaning.{NodeMeans}
 use Rattle.node_course.specs.Mesh.{told_as}
 use Rattle.node_course.specs.Lines.{Tells, ItemIs}
 use Rattle.node_course.specs.Host.{PushesOther}

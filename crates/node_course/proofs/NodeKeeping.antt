@@ -1,9 +1,9 @@
 -- What leaves the sessions of a node at the host as they are, event by event.
-use Rattle.std.proofs.Common.{◌≡◌, ◌≢◌, ℕ, zero, suc, ◌+◌, ◌-◌, ◌<◌, ◌≤◌, ◌==◌, Bool, true, false, nat_lt, if◌then◌else◌, Option, Some, None, List, [], ◌∷◌, ◌++◌, map, get_or, length, refl, ap, sym, ◌∙◌, subst, arith}
+use Rattle.std.proofs.Common.{◌≡◌, ◌≢◌, ℕ, zero, suc, ◌+◌, ◌-◌, ◌==◌, Bool, true, false, nat_lt, if◌then◌else◌, Option, Some, None, List, [], ◌∷◌, ◌++◌, map, get_or, refl, ap, sym, ◌∙◌, subst}
 use Rattle.std.specs.Prelude.{◌&&◌}
 use Rattle.std.specs.List.{AllByRecursion}
 use Rattle.std.proofs.Math.ListN.{set}
-use Rattle.supervision.specs.Host.{HostBook, told_of}
+use Rattle.supervision.specs.Host.{told_of}
 use Rattle.supervision.specs.declared.host_node.Told.{Told}
 use Rattle.supervision.specs.declared.host_node.Told.TheVariants.{Final, Working, Old}
 use Rattle.host_requests.specs.State.{RequestsState}
@@ -17,11 +17,11 @@ use Rattle.host_requests.specs.declared.end.How.{How}
 use Rattle.host_requests.specs.declared.end.How.TheVariants.{LinkFailed}
 use Rattle.host_requests.specs.declared.under_way.UnderWay.{UnderWay}
 use Rattle.host_requests.specs.declared.task.Task.{Task}
-use Rattle.host_requests.specs.declared.task.Task.TheVariants.{Plain, Offer, Segment, NoMore, First, Second, Members, Neighbours, IsFailed, Version, MemoryId, Capabilities}
+use Rattle.host_requests.specs.declared.task.Task.TheVariants.{NoMore, First, Second, Version, MemoryId, Capabilities}
 use Rattle.host_requests.specs.declared.task.Purpose.{Purpose}
 use Rattle.host_requests.specs.declared.task.Purpose.TheVariants.{Housekeeping, Attempt, Abort}
 use Rattle.host_node.specs.State.{NodeState, unknown, is_open, is_up, is_idle, is_running, has_waiting}
-use Rattle.host_node.specs.Steps.{with_wait, with_again, new_series, after_occasion, without_attempt, after_sign, after_sleep, asleep, next_due, series_over, after_attempts, after_attempt_end, attempt_end, after_told, after_report, after_hold_tick, after_again, after_again_tick, after_attempt_tick, after_tick, tick_end, tried_again, as_recorded, after_no_more_end, wait_ticks}
+use Rattle.host_node.specs.Steps.{with_wait, with_again, new_series, after_occasion, without_attempt, after_sign, after_sleep, asleep, next_due, series_over, after_attempts, after_attempt_end, attempt_end, after_told, after_hold_tick, after_again, after_again_tick, after_attempt_tick, tried_again, as_recorded, wait_ticks}
 use Rattle.host_node.specs.Events.{NodeEvent, after as after_node}
 use Rattle.host_node.specs.Events.NodeEvent.{Joins, Interviews, Puts, Takes_back, Accepts, Cancels, Begins, Blocks, Starts, Gives_segment, Gives_text, Succeeds, Takes_nonce, Restores_seen, Ends_attempt, Reports, Holds, Notifies, Sleeps, Queues_no_more, Drops_no_more, Ends_no_more, Ticks, Restarts}
 use Rattle.host_node.specs.declared.attempt.Plan.TheVariants.{Whole, Segments, Sealed}
@@ -29,14 +29,12 @@ use Rattle.host_node.specs.declared.attempt.Moment.{Moment}
 use Rattle.host_node.specs.declared.attempt.Moment.TheVariants.{BetweenTicks, BeforeItsTick}
 use Rattle.host_node.specs.declared.attempt.AttemptEnd.{AttemptEnd}
 use Rattle.host_node.specs.declared.attempt.AttemptEnd.TheVariants.{NoneRan, Again, Unanswered}
-use Rattle.host_nodes.specs.State.{nodes_after, node_of as node_among}
-use Rattle.serial_link.specs.declared.turn.Turn.{Turn}
+use Rattle.host_nodes.specs.State.{node_of as node_among}
 use Rattle.zw_text.specs.declared.entry.Outcome.{Outcome}
 use Rattle.host_events.specs.State.{HostState, Command, node_of, with_node, with_outcome, set_at}
 use Rattle.host_events.specs.Sessions.{open_command}
 use Rattle.host_events.specs.Ends.{unanswered, attempt_ended, PartEnd, Good as well, Passed_over, Bad, part_end, after_part, after_task, after_end, after_end_if}
 use Rattle.host_events.specs.After.{node_does, requests_do, request_does, is_full, queues_if_room, holding, failing_if}
-use Rattle.node_course.specs.Meaning.{Asked}
 use Rattle.node_course.specs.Host.{NodeAs, asked_of, IsOtherTask, PushesOther}
 
 -- ---- a node

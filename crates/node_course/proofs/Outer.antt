@@ -1,26 +1,22 @@
 -- What happens outside the host, in the course of one node.
-use Rattle.std.proofs.Common.{◌≡◌, ◌≢◌, ℕ, zero, suc, ◌+◌, ◌-◌, ◌<◌, ◌≤◌, ◌==◌, ◌&&◌, ◌||◌, ◌⊎◌, inl, inr, Bool, true, false, nat_lt, nat_le, if◌then◌else◌, Option, Some, None, List, [], ◌∷◌, ◌++◌, length, map, refl, ap, sym, ◌∙◌, subst, append-nil, append_assoc, arith}
-use Rattle.std.specs.Prelude.{Result, Ok, Err, slice_get, slice_set, take, drop}
-use Rattle.std.specs.List.{AllByRecursion}
-use Rattle.std.specs.Option.{option_to_list, option_map, unwrap_or, is_none}
-use Rattle.std.proofs.lemmas.Bool.{eqb-true, leb-true, and_parts}
+use Rattle.std.proofs.Common.{◌≡◌, ℕ, ◌<◌, ◌≤◌, ◌==◌, ◌&&◌, ◌||◌, ◌⊎◌, inl, inr, Bool, true, false, nat_lt, nat_le, if◌then◌else◌, Option, Some, None, List, [], ◌∷◌, ◌++◌, map, refl, ap, sym, ◌∙◌, subst, append-nil, arith}
+use Rattle.std.specs.Prelude.{Result, Ok, Err}
+use Rattle.std.specs.Option.{option_to_list}
+use Rattle.std.proofs.lemmas.Bool.{eqb-true, leb-true}
 use Rattle.supervision.specs.Host.{HostBook, begun_of}
 use Rattle.supervision.specs.Ends.{Report}
 use Rattle.courses.specs.Flying.{Flight, one_of, hosts}
 use Rattle.courses.specs.Sessions.{Course, Message, Cargo, Command, Of_host, Answer, Of_node, Step, Flies, Sends, is_of_host, flies, sends, after, May}
 use Rattle.serial_frame.specs.Frame.{FrameParts}
-use Rattle.serial_frame.specs.Stream.{Rest, Feeds, no_rest, after_tick}
+use Rattle.serial_frame.specs.Stream.{Rest}
 use Rattle.serial_frame.specs.declared.frame.Kind.{Kind}
 use Rattle.serial_frame.specs.declared.frame.Kind.TheVariants as kind
-use Rattle.serial_frame.specs.declared.unit.Unit.{Unit as LineUnit}
 use Rattle.serial_frame.specs.declared.unit.Unit.TheVariants.{Ack, Nak, Can, Framed}
 use Rattle.serial_frame.specs.declared.item.Item.{Item}
 use Rattle.serial_frame.specs.declared.item.Item.TheVariants.{Good, Refused}
 use Rattle.serial_frame.specs.declared.item.Refusal.TheVariants.{Stray, BadLength, BadSum, BadKind, Aborted}
 use Rattle.serial_link.specs.declared.turn.Turn.{Turn}
 use Rattle.serial_pipes.specs.State.{WayState}
-use Rattle.serial_pipes.specs.Events as way
-use Rattle.serial_pipes.specs.declared.marks.Garble.{Garble}
 use Rattle.route_table.specs.declared.route.Route.{Route}
 use Rattle.chip_functions.specs.Place.{Place, Reading, start_of, byte_from, found_at, ended_from, ◌>>=◌}
 use Rattle.chip_functions.specs.Field.{node as node_field, byte, byte_within, counted, ◌then◌, read_as}
@@ -34,37 +30,34 @@ use Rattle.chip_functions.specs.declared.fault.BodyFault.{BodyFault}
 use Rattle.chip_functions.specs.declared.request.Request.{Request}
 use Rattle.chip_functions.specs.declared.request.Request.TheVariants.{GetInitData, GetCapabilities, SendData, GetVersion, SendDataAbort, MemoryGetId, GetNodeProtocolInfo, AddNode, RequestNodeInfo, IsFailedNode, GetRoutingInfo}
 use Rattle.chip_sim.specs.declared.out.ChipOut.{ChipOut}
-use Rattle.chip_sim.specs.declared.out.ChipOut.TheVariants as chip_out
 use Rattle.chip_sim.specs.Answers.{takes}
 use Rattle.chip_sim.specs.State.{ChipState, ChipParts}
-use Rattle.chip_sim.specs.Requests.{passed, answer_outs, read_of, asked_by, asked, given_if, given_outs, reply_to, sent, performed_outs, requested_outs, judged_outs, heard}
+use Rattle.chip_sim.specs.Requests.{passed, answer_outs, read_of, asked_by, asked, given_outs, reply_to, sent, performed_outs, requested_outs, judged_outs, heard}
 use Rattle.chip_sim.specs.Rules.{WaitsWell}
 use Rattle.chip_sim.specs.Did.{MayAll, after_all, outs_all, judged_all}
 use Rattle.chip_sim.specs.Link.{chip_units}
 use Rattle.chip_sim.specs.Events.{ChipEvent, Judged, Ticked, collides, outs}
 use Rattle.chip_sim.specs.Events as chip
-use Rattle.chip_sim.proofs.Steps.{well_event}
 use Rattle.chip_sim.proofs.Histories.{well_all}
 use Rattle.air_frames.specs.declared.frame.Departure.{Departure}
 use Rattle.air_frames.specs.declared.frame.Heading.{Heading}
 use Rattle.air_frames.specs.declared.frame.Heading.TheVariants.{Outward, Homeward}
 use Rattle.air_frames.specs.Flown.{Flown}
-use Rattle.air_frames.specs.Frames.{FramesState}
 use Rattle.air_frames.specs.History.{Mark, Goes as goes_mark, begins_in, news_after}
 use Rattle.air_flights.specs.Flights.{Fly, flown_now}
 use Rattle.device_sim.specs.State.{State}
 use Rattle.device_course.specs.Ending.{HasEnded}
 use Rattle.zw_text.specs.declared.entry.Entry.{Entry}
-use Rattle.mesh_sim.specs.Air.{AirState, departing, no_route}
+use Rattle.mesh_sim.specs.Air.{AirState, departing}
 use Rattle.mesh_sim.specs.Fates.{Mesh}
 use Rattle.outer_events.specs.State.{OuterState, Outside, outside, with_chip, each}
 use Rattle.outer_events.specs.Chip.{put_out, chip_does, chip_takes, MayTake}
-use Rattle.outer_events.specs.Events.{has_entered, mesh_of}
+use Rattle.outer_events.specs.Events.{has_entered}
 use Rattle.outer_traffic.specs.Traffic.{one_outward, outward}
 use Rattle.world_traffic.specs.OnAir.{IsFew, StaysFew, fed_chip}
-use Rattle.line_facts.specs.Way.{Carries, items_all, written_all}
+use Rattle.line_facts.specs.Way.{Carries, items_all}
 use Rattle.line_facts.specs.Chip.{HasFrames, ChipDoes}
-use Rattle.line_facts.proofs.Ways.{carries_all, carries_left, carries_none}
+use Rattle.line_facts.proofs.Ways.{carries_all, carries_left}
 use Rattle.line_facts.proofs.Frames.{events_have, events_fit}
 use Rattle.line_facts.proofs.ChipWays.{does_one, does_each}
 use Rattle.node_course.specs.Ways.{Beside, Thinned, Goes}
@@ -76,10 +69,10 @@ use Rattle.node_course.specs.Mesh.{HasDevice, InMesh, labels, Adds}
 use Rattle.node_course.specs.Lines.{Tells, Asks, asked_as, ItemIs, OnWay, Later}
 use Rattle.node_course.specs.Outside.{Follows, OuterGoes}
 use Rattle.node_course.proofs.Thinning.{goes_nowhere, goes_on, goes_once, up_thins, down_thins}
-use Rattle.node_course.proofs.Moving.{thinned_same, thinned_behind, thinned_both, thinned_then, labels-append}
-use Rattle.node_course.proofs.Chipping.{chip_moves, chips_move}
-use Rattle.node_course.proofs.Replies.{Flying, OnlyAir, device_stays, device_moves, Airs, KeepsWays}
-use Rattle.node_course.proofs.ChipTelling.{IsMild, AreMild, mild-append, each_mild, queued_mild, served_mild, ChipTells}
+use Rattle.node_course.proofs.Moving.{thinned_same, thinned_behind, thinned_both, thinned_then}
+use Rattle.node_course.proofs.Chipping.{chips_move}
+use Rattle.node_course.proofs.Replies.{Flying}
+use Rattle.node_course.proofs.ChipTelling.{AreMild, each_mild, queued_mild, served_mild, ChipTells}
 
 -- ---- courses with other things on their way
 

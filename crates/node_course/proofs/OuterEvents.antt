@@ -1,27 +1,22 @@
 -- Each event outside the host, in the course of one node.
-use Rattle.std.proofs.Common.{◌≡◌, ℕ, ◌+◌, ◌<◌, ◌≤◌, Bool, true, false, Option, Some, None, List, [], ◌∷◌, ◌++◌, refl, ap, sym, ◌∙◌, subst, append-nil, arith}
+use Rattle.std.proofs.Common.{◌≡◌, ℕ, ◌<◌, ◌≤◌, Bool, true, false, Option, Some, None, List, [], ◌∷◌, ◌++◌, refl, ap, sym, ◌∙◌, subst, append-nil, arith}
 use Rattle.std.specs.Prelude.{slice_get, slice_set}
 use Rattle.std.specs.Option.{option_map}
-use Rattle.supervision.specs.Host.{HostBook, no_sessions}
+use Rattle.supervision.specs.Host.{no_sessions}
 use Rattle.supervision.specs.Ends.{Report}
 use Rattle.courses.specs.Sessions.{Course, Message, first_course}
-use Rattle.serial_frame.specs.Frame.{FrameParts}
-use Rattle.serial_frame.specs.Stream.{Rest, Feeds, no_rest, after_tick}
+use Rattle.serial_frame.specs.Stream.{Rest, no_rest, after_tick}
 use Rattle.serial_frame.specs.declared.item.Item.{Item}
 use Rattle.serial_link.specs.declared.turn.Turn.{Turn}
 use Rattle.serial_link.specs.declared.turn.Turn.TheVariants.{Idle}
-use Rattle.serial_pipes.specs.State.{WayState, empty_way}
 use Rattle.serial_pipes.specs.Events.{Clears}
 use Rattle.serial_pipes.specs.Events as way
 use Rattle.serial_pipes.specs.declared.marks.Garble.{Garble}
 use Rattle.zw_words.specs.declared.side.Side.{Side}
 use Rattle.zw_words.specs.declared.side.Side.TheVariants.{Host, Chip}
-use Rattle.zw_text.specs.declared.entry.Entry.{Entry}
 use Rattle.route_table.specs.declared.route.Route.{Route}
-use Rattle.chip_sim.specs.State.{ChipParts, ChipState}
 use Rattle.chip_sim.specs.Events.{Collides, Ticked, Joined, after}
 use Rattle.chip_sim.specs.Did.{after_all}
-use Rattle.chip_sim.specs.Rules.{WaitsWell}
 use Rattle.air_frames.specs.declared.frame.Heading.TheVariants.{Outward}
 use Rattle.air_frames.specs.Ages.{refusal_of}
 use Rattle.air_frames.specs.declared.ages.Refusal.{Refusal as RepeatRefusal}
@@ -40,26 +35,24 @@ use Rattle.mesh_sim.specs.Steps as mesh
 use Rattle.outer_events.specs.Results.{device_at, gives}
 use Rattle.outer_events.specs.Air.{deals}
 use Rattle.outer_events.specs.Nodes.{listens_at, joins, discovers, links_of}
-use Rattle.outer_events.specs.Chip.{chip_does, chip_takes, MayTake}
+use Rattle.outer_events.specs.Chip.{chip_does}
 use Rattle.outer_events.specs.Devices.{acts_at, acts_by_hand, device_set, set_by_hand}
 use Rattle.outer_events.specs.State.{OuterState, Outside, outside, with_chip, each, first_outer}
-use Rattle.outer_events.specs.Events.{OuterEvent, Begins_line, Begins_tick, Host_writes, Host_takes as host_takes, Host_notes, Host_begins, Chip_takes, Arrives, Gives, Device_ticks, Chip_ticks, Repeats, Wakes_device, Sets_device, Shows, Joins, Discovers, Links, Loses, Loses_acks, Marks_loss, Marks_change, Clears_pipe, Collides_next, Stalls, Cuts, is_own, outcome, devices_after, has_entered, happens, steps, repeats, devices_repeated, mesh_of, May, MayRepeat, with_way, way_of}
+use Rattle.outer_events.specs.Events.{OuterEvent, Begins_line, Begins_tick, Host_writes, Host_takes as host_takes, Host_notes, Host_begins, Chip_takes, Arrives, Gives, Device_ticks, Chip_ticks, Repeats, Wakes_device, Sets_device, Shows, Joins, Discovers, Links, Loses, Loses_acks, Marks_loss, Marks_change, Clears_pipe, Collides_next, Stalls, Cuts, is_own, outcome, devices_after, happens, repeats, devices_repeated, mesh_of, May, MayRepeat, with_way, way_of}
 use Rattle.outer_traffic.specs.Traffic.{outward}
 use Rattle.world_traffic.specs.OnAir.{IsFew, OuterStaysFew}
 use Rattle.line_facts.specs.Way.{Carries}
-use Rattle.line_facts.specs.Chip.{HasFrames}
 use Rattle.line_facts.proofs.Ways.{carries_none}
-use Rattle.node_course.specs.Ways.{Beside, Thinned, Goes}
+use Rattle.node_course.specs.Ways.{Thinned}
 use Rattle.node_course.specs.Meaning.{Asked}
 use Rattle.node_course.specs.Air.{OnAir}
 use Rattle.node_course.specs.Device.{AtDevice, GoesAs}
 use Rattle.node_course.specs.Mesh.{HasDevice, InMesh, labels, brought, Adds, MeshGoes}
-use Rattle.node_course.specs.Lines.{Tells, Asks, OnWay}
 use Rattle.node_course.specs.Outside.{Follows, OuterGoes, SideRests, Rests}
-use Rattle.node_course.proofs.Thinning.{goes_nowhere, goes_on, up_thins, down_thins}
+use Rattle.node_course.proofs.Thinning.{goes_nowhere, up_thins, down_thins}
 use Rattle.node_course.proofs.Moving.{thinned_same, thinned_behind, labels-append}
 use Rattle.node_course.proofs.Replies.{Flying}
-use Rattle.node_course.proofs.ChipTelling.{ChipTells, tells_still, tells_both, tells_one, deals_tell, gives_tells, joins_tell, discovers_tell, collides_tell}
+use Rattle.node_course.proofs.ChipTelling.{ChipTells, tells_still, tells_one, deals_tell, gives_tells, joins_tell, discovers_tell, collides_tell}
 use Rattle.node_course.proofs.Outer.{mesh_down, mesh_up, outer_goes, entered, takes_go}
 
 -- the laws that are used

@@ -1,5 +1,5 @@
 -- What a device sends goes on the air, in the course of one node.
-use Rattle.std.proofs.Common.{◌≡◌, ◌≢◌, ℕ, zero, suc, ◌+◌, ◌<◌, ◌==◌, ◌⊎◌, inl, inr, Bool, true, false, ◌||◌, nat_lt, if◌then◌else◌, Option, Some, None, List, [], ◌∷◌, ◌++◌, refl, ap, sym, ◌∙◌, subst, append-nil, arith}
+use Rattle.std.proofs.Common.{◌≡◌, ◌≢◌, ℕ, zero, suc, ◌<◌, ◌==◌, inl, inr, Bool, true, false, ◌||◌, nat_lt, if◌then◌else◌, Option, Some, None, List, [], ◌∷◌, ◌++◌, refl, ap, sym, ◌∙◌, subst, append-nil, arith}
 use Rattle.std.specs.Prelude.{slice_get, slice_set}
 use Rattle.std.specs.List.{AllByRecursion}
 use Rattle.std.specs.Option.{option_map, unwrap_or, is_none}
@@ -8,10 +8,10 @@ use Rattle.supervision.specs.Host.{HostBook, begun_of}
 use Rattle.supervision.specs.Device.{Taken}
 use Rattle.supervision.specs.Ends.{Report}
 use Rattle.courses.specs.Flying.{Flight}
-use Rattle.courses.specs.Sessions.{Course, Cargo, Command, Of_host, Answer, Of_node, Step, Flies, Reports as reports, Finishes, flies, after, after_all, May, MayAll}
+use Rattle.courses.specs.Sessions.{Course, Cargo, Answer, Of_node, Step, Flies, Reports as reports, flies, after, after_all, May}
 use Rattle.route_table.specs.declared.route.Route.{Route}
 use Rattle.air_frames.specs.declared.frame.Departure.{Departure}
-use Rattle.air_frames.specs.declared.frame.Heading.TheVariants.{Outward, Homeward}
+use Rattle.air_frames.specs.declared.frame.Heading.TheVariants.{Homeward}
 use Rattle.air_frames.specs.Flown.{Flown}
 use Rattle.air_frames.specs.Frames.{FramesState, putting}
 use Rattle.air_frames.specs.History.{Mark, Goes as goes_mark, begins_in, news_after}

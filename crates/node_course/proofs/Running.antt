@@ -1,9 +1,8 @@
 -- The machine at first, and lines from there on, in the course of one node.
-use Rattle.std.proofs.Common.{◌≡◌, ℕ, zero, suc, ◌<◌, true, Option, Some, None, List, [], ◌∷◌, get_or, refl, ap, sym, subst}
+use Rattle.std.proofs.Common.{◌≡◌, ℕ, zero, suc, ◌<◌, true, Option, Some, None, List, [], ◌∷◌, get_or, refl, sym, subst}
 use Rattle.std.specs.Prelude.{slice_get}
 use Rattle.std.specs.List.{AllByRecursion}
 use Rattle.s0_crypto.specs.declared.key_pair.Keys.{Keys}
-use Rattle.supervision.specs.Host.{no_sessions}
 use Rattle.courses.specs.Sessions.{Course, Step, first_course, after_all, MayAll as MayAllSteps}
 use Rattle.courses.specs.SessionFacts.{CourseFacts}
 use Rattle.courses.specs.SessionLaws.{IsDone, IsApplied}
@@ -12,7 +11,7 @@ use Rattle.serial_frame.specs.declared.item.Item.{Item}
 use Rattle.serial_link.specs.declared.turn.Turn.TheVariants as turns
 use Rattle.zw_text.specs.declared.line.Line.{Line}
 use Rattle.device_sim.specs.State.{State}
-use Rattle.host_node.specs.State.{NodeState, unknown}
+use Rattle.host_node.specs.State.{unknown}
 use Rattle.host_node.specs.Events.NodeEvent.{Joins as node_joins, Interviews as node_interviews}
 use Rattle.host_nodes.specs.State.{unknown_nodes, unknown_from}
 use Rattle.host_events.specs.State.{HostState, first_nodes, first_classes, first_host, node_of}
@@ -26,11 +25,10 @@ use Rattle.zw_machine.specs.Did.{happens_all, MayAll}
 use Rattle.line_facts.specs.Line.{AllWriteWell, AllAtRest, AreLines, Stays}
 use Rattle.line_facts.specs.Host.{AllAskWell}
 use Rattle.world_traffic.specs.OnAir.{AlwaysFew}
-use Rattle.node_course.specs.Ways.{Goes}
 use Rattle.node_course.specs.Meaning.{Asked}
 use Rattle.node_course.specs.Mesh.{HasDevice}
 use Rattle.node_course.specs.Outside.{Follows}
-use Rattle.node_course.specs.Host.{NodeAs, AtHost}
+use Rattle.node_course.specs.Host.{NodeAs}
 use Rattle.node_course.specs.World.{WorldFollows, WorldGoes, HasCourse, IsPlainly, EndsByHearing}
 use Rattle.node_course.proofs.NodeKeeping.{SameHost, does_same}
 use Rattle.node_course.proofs.Hearing.{lines_end}

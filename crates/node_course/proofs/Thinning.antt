@@ -1,5 +1,5 @@
 -- What is left out of a way, or comes several times, step by step.
-use Rattle.std.proofs.Common.{◌≡◌, ℕ, zero, suc, ◌⊎◌, inl, inr, List, [], ◌∷◌, ◌++◌, length, take, drop, refl, ap, sym, ◌∙◌, subst, append_assoc, append-nil}
+use Rattle.std.proofs.Common.{◌≡◌, ℕ, inl, inr, List, [], ◌∷◌, ◌++◌, length, refl, ap, sym, ◌∙◌, subst, append_assoc}
 use Rattle.std.specs.List.{remove}
 use Rattle.supervision.specs.Ends.{Report}
 use Rattle.courses.specs.Ways.{doubled}

@@ -1,32 +1,26 @@
 -- Each event of the whole machine, in the course of one node.
-use Rattle.std.proofs.Common.{◌≡◌, ◌≢◌, ℕ, zero, suc, ◌<◌, Bool, true, false, Option, Some, None, List, [], ◌∷◌, ◌++◌, map, drop, refl, ap, sym, ◌∙◌, subst, append-nil, arith}
+use Rattle.std.proofs.Common.{◌≡◌, ℕ, ◌<◌, true, List, [], ◌∷◌, ◌++◌, drop, refl, ap, sym, ◌∙◌, subst, append-nil}
 use Rattle.std.specs.List.{AllByRecursion}
 use Rattle.supervision.specs.Host.{HostBook}
-use Rattle.supervision.specs.Ends.{Report}
-use Rattle.s0_crypto.specs.declared.key_pair.Keys.{Keys}
-use Rattle.courses.specs.Sessions.{Course, first_course}
-use Rattle.serial_frame.specs.Frame.{FrameParts}
+use Rattle.courses.specs.Sessions.{Course}
 use Rattle.serial_frame.specs.Items.{IsUnit}
-use Rattle.serial_frame.specs.Stream.{Rest, Feeds, no_rest, after_tick}
+use Rattle.serial_frame.specs.Stream.{Rest, no_rest, after_tick}
 use Rattle.serial_frame.specs.declared.unit.Unit.{Unit as LineUnit}
 use Rattle.serial_frame.specs.declared.item.Item.{Item}
 use Rattle.serial_link.specs.declared.turn.Turn.{Turn}
-use Rattle.serial_link.specs.declared.turn.Turn.TheVariants as turns
 use Rattle.serial_pipes.specs.State.{WayState}
 use Rattle.chip_sim.specs.State.{ChipParts}
 use Rattle.chip_sim.specs.Rules.{WaitsWell}
 use Rattle.zw_words.specs.declared.side.Side.TheVariants as side
-use Rattle.zw_text.specs.declared.line.Line.{Line}
 use Rattle.zw_text.specs.declared.entry.Entry.{Entry}
-use Rattle.zw_text.specs.declared.entry.Entry.TheVariants.{Refused, Json}
-use Rattle.zw_text.specs.declared.entry.Refusal.{Refusal}
+use Rattle.zw_text.specs.declared.entry.Entry.TheVariants.{Refused}
 use Rattle.device_sim.specs.State.{State}
 use Rattle.mesh_sim.specs.Air.{AirState}
-use Rattle.outer_events.specs.State.{OuterState, Outside, outside, first_outer}
-use Rattle.outer_events.specs.Events.{OuterEvent, Host_takes as host_takes, Host_notes, Chip_ticks, Clears_pipe, is_own, outcome, devices_after, mesh_of, May as MayOutside, happens as happens_outside}
+use Rattle.outer_events.specs.State.{Outside}
+use Rattle.outer_events.specs.Events.{OuterEvent, Host_takes as host_takes, Host_notes, Chip_ticks, Clears_pipe, is_own, outcome, devices_after, May as MayOutside, happens as happens_outside}
 use Rattle.outer_events.specs.Did.{happens_all as happens_all_outside}
-use Rattle.host_events.specs.State.{HostState, first_host}
-use Rattle.host_events.specs.Events.{HostEvent, Accepts, Cancels}
+use Rattle.host_events.specs.State.{HostState}
+use Rattle.host_events.specs.Events.{HostEvent}
 use Rattle.host_events.specs.After.{after as after_host}
 use Rattle.host_events.specs.Outs.{outs}
 use Rattle.host_events.specs.Did.{after_all, outs_all, MayAll as MayAllHost}
@@ -34,28 +28,26 @@ use Rattle.host_events.specs.Facts.{HostFacts}
 use Rattle.host_events.specs.May.{May as MayHost}
 use Rattle.host_events.specs.Taking.{AreJudged}
 use Rattle.host_events.specs.declared.out.HostOut.{HostOut}
-use Rattle.zw_machine.specs.State.{Machine, with_outside, host_does, begun_in, routed, first_machine}
-use Rattle.zw_machine.specs.Events.{Event, Outside_does, Host_does, Host_takes, Decoder_ticks, Refuses, Shows_values, Restarts, answers, notes, fed, shown_values, MayTake, May, happens}
+use Rattle.zw_machine.specs.State.{Machine, with_outside, routed}
+use Rattle.zw_machine.specs.Events.{Event, Outside_does, Host_does, Host_takes, Decoder_ticks, Refuses, Shows_values, Restarts, answers, notes, shown_values, MayTake, May, happens}
 use Rattle.zw_machine.specs.Did.{happens_all, MayAll}
 use Rattle.line_facts.specs.Way.{Carries}
-use Rattle.line_facts.specs.Line.{host_unit, host_units, host_writes, WritesWell, AllWriteWell, OuterAtRest, IsAtRest, AllAtRest}
+use Rattle.line_facts.specs.Line.{host_unit, host_units, WritesWell, AllWriteWell, OuterAtRest, IsAtRest, AllAtRest}
 use Rattle.line_facts.specs.Chip.{HasFrames}
 use Rattle.line_facts.proofs.Outer.{Written}
 use Rattle.line_facts.proofs.Reading.{LeftOf}
 use Rattle.line_facts.proofs.Ways.{carries_left}
 use Rattle.world_traffic.specs.OnAir.{OuterStaysFew, EventStaysFew, AlwaysFew}
-use Rattle.node_course.specs.Ways.{Goes}
 use Rattle.node_course.specs.Meaning.{Asked}
 use Rattle.node_course.specs.Air.{OnAir}
-use Rattle.node_course.specs.Mesh.{HasDevice, InMesh}
-use Rattle.node_course.specs.Lines.{Tells, Asks, OnWay}
+use Rattle.node_course.specs.Mesh.{HasDevice}
+use Rattle.node_course.specs.Lines.{Tells, OnWay}
 use Rattle.node_course.specs.Outside.{Follows, OuterGoes, Rests}
 use Rattle.node_course.specs.Host.{AtHost, AsksPlainly}
 use Rattle.node_course.specs.HostGoing.{HostFollows, HostGoes, EndsNone, UnitsAll, AllWell}
 use Rattle.node_course.specs.World.{WorldFollows, WorldGoes, IsPlainly, EndsByHearing}
 use Rattle.node_course.proofs.Thinning.{goes_nowhere, goes_on}
 use Rattle.node_course.proofs.HostDoing.{SameAir, note_air}
-use Rattle.node_course.proofs.HostEntries.{AreAside}
 
 -- ---- entries alone
 

@@ -1,5 +1,5 @@
 -- The frames on the air, and all that ever were there, as the course of one node has them (this project's own rule).
-use Rattle.std.specs.Prelude.{◌≡◌, ℕ, ◌==◌, Bool, true, false, List, [], ◌∷◌, Some, slice_get}
+use Rattle.std.specs.Prelude.{◌≡◌, ℕ, ◌==◌, Bool, true, false, List, ◌∷◌, Some, slice_get}
 use Rattle.supervision.specs.Host.{HostBook, begun_of}
 use Rattle.courses.specs.Flying.{Flight}
 use Rattle.courses.specs.Sessions.{Cargo, Of_host, Of_node, IsFreshCargo}

@@ -1,11 +1,10 @@
 -- What the chip is given of a node at its events, with labels (this project's own rule).
-use Rattle.std.specs.Prelude.{◌≡◌, ℕ, Option, None, List, [], ◌∷◌, ◌++◌}
+use Rattle.std.specs.Prelude.{◌≡◌, ℕ, Option, None, List}
 use Rattle.supervision.specs.Ends.{Report}
 use Rattle.chip_sim.specs.State.{ChipState}
 use Rattle.chip_sim.specs.Events.{ChipEvent, Judged, Ticked, Heard, Done, Informed, Joined, Linked, Forgets, Collides}
 use Rattle.chip_sim.specs.Did.{after_all, outs_all}
 use Rattle.chip_sim.specs.Link.{chip_units}
-use Rattle.node_course.specs.Ways.{Beside}
 use Rattle.node_course.specs.Mesh.{labels, Brings}
 use Rattle.node_course.specs.Lines.{Tells, Moves}
 

@@ -1,10 +1,9 @@
 -- The host in the course of one node whose commands go whole and unsealed (this project's own rule).
-use Rattle.std.specs.Prelude.{◌≡◌, ℕ, ◌≤◌, ◌<◌, Option, None, List, map}
+use Rattle.std.specs.Prelude.{◌≡◌, ℕ, ◌≤◌, Option, None, List, map}
 use Rattle.std.specs.List.{AllByRecursion}
 use Rattle.supervision.specs.Host.{HostBook}
 use Rattle.host_orders.specs.Wrapping.{form_of}
 use Rattle.host_orders.specs.declared.carriage.Form.TheVariants.{Plain}
-use Rattle.host_requests.specs.Frames.{nonce_report, no_more_information}
 use Rattle.host_requests.specs.declared.task.Task.{Task}
 use Rattle.host_requests.specs.declared.task.Task.TheVariants as task
 use Rattle.host_node.specs.State.{NodeState}

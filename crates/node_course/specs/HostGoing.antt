@@ -1,5 +1,5 @@
 -- What an event of the host is to the course of one node (this project's own rule).
-use Rattle.std.specs.Prelude.{◌≡◌, ◌≢◌, ℕ, List, [], ◌∷◌, ◌++◌}
+use Rattle.std.specs.Prelude.{◌≢◌, ℕ, List, [], ◌∷◌, ◌++◌}
 use Rattle.std.specs.List.{AllByRecursion}
 use Rattle.serial_frame.specs.Items.{IsUnit}
 use Rattle.courses.specs.Sessions.{Course}

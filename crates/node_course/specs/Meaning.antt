@@ -3,7 +3,7 @@ use Rattle.std.specs.Prelude.{◌≡◌, ℕ, ◌≤◌, Bool, false, List, [], 
 use Rattle.zw_order.specs.declared.order.Order.{Order}
 use Rattle.supervision.specs.Session.{wire_id, IsStatus}
 use Rattle.courses.specs.Parts.{numbered}
-use Rattle.courses.specs.Sessions.{Message, Cargo, Command, Of_host, Answer, Of_node}
+use Rattle.courses.specs.Sessions.{Cargo, Command, Of_host, Answer, Of_node}
 use Rattle.encap.specs.Opening.{begins_with}
 use Rattle.host_orders.specs.Refusals.{IsFit}
 use Rattle.host_orders.specs.Wrapping.{message_of}

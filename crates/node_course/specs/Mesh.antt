@@ -1,9 +1,8 @@
 -- The air with the devices, in the course of one node (this project's own rule).
 use Rattle.std.specs.Prelude.{◌≡◌, ℕ, ◌<◌, List, [], ◌∷◌, ◌++◌, Option, Some, None, slice_get}
-use Rattle.std.specs.List.{AllByRecursion, flat_map}
+use Rattle.std.specs.List.{flat_map}
 use Rattle.std.specs.Option.{option_to_list}
 use Rattle.supervision.specs.Ends.{Report}
-use Rattle.courses.specs.Flying.{Flight}
 use Rattle.courses.specs.Sessions.{Course, Cargo, Answer, Of_node}
 use Rattle.air_frames.specs.Flown.{Flown}
 use Rattle.air_frames.specs.History.{Mark}

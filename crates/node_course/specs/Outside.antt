@@ -1,13 +1,11 @@
 -- What is outside the host, in the course of one node (this project's own rule).
-use Rattle.std.specs.Prelude.{◌≡◌, ℕ, ◌≤◌, Option, List, [], ◌∷◌}
-use Rattle.supervision.specs.Ends.{Report}
-use Rattle.courses.specs.Sessions.{Course, Message}
+use Rattle.std.specs.Prelude.{◌≡◌, ℕ, List, []}
+use Rattle.courses.specs.Sessions.{Course}
 use Rattle.serial_frame.specs.Stream.{Rest, no_rest}
 use Rattle.zw_words.specs.declared.side.Side.{Side}
 use Rattle.zw_words.specs.declared.side.Side.TheVariants as side
 use Rattle.serial_frame.specs.declared.item.Item.{Item}
 use Rattle.serial_link.specs.declared.turn.Turn.{Turn}
-use Rattle.route_table.specs.declared.route.Route.{Route}
 use Rattle.chip_sim.specs.Rules.{WaitsWell}
 use Rattle.outer_events.specs.State.{Outside}
 use Rattle.outer_events.specs.Events.{OuterEvent, Chip_ticks, Clears_pipe, mesh_of}

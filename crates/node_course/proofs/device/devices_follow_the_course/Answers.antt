@@ -1,5 +1,5 @@
 -- Each clause is a lemma, over the laws of devices and of messages.
-use Rattle.node_course.proofs.Devices.{Laws, fresh_at, payload_heard, tick_goes, wake_goes, set_goes}
+use Rattle.node_course.proofs.Devices.{fresh_at, payload_heard, tick_goes, wake_goes, set_goes}
 use Rattle.node_course.proofs.device.devices_follow_the_course.Goals as goal
 
 pub returns-clause-fresh : goal.returns-clause-fresh

@@ -1,5 +1,5 @@
 -- Each clause is a lemma, over the laws of the air, of the host and of what the bytes mean.
-use Rattle.node_course.proofs.HostItems.{Laws, nonces_other, own_goes, judge_items}
+use Rattle.node_course.proofs.HostItems.{nonces_other, own_goes, judge_items}
 use Rattle.node_course.proofs.host.hosts_follow_the_course.Goals as goal
 
 pub returns-clause-does : goal.returns-clause-does

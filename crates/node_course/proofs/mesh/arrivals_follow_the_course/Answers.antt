@@ -1,5 +1,5 @@
 -- Each clause is a lemma, over the laws of the air and of the device.
-use Rattle.node_course.proofs.Arriving.{Laws, arrives_go, repeats_go}
+use Rattle.node_course.proofs.Arriving.{arrives_go, repeats_go}
 use Rattle.node_course.proofs.Replies.{own_goes}
 use Rattle.node_course.proofs.mesh.arrivals_follow_the_course.Goals as goal
 

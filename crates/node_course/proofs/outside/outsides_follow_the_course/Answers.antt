@@ -1,5 +1,5 @@
 -- Each clause is a lemma, over the laws of the air, of devices and of arrivals.
-use Rattle.node_course.proofs.OuterEvents.{Laws, event_goes, first_follows}
+use Rattle.node_course.proofs.OuterEvents.{event_goes, first_follows}
 use Rattle.node_course.proofs.outside.outsides_follow_the_course.Goals as goal
 
 pub returns-clause-first : goal.returns-clause-first

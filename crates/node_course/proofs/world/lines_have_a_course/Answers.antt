@@ -1,5 +1,5 @@
 -- Each clause is a lemma, over the laws of the events of the machine, of its line and of courses.
-use Rattle.node_course.proofs.Running.{Laws, first_follows, lines_have}
+use Rattle.node_course.proofs.Running.{first_follows, lines_have}
 use Rattle.node_course.proofs.world.lines_have_a_course.Goals as goal
 
 pub returns-clause-first : goal.returns-clause-first

@@ -1,5 +1,5 @@
 -- Each clause is a lemma, over the laws of the host and of what is outside it.
-use Rattle.node_course.proofs.Whole.{Laws, event_goes, events_go}
+use Rattle.node_course.proofs.Whole.{event_goes, events_go}
 use Rattle.node_course.proofs.world.worlds_follow_the_course.Goals as goal
 
 pub returns-clause-event : goal.returns-clause-event
