@@ -1,0 +1,334 @@
+-- Frames arrive, or are heard again, in the course of one node.
+use Rattle.std.proofs.Common.{◌≡◌, ◌≢◌, ℕ, zero, suc, ◌+◌, ◌-◌, ◌<◌, ◌==◌, Bool, true, false, if◌then◌else◌, Option, Some, None, List, [], ◌∷◌, ◌++◌, length, refl, ap, sym, ◌∙◌, subst, append-nil, arith}
+use Rattle.std.specs.Prelude.{slice_get}
+use Rattle.std.specs.Option.{option_map}
+use Rattle.std.proofs.lemmas.Bool.{eqb-true}
+use Rattle.supervision.specs.Host.{HostBook}
+use Rattle.supervision.specs.Ends.{Report}
+use Rattle.courses.specs.Flying.{Flight}
+use Rattle.courses.specs.Sessions.{Course, Cargo, Command, Of_host, Answer, Of_node, Lands as lands_step, Repeats as repeats_step, hears, lands, repeats, MayRepeat}
+use Rattle.route_table.specs.declared.route.Route.{Route}
+use Rattle.air_frames.specs.declared.frame.Heading.{Heading}
+use Rattle.air_frames.specs.declared.frame.Heading.TheVariants.{Outward, Homeward}
+use Rattle.air_frames.specs.Flown.{Flown}
+use Rattle.air_frames.specs.Frames.{FramesState, landing, next_of, remembered}
+use Rattle.air_frames.specs.Ages.{refusal_of}
+use Rattle.air_frames.specs.History.{Mark}
+use Rattle.air_flights.specs.Flights.{Fly}
+use Rattle.device_sim.specs.State.{State}
+use Rattle.device_sim.specs.Event.{DeviceEvent, Hears, device_after, device_replies}
+use Rattle.mesh_sim.specs.declared.event.AirEvent.{AirEvent}
+use Rattle.mesh_sim.specs.declared.event.AirEvent.TheVariants.{Heard, Lost, Unheard, Sent as sent_event, Changed, ToChip, Done}
+use Rattle.mesh_sim.specs.declared.fate.Fate.{Fate}
+use Rattle.mesh_sim.specs.declared.fate.Fate.TheVariants as fate
+use Rattle.mesh_sim.specs.Routes.{backwards}
+use Rattle.mesh_sim.specs.Air.{AirState, is_joined, departing}
+use Rattle.mesh_sim.specs.Fates.{Mesh, place_of, is_awake, awake_at, listener_of, fate_by, fate_of, dead_hop_of}
+use Rattle.mesh_sim.specs.Steps.{Arrives, Repeats, landed, acknowledged, status_of, done_of, changed, answers, answers_if, outs_hearing, heard_at, outs_at, arriving_as, arrival_outs_as, heard_again, outs_again, repeating_by, repeating, repeat_outs_by, repeat_outs, mesh_after, mesh_outs, MayHappen}
+use Rattle.device_facts.specs.GoingOn.{IsSame}
+use Rattle.device_facts.proofs.Telling.{place_is, listener_is, fate_listens}
+use Rattle.node_course.specs.Ways.{Goes}
+use Rattle.node_course.specs.Meaning.{Asked, HostMeans, NodeMeans}
+use Rattle.node_course.specs.Air.{BearsBy, OnAir, Lands, WasThere}
+use Rattle.node_course.specs.Device.{AtDevice, GoesAs}
+use Rattle.node_course.specs.Mesh.{HasDevice, InMesh, brought_by, brought, MeshGoes}
+use Rattle.node_course.proofs.Thinning.{goes_nowhere, goes_once}
+use Rattle.node_course.proofs.Replies.{Flying, Airs, KeepsWays, ways_stay, airs_of, mesh_then, device_moves, device_goes}
+
+-- ---- what brings nothing to the chip
+
+brought-append : (a b : List AirEvent) → brought (a ++ b) ≡ brought a ++ brought b
+brought-append [] b = refl
+brought-append (Heard frame ∷ a) b = brought-append a b
+brought-append (Lost frame ∷ a) b = brought-append a b
+brought-append (Unheard frame ∷ a) b = brought-append a b
+brought-append (sent_event frame from to route payload ∷ a) b = brought-append a b
+brought-append (Changed node at ∷ a) b = brought-append a b
+brought-append (ToChip frame from payload ∷ a) b = ap (λ l. (from, payload) ∷ l) (brought-append a b)
+brought-append (Done frame status dead ∷ a) b = brought-append a b
+
+changed_brings : (node first count : ℕ) → brought (changed node first count) ≡ []
+changed_brings node first zero = refl
+changed_brings node first (suc more) = changed_brings node (first + 1) more
+
+answers_bring : (air : AirState) (node : ℕ) (way : Option Route) (replies : List (List ℕ)) → brought (answers air node way replies) ≡ []
+answers_bring air node way [] = refl
+answers_bring air node way (reply ∷ replies) = answers_bring (departing air node Homeward way reply) node way replies
+
+answers_if_bring : (joined : Bool) (air : AirState) (node : ℕ) (way : Option Route) (replies : List (List ℕ)) → brought (answers_if joined air node way replies) ≡ []
+answers_if_bring true air node way replies = answers_bring air node way replies
+answers_if_bring false air node way replies = refl
+
+hearing_brings : (air : AirState) (number node : ℕ) (route : Option Route) (device : State) (event : DeviceEvent) → brought (outs_hearing air number node route device event) ≡ []
+hearing_brings air number node route device event =
+    brought-append (changed node (length device.journal) (length (device_after device event).journal - length device.journal)) (answers_if (is_joined air node) air node (option_map backwards route) (device_replies device event))
+    ∙ (ap (λ l. l ++ brought (answers_if (is_joined air node) air node (option_map backwards route) (device_replies device event))) (changed_brings node (length device.journal) (length (device_after device event).journal - length device.journal))
+    ∙ answers_if_bring (is_joined air node) air node (option_map backwards route) (device_replies device event))
+
+done_brings : (heading : Heading) (number status : ℕ) (dead : Option (ℕ × ℕ)) → brought (done_of heading number status dead) ≡ []
+done_brings Outward number status dead = refl
+done_brings Homeward number status dead = refl
+
+-- ---- what a frame that is heard leaves
+
+heard_airs : (node : ℕ) (orders : List Asked) (c : Course) (air : AirState) (since : ℕ) (cargo : Cargo) → Airs node orders c air → Airs node orders (hears c since cargo false) air
+heard_airs node orders c air since (Command message) a = record { log = a.log; flights = a.flights; on_air = record { fly = a.on_air.fly; flying = a.on_air.flying; flown = a.on_air.flown; begun = a.on_air.begun } }
+heard_airs node orders c air since Of_host a = a
+heard_airs node orders c air since (Answer session status) a = record { log = a.log; flights = a.flights; on_air = record { fly = a.on_air.fly; flying = a.on_air.flying; flown = a.on_air.flown; begun = a.on_air.begun } }
+heard_airs node orders c air since Of_node a = a
+
+-- a payload of the host leaves the ways
+heard_ways : (a c : Course) (orders : List Asked) (commands payload : List ℕ) (since : ℕ) (cargo : Cargo) → HostMeans orders commands payload cargo → KeepsWays a c → KeepsWays a (hears c since cargo false)
+heard_ways a c orders commands payload since (Command message) means ways = record { host = ways.host; sent = ways.sent; up = ways.up; down = ways.down; told = ways.told }
+heard_ways a c orders commands payload since Of_host means ways = ways
+heard_ways a c orders commands payload since (Answer session status) means ways = absurd means
+heard_ways a c orders commands payload since Of_node means ways = absurd means
+
+-- the laws that are used
+pub record Laws : Type 0 where
+  pub flying : Flying
+  pub same : (device : State) (event : DeviceEvent) → IsSame device (device_after device event)
+  pub hears : (orders : List Asked) (commands : List ℕ) (c : Course) (device : State) (since : ℕ) (cargo : Cargo) (payload drawn : List ℕ) → AtDevice c device → device.awake ≡ true → HostMeans orders commands payload cargo
+      → GoesAs (hears c since cargo false) device (Hears payload drawn)
+  pub next : (log : List Mark) (flight : Flown) (later : List Flown) (frames : FramesState) → Fly log (flight ∷ later) frames → next_of frames ≡ Some flight
+  pub none : (log : List Mark) (frames : FramesState) → Fly log [] frames → next_of frames ≡ None
+  pub lands : (node : ℕ) (orders : List Asked) (host : HostBook) (air old : List (Flight Cargo)) (log : List Mark) (frame : Flown) (later : List Flown) (frames : FramesState)
+      → OnAir node orders host air old log (frame ∷ later) frames → Lands node orders host air old log frame later (landing frames)
+  pub repeated : (node : ℕ) (orders : List Asked) (host : HostBook) (air old : List (Flight Cargo)) (log : List Mark) (flights : List Flown) (frames : FramesState) (number : ℕ) (frame : Flown)
+      → node < 233 → OnAir node orders host air old log flights frames → refusal_of frames number ≡ None → remembered frames number ≡ Some frame → WasThere node orders host old frame
+
+awake_at_place : (devices : List State) (node place : ℕ) (device : State) → listener_of node devices ≡ Some place → slice_get devices place ≡ Some device → device.awake ≡ true
+awake_at_place devices node place device e stood = by (place_of node devices) refl
+  where
+    awake : (there : ℕ) (b : Bool) → is_awake (slice_get devices there) ≡ b → (if b then Some there else None) ≡ Some place → device.awake ≡ true
+    awake there true is found = let same : there ≡ place = cc in sym (ap is_awake (ap (λ (k : ℕ). slice_get devices k) same ∙ stood)) ∙ is
+    awake there false is found = absurd cc
+
+    by : (found : Option ℕ) → place_of node devices ≡ found → device.awake ≡ true
+    by None is = absurd (let bad : None ≡ Some place = sym (ap (λ (o : Option ℕ). awake_at devices o) is) ∙ e in grind (arith, bad))
+    by (Some there) is = awake there (is_awake (slice_get devices there)) refl (sym (ap (λ (o : Option ℕ). awake_at devices o) is) ∙ e)
+
+module _ (laws : Laws) (node : ℕ) (orders : List Asked) where
+  -- ---- by a device
+
+  -- the frame that is heard is the course's flight; the course goes from `c` to where it was heard, and `before` is what is there without it
+  device_hears : (c before : Course) (mesh : Mesh) (frame : Flown) (flight : Flight Cargo) (place : ℕ) (device : State) (drawn : List ℕ) (route : Option Route)
+      → Goes c (hears before flight.since flight.cargo false) → KeepsWays c before → Airs node orders before mesh.air → HasDevice node before mesh.devices
+      → BearsBy Outward (frame.node == node) orders before.host.commands frame flight → listener_of frame.node mesh.devices ≡ Some place → slice_get mesh.devices place ≡ Some device
+      → MeshGoes node orders c (heard_at mesh place (Some device) frame.node route (Hears frame.payload drawn)) []
+  device_hears c before mesh frame flight place device drawn route goes ways airs h bears listens stood = by (frame.node == node) refl bears
+    where
+      event : DeviceEvent
+      event = Hears frame.payload drawn
+
+      named : device.node ≡ frame.node
+      named = place_is frame.node mesh.devices place device (listener_is frame.node mesh.devices place listens) stood
+
+      by : (b : Bool) → (frame.node == node) ≡ b → BearsBy Outward b orders before.host.commands frame flight → MeshGoes node orders c (heard_at mesh place (Some device) frame.node route (Hears frame.payload drawn)) []
+      by true e (since, means) =
+          let mine : device.node ≡ node = named ∙ eqb-true frame.node node e in
+          let found : Some device ≡ Some h.device = sym stood ∙ (ap (λ (k : ℕ). slice_get mesh.devices k) (h.alone place device stood mine) ∙ h.stands) in
+          let one : device ≡ h.device = cc in
+          let at : AtDevice before device = subst (λ (d : State). AtDevice before d) (sym one) h.at in
+          let now : Course = hears before flight.since flight.cargo false in
+          mesh_then node orders c now _ goes (heard_ways c before orders before.host.commands frame.payload flight.since flight.cargo means ways)
+          (device_goes laws.flying laws.same node orders before now mesh place frame.node device (Hears frame.payload drawn) (option_map backwards route) h
+          (heard_airs node orders before mesh.air flight.since flight.cargo airs) stood (sym named)
+          (λ own. laws.hears orders before.host.commands before device flight.since flight.cargo frame.payload drawn at (awake_at_place mesh.devices frame.node place device listens stood) means)
+          (λ apart. absurd (apart mine)))
+      by false e other =
+          let nothing : hears before flight.since flight.cargo false ≡ before = ap (λ (cargo : Cargo). hears before flight.since cargo false) other in
+          let apart : device.node ≢ node = λ mine. let bad : (frame.node == node) ≡ false = e in let same : frame.node ≡ node = sym named ∙ mine in grind (arith, bad, same) in
+          mesh_then node orders c before _ (subst (λ (x : Course). Goes c x) nothing goes) ways
+          (device_goes laws.flying laws.same node orders before before mesh place frame.node device (Hears frame.payload drawn) (option_map backwards route) h airs stood (sym named)
+          (λ own. absurd (apart own)) (λ apart. h.at))
+
+  -- ---- by the chip
+
+  chip_hears : (c before : Course) (mesh : Mesh) (frame : Flown) (flight : Flight Cargo) → Goes c (hears before flight.since flight.cargo false) → Goes c before → KeepsWays c before → Airs node orders before mesh.air → HasDevice node before mesh.devices
+      → BearsBy Homeward (frame.node == node) orders before.host.commands frame flight → MeshGoes node orders c mesh ((frame.node, frame.payload) ∷ [])
+  chip_hears c before mesh frame flight goes still ways airs h bears = by (frame.node == node) refl bears
+    where
+      plainly : NodeMeans frame.payload Of_node → MeshGoes node orders c mesh ((frame.node, frame.payload) ∷ [])
+      plainly means = record {
+        later = before;
+        goes = still;
+        in_mesh = record { log = airs.log; flights = airs.flights; on_air = airs.on_air; device = h };
+        marks = None ∷ [];
+        brings = (λ own. means, tt);
+        adds = record { host = ways.host; sent = ways.sent; up = ways.up; down = ways.down ∙ sym (append-nil c.down); told = ways.told };
+      }
+
+      of_other : (frame.node == node) ≡ false → MeshGoes node orders c mesh ((frame.node, frame.payload) ∷ [])
+      of_other e = record {
+        later = before;
+        goes = still;
+        in_mesh = record { log = airs.log; flights = airs.flights; on_air = airs.on_air; device = h };
+        marks = None ∷ [];
+        brings = (λ own. absurd (grind (arith, e, own)), tt);
+        adds = record { host = ways.host; sent = ways.sent; up = ways.up; down = ways.down ∙ sym (append-nil c.down); told = ways.told };
+      }
+
+      own : (cargo : Cargo) → flight.cargo ≡ cargo → NodeMeans frame.payload cargo → MeshGoes node orders c mesh ((frame.node, frame.payload) ∷ [])
+      own (Command message) is means = absurd means
+      own Of_host is means = absurd means
+      own Of_node is means = plainly means
+      own (Answer session status) is means =
+          let report : Report = record { session = session; status = status; begun = flight.since } in
+          let now : Course = record before { down = before.down ++ report ∷ [] } in
+          let there : hears before flight.since flight.cargo false ≡ now = ap (λ (cargo : Cargo). hears before flight.since cargo false) is in
+          record {
+            later = now;
+            goes = subst (λ (x : Course). Goes c x) there goes;
+            in_mesh = record {
+              log = airs.log;
+              flights = airs.flights;
+              on_air = record { fly = airs.on_air.fly; flying = airs.on_air.flying; flown = airs.on_air.flown; begun = airs.on_air.begun };
+              device = record {
+                device = h.device;
+                place = h.place;
+                first = h.first;
+                stands = h.stands;
+                at = record { sessions = h.at.sessions; none_kept = h.at.none_kept; empty = h.at.empty; ended = h.at.ended; can = h.at.can; is_open = h.at.is_open };
+                alone = h.alone;
+                nodes = h.nodes;
+              };
+            };
+            marks = Some report ∷ [];
+            brings = (λ mine. means, tt);
+            adds = record { host = ways.host; sent = ways.sent; up = ways.up; down = ap (λ (ds : List Report). ds ++ report ∷ []) ways.down; told = ways.told };
+          }
+
+      by : (b : Bool) → (frame.node == node) ≡ b → BearsBy Homeward b orders before.host.commands frame flight → MeshGoes node orders c mesh ((frame.node, frame.payload) ∷ [])
+      by true e (since, means) = own flight.cargo refl means
+      by false e other = of_other e
+
+  -- nobody hears it
+  unheard : (c before : Course) (mesh : Mesh) → Goes c before → KeepsWays c before → Airs node orders before mesh.air → HasDevice node before mesh.devices → MeshGoes node orders c mesh []
+  unheard c before mesh still ways airs h = record {
+    later = before;
+    goes = still;
+    in_mesh = record { log = airs.log; flights = airs.flights; on_air = airs.on_air; device = h };
+    marks = [];
+    brings = tt;
+    adds = record { host = ways.host; sent = ways.sent; up = ways.up; down = ways.down ∙ sym (append-nil c.down); told = ways.told };
+  }
+
+  -- ---- the next frame arrives
+
+  -- what becomes of a frame tells whose it is
+  home_by : (lost : Bool) (dead : Option (ℕ × ℕ)) (heading : Heading) (listener : Option ℕ) → (if lost then fate.Lost else fate_by dead heading listener) ≡ fate.AtChip → heading ≡ Homeward
+  home_by true dead heading listener e = absurd (grind (arith, e))
+  home_by false (Some hop) heading listener e = absurd (grind (arith, e))
+  home_by false None Homeward listener e = refl
+  home_by false None Outward (Some place) e = absurd (grind (arith, e))
+  home_by false None Outward None e = absurd (grind (arith, e))
+
+  out_by : (lost : Bool) (dead : Option (ℕ × ℕ)) (heading : Heading) (listener : Option ℕ) (place : ℕ) → (if lost then fate.Lost else fate_by dead heading listener) ≡ fate.AtDevice place → heading ≡ Outward
+  out_by true dead heading listener place e = absurd (grind (arith, e))
+  out_by false (Some hop) heading listener place e = absurd (grind (arith, e))
+  out_by false None Homeward listener place e = absurd (grind (arith, e))
+  out_by false None Outward listener place e = refl
+
+  module _ (c : Course) (mesh : Mesh) (frame : Flown) (later : List Flown) (log : List Mark) (on_air : OnAir node orders c.host c.air c.old log (frame ∷ later) mesh.air.frames) (h : HasDevice node c mesh.devices)
+      (drawn : List ℕ) (route : Option Route) where
+    abbrev l : Lands node orders c.host c.air c.old log frame later (landing mesh.air.frames)
+    l = laws.lands node orders c.host c.air c.old log frame later mesh.air.frames on_air
+
+    -- without the frame
+    abbrev before : Course
+    before = record c { air = l.flights }
+
+    heard : Goes c (hears before l.flight.since l.flight.cargo false)
+    heard = subst (λ (flights : List (Flight Cargo)). Goes c (lands c flights true false)) l.first (goes_once c (lands_step true false) tt)
+
+    missed : Goes c before
+    missed = subst (λ (flights : List (Flight Cargo)). Goes c (lands c flights false false)) l.first (goes_once c (lands_step false false) tt)
+
+    ways : KeepsWays c before
+    ways = record { host = refl; sent = refl; up = refl; down = refl; told = refl }
+
+    there : (air : AirState) → air.frames ≡ landing mesh.air.frames → Airs node orders before air
+    there air is = record { log = log; flights = later; on_air = subst (λ (fs : FramesState). OnAir node orders c.host l.flights c.old log later fs) (sym is) l.on_air }
+
+    device : HasDevice node before mesh.devices
+    device = device_moves node c before mesh.devices (record { host = refl; device = refl; kept = refl; ends = refl; sent = refl; up = refl; down = refl; told = refl }) h
+
+    lost_by : (event : AirEvent) (status : ℕ) (dead : Option (ℕ × ℕ)) (number : ℕ) → brought_by event ≡ [] → MeshGoes node orders c (record mesh { air = landed mesh.air }) (brought (event ∷ done_of frame.heading number status dead))
+    lost_by event status dead number none =
+        subst (λ g. MeshGoes node orders c (record mesh { air = landed mesh.air }) g) (sym (brought-append (event ∷ []) (done_of frame.heading number status dead) ∙ (ap (λ g. (g ++ []) ++ brought (done_of frame.heading number status dead)) none ∙ done_brings frame.heading number status dead)))
+        (unheard c before (record mesh { air = landed mesh.air }) missed ways (there (landed mesh.air) refl) device)
+
+    at_device : (number place : ℕ) (found : Option State) → slice_get mesh.devices place ≡ found → fate_of mesh.air.network mesh.devices frame ≡ fate.AtDevice place
+        → MeshGoes node orders c (heard_at (record mesh { air = landed (acknowledged mesh.air) }) place found frame.node route (Hears frame.payload drawn))
+        (brought (outs_at (record mesh { air = landed (acknowledged mesh.air) }) found number frame.node route (Hears frame.payload drawn) ++ Done number (status_of mesh.air) None ∷ []))
+    at_device number place None stood is = unheard c before (record mesh { air = landed (acknowledged mesh.air) }) missed ways (there (landed (acknowledged mesh.air)) refl) device
+    at_device number place (Some one) stood is =
+        let now : Mesh = record mesh { air = landed (acknowledged mesh.air) } in
+        let outward : frame.heading ≡ Outward = out_by frame.lost (dead_hop_of mesh.air.network frame) frame.heading (listener_of frame.node mesh.devices) place is in
+        let listens : listener_of frame.node mesh.devices ≡ Some place = fate_listens frame.lost (dead_hop_of mesh.air.network frame) frame.heading (listener_of frame.node mesh.devices) place is in
+        let nothing : brought (outs_hearing now.air number frame.node route one (Hears frame.payload drawn) ++ Done number (status_of mesh.air) None ∷ []) ≡ [] =
+        brought-append (outs_hearing now.air number frame.node route one (Hears frame.payload drawn)) (Done number (status_of mesh.air) None ∷ [])
+        ∙ ap (λ g. g ++ []) (hearing_brings now.air number frame.node route one (Hears frame.payload drawn)) in
+        subst (λ g. MeshGoes node orders c (heard_at now place (Some one) frame.node route (Hears frame.payload drawn)) g) (sym nothing)
+        (device_hears c before now frame l.flight place one drawn route heard ways (there (landed (acknowledged mesh.air)) refl) device
+        (subst (λ (heading : Heading). BearsBy heading (frame.node == node) orders c.host.commands frame l.flight) outward l.bears) listens stood)
+
+    by_fate : (number : ℕ) (x : Fate) → fate_of mesh.air.network mesh.devices frame ≡ x → MeshGoes node orders c (arriving_as mesh frame x drawn route) (brought (arrival_outs_as mesh number frame x drawn route))
+    by_fate number fate.Lost is = lost_by (Lost number) 1 None number refl
+    by_fate number (fate.Dead from to) is = lost_by (Unheard number) 1 (Some (from, to)) number refl
+    by_fate number fate.Missed is = lost_by (Unheard number) 1 None number refl
+    by_fate number fate.AtChip is =
+        let home : frame.heading ≡ Homeward = home_by frame.lost (dead_hop_of mesh.air.network frame) frame.heading (listener_of frame.node mesh.devices) is in
+        chip_hears c before (record mesh { air = landed mesh.air }) frame l.flight heard missed ways (there (landed mesh.air) refl) device
+        (subst (λ (heading : Heading). BearsBy heading (frame.node == node) orders c.host.commands frame l.flight) home l.bears)
+    by_fate number (fate.AtDevice place) is = at_device number place (slice_get mesh.devices place) refl is
+
+  arrives_by : (c : Course) (mesh : Mesh) (drawn : List ℕ) (route : Option Route) (log : List Mark) (flights : List Flown) → OnAir node orders c.host c.air c.old log flights mesh.air.frames → HasDevice node c mesh.devices
+      → MayHappen mesh (Arrives drawn route) → MeshGoes node orders c (mesh_after mesh (Arrives drawn route)) (brought (mesh_outs mesh (Arrives drawn route)))
+  unfolding MayHappen mesh_after mesh_outs
+  arrives_by c mesh drawn route log [] on_air h may = absurd (rw (laws.none log mesh.air.frames on_air.fly) at may)
+  arrives_by c mesh drawn route log (frame ∷ later) on_air h may =
+      rw (laws.next log frame later mesh.air.frames on_air.fly) (by_fate c mesh frame later log on_air h drawn route (mesh.air.frames.landed + 1) (fate_of mesh.air.network mesh.devices frame) refl)
+
+  pub arrives_go : (c : Course) (mesh : Mesh) (drawn : List ℕ) (route : Option Route) → node < 233 → InMesh node orders c mesh → MayHappen mesh (Arrives drawn route)
+      → MeshGoes node orders c (mesh_after mesh (Arrives drawn route)) (brought (mesh_outs mesh (Arrives drawn route)))
+  arrives_go c mesh drawn route within is may = arrives_by c mesh drawn route is.log is.flights is.on_air is.device may
+
+  -- ---- a frame is heard again
+
+  module _ (c : Course) (mesh : Mesh) (number : ℕ) (frame : Flown) (is : InMesh node orders c mesh) (was : WasThere node orders c.host c.old frame) (drawn : List ℕ) (route : Option Route) where
+    again : Goes c (hears c was.flight.since was.flight.cargo false)
+    again =
+        subst (λ (found : Option (Flight Cargo)). Goes c (repeats c found false)) was.found
+        (goes_once c (repeats_step was.at false) (subst (λ (found : Option (Flight Cargo)). MayRepeat c found) (sym was.found) was.fresh))
+
+    device_again : (place : ℕ) (found : Option State) → slice_get mesh.devices place ≡ found → listener_of frame.node mesh.devices ≡ Some place → frame.heading ≡ Outward
+        → MeshGoes node orders c (heard_at mesh place found frame.node route (Hears frame.payload drawn)) (brought (outs_at mesh found number frame.node route (Hears frame.payload drawn)))
+    device_again place None stood listens outward = unheard c c mesh (goes_nowhere c) (ways_stay c) (airs_of node orders c mesh is) is.device
+    device_again place (Some one) stood listens outward =
+        subst (λ g. MeshGoes node orders c (heard_at mesh place (Some one) frame.node route (Hears frame.payload drawn)) g) (sym (hearing_brings mesh.air number frame.node route one (Hears frame.payload drawn)))
+        (device_hears c c mesh frame was.flight place one drawn route again (ways_stay c) (airs_of node orders c mesh is) is.device
+        (subst (λ (heading : Heading). BearsBy heading (frame.node == node) orders c.host.commands frame was.flight) outward was.bears) listens stood)
+
+    listener_again : (listener : Option ℕ) → listener_of frame.node mesh.devices ≡ listener → frame.heading ≡ Outward
+        → MeshGoes node orders c (heard_again mesh listener frame.node route (Hears frame.payload drawn)) (brought (outs_again mesh listener number frame.node route (Hears frame.payload drawn)))
+    listener_again None listens outward = unheard c c mesh (goes_nowhere c) (ways_stay c) (airs_of node orders c mesh is) is.device
+    listener_again (Some place) listens outward = device_again place (slice_get mesh.devices place) refl listens outward
+
+    again_by : (heading : Heading) → frame.heading ≡ heading → MeshGoes node orders c (repeating_by heading mesh frame drawn route) (brought (repeat_outs_by heading mesh number frame drawn route))
+    again_by Outward e = listener_again (listener_of frame.node mesh.devices) refl e
+    again_by Homeward e =
+        chip_hears c c mesh frame was.flight again (goes_nowhere c) (ways_stay c) (airs_of node orders c mesh is) is.device
+        (subst (λ (heading : Heading). BearsBy heading (frame.node == node) orders c.host.commands frame was.flight) e was.bears)
+
+  repeats_by : (c : Course) (mesh : Mesh) (number : ℕ) (drawn : List ℕ) (route : Option Route) (found : Option Flown) → remembered mesh.air.frames number ≡ found → node < 233 → InMesh node orders c mesh → refusal_of mesh.air.frames number ≡ None
+      → MeshGoes node orders c (repeating mesh found drawn route) (brought (repeat_outs mesh number found drawn route))
+  repeats_by c mesh number drawn route None e within is fresh = unheard c c mesh (goes_nowhere c) (ways_stay c) (airs_of node orders c mesh is) is.device
+  repeats_by c mesh number drawn route (Some frame) e within is fresh =
+      again_by c mesh number frame is (laws.repeated node orders c.host c.air c.old is.log is.flights mesh.air.frames number frame within is.on_air fresh e) drawn route frame.heading refl
+
+  pub repeats_go : (c : Course) (mesh : Mesh) (number : ℕ) (drawn : List ℕ) (route : Option Route) → node < 233 → InMesh node orders c mesh → refusal_of mesh.air.frames number ≡ None → MayHappen mesh (Repeats number drawn route)
+      → MeshGoes node orders c (mesh_after mesh (Repeats number drawn route)) (brought (mesh_outs mesh (Repeats number drawn route)))
+  unfolding mesh_after mesh_outs
+  repeats_go c mesh number drawn route within is fresh may = repeats_by c mesh number drawn route (remembered mesh.air.frames number) refl within is fresh

@@ -1,0 +1,436 @@
+-- The device of a node goes on as its course has it.
+use Rattle.std.proofs.Common.{◌≡◌, ◌≢◌, ℕ, zero, suc, ◌+◌, ◌<◌, ◌≤◌, ◌==◌, ◌⊎◌, inl, inr, Bool, true, false, ◌&&◌, not, if◌then◌else◌, Option, Some, None, List, [], ◌∷◌, ◌++◌, length, refl, ap, sym, ◌∙◌, subst, append-nil, arith}
+use Rattle.std.specs.List.{AllByRecursion}
+use Rattle.std.proofs.lemmas.List.{length-append}
+use Rattle.std.proofs.lemmas.Bool.{eqb-true}
+use Rattle.std.proofs.lemmas.Bool.Decides.{nat_tests}
+use Rattle.zw_order.specs.declared.order.Order.{Order}
+use Rattle.supervision.specs.Session.{wire_id}
+use Rattle.supervision.specs.Device.{Taken, is_new, heard_of, finished}
+use Rattle.supervision.specs.declared.session.TheConstants.{WORKING, SUCCESS}
+use Rattle.courses.specs.Parts.{numbered}
+use Rattle.courses.specs.Sessions.{Course, Message, Cargo, Command, Of_host, Answer, Of_node, first_course, hears, after_message, kept_after, MayAll, after_all}
+use Rattle.transport_segments.specs.Kept.{Reassembly, Empty, Partial}
+use Rattle.transport_segments.specs.Taking.{is_segment}
+use Rattle.encap.specs.Opening.{opened_at}
+use Rattle.encap.specs.declared.plan.Supervised.{Supervised}
+use Rattle.host_orders.specs.Refusals.{IsFit}
+use Rattle.host_orders.specs.Wrapping.{message_of, supervised_of}
+use Rattle.host_orders.specs.declared.carriage.Carriage.{Carriage}
+use Rattle.device_stack.specs.declared.kind.Kind.{Kind}
+use Rattle.device_stack.specs.declared.kind.Kind.TheVariants.{Relay, Switch, Dimmer, Lock, Sensor, Thermostat, Strip, Configurable}
+use Rattle.device_stack.specs.declared.verdict.Verdict.{Verdict}
+use Rattle.device_stack.specs.Kind.{lists, listens}
+use Rattle.device_stack.specs.Hearing.{hears_openly, hears_by, active, hears as device_hears}
+use Rattle.device_stack.specs.Ticking.{ticked, woken, set_by_hand}
+use Rattle.device_stack.specs.State.{Outcome}
+use Rattle.device_sim.specs.State.{State, fresh}
+use Rattle.device_sim.specs.Event.{DeviceEvent, Hears, Ticks, Wakes, Sets, outcome_of, device_after, device_replies}
+use Rattle.device_facts.specs.GoingOn.{IsSame}
+use Rattle.device_course.specs.Ending.{one_at_work, HasEnded}
+use Rattle.message_facts.specs.Asking.{message_in, takes_openly, verdict_on, IsLeft, Follows}
+use Rattle.message_facts.specs.Landing.{HasLanded, IsOf, LandsAs}
+use Rattle.message_facts.specs.Others.{IsOther}
+use Rattle.message_facts.specs.Reporting.{TellsOwn, TellsTrue, CanSay}
+use Rattle.host_orders.specs.Wrapping.{ends_of}
+use Rattle.encap.specs.Written.{addressed_form, supervised_form}
+use Rattle.encap.specs.declared.plan.Outer.{Outer}
+use Rattle.encap.specs.declared.plan.Outer.TheVariants.{None as no_outer, Crc16, Security, Transport}
+use Rattle.encap.specs.declared.plan.Ends.{Ends}
+use Rattle.device_stack.specs.Hearing.{hears_in_segments}
+use Rattle.node_course.specs.Meaning.{Asked, IsMessageOf, HostMeans}
+use Rattle.node_course.specs.Device.{AtDevice, finishes, Says, GoesAs}
+use Rattle.node_course.proofs.Saying.{IsBare, openly_bare, AllTaken, get_taken, later, openly_same, never_own, all_said, all_taken, weaken_taken, ticks_bare, wakes_bare, wakes_same, sets_bare_all, sets_same}
+
+-- ---- statuses that are added
+
+no_more : (ends more : List ℕ) → length (ends ++ more) ≡ length ends → more ≡ []
+no_more ends [] e = refl
+no_more ends (x ∷ more) e = let long = length-append ends (x ∷ more) in absurd (omega (arith, e, long))
+
+numbered_last : (ends : List ℕ) (status : ℕ) → numbered (ends ++ status ∷ []) (suc (length ends)) ≡ status ∷ []
+numbered_last [] status = refl
+numbered_last (x ∷ ends) status = numbered_last ends status
+
+one_more : (ends more : List ℕ) (at status : ℕ) → length (ends ++ more) ≡ at → at ≡ suc (length ends) → numbered (ends ++ more) at ≡ status ∷ [] → more ≡ status ∷ []
+one_more ends [] at status e is n = let long = length-append ends [] in absurd (omega (arith, e, is, long))
+one_more ends (x ∷ []) at status e is n = sym (numbered_last ends x) ∙ (ap (numbered (ends ++ x ∷ [])) (sym is) ∙ n)
+one_more ends (x ∷ y ∷ more) at status e is n = let long = length-append ends (x ∷ y ∷ more) in absurd (omega (arith, e, is, long))
+
+one_none : (left : ℕ) → left ≡ 0 → one_at_work left ≡ 0
+one_none left none = rw none refl
+
+one_some : (left : ℕ) → 0 < left → one_at_work left ≡ 1
+one_some left some = let test : left == 0 ≡ false = grind (arith, nat_tests) in rw test refl
+
+-- how many statuses there are
+at_work : (device : State) (ends : List ℕ) → HasEnded device ends → device.sessions.status ≡ WORKING → length ends + 1 ≡ device.sessions.taken
+at_work device ends is busy = by device.work_left refl
+  where
+    by : (left : ℕ) → device.work_left ≡ left → length ends + 1 ≡ device.sessions.taken
+    by zero e = absurd (is.at_rest e busy)
+    by (suc left) e = let count = is.count in let one = one_some device.work_left (omega (arith, e)) in omega (arith, count, one)
+
+at_rest : (device : State) (ends : List ℕ) → HasEnded device ends → device.sessions.status ≢ WORKING → (device.work_left ≡ 0) × (length ends ≡ device.sessions.taken)
+at_rest device ends is free = by device.work_left refl
+  where
+    by : (left : ℕ) → device.work_left ≡ left → (device.work_left ≡ 0) × (length ends ≡ device.sessions.taken)
+    by zero e = (e, let count = is.count in let none = one_none device.work_left e in omega (arith, count, none))
+    by (suc left) e = absurd (free (is.at_work (omega (arith, e))))
+
+-- ---- what an event makes of the sessions, and what the course makes of them
+
+-- a message takes no session, or the next one
+abbrev Took : Taken → Taken → Type 0
+Took old new = (new ≡ old) ⊎ ((old.status ≢ WORKING) × (new ≡ record { taken = old.taken + 1; status = WORKING }))
+
+-- the commands of the last session may have come to their end
+abbrev Ended : Taken → Taken → Type 0
+Ended old new = (new ≡ old) ⊎ ((status : ℕ) × ((old.status ≡ WORKING) × ((status ≢ WORKING) × (new ≡ finished old status))))
+
+-- the statuses that are added are those of the end, where there is one
+record Adds (between : Taken) (ends : List ℕ) (new : State) : Type 0 where
+  final : Option ℕ
+  may : (c : Course) → c.device ≡ between → MayAll c (finishes final)
+  device : (c : Course) → c.device ≡ between → new.sessions ≡ (after_all c (finishes final)).device
+  ended : (c : Course) → c.ends ≡ ends → HasEnded new (after_all c (finishes final)).ends
+
+length_taken : (old between : Taken) (ends : List ℕ) → Took old between → (old.status ≡ WORKING → length ends + 1 ≡ old.taken) → (old.status ≢ WORKING → length ends ≡ old.taken)
+    → between.status ≡ WORKING → length ends + 1 ≡ between.taken
+length_taken old between ends (inl same) busy free is = subst (λ (t : Taken). length ends + 1 ≡ t.taken) (sym same) (busy (ap (λ (t : Taken). t.status) (sym same) ∙ is))
+length_taken old between ends (inr (idle, next)) busy free is = subst (λ (t : Taken). length ends + 1 ≡ t.taken) (sym next) (let count = free idle in omega (arith, count))
+
+length_same : (old between : Taken) (ends : List ℕ) → Took old between → (old.status ≢ WORKING → length ends ≡ old.taken) → between.status ≢ WORKING → length ends ≡ between.taken
+length_same old between ends (inl same) free is = subst (λ (t : Taken). length ends ≡ t.taken) (sym same) (free (λ e. is (ap (λ (t : Taken). t.status) same ∙ e)))
+length_same old between ends (inr (idle, next)) free is = absurd (is (ap (λ (t : Taken). t.status) next))
+
+adds : (old new : State) (between : Taken) (ends more : List ℕ) → HasEnded old ends → HasEnded new (ends ++ more) → Took old.sessions between → Ended between new.sessions → Adds between ends new
+adds old new between ends more was is took (inl same) =
+    let none : more ≡ [] = no_more ends more (by (new.sessions.status == WORKING) refl) in
+    record {
+      final = None;
+      may = λ c e. tt;
+      device = λ c e. same ∙ sym e;
+      ended = λ c e. subst (λ l. HasEnded new l) (ap (λ l. ends ++ l) none ∙ (append-nil ends ∙ sym e)) is;
+    }
+  where
+    taken_same : new.sessions.taken ≡ between.taken
+    taken_same = ap (λ (t : Taken). t.taken) same
+
+    by : (b : Bool) → new.sessions.status == WORKING ≡ b → length (ends ++ more) ≡ length ends
+    by true e =
+        let busy : new.sessions.status ≡ WORKING = eqb-true new.sessions.status WORKING e in
+        let many = at_work new (ends ++ more) is busy in
+        let few = length_taken old.sessions between ends took (at_work old ends was) (λ free. (at_rest old ends was free).1) (ap (λ (t : Taken). t.status) (sym same) ∙ busy) in
+        let taken = taken_same in omega (arith, many, few, taken)
+    by false e =
+        let free : new.sessions.status ≢ WORKING = grind (arith, e, nat_tests) in
+        let many = (at_rest new (ends ++ more) is free).1 in
+        let few = length_same old.sessions between ends took (λ free. (at_rest old ends was free).1) (λ b. free (ap (λ (t : Taken). t.status) same ∙ b)) in
+        let taken = taken_same in omega (arith, many, few, taken)
+adds old new between ends more was is took (inr (status, (busy, (final, done)))) =
+    let taken : new.sessions.taken ≡ between.taken = ap (λ (t : Taken). t.taken) done in
+    let said : new.sessions.status ≡ status = ap (λ (t : Taken). t.status) done in
+    let free : new.sessions.status ≢ WORKING = λ e. final (sym said ∙ e) in
+    let rest = at_rest new (ends ++ more) is free in
+    let few = length_taken old.sessions between ends took (at_work old ends was) (λ idle. (at_rest old ends was idle).1) busy in
+    let some : 0 < new.sessions.taken = omega (arith, few, taken) in
+    let one : more ≡ new.sessions.status ∷ [] = one_more ends more new.sessions.taken new.sessions.status rest.1 (omega (arith, few, taken)) (is.told rest.0 some) in
+    record {
+      final = Some status;
+      may = λ c e. ((ap (λ (t : Taken). t.status) e ∙ busy, final), tt);
+      device = λ c e. done ∙ ap (λ (t : Taken). finished t status) (sym e);
+      ended = λ c e. subst (λ l. HasEnded new l) (ap (λ l. ends ++ l) (one ∙ ap (λ s. s ∷ []) said) ∙ ap (λ l. l ++ status ∷ []) (sym e)) is;
+    }
+
+-- ---- one event
+
+-- the course may go on by itself before, in what it knows of the device: it knows the same of segments and of statuses
+event_goes : (c : Course) (device : State) (event : DeviceEvent) (ends more : List ℕ) → HasEnded device ends → c.ends ≡ ends → c.kept ≡ None
+    → HasEnded (device_after device event) (ends ++ more) → Took device.sessions c.device → Ended c.device (device_after device event).sessions → (device_after device event).reassembly ≡ Empty
+    → CanSay (device_after device event) → takes_openly (device_after device event).kind ≡ true
+    → AllByRecursion (Says (device_after device event).sessions) (device_replies device event) → GoesAs c device event
+event_goes c device event ends more was ends_are kept is took ended empty can plain says =
+    let a = adds device (device_after device event) c.device ends more was is took ended in
+    record {
+      final = a.final;
+      may = a.may c refl;
+      at = record {
+        sessions = a.device c refl;
+        none_kept = none_kept a.final;
+        empty = empty;
+        ended = a.ended c ends_are;
+        can = can;
+        is_open = plain;
+      };
+      says = says;
+    }
+  where
+    none_kept : (final : Option ℕ) → (after_all c (finishes final)).kept ≡ None
+    none_kept None = kept
+    none_kept (Some status) = kept
+
+-- ---- the laws of devices and of what they say
+
+pub record Laws : Type 0 where
+  pub fresh_ended : (node : ℕ) (kind : Kind) (key : List ℕ) → HasEnded (fresh node kind key) []
+  pub ended : (device : State) (event : DeviceEvent) (finals : List ℕ) → HasEnded device finals → (more : List ℕ) × HasEnded (device_after device event) (finals ++ more)
+  pub follows : (device : State) (drawn : List ℕ) (carriage : Carriage) (order : Order) (session : ℕ) → IsFit carriage.actuator order → order.end ≤ 127 → device.awake ≡ true → takes_openly device.kind ≡ true
+      → Follows device (device_after device (Hears (message_of carriage order session) drawn)) (verdict_on device carriage order) (heard_of device.sessions (wire_id session))
+  pub opens : (carriage : Carriage) (order : Order) (session : ℕ) → IsFit carriage.actuator order → order.end ≤ 127 → opened_at (message_of carriage order session) ≡ Some (message_in carriage order session)
+  pub lands : (old new : State) (verdict : Verdict) (session : ℕ) → Follows old new verdict (heard_of old.sessions (wire_id session)) → LandsAs old new (record { session = session; is_segment = false }) false
+  pub left : (device : State) (payload drawn : List ℕ) → IsOther payload → lists device.kind 0x6C ≡ true → IsLeft device (device_after device (Hears payload drawn))
+  pub replies : (device : State) (event : DeviceEvent) → CanSay device → AllByRecursion (TellsTrue (device_after device event)) (device_replies device event)
+  pub fresh_can : (node : ℕ) (kind : Kind) (key : List ℕ) → CanSay (fresh node kind key)
+  pub can : (device : State) (event : DeviceEvent) → CanSay device → CanSay (device_after device event)
+  pub same : (device : State) (event : DeviceEvent) → IsSame device (device_after device event)
+
+pub fresh_at : Laws → (node : ℕ) (kind : Kind) (key : List ℕ) → takes_openly kind ≡ true → AtDevice first_course (fresh node kind key)
+fresh_at laws node kind key plain = record {
+  sessions = refl;
+  none_kept = refl;
+  empty = refl;
+  ended = laws.fresh_ended node kind key;
+  can = laws.fresh_can node kind key;
+  is_open = plain;
+}
+
+-- ---- a payload is heard
+
+-- the message of a session is no segment
+addressed_whole : (channel : Option Ends) (asked : Supervised) (text : List ℕ) → is_segment (addressed_form channel (supervised_form (Some asked) text)) ≡ false
+addressed_whole None asked text = refl
+addressed_whole (Some ends) asked text = refl
+
+message_whole : (carriage : Carriage) (order : Order) (session : ℕ) → is_segment (message_of carriage order session) ≡ false
+message_whole carriage order session = by carriage.outer refl
+  where
+    by : (outer : Outer) → carriage.outer ≡ outer → is_segment (message_of carriage order session) ≡ false
+    by Crc16 e = rw e refl
+    by no_outer e = rw e (addressed_whole (ends_of order.end) (supervised_of carriage.actuator order session) _)
+    by Security e = rw e (addressed_whole (ends_of order.end) (supervised_of carriage.actuator order session) _)
+    by Transport e = rw e (addressed_whole (ends_of order.end) (supervised_of carriage.actuator order session) _)
+
+openly_by : (kind : Kind) (device : State) (payload drawn : List ℕ) → takes_openly kind ≡ true → is_segment payload ≡ false → hears_by kind device payload drawn ≡ hears_openly device payload
+unfolding hears_in_segments
+openly_by Switch device payload drawn is whole = refl
+openly_by Dimmer device payload drawn is whole = refl
+openly_by Sensor device payload drawn is whole = refl
+openly_by Thermostat device payload drawn is whole = refl
+openly_by Strip device payload drawn is whole = refl
+openly_by Configurable device payload drawn is whole = rw whole refl
+openly_by Relay device payload drawn is whole = cc
+openly_by Lock device payload drawn is whole = cc
+
+knows_supervision : (kind : Kind) → takes_openly kind ≡ true → lists kind 0x6C ≡ true
+knows_supervision Switch is = refl
+knows_supervision Dimmer is = refl
+knows_supervision Sensor is = refl
+knows_supervision Thermostat is = refl
+knows_supervision Strip is = refl
+knows_supervision Configurable is = refl
+knows_supervision Relay is = cc
+knows_supervision Lock is = cc
+
+awake_after : (device : State) (payload drawn : List ℕ) → device.awake ≡ true → device_after device (Hears payload drawn) ≡ (hears_by device.kind (active device) payload drawn).device
+unfolding device_after outcome_of device_hears
+awake_after device payload drawn e = rw e refl
+
+hears_kind : (kind : Kind) (device : State) (payload drawn : List ℕ) → takes_openly kind ≡ true → is_segment payload ≡ false → (hears_by kind device payload drawn).replies ≡ (hears_openly device payload).replies
+hears_kind kind device payload drawn plain whole = ap (λ (o : Outcome). o.replies) (openly_by kind device payload drawn plain whole)
+
+replies_awake : (device : State) (payload drawn : List ℕ) → device.awake ≡ true → device_replies device (Hears payload drawn) ≡ (hears_by device.kind (active device) payload drawn).replies
+unfolding device_replies outcome_of device_hears
+replies_awake device payload drawn e = rw e refl
+
+awake_replies : (device : State) (payload drawn : List ℕ) → device.awake ≡ true → takes_openly device.kind ≡ true → is_segment payload ≡ false
+    → device_replies device (Hears payload drawn) ≡ (hears_openly (active device) payload).replies
+awake_replies device payload drawn awake plain whole = replies_awake device payload drawn awake ∙ hears_kind device.kind (active device) payload drawn plain whole
+
+awake_device : (device : State) (payload drawn : List ℕ) → device.awake ≡ true → takes_openly device.kind ≡ true → is_segment payload ≡ false
+    → device_after device (Hears payload drawn) ≡ (hears_openly (active device) payload).device
+awake_device device payload drawn awake plain whole = awake_after device payload drawn awake ∙ ap (λ (o : Outcome). o.device) (openly_by device.kind (active device) payload drawn plain whole)
+
+module _ (laws : Laws) (orders : List Asked) (commands : List ℕ) (c : Course) (device : State) (since session : ℕ) (payload drawn : List ℕ) (at : AtDevice c device) (awake : device.awake ≡ true) (is : IsMessageOf orders commands session payload) where
+  abbrev message : Message
+  message = record { session = session; is_segment = false }
+
+  abbrev text : List ℕ
+  text = message_of is.asked.carriage is.asked.order session
+
+  abbrev new : State
+  new = device_after device (Hears text drawn)
+
+  lands : LandsAs device new message false
+  lands = laws.lands device new (verdict_on device is.asked.carriage is.asked.order) session (laws.follows device drawn is.asked.carriage is.asked.order session is.fit is.end awake at.is_open)
+
+  took_by : (t : Taken) (b : Bool) → is_new t (wire_id session) ≡ b → Took t (if b then record { taken = t.taken + 1; status = WORKING } else t)
+  took_by t false e = inl refl
+  took_by t true e = inr (idle (t.status == WORKING) refl e, refl)
+    where
+      idle : (b : Bool) → t.status == WORKING ≡ b → ((wire_id session == wire_id (t.taken + 1)) && not b) ≡ true → t.status ≢ WORKING
+      idle true same both = absurd (grind (arith, both))
+      idle false same both = grind (arith, same, nat_tests)
+
+  empty_of : (r : Reassembly) → IsOf r None → r ≡ Empty
+  empty_of Empty of = refl
+  empty_of (Partial id places) of = absurd of
+
+  none_of : (r : Reassembly) → r ≡ Empty → IsOf r None
+  none_of r e = rw e tt
+
+  kept_none : (b : Bool) (k : Option ℕ) → k ≡ None → (if b then None else k) ≡ None
+  kept_none true k e = refl
+  kept_none false k e = e
+
+  still_none : kept_after device.sessions None message false ≡ None
+  still_none = kept_none (is_new device.sessions (wire_id session)) None refl
+
+  empty : new.reassembly ≡ Empty
+  empty = empty_of new.reassembly (subst (λ (k : Option ℕ). IsOf new.reassembly k) still_none (lands.kept None (none_of device.reassembly at.empty)))
+
+  whole : is_segment text ≡ false
+  whole = message_whole is.asked.carriage is.asked.order session
+
+  opened : opened_at text ≡ Some (message_in is.asked.carriage is.asked.order session)
+  opened = laws.opens is.asked.carriage is.asked.order session is.fit is.end
+
+  taken : AllByRecursion (λ (reply : List ℕ). TellsOwn new reply → 0 < new.sessions.taken) (device_replies device (Hears text drawn))
+  taken =
+      subst (λ (rs : List (List ℕ)). AllByRecursion (λ (reply : List ℕ). TellsOwn new reply → 0 < new.sessions.taken) rs) (sym (awake_replies device text drawn awake at.is_open whole))
+      (weaken_taken new (hears_openly (active device) text).replies
+      (subst (λ (d : State). AllTaken d (hears_openly (active device) text).replies) (sym (awake_device device text drawn awake at.is_open whole))
+      (get_taken (active device) text (message_in is.asked.carriage is.asked.order session) (supervised_of is.asked.carriage.actuator is.asked.order session) opened refl)))
+
+  bare : AllByRecursion IsBare (device_replies device (Hears text drawn))
+  bare = subst (λ (rs : List (List ℕ)). AllByRecursion IsBare rs) (sym (awake_replies device text drawn awake at.is_open whole)) (openly_bare (active device) text)
+
+  message_lands : GoesAs (hears c since (Command message) false) device (Hears text drawn)
+  message_lands =
+      let more = laws.ended device (Hears text drawn) c.ends at.ended in
+      event_goes (hears c since (Command message) false) device (Hears text drawn) c.ends more.0 at.ended refl
+      (subst (λ (k : Option ℕ). kept_after c.device k message false ≡ None) (sym at.none_kept) (kept_none (is_new c.device (wire_id session)) None refl))
+      more.1
+      (subst (λ (t : Taken). Took t (after_message c.device message false)) (sym at.sessions) (took_by c.device (is_new c.device (wire_id session)) refl))
+      (subst (λ (t : Taken). HasLanded t message false new.sessions) at.sessions lands.sessions)
+      empty (laws.can device (Hears text drawn) at.can) (ap takes_openly (laws.same device (Hears text drawn)).kind ∙ at.is_open)
+      (all_said new (device_replies device (Hears text drawn)) (laws.can device (Hears text drawn) at.can) (laws.replies device (Hears text drawn) at.can) taken bare)
+
+  pub message_heard : GoesAs (hears c since (Command message) false) device (Hears payload drawn)
+  message_heard = subst (λ (p : List ℕ). GoesAs (hears c since (Command message) false) device (Hears p drawn)) (sym is.text) message_lands
+
+-- ---- an event that no session hears of
+
+-- nothing is taken and nothing ends, and what is said is no report
+quiet : Laws → (c : Course) (device : State) (event : DeviceEvent) → AtDevice c device → (device_after device event).sessions ≡ device.sessions → (device_after device event).reassembly ≡ device.reassembly
+    → AllByRecursion (λ (reply : List ℕ). TellsOwn (device_after device event) reply → 0 < (device_after device event).sessions.taken) (device_replies device event)
+    → AllByRecursion IsBare (device_replies device event) → GoesAs c device event
+quiet laws c device event at sessions kept taken bare =
+    let more = laws.ended device event c.ends at.ended in
+    event_goes c device event c.ends more.0 at.ended refl at.none_kept more.1 (inl (sym at.sessions)) (inl (sessions ∙ at.sessions)) (kept ∙ at.empty)
+    (laws.can device event at.can) (ap takes_openly (laws.same device event).kind ∙ at.is_open)
+    (all_said (device_after device event) (device_replies device event) (laws.can device event at.can) (laws.replies device event at.can) taken bare)
+
+-- one session more can be said as well
+later_can : (device : State) → CanSay device → CanSay (later device)
+later_can device can = record { status = can.status; answer = can.answer }
+
+-- where the same is said with one session more, no report is
+said_alike : Laws → (device : State) (event : DeviceEvent) → CanSay device → (device_after device event).sessions ≡ device.sessions → (device_after (later device) event).sessions ≡ (later device).sessions
+    → device_replies (later device) event ≡ device_replies device event
+    → AllByRecursion (λ (reply : List ℕ). TellsOwn (device_after device event) reply → 0 < (device_after device event).sessions.taken) (device_replies device event)
+said_alike laws device event can sessions more replies =
+    never_own (device_after device event) (device_after (later device) event) (device_replies device event)
+    (ap (λ (t : Taken). t.taken) more ∙ ap (λ (t : Taken). t.taken + 1) (sym sessions))
+    (subst (λ (rs : List (List ℕ)). AllByRecursion (TellsTrue (device_after (later device) event)) rs) replies (laws.replies (later device) event (later_can device can)))
+
+pub other_heard : Laws → (c : Course) (device : State) (payload drawn : List ℕ) → AtDevice c device → device.awake ≡ true → IsOther payload → GoesAs c device (Hears payload drawn)
+other_heard laws c device payload drawn at awake other =
+    let left = laws.left device payload drawn other (knows_supervision device.kind at.is_open) in
+    let after : IsLeft (later device) (device_after (later device) (Hears payload drawn)) = laws.left (later device) payload drawn other (knows_supervision device.kind at.is_open) in
+    quiet laws c device (Hears payload drawn) at left.0.sessions left.1
+    (said_alike laws device (Hears payload drawn) at.can left.0.sessions after.0.sessions
+    (awake_replies (later device) payload drawn awake at.is_open other.1 ∙ (openly_same (active device) payload other.0 ∙ sym (awake_replies device payload drawn awake at.is_open other.1))))
+    (subst (λ (rs : List (List ℕ)). AllByRecursion IsBare rs) (sym (awake_replies device payload drawn awake at.is_open other.1)) (openly_bare (active device) payload))
+
+pub payload_heard : Laws → (orders : List Asked) (commands : List ℕ) (c : Course) (device : State) (since : ℕ) (cargo : Cargo) (payload drawn : List ℕ) → AtDevice c device → device.awake ≡ true
+    → HostMeans orders commands payload cargo → GoesAs (hears c since cargo false) device (Hears payload drawn)
+payload_heard laws orders commands c device since (Command message) payload drawn at awake (whole, is) =
+    let same : record { session = message.session; is_segment = false } ≡ message = ap (λ (b : Bool). record { session = message.session; is_segment = b }) (sym whole) in
+    subst (λ (m : Message). GoesAs (hears c since (Command m) false) device (Hears payload drawn)) same (message_heard laws orders commands c device since message.session payload drawn at awake is)
+payload_heard laws orders commands c device since Of_host payload drawn at awake is = other_heard laws c device payload drawn at awake is
+payload_heard laws orders commands c device since (Answer session status) payload drawn at awake is = absurd is
+payload_heard laws orders commands c device since Of_node payload drawn at awake is = absurd is
+
+-- ---- a tick
+
+-- a tick that ends no work
+record TicksQuietly (device : State) : Type 0 where
+  sessions : (ticked device).device.sessions ≡ device.sessions
+  kept : (ticked device).device.reassembly ≡ device.reassembly
+  replies : (ticked device).replies ≡ []
+
+ticks_idle : (device : State) → device.work_left == 0 ≡ true → TicksQuietly device
+unfolding ticked
+ticks_idle device n = record { sessions = rw n refl; kept = rw n refl; replies = rw n refl }
+
+ticks_on : (device : State) → device.work_left == 0 ≡ false → device.work_left == 1 ≡ false → TicksQuietly device
+unfolding ticked
+ticks_on device n l = record { sessions = rw (n, l) refl; kept = rw (n, l) refl; replies = rw (n, l) refl }
+
+ticks_last : (device : State) → device.work_left == 0 ≡ false → device.work_left == 1 ≡ true
+    → ((ticked device).device.sessions ≡ finished device.sessions SUCCESS) × ((ticked device).device.reassembly ≡ device.reassembly)
+unfolding ticked
+ticks_last device n l = (rw (n, l) refl, rw (n, l) refl)
+
+quiet_tick : Laws → (c : Course) (device : State) (drawn : List ℕ) → AtDevice c device → TicksQuietly device → GoesAs c device (Ticks drawn)
+unfolding device_after device_replies outcome_of
+quiet_tick laws c device drawn at is =
+    quiet laws c device (Ticks drawn) at is.sessions is.kept
+    (subst (λ (rs : List (List ℕ)). AllByRecursion (λ (reply : List ℕ). TellsOwn (ticked device).device reply → 0 < (ticked device).device.sessions.taken) rs) (sym is.replies) tt) (ticks_bare device)
+
+last_tick : Laws → (c : Course) (device : State) (drawn : List ℕ) → AtDevice c device → device.work_left == 0 ≡ false → device.work_left == 1 ≡ true → GoesAs c device (Ticks drawn)
+unfolding device_after device_replies outcome_of
+last_tick laws c device drawn at n l =
+    let one : device.work_left ≡ 1 = eqb-true device.work_left 1 l in
+    let busy : device.sessions.status ≡ WORKING = at.ended.at_work (omega (arith, one)) in
+    let count = at_work device c.ends at.ended busy in
+    let both = ticks_last device n l in
+    let sessions : (ticked device).device.sessions ≡ finished device.sessions SUCCESS = both.0 in
+    let taken : (ticked device).device.sessions.taken ≡ device.sessions.taken = ap (λ (t : Taken). t.taken) sessions in
+    let more = laws.ended device (Ticks drawn) c.ends at.ended in
+    let ended : Ended device.sessions (ticked device).device.sessions = inr (SUCCESS, (busy, ((λ e. absurd cc), sessions))) in
+    event_goes c device (Ticks drawn) c.ends more.0 at.ended refl at.none_kept more.1 (inl (sym at.sessions))
+    (subst (λ (t : Taken). Ended t (ticked device).device.sessions) at.sessions ended)
+    (both.1 ∙ at.empty) (laws.can device (Ticks drawn) at.can) (ap takes_openly (laws.same device (Ticks drawn)).kind ∙ at.is_open)
+    (all_said (ticked device).device (ticked device).replies (laws.can device (Ticks drawn) at.can) (laws.replies device (Ticks drawn) at.can)
+    (all_taken (ticked device).device (ticked device).replies (omega (arith, count, taken))) (ticks_bare device))
+
+tick_by : Laws → (c : Course) (device : State) (drawn : List ℕ) → AtDevice c device → (none last : Bool) → device.work_left == 0 ≡ none → device.work_left == 1 ≡ last → GoesAs c device (Ticks drawn)
+tick_by laws c device drawn at true last n l = quiet_tick laws c device drawn at (ticks_idle device n)
+tick_by laws c device drawn at false false n l = quiet_tick laws c device drawn at (ticks_on device n l)
+tick_by laws c device drawn at false true n l = last_tick laws c device drawn at n l
+
+pub tick_goes : Laws → (c : Course) (device : State) (drawn : List ℕ) → AtDevice c device → GoesAs c device (Ticks drawn)
+tick_goes laws c device drawn at = tick_by laws c device drawn at (device.work_left == 0) (device.work_left == 1) refl refl
+
+-- ---- a wake-up, a hand
+
+woken_sessions : (device : State) → ((woken device).device.sessions ≡ device.sessions) × ((woken device).device.reassembly ≡ device.reassembly)
+unfolding woken
+woken_sessions device = by (listens device.kind) refl
+  where
+    by : (b : Bool) → listens device.kind ≡ b → ((woken device).device.sessions ≡ device.sessions) × ((woken device).device.reassembly ≡ device.reassembly)
+    by true e = (rw e refl, rw e refl)
+    by false e = (rw e refl, rw e refl)
+
+pub wake_goes : Laws → (c : Course) (device : State) → AtDevice c device → GoesAs c device Wakes
+unfolding device_after device_replies outcome_of
+wake_goes laws c device at =
+    quiet laws c device Wakes at (woken_sessions device).0 (woken_sessions device).1
+    (said_alike laws device Wakes at.can (woken_sessions device).0 (woken_sessions (later device)).0 (wakes_same device)) (wakes_bare device)
+
+pub set_goes : Laws → (c : Course) (device : State) (value : ℕ) → AtDevice c device → GoesAs c device (Sets value)
+unfolding device_after device_replies outcome_of set_by_hand
+set_goes laws c device value at =
+    quiet laws c device (Sets value) at refl refl (said_alike laws device (Sets value) at.can refl refl (sets_same device value)) (sets_bare_all device value)

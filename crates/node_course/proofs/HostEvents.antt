@@ -1,0 +1,351 @@
+-- Each event of the host that judges no report of the node and begins no session, in the course of the node.
+use Rattle.std.proofs.Common.{◌≡◌, ◌≢◌, ℕ, zero, suc, ◌+◌, ◌<◌, ◌≤◌, ◌==◌, Bool, true, false, Option, Some, None, List, [], ◌∷◌, ◌++◌, All, map, length, refl, ap, sym, ◌∙◌, subst, arith}
+use Rattle.std.specs.Prelude.{slice_get}
+use Rattle.std.specs.List.{AllByRecursion}
+use Rattle.std.proofs.lemmas.Bool.{eqb-true}
+use Rattle.supervision.specs.Host.{HostBook, begun_of, open_session, command_at as command_of_session}
+use Rattle.supervision.proofs.OnceLemmas.{All-slice_get}
+use Rattle.courses.specs.Parts.{numbered}
+use Rattle.courses.specs.Sessions.{Course, Message}
+use Rattle.serial_frame.specs.Frame.{FrameParts}
+use Rattle.serial_frame.specs.declared.unit.Unit.{Unit as LineUnit}
+use Rattle.serial_frame.specs.declared.unit.Unit.TheVariants.{Ack, Nak, Can, Framed}
+use Rattle.serial_frame.specs.declared.item.Item.{Item}
+use Rattle.serial_frame.specs.declared.item.Item.TheVariants.{Good, Refused}
+use Rattle.serial_frame.specs.declared.item.Refusal.TheVariants.{Stray, BadLength, BadSum, BadKind, Aborted}
+use Rattle.serial_link.specs.State.{Side, turn_heard, tick_side, copy_due}
+use Rattle.zw_text.specs.declared.entry.Entry.{Entry}
+use Rattle.zw_text.specs.declared.entry.Outcome.TheVariants.{Waiting}
+use Rattle.zw_order.specs.declared.order.Order.{Order}
+use Rattle.host_orders.specs.declared.carriage.Carriage.{Carriage}
+use Rattle.host_orders.specs.Refusals.{IsFit}
+use Rattle.host_orders.specs.Wrapping.{form_of}
+use Rattle.host_orders.specs.declared.carriage.Form.{Form}
+use Rattle.host_orders.specs.declared.carriage.Form.TheVariants.{Plain}
+use Rattle.host_requests.specs.Frames.{nonce_report, no_more_information, frame_of}
+use Rattle.host_requests.specs.State.{next_id}
+use Rattle.host_requests.specs.Events.RequestsEvent.{Pushes, PushesInterview, PushesProbe, BeginsAbort, BeginsFront, BeginsAttempt, Updates}
+use Rattle.host_requests.specs.declared.task.Task.{Task}
+use Rattle.host_requests.specs.declared.task.Task.TheVariants as task
+use Rattle.host_requests.specs.declared.task.Purpose.TheVariants.{Attempt, Abort}
+use Rattle.host_node.specs.Events.{NodeEvent, after as after_node}
+use Rattle.host_node.specs.Events.NodeEvent.{Joins as node_joins, Interviews as node_interviews, Puts as node_puts, Accepts as node_accepts, Cancels as node_cancels, Blocks as node_blocks, Starts as node_starts, Gives_segment as node_gives_segment, Gives_text as node_gives_text, Reports as node_reports, Takes_nonce as node_takes_nonce, Notifies as node_notifies, Queues_no_more as node_queues_no_more, Drops_no_more as node_drops_no_more, Ticks as node_ticks}
+use Rattle.host_node.specs.Steps.{tick_end}
+use Rattle.host_node.specs.declared.attempt.Plan.{Plan}
+use Rattle.host_node.specs.declared.attempt.Plan.TheVariants.{Whole}
+use Rattle.host_keep.specs.Status.{status_byte}
+use Rattle.host_keep.specs.declared.final_status.FinalStatus.{FinalStatus}
+use Rattle.s0_session.specs.Nonces.{live_of}
+use Rattle.host_events.specs.State.{HostState, Command, node_of, with_node, command_at}
+use Rattle.host_events.specs.Sessions.{message_for, segment_by, segment_of, command_if, open_segment, open_command, settings_with, Start, start_by, start_of}
+use Rattle.host_events.specs.After.{after as after_host, node_does, requests_do, submits_part, front_purpose, offering, giving, finishing, is_held, is_busy, gives_up, line_ticked, node_for, is_full, outcome_of}
+use Rattle.host_events.specs.Outs.{outs, answer_to, copy_out, noted, request_entries, failing_entries, dropped_if, ended_of, stored_entries, held_entries}
+use Rattle.host_events.specs.Ends.{attempt_entries}
+use Rattle.zw_text.specs.declared.entry.Entry.TheVariants.{Out}
+use Rattle.host_events.specs.May.{May, IsStart, IsFree}
+use Rattle.host_events.specs.Facts.{HostFacts, IsCommandOf, IsSound}
+use Rattle.host_events.specs.Events.{HostEvent, Accepts, Cancels, Joins, Queues, Queues_interview, Queues_probe, Hears, Requests_do, Interviews, Interview_unkept, Unreads, Is_unkept, Reports_old, Works, Finishes, Offers, Gives, Spends, Spends_unread, Takes_nonce, Notifies, Resends, Hears_value, Has_no_room, Line_ticks, Node_ticks, Queues_no_more, Drops_no_more, Submits_abort, Submits_front, Starts, Gives_text, Gives_segment, Begins, Begin_unkept}
+use Rattle.line_facts.specs.Line.{host_units}
+use Rattle.message_facts.specs.Others.{IsOther}
+use Rattle.node_course.specs.Meaning.{Asked, IsMessageOf}
+use Rattle.node_course.specs.Lines.{Asks, Moves}
+use Rattle.node_course.specs.HostGoing.{IsAside}
+use Rattle.node_course.specs.Host.{NodeAs, asked_of, IsPlainFor, IsOtherTask, AtHost, AsksPlainly}
+use Rattle.node_course.proofs.Moving.{move_sign, move_heard, move_ticked, copies_of}
+use Rattle.node_course.proofs.NodeKeeping.{IsQuiet, SameHost, same_host, same_then, does_same, other_same, requests_same, request_same, room_same, holding_same, failing_same, ended_same, works_keeps, outcome_orders, set_as}
+use Rattle.node_course.proofs.HostFrames.{attempt_asks, abort_asks, task_asks}
+use Rattle.node_course.proofs.HostDoing.{Wrote, quietly, accepts, turns, submits_other, submits_message}
+
+-- ---- commands by their numbers
+
+numbered_of : {A : Type 0} (items : List A) (before : ℕ) (item : A) → slice_get items before ≡ Some item → numbered items (suc before) ≡ item ∷ []
+numbered_of [] before item e = absurd (grind (arith, e))
+numbered_of {A} (x ∷ items) zero item e = let same : x ≡ item = cc in ap (λ (y : A). y ∷ []) same
+numbered_of (x ∷ items) (suc before) item e = numbered_of items before item e
+
+pub session_numbered : (commands : List ℕ) (session number : ℕ) → command_of_session commands session ≡ Some number → numbered commands session ≡ number ∷ []
+session_numbered commands zero number e = absurd (grind (arith, e))
+session_numbered commands (suc before) number e = numbered_of commands before number e
+
+get_map : (commands : List Command) (at : ℕ) (command : Command) → slice_get commands at ≡ Some command → slice_get (map asked_of commands) at ≡ Some (asked_of command)
+get_map [] at command e = absurd (grind (arith, e))
+get_map (x ∷ commands) zero command e = let same : x ≡ command = cc in ap (λ (y : Command). Some (asked_of y)) same
+get_map (x ∷ commands) (suc at) command e = get_map commands at command e
+
+command_numbered : (commands : List Command) (number : ℕ) (command : Command) → command_at commands number ≡ Some command → numbered (map asked_of commands) number ≡ asked_of command ∷ []
+command_numbered commands zero command e = absurd (grind (arith, e))
+command_numbered commands (suc before) command e = numbered_of (map asked_of commands) before (asked_of command) (get_map commands before command e)
+
+all_get : {A : Type 0} (P : A → Type 0) (xs : List A) (at : ℕ) (x : A) → AllByRecursion P xs → slice_get xs at ≡ Some x → P x
+all_get P [] at x all e = absurd (grind arith)
+all_get {A} P (y ∷ ys) zero x all e = let same : y ≡ x = cc in subst P same all.0
+all_get P (y ∷ ys) (suc at) x all e = all_get P ys at x all.1 e
+
+plain_at : (node : ℕ) (commands : List Command) (number : ℕ) (command : Command) → AllByRecursion (IsPlainFor node) (map asked_of commands) → command_at commands number ≡ Some command → IsPlainFor node (asked_of command)
+plain_at node commands zero command all e = absurd (grind (arith, e))
+plain_at node commands (suc before) command all e = all_get (IsPlainFor node) (map asked_of commands) before (asked_of command) all (get_map commands before command e)
+
+owned : (commands : List Command) (node : ℕ) (numbers : List ℕ) (session number : ℕ) → All (IsCommandOf commands node) numbers → command_of_session numbers session ≡ Some number → IsCommandOf commands node number
+owned commands node numbers zero number all e = absurd (grind (arith, e))
+owned commands node numbers (suc before) number all e = All-slice_get (IsCommandOf commands node) numbers before number all e
+
+open_is : (book : HostBook) (session : ℕ) → open_session book ≡ Some session → (session ≡ begun_of book) × (0 < begun_of book)
+open_is book session e = by book.outcome book.commands refl refl e
+  where
+    by : (outcome : Option ℕ) (commands : List ℕ) → book.outcome ≡ outcome → book.commands ≡ commands → open_session (record { commands = commands; outcome = outcome; attempts = book.attempts }) ≡ Some session → (session ≡ begun_of book) × (0 < begun_of book)
+    by (Some status) commands o are open_is = absurd (grind (arith, open_is))
+    by None [] o are open_is = absurd (grind (arith, open_is))
+    by None (command ∷ more) o are open_is =
+        let last : suc (length more) ≡ session = cc in
+        let long : begun_of book ≡ suc (length more) = ap length are in (sym last ∙ sym long, omega (arith, long))
+
+all-append : {A : Type 0} (P : A → Type 0) (xs ys : List A) → AllByRecursion P xs → AllByRecursion P ys → AllByRecursion P (xs ++ ys)
+all-append P [] ys first later = later
+all-append P (x ∷ xs) ys first later = (first.0, all-append P xs ys first.1 later)
+
+map_more : (commands : List Command) (command : Command) → map asked_of (commands ++ command ∷ []) ≡ map asked_of commands ++ asked_of command ∷ []
+map_more [] command = refl
+map_more (x ∷ commands) command = ap (λ l. asked_of x ∷ l) (map_more commands command)
+
+pub noted_none : (entries : List Entry) → host_units (noted entries) ≡ []
+noted_none [] = refl
+noted_none (e ∷ entries) = noted_none entries
+
+copy_units : (copy : Option FrameParts) (entries : List Entry) → host_units (copy_out copy ++ noted entries) ≡ copies_of copy
+copy_units None entries = noted_none entries
+copy_units (Some f) entries = ap (λ (l : List LineUnit). Framed f ∷ l) (noted_none entries)
+
+-- ---- the events
+
+module _ (nonces : (nonce : List ℕ) → IsOther (nonce_report nonce)) (no_more : IsOther no_more_information) (node : ℕ) (orders : List Asked) (c : Course) (h : HostState) (facts : HostFacts h) (at : AtHost node orders c.host h) where
+  commands_are : (node_of h node).book.commands ≡ c.host.commands
+  commands_are = at.node_as.0
+
+  plain_all : AllByRecursion (IsPlainFor node) (map asked_of h.commands)
+  plain_all = subst (λ (os : List Asked). AllByRecursion (IsPlainFor node) os) at.orders_are at.plain
+
+  -- the command of a session of the node
+  record Carried (command : Command) : Type 0 where
+    form : form_of command.carriage.outer ≡ Plain
+    end : command.order.end ≤ 127
+    fit : IsFit command.carriage.actuator command.order
+
+  carried_by : (session number : ℕ) (command : Command) → command_of_session (node_of h node).book.commands session ≡ Some number → command_at h.commands number ≡ Some command → Carried command
+  carried_by session number command carried found =
+      let own : IsCommandOf h.commands node number = owned h.commands node (node_of h node).book.commands session number (facts.owns node).sessions carried in
+      let both : Some own.command ≡ Some command = sym own.found ∙ found in
+      let same : own.command ≡ command = cc in
+      let of : command.order.node ≡ node = ap (λ (x : Command). x.order.node) (sym same) ∙ own.node in
+      let plain = plain_at node h.commands number command plain_all found of in
+      record { form = plain.0; end = plain.1; fit = (sound_at number command found).fit }
+    where
+      sound_at : (number : ℕ) (command : Command) → command_at h.commands number ≡ Some command → IsSound h.store command
+      sound_at zero command e = absurd (grind (arith, e))
+      sound_at (suc before) command e = All-slice_get (IsSound h.store) h.commands before command facts.commands e
+
+  -- no segment of the node's sessions is ever sent
+  no_segment : (session : Option ℕ) (k : ℕ) (payload : List ℕ) → open_segment h (node_of h node) session k ≡ Some payload → ⊥
+  no_segment None k payload e = absurd (grind (arith, e))
+  no_segment (Some session) k payload e = by (command_of_session (node_of h node).book.commands session) refl e
+    where
+      found_by : (number : ℕ) (found : Option Command) → command_at h.commands number ≡ found → command_of_session (node_of h node).book.commands session ≡ Some number → segment_of found session k ≡ Some payload → ⊥
+      found_by number None is carried e = absurd (grind (arith, e))
+      found_by number (Some command) is carried e =
+          let p = carried_by session number command carried is in
+          let none : segment_by (form_of command.carriage.outer) session (message_for command session) k ≡ None = ap (λ (f : Form). segment_by f session (message_for command session) k) p.form in
+          absurd (let bad : None ≡ Some payload = sym none ∙ e in grind (arith, bad))
+
+      by : (number : Option ℕ) → command_of_session (node_of h node).book.commands session ≡ number → segment_of (command_if h.commands number) session k ≡ Some payload → ⊥
+      by None is e = absurd (grind (arith, e))
+      by (Some number) is e = found_by number (command_at h.commands number) refl is e
+
+  -- nothing but entries
+  quiet : (g : HostState) (event : HostEvent) → SameHost node h g → host_units (outs h event) ≡ [] → Wrote node orders c h g (host_units (outs h event))
+  quiet g event same none = subst (λ (us : List LineUnit). Wrote node orders c h g us) (sym none) (quietly node orders c h at g same)
+
+  offering_same : (g : HostState) (n : ℕ) (live : Option (List ℕ)) → SameHost node g (offering g n live)
+  offering_same g n None = same_host node g g refl refl refl refl
+  offering_same g n (Some nonce) = room_same node g (task.Offer n nonce) tt
+
+  accepted : (order : Order) (carriage : Carriage) → IsPlainFor node (record { order = order; carriage = carriage }) → Wrote node orders c h (after_host h (Accepts order carriage)) []
+  accepted order carriage plain =
+      let taken : Command = record { order = order; carriage = carriage; outcome = Waiting } in
+      let base : HostState = record h { commands = h.commands ++ taken ∷ []; store = (after_host h (Accepts order carriage)).store } in
+      let put : HostState = node_does base order.node (node_puts (length h.commands + 1)) in
+      let first : SameHost node base put = does_same node base order.node (node_puts (length h.commands + 1)) tt in
+      let later : SameHost node put (node_does put order.node node_accepts) = does_same node put order.node node_accepts tt in
+      accepts node orders c h at (after_host h (Accepts order carriage)) (record { order = order; carriage = carriage } ∷ []) (record {
+        node_as = later.node_as c.host.commands c.host.outcome (first.node_as c.host.commands c.host.outcome at.node_as);
+        orders_are = ap (λ l. l ++ record { order = order; carriage = carriage } ∷ []) at.orders_are ∙ sym (map_more h.commands taken);
+        plain = all-append (IsPlainFor node) orders (record { order = order; carriage = carriage } ∷ []) at.plain (plain, tt);
+        queue = at.queue;
+      }) refl
+
+  answered : (item : Item) (Is : FrameParts → Option Message → Type 0) → Moves Is h.side.turn [] (host_units (answer_to item)) (turn_heard h.side.turn item) [] []
+  answered (Good Ack) Is = move_heard Is h.side.turn (Good Ack) []
+  answered (Good Nak) Is = move_heard Is h.side.turn (Good Nak) []
+  answered (Good Can) Is = move_heard Is h.side.turn (Good Can) []
+  answered (Good (Framed f)) Is = move_sign Is Ack h.side.turn [] tt
+  answered (Refused (Stray x)) Is = move_heard Is h.side.turn (Refused (Stray x)) []
+  answered (Refused (BadLength n)) Is = move_heard Is h.side.turn (Refused (BadLength n)) []
+  answered (Refused (BadSum want got)) Is = move_sign Is Nak h.side.turn [] tt
+  answered (Refused (BadKind x)) Is = move_sign Is Nak h.side.turn [] tt
+  answered (Refused Aborted) Is = move_heard Is h.side.turn (Refused Aborted) []
+
+  -- a part of an attempt of another node
+  part_same : (n : ℕ) (more : Bool) (payload : List ℕ) (gives : NodeEvent) → (n ≡ node → IsQuiet gives) → SameHost node h (record (submits_part h n more payload gives) { side = h.side })
+  part_same n more payload gives quiet = by (n == node) refl
+    where
+      by : (b : Bool) → (n == node) ≡ b → SameHost node h (record (submits_part h n more payload gives) { side = h.side })
+      by true own =
+          same_then node h (record (requests_do h (BeginsAttempt n more payload)) { served = n }) (record (submits_part h n more payload gives) { side = h.side })
+          (record { node_as = λ cs o was. was; orders = refl; queue = λ all. all; side = refl })
+          (does_same node (record (requests_do h (BeginsAttempt n more payload)) { served = n }) n gives (quiet (eqb-true n node own)))
+      by false other =
+          same_then node h (record (requests_do h (BeginsAttempt n more payload)) { served = n }) (record (submits_part h n more payload gives) { side = h.side })
+          (record { node_as = λ cs o was. was; orders = refl; queue = λ all. all; side = refl })
+          (other_same node (record (requests_do h (BeginsAttempt n more payload)) { served = n }) n (after_node (node_of h n) gives) (λ e. absurd (grind (arith, other, e))))
+
+  -- an attempt begins
+  started : (n : ℕ) (plan : Plan) (more : Bool) (payload : List ℕ) → is_busy h.side.turn ≡ false → IsStart h n plan more payload → Wrote node orders c h (after_host h (Starts n plan more payload)) (host_units (outs h (Starts n plan more payload)))
+  started n plan more payload free is = by (n == node) refl
+    where
+      by : (b : Bool) → (n == node) ≡ b → Wrote node orders c h (after_host h (Starts n plan more payload)) (host_units (outs h (Starts n plan more payload)))
+      by false other =
+          submits_other node orders c h at (after_host h (Starts n plan more payload)) (frame_of (Attempt n more payload) (next_id h.requests.last_id))
+          (part_same n more payload (node_starts plan) (λ own. absurd (grind (arith, other, own)))) refl free
+          (attempt_asks nonces no_more node orders c.host.commands n more payload (next_id h.requests.last_id) None (λ own. absurd (grind (arith, other, own))))
+      by true mine =
+          let own : n ≡ node = eqb-true n node mine in
+          let opened : open_session (node_of h node).book ≡ Some is.session = ap (λ (k : ℕ). open_session (node_of h k).book) (sym own) ∙ is.opened in
+          let last = open_is (node_of h node).book is.session opened in
+          let carried : command_of_session (node_of h node).book.commands is.session ≡ Some is.carried.0 = ap (λ (k : ℕ). command_of_session (node_of h k).book.commands is.session) (sym own) ∙ is.carried.1 in
+          let p : Carried is.command = carried_by is.session is.carried.0 is.command carried is.carried.2 in
+          let start : start_of is.command is.session ≡ start_by Plain is.session (message_for is.command is.session) = ap (λ (f : Form). start_by f is.session (message_for is.command is.session)) p.form in
+          let whole : plan ≡ Whole = is.plan_is ∙ ap (λ (s : Start). s.plan) start in
+          let text : payload ≡ message_for is.command is.session = is.payload_is ∙ ap (λ (s : Start). s.payload) start in
+          let session_is : is.session ≡ begun_of c.host = last.0 ∙ ap length commands_are in
+          let some : 0 < begun_of c.host = subst (λ (cs : List ℕ). 0 < length cs) commands_are last.1 in
+          let message : IsMessageOf orders c.host.commands (begun_of c.host) payload = record {
+            number = is.carried.0;
+            asked = asked_of is.command;
+            carried = session_numbered c.host.commands (begun_of c.host) is.carried.0 (subst (λ (s : ℕ). command_of_session c.host.commands s ≡ Some is.carried.0) session_is (subst (λ (cs : List ℕ). command_of_session cs is.session ≡ Some is.carried.0) commands_are carried));
+            accepted = subst (λ (os : List Asked). numbered os is.carried.0 ≡ asked_of is.command ∷ []) (sym at.orders_are) (command_numbered h.commands is.carried.0 is.command is.carried.2);
+            fit = p.fit;
+            end = p.end;
+            text = text ∙ ap (message_for is.command) session_is;
+          } in
+          submits_message node orders c h at (after_host h (Starts n plan more payload)) (frame_of (Attempt n more payload) (next_id h.requests.last_id))
+          (part_same n more payload (node_starts plan) (λ e. subst (λ (q : Plan). IsQuiet (node_starts q)) (sym whole) tt)) refl free some
+          (attempt_asks nonces no_more node orders c.host.commands n more payload (next_id h.requests.last_id) (Some (record { session = begun_of c.host; is_segment = false })) (λ e. (refl, message)))
+
+  free_turn : IsFree h → is_busy h.side.turn ≡ false
+  free_turn free = free.free_line
+
+  -- a task that waited is submitted
+  front_other : (queue : List Task) (id : ℕ) → AllByRecursion (IsOtherTask node) queue → Asks node orders c.host.commands (frame_of (front_purpose queue) id) None
+  front_other [] id all = abort_asks nonces no_more node orders c.host.commands id
+  front_other (queued ∷ rest) id all = task_asks nonces no_more node orders c.host.commands queued id all.0
+
+  text_given : (n : ℕ) (payload : List ℕ) → (node_of h n).text ≡ Some payload → n ≡ node → ⊥
+  text_given n payload is own = let bad : None ≡ Some payload = sym at.node_as.1.1.0 ∙ (ap (λ (k : ℕ). (node_of h k).text) (sym own) ∙ is) in absurd cc
+
+  nonce_taken : (n seen : ℕ) (text : List ℕ) → May h (Takes_nonce n seen text) → SameHost node h (node_does h n (node_takes_nonce seen text))
+  nonce_taken n seen text (nonce, own, count, sealed) = by (n == node) refl
+    where
+      by : (b : Bool) → (n == node) ≡ b → SameHost node h (node_does h n (node_takes_nonce seen text))
+      by true mine =
+          let same : n ≡ node = eqb-true n node mine in
+          let bad : None ≡ Some sealed.plain = sym at.node_as.1.1.1 ∙ (ap (λ (k : ℕ). (node_of h k).pending) (sym same) ∙ sealed.is_pending) in absurd cc
+      by false other = other_same node h n (after_node (node_of h n) (node_takes_nonce seen text)) (λ e. absurd (grind (arith, other, e)))
+
+  finished_same : (n session id command : ℕ) (status : FinalStatus) (wake_request : Bool) → n ≢ node → SameHost node h (after_host h (Finishes n session id command status wake_request))
+  finished_same n session id command status wake_request apart =
+      let done : HostState = with_node h n (after_node (node_of h n) (node_reports id (status_byte status))) in
+      same_then node h done (after_host h (Finishes n session id command status wake_request)) (other_same node h n (after_node (node_of h n) (node_reports id (status_byte status))) apart)
+      (same_then node done (finishing h n id command status) (after_host h (Finishes n session id command status wake_request))
+      (same_host node done (finishing h n id command status) refl (outcome_orders h.commands command (outcome_of status)) refl refl)
+      (holding_same node (finishing h n id command status) n (is_held h n wake_request)))
+
+  line_ticks : Wrote node orders c h (after_host h Line_ticks) (host_units (outs h Line_ticks))
+  line_ticks =
+      let ticked : HostState = line_ticked h in
+      let b : Bool = gives_up h.side.turn (tick_side h.side).turn in
+      let same : SameHost node ticked (after_host h Line_ticks) = failing_same node b ticked in
+      let there : AtHost node orders c.host (after_host h Line_ticks) = record {
+        node_as = same.node_as c.host.commands c.host.outcome at.node_as;
+        orders_are = at.orders_are ∙ sym same.orders;
+        plain = at.plain;
+        queue = same.queue at.queue;
+      } in
+      subst (λ (us : List LineUnit). Wrote node orders c h (after_host h Line_ticks) us) (sym (copy_units (copy_due h.side.turn) (failing_entries (gives_up h.side.turn (tick_side h.side).turn) (line_ticked h))))
+      (turns node orders c h at (after_host h Line_ticks) (copies_of (copy_due h.side.turn)) there
+      (λ Is. subst (λ (s : Side). Moves Is h.side.turn [] (copies_of (copy_due h.side.turn)) s.turn [] []) (sym same.side) (move_ticked Is h.side.turn [])))
+
+  pub event_wrote : (event : HostEvent) → May h event → AsksPlainly node event → IsAside node event → Wrote node orders c h (after_host h event) (host_units (outs h event))
+  event_wrote (Accepts order carriage) may asks aside = accepted order carriage asks
+  event_wrote (Cancels command) may asks aside =
+      quiet (after_host h (Cancels command)) (Cancels command)
+      (same_then node h (node_does h (node_for h command) (node_cancels command)) (after_host h (Cancels command)) (does_same node h (node_for h command) (node_cancels command) tt)
+      (same_host node (node_does h (node_for h command) (node_cancels command)) (after_host h (Cancels command)) refl (outcome_orders h.commands command _) refl refl)) refl
+  event_wrote (Joins n) may asks aside = quiet (after_host h (Joins n)) (Joins n) (does_same node h n node_joins tt) refl
+  event_wrote (Queues queued) may asks aside = quiet (after_host h (Queues queued)) (Queues queued) (requests_same node h (Pushes queued) asks) refl
+  event_wrote (Queues_interview n) may asks aside = quiet (after_host h (Queues_interview n)) (Queues_interview n) (requests_same node h (PushesInterview n) tt) refl
+  event_wrote Queues_probe may asks aside = quiet (after_host h Queues_probe) Queues_probe (requests_same node h PushesProbe tt) refl
+  event_wrote (Hears item) may asks aside =
+      turns node orders c h at (after_host h (Hears item)) (host_units (answer_to item)) (record { node_as = at.node_as; orders_are = at.orders_are; plain = at.plain; queue = at.queue }) (answered item)
+  event_wrote (Requests_do event moment) may asks aside = quiet (after_host h (Requests_do event moment)) (Requests_do event moment) (request_same node h event moment asks) (noted_none (request_entries h event))
+  event_wrote (Interviews n listens classes update) may asks aside =
+      quiet (after_host h (Interviews n listens classes update)) (Interviews n listens classes update)
+      (same_then node h (requests_do h (Updates update)) (after_host h (Interviews n listens classes update)) (requests_same node h (Updates update) tt) (does_same node (requests_do h (Updates update)) n (node_interviews listens classes) tt)) refl
+  event_wrote (Interview_unkept n update) may asks aside = quiet (after_host h (Interview_unkept n update)) (Interview_unkept n update) (requests_same node h (Updates update) tt) refl
+  event_wrote (Unreads n payload) may asks aside = quiet h (Unreads n payload) (same_host node h h refl refl refl refl) refl
+  event_wrote (Is_unkept n) may asks aside = quiet h (Is_unkept n) (same_host node h h refl refl refl refl) refl
+  event_wrote (Reports_old n id) may asks aside = quiet h (Reports_old n id) (same_host node h h refl refl refl refl) refl
+  event_wrote (Works n id) may asks aside =
+      quiet (after_host h (Works n id)) (Works n id) (record {
+        node_as = λ cs o was. set_as cs o h node n (after_node (node_of h n) (node_reports id 1)) was (λ e. works_keeps cs o (node_of h n) id may (subst (λ (k : ℕ). NodeAs cs o (node_of h k)) (sym e) was));
+        orders = refl;
+        queue = λ all. all;
+        side = refl;
+      }) refl
+  event_wrote (Finishes n session id command status wake_request) may asks apart =
+      quiet (after_host h (Finishes n session id command status wake_request)) (Finishes n session id command status wake_request) (finished_same n session id command status wake_request apart) (noted_none (Out command (ended_of status) ∷ (stored_entries n (settings_with status (command_at h.commands command)) ++ held_entries n (is_held h n wake_request))))
+  event_wrote (Offers n) may asks aside = quiet (after_host h (Offers n)) (Offers n) (offering_same h n (live_of h.nonces n)) (noted_none (dropped_if (is_full h) n))
+  event_wrote (Gives n drawn) may asks aside =
+      quiet (after_host h (Gives n drawn)) (Gives n drawn)
+      (same_then node h (giving h n drawn) (after_host h (Gives n drawn)) (same_host node h (giving h n drawn) refl refl refl refl) (offering_same (giving h n drawn) n (live_of (giving h n drawn).nonces n))) (noted_none (dropped_if (is_full h) n))
+  event_wrote (Spends n) may asks aside = quiet (after_host h (Spends n)) (Spends n) (same_host node h (after_host h (Spends n)) refl refl refl refl) refl
+  event_wrote (Spends_unread n payload) may asks aside = quiet (after_host h (Spends_unread n payload)) (Spends_unread n payload) (same_host node h (after_host h (Spends_unread n payload)) refl refl refl refl) refl
+  event_wrote (Takes_nonce n seen text) may asks aside = quiet (after_host h (Takes_nonce n seen text)) (Takes_nonce n seen text) (nonce_taken n seen text may) refl
+  event_wrote (Notifies n) may asks aside = quiet (after_host h (Notifies n)) (Notifies n) (does_same node h n node_notifies tt) refl
+  event_wrote (Resends n payload) (k, found) asks aside =
+      quiet (after_host h (Resends n payload)) (Resends n payload)
+      (room_same node h (task.Segment n payload) (λ own. absurd (no_segment (open_session (node_of h node).book) k payload (subst (λ (m : ℕ). open_segment h (node_of h m) (open_session (node_of h m).book) k ≡ Some payload) own found)))) (noted_none (dropped_if (is_full h) n))
+  event_wrote (Hears_value n setting) may asks aside = quiet (after_host h (Hears_value n setting)) (Hears_value n setting) (same_host node h (after_host h (Hears_value n setting)) refl refl refl refl) refl
+  event_wrote (Has_no_room n property) may asks aside = quiet h (Has_no_room n property) (same_host node h h refl refl refl refl) refl
+  event_wrote Line_ticks may asks aside = line_ticks
+  event_wrote (Node_ticks n) may asks aside =
+      quiet (after_host h (Node_ticks n)) (Node_ticks n)
+      (same_then node h (node_does h n node_ticks) (after_host h (Node_ticks n)) (does_same node h n node_ticks tt) (ended_same node (node_does h n node_ticks) (tick_end (node_of h n)) (open_command (node_of h n)))) (noted_none (attempt_entries n (tick_end (node_of h n)) (open_command (node_of h n))))
+  event_wrote (Queues_no_more n) may asks aside =
+      quiet (after_host h (Queues_no_more n)) (Queues_no_more n)
+      (same_then node h (node_does h n node_queues_no_more) (after_host h (Queues_no_more n)) (does_same node h n node_queues_no_more tt) (requests_same node (node_does h n node_queues_no_more) (Pushes (task.NoMore n)) tt)) refl
+  event_wrote (Drops_no_more n) may asks aside = quiet (after_host h (Drops_no_more n)) (Drops_no_more n) (does_same node h n node_drops_no_more tt) refl
+  event_wrote Submits_abort may asks aside =
+      submits_other node orders c h at (after_host h Submits_abort) (frame_of Abort (next_id h.requests.last_id)) (requests_same node h BeginsAbort tt) refl (free_turn may.0)
+      (abort_asks nonces no_more node orders c.host.commands (next_id h.requests.last_id))
+  event_wrote Submits_front may asks aside =
+      submits_other node orders c h at (after_host h Submits_front) (frame_of (front_purpose h.requests.queue) (next_id h.requests.last_id)) (requests_same node h BeginsFront tt) refl (free_turn may.0)
+      (front_other h.requests.queue (next_id h.requests.last_id) at.queue)
+  event_wrote (Starts n plan more payload) may asks aside = started n plan more payload (free_turn may.0.free) may.1
+  event_wrote (Gives_text n payload) may asks aside =
+      submits_other node orders c h at (after_host h (Gives_text n payload)) (frame_of (Attempt n false payload) (next_id h.requests.last_id)) (part_same n false payload node_gives_text (λ own. tt)) refl (free_turn may.0.free)
+      (attempt_asks nonces no_more node orders c.host.commands n false payload (next_id h.requests.last_id) None (λ own. absurd (text_given n payload may.1 own)))
+  event_wrote (Gives_segment n more payload) may asks aside =
+      submits_other node orders c h at (after_host h (Gives_segment n more payload)) (frame_of (Attempt n more payload) (next_id h.requests.last_id)) (part_same n more payload node_gives_segment (λ own. tt)) refl (free_turn may.0.free)
+      (attempt_asks nonces no_more node orders c.host.commands n more payload (next_id h.requests.last_id) None
+      (λ own. absurd (no_segment (open_session (node_of h node).book) (node_of h node).next_segment payload
+      (subst (λ (m : ℕ). open_segment h (node_of h m) (open_session (node_of h m).book) (node_of h m).next_segment ≡ Some payload) own may.2))))
+  event_wrote (Begins n session command) may asks aside = absurd aside
+  event_wrote (Begin_unkept n) may asks aside = quiet (after_host h (Begin_unkept n)) (Begin_unkept n) (does_same node h n node_blocks tt) refl

@@ -1,0 +1,104 @@
+-- The machine at first, and lines from there on, in the course of one node.
+use Rattle.std.proofs.Common.{◌≡◌, ℕ, zero, suc, ◌<◌, true, Option, Some, None, List, [], ◌∷◌, get_or, refl, sym, subst}
+use Rattle.std.specs.Prelude.{slice_get}
+use Rattle.std.specs.List.{AllByRecursion}
+use Rattle.s0_crypto.specs.declared.key_pair.Keys.{Keys}
+use Rattle.courses.specs.Sessions.{Course, Step, first_course, after_all, MayAll as MayAllSteps}
+use Rattle.courses.specs.SessionFacts.{CourseFacts}
+use Rattle.courses.specs.SessionLaws.{IsDone, IsApplied}
+use Rattle.serial_frame.specs.Stream.{no_rest}
+use Rattle.serial_frame.specs.declared.item.Item.{Item}
+use Rattle.serial_link.specs.declared.turn.Turn.TheVariants as turns
+use Rattle.zw_text.specs.declared.line.Line.{Line}
+use Rattle.device_sim.specs.State.{State}
+use Rattle.host_node.specs.State.{unknown}
+use Rattle.host_node.specs.Events.NodeEvent.{Joins as node_joins, Interviews as node_interviews}
+use Rattle.host_nodes.specs.State.{unknown_nodes, unknown_from}
+use Rattle.host_events.specs.State.{HostState, first_nodes, first_classes, first_host, node_of}
+use Rattle.host_events.specs.After.{node_does}
+use Rattle.host_events.specs.Facts.{HostFacts}
+use Rattle.outer_events.specs.State.{outside, first_outer}
+use Rattle.outer_traffic.specs.Traffic.{AreNodes}
+use Rattle.zw_machine.specs.State.{Machine, first_machine}
+use Rattle.zw_machine.specs.Events.{Event}
+use Rattle.zw_machine.specs.Did.{happens_all, MayAll}
+use Rattle.line_facts.specs.Line.{AllWriteWell, AllAtRest, AreLines, Stays}
+use Rattle.line_facts.specs.Host.{AllAskWell}
+use Rattle.world_traffic.specs.OnAir.{AlwaysFew}
+use Rattle.node_course.specs.Meaning.{Asked}
+use Rattle.node_course.specs.Mesh.{HasDevice}
+use Rattle.node_course.specs.Outside.{Follows}
+use Rattle.node_course.specs.Host.{NodeAs}
+use Rattle.node_course.specs.World.{WorldFollows, WorldGoes, HasCourse, IsPlainly, EndsByHearing}
+use Rattle.node_course.proofs.NodeKeeping.{SameHost, does_same}
+use Rattle.node_course.proofs.Hearing.{lines_end}
+
+-- ---- at first
+
+from_as : (start count at : ℕ) → NodeAs [] None (get_or (unknown_from start count) at (unknown 0))
+from_as start zero at = (refl, (refl, (refl, refl)))
+from_as start (suc count) zero = (refl, (refl, (refl, refl)))
+from_as start (suc count) (suc at) = from_as (suc start) count at
+
+unknown_as : (at : ℕ) → NodeAs [] None (get_or unknown_nodes at (unknown 0))
+unfolding unknown_nodes
+unknown_as zero = (refl, (refl, (refl, refl)))
+unknown_as (suc at) = from_as 1 232 at
+
+first_as : (keys : Keys) (node : ℕ) → NodeAs [] None (node_of (first_host keys) node)
+unfolding first_nodes
+first_as keys node =
+    let base : HostState = record (first_host keys) { nodes = unknown_nodes } in
+    let joined : HostState = node_does base 2 node_joins in
+    let one : SameHost node base joined = does_same node base 2 node_joins tt in
+    let two : SameHost node joined (node_does joined 2 (node_interviews true first_classes)) = does_same node joined 2 (node_interviews true first_classes) tt in
+    two.node_as [] None (one.node_as [] None (unknown_as node))
+
+-- the laws that are used
+pub record Laws : Type 0 where
+  pub outside_first : (node : ℕ) (devices : List State) → HasDevice node first_course devices → Follows node [] first_course no_rest turns.Idle [] [] (outside first_outer devices)
+  pub facts_first : (keys : Keys) → HostFacts (first_host keys)
+  pub events : (node : ℕ) (orders : List Asked) (c : Course) (up down : List Item) (m : Machine) (events : List Event) → node < 233 → WorldFollows node orders c up down m → MayAll m events → AllAtRest m events →
+      AllWriteWell m events → AlwaysFew m events → AllByRecursion (IsPlainly node) events → AllByRecursion (EndsByHearing node) events → WorldGoes node c (happens_all m events)
+  pub stays : (keys : Keys) (records : Option (List (List ℕ))) (devices : List State) (lines : List Line) (events : List Event) → AreLines lines (first_machine keys records devices) events → MayAll (first_machine keys records devices) events →
+      AllWriteWell (first_machine keys records devices) events → Stays (first_machine keys records devices) events
+  pub writes : (keys : Keys) (records : Option (List (List ℕ))) (devices : List State) (events : List Event) → MayAll (first_machine keys records devices) events → AllAskWell (first_machine keys records devices) events →
+      AllWriteWell (first_machine keys records devices) events
+  pub few : (keys : Keys) (records : Option (List (List ℕ))) (devices : List State) (lines : List Line) (events : List Event) → AreNodes devices → AreLines lines (first_machine keys records devices) events →
+      MayAll (first_machine keys records devices) events → AllAskWell (first_machine keys records devices) events → AlwaysFew (first_machine keys records devices) events
+  pub course_first : CourseFacts first_course
+  pub course_all : (c : Course) (steps : List Step) → CourseFacts c → MayAllSteps c steps → CourseFacts (after_all c steps)
+  pub done : (steps : List Step) → MayAllSteps first_course steps → IsDone (after_all first_course steps)
+  pub applied : (steps : List Step) → MayAllSteps first_course steps → IsApplied (after_all first_course steps)
+
+nodes_of : (devices : List State) → ((other : ℕ) (one : State) → slice_get devices other ≡ Some one → one.node < 233) → AreNodes devices
+nodes_of [] all = tt
+nodes_of (device ∷ devices) all = (all 0 device refl, nodes_of devices (λ other one e. all (suc other) one e))
+
+module _ (laws : Laws) (node : ℕ) (within : node < 233) (keys : Keys) (records : Option (List (List ℕ))) (devices : List State) (has : HasDevice node first_course devices) where
+  abbrev first : Machine
+  first = first_machine keys records devices
+
+  pub first_follows : WorldFollows node [] first_course [] [] first
+  first_follows = record {
+    outside = laws.outside_first node devices has;
+    host = record { node_as = first_as keys node; orders_are = refl; plain = tt; queue = tt };
+    facts = laws.facts_first keys;
+  }
+
+  pub lines_have : (lines : List Line) (events : List Event) → AreLines lines first events → MayAll first events → AllAskWell first events → AllByRecursion (IsPlainly node) events → HasCourse node (happens_all first events)
+  lines_have lines events are may asks plain =
+      let well : AllWriteWell first events = laws.writes keys records devices events may asks in
+      let rests : Stays first events = laws.stays keys records devices lines events are may well in
+      let few : AlwaysFew first events = laws.few keys records devices lines events (nodes_of devices has.nodes) are may asks in
+      let g : WorldGoes node first_course (happens_all first events) = laws.events node [] first_course [] [] first events within first_follows may rests.at_rest well few plain (lines_end node lines first events are) in
+      record {
+        orders = g.orders;
+        course = g.later;
+        up = g.up;
+        down = g.down;
+        follows = g.follows;
+        facts = subst (λ (c : Course). CourseFacts c) (sym g.goes.is) (laws.course_all first_course g.goes.steps laws.course_first g.goes.may);
+        done = subst (λ (c : Course). IsDone c) (sym g.goes.is) (laws.done g.goes.steps g.goes.may);
+        applied = subst (λ (c : Course). IsApplied c) (sym g.goes.is) (laws.applied g.goes.steps g.goes.may);
+      }

@@ -1,0 +1,82 @@
+-- What is left out of a way, or comes several times, step by step.
+use Rattle.std.proofs.Common.{◌≡◌, ℕ, inl, inr, List, [], ◌∷◌, ◌++◌, length, refl, ap, sym, ◌∙◌, subst, append_assoc}
+use Rattle.std.specs.List.{remove}
+use Rattle.supervision.specs.Ends.{Report}
+use Rattle.courses.specs.Ways.{doubled}
+use Rattle.courses.specs.Sessions.{Course, Message, Step, Up_loses, Up_doubles, Down_loses, Down_doubles, after, after_all, May, MayAll}
+use Rattle.node_course.specs.Ways.{Thinned, Goes}
+
+-- ---- courses one after another
+
+steps_then : (c : Course) (first later : List Step) → after_all c (first ++ later) ≡ after_all (after_all c first) later
+steps_then c [] later = refl
+steps_then c (step ∷ first) later = steps_then (after c step) first later
+
+may_then : (c : Course) (first later : List Step) → MayAll c first → MayAll (after_all c first) later → MayAll c (first ++ later)
+may_then c [] later may more = more
+may_then c (step ∷ first) later may more = (may.0, may_then (after c step) first later may.1 more)
+
+pub goes_nowhere : (c : Course) → Goes c c
+goes_nowhere c = record { steps = []; may = tt; is = refl }
+
+pub goes_on : (a b c : Course) → Goes a b → Goes b c → Goes a c
+goes_on a b c first later = record {
+  steps = first.steps ++ later.steps;
+  may = may_then a first.steps later.steps first.may (subst (λ (x : Course). MayAll x later.steps) first.is later.may);
+  is = later.is ∙ (ap (λ (x : Course). after_all x later.steps) first.is ∙ sym (steps_then a first.steps later.steps));
+}
+
+pub goes_once : (a : Course) (step : Step) → May a step → Goes a (after a step)
+goes_once a step may = record { steps = step ∷ []; may = (may, tt); is = refl }
+
+-- ---- places of a list
+
+removed_at : {X : Type 0} (front : List X) (x : X) (back : List X) → remove (front ++ x ∷ back) (length front) ≡ front ++ back
+removed_at [] x back = refl
+removed_at (y ∷ front) x back = ap (λ l. y ∷ l) (removed_at front x back)
+
+doubled_at : {X : Type 0} (front : List X) (x : X) (back : List X) → doubled (front ++ x ∷ back) (length front) ≡ (front ++ x ∷ []) ++ x ∷ back
+doubled_at [] x back = refl
+doubled_at (y ∷ front) x back = ap (λ l. y ∷ l) (doubled_at front x back)
+
+-- ---- a way of a course, whichever it is: with other things on it, one lost, one doubled
+
+module _ {X : Type 0} (put : List X → Course) (loses doubles : ℕ → Step)
+    (lost : (xs : List X) (at : ℕ) → after (put xs) (loses at) ≡ put (remove xs at)) (twice : (xs : List X) (at : ℕ) → after (put xs) (doubles at) ≡ put (doubled xs at))
+    (may_lose : (xs : List X) (at : ℕ) → May (put xs) (loses at)) (may_double : (xs : List X) (at : ℕ) → May (put xs) (doubles at)) where
+  loses_one : (front : List X) (x : X) (back : List X) → Goes (put (front ++ x ∷ back)) (put (front ++ back))
+  loses_one front x back = record {
+    steps = loses (length front) ∷ [];
+    may = (may_lose (front ++ x ∷ back) (length front), tt);
+    is = ap put (sym (removed_at front x back)) ∙ sym (lost (front ++ x ∷ back) (length front));
+  }
+
+  doubles_one : (front : List X) (x : X) (back : List X) → Goes (put (front ++ x ∷ back)) (put ((front ++ x ∷ []) ++ x ∷ back))
+  doubles_one front x back = record {
+    steps = doubles (length front) ∷ [];
+    may = (may_double (front ++ x ∷ back) (length front), tt);
+    is = ap put (sym (doubled_at front x back)) ∙ sym (twice (front ++ x ∷ back) (length front));
+  }
+
+  loses_all : (front back : List X) → Goes (put (front ++ back)) (put (front ++ []))
+  loses_all front [] = goes_nowhere (put (front ++ []))
+  loses_all front (x ∷ back) = goes_on (put (front ++ x ∷ back)) (put (front ++ back)) (put (front ++ [])) (loses_one front x back) (loses_all front back)
+
+  thins : (front old new : List X) → Thinned old new → Goes (put (front ++ old)) (put (front ++ new))
+  thins front old [] is = loses_all front old
+  thins front [] (y ∷ new) is = absurd is
+  thins front (x ∷ old) (y ∷ new) (inl (same, more)) =
+      let first : Goes (put (front ++ x ∷ old)) (put ((front ++ x ∷ []) ++ x ∷ old)) = doubles_one front x old in
+      let later : Goes (put ((front ++ x ∷ []) ++ x ∷ old)) (put ((front ++ x ∷ []) ++ new)) = thins (front ++ x ∷ []) (x ∷ old) new more in
+      let joined : (front ++ x ∷ []) ++ new ≡ front ++ y ∷ new = append_assoc front (x ∷ []) new ∙ ap (λ z. front ++ z ∷ new) (sym same) in
+      subst (λ l. Goes (put (front ++ x ∷ old)) (put l)) joined (goes_on (put (front ++ x ∷ old)) (put ((front ++ x ∷ []) ++ x ∷ old)) (put ((front ++ x ∷ []) ++ new)) first later)
+  thins front (x ∷ old) (y ∷ new) (inr more) =
+      goes_on (put (front ++ x ∷ old)) (put (front ++ old)) (put (front ++ y ∷ new)) (loses_one front x old) (thins front old (y ∷ new) more)
+
+pub up_thins : (c : Course) (now : List Message) → Thinned c.up now → Goes c (record c { up = now })
+up_thins c now is =
+    thins (λ (xs : List Message). record c { up = xs }) Up_loses Up_doubles (λ xs at. refl) (λ xs at. refl) (λ xs at. tt) (λ xs at. tt) [] c.up now is
+
+pub down_thins : (c : Course) (now : List Report) → Thinned c.down now → Goes c (record c { down = now })
+down_thins c now is =
+    thins (λ (xs : List Report). record c { down = xs }) Down_loses Down_doubles (λ xs at. refl) (λ xs at. refl) (λ xs at. tt) (λ xs at. tt) [] c.down now is

@@ -1,0 +1,73 @@
+-- Each clause is a lemma, over the laws of devices and of messages.
+use Rattle.node_course.proofs.Devices.{fresh_at, payload_heard, tick_goes, wake_goes, set_goes}
+use Rattle.node_course.proofs.device.devices_follow_the_course.Goals as goal
+
+pub returns-clause-fresh : goal.returns-clause-fresh
+returns-clause-fresh c = fresh_at (record {
+  fresh_ended = c.devices_end_sessions.ensures.fresh;
+  ended = c.devices_end_sessions.ensures.kept;
+  follows = c.messages_do_what_is_asked.ensures.heard;
+  opens = c.messages_open.ensures.opened;
+  lands = c.messages_follow_the_course.ensures.message;
+  left = c.others_are_no_messages.ensures.left;
+  replies = c.reports_tell.ensures.replies;
+  fresh_can = c.reports_tell.ensures.fresh;
+  can = c.reports_tell.ensures.kept;
+  same = c.devices_stay_the_same.ensures.event;
+})
+
+pub returns-clause-hears : goal.returns-clause-hears
+returns-clause-hears c = payload_heard (record {
+  fresh_ended = c.devices_end_sessions.ensures.fresh;
+  ended = c.devices_end_sessions.ensures.kept;
+  follows = c.messages_do_what_is_asked.ensures.heard;
+  opens = c.messages_open.ensures.opened;
+  lands = c.messages_follow_the_course.ensures.message;
+  left = c.others_are_no_messages.ensures.left;
+  replies = c.reports_tell.ensures.replies;
+  fresh_can = c.reports_tell.ensures.fresh;
+  can = c.reports_tell.ensures.kept;
+  same = c.devices_stay_the_same.ensures.event;
+})
+
+pub returns-clause-ticks : goal.returns-clause-ticks
+returns-clause-ticks c = tick_goes (record {
+  fresh_ended = c.devices_end_sessions.ensures.fresh;
+  ended = c.devices_end_sessions.ensures.kept;
+  follows = c.messages_do_what_is_asked.ensures.heard;
+  opens = c.messages_open.ensures.opened;
+  lands = c.messages_follow_the_course.ensures.message;
+  left = c.others_are_no_messages.ensures.left;
+  replies = c.reports_tell.ensures.replies;
+  fresh_can = c.reports_tell.ensures.fresh;
+  can = c.reports_tell.ensures.kept;
+  same = c.devices_stay_the_same.ensures.event;
+})
+
+pub returns-clause-wakes : goal.returns-clause-wakes
+returns-clause-wakes c = wake_goes (record {
+  fresh_ended = c.devices_end_sessions.ensures.fresh;
+  ended = c.devices_end_sessions.ensures.kept;
+  follows = c.messages_do_what_is_asked.ensures.heard;
+  opens = c.messages_open.ensures.opened;
+  lands = c.messages_follow_the_course.ensures.message;
+  left = c.others_are_no_messages.ensures.left;
+  replies = c.reports_tell.ensures.replies;
+  fresh_can = c.reports_tell.ensures.fresh;
+  can = c.reports_tell.ensures.kept;
+  same = c.devices_stay_the_same.ensures.event;
+})
+
+pub returns-clause-sets : goal.returns-clause-sets
+returns-clause-sets c = set_goes (record {
+  fresh_ended = c.devices_end_sessions.ensures.fresh;
+  ended = c.devices_end_sessions.ensures.kept;
+  follows = c.messages_do_what_is_asked.ensures.heard;
+  opens = c.messages_open.ensures.opened;
+  lands = c.messages_follow_the_course.ensures.message;
+  left = c.others_are_no_messages.ensures.left;
+  replies = c.reports_tell.ensures.replies;
+  fresh_can = c.reports_tell.ensures.fresh;
+  can = c.reports_tell.ensures.kept;
+  same = c.devices_stay_the_same.ensures.event;
+})

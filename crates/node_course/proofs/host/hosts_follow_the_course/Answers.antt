@@ -1,0 +1,23 @@
+-- Each clause is a lemma, over the laws of the air, of the host and of what the bytes mean.
+use Rattle.node_course.proofs.HostItems.{nonces_other, own_goes, judge_items}
+use Rattle.node_course.proofs.host.hosts_follow_the_course.Goals as goal
+
+pub returns-clause-does : goal.returns-clause-does
+returns-clause-does c node orders course rest up down h w event =
+    own_goes (record {
+      air = record { begins = c.frames_fly_in_order.ensures.begins };
+      nonces = nonces_other c.others_are_no_messages.ensures.nonce_report;
+      no_more = c.others_are_no_messages.ensures.no_more;
+      kept = c.facts_are_kept.ensures.each;
+      bytes = c.reports_tell.ensures.status;
+    }) node rest down orders course up h w event
+
+pub returns-clause-judges : goal.returns-clause-judges
+returns-clause-judges c node orders course rest up down items h w events =
+    judge_items (record {
+      air = record { begins = c.frames_fly_in_order.ensures.begins };
+      nonces = nonces_other c.others_are_no_messages.ensures.nonce_report;
+      no_more = c.others_are_no_messages.ensures.no_more;
+      kept = c.facts_are_kept.ensures.each;
+      bytes = c.reports_tell.ensures.status;
+    }) node rest down orders course up h w items events

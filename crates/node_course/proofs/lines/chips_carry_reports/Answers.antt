@@ -1,0 +1,10 @@
+-- Each clause is a lemma.
+use Rattle.chip_sim.proofs.Histories.{well_all}
+use Rattle.node_course.proofs.Chipping.{chips_move}
+use Rattle.node_course.proofs.lines.chips_carry_reports.Goals as goal
+
+pub returns-clause-moves : goal.returns-clause-moves
+returns-clause-moves c = chips_move
+
+pub returns-clause-waits : goal.returns-clause-waits
+returns-clause-waits c = well_all

@@ -1,0 +1,29 @@
+-- Each clause is a lemma, over the laws of the air and of the device.
+use Rattle.node_course.proofs.Arriving.{arrives_go, repeats_go}
+use Rattle.node_course.proofs.Replies.{own_goes}
+use Rattle.node_course.proofs.mesh.arrivals_follow_the_course.Goals as goal
+
+pub returns-clause-arrives : goal.returns-clause-arrives
+returns-clause-arrives c = arrives_go (record {
+  flying = c.frames_follow_the_course.ensures.goes;
+  same = c.devices_stay_the_same.ensures.event;
+  hears = c.devices_follow_the_course.ensures.hears;
+  next = c.frames_fly_in_order.ensures.next;
+  none = c.frames_fly_in_order.ensures.none;
+  lands = c.frames_follow_the_course.ensures.lands;
+  repeated = c.frames_follow_the_course.ensures.repeated;
+})
+
+pub returns-clause-repeats : goal.returns-clause-repeats
+returns-clause-repeats c = repeats_go (record {
+  flying = c.frames_follow_the_course.ensures.goes;
+  same = c.devices_stay_the_same.ensures.event;
+  hears = c.devices_follow_the_course.ensures.hears;
+  next = c.frames_fly_in_order.ensures.next;
+  none = c.frames_fly_in_order.ensures.none;
+  lands = c.frames_follow_the_course.ensures.lands;
+  repeated = c.frames_follow_the_course.ensures.repeated;
+})
+
+pub returns-clause-own : goal.returns-clause-own
+returns-clause-own c = own_goes c.frames_follow_the_course.ensures.goes c.devices_stay_the_same.ensures.event

@@ -1,0 +1,21 @@
+-- Each clause is a lemma, over the laws of the host and of what is outside it.
+use Rattle.node_course.proofs.Whole.{event_goes, events_go}
+use Rattle.node_course.proofs.world.worlds_follow_the_course.Goals as goal
+
+pub returns-clause-event : goal.returns-clause-event
+returns-clause-event c node orders course up down m event within =
+    event_goes (record {
+      outside = c.outsides_follow_the_course.ensures.events;
+      does = c.hosts_follow_the_course.ensures.does;
+      judges = c.hosts_follow_the_course.ensures.judges;
+      kept = c.facts_are_kept.ensures.each;
+    }) node within orders course up down m event
+
+pub returns-clause-events : goal.returns-clause-events
+returns-clause-events c node orders course up down m events within =
+    events_go (record {
+      outside = c.outsides_follow_the_course.ensures.events;
+      does = c.hosts_follow_the_course.ensures.does;
+      judges = c.hosts_follow_the_course.ensures.judges;
+      kept = c.facts_are_kept.ensures.each;
+    }) node within orders course up down m events

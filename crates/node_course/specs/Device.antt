@@ -1,0 +1,37 @@
+-- The device of a node in the course of its sessions (this project's own rule).
+use Rattle.std.specs.Prelude.{◌≡◌, ◌⊎◌, ℕ, ◌<◌, true, List, [], ◌∷◌, Option, Some, None}
+use Rattle.std.specs.List.{AllByRecursion}
+use Rattle.supervision.specs.Device.{Taken}
+use Rattle.courses.specs.Sessions.{Course, Of_node, Step, Finishes, after_all, MayAll}
+use Rattle.transport_segments.specs.Kept.{Empty}
+use Rattle.device_sim.specs.State.{State}
+use Rattle.device_sim.specs.Event.{DeviceEvent, device_after, device_replies}
+use Rattle.device_course.specs.Ending.{HasEnded}
+use Rattle.message_facts.specs.Asking.{takes_openly}
+use Rattle.message_facts.specs.Reporting.{CanSay}
+use Rattle.node_course.specs.Meaning.{Reports, NodeMeans}
+
+-- the course has the sessions of a device that takes what is not sealed, and the statuses to which it came; nothing of segments is kept
+pub record AtDevice (c : Course) (device : State) : Type 0 where
+  pub sessions : device.sessions ≡ c.device
+  pub none_kept : c.kept ≡ None
+  pub empty : device.reassembly ≡ Empty
+  pub ended : HasEnded device c.ends
+  pub can : CanSay device
+  pub is_open : takes_openly device.kind ≡ true
+
+-- the commands of its last session come to their end now, or they do not
+abbrev pub finishes : Option ℕ → List Step
+finishes None = []
+finishes (Some status) = Finishes status ∷ []
+
+-- a payload is a report of the last session that a device took, with the status that it has by now; or none, and not sealed
+abbrev pub Says : Taken → List ℕ → Type 0
+Says device payload = ((0 < device.taken) × Reports device.taken device.status payload) ⊎ NodeMeans payload Of_node
+
+-- an event of the device is such steps, and then it says what it says
+pub record GoesAs (c : Course) (device : State) (event : DeviceEvent) : Type 0 where
+  pub final : Option ℕ
+  pub may : MayAll c (finishes final)
+  pub at : AtDevice (after_all c (finishes final)) (device_after device event)
+  pub says : AllByRecursion (Says (device_after device event).sessions) (device_replies device event)

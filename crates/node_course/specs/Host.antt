@@ -1,0 +1,52 @@
+-- The host in the course of one node whose commands go whole and unsealed (this project's own rule).
+use Rattle.std.specs.Prelude.{◌≡◌, ℕ, ◌≤◌, Option, None, List, map}
+use Rattle.std.specs.List.{AllByRecursion}
+use Rattle.supervision.specs.Host.{HostBook}
+use Rattle.host_orders.specs.Wrapping.{form_of}
+use Rattle.host_orders.specs.declared.carriage.Form.TheVariants.{Plain}
+use Rattle.host_requests.specs.declared.task.Task.{Task}
+use Rattle.host_requests.specs.declared.task.Task.TheVariants as task
+use Rattle.host_node.specs.State.{NodeState}
+use Rattle.host_events.specs.State.{HostState, Command, node_of}
+use Rattle.host_events.specs.Events.{HostEvent, Accepts, Queues, Requests_do}
+use Rattle.host_requests.specs.Events.{RequestsEvent}
+use Rattle.host_requests.specs.Events.RequestsEvent.{Pushes}
+use Rattle.message_facts.specs.Others.{IsOther}
+use Rattle.node_course.specs.Meaning.{Asked}
+
+-- the host keeps these commands of a node's sessions, and this outcome of the last; nothing of the running attempt is to be sealed, or waits sealed
+abbrev pub NodeAs : List ℕ → Option ℕ → NodeState → Type 0
+NodeAs commands outcome n = (n.book.commands ≡ commands) × ((n.book.outcome ≡ outcome) × ((n.text ≡ None) × (n.pending ≡ None)))
+
+-- a command as it was accepted
+abbrev pub asked_of : Command → Asked
+asked_of command = record { order = command.order; carriage = command.carriage }
+
+-- a command for the node goes whole and unsealed, to an end point of at most 127
+abbrev pub IsPlainFor : ℕ → Asked → Type 0
+IsPlainFor node asked = asked.order.node ≡ node → (form_of asked.carriage.outer ≡ Plain) × (asked.order.end ≤ 127)
+
+-- what a task brings the node is no message of a session
+abbrev pub IsOtherTask : ℕ → Task → Type 0
+IsOtherTask node (task.Plain n payload) = n ≡ node → IsOther payload
+IsOtherTask node (task.Offer n nonce) = Unit {0}
+IsOtherTask node (task.Segment n payload) = n ≡ node → IsOther payload
+IsOtherTask node other = Unit {0}
+
+pub record AtHost (node : ℕ) (orders : List Asked) (book : HostBook) (h : HostState) : Type 0 where
+  pub node_as : NodeAs book.commands book.outcome (node_of h node)
+  pub orders_are : orders ≡ map asked_of h.commands
+  pub plain : AllByRecursion (IsPlainFor node) orders
+  pub queue : AllByRecursion (IsOtherTask node) h.requests.queue
+
+-- what is pushed is none
+abbrev pub PushesOther : ℕ → RequestsEvent → Type 0
+PushesOther node (Pushes pushed) = IsOtherTask node pushed
+PushesOther node event = Unit {0}
+
+-- what is asked of the host: orders for the node go whole and unsealed, and what else is sent to it is no message of a session
+abbrev pub AsksPlainly : ℕ → HostEvent → Type 0
+AsksPlainly node (Accepts order carriage) = IsPlainFor node (record { order = order; carriage = carriage })
+AsksPlainly node (Queues queued) = IsOtherTask node queued
+AsksPlainly node (Requests_do event moment) = PushesOther node event
+AsksPlainly node event = Unit {0}

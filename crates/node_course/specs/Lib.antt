@@ -1,0 +1,11 @@
+pub mod Ways
+pub mod Meaning
+pub mod Air
+pub mod Device
+pub mod Mesh
+pub mod Lines
+pub mod Chip
+pub mod Outside
+pub mod Host
+pub mod HostGoing
+pub mod World

@@ -1,0 +1,54 @@
+-- The whole machine, in the course of one node (this project's own rule).
+use Rattle.std.specs.Prelude.{ℕ, List}
+use Rattle.courses.specs.Sessions.{Course}
+use Rattle.courses.specs.SessionFacts.{CourseFacts}
+use Rattle.courses.specs.SessionLaws.{IsDone, IsApplied}
+use Rattle.serial_frame.specs.declared.item.Item.{Item}
+use Rattle.host_events.specs.Facts.{HostFacts}
+use Rattle.zw_machine.specs.State.{Machine}
+use Rattle.zw_machine.specs.Events.{Event, Host_does, Restarts}
+use Rattle.node_course.specs.Ways.{Goes}
+use Rattle.node_course.specs.Meaning.{Asked}
+use Rattle.node_course.specs.Outside.{Follows}
+use Rattle.node_course.specs.Host.{AtHost, AsksPlainly}
+use Rattle.node_course.specs.HostGoing.{EndsNone}
+
+-- The course is where the machine is: where its host is, with its facts, and what is outside it. These orders were accepted, and these items are on their way up and down the line
+pub record WorldFollows (node : ℕ) (orders : List Asked) (c : Course) (up down : List Item) (m : Machine) : Type 0 where
+  pub outside : Follows node orders c m.host.decoder m.host.state.side.turn up down m.outside
+  pub host : AtHost node orders c.host m.host.state
+  pub facts : HostFacts m.host.state
+
+-- steps of the course lead to where the machine is
+pub record WorldGoes (node : ℕ) (c : Course) (m : Machine) : Type 0 where
+  pub orders : List Asked
+  pub later : Course
+  pub goes : Goes c later
+  pub up : List Item
+  pub down : List Item
+  pub follows : WorldFollows node orders later up down m
+
+-- So the course is where the machine is, over any events from the first on: the facts of courses hold, what the host was told is what the device did, and what the device applied is a part of the commands of the sessions. That the device
+-- ended its sessions with the statuses of the course, and has changed by those that ended with success, is said by `follows`; so is that the host's sessions are the course's
+pub record HasCourse (node : ℕ) (m : Machine) : Type 0 where
+  pub orders : List Asked
+  pub course : Course
+  pub up : List Item
+  pub down : List Item
+  pub follows : WorldFollows node orders course up down m
+  pub facts : CourseFacts course
+  pub done : IsDone course
+  pub applied : IsApplied course
+
+-- ---- what is premised of events
+
+-- the orders for the node go whole and unsealed, what else is queued for it is no message of a session, and no host starts again
+abbrev pub IsPlainly : ℕ → Event → Type 0
+IsPlainly node (Host_does event) = AsksPlainly node event
+IsPlainly node (Restarts state) = ⊥
+IsPlainly node event = Unit {0}
+
+-- the host ends a session of the node only by what it has taken out of its pipe
+abbrev pub EndsByHearing : ℕ → Event → Type 0
+EndsByHearing node (Host_does event) = EndsNone node event
+EndsByHearing node event = Unit {0}

@@ -1,0 +1,24 @@
+//! That the whole machine goes, for each node whose commands go whole and unsealed, a course of its sessions (`courses`): what its device applied is a part of the commands of the sessions that began.
+//!
+//! It promises that every event outside the host (`outsides_follow_the_course`), what the host does (`hosts_follow_the_course`), every event of the machine (`worlds_follow_the_course`) and so any lines from the first on
+//! (`lines_have_a_course`) are steps of such a course. No code stands here. The definitions stand in `specs/`: `Ways` (labels beside what carries them, and what loss and doubling make of them), `Meaning` (what a label says
+//! of bytes), and where the course is: `Air`, `Device`, `Mesh`, `Lines` and `Chip`, `Outside`, `Host` and `HostGoing`, `World`.
+#![tactic(auto)]
+
+mod air;
+mod device;
+mod host;
+mod lines;
+mod mesh;
+mod outside;
+mod ways;
+mod world;
+
+pub use air::frames_follow_the_course;
+pub use device::devices_follow_the_course;
+pub use host::hosts_follow_the_course;
+pub use lines::chips_carry_reports;
+pub use mesh::arrivals_follow_the_course;
+pub use outside::outsides_follow_the_course;
+pub use ways::ways_may_thin;
+pub use world::{lines_have_a_course, worlds_follow_the_course};

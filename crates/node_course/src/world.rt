@@ -1,0 +1,56 @@
+//! The whole machine, in the course of one node.
+
+ghost use Rattle.std.specs.Prelude.{ℕ, ◌<◌, List, [], Option};
+ghost use Rattle.std.specs.List.{AllByRecursion};
+ghost use Rattle.courses.specs.Sessions.{Course, first_course};
+ghost use Rattle.serial_frame.specs.declared.item.Item.{Item};
+ghost use Rattle.s0_crypto.specs.declared.key_pair.Keys.{Keys};
+ghost use Rattle.zw_text.specs.declared.line.Line.{Line};
+ghost use Rattle.device_sim.specs.State.{State};
+ghost use Rattle.zw_machine.specs.State.{Machine, first_machine};
+ghost use Rattle.zw_machine.specs.Events.{Event, May, happens};
+ghost use Rattle.zw_machine.specs.Did.{happens_all, MayAll};
+ghost use Rattle.line_facts.specs.Line.{WritesWell, AllWriteWell, IsAtRest, AllAtRest, AreLines};
+ghost use Rattle.line_facts.specs.Host.{AllAskWell};
+ghost use Rattle.world_traffic.specs.OnAir.{EventStaysFew, AlwaysFew};
+ghost use Rattle.node_course.specs.Meaning.{Asked};
+ghost use Rattle.node_course.specs.Mesh.{HasDevice};
+ghost use Rattle.node_course.specs.World.{WorldFollows, WorldGoes, HasCourse, IsPlainly, EndsByHearing};
+
+use crate::host::hosts_follow_the_course;
+use crate::outside::outsides_follow_the_course;
+use courses::{courses_keep_facts, what_is_told_was_done};
+use host_events::facts_are_kept;
+use line_facts::{hosts_write_well, units_are_judged_whole};
+use world_traffic::at_most_two_are_on_the_air;
+
+/// Every event of the whole machine makes steps of the course of a node, and so do events one after another.
+pub fn worlds_follow_the_course()
+    ensures event { (node : ℕ) (orders : List Asked) (c : Course) (up down : List Item) (m : Machine) (event : Event) → node < 233 → WorldFollows node orders c up down m → May m event → IsAtRest m event → WritesWell m event →
+        EventStaysFew m event → IsPlainly node event → EndsByHearing node event → WorldGoes node c (happens m event) }
+    ensures events { (node : ℕ) (orders : List Asked) (c : Course) (up down : List Item) (m : Machine) (events : List Event) → node < 233 → WorldFollows node orders c up down m → MayAll m events → AllAtRest m events →
+        AllWriteWell m events → AlwaysFew m events → AllByRecursion (IsPlainly node) events → AllByRecursion (EndsByHearing node) events → WorldGoes node c (happens_all m events) }
+{
+    outsides_follow_the_course();
+    hosts_follow_the_course();
+    facts_are_kept();
+}
+
+/// So over any lines from the first on, where no host starts again: for a node whose commands go whole and unsealed, and whose device is the only one of it and takes what is not sealed, there is a course of its sessions, from the first. The sessions of the
+/// host are the course's, and so are those of the device, with the statuses to which it came; what the device applied by sessions is a part of the commands of the sessions that began, in order, each once; and each session of which the host was told success is
+/// among them.
+pub fn lines_have_a_course()
+    ensures first { (node : ℕ) (keys : Keys) (records : Option (List (List ℕ))) (devices : List State) → node < 233 → HasDevice node first_course devices → WorldFollows node [] first_course [] [] (first_machine keys records devices) }
+    ensures lines { (node : ℕ) (keys : Keys) (records : Option (List (List ℕ))) (devices : List State) (lines : List Line) (events : List Event) → node < 233 → HasDevice node first_course devices →
+        AreLines lines (first_machine keys records devices) events → MayAll (first_machine keys records devices) events → AllAskWell (first_machine keys records devices) events → AllByRecursion (IsPlainly node) events →
+        HasCourse node (happens_all (first_machine keys records devices) events) }
+{
+    worlds_follow_the_course();
+    outsides_follow_the_course();
+    facts_are_kept();
+    units_are_judged_whole();
+    hosts_write_well();
+    at_most_two_are_on_the_air();
+    courses_keep_facts();
+    what_is_told_was_done();
+}
