@@ -1,6 +1,6 @@
 -- What a run of `sim` keeps true (this project's own): its story is the lines that were run, each with the events of the machine that it was,
 -- and the laws are of this story.
-use Rattle.std.specs.Prelude.{◌≡◌, ℕ, Bool, ◌⊎◌, List, [], ◌∷◌, ◌++◌, map}
+use Rattle.std.specs.Prelude.{◌≡◌, ℕ, Bool, ◌⊎◌, List, [], ◌∷◌, ◌++◌, map, Some}
 use Rattle.std.specs.List.{AllByRecursion}
 use Rattle.zw_text.specs.Line.{line_at}
 use Rattle.zw_text.specs.declared.line.Line.{Line}
@@ -25,6 +25,7 @@ use Rattle.device_facts.specs.Showing.{AreApart, IsShown}
 use Rattle.zw_laws.specs.Headline.{IsAsMade}
 use Rattle.world_facts.specs.Devices.{GroupsSessions}
 use Rattle.world_facts.specs.Restarts.{AllKeepWell, BeginsEmpty}
+use Rattle.run_facts.specs.Premises.{AllDrawBytes, AreFew}
 use Rattle.sim_laws.specs.Around.{Around}
 
 -- `sim` ran so, with what it was given and what it leaves
@@ -106,6 +107,14 @@ pub record KeepsRecords (key : List ℕ) (old : Around) (story : List Ran) : Typ
   pub empty : BeginsEmpty old.records
   pub well : AllKeepWell (first key old) (events_of story)
 
+-- All lines were run whole, over a keeper that tells its records, had none at first and has fewer than 2 ^ 32 in the end; and what was
+-- drawn is bytes.
+pub record IsWholeRun (key : List ℕ) (old : Around) (story : List Ran) : Type 0 where
+  pub whole : AreSchedules (first key old) story
+  pub empty : old.records ≡ Some []
+  pub few : AreFew (last key old story).records
+  pub drawn : AllDrawBytes (first key old) (events_of story)
+
 -- ---- what every story of a run keeps
 
 -- a run of `sim` has a story
@@ -115,6 +124,10 @@ HasStory ended key old new = (quiet : Bool) → RunsSim ended quiet key old new 
 -- a law of every story that a run has
 abbrev pub Always : Status → List ℕ → Around → Around → (List Ran → Type 0) → Type 0
 Always ended key old new Law = (quiet : Bool) (story : List Ran) → Tells ended quiet key old new story → Law story
+
+-- such a run has the records that the next three laws premise
+abbrev pub KeepsWell : Status → List ℕ → Around → Around → Type 0
+KeepsWell ended key old new = Always ended key old new (λ story. IsWholeRun key old story → KeepsRecords key old story)
 
 -- orders, sessions and outcomes keep their laws
 abbrev pub KeepsOrders : Status → List ℕ → Around → Around → Type 0
@@ -151,6 +164,7 @@ GroupsChanges ended key old new = Always ended key old new
 -- What holds of every run of `sim`, at every status: its story, and the laws of every story that it has.
 pub record KeepsLaws (ended : Status) (key : List ℕ) (old new : Around) : Type 0 where
   pub story : HasStory ended key old new
+  pub kept : KeepsWell ended key old new
   pub orders : KeepsOrders ended key old new
   pub tables : ShowsTables ended key old new
   pub values : ConfirmsValues ended key old new

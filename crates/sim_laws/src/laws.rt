@@ -11,11 +11,13 @@ ghost use Rattle.sim_laws.specs.Laws.{
   KeepsDevices,
   KeepsLaws,
   KeepsOrders,
+  KeepsWell,
   ShowsChanges,
   ShowsTables,
 };
 
 use host_facts::{asides_keep_facts, laws_follow};
+use run_facts::lines_keep_and_ask_well;
 use world_facts::{restarts_go_on, runs_take_once, the_machine_keeps_facts};
 
 /// Every run of `sim` has a story, and each story that it has keeps the laws.
@@ -23,6 +25,7 @@ pub fn sim_keeps_laws()
     ensures { (ended : Status) (key : List ℕ) (old new : Around) → KeepsLaws ended key old new }
 {
     runs_have_stories();
+    runs_keep_records();
     stories_keep_laws();
     stories_take_once();
 }
@@ -31,6 +34,13 @@ pub fn sim_keeps_laws()
 fn runs_have_stories()
     ensures { (ended : Status) (key : List ℕ) (old new : Around) → HasStory ended key old new }
 {}
+
+/// A run whose lines were all run whole has the records that these laws premise, where the keeper tells them and had none at first.
+fn runs_keep_records()
+    ensures { (ended : Status) (key : List ℕ) (old new : Around) → KeepsWell ended key old new }
+{
+    lines_keep_and_ask_well();
+}
 
 /// The transcript of a story keeps the laws of orders, sessions, outcomes and confirmed values, and shows the tables of the host.
 fn stories_keep_laws()

@@ -4,6 +4,7 @@ use Rattle.sim_laws.proofs.laws.sim_keeps_laws.Goals as goal
 pub returns : goal.returns
 returns c = λ ended key old new. record {
   story = c.runs_have_stories.ensures ended key old new;
+  kept = c.runs_keep_records.ensures ended key old new;
   orders = c.stories_keep_laws.ensures.orders ended key old new;
   tables = c.stories_keep_laws.ensures.tables ended key old new;
   values = c.stories_keep_laws.ensures.values ended key old new;
