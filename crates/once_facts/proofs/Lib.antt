@@ -1,0 +1,11 @@
+mod Having
+mod Carrying
+mod Succeeding
+mod Starting
+mod Once
+mod Valuing
+mod Confirming
+mod InSessions
+mod Tying
+mod Showing
+mod Telling

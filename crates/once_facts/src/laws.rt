@@ -1,0 +1,90 @@
+//! What follows of a host and a device that are tied.
+
+ghost use Rattle.std.specs.Prelude.{◌≡◌, ℕ, List, Some};
+ghost use Rattle.std.specs.List.{AllByRecursion};
+ghost use Rattle.supervision.specs.Host.{command_at as session_at};
+ghost use Rattle.supervision.specs.declared.session.TheConstants.{SUCCESS};
+ghost use Rattle.courses.specs.Sessions.{Course};
+ghost use Rattle.courses.specs.SessionFacts.{CourseFacts};
+ghost use Rattle.device_sim.specs.State.{State};
+ghost use Rattle.device_sim.specs.Event.{DeviceEvent, device_after};
+ghost use Rattle.device_course.specs.Ending.{HasEnded};
+ghost use Rattle.device_facts.specs.GoingOn.{GoOn};
+ghost use Rattle.device_facts.specs.Showing.{AreUnchanged, IsShown};
+ghost use Rattle.zw_text.specs.declared.entry.Entry.{Entry};
+ghost use Rattle.zw_laws.specs.Lists.{Has};
+ghost use Rattle.zw_laws.specs.Once.{IsSupervisedChange, Once, commands_shown};
+ghost use Rattle.zw_laws.specs.Values.{ConfirmsLast};
+ghost use Rattle.host_nodes.specs.State.{node_of};
+ghost use Rattle.host_events.specs.State.{HostState, Command};
+ghost use Rattle.host_facts.specs.Facts.{Facts, StartsAs};
+ghost use Rattle.once_facts.specs.Tied.{AreOutcomes, IsTied, MakesWhatIsTaken};
+ghost use Rattle.once_facts.specs.ByTable.{ConfirmsByTable, IsTable, OnceByTable};
+ghost use Rattle.once_facts.specs.InSessions.{ChangesInSessions};
+
+use device_facts::devices_stay_the_same;
+use device_sim::when_changes_come;
+use host_facts::{laws_follow, values_are_in_order};
+
+/// A course that keeps its facts ties the host's book to a device that ended its sessions as the course has it, where outcomes are those that the
+/// host was told and changes make what was asked for.
+pub fn courses_tie_their_ends()
+    ensures { (c : Course) (commands : List Command) (device : State) → CourseFacts c → HasEnded device c.ends → AreOutcomes commands c.host.commands c.told →
+        AllByRecursion (MakesWhatIsTaken commands c.host.commands) device.journal → IsTied commands c.host device c.ends c.told }
+{}
+
+/// A host that starts from what another recorded is tied as that was.
+pub fn restarts_keep_ties()
+    ensures { (old new : HostState) (node : ℕ) (device : State) (finals told : List ℕ) → StartsAs old new →
+        IsTied old.commands (node_of old.nodes node).book device finals told → IsTied new.commands (node_of new.nodes node).book device finals told }
+{}
+
+/// A device that knows Supervision makes no change without a session, but by hand: nor does one that goes on from there, nor many, each at its
+/// place; and one that has not changed yet has made none.
+pub fn devices_change_in_sessions()
+    ensures event { (device : State) (event : DeviceEvent) → ChangesInSessions device → ChangesInSessions (device_after device event) }
+    ensures all { (old new : List State) → GoOn old new → AllByRecursion ChangesInSessions old → AllByRecursion ChangesInSessions new }
+    ensures unchanged { (devices : List State) → AreUnchanged devices → AllByRecursion ChangesInSessions devices }
+{
+    when_changes_come();
+    devices_stay_the_same();
+}
+
+/// Once only: a device that is tied to a host and changes in sessions alone has applied a part of the commands that were accepted for its node, in
+/// order, each at most once, and made just what each asked for; every one that is reported successful is among these, and none that failed,
+/// was taken back or still waits.
+pub fn ties_keep_once_only()
+    ensures { (past : List Entry) (h : HostState) (node : ℕ) (device : State) (finals told : List ℕ) → Facts past h →
+        IsTied h.commands (node_of h.nodes node).book device finals told → AllByRecursion IsSupervisedChange device.journal →
+        OnceByTable h.commands node past device.journal }
+{
+    laws_follow();
+}
+
+/// The confirmed value: where the last change of a property is by the session of a command that is reported successful, the host's confirmed
+/// value of it is the device's value.
+pub fn ties_confirm_what_was_set()
+    ensures { (past : List Entry) (h : HostState) (node : ℕ) (device : State) (finals told : List ℕ) → Facts past h →
+        IsTied h.commands (node_of h.nodes node).book device finals told → ConfirmsByTable node past h.store device }
+{
+    laws_follow();
+    values_are_in_order();
+}
+
+/// The command of a session that a device ended with success is shown to have changed it, where the transcript shows the device's changes.
+pub fn endings_are_shown()
+    ensures { (past : List Entry) (h : HostState) (device : State) (finals : List ℕ) (session number : ℕ) → Facts past h → IsShown past device → HasEnded device finals →
+        AllByRecursion (MakesWhatIsTaken h.commands (node_of h.nodes device.node).book.commands) device.journal →
+        session_at (node_of h.nodes device.node).book.commands session ≡ Some number → session_at finals session ≡ Some SUCCESS →
+        Has (commands_shown device.node past) number }
+{}
+
+/// Where the host's table is what the transcript shows of the orders of a node, these are the laws of transcripts.
+pub fn laws_of_transcripts_follow()
+    ensures once { (past : List Entry) (h : HostState) (listing : ℕ → List ℕ) (node : ℕ) (device : State) → IsTable listing h.commands node past →
+        OnceByTable h.commands node past device.journal → Once listing node past device.journal }
+    ensures confirms { (past : List Entry) (h : HostState) (listing : ℕ → List ℕ) (node : ℕ) (device : State) → Facts past h → IsTable listing h.commands node past →
+        ConfirmsByTable node past h.store device → ConfirmsLast listing node past device }
+{
+    laws_follow();
+}
