@@ -179,11 +179,11 @@ module _ (commands : List Command) (state : NodeState) (order : IsInOrder comman
 
 -- ---- once only
 
+pub success_in : (past : List Entry) (h : HostState) (number : ℕ) → AreShown past h → outcome number past ≡ Success → outcome_in h.commands number ≡ Success
+success_in past h number tables is = recorded_success (outcome_in h.commands number) (tables.outcomes number ∙ ap recorded is)
+
 module _ (past : List Entry) (h : HostState) (node : ℕ) (device : State) (finals told : List ℕ) (facts : Facts past h) (tables : AreShown past h) (laws : HostLaws past)
     (tied : IsTied h.commands (node_of h.nodes node).book device finals told) (supervised : AllByRecursion IsSupervisedChange device.journal) where
-
-  pub success_in : (number : ℕ) → outcome number past ≡ Success → outcome_in h.commands number ≡ Success
-  success_in number is = recorded_success (outcome_in h.commands number) (tables.outcomes number ∙ ap recorded is)
 
   undone_in : (number : ℕ) → IsUndone (outcome number past) → IsUndone (outcome_in h.commands number)
   undone_in number is =
@@ -194,7 +194,7 @@ module _ (past : List Entry) (h : HostState) (node : ℕ) (device : State) (fina
       let begun = started_has past h.commands node number facts.stand (facts.accepted.nodes number) for (subst IsStarted (sym is) tt) in
       let one = has_session (node_of h.nodes node).book.commands number (subst (λ (l : List ℕ). Has l number) (sym (tables.sessions_are node)) begun) in
       carried_has (node_of h.nodes node).book.commands (sessions_by device.journal) one.session number
-      (succeeded h.commands (node_of h.nodes node) (facts.in_order node) device finals told tied one.session number one.at (success_in number is)) one.at
+      (succeeded h.commands (node_of h.nodes node) (facts.in_order node) device finals told tied one.session number one.at (success_in past h number tables is)) one.at
 
   undone : (number : ℕ) → IsUndone (outcome number past) → Has (carried_by (node_of h.nodes node).book.commands (sessions_by device.journal)) number → ⊥
   undone number is has =
