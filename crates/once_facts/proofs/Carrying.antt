@@ -3,6 +3,7 @@ use Rattle.std.proofs.Common.{◌≡◌, ◌⊎◌, ℕ, zero, suc, ◌+◌, ◌
 use Rattle.std.specs.Prelude.{slice_get}
 use Rattle.std.specs.List.{flat_map}
 use Rattle.std.proofs.lemmas.Grind.{flat_map-append}
+use Rattle.std.proofs.lemmas.Option.{slice_get_within}
 use Rattle.zw_base.specs.declared.property.By.{By}
 use Rattle.zw_base.specs.declared.property.By.TheVariants.{Session, Plain, Local}
 use Rattle.supervision.specs.Host.{command_at}
@@ -29,21 +30,6 @@ pub stands_has : {A : Type 0} (xs : List A) (before : ℕ) (x : A) → slice_get
 stands_has [] before x e = absurd (grind arith)
 stands_has (y ∷ xs) zero x e = inl cc
 stands_has (y ∷ xs) (suc before) x e = inr (stands_has xs before x e)
-
-pub stands_within : {A : Type 0} (xs : List A) (before : ℕ) (x : A) → slice_get xs before ≡ Some x → before < length xs
-stands_within [] before x e = absurd (grind arith)
-stands_within (y ∷ xs) zero x e = omega arith
-stands_within (y ∷ xs) (suc before) x e = let less = stands_within xs before x e in omega (arith, less)
-
--- a place within a list has an item
-pub record Found {A : Type 0} (xs : List A) (before : ℕ) : Type 0 where
-  pub item : A
-  pub at : slice_get xs before ≡ Some item
-
-pub found_within : {A : Type 0} (xs : List A) (before : ℕ) → before < length xs → Found xs before
-found_within [] before less = absurd (omega (arith, less))
-found_within (y ∷ xs) zero less = record { item = y; at = refl }
-found_within (y ∷ xs) (suc before) less = let one = found_within xs before (omega (arith, less)) in record { item = one.item; at = one.at }
 
 pub stands_front : {A : Type 0} (xs ys : List A) (before : ℕ) (x : A) → slice_get xs before ≡ Some x → slice_get (xs ++ ys) before ≡ Some x
 stands_front [] ys before x e = absurd (grind arith)
@@ -90,7 +76,7 @@ session_has begun (suc before) number at = stands_has begun before number at
 
 pub session_within : (begun : List ℕ) (session number : ℕ) → command_at begun session ≡ Some number → (1 ≤ session) × (session ≤ length begun)
 session_within begun zero number at = absurd (grind arith)
-session_within begun (suc before) number at = let less = stands_within begun before number at in (omega arith, omega (arith, less))
+session_within begun (suc before) number at = let less = slice_get_within begun before number at in (omega arith, omega (arith, less))
 
 -- ---- sessions of changes
 

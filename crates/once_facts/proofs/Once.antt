@@ -1,7 +1,8 @@
 -- What the tie gives of each session, and once only.
-use Rattle.std.proofs.Common.{◌≡◌, ◌⊎◌, ℕ, zero, suc, ◌+◌, ◌<◌, ◌≤◌, List, [], ◌∷◌, ◌++◌, length, Option, Some, None, inl, inr, refl, sym, ap, subst, ◌∙◌, arith}
+use Rattle.std.proofs.Common.{◌≡◌, ◌⊎◌, ℕ, zero, suc, ◌+◌, ◌<◌, ◌≤◌, List, [], ◌∷◌, ◌++◌, length, get_or, Option, Some, None, inl, inr, refl, sym, ap, subst, ◌∙◌, arith}
 use Rattle.std.specs.List.{AllByRecursion}
 use Rattle.std.proofs.lemmas.Bool.{cases_eq}
+use Rattle.std.proofs.lemmas.Option.{slice_get-get_or}
 use Rattle.supervision.specs.Host.{HostBook, begun_of, open_session, command_at as session_at}
 use Rattle.supervision.specs.declared.session.TheConstants.{SUCCESS}
 use Rattle.supervision.proofs.EndsLemmas.{open_session-Some}
@@ -30,7 +31,7 @@ use Rattle.host_facts.specs.Tables.{outcome_in, recorded}
 use Rattle.once_facts.specs.Tied.{IsTied, IsToldAs, MakesWhatIsTaken}
 use Rattle.once_facts.specs.ByTable.{OnceByTable}
 use Rattle.once_facts.proofs.Having.{all_has, all_of}
-use Rattle.once_facts.proofs.Carrying.{carried_has, found_within, has_carried, has_session, numbers_are, session_has, session_within, stands_front}
+use Rattle.once_facts.proofs.Carrying.{carried_has, has_carried, has_session, numbers_are, session_has, session_within, stands_front}
 use Rattle.once_facts.proofs.Succeeding.{has_success, successes_rise, successes_within, success_has}
 use Rattle.once_facts.proofs.Starting.{IsStarted, started_has}
 
@@ -100,7 +101,7 @@ pub record HasStatus (told : List ℕ) (session : ℕ) : Type 0 where
 
 status_within : (told : List ℕ) (session : ℕ) → 1 ≤ session → session ≤ length told → HasStatus told session
 status_within told zero one within = absurd (omega (arith, one))
-status_within told (suc before) one within = let found = found_within told before (omega (arith, within)) in record { status = found.item; at = found.at }
+status_within told (suc before) one within = record { status = get_or told before 0; at = slice_get-get_or told before 0 (omega (arith, within)) }
 
 status_front : (told rest : List ℕ) (session status : ℕ) → session_at told session ≡ Some status → session_at (told ++ rest) session ≡ Some status
 status_front told rest zero status at = absurd (grind arith)

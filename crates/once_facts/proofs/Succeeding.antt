@@ -3,13 +3,13 @@ use Rattle.std.proofs.Common.{◌≡◌, ℕ, zero, suc, ◌+◌, ◌<◌, ◌�
 use Rattle.std.specs.Prelude.{slice_get}
 use Rattle.std.specs.List.{AllByRecursion}
 use Rattle.std.proofs.lemmas.Bool.{eq-eqb, eqb-true}
+use Rattle.std.proofs.lemmas.Option.{slice_get_within}
 use Rattle.supervision.specs.Host.{command_at}
 use Rattle.supervision.specs.declared.session.TheConstants.{SUCCESS}
 use Rattle.courses.specs.Parts.{successes}
 use Rattle.zw_laws.specs.Lists.{Has, Rises}
 use Rattle.host_facts.proofs.Lists.{all-weaker}
 use Rattle.once_facts.proofs.Having.{all_of}
-use Rattle.once_facts.proofs.Carrying.{stands_within}
 
 -- ---- which they are
 
@@ -83,5 +83,5 @@ pub successes_within : (finals : List ℕ) → AllByRecursion (λ session. (1 �
 successes_within finals = all_of (λ session. (1 ≤ session) × (session ≤ length finals)) (successes 1 finals) (λ session has.
     let one = has_at 1 finals session has in
     let is = one.is in
-    let less = stands_within finals one.before SUCCESS one.status in
+    let less = slice_get_within finals one.before SUCCESS one.status in
     (omega (arith, is), omega (arith, is, less)))
