@@ -37,7 +37,7 @@ use Rattle.once_facts.proofs.Valuing.{IsLast, last_given_at, last_gives, last_is
 
 -- ---- settings of orders
 
-value_settings : (taken : Option Taken) (property : Property) → value_taken taken property ≡ value_among (settings_taken taken) property
+pub value_settings : (taken : Option Taken) (property : Property) → value_taken taken property ≡ value_among (settings_taken taken) property
 value_settings None property = refl
 value_settings (Some taken) property = refl
 
