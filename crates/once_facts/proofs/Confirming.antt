@@ -1,5 +1,5 @@
 -- The confirmed value of a property is the device's, where the last change of it is by a session whose command is reported successful.
-use Rattle.std.proofs.Common.{◌≡◌, ℕ, ◌<◌, Bool, true, false, if◌then◌else◌, List, [], ◌∷◌, ◌++◌, Option, Some, None, inl, inr, refl, sym, ap, ap₂, subst, ◌∙◌}
+use Rattle.std.proofs.Common.{◌≡◌, ℕ, ◌<◌, Bool, true, false, if◌then◌else◌, List, [], ◌∷◌, ◌++◌, Option, Some, None, inl, inr, refl, sym, ap, subst, ◌∙◌}
 use Rattle.std.specs.List.{AllByRecursion, flat_map}
 use Rattle.zw_base.specs.declared.property.By.{By}
 use Rattle.zw_base.specs.declared.property.By.TheVariants.{Session, Plain, Local}
@@ -7,7 +7,6 @@ use Rattle.zw_base.specs.declared.property.Property.{Property}
 use Rattle.zw_base.specs.declared.property.Setting.{Setting}
 use Rattle.zw_order.specs.declared.order.Order.{Order}
 use Rattle.supervision.specs.Host.{command_at as session_at}
-use Rattle.courses.specs.Parts.{successes}
 use Rattle.device_stack.specs.declared.change.Change.{Change}
 use Rattle.device_stack.specs.State.{State, value_of}
 use Rattle.zw_text.specs.declared.entry.Entry.{Entry}
@@ -25,7 +24,7 @@ use Rattle.host_nodes.specs.State.{node_of}
 use Rattle.host_events.specs.State.{HostState}
 use Rattle.host_facts.specs.Facts.{AreShown, Facts}
 use Rattle.host_facts.specs.Stores.{AreSorted, StoresLaw, given_by}
-use Rattle.host_facts.specs.Tables.{outcome_in, taken_at}
+use Rattle.host_facts.specs.Tables.{taken_at}
 use Rattle.host_facts.proofs.Lists.{all-right}
 use Rattle.once_facts.specs.Tied.{IsTied, MakesWhatIsTaken, settings_taken}
 use Rattle.once_facts.specs.ByTable.{ConfirmsByTable}

@@ -1,6 +1,6 @@
 -- A device that knows Supervision changes in sessions and by hand alone.
-use Rattle.std.proofs.Common.{◌≡◌, ◌⊎◌, ℕ, ◌+◌, true, false, List, [], ◌∷◌, ◌++◌, inl, inr, sym, subst, ◌∙◌, ap}
-use Rattle.std.specs.List.{AllByRecursion, AllZip}
+use Rattle.std.proofs.Common.{◌≡◌, ℕ, ◌+◌, true, false, List, [], ◌∷◌, inl, inr, sym, subst, ◌∙◌}
+use Rattle.std.specs.List.{AllByRecursion}
 use Rattle.zw_base.specs.declared.property.By.{By}
 use Rattle.zw_base.specs.declared.property.By.TheVariants.{Session, Plain, Local}
 use Rattle.zw_base.specs.declared.property.Setting.{Setting}
@@ -15,7 +15,7 @@ use Rattle.device_sim.specs.Laws.{IsChanged, IsHeard, IsMade, IsTicked}
 use Rattle.zw_laws.specs.Devices.{after_events}
 use Rattle.zw_laws.specs.Once.{IsSupervisedChange}
 use Rattle.host_facts.proofs.Lists.{all-append}
-use Rattle.device_facts.specs.GoingOn.{GoOn, GoesOn, IsSame}
+use Rattle.device_facts.specs.GoingOn.{GoOn, IsSame}
 use Rattle.device_facts.specs.Showing.{AreUnchanged}
 use Rattle.once_facts.specs.InSessions.{ChangesInSessions}
 

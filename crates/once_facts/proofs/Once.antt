@@ -1,14 +1,13 @@
 -- What the tie gives of each session, and once only.
-use Rattle.std.proofs.Common.{◌≡◌, ◌⊎◌, ℕ, zero, suc, ◌+◌, ◌<◌, ◌≤◌, List, [], ◌∷◌, ◌++◌, length, get_or, Option, Some, None, inl, inr, refl, sym, ap, subst, ◌∙◌, arith}
+use Rattle.std.proofs.Common.{◌≡◌, ◌⊎◌, ℕ, zero, suc, ◌≤◌, List, ◌++◌, length, get_or, Option, Some, None, inl, inr, refl, sym, ap, subst, ◌∙◌, arith}
 use Rattle.std.specs.List.{AllByRecursion}
 use Rattle.std.proofs.lemmas.Bool.{cases_eq}
 use Rattle.std.proofs.lemmas.Option.{slice_get-get_or}
-use Rattle.supervision.specs.Host.{HostBook, begun_of, open_session, command_at as session_at}
+use Rattle.supervision.specs.Host.{open_session, command_at as session_at}
 use Rattle.supervision.specs.declared.session.TheConstants.{SUCCESS}
 use Rattle.supervision.proofs.EndsLemmas.{open_session-Some}
 use Rattle.courses.specs.Parts.{successes}
 use Rattle.courses.specs.SessionFacts.{AreTold}
-use Rattle.device_stack.specs.declared.change.Change.{Change}
 use Rattle.device_sim.specs.State.{State}
 use Rattle.zw_text.specs.declared.entry.Entry.{Entry}
 use Rattle.zw_text.specs.declared.entry.Outcome.{Outcome}
@@ -28,7 +27,7 @@ use Rattle.host_events.specs.Sessions.{command_by, open_command}
 use Rattle.host_facts.specs.Facts.{AreShown, Facts, IsInOrder}
 use Rattle.host_facts.specs.Laws.{HostLaws, IsUnderWay, numbers_for}
 use Rattle.host_facts.specs.Tables.{outcome_in, recorded}
-use Rattle.once_facts.specs.Tied.{IsTied, IsToldAs, MakesWhatIsTaken}
+use Rattle.once_facts.specs.Tied.{IsTied, MakesWhatIsTaken}
 use Rattle.once_facts.specs.ByTable.{OnceByTable}
 use Rattle.once_facts.proofs.Having.{all_has, all_of}
 use Rattle.once_facts.proofs.Carrying.{carried_has, has_carried, has_session, numbers_are, session_has, session_within, stands_front}
@@ -110,7 +109,6 @@ status_front told rest (suc before) status at = stands_front told rest before st
 -- ---- of one node
 
 module _ (commands : List Command) (state : NodeState) (order : IsInOrder commands state) (finals told : List ℕ) (are : AreTold state.book finals told) where
-
   told_by : (session number : ℕ) → session_at state.book.commands session ≡ Some number → IsFinal (outcome_in commands number)
       → (which : Option ℕ) → open_session state.book ≡ which → HasStatus told session
   told_by session number at is None e =
@@ -185,7 +183,6 @@ success_in past h number tables is = recorded_success (outcome_in h.commands num
 
 module _ (past : List Entry) (h : HostState) (node : ℕ) (device : State) (finals told : List ℕ) (facts : Facts past h) (tables : AreShown past h) (laws : HostLaws past)
     (tied : IsTied h.commands (node_of h.nodes node).book device finals told) (supervised : AllByRecursion IsSupervisedChange device.journal) where
-
   undone_in : (number : ℕ) → IsUndone (outcome number past) → IsUndone (outcome_in h.commands number)
   undone_in number is =
       recorded_undone (outcome_in h.commands number) (subst IsUndone (sym (tables.outcomes number)) (undone_recorded (outcome number past) is))

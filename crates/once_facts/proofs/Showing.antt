@@ -1,7 +1,6 @@
 -- A session that ended with success is shown to have changed its device.
-use Rattle.std.proofs.Common.{◌≡◌, ℕ, zero, suc, Bool, true, false, List, [], ◌∷◌, length, map, All, Option, Some, None, inl, inr, refl, sym, ap, subst, ◌∙◌, arith}
-use Rattle.std.specs.Prelude.{◌==◌, ◌||◌, nat_lt, ◌+◌, slice_get}
-use Rattle.std.specs.List.{AllByRecursion, flat_map}
+use Rattle.std.proofs.Common.{◌≡◌, ℕ, zero, suc, false, List, [], ◌∷◌, length, map, All, Option, Some, inl, inr, refl, sym, ap, subst, ◌∙◌, arith}
+use Rattle.std.specs.List.{AllByRecursion}
 use Rattle.std.proofs.lemmas.List.Elements.{recursion_from_All}
 use Rattle.zw_base.specs.declared.property.By.{By}
 use Rattle.zw_base.specs.declared.property.By.TheVariants.{Session}
@@ -12,7 +11,6 @@ use Rattle.zw_order.specs.declared.order.Order.{Order}
 use Rattle.supervision.specs.Host.{command_at as session_at}
 use Rattle.supervision.specs.declared.session.TheConstants.{SUCCESS}
 use Rattle.supervision.proofs.OnceLemmas.{All-slice_get}
-use Rattle.courses.specs.Parts.{successes}
 use Rattle.device_stack.specs.declared.change.Change.{Change}
 use Rattle.device_sim.specs.State.{State}
 use Rattle.device_course.specs.Ending.{HasEnded}
@@ -22,7 +20,7 @@ use Rattle.zw_text.specs.Transcript.{Made, applied, by_session, made}
 use Rattle.zw_laws.specs.Devices.{made_by}
 use Rattle.zw_laws.specs.Lists.{Has}
 use Rattle.zw_laws.specs.Once.{carried_by, commands_shown, sessions_by}
-use Rattle.host_orders.specs.Refusals.{IsFit, is_bad, is_bad_bulk}
+use Rattle.host_orders.specs.Refusals.{is_bad, is_bad_bulk}
 use Rattle.host_orders.specs.Settings.{config_settings, settings, settings_by}
 use Rattle.host_orders.specs.declared.actuator.Actuator.{Actuator}
 use Rattle.host_orders.specs.declared.actuator.Actuator.TheVariants.{Binary, Multilevel, Lock}

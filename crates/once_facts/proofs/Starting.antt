@@ -103,9 +103,9 @@ module _ (past : List Entry) (number : ℕ) where
       → IsBegunFor (past ++ e ∷ []) number
   one_more e carry end before started = elim (step e carry end
       (subst IsStarted (ap₂ outcome_by (one_shown (carried_at number) past e) (one_shown (ended_at number) past e)) started)) [
-    | inl was ↦ grows past (e ∷ []) number (before was)
-    | inr now ↦ now
-  ]
+        | inl was ↦ grows past (e ∷ []) number (before was)
+        | inr now ↦ now
+      ]
 
 -- ---- all of them
 

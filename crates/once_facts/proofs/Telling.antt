@@ -1,5 +1,5 @@
 -- Where the table is what the transcript shows, what holds by the table holds by the transcript.
-use Rattle.std.proofs.Common.{◌≡◌, ℕ, Bool, if◌then◌else◌, List, [], ◌∷◌, map, Option, Some, None, refl, sym, ap, ap₂, subst, ◌∙◌}
+use Rattle.std.proofs.Common.{◌≡◌, ℕ, if◌then◌else◌, List, [], ◌∷◌, map, Option, Some, None, refl, sym, ap, ap₂, subst, ◌∙◌}
 use Rattle.std.specs.List.{AllByRecursion}
 use Rattle.zw_base.specs.declared.property.Property.{Property}
 use Rattle.zw_base.specs.declared.property.Setting.{Setting}
@@ -8,14 +8,14 @@ use Rattle.device_stack.specs.State.{State, value_of}
 use Rattle.zw_text.specs.declared.entry.Entry.{Entry}
 use Rattle.zw_text.specs.declared.entry.Outcome.TheVariants.{Success}
 use Rattle.zw_text.specs.Transcript.{Command as Accepted, accepted, by_session, outcome, sessions}
-use Rattle.zw_laws.specs.Commands.{numbers_of, settings_for}
+use Rattle.zw_laws.specs.Commands.{settings_for}
 use Rattle.zw_laws.specs.Lists.{Has}
 use Rattle.zw_laws.specs.Once.{IsUndone, MakesWhatIsAsked, Once, carried_by, commands_applied}
 use Rattle.zw_laws.specs.Values.{ConfirmsLast, confirmed, confirmed_by, is_success, last_command, last_given, properties_changed}
 use Rattle.value_store.specs.Values.{stored_of}
 use Rattle.host_keep.specs.Kept.{or_else, value_among}
 use Rattle.host_events.specs.State.{Command, HostState}
-use Rattle.host_facts.specs.Laws.{HostLaws, numbers_for}
+use Rattle.host_facts.specs.Laws.{numbers_for}
 use Rattle.host_facts.specs.Stores.{StoresLaw, given_by}
 use Rattle.host_facts.specs.Tables.{taken_at}
 use Rattle.once_facts.specs.Tied.{MakesWhatIsTaken, settings_taken}

@@ -1,19 +1,18 @@
 -- A course ties both ends, and a host that starts again is tied as the one before.
-use Rattle.std.proofs.Common.{◌≡◌, ℕ, ◌+◌, ◌≤◌, List, length, Option, Some, None, inl, inr, refl, sym, ap, subst, ◌∙◌, arith}
+use Rattle.std.proofs.Common.{◌≡◌, ℕ, ◌≤◌, List, length, Some, inl, inr, refl, sym, ap, subst, ◌∙◌, arith}
 use Rattle.std.specs.List.{AllByRecursion}
 use Rattle.std.proofs.lemmas.Bool.{cases_eq}
-use Rattle.supervision.specs.Host.{HostBook, begun_of, open_session, command_at as session_at}
+use Rattle.supervision.specs.Host.{HostBook, begun_of, command_at as session_at}
 use Rattle.supervision.specs.Device.{Taken as TakenBy}
 use Rattle.supervision.specs.declared.session.TheConstants.{WORKING}
 use Rattle.courses.specs.Sessions.{Course}
-use Rattle.courses.specs.SessionFacts.{AreEnds, AreTold, CourseFacts}
+use Rattle.courses.specs.SessionFacts.{AreEnds, CourseFacts}
 use Rattle.device_stack.specs.declared.change.Change.{Change}
 use Rattle.device_sim.specs.State.{State}
 use Rattle.device_course.specs.Ending.{HasEnded}
 use Rattle.zw_text.specs.declared.entry.Outcome.{Outcome}
 use Rattle.zw_text.specs.Transcript.{by_session}
 use Rattle.zw_laws.specs.Once.{carried_by}
-use Rattle.host_keep.specs.Kept.{Taken}
 use Rattle.host_keep.specs.declared.final_status.FinalStatus.{FinalStatus}
 use Rattle.host_keep.specs.declared.final_status.FinalStatus.TheVariants as final
 use Rattle.host_nodes.specs.State.{node_of}

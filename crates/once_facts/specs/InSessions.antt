@@ -1,6 +1,6 @@
 -- Devices that change in sessions alone (Supervision Command Class; that a device which lists it makes nothing of a plain Set is this project's
 -- own rule).
-use Rattle.std.specs.Prelude.{◌≡◌, true, List}
+use Rattle.std.specs.Prelude.{◌≡◌, true}
 use Rattle.std.specs.List.{AllByRecursion}
 use Rattle.device_sim.specs.State.{State}
 use Rattle.zw_laws.specs.Nodes.{is_supervised}

@@ -1,5 +1,3 @@
-use Rattle.device_sim.specs.State.{State}
-use Rattle.device_sim.specs.Event.{DeviceEvent}
 use Rattle.once_facts.proofs.InSessions.{all_so, event_so, unchanged_so}
 use Rattle.once_facts.proofs.laws.devices_change_in_sessions.Goals as goal
 
