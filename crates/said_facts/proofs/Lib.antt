@@ -1,0 +1,4 @@
+mod Orders
+mod Plain
+mod Saying
+mod Reading

@@ -1,0 +1,46 @@
+//! The laws of orders that were said.
+
+ghost use Rattle.std.specs.Prelude.{◌≡◌, ℕ, Option, List, [], ◌++◌};
+ghost use Rattle.s0_crypto.specs.declared.key_pair.Keys.{Keys};
+ghost use Rattle.device_sim.specs.State.{State};
+ghost use Rattle.zw_text.specs.declared.entry.Entry.{Entry};
+ghost use Rattle.host_events.specs.State.{HostState};
+ghost use Rattle.host_facts.specs.Facts.{Facts};
+ghost use Rattle.zw_machine.specs.State.{Machine, first_machine};
+ghost use Rattle.once_facts.specs.ByTable.{IsTable};
+ghost use Rattle.said_facts.specs.Spoken.{Spoken, IsSpoken, AreSpoken, after, after_all, entries_of, transcript_of};
+ghost use Rattle.said_facts.specs.Said.{AllKnow, AreSaid, KnowsListing};
+
+use host_facts::{asides_keep_facts, laws_follow};
+use world_facts::the_machine_keeps_facts;
+
+/// Over any lines each order that is accepted stands directly behind the line that asks for it, and stays in the table as it was asked for.
+pub fn answers_stand_behind_their_lines()
+    ensures line { (listing : ℕ → List ℕ) (past : List Entry) (m : Machine) (spoken : Spoken) → Facts past m.host.state → AreSaid listing m.host.state.commands past →
+        KnowsListing listing past m.host.state → IsSpoken m spoken →
+        Facts (past ++ entries_of m spoken) (after m spoken).host.state × AreSaid listing (after m spoken).host.state.commands (past ++ entries_of m spoken) }
+    ensures lines { (listing : ℕ → List ℕ) (past : List Entry) (m : Machine) (lines : List Spoken) → Facts past m.host.state → AreSaid listing m.host.state.commands past →
+        AllKnow listing past m lines → AreSpoken m lines →
+        Facts (past ++ transcript_of m lines) (after_all m lines).host.state × AreSaid listing (after_all m lines).host.state.commands (past ++ transcript_of m lines) }
+{
+    the_machine_keeps_facts();
+    asides_keep_facts();
+}
+
+/// So the table is what the transcript shows of the orders of each node.
+pub fn tables_are_what_was_said()
+    ensures { (listing : ℕ → List ℕ) (past : List Entry) (h : HostState) (node : ℕ) → Facts past h → AreSaid listing h.commands past → IsTable listing h.commands node past }
+{
+    laws_follow();
+}
+
+/// From the beginning on: over any lines, whatever happens at each, where the host knows of each node the classes that the transcript shows.
+pub fn runs_have_their_tables()
+    ensures { (listing : ℕ → List ℕ) (keys : Keys) (records : Option (List (List ℕ))) (devices : List State) (lines : List Spoken) (node : ℕ) →
+        AllKnow listing [] (first_machine keys records devices) lines → AreSpoken (first_machine keys records devices) lines →
+        IsTable listing (after_all (first_machine keys records devices) lines).host.state.commands node (transcript_of (first_machine keys records devices) lines) }
+{
+    the_machine_keeps_facts();
+    answers_stand_behind_their_lines();
+    tables_are_what_was_said();
+}
