@@ -1,7 +1,7 @@
-mod Having
+pub mod Having
 mod Carrying
 mod Succeeding
-mod Starting
+pub mod Starting
 mod Once
 mod Valuing
 mod Confirming

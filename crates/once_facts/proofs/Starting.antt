@@ -127,7 +127,7 @@ where_for true node command n number e (inl is) =
 where_for true node command n number e (inr has) = absurd has
 where_for false node command n number e has = absurd has
 
-accepted_here : (n number : ℕ) (e : Entry) → Has (number_for n e) number → Has (node_at number e) n
+pub accepted_here : (n number : ℕ) (e : Entry) → Has (number_for n e) number → Has (node_at number e) n
 accepted_here n number (Accepted command node) has = where_for (node == n) node command n number refl has
 accepted_here n number e has = absurd has
 

@@ -11,7 +11,7 @@ ghost use Rattle.once_facts.specs.ByTable.{IsTable};
 ghost use Rattle.said_facts.specs.Spoken.{Spoken, IsSpoken, AreSpoken, after, after_all, entries_of, transcript_of};
 ghost use Rattle.said_facts.specs.Said.{AllKnow, AreSaid, KnowsListing};
 
-use host_facts::{asides_keep_facts, laws_follow};
+use host_facts::asides_keep_facts;
 use world_facts::the_machine_keeps_facts;
 
 /// Over any lines each order that is accepted stands directly behind the line that asks for it, and stays in the table as it was asked for.
@@ -30,9 +30,7 @@ pub fn answers_stand_behind_their_lines()
 /// So the table is what the transcript shows of the orders of each node.
 pub fn tables_are_what_was_said()
     ensures { (listing : ℕ → List ℕ) (past : List Entry) (h : HostState) (node : ℕ) → Facts past h → AreSaid listing h.commands past → IsTable listing h.commands node past }
-{
-    laws_follow();
-}
+{}
 
 /// From the beginning on: over any lines, whatever happens at each, where the host knows of each node the classes that the transcript shows.
 pub fn runs_have_their_tables()
