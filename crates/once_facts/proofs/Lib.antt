@@ -9,3 +9,4 @@ mod InSessions
 mod Tying
 mod Showing
 mod Telling
+mod Heading

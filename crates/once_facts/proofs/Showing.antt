@@ -1,6 +1,7 @@
 -- A session that ended with success is shown to have changed its device.
-use Rattle.std.proofs.Common.{◌≡◌, ℕ, zero, suc, false, List, [], ◌∷◌, length, map, All, Option, Some, inl, inr, refl, sym, ap, subst, ◌∙◌, arith}
-use Rattle.std.specs.List.{AllByRecursion}
+use Rattle.std.proofs.Common.{◌≡◌, ℕ, zero, suc, false, List, [], ◌∷◌, ◌++◌, length, map, All, Option, Some, inl, inr, refl, sym, ap, subst, ◌∙◌, arith}
+use Rattle.std.specs.List.{AllByRecursion, flat_map}
+use Rattle.std.proofs.lemmas.Grind.{flat_map-append}
 use Rattle.std.proofs.lemmas.List.Elements.{recursion_from_All}
 use Rattle.zw_base.specs.declared.property.By.{By}
 use Rattle.zw_base.specs.declared.property.By.TheVariants.{Session}
@@ -16,7 +17,8 @@ use Rattle.device_sim.specs.State.{State}
 use Rattle.device_course.specs.Ending.{HasEnded}
 use Rattle.device_facts.specs.Showing.{IsShown}
 use Rattle.zw_text.specs.declared.entry.Entry.{Entry}
-use Rattle.zw_text.specs.Transcript.{Made, applied, by_session, made}
+use Rattle.zw_text.specs.Transcript.{Made, applied, by_session, made, made_at}
+use Rattle.zw_text.proofs.Views.{shown-append}
 use Rattle.zw_laws.specs.Devices.{made_by}
 use Rattle.zw_laws.specs.Lists.{Has}
 use Rattle.zw_laws.specs.Once.{carried_by, commands_shown, sessions_by}
@@ -30,7 +32,7 @@ use Rattle.host_events.specs.Facts.{IsCommandOf, IsSound}
 use Rattle.host_facts.specs.Facts.{Facts}
 use Rattle.host_facts.specs.Tables.{taken_at, taken_by}
 use Rattle.once_facts.specs.Tied.{MakesWhatIsTaken, settings_taken}
-use Rattle.once_facts.proofs.Having.{all_has, has_shown}
+use Rattle.once_facts.proofs.Having.{all_has, has_left, has_shown}
 use Rattle.once_facts.proofs.Carrying.{carried_has, has_change, numbers_are, session_has}
 use Rattle.once_facts.proofs.Succeeding.{success_has}
 
@@ -92,10 +94,18 @@ change_shown past device change session shown among is some =
     = subst (λ (l : List Made). Has l one) (sym shown) (has_shown made_by device.journal change one among (made_has change.settings change.by some.item some.among)) in
     has_shown (λ (made : Made). by_session made.by) (made device.node past) one session entered (subst (λ (b : By). Has (by_session b) session) (sym is) (inl refl))
 
-module _ (past : List Entry) (h : HostState) (device : State) (finals : List ℕ) (session number : ℕ) (facts : Facts past h) (shown : IsShown past device) (ended : HasEnded device finals)
+-- and stays so
+applied_more : (past more : List Entry) (node session : ℕ) → Has (applied node past) session → Has (applied node (past ++ more)) session
+applied_more past more node session has =
+    subst (λ (l : List ℕ). Has l session)
+    (sym (ap (λ (l : List Made). flat_map (λ (made : Made). by_session made.by) l) (shown-append (made_at node) past more)
+    ∙ flat_map-append (λ (made : Made). by_session made.by) (made node past) (made node more)))
+    (has_left (applied node past) (applied node more) session has)
+
+module _ (past more : List Entry) (h : HostState) (device : State) (finals : List ℕ) (session number : ℕ) (facts : Facts (past ++ more) h) (shown : IsShown past device) (ended : HasEnded device finals)
     (all : AllByRecursion (MakesWhatIsTaken h.commands (node_of h.nodes device.node).book.commands) device.journal)
     (at : session_at (node_of h.nodes device.node).book.commands session ≡ Some number) (success : session_at finals session ≡ Some SUCCESS) where
-  pub ending_shown : Has (commands_shown device.node past) number
+  pub ending_shown : Has (commands_shown device.node (past ++ more)) number
   ending_shown =
       let begun = (node_of h.nodes device.node).book.commands in
       let by_it : Has (sessions_by device.journal) session
@@ -108,6 +118,6 @@ module _ (past : List Entry) (h : HostState) (device : State) (finals : List ℕ
       let of_node = all_has (IsCommandOf h.commands device.node) begun number (recursion_from_All (IsCommandOf h.commands device.node) begun (facts.host.owns device.node).sessions)
       (session_has begun session number at) in
       let some : IsSome one.change.settings = subst (λ (l : List Setting). IsSome l) (sym same) (command_sets h device.node number facts.host.commands of_node) in
-      let shown_by = change_shown past device one.change session shown one.among one.is some in
-      subst (λ (l : List ℕ). Has (carried_by l (applied device.node past)) number) (sym (facts.begun device.node))
-      (carried_has begun (applied device.node past) session number shown_by at)
+      let shown_by = applied_more past more device.node session (change_shown past device one.change session shown one.among one.is some) in
+      subst (λ (l : List ℕ). Has (carried_by l (applied device.node (past ++ more))) number) (sym (facts.begun device.node))
+      (carried_has begun (applied device.node (past ++ more)) session number shown_by at)

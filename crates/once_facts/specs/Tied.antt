@@ -1,7 +1,7 @@
 -- How the tables of a host and a device are tied, once all that was on its way between them has been judged (this project's own rule over the
 -- Supervision Command Class): the device ended its sessions with some final statuses, the host was told a front of them, and each change made what
 -- the command of its session asked for.
-use Rattle.std.specs.Prelude.{◌≡◌, ℕ, ◌≤◌, List, [], length, Option, Some, None}
+use Rattle.std.specs.Prelude.{◌≡◌, ℕ, ◌≤◌, true, List, [], length, Option, Some, None}
 use Rattle.std.specs.List.{AllByRecursion}
 use Rattle.zw_base.specs.declared.property.Setting.{Setting}
 use Rattle.supervision.specs.Host.{HostBook, begun_of, command_at as session_at}
@@ -11,12 +11,14 @@ use Rattle.device_sim.specs.State.{State}
 use Rattle.device_course.specs.Ending.{HasEnded}
 use Rattle.zw_text.specs.declared.entry.Outcome.{Outcome}
 use Rattle.zw_text.specs.Transcript.{by_session}
+use Rattle.zw_laws.specs.Nodes.{device_of, is_supervised}
 use Rattle.zw_laws.specs.Once.{carried_by}
 use Rattle.host_orders.specs.Settings.{settings}
 use Rattle.host_keep.specs.Kept.{Taken}
 use Rattle.host_keep.specs.Status.{status_byte}
 use Rattle.host_keep.specs.declared.final_status.FinalStatus.{FinalStatus}
-use Rattle.host_events.specs.State.{Command}
+use Rattle.host_nodes.specs.State.{node_of}
+use Rattle.host_events.specs.State.{Command, HostState}
 use Rattle.host_events.specs.After.{outcome_of}
 use Rattle.host_facts.specs.Tables.{outcome_in, taken_at}
 
@@ -54,3 +56,13 @@ pub record IsTied (commands : List Command) (book : HostBook) (device : State) (
   pub told_are : AreTold book finals told
   pub outcomes : AreOutcomes commands book.commands told
   pub made : AllByRecursion (MakesWhatIsTaken commands book.commands) device.journal
+
+-- so a host and the device of a node, with some statuses
+pub record AreTied (h : HostState) (node : ℕ) (device : State) : Type 0 where
+  pub finals : List ℕ
+  pub told : List ℕ
+  pub tied : IsTied h.commands (node_of h.nodes node).book device finals told
+
+-- and each device that knows Supervision, where it is the first of its node
+abbrev pub AllTied : HostState → List State → Type 0
+AllTied h devices = (node : ℕ) (device : State) → device_of node devices ≡ Some device → is_supervised device ≡ true → AreTied h node device

@@ -1,6 +1,6 @@
 //! What follows of a host and a device that are tied.
 
-ghost use Rattle.std.specs.Prelude.{◌≡◌, ℕ, List, Some};
+ghost use Rattle.std.specs.Prelude.{◌≡◌, ℕ, List, ◌++◌, Some};
 ghost use Rattle.std.specs.List.{AllByRecursion};
 ghost use Rattle.supervision.specs.Host.{command_at as session_at};
 ghost use Rattle.supervision.specs.declared.session.TheConstants.{SUCCESS};
@@ -13,12 +13,14 @@ ghost use Rattle.device_facts.specs.GoingOn.{GoOn};
 ghost use Rattle.device_facts.specs.Showing.{AreUnchanged, IsShown};
 ghost use Rattle.zw_text.specs.declared.entry.Entry.{Entry};
 ghost use Rattle.zw_laws.specs.Lists.{Has};
-ghost use Rattle.zw_laws.specs.Once.{IsSupervisedChange, Once, commands_shown};
+ghost use Rattle.zw_laws.specs.Headline.{Headline};
+ghost use Rattle.zw_laws.specs.Nodes.{listing_of};
+ghost use Rattle.zw_laws.specs.Once.{IsSupervisedChange, Once, SucceedsAfterChange, commands_shown};
 ghost use Rattle.zw_laws.specs.Values.{ConfirmsLast};
 ghost use Rattle.host_nodes.specs.State.{node_of};
 ghost use Rattle.host_events.specs.State.{HostState, Command};
 ghost use Rattle.host_facts.specs.Facts.{Facts, StartsAs};
-ghost use Rattle.once_facts.specs.Tied.{AreOutcomes, IsTied, MakesWhatIsTaken};
+ghost use Rattle.once_facts.specs.Tied.{AllTied, AreOutcomes, IsTied, MakesWhatIsTaken};
 ghost use Rattle.once_facts.specs.ByTable.{ConfirmsByTable, IsTable, OnceByTable};
 ghost use Rattle.once_facts.specs.InSessions.{ChangesInSessions};
 
@@ -71,12 +73,13 @@ pub fn ties_confirm_what_was_set()
     values_are_in_order();
 }
 
-/// The command of a session that a device ended with success is shown to have changed it, where the transcript shows the device's changes.
+/// The command of a session that a device ended with success is shown to have changed it, once the transcript has shown the device's changes,
+/// whatever was entered since.
 pub fn endings_are_shown()
-    ensures { (past : List Entry) (h : HostState) (device : State) (finals : List ℕ) (session number : ℕ) → Facts past h → IsShown past device → HasEnded device finals →
+    ensures { (past more : List Entry) (h : HostState) (device : State) (finals : List ℕ) (session number : ℕ) → Facts (past ++ more) h → IsShown past device → HasEnded device finals →
         AllByRecursion (MakesWhatIsTaken h.commands (node_of h.nodes device.node).book.commands) device.journal →
         session_at (node_of h.nodes device.node).book.commands session ≡ Some number → session_at finals session ≡ Some SUCCESS →
-        Has (commands_shown device.node past) number }
+        Has (commands_shown device.node (past ++ more)) number }
 {}
 
 /// Where the host's table is what the transcript shows of the orders of a node, these are the laws of transcripts.
@@ -87,4 +90,16 @@ pub fn laws_of_transcripts_follow()
         ConfirmsByTable node past h.store device → ConfirmsLast listing node past device }
 {
     laws_follow();
+}
+
+/// So the headline follows of a host and its devices that are tied: where each success was reported after its change, devices changed in sessions
+/// alone, and the host's table is what the transcript shows of orders.
+pub fn headlines_follow()
+    ensures { (past : List Entry) (h : HostState) (before devices : List State) → Facts past h → SucceedsAfterChange past → AllTied h devices → AllByRecursion ChangesInSessions devices →
+        ((node : ℕ) → IsTable (listing_of before) h.commands node past) → Headline before devices past }
+{
+    laws_follow();
+    ties_keep_once_only();
+    ties_confirm_what_was_set();
+    laws_of_transcripts_follow();
 }
