@@ -1,0 +1,4 @@
+mod Others
+mod Shown
+mod Succeeding
+mod Running

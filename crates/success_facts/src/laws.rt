@@ -1,0 +1,49 @@
+//! The law of successes.
+
+ghost use Rattle.std.specs.Prelude.{ℕ, Option, List, [], ◌++◌};
+ghost use Rattle.std.specs.List.{AllByRecursion};
+ghost use Rattle.s0_crypto.specs.declared.key_pair.Keys.{Keys};
+ghost use Rattle.device_sim.specs.State.{State};
+ghost use Rattle.device_facts.specs.Showing.{AreApart, AreUnchanged, IsShown};
+ghost use Rattle.zw_text.specs.declared.entry.Entry.{Entry};
+ghost use Rattle.zw_laws.specs.Once.{SucceedsAfterChange};
+ghost use Rattle.host_facts.specs.Facts.{Facts};
+ghost use Rattle.zw_machine.specs.State.{Machine, first_machine};
+ghost use Rattle.zw_machine.specs.Events.{Event, happens, entries, May};
+ghost use Rattle.world_facts.specs.Restarts.{StartsWell};
+ghost use Rattle.said_facts.specs.Spoken.{Spoken, AreSpoken, transcript_of};
+ghost use Rattle.success_facts.specs.Truly.{IsTrue, LinesAreTrue};
+
+use device_facts::{changes_are_shown, devices_go_on, devices_stay_the_same};
+use host_facts::{asides_keep_facts, events_keep_facts};
+use once_facts::endings_are_shown;
+use world_facts::the_machine_keeps_facts;
+
+/// Where reports of success are true, an event enters each success behind the change, and the changes that the transcript shows are those of the
+/// devices' journals after it.
+pub fn successes_follow_changes()
+    ensures each { (past : List Entry) (m : Machine) (event : Event) → Facts past m.host.state → AreApart m.outside.devices → AllByRecursion (IsShown past) m.outside.devices →
+        May m event → StartsWell m event → IsTrue m event → SucceedsAfterChange past → SucceedsAfterChange (past ++ entries m event) }
+    ensures shown { (past : List Entry) (m : Machine) (event : Event) → AreApart m.outside.devices → AllByRecursion (IsShown past) m.outside.devices → May m event →
+        AllByRecursion (IsShown (past ++ entries m event)) (happens m event).outside.devices }
+{
+    changes_are_shown();
+    devices_go_on();
+    devices_stay_the_same();
+    events_keep_facts();
+    asides_keep_facts();
+    endings_are_shown();
+}
+
+/// So over any lines from the beginning on, with devices that have not changed yet, of which no two are of one node.
+pub fn runs_report_after_the_change()
+    ensures { (keys : Keys) (records : Option (List (List ℕ))) (devices : List State) (lines : List Spoken) → AreUnchanged devices → AreApart devices →
+        AreSpoken (first_machine keys records devices) lines → LinesAreTrue (first_machine keys records devices) lines →
+        SucceedsAfterChange (transcript_of (first_machine keys records devices) lines) }
+{
+    changes_are_shown();
+    devices_go_on();
+    asides_keep_facts();
+    the_machine_keeps_facts();
+    successes_follow_changes();
+}
