@@ -1,4 +1,4 @@
-//! The law of successes.
+//! The laws of successes and of the headline.
 
 ghost use Rattle.std.specs.Prelude.{ℕ, Option, List, [], ◌++◌};
 ghost use Rattle.std.specs.List.{AllByRecursion};
@@ -6,24 +6,28 @@ ghost use Rattle.s0_crypto.specs.declared.key_pair.Keys.{Keys};
 ghost use Rattle.device_sim.specs.State.{State};
 ghost use Rattle.device_facts.specs.Showing.{AreApart, AreUnchanged, IsShown};
 ghost use Rattle.zw_text.specs.declared.entry.Entry.{Entry};
+ghost use Rattle.zw_laws.specs.Headline.{Headline};
+ghost use Rattle.zw_laws.specs.Nodes.{listing_of};
 ghost use Rattle.zw_laws.specs.Once.{SucceedsAfterChange};
 ghost use Rattle.host_facts.specs.Facts.{Facts};
 ghost use Rattle.zw_machine.specs.State.{Machine, first_machine};
 ghost use Rattle.zw_machine.specs.Events.{Event, happens, entries, May};
-ghost use Rattle.world_facts.specs.Restarts.{StartsWell};
-ghost use Rattle.said_facts.specs.Spoken.{Spoken, AreSpoken, transcript_of};
-ghost use Rattle.success_facts.specs.Truly.{IsTrue, LinesAreTrue};
+ghost use Rattle.once_facts.specs.Tied.{AllTied};
+ghost use Rattle.said_facts.specs.Said.{AllKnow};
+ghost use Rattle.said_facts.specs.Spoken.{Spoken, AreSpoken, after_all, transcript_of};
+ghost use Rattle.headline_facts.specs.Truly.{IsTrue, LinesAreTrue};
 
 use device_facts::{changes_are_shown, devices_go_on, devices_stay_the_same};
 use host_facts::{asides_keep_facts, events_keep_facts};
-use once_facts::endings_are_shown;
+use once_facts::{devices_change_in_sessions, endings_are_shown, headlines_follow};
+use said_facts::{answers_stand_behind_their_lines, runs_have_their_tables};
 use world_facts::the_machine_keeps_facts;
 
 /// Where reports of success are true, an event enters each success behind the change, and the changes that the transcript shows are those of the
 /// devices' journals after it.
 pub fn successes_follow_changes()
-    ensures each { (past : List Entry) (m : Machine) (event : Event) → Facts past m.host.state → AreApart m.outside.devices → AllByRecursion (IsShown past) m.outside.devices →
-        May m event → StartsWell m event → IsTrue m event → SucceedsAfterChange past → SucceedsAfterChange (past ++ entries m event) }
+    ensures each { (past : List Entry) (m : Machine) (event : Event) → Facts past m.host.state → AllByRecursion (IsShown past) m.outside.devices →
+        May m event → IsTrue m event → SucceedsAfterChange past → SucceedsAfterChange (past ++ entries m event) }
     ensures shown { (past : List Entry) (m : Machine) (event : Event) → AreApart m.outside.devices → AllByRecursion (IsShown past) m.outside.devices → May m event →
         AllByRecursion (IsShown (past ++ entries m event)) (happens m event).outside.devices }
 {
@@ -46,4 +50,22 @@ pub fn runs_report_after_the_change()
     asides_keep_facts();
     the_machine_keeps_facts();
     successes_follow_changes();
+}
+
+/// The headline, over any lines from the beginning on, with devices that have not changed yet, of which no two are of one node: where each report of success is
+/// true, the host knows of each node the classes that the transcript shows, and in the end each device that knows Supervision is tied to the host.
+pub fn runs_have_the_headline()
+    ensures { (keys : Keys) (records : Option (List (List ℕ))) (devices : List State) (lines : List Spoken) → AreUnchanged devices → AreApart devices →
+        AreSpoken (first_machine keys records devices) lines → LinesAreTrue (first_machine keys records devices) lines →
+        AllKnow (listing_of devices) [] (first_machine keys records devices) lines →
+        AllTied (after_all (first_machine keys records devices) lines).host.state (after_all (first_machine keys records devices) lines).outside.devices →
+        Headline devices (after_all (first_machine keys records devices) lines).outside.devices (transcript_of (first_machine keys records devices) lines) }
+{
+    devices_go_on();
+    devices_change_in_sessions();
+    the_machine_keeps_facts();
+    answers_stand_behind_their_lines();
+    runs_have_their_tables();
+    runs_report_after_the_change();
+    headlines_follow();
 }

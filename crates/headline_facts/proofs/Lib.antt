@@ -2,3 +2,4 @@ mod Others
 mod Shown
 mod Succeeding
 mod Running
+mod Heading
