@@ -1,5 +1,5 @@
 -- Devices go on over lines.
-use Rattle.std.proofs.Common.{List, [], ◌∷◌, subst}
+use Rattle.std.proofs.Common.{List, [], ◌∷◌}
 use Rattle.std.specs.List.{AllByRecursion}
 use Rattle.device_sim.specs.State.{State}
 use Rattle.device_facts.specs.GoingOn.{GoOn}

@@ -1,10 +1,10 @@
 -- Which events of a host enter no success: all but the end of a session with success.
-use Rattle.std.proofs.Common.{◌≡◌, ℕ, Bool, true, false, Option, Some, None, List, [], ◌∷◌, ◌++◌, map, sym, subst}
+use Rattle.std.proofs.Common.{ℕ, Bool, true, false, Option, Some, None, List, [], ◌∷◌, ◌++◌}
 use Rattle.std.specs.List.{AllByRecursion}
 use Rattle.zw_base.specs.declared.property.Setting.{Setting}
 use Rattle.zw_text.specs.declared.entry.Ended.TheVariants as ended
 use Rattle.zw_text.specs.declared.entry.Entry.{Entry}
-use Rattle.zw_text.specs.declared.entry.Entry.TheVariants.{Out, Store}
+use Rattle.zw_text.specs.declared.entry.Entry.TheVariants.{Out}
 use Rattle.serial_frame.specs.Frame.{FrameParts}
 use Rattle.serial_frame.specs.declared.item.Item.{Item}
 use Rattle.serial_frame.specs.declared.item.Item.TheVariants.{Good as good_item, Refused as refused_item}
@@ -29,8 +29,8 @@ use Rattle.host_events.specs.State.{HostState, command_at, node_of}
 use Rattle.host_events.specs.Sessions.{open_command, settings_with}
 use Rattle.host_events.specs.Ends.{PartEnd, Good, Passed_over, Bad, asleep_entry, attempt_entries, end_entries, end_entries_if, failed_entry, neighbours_entry, out_entry, part_end, part_entries, task_entries}
 use Rattle.host_events.specs.After.{gives_up, is_full, is_held, line_ticked, requests_do}
-use Rattle.host_events.specs.Outs.{answer_to, copy_out, dropped_if, failing_entries, held_entries, noted, outs, request_entries, stored_entries}
-use Rattle.host_events.specs.Events.{HostEvent, Accepts, Cancels, Joins, Queues, Queues_interview, Queues_probe, Hears, Requests_do, Interviews, Interview_unkept, Unreads, Is_unkept, Reports_old, Works, Finishes, Offers, Gives, Spends, Spends_unread, Takes_nonce, Notifies, Resends, Hears_value, Has_no_room, Line_ticks, Node_ticks, Queues_no_more, Drops_no_more, Submits_abort, Submits_front, Starts, Gives_text, Gives_segment, Begins, Begin_unkept}
+use Rattle.host_events.specs.Outs.{answer_to, copy_out, dropped_if, failing_entries, held_entries, noted, request_entries, stored_entries}
+use Rattle.host_events.specs.Events.{HostEvent, Accepts, Cancels, Hears, Requests_do, Interviews, Interview_unkept, Unreads, Is_unkept, Reports_old, Finishes, Offers, Gives, Spends_unread, Notifies, Resends, Hears_value, Has_no_room, Line_ticks, Node_ticks, Drops_no_more, Begins, Begin_unkept}
 use Rattle.host_facts.specs.Entries.{IsAside, entries_at, notes_of}
 use Rattle.host_facts.proofs.Lists.{all-append}
 

@@ -7,6 +7,4 @@
 
 mod laws;
 
-pub use laws::{
-    runs_have_the_headline, runs_report_after_the_change, successes_follow_changes,
-};
+pub use laws::{runs_have_the_headline, runs_report_after_the_change, successes_follow_changes};

@@ -18,7 +18,7 @@ use Rattle.host_node.specs.declared.attempt.AttemptEnd.{AttemptEnd}
 use Rattle.host_node.specs.declared.attempt.AttemptEnd.TheVariants.{NoneRan, Again, Unanswered}
 use Rattle.host_node.specs.Steps.{attempt_end, tick_end}
 use Rattle.host_keep.specs.Kept.{Taken}
-use Rattle.host_events.specs.State.{HostState, Command, command_at, node_of, set_at, with_outcome}
+use Rattle.host_events.specs.State.{HostState, Command, node_of, set_at, with_outcome}
 use Rattle.host_events.specs.Sessions.{open_command}
 use Rattle.host_events.specs.Ends.{PartEnd, Good, Passed_over, Bad, part_end, after_part, after_task, after_end, after_end_if, attempt_ended}
 use Rattle.host_events.specs.After.{after, requests_do, is_full, is_held, holding, finishing, giving, offering, gives_up, line_ticked, failing_if}

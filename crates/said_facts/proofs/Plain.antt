@@ -10,7 +10,6 @@ use Rattle.host_orders.specs.declared.carriage.Carriage.{Carriage}
 use Rattle.host_orders.specs.declared.refused.Refused.{Refused}
 use Rattle.host_events.specs.State.{HostState}
 use Rattle.host_events.specs.Events.{HostEvent, Accepts}
-use Rattle.host_events.specs.After.{after}
 use Rattle.host_events.specs.Ticking.{tick_events}
 use Rattle.host_facts.proofs.Lists.{all-append}
 use Rattle.outer_events.specs.Events.{OuterEvent, Begins_line}

@@ -1,15 +1,14 @@
 -- What the transcript shows of the orders of a node is what the table says.
-use Rattle.std.proofs.Common.{◌≡◌, ◌⊎◌, ℕ, ◌==◌, Bool, true, false, if◌then◌else◌, List, [], ◌∷◌, ◌++◌, map, Option, Some, None, inl, inr, refl, sym, ap, ap₂, subst, ◌∙◌, append_assoc, append-nil}
+use Rattle.std.proofs.Common.{◌≡◌, ℕ, ◌==◌, Bool, true, false, if◌then◌else◌, List, [], ◌∷◌, ◌++◌, Option, Some, None, inl, inr, refl, sym, ap, ap₂, subst, ◌∙◌, append_assoc, append-nil}
 use Rattle.std.specs.List.{AllByRecursion, flat_map}
 use Rattle.std.proofs.lemmas.Bool.{eq-eqb, eqb-true, eqb-false}
 use Rattle.std.proofs.lemmas.List.{map-append}
-use Rattle.zw_base.specs.declared.property.Setting.{Setting}
 use Rattle.zw_order.specs.declared.order.Order.{Order}
 use Rattle.zw_text.specs.declared.line.Line.{Line}
 use Rattle.zw_text.specs.declared.line.Line.TheVariants.{Command as Commanded}
 use Rattle.zw_text.specs.declared.entry.Entry.{Entry}
 use Rattle.zw_text.specs.declared.entry.Entry.TheVariants.{Accepted}
-use Rattle.zw_text.specs.Transcript.{Accepting, Command as Shown, accepted, accepted_at, accepted_number, accepted_numbers, accepting, folded, line_behind, line_last, line_of, not_accepting, numbered, order_for}
+use Rattle.zw_text.specs.Transcript.{Accepting, Command as Shown, accepted, accepted_at, accepted_number, accepted_numbers, accepting, folded, line_behind, line_last, not_accepting, numbered, order_for}
 use Rattle.zw_text.proofs.Views.{folded-append}
 use Rattle.zw_laws.specs.Commands.{before_accepted, classes_for, numbers_of, order_of, settings_by, settings_for}
 use Rattle.zw_laws.specs.Lists.{EachAfter, Has}

@@ -1,5 +1,5 @@
 -- A line keeps what is said of the orders before it, and adds the one that it asks for.
-use Rattle.std.proofs.Common.{◌≡◌, ℕ, zero, suc, ◌+◌, Bool, if◌then◌else◌, List, [], ◌∷◌, ◌++◌, length, Option, Some, None, unwrap_or, inl, inr, refl, sym, ap, subst, ◌∙◌, append_assoc, append-nil, arith}
+use Rattle.std.proofs.Common.{◌≡◌, ℕ, ◌+◌, Bool, if◌then◌else◌, List, [], ◌∷◌, ◌++◌, length, Option, Some, unwrap_or, inl, inr, refl, sym, ap, subst, ◌∙◌, append_assoc, append-nil, arith}
 use Rattle.std.specs.List.{AllByRecursion, list_any}
 use Rattle.std.proofs.lemmas.List.{length-append}
 use Rattle.zw_order.specs.declared.order.Order.{Order}
@@ -10,18 +10,15 @@ use Rattle.zw_text.specs.declared.entry.Entry.TheVariants.{Accepted, Said}
 use Rattle.zw_text.specs.declared.entry.Outcome.TheVariants.{Waiting}
 use Rattle.zw_text.specs.Transcript.{accepted_number, accepted_numbers, interview_at, interviews, line_behind, line_last, line_of}
 use Rattle.zw_text.proofs.Views.{folded-append, shown-append}
-use Rattle.zw_laws.specs.Lists.{EachAfter}
 use Rattle.zw_laws.specs.Nodes.{host_list, known_at_first, known_classes}
 use Rattle.host_keep.specs.Kept.{Taken}
 use Rattle.host_orders.specs.Classes.{actuator_of}
-use Rattle.host_orders.specs.Wrapping.{carriage_of}
 use Rattle.host_orders.specs.declared.carriage.Carriage.{Carriage}
-use Rattle.host_nodes.specs.State.{node_of}
 use Rattle.host_events.specs.State.{Command, HostState}
 use Rattle.host_events.specs.Events.{HostEvent, Accepts}
 use Rattle.host_events.specs.May.{IsAccepted}
 use Rattle.host_events.specs.After.{after as host_after}
-use Rattle.host_events.specs.Did.{after_all as host_after_all, MayAll as MayAllHost}
+use Rattle.host_events.specs.Did.{after_all as host_after_all}
 use Rattle.host_facts.specs.Entries.{IsAside}
 use Rattle.host_facts.specs.Facts.{Facts}
 use Rattle.host_facts.specs.Tables.{taken_at}
