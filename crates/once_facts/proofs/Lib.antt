@@ -7,6 +7,7 @@ mod Valuing
 mod Confirming
 mod InSessions
 mod Tying
+mod Going
 mod Showing
 mod Telling
 mod Heading

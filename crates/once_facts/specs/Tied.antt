@@ -1,7 +1,7 @@
 -- How the tables of a host and a device are tied, once all that was on its way between them has been judged (this project's own rule over the
 -- Supervision Command Class): the device ended its sessions with some final statuses, the host was told a front of them, and each change made what
 -- the command of its session asked for.
-use Rattle.std.specs.Prelude.{◌≡◌, ℕ, ◌≤◌, true, List, [], length, Option, Some, None}
+use Rattle.std.specs.Prelude.{◌≡◌, ℕ, ◌≤◌, true, List, [], length, Option, Some, None, IsSome}
 use Rattle.std.specs.List.{AllByRecursion}
 use Rattle.zw_base.specs.declared.property.Setting.{Setting}
 use Rattle.supervision.specs.Host.{HostBook, begun_of, command_at as session_at}
@@ -46,6 +46,16 @@ settings_taken (Some taken) = settings taken.carriage.actuator taken.order
 abbrev pub MakesWhatIsTaken : List Command → List ℕ → Change → Type 0
 MakesWhatIsTaken commands begun change =
     AllByRecursion (λ number. change.settings ≡ settings_taken (taken_at commands number)) (carried_by begun (by_session change.by))
+
+-- ---- as a host goes on
+
+-- a number is that of a command that was taken
+abbrev pub IsTaken : List Command → ℕ → Type 0
+IsTaken commands number = IsSome (taken_at commands number)
+
+-- a command that was taken stays so
+abbrev pub KeepsOrders : List Command → List Command → Type 0
+KeepsOrders old new = (number : ℕ) (taken : Taken) → taken_at old number ≡ Some taken → taken_at new number ≡ Some taken
 
 -- ---- both ends
 

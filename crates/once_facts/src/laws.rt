@@ -1,7 +1,10 @@
 //! What follows of a host and a device that are tied.
 
-ghost use Rattle.std.specs.Prelude.{◌≡◌, ℕ, List, ◌++◌, Some};
+ghost use Rattle.std.specs.Prelude.{◌≡◌, ℕ, ◌+◌, ◌≤◌, List, [], ◌∷◌, ◌++◌, length, Some};
 ghost use Rattle.std.specs.List.{AllByRecursion};
+ghost use Rattle.zw_base.specs.declared.property.By.TheVariants.{Session};
+ghost use Rattle.zw_base.specs.declared.property.Setting.{Setting};
+ghost use Rattle.device_stack.specs.declared.change.Change.{Change};
 ghost use Rattle.supervision.specs.Host.{command_at as session_at};
 ghost use Rattle.supervision.specs.declared.session.TheConstants.{SUCCESS};
 ghost use Rattle.courses.specs.Sessions.{Course};
@@ -19,14 +22,18 @@ ghost use Rattle.zw_laws.specs.Once.{IsSupervisedChange, Once, SucceedsAfterChan
 ghost use Rattle.zw_laws.specs.Values.{ConfirmsLast};
 ghost use Rattle.host_nodes.specs.State.{node_of};
 ghost use Rattle.host_events.specs.State.{HostState, Command};
+ghost use Rattle.host_events.specs.After.{outcome_of};
 ghost use Rattle.host_facts.specs.Facts.{Facts, StartsAs};
-ghost use Rattle.once_facts.specs.Tied.{AllTied, AreOutcomes, IsTied, MakesWhatIsTaken};
+ghost use Rattle.host_facts.specs.Tables.{outcome_in, taken_at};
+ghost use Rattle.host_keep.specs.Status.{status_byte};
+ghost use Rattle.host_keep.specs.declared.final_status.FinalStatus.{FinalStatus};
+ghost use Rattle.once_facts.specs.Tied.{AllTied, AreOutcomes, IsTaken, IsTied, KeepsOrders, MakesWhatIsTaken, settings_taken};
 ghost use Rattle.once_facts.specs.ByTable.{ConfirmsByTable, IsTable, OnceByTable};
 ghost use Rattle.once_facts.specs.InSessions.{ChangesInSessions};
 
 use device_facts::devices_stay_the_same;
 use device_sim::when_changes_come;
-use host_facts::{laws_follow, values_are_in_order};
+use host_facts::{laws_follow, values_are_in_order, what_is_over_stays};
 
 /// A course that keeps its facts ties the host's book to a device that ended its sessions as the course has it, where outcomes are those that the
 /// host was told and changes make what was asked for.
@@ -40,6 +47,24 @@ pub fn restarts_keep_ties()
     ensures { (old new : HostState) (node : ℕ) (device : State) (finals told : List ℕ) → StartsAs old new →
         IsTied old.commands (node_of old.nodes node).book device finals told → IsTied new.commands (node_of new.nodes node).book device finals told }
 {}
+
+/// What a tie says of outcomes and changes goes on. Outcomes that the host was told stay while it goes on, whatever it does and however often it starts
+/// again; one more is told as the next session comes to its status. What changes made stays while the table keeps orders and sessions are
+/// added; and one more change by a session is of the settings that the table has for it.
+pub fn ties_go_on()
+    ensures outcomes { (past more : List Entry) (old new : HostState) (begun added told : List ℕ) → Facts past old → Facts (past ++ more) new → length told ≤ length begun →
+        AreOutcomes old.commands begun told → AreOutcomes new.commands (begun ++ added) told }
+    ensures told { (commands : List Command) (begun told : List ℕ) (number : ℕ) (status : FinalStatus) → AreOutcomes commands begun told →
+        session_at begun (length told + 1) ≡ Some number → outcome_in commands number ≡ outcome_of status → AreOutcomes commands begun (told ++ status_byte status ∷ []) }
+    ensures made { (old new : List Command) (begun added : List ℕ) (device : State) (finals : List ℕ) → KeepsOrders old new → HasEnded device finals → length finals ≤ length begun →
+        AllByRecursion (IsTaken old) begun → AllByRecursion (MakesWhatIsTaken old begun) device.journal → AllByRecursion (MakesWhatIsTaken new (begun ++ added)) device.journal }
+    ensures changed { (commands : List Command) (begun : List ℕ) (journal : List Change) (session number : ℕ) (settings : List Setting) →
+        AllByRecursion (MakesWhatIsTaken commands begun) journal → session_at begun session ≡ Some number → settings ≡ settings_taken (taken_at commands number) →
+        AllByRecursion (MakesWhatIsTaken commands begun) (journal ++ record { by = Session session; settings = settings } ∷ []) }
+{
+    laws_follow();
+    what_is_over_stays();
+}
 
 /// A device that knows Supervision makes no change without a session, but by hand: nor does one that goes on from there, nor many, each at its
 /// place; and one that has not changed yet has made none.

@@ -1,4 +1,5 @@
 mod Orders
+mod Keeping
 mod Plain
 mod Saying
 mod Reading

@@ -5,14 +5,25 @@ ghost use Rattle.s0_crypto.specs.declared.key_pair.Keys.{Keys};
 ghost use Rattle.device_sim.specs.State.{State};
 ghost use Rattle.zw_text.specs.declared.entry.Entry.{Entry};
 ghost use Rattle.host_events.specs.State.{HostState};
+ghost use Rattle.host_events.specs.Events.{HostEvent};
+ghost use Rattle.host_events.specs.After.{after as host_after};
 ghost use Rattle.host_facts.specs.Facts.{Facts};
 ghost use Rattle.zw_machine.specs.State.{Machine, first_machine};
+ghost use Rattle.zw_machine.specs.Events.{Event, happens};
+ghost use Rattle.world_facts.specs.Restarts.{StartsWell};
+ghost use Rattle.once_facts.specs.Tied.{KeepsOrders};
 ghost use Rattle.once_facts.specs.ByTable.{IsTable};
 ghost use Rattle.said_facts.specs.Spoken.{Spoken, IsSpoken, AreSpoken, after, after_all, entries_of, transcript_of};
 ghost use Rattle.said_facts.specs.Said.{AllKnow, AreSaid, KnowsListing};
 
 use host_facts::asides_keep_facts;
 use world_facts::the_machine_keeps_facts;
+
+/// A command that was taken stays in the table as it was taken, whatever the host does, and over restarts.
+pub fn tables_keep_orders()
+    ensures host { (h : HostState) (event : HostEvent) → KeepsOrders h.commands (host_after h event).commands }
+    ensures each { (m : Machine) (event : Event) → StartsWell m event → KeepsOrders m.host.state.commands (happens m event).host.state.commands }
+{}
 
 /// Over any lines each order that is accepted stands directly behind the line that asks for it, and stays in the table as it was asked for.
 pub fn answers_stand_behind_their_lines()

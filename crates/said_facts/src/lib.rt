@@ -10,4 +10,5 @@ mod laws;
 
 pub use laws::{
     answers_stand_behind_their_lines, runs_have_their_tables, tables_are_what_was_said,
+    tables_keep_orders,
 };
