@@ -3,3 +3,5 @@ mod Keeping
 mod Plain
 mod Saying
 mod Reading
+mod Outside
+mod Classes
