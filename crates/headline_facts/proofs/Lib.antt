@@ -1,4 +1,3 @@
-mod Others
 mod Shown
 mod Succeeding
 mod Running

@@ -15,7 +15,7 @@ use Rattle.host_keep.specs.declared.final_status.FinalStatus.TheVariants as fina
 use Rattle.host_nodes.specs.State.{node_of}
 use Rattle.host_events.specs.State.{HostState, command_at}
 use Rattle.host_events.specs.Sessions.{settings_with}
-use Rattle.host_events.specs.Events.{HostEvent, Finishes}
+use Rattle.host_events.specs.Events.{HostEvent, Finishes, Interviews}
 use Rattle.host_events.specs.After.{after, is_held}
 use Rattle.host_events.specs.Outs.{outs}
 use Rattle.host_events.specs.May.{May as MayHost}
@@ -35,9 +35,25 @@ use Rattle.world_facts.proofs.Notes.{Behind, event_behind}
 use Rattle.once_facts.specs.Tied.{MakesWhatIsTaken}
 use Rattle.once_facts.proofs.Having.{all_has}
 use Rattle.headline_facts.specs.Truly.{IsDoneBy, IsTrue, TellTruly, TellsTruly}
-use Rattle.headline_facts.proofs.Others.{IsNoSuccess, NoSuccesses, aside_none, behind_none, event_none}
+use Rattle.said_facts.proofs.Noting.{AreRoutine, IsRoutine, behind_routine, event_routine}
 
 -- ---- entries that may stand anywhere
+
+-- an entry that reports no success
+abbrev IsNoSuccess : Entry → Type 0
+IsNoSuccess (Out number ended.Success) = ⊥
+IsNoSuccess entry = Unit {0}
+
+abbrev NoSuccesses : List Entry → Type 0
+NoSuccesses entries = AllByRecursion IsNoSuccess entries
+
+aside_none : (entry : Entry) → IsAside entry → IsNoSuccess entry
+aside_none (Out number how) aside = absurd aside
+aside_none entry aside = tt
+
+routine_none : (entry : Entry) → IsRoutine entry → IsNoSuccess entry
+routine_none (Out number ended.Success) routine = absurd routine
+routine_none entry routine = tt
 
 free_end : (past : List Entry) (entry : Entry) → IsNoSuccess entry → MayEnd past entry
 free_end past (Out number ended.Success) none = absurd none
@@ -48,6 +64,9 @@ frees past es none = each-anywhere MayEnd IsNoSuccess free_end past es none
 
 asides_end : (past es : List Entry) → Asides es → EachAfter MayEnd past es
 asides_end past es asides = frees past es (all-weaker IsAside IsNoSuccess aside_none es asides)
+
+routines : (past es : List Entry) → AreRoutine es → EachAfter MayEnd past es
+routines past es routine = frees past es (all-weaker IsRoutine IsNoSuccess routine_none es routine)
 
 -- more was entered since
 record IsSince (past now : List Entry) : Type 0 where
@@ -86,9 +105,10 @@ module _ (each : (past : List Entry) (h : HostState) (event : HostEvent) → Fac
       → TellsTruly h devices event → EachAfter MayEnd now (entries_at h event)
   event_ends past now h devices (Finishes n session id command final.Success wake_request) since facts shown may true = (
     done_shown past now h devices n session command since facts shown true may.carried,
-    frees (now ++ Out command ended.Success ∷ []) _ (behind_none n (settings_with final.Success (command_at h.commands command)) (is_held h n wake_request)),
+    routines (now ++ Out command ended.Success ∷ []) _ (behind_routine n (settings_with final.Success (command_at h.commands command)) (is_held h n wake_request)),
   )
-  event_ends past now h devices event since facts shown may true = frees now (entries_at h event) (event_none h event tt)
+  event_ends past now h devices (Interviews n listens classes update) since facts shown may true = (tt, tt)
+  event_ends past now h devices event since facts shown may true = routines now (entries_at h event) (event_routine h event tt)
 
   behind_ends : (past now all : List Entry) (h : HostState) (devices : List State) (event : HostEvent) → IsSince past now → Facts now h → AllByRecursion (IsShown past) devices → MayHost h event
       → TellsTruly h devices event → Behind (entries_at h event) all → EachAfter MayEnd now all

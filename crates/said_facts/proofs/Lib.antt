@@ -5,3 +5,4 @@ mod Saying
 mod Reading
 mod Outside
 mod Classes
+pub mod Noting
