@@ -6,3 +6,4 @@ mod Reading
 mod Outside
 mod Classes
 pub mod Noting
+mod Knowing

@@ -1,5 +1,5 @@
 -- What the host's table has of each order that was accepted: what was said (this project's own rule).
-use Rattle.std.specs.Prelude.{◌≡◌, ℕ, List, [], ◌∷◌, ◌++◌, Some}
+use Rattle.std.specs.Prelude.{◌≡◌, ℕ, true, List, [], ◌∷◌, ◌++◌, Some}
 use Rattle.zw_order.specs.declared.order.Order.{Order}
 use Rattle.zw_text.specs.declared.line.Line.TheVariants.{Command as Commanded}
 use Rattle.zw_text.specs.declared.entry.Entry.{Entry}
@@ -11,8 +11,11 @@ use Rattle.host_orders.specs.Classes.{actuator_of}
 use Rattle.host_orders.specs.declared.carriage.Carriage.{Carriage}
 use Rattle.host_nodes.specs.State.{node_of}
 use Rattle.host_events.specs.State.{Command, HostState}
+use Rattle.host_events.specs.Events.{HostEvent, Interviews}
+use Rattle.host_events.specs.After.{after as host_after}
 use Rattle.host_facts.specs.Tables.{taken_at}
 use Rattle.zw_machine.specs.State.{Machine}
+use Rattle.zw_machine.specs.Events.{Event, Host_does, Host_takes, Restarts, happens}
 use Rattle.said_facts.specs.Spoken.{Spoken, after, entries_of}
 
 -- ---- orders
@@ -45,3 +48,38 @@ KnowsListing listing past h = (node : ℕ) → (node_of h.nodes node).classes �
 abbrev pub AllKnow : (ℕ → List ℕ) → List Entry → Machine → List Spoken → Type 0
 AllKnow listing past m [] = Unit {0}
 AllKnow listing past m (spoken ∷ more) = KnowsListing listing past m.host.state × AllKnow listing (past ++ entries_of m spoken) (after m spoken) more
+
+-- ---- interviews
+
+-- an interview that ends well is of a node that is joined, and tells the classes that the node lists
+pub record IsTrueInterview (listing : ℕ → List ℕ) (h : HostState) (node : ℕ) (classes : List ℕ) : Type 0 where
+  pub joined : (node_of h.nodes node).joined ≡ true
+  pub lists : classes ≡ listing node
+
+abbrev pub TellsListing : (ℕ → List ℕ) → HostState → HostEvent → Type 0
+TellsListing listing h (Interviews node listens classes update) = IsTrueInterview listing h node classes
+TellsListing listing h event = Unit {0}
+
+abbrev pub TellListing : (ℕ → List ℕ) → HostState → List HostEvent → Type 0
+TellListing listing h [] = Unit {0}
+TellListing listing h (event ∷ events) = TellsListing listing h event × TellListing listing (host_after h event) events
+
+-- a host that starts again knows the classes that the one before knew
+abbrev pub KnowsAgain : HostState → HostState → Type 0
+KnowsAgain old new = (node : ℕ) → (node_of new.nodes node).classes ≡ (node_of old.nodes node).classes
+
+-- so at an event of the machine
+abbrev pub Tells : (ℕ → List ℕ) → Machine → Event → Type 0
+Tells listing m (Host_does event) = TellsListing listing m.host.state event
+Tells listing m (Host_takes count rest items events) = TellListing listing m.host.state events
+Tells listing m (Restarts state) = KnowsAgain m.host.state state
+Tells listing m event = Unit {0}
+
+abbrev pub AllTell : (ℕ → List ℕ) → Machine → List Event → Type 0
+AllTell listing m [] = Unit {0}
+AllTell listing m (event ∷ events) = Tells listing m event × AllTell listing (happens m event) events
+
+-- and in each of these lines
+abbrev pub LinesTell : (ℕ → List ℕ) → Machine → List Spoken → Type 0
+LinesTell listing m [] = Unit {0}
+LinesTell listing m (spoken ∷ more) = AllTell listing m spoken.events × LinesTell listing (after m spoken) more
