@@ -13,14 +13,16 @@ ghost use Rattle.host_facts.specs.Facts.{Facts};
 ghost use Rattle.zw_machine.specs.State.{Machine, first_machine};
 ghost use Rattle.zw_machine.specs.Events.{Event, happens, entries, May};
 ghost use Rattle.once_facts.specs.Tied.{AllTied};
-ghost use Rattle.said_facts.specs.Said.{AllKnow};
+ghost use Rattle.said_facts.specs.Said.{LinesTell};
 ghost use Rattle.said_facts.specs.Spoken.{Spoken, AreSpoken, after_all, transcript_of};
 ghost use Rattle.headline_facts.specs.Truly.{IsTrue, LinesAreTrue};
 
 use device_facts::{changes_are_shown, devices_go_on, devices_stay_the_same};
 use host_facts::{asides_keep_facts, events_keep_facts};
 use once_facts::{devices_change_in_sessions, endings_are_shown, headlines_follow};
-use said_facts::{answers_stand_behind_their_lines, runs_have_their_tables};
+use said_facts::{
+    answers_stand_behind_their_lines, interviews_give_what_is_known, runs_have_their_tables,
+};
 use world_facts::the_machine_keeps_facts;
 
 /// Where reports of success are true, an event enters each success behind the change, and the changes that the transcript shows are those of the
@@ -53,11 +55,11 @@ pub fn runs_report_after_the_change()
 }
 
 /// The headline, over any lines from the beginning on, with devices that have not changed yet, of which no two are of one node: where each report of success is
-/// true, the host knows of each node the classes that the transcript shows, and in the end each device that knows Supervision is tied to the host.
+/// true, each interview that ends well tells what the node's device lists, and in the end each device that knows Supervision is tied to the host.
 pub fn runs_have_the_headline()
     ensures { (keys : Keys) (records : Option (List (List ℕ))) (devices : List State) (lines : List Spoken) → AreUnchanged devices → AreApart devices →
         AreSpoken (first_machine keys records devices) lines → LinesAreTrue (first_machine keys records devices) lines →
-        AllKnow (listing_of devices) [] (first_machine keys records devices) lines →
+        LinesTell (listing_of devices) (first_machine keys records devices) lines →
         AllTied (after_all (first_machine keys records devices) lines).host.state (after_all (first_machine keys records devices) lines).outside.devices →
         Headline devices (after_all (first_machine keys records devices) lines).outside.devices (transcript_of (first_machine keys records devices) lines) }
 {
@@ -65,6 +67,7 @@ pub fn runs_have_the_headline()
     devices_change_in_sessions();
     the_machine_keeps_facts();
     answers_stand_behind_their_lines();
+    interviews_give_what_is_known();
     runs_have_their_tables();
     runs_report_after_the_change();
     headlines_follow();
