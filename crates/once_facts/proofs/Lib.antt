@@ -10,4 +10,4 @@ mod Tying
 mod Going
 mod Showing
 mod Telling
-mod Heading
+pub mod Heading

@@ -1,6 +1,6 @@
 //! What follows of a host and a device that are tied.
 
-ghost use Rattle.std.specs.Prelude.{◌≡◌, ℕ, ◌+◌, ◌≤◌, List, [], ◌∷◌, ◌++◌, length, Some};
+ghost use Rattle.std.specs.Prelude.{◌≡◌, ℕ, ◌+◌, ◌≤◌, true, List, [], ◌∷◌, ◌++◌, length, Some};
 ghost use Rattle.std.specs.List.{AllByRecursion};
 ghost use Rattle.zw_base.specs.declared.property.By.TheVariants.{Session};
 ghost use Rattle.zw_base.specs.declared.property.Setting.{Setting};
@@ -16,8 +16,8 @@ ghost use Rattle.device_facts.specs.GoingOn.{GoOn};
 ghost use Rattle.device_facts.specs.Showing.{AreUnchanged, IsShown};
 ghost use Rattle.zw_text.specs.declared.entry.Entry.{Entry};
 ghost use Rattle.zw_laws.specs.Lists.{Has};
-ghost use Rattle.zw_laws.specs.Headline.{Headline};
-ghost use Rattle.zw_laws.specs.Nodes.{listing_of};
+ghost use Rattle.zw_laws.specs.Headline.{Headline, HeadlineOf};
+ghost use Rattle.zw_laws.specs.Nodes.{is_supervised, listing_of};
 ghost use Rattle.zw_laws.specs.Once.{IsSupervisedChange, Once, SucceedsAfterChange, commands_shown};
 ghost use Rattle.zw_laws.specs.Values.{ConfirmsLast};
 ghost use Rattle.host_nodes.specs.State.{node_of};
@@ -27,7 +27,7 @@ ghost use Rattle.host_facts.specs.Facts.{Facts, StartsAs};
 ghost use Rattle.host_facts.specs.Tables.{outcome_in, taken_at};
 ghost use Rattle.host_keep.specs.Status.{status_byte};
 ghost use Rattle.host_keep.specs.declared.final_status.FinalStatus.{FinalStatus};
-ghost use Rattle.once_facts.specs.Tied.{AllTied, AreOutcomes, IsTaken, IsTied, KeepsOrders, MakesWhatIsTaken, settings_taken};
+ghost use Rattle.once_facts.specs.Tied.{AllTied, AreOutcomes, AreTied, IsTaken, IsTied, KeepsOrders, MakesWhatIsTaken, settings_taken};
 ghost use Rattle.once_facts.specs.ByTable.{ConfirmsByTable, IsTable, OnceByTable};
 ghost use Rattle.once_facts.specs.InSessions.{ChangesInSessions};
 
@@ -117,10 +117,12 @@ pub fn laws_of_transcripts_follow()
     laws_follow();
 }
 
-/// So the headline follows of a host and its devices that are tied: where each success was reported after its change, devices changed in sessions
-/// alone, and the host's table is what the transcript shows of orders.
+/// So the headline follows of a host and its devices that are tied: of each that is, where it changed in sessions alone and the host's table is what the
+/// transcript shows of the node's orders; and the whole, where each success was reported after its change.
 pub fn headlines_follow()
-    ensures { (past : List Entry) (h : HostState) (before devices : List State) → Facts past h → SucceedsAfterChange past → AllTied h devices → AllByRecursion ChangesInSessions devices →
+    ensures one { (past : List Entry) (h : HostState) (before : List State) (node : ℕ) (device : State) → Facts past h → AreTied h node device → is_supervised device ≡ true →
+        ChangesInSessions device → IsTable (listing_of before) h.commands node past → HeadlineOf (listing_of before) node past device }
+    ensures whole { (past : List Entry) (h : HostState) (before devices : List State) → Facts past h → SucceedsAfterChange past → AllTied h devices → AllByRecursion ChangesInSessions devices →
         ((node : ℕ) → IsTable (listing_of before) h.commands node past) → Headline before devices past }
 {
     laws_follow();
