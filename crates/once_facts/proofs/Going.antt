@@ -154,14 +154,16 @@ pub made_more : (commands : List Command) (begun : List ℕ) (journal : List Cha
     → session_at begun session ≡ Some number → settings ≡ settings_taken (taken_at commands number)
     → AllByRecursion (MakesWhatIsTaken commands begun) (journal ++ record { by = Session session; settings = settings } ∷ [])
 made_more commands begun journal session number settings makes at same =
-    all-append (MakesWhatIsTaken commands begun) journal (record { by = Session session; settings = settings } ∷ []) makes
-    (all_of (λ k. settings ≡ settings_taken (taken_at commands k)) (carried_by begun (session ∷ [])) (λ k has.
-    let one = has_carried begun (session ∷ []) k has in
-    let here : session_at begun session ≡ Some k = elim one.among [
-      | inl is ↦ subst (λ (s : ℕ). session_at begun s ≡ Some k) (sym is) one.at
-      | inr none ↦ absurd none
-    ] in
-    same ∙ ap (λ (n : ℕ). settings_taken (taken_at commands n)) (some_same number k (sym at ∙ here))), tt)
+    all-append (MakesWhatIsTaken commands begun) journal (record { by = Session session; settings = settings } ∷ []) makes (
+      all_of (λ k. settings ≡ settings_taken (taken_at commands k)) (carried_by begun (session ∷ [])) (λ k has.
+          let one = has_carried begun (session ∷ []) k has in
+          let here : session_at begun session ≡ Some k = elim one.among [
+            | inl is ↦ subst (λ (s : ℕ). session_at begun s ≡ Some k) (sym is) one.at
+            | inr none ↦ absurd none
+          ] in
+          same ∙ ap (λ (n : ℕ). settings_taken (taken_at commands n)) (some_same number k (sym at ∙ here))),
+      tt,
+    )
   where
     some_same : (a b : ℕ) → Some a ≡ Some b → a ≡ b
     some_same a b e = cc

@@ -11,5 +11,6 @@ mod laws;
 
 pub use laws::{
     courses_tie_their_ends, devices_change_in_sessions, endings_are_shown, headlines_follow,
-    laws_of_transcripts_follow, restarts_keep_ties, ties_confirm_what_was_set, ties_go_on, ties_keep_once_only,
+    laws_of_transcripts_follow, restarts_keep_ties, ties_confirm_what_was_set, ties_go_on,
+    ties_keep_once_only,
 };

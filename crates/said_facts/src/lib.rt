@@ -9,6 +9,6 @@
 mod laws;
 
 pub use laws::{
-    answers_stand_behind_their_lines, interviews_give_what_is_known, runs_have_their_tables, tables_are_what_was_said,
-    tables_keep_orders,
+    answers_stand_behind_their_lines, interviews_give_what_is_known, runs_have_their_tables,
+    tables_are_what_was_said, tables_keep_orders,
 };
