@@ -3,8 +3,7 @@ use Rattle.std.proofs.Common.{◌≡◌, ℕ, zero, suc, ◌+◌, ◌<◌, ◌�
 use Rattle.std.specs.Prelude.{IsSome, slice_get}
 use Rattle.std.specs.List.{AllByRecursion}
 use Rattle.std.proofs.lemmas.Bool.{false≢true}
-use Rattle.zw_base.specs.declared.property.By.{By}
-use Rattle.zw_base.specs.declared.property.By.TheVariants.{Session, Plain, Local}
+use Rattle.zw_base.specs.declared.property.By.TheVariants.{Session}
 use Rattle.zw_base.specs.declared.property.Setting.{Setting}
 use Rattle.supervision.specs.Host.{command_at as session_at}
 use Rattle.courses.specs.Parts.{successes}
@@ -16,7 +15,7 @@ use Rattle.zw_text.specs.declared.entry.Outcome.{Outcome}
 use Rattle.zw_text.specs.declared.entry.Outcome.TheVariants.{Waiting, Begun, Success, Fail, NoSupport, Unanswered, Cancelled}
 use Rattle.zw_text.specs.Transcript.{by_session, outcome}
 use Rattle.zw_laws.specs.Lists.{Has}
-use Rattle.zw_laws.specs.Once.{carried_by, sessions_by}
+use Rattle.zw_laws.specs.Once.{carried_by}
 use Rattle.host_keep.specs.Kept.{Taken}
 use Rattle.host_keep.specs.Status.{status_byte}
 use Rattle.host_keep.specs.declared.final_status.FinalStatus.{FinalStatus}
