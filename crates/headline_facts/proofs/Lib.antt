@@ -1,0 +1,4 @@
+mod Shown
+mod Succeeding
+mod Running
+mod Heading

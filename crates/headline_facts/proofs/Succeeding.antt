@@ -1,0 +1,172 @@
+-- Each success stands behind the change.
+use Rattle.std.proofs.Common.{◌≡◌, ℕ, List, [], ◌∷◌, ◌++◌, map, Some, sym, ap, subst, ◌∙◌, append_assoc, append-nil}
+use Rattle.std.specs.List.{AllByRecursion}
+use Rattle.supervision.specs.Host.{command_at as session_at}
+use Rattle.supervision.specs.declared.session.TheConstants.{SUCCESS}
+use Rattle.device_sim.specs.State.{State}
+use Rattle.device_course.specs.Ending.{HasEnded}
+use Rattle.device_facts.specs.Showing.{IsShown}
+use Rattle.zw_text.specs.declared.entry.Ended.TheVariants as ended
+use Rattle.zw_text.specs.declared.entry.Entry.{Entry}
+use Rattle.zw_text.specs.declared.entry.Entry.TheVariants.{Out, Refused}
+use Rattle.zw_laws.specs.Lists.{EachAfter, Has}
+use Rattle.zw_laws.specs.Once.{IsShownApplied, MayEnd, SucceedsAfterChange, commands_shown}
+use Rattle.host_keep.specs.declared.final_status.FinalStatus.TheVariants as final
+use Rattle.host_nodes.specs.State.{node_of}
+use Rattle.host_events.specs.State.{HostState, command_at}
+use Rattle.host_events.specs.Sessions.{settings_with}
+use Rattle.host_events.specs.Events.{HostEvent, Finishes, Interviews}
+use Rattle.host_events.specs.After.{after, is_held}
+use Rattle.host_events.specs.Outs.{outs}
+use Rattle.host_events.specs.May.{May as MayHost}
+use Rattle.host_events.specs.Did.{MayAll as MayAllHost}
+use Rattle.host_events.specs.declared.out.HostOut.{HostOut}
+use Rattle.host_facts.specs.Entries.{IsAside, entries_at}
+use Rattle.host_facts.specs.Facts.{Facts}
+use Rattle.host_facts.proofs.Lists.{all-weaker, each-append, each-anywhere}
+use Rattle.outer_events.specs.Events.{Host_notes, entries as entries_outside, outcome}
+use Rattle.outer_events.specs.Did.{entries_all as entries_all_outside}
+use Rattle.zw_machine.specs.State.{Machine, host_does, host_entries, routed}
+use Rattle.zw_machine.specs.Events.{Event, Outside_does, Host_does, Host_takes, Decoder_ticks, Refuses, Shows_values, Restarts, answers, entries, fed, shown_values, May}
+use Rattle.zw_machine.proofs.Hosting.{Silent, entries_cons}
+use Rattle.zw_machine.proofs.Silence.{judged_silent}
+use Rattle.world_facts.proofs.Aside.{Asides, own_aside, stamp_aside}
+use Rattle.world_facts.proofs.Notes.{Behind, event_behind}
+use Rattle.once_facts.specs.Tied.{MakesWhatIsTaken}
+use Rattle.once_facts.proofs.Having.{all_has}
+use Rattle.headline_facts.specs.Truly.{IsDoneBy, IsTrue, TellTruly, TellsTruly}
+use Rattle.said_facts.proofs.Noting.{AreRoutine, IsRoutine, behind_routine, event_routine}
+
+-- ---- entries that may stand anywhere
+
+-- an entry that reports no success
+abbrev IsNoSuccess : Entry → Type 0
+IsNoSuccess (Out number ended.Success) = ⊥
+IsNoSuccess entry = Unit {0}
+
+abbrev NoSuccesses : List Entry → Type 0
+NoSuccesses entries = AllByRecursion IsNoSuccess entries
+
+aside_none : (entry : Entry) → IsAside entry → IsNoSuccess entry
+aside_none (Out number how) aside = absurd aside
+aside_none entry aside = tt
+
+routine_none : (entry : Entry) → IsRoutine entry → IsNoSuccess entry
+routine_none (Out number ended.Success) routine = absurd routine
+routine_none entry routine = tt
+
+free_end : (past : List Entry) (entry : Entry) → IsNoSuccess entry → MayEnd past entry
+free_end past (Out number ended.Success) none = absurd none
+free_end past entry none = tt
+
+frees : (past es : List Entry) → NoSuccesses es → EachAfter MayEnd past es
+frees past es none = each-anywhere MayEnd IsNoSuccess free_end past es none
+
+asides_end : (past es : List Entry) → Asides es → EachAfter MayEnd past es
+asides_end past es asides = frees past es (all-weaker IsAside IsNoSuccess aside_none es asides)
+
+routines : (past es : List Entry) → AreRoutine es → EachAfter MayEnd past es
+routines past es routine = frees past es (all-weaker IsRoutine IsNoSuccess routine_none es routine)
+
+-- more was entered since
+record IsSince (past now : List Entry) : Type 0 where
+  pub more : List Entry
+  pub is : now ≡ past ++ more
+
+since_more : (past now es : List Entry) → IsSince past now → IsSince past (now ++ es)
+since_more past now es since = record { more = since.more ++ es; is = ap (λ (l : List Entry). l ++ es) since.is ∙ append_assoc past since.more es }
+
+-- ---- what is proved of hosts
+
+abbrev pub EndingsShown : Type 0
+EndingsShown = (past more : List Entry) (h : HostState) (device : State) (finals : List ℕ) (session number : ℕ) → Facts (past ++ more) h → IsShown past device → HasEnded device finals
+    → AllByRecursion (MakesWhatIsTaken h.commands (node_of h.nodes device.node).book.commands) device.journal
+    → session_at (node_of h.nodes device.node).book.commands session ≡ Some number → session_at finals session ≡ Some SUCCESS → Has (commands_shown device.node (past ++ more)) number
+
+module _ (each : (past : List Entry) (h : HostState) (event : HostEvent) → Facts past h → MayHost h event → Facts (past ++ entries_at h event) (after h event))
+    (aside : (past : List Entry) (h : HostState) (entry : Entry) → Facts past h → IsAside entry → Facts (past ++ entry ∷ []) h) (endings : EndingsShown) where
+  asides_keep : (past : List Entry) (h : HostState) (es : List Entry) → Facts past h → Asides es → Facts (past ++ es) h
+  asides_keep past h [] facts all = subst (λ (l : List Entry). Facts l h) (sym (append-nil past)) facts
+  asides_keep past h (e ∷ es) facts all = subst (λ (l : List Entry). Facts l h) (append_assoc past (e ∷ []) es) (asides_keep (past ++ e ∷ []) h es (aside past h e facts all.0) all.1)
+
+  -- ---- one event of a host
+
+  done_shown : (past now : List Entry) (h : HostState) (devices : List State) (node session number : ℕ) → IsSince past now → Facts now h → AllByRecursion (IsShown past) devices
+      → IsDoneBy h devices node session → session_at (node_of h.nodes node).book.commands session ≡ Some number → IsShownApplied now number
+  done_shown past now h devices node session number since facts shown done carried = record {
+    node = done.device.node;
+    shown = subst (λ (l : List Entry). Has (commands_shown done.device.node l) number) (sym since.is)
+        (endings past since.more h done.device done.finals session number (subst (λ (l : List Entry). Facts l h) since.is facts) (all_has (IsShown past) devices done.device shown done.among) done.ended
+        (subst (λ (n : ℕ). AllByRecursion (MakesWhatIsTaken h.commands (node_of h.nodes n).book.commands) done.device.journal) (sym done.of_node) done.made)
+        (subst (λ (n : ℕ). session_at (node_of h.nodes n).book.commands session ≡ Some number) (sym done.of_node) carried) done.success);
+  }
+
+  event_ends : (past now : List Entry) (h : HostState) (devices : List State) (event : HostEvent) → IsSince past now → Facts now h → AllByRecursion (IsShown past) devices → MayHost h event
+      → TellsTruly h devices event → EachAfter MayEnd now (entries_at h event)
+  event_ends past now h devices (Finishes n session id command final.Success wake_request) since facts shown may true = (
+    done_shown past now h devices n session command since facts shown true may.carried,
+    routines (now ++ Out command ended.Success ∷ []) _ (behind_routine n (settings_with final.Success (command_at h.commands command)) (is_held h n wake_request)),
+  )
+  event_ends past now h devices (Interviews n listens classes update) since facts shown may true = (tt, tt)
+  event_ends past now h devices event since facts shown may true = routines now (entries_at h event) (event_routine h event tt)
+
+  behind_ends : (past now all : List Entry) (h : HostState) (devices : List State) (event : HostEvent) → IsSince past now → Facts now h → AllByRecursion (IsShown past) devices → MayHost h event
+      → TellsTruly h devices event → Behind (entries_at h event) all → EachAfter MayEnd now all
+  behind_ends past now all h devices event since facts shown may true behind =
+      subst (λ (l : List Entry). EachAfter MayEnd now l) (sym behind.are)
+      (each-append MayEnd now behind.front (entries_at h event) (asides_end now behind.front behind.asides)
+      (event_ends past (now ++ behind.front) h devices event (since_more past now behind.front since) (asides_keep now h behind.front facts behind.asides) shown may true))
+
+  behind_keeps : (now all : List Entry) (h : HostState) (event : HostEvent) → Facts now h → MayHost h event → Behind (entries_at h event) all → Facts (now ++ all) (after h event)
+  behind_keeps now all h event facts may behind =
+      subst (λ (l : List Entry). Facts l (after h event)) (append_assoc now behind.front (entries_at h event) ∙ ap (λ (l : List Entry). now ++ l) (sym behind.are))
+      (each (now ++ behind.front) h event (asides_keep now h behind.front facts behind.asides) may)
+
+  -- ---- events that bytes of the chip make a host do
+
+  one_behind : (m : Machine) (event : HostEvent) → ((h : HostState) → answers h event ≡ []) → Behind (entries_at m.host.state event) (host_entries m (event ∷ []))
+  one_behind m event silent =
+      let h = m.host.state in
+      subst (λ (l : List Entry). Behind (entries_at h event) l)
+      (ap (λ (l : List Entry). entries_all_outside m.outside (routed (outs h event)) ++ entries_all_outside m.outside (map Host_notes l)) (silent h)
+      ∙ (append-nil (entries_all_outside m.outside (routed (outs h event)))
+      ∙ ap (λ (l : List HostOut). entries_all_outside m.outside (routed l)) (sym (append-nil (outs h event)))))
+      (event_behind m.outside m.outside h event)
+
+  events_end : (past now : List Entry) (m : Machine) (devices : List State) (events : List HostEvent) → IsSince past now → Facts now m.host.state → AllByRecursion (IsShown past) devices
+      → MayAllHost m.host.state events → Silent events → TellTruly m.host.state devices events → EachAfter MayEnd now (host_entries m events)
+  events_end past now m devices [] since facts shown may silent true = tt
+  events_end past now m devices (event ∷ events) since facts shown may silent true =
+      let behind = one_behind m event silent.0 in
+      let first = host_entries m (event ∷ []) in
+      subst (λ (l : List Entry). EachAfter MayEnd now l) (entries_cons m event events)
+      (each-append MayEnd now first (host_entries (host_does m (event ∷ [])) events) (behind_ends past now first m.host.state devices event since facts shown may.0 true.0 behind)
+      (events_end past (now ++ first) (host_does m (event ∷ [])) devices events (since_more past now first since) (behind_keeps now first m.host.state event facts may.0 behind) shown may.1 silent.1 true.1))
+
+  -- ---- events of the machine
+
+  note_ends : (past : List Entry) (m : Machine) (entry : Entry) → IsAside entry → EachAfter MayEnd past (entries_outside m.outside (Host_notes entry))
+  unfolding outcome
+  note_ends past m entry is = asides_end past _ (stamp_aside m.outside.outer (entry ∷ []) (is, tt))
+
+  machine_ends : (past : List Entry) (m : Machine) (event : Event) → Facts past m.host.state → AllByRecursion (IsShown past) m.outside.devices → May m event → IsTrue m event
+      → EachAfter MayEnd past (entries m event)
+  unfolding entries May
+  machine_ends past m (Outside_does event) facts shown may true = asides_end past (entries_outside m.outside event) (own_aside m.outside event may.0)
+  machine_ends past m (Host_does event) facts shown may true =
+      behind_ends past past (entries m (Host_does event)) m.host.state m.outside.devices event (record { more = []; is = sym (append-nil past) }) facts shown may true
+      (subst (λ (l : List HostOut). Behind (entries_at m.host.state event)
+      (entries_all_outside m.outside (routed l) ++ entries_all_outside (host_does m (event ∷ [])).outside (map Host_notes (answers m.host.state event))))
+      (sym (append-nil (outs m.host.state event)))
+      (event_behind m.outside (host_does m (event ∷ [])).outside m.host.state event))
+  machine_ends past m (Host_takes count rest items events) facts shown may true =
+      events_end past past (fed m count rest) m.outside.devices events (record { more = []; is = sym (append-nil past) }) facts shown may.may
+      (judged_silent m.host.state items events may.judged) true
+  machine_ends past m Decoder_ticks facts shown may true = tt
+  machine_ends past m (Refuses line refusal) facts shown may true = note_ends past m (Refused refusal) tt
+  machine_ends past m (Shows_values node) facts shown may true = note_ends past m (shown_values m.host.state node) tt
+  machine_ends past m (Restarts state) facts shown may true = tt
+
+  pub event_succeeds : (past : List Entry) (m : Machine) (event : Event) → Facts past m.host.state → AllByRecursion (IsShown past) m.outside.devices → May m event → IsTrue m event
+      → SucceedsAfterChange past → SucceedsAfterChange (past ++ entries m event)
+  event_succeeds past m event facts shown may true before = each-append MayEnd [] past (entries m event) before (machine_ends past m event facts shown may true)

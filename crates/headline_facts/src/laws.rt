@@ -1,0 +1,80 @@
+//! The laws of successes and of the headline.
+
+ghost use Rattle.std.specs.Prelude.{◌≡◌, ℕ, true, Option, Some, List, [], ◌++◌};
+ghost use Rattle.std.specs.List.{AllByRecursion};
+ghost use Rattle.s0_crypto.specs.declared.key_pair.Keys.{Keys};
+ghost use Rattle.device_sim.specs.State.{State};
+ghost use Rattle.device_facts.specs.Showing.{AreApart, AreUnchanged, IsShown};
+ghost use Rattle.zw_text.specs.declared.entry.Entry.{Entry};
+ghost use Rattle.zw_laws.specs.Headline.{Headline, HeadlineOf};
+ghost use Rattle.zw_laws.specs.Nodes.{device_of, is_supervised, listing_of};
+ghost use Rattle.zw_laws.specs.Once.{SucceedsAfterChange};
+ghost use Rattle.host_facts.specs.Facts.{Facts};
+ghost use Rattle.zw_machine.specs.State.{Machine, first_machine};
+ghost use Rattle.zw_machine.specs.Events.{Event, happens, entries, May};
+ghost use Rattle.once_facts.specs.Tied.{AllTied, AreTied};
+ghost use Rattle.said_facts.specs.Said.{LinesTell};
+ghost use Rattle.said_facts.specs.Spoken.{Spoken, AreSpoken, after_all, transcript_of};
+ghost use Rattle.headline_facts.specs.Truly.{IsTrue, LinesAreTrue};
+
+use device_facts::{changes_are_shown, devices_go_on, devices_stay_the_same};
+use host_facts::{asides_keep_facts, events_keep_facts};
+use once_facts::{devices_change_in_sessions, endings_are_shown, headlines_follow};
+use said_facts::{
+    answers_stand_behind_their_lines, interviews_give_what_is_known, runs_have_their_tables,
+};
+use world_facts::the_machine_keeps_facts;
+
+/// Where reports of success are true, an event enters each success behind the change, and the changes that the transcript shows are those of the
+/// devices' journals after it.
+pub fn successes_follow_changes()
+    ensures each { (past : List Entry) (m : Machine) (event : Event) → Facts past m.host.state → AllByRecursion (IsShown past) m.outside.devices →
+        May m event → IsTrue m event → SucceedsAfterChange past → SucceedsAfterChange (past ++ entries m event) }
+    ensures shown { (past : List Entry) (m : Machine) (event : Event) → AreApart m.outside.devices → AllByRecursion (IsShown past) m.outside.devices → May m event →
+        AllByRecursion (IsShown (past ++ entries m event)) (happens m event).outside.devices }
+{
+    changes_are_shown();
+    devices_go_on();
+    devices_stay_the_same();
+    events_keep_facts();
+    asides_keep_facts();
+    endings_are_shown();
+}
+
+/// So over any lines from the beginning on, with devices that have not changed yet, of which no two are of one node.
+pub fn runs_report_after_the_change()
+    ensures { (keys : Keys) (records : Option (List (List ℕ))) (devices : List State) (lines : List Spoken) → AreUnchanged devices → AreApart devices →
+        AreSpoken (first_machine keys records devices) lines → LinesAreTrue (first_machine keys records devices) lines →
+        SucceedsAfterChange (transcript_of (first_machine keys records devices) lines) }
+{
+    changes_are_shown();
+    devices_go_on();
+    asides_keep_facts();
+    the_machine_keeps_facts();
+    successes_follow_changes();
+}
+
+/// The headline, over any lines from the beginning on, with devices that have not changed yet, where each interview that ends well tells what the node's device lists: of
+/// each device that knows Supervision, is the first of its node and is tied to the host in the end. And the whole, where all those are, each report of
+/// success is true, and no two devices are of one node.
+pub fn runs_have_the_headline()
+    ensures one { (keys : Keys) (records : Option (List (List ℕ))) (devices : List State) (lines : List Spoken) (node : ℕ) (device : State) → AreUnchanged devices →
+        AreSpoken (first_machine keys records devices) lines → LinesTell (listing_of devices) (first_machine keys records devices) lines →
+        device_of node (after_all (first_machine keys records devices) lines).outside.devices ≡ Some device → is_supervised device ≡ true →
+        AreTied (after_all (first_machine keys records devices) lines).host.state node device →
+        HeadlineOf (listing_of devices) node (transcript_of (first_machine keys records devices) lines) device }
+    ensures whole { (keys : Keys) (records : Option (List (List ℕ))) (devices : List State) (lines : List Spoken) → AreUnchanged devices → AreApart devices →
+        AreSpoken (first_machine keys records devices) lines → LinesAreTrue (first_machine keys records devices) lines →
+        LinesTell (listing_of devices) (first_machine keys records devices) lines →
+        AllTied (after_all (first_machine keys records devices) lines).host.state (after_all (first_machine keys records devices) lines).outside.devices →
+        Headline devices (after_all (first_machine keys records devices) lines).outside.devices (transcript_of (first_machine keys records devices) lines) }
+{
+    devices_go_on();
+    devices_change_in_sessions();
+    the_machine_keeps_facts();
+    answers_stand_behind_their_lines();
+    interviews_give_what_is_known();
+    runs_have_their_tables();
+    runs_report_after_the_change();
+    headlines_follow();
+}

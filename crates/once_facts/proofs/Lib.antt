@@ -1,0 +1,13 @@
+pub mod Having
+mod Carrying
+mod Succeeding
+pub mod Starting
+mod Once
+mod Valuing
+mod Confirming
+mod InSessions
+mod Tying
+mod Going
+mod Showing
+mod Telling
+pub mod Heading

@@ -1,0 +1,3 @@
+pub mod Tied
+pub mod ByTable
+pub mod InSessions
