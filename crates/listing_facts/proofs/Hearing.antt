@@ -65,7 +65,7 @@ use Rattle.line_facts.proofs.ChipWays.{does_each, does_one}
 use Rattle.line_facts.proofs.Outer.{entered_still, routed_all, notes_all, Written, tick_still}
 use Rattle.run_facts.proofs.Always.{one, none, either}
 use Rattle.run_facts.proofs.Heard.{IsOfPayload, payload_of}
-use Rattle.device_facts.specs.GoingOn.{GoOn, AreSame}
+use Rattle.listing_facts.specs.Lines.{HearsList, HearLists}
 use Rattle.listing_facts.proofs.Telling.{NoticeTells, UpdateTells}
 use Rattle.listing_facts.proofs.Frames.{UnitTells, IsTelling, FrameTells, PortTells, EventTells, events_port, events_out}
 use Rattle.listing_facts.proofs.Informing.{Informs, Lists, here, still_informs, gives_informs, steps_inform, repeats_inform, at_informs, hand_informs, joins_inform, discovers_inform, collides_inform}
@@ -257,67 +257,57 @@ module _ (listing : ℕ → List ℕ) where
 
   -- ---- what interviews hear
 
-  -- an interview hears the list of its node
-  abbrev pub HearsList : HostEvent → Type 0
-  HearsList (Interviews n listens classes update) = classes ≡ listing n
-  HearsList event = Unit {0}
-
-  -- so where the host takes bytes
-  abbrev pub HearLists : Event → Type 0
-  HearLists (Host_takes count rest items events) = AllByRecursion HearsList events
-  HearLists event = Unit {0}
-
-  payload_hears : (n : ℕ) (event : HostEvent) → IsOfPayload n event → HearsList event
+  payload_hears : (n : ℕ) (event : HostEvent) → IsOfPayload n event → HearsList listing event
   payload_hears n (Interviews other listens classes update) of_it = absurd of_it
   payload_hears n _ of_it = tt
 
-  payloads_hear : (n : ℕ) (events : List HostEvent) → AllByRecursion (IsOfPayload n) events → AllByRecursion HearsList events
+  payloads_hear : (n : ℕ) (events : List HostEvent) → AllByRecursion (IsOfPayload n) events → AllByRecursion (HearsList listing) events
   payloads_hear n [] all = tt
   payloads_hear n (event ∷ events) all = (payload_hears n event all.0, payloads_hear n events all.1)
 
-  response_hears : (r : Result Response BodyFault) (events : List HostEvent) → ResponseEvents r events → AllByRecursion HearsList events
-  response_hears (Ok r) events is = one HearsList _ events tt is
-  response_hears (Err fault) events is = none HearsList events is
+  response_hears : (r : Result Response BodyFault) (events : List HostEvent) → ResponseEvents r events → AllByRecursion (HearsList listing) events
+  response_hears (Ok r) events is = one (HearsList listing) _ events tt is
+  response_hears (Err fault) events is = none (HearsList listing) events is
 
-  interview_hears : (update : Update) (brought : Option ℕ) (events : List HostEvent) → UpdateTells listing update → InterviewEvents update brought events → AllByRecursion HearsList events
+  interview_hears : (update : Update) (brought : Option ℕ) (events : List HostEvent) → UpdateTells listing update → InterviewEvents update brought events → AllByRecursion (HearsList listing) events
   interview_hears (Received n basic generic specific classes) (Some capability) events tells is =
-      either HearsList (Interviews n (says_listens capability) classes (Received n basic generic specific classes)) (Interview_unkept n (Received n basic generic specific classes)) events tells tt is
-  interview_hears RequestFailed (Some capability) events tells is = none HearsList events is
-  interview_hears (Received n basic generic specific classes) None events tells is = one HearsList _ events tt is
-  interview_hears RequestFailed None events tells is = one HearsList _ events tt is
+      either (HearsList listing) (Interviews n (says_listens capability) classes (Received n basic generic specific classes)) (Interview_unkept n (Received n basic generic specific classes)) events tells tt is
+  interview_hears RequestFailed (Some capability) events tells is = none (HearsList listing) events is
+  interview_hears (Received n basic generic specific classes) None events tells is = one (HearsList listing) _ events tt is
+  interview_hears RequestFailed None events tells is = one (HearsList listing) _ events tt is
 
-  notice_hears : (h : HostState) (notice : Result Notice BodyFault) (events : List HostEvent) → ((v : Notice) → notice ≡ Ok v → NoticeTells listing v) → NoticeEvents h notice events → AllByRecursion HearsList events
+  notice_hears : (h : HostState) (notice : Result Notice BodyFault) (events : List HostEvent) → ((v : Notice) → notice ≡ Ok v → NoticeTells listing v) → NoticeEvents h notice events → AllByRecursion (HearsList listing) events
   notice_hears h (Ok (ApplicationCommandHandler rx_status source payload)) events tells is = payloads_hear source events (payload_of source h payload (heard_at payload) events is)
-  notice_hears h (Ok (SendData callback_id status)) events tells is = one HearsList _ events tt is
+  notice_hears h (Ok (SendData callback_id status)) events tells is = one (HearsList listing) _ events tt is
   notice_hears h (Ok (ApplicationUpdate update)) events tells is = interview_hears update (interviewed_by h.requests update) events (tells (ApplicationUpdate update) refl) is
-  notice_hears h (Ok (AddNode callback_id status information)) events tells is = none HearsList events is
-  notice_hears h (Err fault) events tells is = none HearsList events is
+  notice_hears h (Ok (AddNode callback_id status information)) events tells is = none (HearsList listing) events is
+  notice_hears h (Err fault) events tells is = none (HearsList listing) events is
 
-  frame_hears : (h : HostState) (k : Kind) (function : ℕ) (body : List ℕ) (events : List HostEvent) → FrameTells listing k function body → FrameEvents h k function body events → AllByRecursion HearsList events
+  frame_hears : (h : HostState) (k : Kind) (function : ℕ) (body : List ℕ) (events : List HostEvent) → FrameTells listing k function body → FrameEvents h k function body events → AllByRecursion (HearsList listing) events
   frame_hears h kind.Response function body events tells is = response_hears (response_of function body) events is
   frame_hears h kind.Request function body events tells is = notice_hears h (notice_of function body) events tells is
 
-  sent_if_hears : (b : Bool) (events : List HostEvent) → events ≡ told_if b request_is_sent → AllByRecursion HearsList events
-  sent_if_hears true events is = one HearsList _ events tt is
-  sent_if_hears false events is = none HearsList events is
+  sent_if_hears : (b : Bool) (events : List HostEvent) → events ≡ told_if b request_is_sent → AllByRecursion (HearsList listing) events
+  sent_if_hears true events is = one (HearsList listing) _ events tt is
+  sent_if_hears false events is = none (HearsList listing) events is
 
-  fails_if_hears : (b : Bool) (events : List HostEvent) → events ≡ told_if b request_fails → AllByRecursion HearsList events
-  fails_if_hears true events is = one HearsList _ events tt is
-  fails_if_hears false events is = none HearsList events is
+  fails_if_hears : (b : Bool) (events : List HostEvent) → events ≡ told_if b request_fails → AllByRecursion (HearsList listing) events
+  fails_if_hears true events is = one (HearsList listing) _ events tt is
+  fails_if_hears false events is = none (HearsList listing) events is
 
-  followed_hears : (h : HostState) (turn : Turn) (item : Item) (events : List HostEvent) → ItemTells item → IsFollowed h turn item events → AllByRecursion HearsList events
+  followed_hears : (h : HostState) (turn : Turn) (item : Item) (events : List HostEvent) → ItemTells item → IsFollowed h turn item events → AllByRecursion (HearsList listing) events
   followed_hears h turn (Good Ack) events tells is = sent_if_hears (is_busy turn) events is
   followed_hears h turn (Good Nak) events tells is = fails_if_hears (gives_up turn h.side.turn) events is
   followed_hears h turn (Good Can) events tells is = fails_if_hears (gives_up turn h.side.turn) events is
   followed_hears h turn (Good (Framed f)) events tells is = frame_hears h f.kind f.func f.body events tells is
-  followed_hears h turn (Refused refusal) events tells is = none HearsList events is
+  followed_hears h turn (Refused refusal) events tells is = none (HearsList listing) events is
 
-  all_hear : (h : HostState) (items : List Item) (events : List HostEvent) → AllByRecursion ItemTells items → AreJudged h items events → AllByRecursion HearsList events
-  all_hear h [] events tell is = none HearsList events is
+  all_hear : (h : HostState) (items : List Item) (events : List HostEvent) → AllByRecursion ItemTells items → AreJudged h items events → AllByRecursion (HearsList listing) events
+  all_hear h [] events tell is = none (HearsList listing) events is
   all_hear h (item ∷ items) events tell (first, rest, are, (behind, first_is, followed), more) =
-      subst (λ (l : List HostEvent). AllByRecursion HearsList l) (sym are)
-      (all-append HearsList first rest
-      (subst (λ (l : List HostEvent). AllByRecursion HearsList l) (sym first_is) (tt, followed_hears (after h (Hears item)) h.side.turn item behind tell.0 followed))
+      subst (λ (l : List HostEvent). AllByRecursion (HearsList listing) l) (sym are)
+      (all-append (HearsList listing) first rest
+      (subst (λ (l : List HostEvent). AllByRecursion (HearsList listing) l) (sym first_is) (tt, followed_hears (after h (Hears item)) h.side.turn item behind tell.0 followed))
       (all_hear (host_after_all h first) items rest tell.1 more))
 
   -- ---- events of the machine
@@ -326,7 +316,7 @@ module _ (listing : ℕ → List ℕ) where
   MachineDown m = Down m.host.decoder m.outside.outer
 
   record HearsOn (m : Machine) (event : Event) : Type 0 where
-    hears : HearLists event
+    hears : HearLists listing event
     down : MachineDown (happens m event)
 
   written_down : (rest : Rest) (units : List LineUnit) (o n : OuterState) → Written units o n → Down rest o → Down rest n
@@ -359,7 +349,7 @@ module _ (listing : ℕ → List ℕ) where
   ListsOn m [] = Unit {0}
   ListsOn m (event ∷ events) = Lists listing m.outside.devices × ListsOn (happens m event) events
 
-  pub all_hear_lists : (m : Machine) (events : List Event) → MayAll m events → AllAtRest m events → ListsOn m events → MachineDown m → AllByRecursion HearLists events
+  pub all_hear_lists : (m : Machine) (events : List Event) → MayAll m events → AllAtRest m events → ListsOn m events → MachineDown m → AllByRecursion (HearLists listing) events
   all_hear_lists m [] may rests lists down = tt
   all_hear_lists m (event ∷ events) may rests lists down =
       let one = hears_on m event may.0 rests.0 lists.0 down in (one.hears, all_hear_lists (happens m event) events may.1 rests.1 lists.1 one.down)

@@ -14,7 +14,7 @@ use Rattle.zw_machine.specs.Did.{MayAll}
 use Rattle.world_facts.specs.Restarts.{StartsWell, HostKeepsWell, HostsKeepWell, KeepsWell, AllKeepWell, AreHeld, IsHeld}
 use Rattle.run_facts.specs.Lines.{IsAsked, AsksWell, AllAsked}
 use Rattle.said_facts.specs.Said.{TellsListing, TellListing, KnowsAgain, Tells, AllTell}
-use Rattle.listing_facts.proofs.Hearing.{HearsList, HearLists}
+use Rattle.listing_facts.specs.Lines.{HearsList, HearLists}
 
 -- ---- interviews
 

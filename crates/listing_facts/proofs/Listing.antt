@@ -1,7 +1,6 @@
 -- What a node lists stays what its first device listed at first: devices keep their nodes and kinds.
 use Rattle.std.proofs.Common.{◌≡◌, ℕ, Bool, true, false, List, [], ◌∷◌, ap, sym, ◌∙◌, subst}
 use Rattle.std.specs.Prelude.{Option, Some, None, ◌==◌, if◌then◌else◌, option_map, suc}
-use Rattle.device_stack.specs.declared.kind.Kind.{Kind}
 use Rattle.device_stack.specs.Kind.{classes_of}
 use Rattle.device_sim.specs.State.{State}
 use Rattle.mesh_sim.specs.Fates.{place_of}
@@ -34,6 +33,7 @@ lists_still (x ∷ old) (y ∷ new) same n device found =
 module _ (goes : (m : Machine) (event : Event) → GoOn m.outside.devices (happens m event).outside.devices) (stay : (old new : List State) → GoOn old new → AreSame old new) where
   pub lists_on : (devices : List State) (m : Machine) (events : List Event) → GoOn devices m.outside.devices → ListsOn (listing_of devices) m events
   lists_on devices m [] go = tt
-  lists_on devices m (event ∷ events) go =
-      (lists_still devices m.outside.devices (stay devices m.outside.devices go),
-       lists_on devices (happens m event) events (go_then devices m.outside.devices (happens m event).outside.devices go (goes m event)))
+  lists_on devices m (event ∷ events) go = (
+    lists_still devices m.outside.devices (stay devices m.outside.devices go),
+    lists_on devices (happens m event) events (go_then devices m.outside.devices (happens m event).outside.devices go (goes m event)),
+  )

@@ -1,7 +1,6 @@
 -- What is read of a notice: an update of a node tells what the node's kind lists, and no other notice tells a list.
-use Rattle.std.proofs.Common.{◌≡◌, ℕ, ◌&&◌, Bool, true, false, cond, eqb, List, refl, ap, sym, subst, ◌∙◌}
-use Rattle.std.specs.Prelude.{Some, None, Ok, Err, nat_le, if◌then◌else◌}
-use Rattle.zw_base.specs.declared.profile.Profile.{Profile}
+use Rattle.std.proofs.Common.{◌≡◌, ℕ, ◌&&◌, Bool, true, false, List, refl, sym, subst, ◌∙◌}
+use Rattle.std.specs.Prelude.{Some, Ok, Err, nat_le}
 use Rattle.chip_functions.specs.declared.fault.BodyFault.{BodyFault}
 use Rattle.chip_functions.specs.declared.fault.BodyFault.TheVariants.{UnknownFunction, BadField}
 use Rattle.chip_functions.specs.declared.function.TheConstants.{APPLICATION_COMMAND_HANDLER, SEND_DATA, ADD_NODE, APPLICATION_UPDATE}
@@ -9,10 +8,9 @@ use Rattle.chip_functions.specs.declared.notice.Notice.{Notice}
 use Rattle.chip_functions.specs.declared.notice.Notice.TheVariants.{ApplicationUpdate}
 use Rattle.chip_functions.specs.declared.notice.Update.{Update}
 use Rattle.chip_functions.specs.declared.notice.Update.TheVariants.{Received, RequestFailed}
-use Rattle.chip_functions.specs.Place.{Place, start_of, found_at}
+use Rattle.chip_functions.specs.Place.{Place, start_of}
 use Rattle.chip_functions.specs.Field.{Field, read_as}
-use Rattle.chip_functions.specs.Classes.{classes as class_list}
-use Rattle.chip_functions.specs.Notice.{handler, received, request_failed, callback, update, handler_at, callback_at, add_notice_at, update_at, received_at, request_failed_at, notice_at, notice_of, notice_body}
+use Rattle.chip_functions.specs.Notice.{handler, callback, update, handler_at, callback_at, add_notice_at, update_at, received_at, request_failed_at, notice_at, notice_of, notice_body}
 use Rattle.chip_functions.specs.AddNode.{add_notice}
 use Rattle.chip_functions.proofs.FieldLaws.{bind_ok, ok_is, as_takes}
 use Rattle.chip_functions.proofs.RowLaws.{row_cases, no_row}
