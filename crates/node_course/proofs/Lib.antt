@@ -11,6 +11,7 @@ pub mod Outer
 pub mod OuterEvents
 pub mod NodeKeeping
 pub mod HostFrames
+pub mod Told
 pub mod HostDoing
 pub mod HostEvents
 pub mod HostEntries

@@ -1,8 +1,9 @@
 -- The machine at first, and lines from there on, in the course of one node.
-use Rattle.std.proofs.Common.{◌≡◌, ℕ, zero, suc, ◌<◌, true, Option, Some, None, List, [], ◌∷◌, get_or, refl, sym, subst}
+use Rattle.std.proofs.Common.{◌≡◌, ℕ, zero, suc, ◌<◌, true, Option, Some, None, List, [], ◌∷◌, get_or, refl, sym, subst, arith}
 use Rattle.std.specs.Prelude.{slice_get}
 use Rattle.std.specs.List.{AllByRecursion}
 use Rattle.s0_crypto.specs.declared.key_pair.Keys.{Keys}
+use Rattle.supervision.specs.Host.{command_at as session_at}
 use Rattle.courses.specs.Sessions.{Course, Step, first_course, after_all, MayAll as MayAllSteps}
 use Rattle.courses.specs.SessionFacts.{CourseFacts}
 use Rattle.courses.specs.SessionLaws.{IsDone, IsApplied}
@@ -16,7 +17,7 @@ use Rattle.host_node.specs.Events.NodeEvent.{Joins as node_joins, Interviews as 
 use Rattle.host_nodes.specs.State.{unknown_nodes, unknown_from}
 use Rattle.host_events.specs.State.{HostState, first_nodes, first_classes, first_host, node_of}
 use Rattle.host_events.specs.After.{node_does}
-use Rattle.host_events.specs.Facts.{HostFacts}
+use Rattle.host_facts.specs.Facts.{Facts}
 use Rattle.outer_events.specs.State.{outside, first_outer}
 use Rattle.outer_traffic.specs.Traffic.{AreNodes}
 use Rattle.zw_machine.specs.State.{Machine, first_machine}
@@ -34,6 +35,10 @@ use Rattle.node_course.proofs.NodeKeeping.{SameHost, does_same}
 use Rattle.node_course.proofs.Hearing.{lines_end}
 
 -- ---- at first
+
+none_told : (session status : ℕ) → session_at [] session ≡ Some status → ⊥
+none_told zero status e = absurd (grind (arith, e))
+none_told (suc before) status e = absurd (grind (arith, e))
 
 from_as : (start count at : ℕ) → NodeAs [] None (get_or (unknown_from start count) at (unknown 0))
 from_as start zero at = (refl, (refl, (refl, refl)))
@@ -57,7 +62,7 @@ first_as keys node =
 -- the laws that are used
 pub record Laws : Type 0 where
   pub outside_first : (node : ℕ) (devices : List State) → HasDevice node first_course devices → Follows node [] first_course no_rest turns.Idle [] [] (outside first_outer devices)
-  pub facts_first : (keys : Keys) → HostFacts (first_host keys)
+  pub facts_first : (keys : Keys) → Facts [] (first_host keys)
   pub events : (node : ℕ) (orders : List Asked) (c : Course) (up down : List Item) (m : Machine) (events : List Event) → node < 233 → WorldFollows node orders c up down m → MayAll m events → AllAtRest m events →
       AllWriteWell m events → AlwaysFew m events → AllByRecursion (IsPlainly node) events → AllByRecursion (EndsByHearing node) events → WorldGoes node c (happens_all m events)
   pub stays : (keys : Keys) (records : Option (List (List ℕ))) (devices : List State) (lines : List Line) (events : List Event) → AreLines lines (first_machine keys records devices) events → MayAll (first_machine keys records devices) events →
@@ -83,7 +88,10 @@ module _ (laws : Laws) (node : ℕ) (within : node < 233) (keys : Keys) (records
   first_follows = record {
     outside = laws.outside_first node devices has;
     host = record { node_as = first_as keys node; orders_are = refl; plain = tt; queue = tt };
-    facts = laws.facts_first keys;
+    facts = (laws.facts_first keys).host;
+    past = record { past = []; facts = laws.facts_first keys };
+    course = laws.course_first;
+    outcomes = λ session number status at is. absurd (none_told session status is);
   }
 
   pub lines_have : (lines : List Line) (events : List Event) → AreLines lines first events → MayAll first events → AllAskWell first events → AllByRecursion (IsPlainly node) events → HasCourse node (happens_all first events)
@@ -101,4 +109,5 @@ module _ (laws : Laws) (node : ℕ) (within : node < 233) (keys : Keys) (records
         facts = subst (λ (c : Course). CourseFacts c) (sym g.goes.is) (laws.course_all first_course g.goes.steps laws.course_first g.goes.may);
         done = subst (λ (c : Course). IsDone c) (sym g.goes.is) (laws.done g.goes.steps g.goes.may);
         applied = subst (λ (c : Course). IsApplied c) (sym g.goes.is) (laws.applied g.goes.steps g.goes.may);
+        outcomes = g.follows.outcomes;
       }

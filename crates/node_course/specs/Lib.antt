@@ -7,5 +7,6 @@ pub mod Lines
 pub mod Chip
 pub mod Outside
 pub mod Host
+pub mod Told
 pub mod HostGoing
 pub mod World

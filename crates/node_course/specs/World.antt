@@ -12,12 +12,17 @@ use Rattle.node_course.specs.Meaning.{Asked}
 use Rattle.node_course.specs.Outside.{Follows}
 use Rattle.node_course.specs.Host.{AtHost, AsksPlainly}
 use Rattle.node_course.specs.HostGoing.{EndsNone}
+use Rattle.node_course.specs.Told.{AreOutcomes, HasPast}
 
--- The course is where the machine is: where its host is, with its facts, and what is outside it. These orders were accepted, and these items are on their way up and down the line
+-- The course is where the machine is: where its host is, with its facts, and what is outside it; and the table of commands says what the host was told. These orders were accepted, and these items are on their way up
+-- and down the line
 pub record WorldFollows (node : ℕ) (orders : List Asked) (c : Course) (up down : List Item) (m : Machine) : Type 0 where
   pub outside : Follows node orders c m.host.decoder m.host.state.side.turn up down m.outside
   pub host : AtHost node orders c.host m.host.state
   pub facts : HostFacts m.host.state
+  pub past : HasPast m.host.state
+  pub course : CourseFacts c
+  pub outcomes : AreOutcomes m.host.state.commands c.host.commands c.told
 
 -- steps of the course lead to where the machine is
 pub record WorldGoes (node : ℕ) (c : Course) (m : Machine) : Type 0 where
@@ -29,7 +34,7 @@ pub record WorldGoes (node : ℕ) (c : Course) (m : Machine) : Type 0 where
   pub follows : WorldFollows node orders later up down m
 
 -- So the course is where the machine is, over any events from the first on: the facts of courses hold, what the host was told is what the device did, and what the device applied is a part of the commands of the sessions. That the device
--- ended its sessions with the statuses of the course, and has changed by those that ended with success, is said by `follows`; so is that the host's sessions are the course's
+-- ended its sessions with the statuses of the course, and has changed by those that ended with success, is said by `follows`; so is that the host's sessions are the course's. The table of commands says of each session what the host was told
 pub record HasCourse (node : ℕ) (m : Machine) : Type 0 where
   pub orders : List Asked
   pub course : Course
@@ -39,6 +44,7 @@ pub record HasCourse (node : ℕ) (m : Machine) : Type 0 where
   pub facts : CourseFacts course
   pub done : IsDone course
   pub applied : IsApplied course
+  pub outcomes : AreOutcomes m.host.state.commands course.host.commands course.told
 
 -- ---- what is premised of events
 

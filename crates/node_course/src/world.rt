@@ -20,7 +20,7 @@ ghost use Rattle.node_course.specs.World.{WorldFollows, WorldGoes, HasCourse, Is
 use crate::host::hosts_follow_the_course;
 use crate::outside::outsides_follow_the_course;
 use courses::{courses_keep_facts, what_is_told_was_done};
-use host_events::facts_are_kept;
+use host_facts::{events_keep_facts, first_facts_hold, laws_follow, what_is_over_stays};
 use line_facts::{hosts_write_well, units_are_judged_whole};
 use world_traffic::at_most_two_are_on_the_air;
 
@@ -33,12 +33,15 @@ pub fn worlds_follow_the_course()
 {
     outsides_follow_the_course();
     hosts_follow_the_course();
-    facts_are_kept();
+    courses_keep_facts();
+    events_keep_facts();
+    laws_follow();
+    what_is_over_stays();
 }
 
 /// So over any lines from the first on, where no host starts again: for a node whose commands go whole and unsealed, and whose device is the only one of it and takes what is not sealed, there is a course of its sessions, from the first. The sessions of the
 /// host are the course's, and so are those of the device, with the statuses to which it came; what the device applied by sessions is a part of the commands of the sessions that began, in order, each once; and each session of which the host was told success is
-/// among them.
+/// among them. The command of each session of which the host was told has the outcome of the status that was told.
 pub fn lines_have_a_course()
     ensures first { (node : ℕ) (keys : Keys) (records : Option (List (List ℕ))) (devices : List State) → node < 233 → HasDevice node first_course devices → WorldFollows node [] first_course [] [] (first_machine keys records devices) }
     ensures lines { (node : ℕ) (keys : Keys) (records : Option (List (List ℕ))) (devices : List State) (lines : List Line) (events : List Event) → node < 233 → HasDevice node first_course devices →
@@ -47,7 +50,7 @@ pub fn lines_have_a_course()
 {
     worlds_follow_the_course();
     outsides_follow_the_course();
-    facts_are_kept();
+    first_facts_hold();
     units_are_judged_whole();
     hosts_write_well();
     at_most_two_are_on_the_air();

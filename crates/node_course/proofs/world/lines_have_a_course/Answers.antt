@@ -5,7 +5,7 @@ use Rattle.node_course.proofs.world.lines_have_a_course.Goals as goal
 pub returns-clause-first : goal.returns-clause-first
 returns-clause-first c node keys records devices within has = first_follows (record {
   outside_first = c.outsides_follow_the_course.ensures.first;
-  facts_first = c.facts_are_kept.ensures.first;
+  facts_first = c.first_facts_hold.ensures;
   events = c.worlds_follow_the_course.ensures.events;
   stays = c.units_are_judged_whole.ensures.lines;
   writes = c.hosts_write_well.ensures.run;
@@ -19,7 +19,7 @@ returns-clause-first c node keys records devices within has = first_follows (rec
 pub returns-clause-lines : goal.returns-clause-lines
 returns-clause-lines c node keys records devices lines events within has = lines_have (record {
   outside_first = c.outsides_follow_the_course.ensures.first;
-  facts_first = c.facts_are_kept.ensures.first;
+  facts_first = c.first_facts_hold.ensures;
   events = c.worlds_follow_the_course.ensures.events;
   stays = c.units_are_judged_whole.ensures.lines;
   writes = c.hosts_write_well.ensures.run;
