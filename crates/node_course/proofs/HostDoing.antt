@@ -53,6 +53,7 @@ use Rattle.line_facts.proofs.Outer.{Written, routed_all}
 use Rattle.node_course.specs.Ways.{Goes}
 use Rattle.node_course.specs.Meaning.{Asked, HostMeans}
 use Rattle.node_course.specs.Air.{OnAir}
+use Rattle.node_course.specs.Making.{AllMake}
 use Rattle.node_course.specs.Mesh.{HasDevice, InMesh}
 use Rattle.node_course.specs.Lines.{Tells, Asks, asked_as, ItemIs, own_frames, OnWay, Later, Moves}
 use Rattle.node_course.specs.Host.{NodeAs, AtHost}
@@ -60,6 +61,7 @@ use Rattle.node_course.specs.HostGoing.{HostFollows, HostGoes}
 use Rattle.node_course.proofs.Thinning.{goes_nowhere, goes_on, goes_once, up_thins}
 use Rattle.node_course.proofs.Flights.{beside-weaker, meaning_stays, order_accepted, session_begins, air_stays}
 use Rattle.node_course.proofs.Moving.{move_same, move_submit}
+use Rattle.node_course.proofs.Making.{all_make_more}
 use Rattle.node_course.proofs.Outer.{SameDevice, has_same}
 use Rattle.node_course.specs.Told.{AreOutcomes, KeepsOutcomes}
 use Rattle.node_course.proofs.Told.{outcomes_stay, outcomes_begin}
@@ -150,6 +152,8 @@ writes_go node orders c rest up yet down h g w outs f keeps wrote none units =
       on_air = subst (λ (a : AirState). OnAir node more c.host c.air c.old f.mesh.log f.mesh.flights a.frames) (sym same.air)
           (order_accepted node orders wrote.added c.host c.air c.old f.mesh.log f.mesh.flights w.outer.air.frames f.mesh.on_air);
       device = subst (λ (ds : List State). HasDevice node later ds) (sym same.devices) (has_same node c later w.devices (record { device = refl; kept = refl; ends = refl }) f.mesh.device);
+      made = subst (λ (ds : List State). AllMake node more c.host.commands ds) (sym same.devices)
+          (subst (λ (cs : List ℕ). AllMake node more cs w.devices) (append-nil c.host.commands) (all_make_more node orders wrote.added c.host.commands [] w.devices f.mesh.made));
     } in
     record {
       orders = more;
@@ -320,9 +324,9 @@ module _ (laws : AirLaws) (node : ℕ) (orders : List Asked) (c : Course) (rest 
 
   -- with this course, and these frames on the air
   begun_with : (later : Course) (log : List Mark) → Goes c later → later.up ≡ c.up → later.down ≡ c.down → SameDevice c later
-      → OnAir node orders later.host later.air later.old log f.mesh.flights (air_begins w.outer.air n session).frames → AtHost node orders later.host g → AreOutcomes g.commands later.host.commands later.told
+      → OnAir node orders later.host later.air later.old log f.mesh.flights (air_begins w.outer.air n session).frames → AtHost node orders later.host g → AreOutcomes g.commands later.host.commands later.told → AllMake node orders later.host.commands w.devices
       → ((fr : FrameParts) (mark : Option Message) → Asks node orders c.host.commands fr mark → Asks node orders later.host.commands fr mark) → HostGoes node c rest yet down g w'
-  begun_with later log goes same_up same_down same on there told asks = record {
+  begun_with later log goes same_up same_down same on there told made asks = record {
     orders = orders;
     later = later;
     goes = goes;
@@ -333,6 +337,7 @@ module _ (laws : AirLaws) (node : ℕ) (orders : List Asked) (c : Course) (rest 
         flights = f.mesh.flights;
         on_air = subst (λ (a : AirState). OnAir node orders later.host later.air later.old log f.mesh.flights a.frames) (sym begin_air.0) on;
         device = subst (λ (ds : List State). HasDevice node later ds) (sym begin_air.1) (has_same node c later w.devices same f.mesh.device);
+        made = subst (λ (ds : List State). AllMake node orders later.host.commands ds) (sym begin_air.1) made;
       };
       to_chip = subst (λ (y : WayState). Carries w'.outer.chip.decoder y up) (sym written.to_chip) (subst (λ (r : Rest). Carries r w.outer.to_chip up) (sym (ap (λ (x : ChipParts). x.decoder) written.chip)) f.to_chip);
       to_host = subst (λ (y : WayState). Carries rest y down) (sym written.to_host) f.to_host;
@@ -370,7 +375,7 @@ module _ (laws : AirLaws) (node : ℕ) (orders : List Asked) (c : Course) (rest 
           let done : HostState = node_does h n node_begins in
           let same : SameHost node h g = same_then node h done g (other_same node h n (after_node (node_of h n) node_begins) (λ e. absurd (grind (arith, apart, e)))) (same_host node done g refl (outcome_orders h.commands command _) refl refl) in
           let there : AtHost node orders c.host g = subst (λ (os : List Asked). AtHost node os c.host g) (append-nil orders) (same_at node orders c.host h g same f.host) in
-          begun_with c air.0 (goes_nowhere c) refl refl (record { device = refl; kept = refl; ends = refl }) air.1 there still_told (λ fr mark is. is)
+          begun_with c air.0 (goes_nowhere c) refl refl (record { device = refl; kept = refl; ends = refl }) air.1 there still_told f.mesh.made (λ fr mark is. is)
       by true mine =
           let own : n ≡ node = eqb-true n node mine in
           let within : node < 233 = subst (λ (k : ℕ). k < 233) own waits_somewhere in
@@ -389,4 +394,6 @@ module _ (laws : AirLaws) (node : ℕ) (orders : List Asked) (c : Course) (rest 
           begun_with later (f.mesh.log ++ begins_mark node ∷ []) (goes_once c (begins_step command) closed) refl refl (record { device = refl; kept = refl; ends = refl })
           (subst (λ (k : ℕ). OnAir node orders later.host c.air c.old (f.mesh.log ++ begins_mark node ∷ []) f.mesh.flights (air_begins w.outer.air k session).frames) (sym own)
           (own_begins laws node orders c.host c.air c.old f.mesh.log f.mesh.flights w.outer.air f.mesh.on_air command session within count))
-          there (outcomes_begin g.commands c.host.commands c.told command (let all = course.told_are.closed closed in omega (arith, all)) still_told) (λ fr mark is. asks_longer node orders c.host.commands (command ∷ []) fr mark is)
+          there (outcomes_begin g.commands c.host.commands c.told command (let all = course.told_are.closed closed in omega (arith, all)) still_told)
+          (subst (λ (os : List Asked). AllMake node os (c.host.commands ++ command ∷ []) w.devices) (append-nil orders) (all_make_more node orders [] c.host.commands (command ∷ []) w.devices f.mesh.made))
+          (λ fr mark is. asks_longer node orders c.host.commands (command ∷ []) fr mark is)

@@ -53,6 +53,7 @@ use Rattle.message_facts.specs.Others.{IsOther}
 use Rattle.node_course.specs.Ways.{Beside, Thinned, Goes}
 use Rattle.node_course.specs.Meaning.{Asked}
 use Rattle.node_course.specs.Air.{OnAir}
+use Rattle.node_course.specs.Making.{AllMake}
 use Rattle.node_course.specs.Mesh.{HasDevice, labels}
 use Rattle.node_course.specs.Lines.{Tells, Asks, ItemIs, OnWay}
 use Rattle.node_course.specs.Host.{NodeAs, AsksPlainly}
@@ -250,6 +251,7 @@ module _ (laws : Laws) (node : ℕ) (rest : Rest) (down : List Item) where
           on_air = subst (λ (a : AirState). OnAir node orders told.host c.air c.old f.mesh.log f.mesh.flights a.frames) (sym same.air)
               (record { fly = f.mesh.on_air.fly; flying = f.mesh.on_air.flying; flown = f.mesh.on_air.flown; begun = f.mesh.on_air.begun });
           device = subst (λ (ds : List State). HasDevice node told ds) (sym same.devices) (has_same node c told w.devices (record { device = refl; kept = refl; ends = refl }) f.mesh.device);
+          made = subst (λ (ds : List State). AllMake node orders c.host.commands ds) (sym same.devices) f.mesh.made;
         };
         to_chip = subst (λ (y : WayState). Carries w'.outer.chip.decoder y up) (sym written.to_chip) (subst (λ (r : Rest). Carries r w.outer.to_chip up) (sym (ap (λ (x : ChipParts). x.decoder) written.chip)) f.to_chip);
         to_host = subst (λ (y : WayState). Carries rest y down) (sym written.to_host) f.to_host;

@@ -2,6 +2,7 @@ pub mod Thinning
 pub mod Flights
 pub mod Saying
 pub mod Devices
+pub mod Making
 pub mod Replies
 pub mod Arriving
 pub mod Moving
@@ -19,4 +20,5 @@ pub mod HostJudging
 pub mod HostItems
 pub mod Whole
 pub mod Hearing
+pub mod Taken
 pub mod Running

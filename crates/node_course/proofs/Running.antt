@@ -27,12 +27,14 @@ use Rattle.line_facts.specs.Line.{AllWriteWell, AllAtRest, AreLines, Stays}
 use Rattle.line_facts.specs.Host.{AllAskWell}
 use Rattle.world_traffic.specs.OnAir.{AlwaysFew}
 use Rattle.node_course.specs.Meaning.{Asked}
+use Rattle.node_course.specs.Making.{MakesAsked}
 use Rattle.node_course.specs.Mesh.{HasDevice}
 use Rattle.node_course.specs.Outside.{Follows}
 use Rattle.node_course.specs.Host.{NodeAs}
 use Rattle.node_course.specs.World.{WorldFollows, WorldGoes, HasCourse, IsPlainly, EndsByHearing}
 use Rattle.node_course.proofs.NodeKeeping.{SameHost, does_same}
 use Rattle.node_course.proofs.Hearing.{lines_end}
+use Rattle.node_course.proofs.Taken.{changes_taken}
 
 -- ---- at first
 
@@ -110,4 +112,8 @@ module _ (laws : Laws) (node : ℕ) (within : node < 233) (keys : Keys) (records
         done = subst (λ (c : Course). IsDone c) (sym g.goes.is) (laws.done g.goes.steps g.goes.may);
         applied = subst (λ (c : Course). IsApplied c) (sym g.goes.is) (laws.applied g.goes.steps g.goes.may);
         outcomes = g.follows.outcomes;
+        made = λ place device stands own.
+            let makes : AllByRecursion (MakesAsked g.orders g.later.host.commands) device.journal = (g.follows.outside.mesh.made place device stands own).changes in
+            changes_taken (happens_all first events).host.state.commands g.later.host.commands device.journal
+            (subst (λ (os : List Asked). AllByRecursion (MakesAsked os g.later.host.commands) device.journal) g.follows.host.orders_are makes);
       }

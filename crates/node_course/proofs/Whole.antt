@@ -41,6 +41,7 @@ use Rattle.world_traffic.specs.OnAir.{OuterStaysFew, EventStaysFew, AlwaysFew}
 use Rattle.node_course.specs.Ways.{Goes}
 use Rattle.node_course.specs.Meaning.{Asked}
 use Rattle.node_course.specs.Air.{OnAir}
+use Rattle.node_course.specs.Making.{AllMake}
 use Rattle.node_course.specs.Mesh.{HasDevice}
 use Rattle.node_course.specs.Lines.{Tells, OnWay}
 use Rattle.node_course.specs.Outside.{Follows, OuterGoes, Rests}
@@ -75,6 +76,7 @@ module _ (node : ℕ) where
       flights = f.mesh.flights;
       on_air = subst (λ (a : AirState). OnAir node orders c.host c.air c.old f.mesh.log f.mesh.flights a.frames) (sym same.air) f.mesh.on_air;
       device = subst (λ (ds : List State). HasDevice node c ds) (sym same.devices) f.mesh.device;
+      made = subst (λ (ds : List State). AllMake node orders c.host.commands ds) (sym same.devices) f.mesh.made;
     };
     to_chip = subst (λ (y : WayState). Carries v.outer.chip.decoder y up) (sym written.to_chip) (subst (λ (r : Rest). Carries r w.outer.to_chip up) (sym (ap (λ (x : ChipParts). x.decoder) written.chip)) f.to_chip);
     to_host = subst (λ (y : WayState). Carries rest y down) (sym written.to_host) f.to_host;
@@ -193,7 +195,7 @@ rests_of m event e = tt
 
 -- the laws that are used
 pub record Laws : Type 0 where
-  pub outside : (node : ℕ) (orders : List Asked) (c : Course) (rest : Rest) (turn : Turn) (up down : List Item) (w : Outside) (event : OuterEvent) → node < 233 → Follows node orders c rest turn up down w →
+  pub outside : (node : ℕ) (orders : List Asked) (c : Course) (rest : Rest) (turn : Turn) (up down : List Item) (w : Outside) (event : OuterEvent) → node < 233 → CourseFacts c → Follows node orders c rest turn up down w →
       is_own event ≡ true → MayOutside w event → Rests rest w event → OuterStaysFew w.outer event → OuterGoes node orders c rest turn (happens_outside w event)
   pub does : (node : ℕ) (orders : List Asked) (c : Course) (rest : Rest) (up down : List Item) (h : HostState) (w : Outside) (event : HostEvent) → HostFollows node orders c rest up [] down h w → HasPast h → CourseFacts c → MayHost h event →
       AsksPlainly node event → EndsNone node event → AllByRecursion IsUnit (host_units (outs h event)) → HostGoes node c rest [] down (after_host h event) (happens_all_outside w (routed (outs h event)))
@@ -211,7 +213,7 @@ module _ (laws : Laws) (node : ℕ) (within : node < 233) where
       → WorldGoes node c (with_outside m (happens_outside m.outside event))
   outside_goes orders c up down m event f own may rests few =
       let g : OuterGoes node orders c m.host.decoder m.host.state.side.turn (happens_outside m.outside event) =
-      laws.outside node orders c m.host.decoder m.host.state.side.turn up down m.outside event within f.outside own may (rests_of m event rests) few in
+      laws.outside node orders c m.host.decoder m.host.state.side.turn up down m.outside event within f.course f.outside own may (rests_of m event rests) few in
       record {
         orders = orders;
         later = g.later;

@@ -1,6 +1,7 @@
 pub mod Ways
 pub mod Meaning
 pub mod Air
+pub mod Making
 pub mod Device
 pub mod Mesh
 pub mod Lines

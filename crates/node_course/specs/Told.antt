@@ -1,14 +1,21 @@
--- What the host was told of sessions, and what its table of commands says of these (this project's own rule).
-use Rattle.std.specs.Prelude.{◌≡◌, ℕ, List, Some}
+-- What the host's table of commands says of what the host was told of sessions, and of what devices changed (this project's own rule).
+use Rattle.std.specs.Prelude.{◌≡◌, ℕ, List, [], Option, Some, None}
+use Rattle.std.specs.List.{AllByRecursion}
+use Rattle.zw_base.specs.declared.property.Setting.{Setting}
 use Rattle.supervision.specs.Host.{command_at as session_at}
 use Rattle.zw_text.specs.declared.entry.Entry.{Entry}
 use Rattle.zw_text.specs.declared.entry.Outcome.{Outcome}
+use Rattle.zw_text.specs.Transcript.{by_session}
+use Rattle.zw_laws.specs.Once.{carried_by}
+use Rattle.device_stack.specs.declared.change.Change.{Change}
+use Rattle.host_orders.specs.Settings.{settings}
+use Rattle.host_keep.specs.Kept.{Taken}
 use Rattle.host_keep.specs.Status.{status_byte}
 use Rattle.host_keep.specs.declared.final_status.FinalStatus.{FinalStatus}
 use Rattle.host_events.specs.State.{Command, HostState}
 use Rattle.host_events.specs.After.{outcome_of}
 use Rattle.host_facts.specs.Facts.{Facts}
-use Rattle.host_facts.specs.Tables.{outcome_in}
+use Rattle.host_facts.specs.Tables.{outcome_in, taken_at}
 
 -- a status that ended a session, and what became of the session's command
 pub record IsToldAs (status : ℕ) (outcome : Outcome) : Type 0 where
@@ -24,6 +31,16 @@ AreOutcomes commands begun told =
 -- a command that came to its end keeps that outcome
 abbrev pub KeepsOutcomes : List Command → List Command → Type 0
 KeepsOutcomes old new = (number : ℕ) (status : FinalStatus) → outcome_in old number ≡ outcome_of status → outcome_in new number ≡ outcome_of status
+
+-- the settings of a command that was taken
+abbrev pub settings_taken : Option Taken → List Setting
+settings_taken None = []
+settings_taken (Some taken) = settings taken.carriage.actuator taken.order
+
+-- a change by a session has exactly the settings that the table says the session's command asks for
+abbrev pub MakesWhatIsTaken : List Command → List ℕ → Change → Type 0
+MakesWhatIsTaken commands begun change =
+    AllByRecursion (λ number. change.settings ≡ settings_taken (taken_at commands number)) (carried_by begun (by_session change.by))
 
 -- the host has the facts of some transcript
 pub record HasPast (h : HostState) : Type 0 where

@@ -1,9 +1,11 @@
 -- The whole machine, in the course of one node (this project's own rule).
-use Rattle.std.specs.Prelude.{ℕ, List}
+use Rattle.std.specs.Prelude.{◌≡◌, ℕ, List, Some, slice_get}
+use Rattle.std.specs.List.{AllByRecursion}
 use Rattle.courses.specs.Sessions.{Course}
 use Rattle.courses.specs.SessionFacts.{CourseFacts}
 use Rattle.courses.specs.SessionLaws.{IsDone, IsApplied}
 use Rattle.serial_frame.specs.declared.item.Item.{Item}
+use Rattle.device_sim.specs.State.{State}
 use Rattle.host_events.specs.Facts.{HostFacts}
 use Rattle.zw_machine.specs.State.{Machine}
 use Rattle.zw_machine.specs.Events.{Event, Host_does, Restarts}
@@ -12,7 +14,7 @@ use Rattle.node_course.specs.Meaning.{Asked}
 use Rattle.node_course.specs.Outside.{Follows}
 use Rattle.node_course.specs.Host.{AtHost, AsksPlainly}
 use Rattle.node_course.specs.HostGoing.{EndsNone}
-use Rattle.node_course.specs.Told.{AreOutcomes, HasPast}
+use Rattle.node_course.specs.Told.{AreOutcomes, MakesWhatIsTaken, HasPast}
 
 -- The course is where the machine is: where its host is, with its facts, and what is outside it; and the table of commands says what the host was told. These orders were accepted, and these items are on their way up
 -- and down the line
@@ -34,7 +36,8 @@ pub record WorldGoes (node : ℕ) (c : Course) (m : Machine) : Type 0 where
   pub follows : WorldFollows node orders later up down m
 
 -- So the course is where the machine is, over any events from the first on: the facts of courses hold, what the host was told is what the device did, and what the device applied is a part of the commands of the sessions. That the device
--- ended its sessions with the statuses of the course, and has changed by those that ended with success, is said by `follows`; so is that the host's sessions are the course's. The table of commands says of each session what the host was told
+-- ended its sessions with the statuses of the course, and has changed by those that ended with success, is said by `follows`; so is that the host's sessions are the course's. The table of commands says of each session what the host was told,
+-- and each change by a session has exactly the settings that the table says of its command
 pub record HasCourse (node : ℕ) (m : Machine) : Type 0 where
   pub orders : List Asked
   pub course : Course
@@ -45,6 +48,7 @@ pub record HasCourse (node : ℕ) (m : Machine) : Type 0 where
   pub done : IsDone course
   pub applied : IsApplied course
   pub outcomes : AreOutcomes m.host.state.commands course.host.commands course.told
+  pub made : (place : ℕ) (device : State) → slice_get m.outside.devices place ≡ Some device → device.node ≡ node → AllByRecursion (MakesWhatIsTaken m.host.state.commands course.host.commands) device.journal
 
 -- ---- what is premised of events
 
