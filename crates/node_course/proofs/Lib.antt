@@ -20,5 +20,6 @@ pub mod HostJudging
 pub mod HostItems
 pub mod Whole
 pub mod Hearing
+pub mod Asking
 pub mod Taken
 pub mod Running

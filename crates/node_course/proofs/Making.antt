@@ -1,5 +1,5 @@
 -- The sessions of a device make what their commands ask for, at each of its events.
-use Rattle.std.proofs.Common.{◌≡◌, ℕ, zero, suc, ◌<◌, ◌≤◌, ◌==◌, ◌≢◌, Bool, true, false, Option, Some, None, List, [], ◌∷◌, ◌++◌, refl, ap, sym, ◌∙◌, subst, arith}
+use Rattle.std.proofs.Common.{◌≡◌, ℕ, zero, suc, ◌<◌, ◌≤◌, ◌==◌, ◌≢◌, Bool, true, false, Some, List, [], ◌∷◌, ◌++◌, refl, ap, sym, ◌∙◌, subst, arith}
 use Rattle.std.specs.Prelude.{slice_get, slice_set}
 use Rattle.std.specs.List.{AllByRecursion}
 use Rattle.std.proofs.lemmas.Bool.{eqb-true}
@@ -12,8 +12,8 @@ use Rattle.supervision.specs.Session.{wire_id}
 use Rattle.supervision.specs.Device.{Taken, heard_of}
 use Rattle.supervision.specs.declared.device_book.Heard.{Heard}
 use Rattle.supervision.specs.declared.device_book.Heard.TheVariants.{New, Again, Old}
-use Rattle.courses.specs.Parts.{numbered, successes}
-use Rattle.courses.specs.Sessions.{Course, Message, Cargo, Command, Of_host, Answer, Of_node}
+use Rattle.courses.specs.Parts.{numbered}
+use Rattle.courses.specs.Sessions.{Course, Cargo, Command, Of_host, Answer, Of_node}
 use Rattle.courses.specs.SessionLaws.{NamesOne}
 use Rattle.host_orders.specs.Refusals.{IsFit, is_bad}
 use Rattle.host_orders.specs.Settings.{settings}
@@ -29,7 +29,7 @@ use Rattle.device_sim.specs.State.{State}
 use Rattle.device_sim.specs.Event.{DeviceEvent, Hears, Ticks, Wakes, Sets, outcome_of, device_after}
 use Rattle.device_sim.specs.Laws.{IsMade, numbers}
 use Rattle.device_course.specs.Ending.{HasEnded, one_at_work}
-use Rattle.message_facts.specs.Asking.{takes_openly, verdict_on, MakesOnly, IsAtWork, HasTaken, IsUntouched, IsLeft, Follows}
+use Rattle.message_facts.specs.Asking.{takes_openly, verdict_on, MakesOnly, IsAtWork, IsUntouched, IsLeft, Follows}
 use Rattle.message_facts.specs.Others.{IsOther}
 use Rattle.node_course.specs.Meaning.{Asked, IsMessageOf, HostMeans}
 use Rattle.node_course.specs.Making.{IsAskedFor, MakesBy, MakesAsked, Makes, AllMake, Names, HearsNone}

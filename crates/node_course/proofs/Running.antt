@@ -33,7 +33,6 @@ use Rattle.node_course.specs.Outside.{Follows}
 use Rattle.node_course.specs.Host.{NodeAs}
 use Rattle.node_course.specs.World.{WorldFollows, WorldGoes, HasCourse, IsPlainly, EndsByHearing}
 use Rattle.node_course.proofs.NodeKeeping.{SameHost, does_same}
-use Rattle.node_course.proofs.Hearing.{lines_end}
 use Rattle.node_course.proofs.Taken.{changes_taken}
 
 -- ---- at first
@@ -77,6 +76,7 @@ pub record Laws : Type 0 where
   pub course_all : (c : Course) (steps : List Step) → CourseFacts c → MayAllSteps c steps → CourseFacts (after_all c steps)
   pub done : (steps : List Step) → MayAllSteps first_course steps → IsDone (after_all first_course steps)
   pub applied : (steps : List Step) → MayAllSteps first_course steps → IsApplied (after_all first_course steps)
+  pub ends : (node : ℕ) (lines : List Line) (m : Machine) (events : List Event) → AreLines lines m events → AllByRecursion (EndsByHearing node) events
 
 nodes_of : (devices : List State) → ((other : ℕ) (one : State) → slice_get devices other ≡ Some one → one.node < 233) → AreNodes devices
 nodes_of [] all = tt
@@ -101,7 +101,7 @@ module _ (laws : Laws) (node : ℕ) (within : node < 233) (keys : Keys) (records
       let well : AllWriteWell first events = laws.writes keys records devices events may asks in
       let rests : Stays first events = laws.stays keys records devices lines events are may well in
       let few : AlwaysFew first events = laws.few keys records devices lines events (nodes_of devices has.nodes) are may asks in
-      let g : WorldGoes node first_course (happens_all first events) = laws.events node [] first_course [] [] first events within first_follows may rests.at_rest well few plain (lines_end node lines first events are) in
+      let g : WorldGoes node first_course (happens_all first events) = laws.events node [] first_course [] [] first events within first_follows may rests.at_rest well few plain (laws.ends node lines first events are) in
       record {
         orders = g.orders;
         course = g.later;

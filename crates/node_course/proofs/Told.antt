@@ -20,7 +20,7 @@ use Rattle.host_facts.specs.Entries.{entries_at}
 use Rattle.host_facts.specs.Facts.{AreShown, Facts}
 use Rattle.host_facts.specs.Laws.{HostLaws, IsOver}
 use Rattle.host_facts.specs.Tables.{outcome_by, outcome_in, recorded}
-use Rattle.node_course.specs.Told.{IsToldAs, AreOutcomes, KeepsOutcomes, HasPast}
+use Rattle.node_course.specs.Told.{AreOutcomes, KeepsOutcomes, HasPast}
 
 -- ---- places
 

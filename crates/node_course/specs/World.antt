@@ -1,18 +1,23 @@
 -- The whole machine, in the course of one node (this project's own rule).
-use Rattle.std.specs.Prelude.{◌≡◌, ℕ, List, Some, slice_get}
+use Rattle.std.specs.Prelude.{◌≡◌, ◌≢◌, ℕ, ◌≤◌, List, Some, slice_get}
 use Rattle.std.specs.List.{AllByRecursion}
 use Rattle.courses.specs.Sessions.{Course}
 use Rattle.courses.specs.SessionFacts.{CourseFacts}
 use Rattle.courses.specs.SessionLaws.{IsDone, IsApplied}
 use Rattle.serial_frame.specs.declared.item.Item.{Item}
 use Rattle.device_sim.specs.State.{State}
+use Rattle.zw_text.specs.declared.line.Line.{Line}
+use Rattle.zw_text.specs.declared.line.Line.TheVariants.{Command, Get}
+use Rattle.host_orders.specs.Wrapping.{form_of}
+use Rattle.host_orders.specs.declared.carriage.Form.TheVariants.{Plain}
+use Rattle.host_events.specs.Events.{HostEvent, Accepts, Queues, Requests_do, Finishes}
 use Rattle.host_events.specs.Facts.{HostFacts}
 use Rattle.zw_machine.specs.State.{Machine}
 use Rattle.zw_machine.specs.Events.{Event, Host_does, Restarts}
 use Rattle.node_course.specs.Ways.{Goes}
 use Rattle.node_course.specs.Meaning.{Asked}
 use Rattle.node_course.specs.Outside.{Follows}
-use Rattle.node_course.specs.Host.{AtHost, AsksPlainly}
+use Rattle.node_course.specs.Host.{IsOtherTask, AtHost, PushesOther, AsksPlainly}
 use Rattle.node_course.specs.HostGoing.{EndsNone}
 use Rattle.node_course.specs.Told.{AreOutcomes, MakesWhatIsTaken, HasPast}
 
@@ -57,6 +62,34 @@ abbrev pub IsPlainly : ℕ → Event → Type 0
 IsPlainly node (Host_does event) = AsksPlainly node event
 IsPlainly node (Restarts state) = ⊥
 IsPlainly node event = Unit {0}
+
+-- the orders for the node go whole and unsealed, and no host starts again: no more is premised of lines
+abbrev pub OrderPlain : ℕ → HostEvent → Type 0
+OrderPlain node (Accepts order carriage) = order.node ≡ node → form_of carriage.outer ≡ Plain
+OrderPlain node event = Unit {0}
+
+abbrev pub OrdersPlain : ℕ → Event → Type 0
+OrdersPlain node (Host_does event) = OrderPlain node event
+OrdersPlain node (Restarts state) = ⊥
+OrdersPlain node event = Unit {0}
+
+-- the end point that a line names is at most 127, as of each line that is read
+abbrev pub NamesEnd : Line → Type 0
+NamesEnd (Command order) = order.end ≤ 127
+NamesEnd (Get n end) = end ≤ 127
+NamesEnd line = Unit {0}
+
+-- what the host does of itself or for a line, where lines name such end points: it ends no session of the node, and what it is asked to send to it is no message of a session
+abbrev pub IsOfLine : Type 0 → ℕ → HostEvent → Type 0
+IsOfLine Near node (Accepts order carriage) = Near → order.end ≤ 127
+IsOfLine Near node (Queues queued) = Near → IsOtherTask node queued
+IsOfLine Near node (Requests_do event moment) = PushesOther node event
+IsOfLine Near node (Finishes n session id command status wake_request) = n ≢ node
+IsOfLine Near node event = Unit {0}
+
+abbrev pub ComesOfLine : Type 0 → ℕ → Event → Type 0
+ComesOfLine Near node (Host_does event) = IsOfLine Near node event
+ComesOfLine Near node event = Unit {0}
 
 -- the host ends a session of the node only by what it has taken out of its pipe
 abbrev pub EndsByHearing : ℕ → Event → Type 0
