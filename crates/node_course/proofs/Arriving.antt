@@ -3,10 +3,12 @@ use Rattle.std.proofs.Common.{◌≡◌, ◌≢◌, ℕ, zero, suc, ◌+◌, ◌
 use Rattle.std.specs.Prelude.{slice_get}
 use Rattle.std.specs.Option.{option_map}
 use Rattle.std.proofs.lemmas.Bool.{eqb-true}
-use Rattle.supervision.specs.Host.{HostBook}
+use Rattle.supervision.specs.Host.{HostBook, begun_of}
 use Rattle.supervision.specs.Ends.{Report}
 use Rattle.courses.specs.Flying.{Flight}
-use Rattle.courses.specs.Sessions.{Course, Cargo, Command, Of_host, Answer, Of_node, Lands as lands_step, Repeats as repeats_step, hears, lands, repeats, MayRepeat}
+use Rattle.courses.specs.SessionFacts.{CourseFacts}
+use Rattle.courses.specs.SessionLaws.{NamesOne}
+use Rattle.courses.specs.Sessions.{Course, Message, IsFresh, IsFreshCargo, Cargo, Command, Of_host, Answer, Of_node, Lands as lands_step, Repeats as repeats_step, hears, lands, repeats, MayRepeat}
 use Rattle.route_table.specs.declared.route.Route.{Route}
 use Rattle.air_frames.specs.declared.frame.Heading.{Heading}
 use Rattle.air_frames.specs.declared.frame.Heading.TheVariants.{Outward, Homeward}
@@ -31,9 +33,10 @@ use Rattle.node_course.specs.Ways.{Goes}
 use Rattle.node_course.specs.Meaning.{Asked, HostMeans, NodeMeans}
 use Rattle.node_course.specs.Air.{BearsBy, OnAir, Lands, WasThere}
 use Rattle.node_course.specs.Device.{AtDevice, GoesAs}
-use Rattle.node_course.specs.Mesh.{HasDevice, InMesh, brought_by, brought, MeshGoes}
+use Rattle.node_course.specs.Making.{Makes, AllMake, Names}
+use Rattle.node_course.specs.Mesh.{InMesh, brought_by, brought, MeshGoes}
 use Rattle.node_course.proofs.Thinning.{goes_nowhere, goes_once}
-use Rattle.node_course.proofs.Replies.{Flying, Airs, KeepsWays, ways_stay, airs_of, mesh_then, device_moves, device_goes}
+use Rattle.node_course.proofs.Replies.{Flying, Airs, KeepsWays, Stands, stands_of, ways_stay, airs_of, mesh_then, device_moves, device_goes}
 
 -- ---- what brings nothing to the chip
 
@@ -84,12 +87,24 @@ heard_ways a c orders commands payload since Of_host means ways = ways
 heard_ways a c orders commands payload since (Answer session status) means ways = absurd means
 heard_ways a c orders commands payload since Of_node means ways = absurd means
 
+-- it begins no session
+heard_host : (c : Course) (since : ℕ) (cargo : Cargo) → (hears c since cargo false).host ≡ c.host
+heard_host c since (Command message) = refl
+heard_host c since Of_host = refl
+heard_host c since (Answer session status) = refl
+heard_host c since Of_node = refl
+
 -- the laws that are used
 pub record Laws : Type 0 where
   pub flying : Flying
   pub same : (device : State) (event : DeviceEvent) → IsSame device (device_after device event)
   pub hears : (orders : List Asked) (commands : List ℕ) (c : Course) (device : State) (since : ℕ) (cargo : Cargo) (payload drawn : List ℕ) → AtDevice c device → device.awake ≡ true → HostMeans orders commands payload cargo
       → GoesAs (hears c since cargo false) device (Hears payload drawn)
+  pub makes : (orders : List Asked) (commands : List ℕ) (c : Course) (device : State) (cargo : Cargo) (payload drawn : List ℕ) → AtDevice c device → device.awake ≡ true → HostMeans orders commands payload cargo
+      → Names c.device cargo → Makes orders commands device → Makes orders commands (device_after device (Hears payload drawn))
+  pub landing_names : (c : Course) (message : Message) (begun : ℕ) (later : List (Flight Cargo)) → CourseFacts c → c.air ≡ record { cargo = Command message; since = begun } ∷ later → NamesOne c.device message
+  pub repeated_names : (c : Course) (message : Message) (begun at : ℕ) → CourseFacts c → slice_get c.old at ≡ Some (record { cargo = Command message; since = begun }) → IsFresh (begun_of c.host) begun message.is_segment
+      → NamesOne c.device message
   pub next : (log : List Mark) (flight : Flown) (later : List Flown) (frames : FramesState) → Fly log (flight ∷ later) frames → next_of frames ≡ Some flight
   pub none : (log : List Mark) (frames : FramesState) → Fly log [] frames → next_of frames ≡ None
   pub lands : (node : ℕ) (orders : List Asked) (host : HostBook) (air old : List (Flight Cargo)) (log : List Mark) (frame : Flown) (later : List Flown) (frames : FramesState)
@@ -113,10 +128,10 @@ module _ (laws : Laws) (node : ℕ) (orders : List Asked) where
 
   -- the frame that is heard is the course's flight; the course goes from `c` to where it was heard, and `before` is what is there without it
   device_hears : (c before : Course) (mesh : Mesh) (frame : Flown) (flight : Flight Cargo) (place : ℕ) (device : State) (drawn : List ℕ) (route : Option Route)
-      → Goes c (hears before flight.since flight.cargo false) → KeepsWays c before → Airs node orders before mesh.air → HasDevice node before mesh.devices
-      → BearsBy Outward (frame.node == node) orders before.host.commands frame flight → listener_of frame.node mesh.devices ≡ Some place → slice_get mesh.devices place ≡ Some device
+      → Goes c (hears before flight.since flight.cargo false) → KeepsWays c before → Airs node orders before mesh.air → Stands node orders before mesh.devices
+      → BearsBy Outward (frame.node == node) orders before.host.commands frame flight → listener_of frame.node mesh.devices ≡ Some place → slice_get mesh.devices place ≡ Some device → Names before.device flight.cargo
       → MeshGoes node orders c (heard_at mesh place (Some device) frame.node route (Hears frame.payload drawn)) []
-  device_hears c before mesh frame flight place device drawn route goes ways airs h bears listens stood = by (frame.node == node) refl bears
+  device_hears c before mesh frame flight place device drawn route goes ways airs h bears listens stood names = by (frame.node == node) refl bears
     where
       event : DeviceEvent
       event = Hears frame.payload drawn
@@ -127,25 +142,28 @@ module _ (laws : Laws) (node : ℕ) (orders : List Asked) where
       by : (b : Bool) → (frame.node == node) ≡ b → BearsBy Outward b orders before.host.commands frame flight → MeshGoes node orders c (heard_at mesh place (Some device) frame.node route (Hears frame.payload drawn)) []
       by true e (since, means) =
           let mine : device.node ≡ node = named ∙ eqb-true frame.node node e in
-          let found : Some device ≡ Some h.device = sym stood ∙ (ap (λ (k : ℕ). slice_get mesh.devices k) (h.alone place device stood mine) ∙ h.stands) in
-          let one : device ≡ h.device = cc in
-          let at : AtDevice before device = subst (λ (d : State). AtDevice before d) (sym one) h.at in
+          let found : Some device ≡ Some h.has.device = sym stood ∙ (ap (λ (k : ℕ). slice_get mesh.devices k) (h.has.alone place device stood mine) ∙ h.has.stands) in
+          let one : device ≡ h.has.device = cc in
+          let at : AtDevice before device = subst (λ (d : State). AtDevice before d) (sym one) h.has.at in
           let now : Course = hears before flight.since flight.cargo false in
           mesh_then node orders c now _ goes (heard_ways c before orders before.host.commands frame.payload flight.since flight.cargo means ways)
-          (device_goes laws.flying laws.same node orders before now mesh place frame.node device (Hears frame.payload drawn) (option_map backwards route) h
+          (device_goes laws.flying laws.same node orders before now mesh place frame.node device (Hears frame.payload drawn) (option_map backwards route) h.has
           (heard_airs node orders before mesh.air flight.since flight.cargo airs) stood (sym named)
           (λ own. laws.hears orders before.host.commands before device flight.since flight.cargo frame.payload drawn at (awake_at_place mesh.devices frame.node place device listens stood) means)
-          (λ apart. absurd (apart mine)))
+          (λ apart. absurd (apart mine))
+          (subst (λ (b : HostBook). AllMake node orders b.commands mesh.devices) (sym (heard_host before flight.since flight.cargo)) h.made)
+          (λ own. subst (λ (b : HostBook). Makes orders b.commands (device_after device (Hears frame.payload drawn))) (sym (heard_host before flight.since flight.cargo))
+          (laws.makes orders before.host.commands before device flight.cargo frame.payload drawn at (awake_at_place mesh.devices frame.node place device listens stood) means names (h.made place device stood mine))))
       by false e other =
           let nothing : hears before flight.since flight.cargo false ≡ before = ap (λ (cargo : Cargo). hears before flight.since cargo false) other in
           let apart : device.node ≢ node = λ mine. let bad : (frame.node == node) ≡ false = e in let same : frame.node ≡ node = sym named ∙ mine in grind (arith, bad, same) in
           mesh_then node orders c before _ (subst (λ (x : Course). Goes c x) nothing goes) ways
-          (device_goes laws.flying laws.same node orders before before mesh place frame.node device (Hears frame.payload drawn) (option_map backwards route) h airs stood (sym named)
-          (λ own. absurd (apart own)) (λ apart. h.at))
+          (device_goes laws.flying laws.same node orders before before mesh place frame.node device (Hears frame.payload drawn) (option_map backwards route) h.has airs stood (sym named)
+          (λ own. absurd (apart own)) (λ apart. h.has.at) h.made (λ own. absurd (apart own)))
 
   -- ---- by the chip
 
-  chip_hears : (c before : Course) (mesh : Mesh) (frame : Flown) (flight : Flight Cargo) → Goes c (hears before flight.since flight.cargo false) → Goes c before → KeepsWays c before → Airs node orders before mesh.air → HasDevice node before mesh.devices
+  chip_hears : (c before : Course) (mesh : Mesh) (frame : Flown) (flight : Flight Cargo) → Goes c (hears before flight.since flight.cargo false) → Goes c before → KeepsWays c before → Airs node orders before mesh.air → Stands node orders before mesh.devices
       → BearsBy Homeward (frame.node == node) orders before.host.commands frame flight → MeshGoes node orders c mesh ((frame.node, frame.payload) ∷ [])
   chip_hears c before mesh frame flight goes still ways airs h bears = by (frame.node == node) refl bears
     where
@@ -153,7 +171,7 @@ module _ (laws : Laws) (node : ℕ) (orders : List Asked) where
       plainly means = record {
         later = before;
         goes = still;
-        in_mesh = record { log = airs.log; flights = airs.flights; on_air = airs.on_air; device = h };
+        in_mesh = record { log = airs.log; flights = airs.flights; on_air = airs.on_air; device = h.has; made = h.made };
         marks = None ∷ [];
         brings = (λ own. means, tt);
         adds = record { host = ways.host; sent = ways.sent; up = ways.up; down = ways.down ∙ sym (append-nil c.down); told = ways.told };
@@ -163,7 +181,7 @@ module _ (laws : Laws) (node : ℕ) (orders : List Asked) where
       of_other e = record {
         later = before;
         goes = still;
-        in_mesh = record { log = airs.log; flights = airs.flights; on_air = airs.on_air; device = h };
+        in_mesh = record { log = airs.log; flights = airs.flights; on_air = airs.on_air; device = h.has; made = h.made };
         marks = None ∷ [];
         brings = (λ own. absurd (grind (arith, e, own)), tt);
         adds = record { host = ways.host; sent = ways.sent; up = ways.up; down = ways.down ∙ sym (append-nil c.down); told = ways.told };
@@ -185,14 +203,15 @@ module _ (laws : Laws) (node : ℕ) (orders : List Asked) where
               flights = airs.flights;
               on_air = record { fly = airs.on_air.fly; flying = airs.on_air.flying; flown = airs.on_air.flown; begun = airs.on_air.begun };
               device = record {
-                device = h.device;
-                place = h.place;
-                first = h.first;
-                stands = h.stands;
-                at = record { sessions = h.at.sessions; none_kept = h.at.none_kept; empty = h.at.empty; ended = h.at.ended; can = h.at.can; is_open = h.at.is_open };
-                alone = h.alone;
-                nodes = h.nodes;
+                device = h.has.device;
+                place = h.has.place;
+                first = h.has.first;
+                stands = h.has.stands;
+                at = record { sessions = h.has.at.sessions; none_kept = h.has.at.none_kept; empty = h.has.at.empty; ended = h.has.at.ended; can = h.has.at.can; is_open = h.has.at.is_open };
+                alone = h.has.alone;
+                nodes = h.has.nodes;
               };
+              made = h.made;
             };
             marks = Some report ∷ [];
             brings = (λ mine. means, tt);
@@ -204,11 +223,11 @@ module _ (laws : Laws) (node : ℕ) (orders : List Asked) where
       by false e other = of_other e
 
   -- nobody hears it
-  unheard : (c before : Course) (mesh : Mesh) → Goes c before → KeepsWays c before → Airs node orders before mesh.air → HasDevice node before mesh.devices → MeshGoes node orders c mesh []
+  unheard : (c before : Course) (mesh : Mesh) → Goes c before → KeepsWays c before → Airs node orders before mesh.air → Stands node orders before mesh.devices → MeshGoes node orders c mesh []
   unheard c before mesh still ways airs h = record {
     later = before;
     goes = still;
-    in_mesh = record { log = airs.log; flights = airs.flights; on_air = airs.on_air; device = h };
+    in_mesh = record { log = airs.log; flights = airs.flights; on_air = airs.on_air; device = h.has; made = h.made };
     marks = [];
     brings = tt;
     adds = record { host = ways.host; sent = ways.sent; up = ways.up; down = ways.down ∙ sym (append-nil c.down); told = ways.told };
@@ -230,7 +249,7 @@ module _ (laws : Laws) (node : ℕ) (orders : List Asked) where
   out_by false None Homeward listener place e = absurd (grind (arith, e))
   out_by false None Outward listener place e = refl
 
-  module _ (c : Course) (mesh : Mesh) (frame : Flown) (later : List Flown) (log : List Mark) (on_air : OnAir node orders c.host c.air c.old log (frame ∷ later) mesh.air.frames) (h : HasDevice node c mesh.devices)
+  module _ (c : Course) (mesh : Mesh) (frame : Flown) (later : List Flown) (log : List Mark) (on_air : OnAir node orders c.host c.air c.old log (frame ∷ later) mesh.air.frames) (h : Stands node orders c mesh.devices) (course : CourseFacts c)
       (drawn : List ℕ) (route : Option Route) where
     abbrev l : Lands node orders c.host c.air c.old log frame later (landing mesh.air.frames)
     l = laws.lands node orders c.host c.air c.old log frame later mesh.air.frames on_air
@@ -251,8 +270,15 @@ module _ (laws : Laws) (node : ℕ) (orders : List Asked) where
     there : (air : AirState) → air.frames ≡ landing mesh.air.frames → Airs node orders before air
     there air is = record { log = log; flights = later; on_air = subst (λ (fs : FramesState). OnAir node orders c.host l.flights c.old log later fs) (sym is) l.on_air }
 
-    device : HasDevice node before mesh.devices
-    device = device_moves node c before mesh.devices (record { host = refl; device = refl; kept = refl; ends = refl; sent = refl; up = refl; down = refl; told = refl }) h
+    device : Stands node orders before mesh.devices
+    device = record { has = device_moves node c before mesh.devices (record { host = refl; device = refl; kept = refl; ends = refl; sent = refl; up = refl; down = refl; told = refl }) h.has; made = h.made }
+
+    names : (cargo : Cargo) → l.flight.cargo ≡ cargo → Names c.device cargo
+    names (Command message) is =
+        laws.landing_names c message l.flight.since l.flights course (l.first ∙ ap (λ (cargo : Cargo). record { cargo = cargo; since = l.flight.since } ∷ l.flights) is)
+    names Of_host is = tt
+    names (Answer session status) is = tt
+    names Of_node is = tt
 
     lost_by : (event : AirEvent) (status : ℕ) (dead : Option (ℕ × ℕ)) (number : ℕ) → brought_by event ≡ [] → MeshGoes node orders c (record mesh { air = landed mesh.air }) (brought (event ∷ done_of frame.heading number status dead))
     lost_by event status dead number none =
@@ -272,7 +298,7 @@ module _ (laws : Laws) (node : ℕ) (orders : List Asked) where
         ∙ ap (λ g. g ++ []) (hearing_brings now.air number frame.node route one (Hears frame.payload drawn)) in
         subst (λ g. MeshGoes node orders c (heard_at now place (Some one) frame.node route (Hears frame.payload drawn)) g) (sym nothing)
         (device_hears c before now frame l.flight place one drawn route heard ways (there (landed (acknowledged mesh.air)) refl) device
-        (subst (λ (heading : Heading). BearsBy heading (frame.node == node) orders c.host.commands frame l.flight) outward l.bears) listens stood)
+        (subst (λ (heading : Heading). BearsBy heading (frame.node == node) orders c.host.commands frame l.flight) outward l.bears) listens stood (names l.flight.cargo refl))
 
     by_fate : (number : ℕ) (x : Fate) → fate_of mesh.air.network mesh.devices frame ≡ x → MeshGoes node orders c (arriving_as mesh frame x drawn route) (brought (arrival_outs_as mesh number frame x drawn route))
     by_fate number fate.Lost is = lost_by (Lost number) 1 None number refl
@@ -284,51 +310,59 @@ module _ (laws : Laws) (node : ℕ) (orders : List Asked) where
         (subst (λ (heading : Heading). BearsBy heading (frame.node == node) orders c.host.commands frame l.flight) home l.bears)
     by_fate number (fate.AtDevice place) is = at_device number place (slice_get mesh.devices place) refl is
 
-  arrives_by : (c : Course) (mesh : Mesh) (drawn : List ℕ) (route : Option Route) (log : List Mark) (flights : List Flown) → OnAir node orders c.host c.air c.old log flights mesh.air.frames → HasDevice node c mesh.devices
+  arrives_by : (c : Course) (mesh : Mesh) (drawn : List ℕ) (route : Option Route) (log : List Mark) (flights : List Flown) → OnAir node orders c.host c.air c.old log flights mesh.air.frames → Stands node orders c mesh.devices → CourseFacts c
       → MayHappen mesh (Arrives drawn route) → MeshGoes node orders c (mesh_after mesh (Arrives drawn route)) (brought (mesh_outs mesh (Arrives drawn route)))
   unfolding MayHappen mesh_after mesh_outs
-  arrives_by c mesh drawn route log [] on_air h may = absurd (rw (laws.none log mesh.air.frames on_air.fly) at may)
-  arrives_by c mesh drawn route log (frame ∷ later) on_air h may =
-      rw (laws.next log frame later mesh.air.frames on_air.fly) (by_fate c mesh frame later log on_air h drawn route (mesh.air.frames.landed + 1) (fate_of mesh.air.network mesh.devices frame) refl)
+  arrives_by c mesh drawn route log [] on_air h course may = absurd (rw (laws.none log mesh.air.frames on_air.fly) at may)
+  arrives_by c mesh drawn route log (frame ∷ later) on_air h course may =
+      rw (laws.next log frame later mesh.air.frames on_air.fly) (by_fate c mesh frame later log on_air h course drawn route (mesh.air.frames.landed + 1) (fate_of mesh.air.network mesh.devices frame) refl)
 
-  pub arrives_go : (c : Course) (mesh : Mesh) (drawn : List ℕ) (route : Option Route) → node < 233 → InMesh node orders c mesh → MayHappen mesh (Arrives drawn route)
+  pub arrives_go : (c : Course) (mesh : Mesh) (drawn : List ℕ) (route : Option Route) → node < 233 → CourseFacts c → InMesh node orders c mesh → MayHappen mesh (Arrives drawn route)
       → MeshGoes node orders c (mesh_after mesh (Arrives drawn route)) (brought (mesh_outs mesh (Arrives drawn route)))
-  arrives_go c mesh drawn route within is may = arrives_by c mesh drawn route is.log is.flights is.on_air is.device may
+  arrives_go c mesh drawn route within course is may = arrives_by c mesh drawn route is.log is.flights is.on_air (stands_of node orders c mesh is) course may
 
   -- ---- a frame is heard again
 
-  module _ (c : Course) (mesh : Mesh) (number : ℕ) (frame : Flown) (is : InMesh node orders c mesh) (was : WasThere node orders c.host c.old frame) (drawn : List ℕ) (route : Option Route) where
+  module _ (c : Course) (mesh : Mesh) (number : ℕ) (frame : Flown) (course : CourseFacts c) (is : InMesh node orders c mesh) (was : WasThere node orders c.host c.old frame) (drawn : List ℕ) (route : Option Route) where
     again : Goes c (hears c was.flight.since was.flight.cargo false)
     again =
         subst (λ (found : Option (Flight Cargo)). Goes c (repeats c found false)) was.found
         (goes_once c (repeats_step was.at false) (subst (λ (found : Option (Flight Cargo)). MayRepeat c found) (sym was.found) was.fresh))
 
+    names_again : (cargo : Cargo) → was.flight.cargo ≡ cargo → Names c.device cargo
+    names_again (Command message) is =
+        laws.repeated_names c message was.flight.since was.at course (was.found ∙ ap (λ (cargo : Cargo). Some (record { cargo = cargo; since = was.flight.since })) is)
+        (subst (λ (cargo : Cargo). IsFreshCargo (begun_of c.host) was.flight.since cargo) is was.fresh)
+    names_again Of_host is = tt
+    names_again (Answer session status) is = tt
+    names_again Of_node is = tt
+
     device_again : (place : ℕ) (found : Option State) → slice_get mesh.devices place ≡ found → listener_of frame.node mesh.devices ≡ Some place → frame.heading ≡ Outward
         → MeshGoes node orders c (heard_at mesh place found frame.node route (Hears frame.payload drawn)) (brought (outs_at mesh found number frame.node route (Hears frame.payload drawn)))
-    device_again place None stood listens outward = unheard c c mesh (goes_nowhere c) (ways_stay c) (airs_of node orders c mesh is) is.device
+    device_again place None stood listens outward = unheard c c mesh (goes_nowhere c) (ways_stay c) (airs_of node orders c mesh is) (stands_of node orders c mesh is)
     device_again place (Some one) stood listens outward =
         subst (λ g. MeshGoes node orders c (heard_at mesh place (Some one) frame.node route (Hears frame.payload drawn)) g) (sym (hearing_brings mesh.air number frame.node route one (Hears frame.payload drawn)))
-        (device_hears c c mesh frame was.flight place one drawn route again (ways_stay c) (airs_of node orders c mesh is) is.device
-        (subst (λ (heading : Heading). BearsBy heading (frame.node == node) orders c.host.commands frame was.flight) outward was.bears) listens stood)
+        (device_hears c c mesh frame was.flight place one drawn route again (ways_stay c) (airs_of node orders c mesh is) (stands_of node orders c mesh is)
+        (subst (λ (heading : Heading). BearsBy heading (frame.node == node) orders c.host.commands frame was.flight) outward was.bears) listens stood (names_again was.flight.cargo refl))
 
     listener_again : (listener : Option ℕ) → listener_of frame.node mesh.devices ≡ listener → frame.heading ≡ Outward
         → MeshGoes node orders c (heard_again mesh listener frame.node route (Hears frame.payload drawn)) (brought (outs_again mesh listener number frame.node route (Hears frame.payload drawn)))
-    listener_again None listens outward = unheard c c mesh (goes_nowhere c) (ways_stay c) (airs_of node orders c mesh is) is.device
+    listener_again None listens outward = unheard c c mesh (goes_nowhere c) (ways_stay c) (airs_of node orders c mesh is) (stands_of node orders c mesh is)
     listener_again (Some place) listens outward = device_again place (slice_get mesh.devices place) refl listens outward
 
     again_by : (heading : Heading) → frame.heading ≡ heading → MeshGoes node orders c (repeating_by heading mesh frame drawn route) (brought (repeat_outs_by heading mesh number frame drawn route))
     again_by Outward e = listener_again (listener_of frame.node mesh.devices) refl e
     again_by Homeward e =
-        chip_hears c c mesh frame was.flight again (goes_nowhere c) (ways_stay c) (airs_of node orders c mesh is) is.device
+        chip_hears c c mesh frame was.flight again (goes_nowhere c) (ways_stay c) (airs_of node orders c mesh is) (stands_of node orders c mesh is)
         (subst (λ (heading : Heading). BearsBy heading (frame.node == node) orders c.host.commands frame was.flight) e was.bears)
 
-  repeats_by : (c : Course) (mesh : Mesh) (number : ℕ) (drawn : List ℕ) (route : Option Route) (found : Option Flown) → remembered mesh.air.frames number ≡ found → node < 233 → InMesh node orders c mesh → refusal_of mesh.air.frames number ≡ None
+  repeats_by : (c : Course) (mesh : Mesh) (number : ℕ) (drawn : List ℕ) (route : Option Route) (found : Option Flown) → remembered mesh.air.frames number ≡ found → node < 233 → CourseFacts c → InMesh node orders c mesh → refusal_of mesh.air.frames number ≡ None
       → MeshGoes node orders c (repeating mesh found drawn route) (brought (repeat_outs mesh number found drawn route))
-  repeats_by c mesh number drawn route None e within is fresh = unheard c c mesh (goes_nowhere c) (ways_stay c) (airs_of node orders c mesh is) is.device
-  repeats_by c mesh number drawn route (Some frame) e within is fresh =
-      again_by c mesh number frame is (laws.repeated node orders c.host c.air c.old is.log is.flights mesh.air.frames number frame within is.on_air fresh e) drawn route frame.heading refl
+  repeats_by c mesh number drawn route None e within course is fresh = unheard c c mesh (goes_nowhere c) (ways_stay c) (airs_of node orders c mesh is) (stands_of node orders c mesh is)
+  repeats_by c mesh number drawn route (Some frame) e within course is fresh =
+      again_by c mesh number frame course is (laws.repeated node orders c.host c.air c.old is.log is.flights mesh.air.frames number frame within is.on_air fresh e) drawn route frame.heading refl
 
-  pub repeats_go : (c : Course) (mesh : Mesh) (number : ℕ) (drawn : List ℕ) (route : Option Route) → node < 233 → InMesh node orders c mesh → refusal_of mesh.air.frames number ≡ None → MayHappen mesh (Repeats number drawn route)
+  pub repeats_go : (c : Course) (mesh : Mesh) (number : ℕ) (drawn : List ℕ) (route : Option Route) → node < 233 → CourseFacts c → InMesh node orders c mesh → refusal_of mesh.air.frames number ≡ None → MayHappen mesh (Repeats number drawn route)
       → MeshGoes node orders c (mesh_after mesh (Repeats number drawn route)) (brought (mesh_outs mesh (Repeats number drawn route)))
   unfolding mesh_after mesh_outs
-  repeats_go c mesh number drawn route within is fresh may = repeats_by c mesh number drawn route (remembered mesh.air.frames number) refl within is fresh
+  repeats_go c mesh number drawn route within course is fresh may = repeats_by c mesh number drawn route (remembered mesh.air.frames number) refl within course is fresh

@@ -71,7 +71,7 @@ at_work device ends is busy = by device.work_left refl
     by zero e = absurd (is.at_rest e busy)
     by (suc left) e = let count = is.count in let one = one_some device.work_left (omega (arith, e)) in omega (arith, count, one)
 
-at_rest : (device : State) (ends : List ℕ) → HasEnded device ends → device.sessions.status ≢ WORKING → (device.work_left ≡ 0) × (length ends ≡ device.sessions.taken)
+pub at_rest : (device : State) (ends : List ℕ) → HasEnded device ends → device.sessions.status ≢ WORKING → (device.work_left ≡ 0) × (length ends ≡ device.sessions.taken)
 at_rest device ends is free = by device.work_left refl
   where
     by : (left : ℕ) → device.work_left ≡ left → (device.work_left ≡ 0) × (length ends ≡ device.sessions.taken)
@@ -222,7 +222,7 @@ openly_by Configurable device payload drawn is whole = rw whole refl
 openly_by Relay device payload drawn is whole = cc
 openly_by Lock device payload drawn is whole = cc
 
-knows_supervision : (kind : Kind) → takes_openly kind ≡ true → lists kind 0x6C ≡ true
+pub knows_supervision : (kind : Kind) → takes_openly kind ≡ true → lists kind 0x6C ≡ true
 knows_supervision Switch is = refl
 knows_supervision Dimmer is = refl
 knows_supervision Sensor is = refl

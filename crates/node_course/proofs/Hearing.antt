@@ -1,9 +1,10 @@
--- In a line the host ends no session but by what it has taken out of its pipe.
-use Rattle.std.proofs.Common.{◌≡◌, ℕ, zero, suc, Bool, true, false, List, [], ◌∷◌, ◌++◌, length, map, refl, sym, subst, inl, inr, ◌+◌, ◌-◌}
+-- In a line the host ends no session but by what it has taken out of its pipe, and what it is asked to send beside orders is no message of a session.
+use Rattle.std.proofs.Common.{◌≡◌, ℕ, zero, suc, Bool, true, false, List, [], ◌∷◌, ◌++◌, length, map, refl, sym, subst, inl, inr, ◌+◌, ◌-◌, ◌≤◌}
 use Rattle.std.specs.Prelude.{if◌then◌else◌, Option, Some, None}
 use Rattle.std.specs.List.{AllByRecursion}
 use Rattle.zw_text.specs.declared.line.Line.{Line}
 use Rattle.zw_text.specs.declared.line.Line.TheVariants.{Command, Tick, Cut, Stall, Drop, Garble, Collide, Send, Get, Join, Interview, Lose, LoseAck, Repeat, Wake, Cancel, Link, Unlink, Discover, Neighbours, Failed, Probe, Local, Show, Store, Restart}
+use Rattle.zw_order.specs.declared.order.Word.{Word}
 use Rattle.host_orders.specs.declared.refused.Refused.{Refused}
 use Rattle.host_orders.specs.Refusals.{classes_of}
 use Rattle.host_orders.specs.Errands.{send_refusal, send_text, get_refusal, get_text}
@@ -31,12 +32,12 @@ use Rattle.host_node.specs.declared.series.Series.{Series}
 use Rattle.host_node.specs.declared.series.Series.TheVariants.{Idle, Due, Running}
 use Rattle.host_requests.specs.declared.task.Task.{Task}
 use Rattle.line_facts.specs.Line.{AreLines}
-use Rattle.node_course.specs.HostGoing.{EndsNone}
-use Rattle.node_course.specs.World.{EndsByHearing}
+use Rattle.message_facts.specs.Others.{IsOther}
+use Rattle.node_course.specs.World.{NamesEnd, IsOfLine, ComesOfLine}
 
-module _ (node : ℕ) where
+module _ (Near : Type 0) (sends : (classes : List ℕ) (word : Word) → IsOther (send_text classes word)) (gets : (classes : List ℕ) (end : ℕ) → end ≤ 127 → IsOther (get_text classes end)) (node : ℕ) where
   abbrev pub AllEnd : Machine → List Event → Type 0
-  AllEnd m events = AllByRecursion (EndsByHearing node) events
+  AllEnd m events = AllByRecursion (ComesOfLine Near node) events
 
   -- ---- schedules
 
@@ -66,60 +67,60 @@ module _ (node : ℕ) where
   outer_take_none m [] all = tt
   outer_take_none m (event ∷ inner) all = (one_takes_none m event all.0, outer_take_none (happens m (Outside_does event)) inner all.1)
 
-  host_takes_none : (m : Machine) (inner : List HostEvent) → AllByRecursion (EndsNone node) inner → AllEnd m (map Host_does inner)
+  host_takes_none : (m : Machine) (inner : List HostEvent) → AllByRecursion (IsOfLine Near node) inner → AllEnd m (map Host_does inner)
   host_takes_none m [] all = tt
   host_takes_none m (event ∷ inner) all = (all.0, host_takes_none (happens m (Host_does event)) inner all.1)
 
   -- ---- what the host does of itself
 
-  none_append : (a b : List HostEvent) → AllByRecursion (EndsNone node) a → AllByRecursion (EndsNone node) b → AllByRecursion (EndsNone node) (a ++ b)
+  none_append : (a b : List HostEvent) → AllByRecursion (IsOfLine Near node) a → AllByRecursion (IsOfLine Near node) b → AllByRecursion (IsOfLine Near node) (a ++ b)
   none_append [] b first later = later
   none_append (event ∷ a) b first later = (first.0, none_append a b first.1 later)
 
-  no_more_none : (full : Bool) (n : ℕ) → EndsNone node (if full then Drops_no_more n else Queues_no_more n)
+  no_more_none : (full : Bool) (n : ℕ) → IsOfLine Near node (if full then Drops_no_more n else Queues_no_more n)
   no_more_none true n = tt
   no_more_none false n = tt
 
-  sleep_none : (h : HostState) (inner : List HostEvent) → LetsSleep h inner → AllByRecursion (EndsNone node) inner
+  sleep_none : (h : HostState) (inner : List HostEvent) → LetsSleep h inner → AllByRecursion (IsOfLine Near node) inner
   sleep_none h [] is = tt
   sleep_none h (event ∷ inner) (n, first, are, more) =
-      (subst (λ (e : HostEvent). EndsNone node e) (sym are) (no_more_none (is_full h) n), sleep_none (after_host h event) inner more)
+      (subst (λ (e : HostEvent). IsOfLine Near node e) (sym are) (no_more_none (is_full h) n), sleep_none (after_host h event) inner more)
 
-  as_none : (event these : HostEvent) → EndsNone node these → event ≡ these → EndsNone node event
-  as_none event these none is = subst (λ (e : HostEvent). EndsNone node e) (sym is) none
+  as_none : (event these : HostEvent) → IsOfLine Near node these → event ≡ these → IsOfLine Near node event
+  as_none event these none is = subst (λ (e : HostEvent). IsOfLine Near node e) (sym is) none
 
-  gives_none : (h : HostState) (n : ℕ) (text : Option (List ℕ)) (event : HostEvent) → GivesNext h n text event → EndsNone node event
+  gives_none : (h : HostState) (n : ℕ) (text : Option (List ℕ)) (event : HostEvent) → GivesNext h n text event → IsOfLine Near node event
   gives_none h n (Some text) event is = as_none event _ tt is
   gives_none h n None event (payload, there, is) = as_none event _ tt is
 
-  served_none : (h : HostState) (n : ℕ) (series : Series) (event : HostEvent) → IsServedBy h n series event → EndsNone node event
+  served_none : (h : HostState) (n : ℕ) (series : Series) (event : HostEvent) → IsServedBy h n series event → IsOfLine Near node event
   served_none h n Running event is = gives_none h n (node_of h n).text event is
   served_none h n Due event (plan, more, payload, start, is) = as_none event _ tt is
   served_none h n Idle event (inl is) = as_none event _ tt is
   served_none h n Idle event (inr is) = as_none event _ tt is
 
-  nodes_none : (h : HostState) (found : Option ℕ) (event : HostEvent) → IsNextOfNodes h found event → EndsNone node event
+  nodes_none : (h : HostState) (found : Option ℕ) (event : HostEvent) → IsNextOfNodes h found event → IsOfLine Near node event
   nodes_none h None event is = absurd is
   nodes_none h (Some n) event is = served_none h n (node_of h n).series event is
 
-  next_none : (h : HostState) (owes : Bool) (queue : List Task) (event : HostEvent) → IsNextOf h owes queue event → EndsNone node event
+  next_none : (h : HostState) (owes : Bool) (queue : List Task) (event : HostEvent) → IsNextOf h owes queue event → IsOfLine Near node event
   next_none h true queue event is = as_none event _ tt is
   next_none h false (first ∷ more) event is = as_none event _ tt is
   next_none h false [] event is = nodes_none h (next_of h.nodes h.served) event is
 
-  submits_none : (h : HostState) (inner : List HostEvent) → Submits h inner → AllByRecursion (EndsNone node) inner
+  submits_none : (h : HostState) (inner : List HostEvent) → Submits h inner → AllByRecursion (IsOfLine Near node) inner
   submits_none h [] is = tt
   submits_none h (event ∷ inner) is = (next_none h h.requests.owes h.requests.queue event is.0.1, submits_none (after_host h event) inner is.1)
 
-  pumps_none : (h : HostState) (inner : List HostEvent) → Pumps h inner → AllByRecursion (EndsNone node) inner
+  pumps_none : (h : HostState) (inner : List HostEvent) → Pumps h inner → AllByRecursion (IsOfLine Near node) inner
   pumps_none h inner (first, rest, are, sleep, submits) =
-      subst (λ (es : List HostEvent). AllByRecursion (EndsNone node) es) (sym are) (none_append first rest (sleep_none h first sleep) (submits_none (after_host_all h first) rest submits))
+      subst (λ (es : List HostEvent). AllByRecursion (IsOfLine Near node) es) (sym are) (none_append first rest (sleep_none h first sleep) (submits_none (after_host_all h first) rest submits))
 
-  nodes_tick : (numbers : List ℕ) → AllByRecursion (EndsNone node) (map Node_ticks numbers)
+  nodes_tick : (numbers : List ℕ) → AllByRecursion (IsOfLine Near node) (map Node_ticks numbers)
   nodes_tick [] = tt
   nodes_tick (n ∷ numbers) = (tt, nodes_tick numbers)
 
-  tick_none : (h : HostState) → AllByRecursion (EndsNone node) (tick_events h)
+  tick_none : (h : HostState) → AllByRecursion (IsOfLine Near node) (tick_events h)
   tick_none h = (tt, (tt, nodes_tick (ticking_nodes (after_host_all h first_ticks))))
 
   outside_none : (Kind : List OuterEvent → Type 0) → ((inner : List OuterEvent) → Kind inner → AllByRecursion TakesNone inner) → (m : Machine) (events : List Event) → Outside Kind events → AllEnd m events
@@ -220,7 +221,7 @@ module _ (node : ℕ) where
   refusal_takes : (line : Line) (m : Machine) (events : List Event) → IsRefusal line events → AllEnd m events
   refusal_takes line m events (refusal, are) = subst (λ (l : List Event). AllEnd m l) (sym are) (tt, tt)
 
-  asks_takes : (rule : Option Refused) (line : Line) (event : HostEvent) → EndsNone node event → (m : Machine) (events : List Event) → Asks rule line event events → AllEnd m events
+  asks_takes : (rule : Option Refused) (line : Line) (event : HostEvent) → IsOfLine Near node event → (m : Machine) (events : List Event) → Asks rule line event events → AllEnd m events
   asks_takes None line event none m events are = subst (λ (l : List Event). AllEnd m l) (sym are) (none, tt)
   asks_takes (Some refused) line event none m events (refusal, shown, are) = subst (λ (l : List Event). AllEnd m l) (sym are) (tt, tt)
 
@@ -234,7 +235,7 @@ module _ (node : ℕ) where
 
   discovery_takes : (m : Machine) (events : List Event) → IsDiscovery m events → AllEnd m events
   discovery_takes m events (asked, asks, are) =
-      subst (λ (l : List Event). AllEnd m l) (sym are) (tt, asks_takes (places_refusal m.host.state 1) Discover (Queues task.Members) tt (happens m (Outside_does Discovers)) asked asks)
+      subst (λ (l : List Event). AllEnd m l) (sym are) (tt, asks_takes (places_refusal m.host.state 1) Discover (Queues task.Members) (λ near. tt) (happens m (Outside_does Discovers)) asked asks)
 
   repeat_none : (number : ℕ) (inner : List OuterEvent) → IsRepeat number inner → AllByRecursion TakesNone inner
   repeat_none number inner (drawn, route, are) = subst (λ (l : List OuterEvent). AllByRecursion TakesNone l) (sym are) (tt, tt)
@@ -245,73 +246,73 @@ module _ (node : ℕ) where
   set_none : (n value : ℕ) (inner : List OuterEvent) → IsSet n value inner → AllByRecursion TakesNone inner
   set_none n value inner (route, are) = subst (λ (l : List OuterEvent). AllByRecursion TakesNone l) (sym are) (tt, tt)
 
-  effect_takes : (line : Line) → EndOf (IsEffect line)
-  effect_takes (Command order) m events is = done_takes (Command order) _ m events is (tt, tt)
-  effect_takes (Tick count) m events is = absurd is
-  effect_takes (Cut size) m events is = one_none m _ events is tt
-  effect_takes (Stall ticks) m events is = one_none m _ events is tt
-  effect_takes (Drop by) m events is = one_none m _ events is tt
-  effect_takes (Garble by place xor) m events is = one_none m _ events is tt
-  effect_takes Collide m events is = one_none m _ events is tt
-  effect_takes (Send n word) m events is = asks_takes (send_refusal (known_of (node_of m.host.state n)) (length m.host.state.requests.queue) word) (Send n word)
-      (Queues (task.Plain n (send_text (classes_of (known_of (node_of m.host.state n))) word))) tt m events is
-  effect_takes (Get n end) m events is = asks_takes (get_refusal (known_of (node_of m.host.state n)) (length m.host.state.requests.queue) end) (Get n end)
-      (Queues (task.Plain n (get_text (classes_of (known_of (node_of m.host.state n))) end))) tt m events is
-  effect_takes (Join n) m events is = done_takes (Join n) _ m events is (tt, (tt, tt))
-  effect_takes (Interview n) m events is = asks_takes (interview_refusal m.host.state n) (Interview n) (Queues_interview n) tt m events is
-  effect_takes (Lose count) m events is = one_none m _ events is tt
-  effect_takes (LoseAck count) m events is = one_none m _ events is tt
-  effect_takes (Repeat frame) m events is = outside_none (IsRepeat frame) (repeat_none frame) m events is
-  effect_takes (Wake n) m events is = outside_none (IsWake n) (wake_none n) m events is
-  effect_takes (Cancel command) m events is = done_takes (Cancel command) _ m events is (tt, tt)
-  effect_takes (Link first second) m events is = one_none m _ events is tt
-  effect_takes (Unlink first second) m events is = one_none m _ events is tt
-  effect_takes Discover m events is = discovery_takes m events is
-  effect_takes (Neighbours n) m events is = asks_takes (places_refusal m.host.state 1) (Neighbours n) (Queues (task.Neighbours n)) tt m events is
-  effect_takes (Failed n) m events is = asks_takes (places_refusal m.host.state 1) (Failed n) (Queues (task.IsFailed n)) tt m events is
-  effect_takes Probe m events is = asks_takes (places_refusal m.host.state 3) Probe Queues_probe tt m events is
-  effect_takes (Local n value) m events is = outside_none (IsSet n value) (set_none n value) m events is
-  effect_takes (Show n) m events is = one_none m _ events is tt
-  effect_takes (Store n) m events is = subst (λ (l : List Event). AllEnd m l) (sym is) (tt, tt)
-  effect_takes Restart m events is = restart_takes m events is
+  effect_takes : (line : Line) → (Near → NamesEnd line) → EndOf (IsEffect line)
+  effect_takes (Command order) names m events is = done_takes (Command order) _ m events is (names, tt)
+  effect_takes (Tick count) names m events is = absurd is
+  effect_takes (Cut size) names m events is = one_none m _ events is tt
+  effect_takes (Stall ticks) names m events is = one_none m _ events is tt
+  effect_takes (Drop by) names m events is = one_none m _ events is tt
+  effect_takes (Garble by place xor) names m events is = one_none m _ events is tt
+  effect_takes Collide names m events is = one_none m _ events is tt
+  effect_takes (Send n word) names m events is = asks_takes (send_refusal (known_of (node_of m.host.state n)) (length m.host.state.requests.queue) word) (Send n word)
+      (Queues (task.Plain n (send_text (classes_of (known_of (node_of m.host.state n))) word))) (λ near own. sends (classes_of (known_of (node_of m.host.state n))) word) m events is
+  effect_takes (Get n end) names m events is = asks_takes (get_refusal (known_of (node_of m.host.state n)) (length m.host.state.requests.queue) end) (Get n end)
+      (Queues (task.Plain n (get_text (classes_of (known_of (node_of m.host.state n))) end))) (λ near own. gets (classes_of (known_of (node_of m.host.state n))) end (names near)) m events is
+  effect_takes (Join n) names m events is = done_takes (Join n) _ m events is (tt, (tt, tt))
+  effect_takes (Interview n) names m events is = asks_takes (interview_refusal m.host.state n) (Interview n) (Queues_interview n) tt m events is
+  effect_takes (Lose count) names m events is = one_none m _ events is tt
+  effect_takes (LoseAck count) names m events is = one_none m _ events is tt
+  effect_takes (Repeat frame) names m events is = outside_none (IsRepeat frame) (repeat_none frame) m events is
+  effect_takes (Wake n) names m events is = outside_none (IsWake n) (wake_none n) m events is
+  effect_takes (Cancel command) names m events is = done_takes (Cancel command) _ m events is (tt, tt)
+  effect_takes (Link first second) names m events is = one_none m _ events is tt
+  effect_takes (Unlink first second) names m events is = one_none m _ events is tt
+  effect_takes Discover names m events is = discovery_takes m events is
+  effect_takes (Neighbours n) names m events is = asks_takes (places_refusal m.host.state 1) (Neighbours n) (Queues (task.Neighbours n)) (λ near. tt) m events is
+  effect_takes (Failed n) names m events is = asks_takes (places_refusal m.host.state 1) (Failed n) (Queues (task.IsFailed n)) (λ near. tt) m events is
+  effect_takes Probe names m events is = asks_takes (places_refusal m.host.state 3) Probe Queues_probe tt m events is
+  effect_takes (Local n value) names m events is = outside_none (IsSet n value) (set_none n value) m events is
+  effect_takes (Show n) names m events is = one_none m _ events is tt
+  effect_takes (Store n) names m events is = subst (λ (l : List Event). AllEnd m l) (sym is) (tt, tt)
+  effect_takes Restart names m events is = restart_takes m events is
 
   begin_takes : EndOf IsLineBegin
   begin_takes m events are = one_none m Begins_line events are tt
 
-  plain_line : (line : Line) → EndOf (Then (IsEffect line) Settles)
-  plain_line line = takes_then (IsEffect line) Settles (effect_takes line) settling_takes
+  plain_line : (line : Line) → (Near → NamesEnd line) → EndOf (Then (IsEffect line) Settles)
+  plain_line line names = takes_then (IsEffect line) Settles (effect_takes line names) settling_takes
 
-  rest_takes : (line : Line) → EndOf (IsLineRest line)
-  rest_takes (Command order) = plain_line (Command order)
-  rest_takes (Tick count) = ticks_take count
-  rest_takes (Cut size) = plain_line (Cut size)
-  rest_takes (Stall ticks) = plain_line (Stall ticks)
-  rest_takes (Drop by) = plain_line (Drop by)
-  rest_takes (Garble by place xor) = plain_line (Garble by place xor)
-  rest_takes Collide = plain_line Collide
-  rest_takes (Send n word) = plain_line (Send n word)
-  rest_takes (Get n end) = plain_line (Get n end)
-  rest_takes (Join n) = plain_line (Join n)
-  rest_takes (Interview n) = plain_line (Interview n)
-  rest_takes (Lose count) = plain_line (Lose count)
-  rest_takes (LoseAck count) = plain_line (LoseAck count)
-  rest_takes (Repeat frame) = plain_line (Repeat frame)
-  rest_takes (Wake n) = plain_line (Wake n)
-  rest_takes (Cancel command) = plain_line (Cancel command)
-  rest_takes (Link first second) = plain_line (Link first second)
-  rest_takes (Unlink first second) = plain_line (Unlink first second)
-  rest_takes Discover = plain_line Discover
-  rest_takes (Neighbours n) = plain_line (Neighbours n)
-  rest_takes (Failed n) = plain_line (Failed n)
-  rest_takes Probe = plain_line Probe
-  rest_takes (Local n value) = plain_line (Local n value)
-  rest_takes (Show n) = plain_line (Show n)
-  rest_takes (Store n) = plain_line (Store n)
-  rest_takes Restart = plain_line Restart
+  rest_takes : (line : Line) → (Near → NamesEnd line) → EndOf (IsLineRest line)
+  rest_takes (Command order) names = plain_line (Command order) names
+  rest_takes (Tick count) names = ticks_take count
+  rest_takes (Cut size) names = plain_line (Cut size) names
+  rest_takes (Stall ticks) names = plain_line (Stall ticks) names
+  rest_takes (Drop by) names = plain_line (Drop by) names
+  rest_takes (Garble by place xor) names = plain_line (Garble by place xor) names
+  rest_takes Collide names = plain_line Collide names
+  rest_takes (Send n word) names = plain_line (Send n word) names
+  rest_takes (Get n end) names = plain_line (Get n end) names
+  rest_takes (Join n) names = plain_line (Join n) names
+  rest_takes (Interview n) names = plain_line (Interview n) names
+  rest_takes (Lose count) names = plain_line (Lose count) names
+  rest_takes (LoseAck count) names = plain_line (LoseAck count) names
+  rest_takes (Repeat frame) names = plain_line (Repeat frame) names
+  rest_takes (Wake n) names = plain_line (Wake n) names
+  rest_takes (Cancel command) names = plain_line (Cancel command) names
+  rest_takes (Link first second) names = plain_line (Link first second) names
+  rest_takes (Unlink first second) names = plain_line (Unlink first second) names
+  rest_takes Discover names = plain_line Discover names
+  rest_takes (Neighbours n) names = plain_line (Neighbours n) names
+  rest_takes (Failed n) names = plain_line (Failed n) names
+  rest_takes Probe names = plain_line Probe names
+  rest_takes (Local n value) names = plain_line (Local n value) names
+  rest_takes (Show n) names = plain_line (Show n) names
+  rest_takes (Store n) names = plain_line (Store n) names
+  rest_takes Restart names = plain_line Restart names
 
-  pub line_ends : (line : Line) → EndOf (IsLine line)
-  line_ends line = takes_then IsLineBegin (IsLineRest line) begin_takes (rest_takes line)
+  line_ends : (line : Line) → (Near → NamesEnd line) → EndOf (IsLine line)
+  line_ends line names = takes_then IsLineBegin (IsLineRest line) begin_takes (rest_takes line names)
 
-  pub lines_end : (lines : List Line) → EndOf (AreLines lines)
-  lines_end [] m events is = subst (λ (l : List Event). AllEnd m l) (sym is) tt
-  lines_end (line ∷ lines) m events is = takes_then (IsLine line) (AreLines lines) (line_ends line) (lines_end lines) m events is
+  pub lines_end : (lines : List Line) → (Near → AllByRecursion NamesEnd lines) → EndOf (AreLines lines)
+  lines_end [] names m events is = subst (λ (l : List Event). AllEnd m l) (sym is) tt
+  lines_end (line ∷ lines) names m events is = takes_then (IsLine line) (AreLines lines) (line_ends line (λ near. (names near).0)) (lines_end lines (λ near. (names near).1)) m events is

@@ -8,6 +8,7 @@ use Rattle.std.specs.List.{AllByRecursion}
 use Rattle.std.proofs.lemmas.Bool.{eqb-true}
 use Rattle.supervision.specs.Host.{HostBook, begun_of, open_session, begins}
 use Rattle.courses.specs.Sessions.{Course, Message, Cargo, Writes, Begins as begins_step, after}
+use Rattle.courses.specs.SessionFacts.{CourseFacts}
 use Rattle.serial_frame.specs.Frame.{FrameParts}
 use Rattle.serial_frame.specs.Items.{IsUnit}
 use Rattle.serial_frame.specs.Stream.{Rest}
@@ -52,6 +53,7 @@ use Rattle.line_facts.proofs.Outer.{Written, routed_all}
 use Rattle.node_course.specs.Ways.{Goes}
 use Rattle.node_course.specs.Meaning.{Asked, HostMeans}
 use Rattle.node_course.specs.Air.{OnAir}
+use Rattle.node_course.specs.Making.{AllMake}
 use Rattle.node_course.specs.Mesh.{HasDevice, InMesh}
 use Rattle.node_course.specs.Lines.{Tells, Asks, asked_as, ItemIs, own_frames, OnWay, Later, Moves}
 use Rattle.node_course.specs.Host.{NodeAs, AtHost}
@@ -59,7 +61,11 @@ use Rattle.node_course.specs.HostGoing.{HostFollows, HostGoes}
 use Rattle.node_course.proofs.Thinning.{goes_nowhere, goes_on, goes_once, up_thins}
 use Rattle.node_course.proofs.Flights.{beside-weaker, meaning_stays, order_accepted, session_begins, air_stays}
 use Rattle.node_course.proofs.Moving.{move_same, move_submit}
+use Rattle.node_course.proofs.Making.{all_make_more}
 use Rattle.node_course.proofs.Outer.{SameDevice, has_same}
+use Rattle.once_facts.specs.Tied.{AreOutcomes}
+use Rattle.node_course.specs.Told.{KeepsOutcomes}
+use Rattle.node_course.proofs.Told.{outcomes_stay, outcomes_begin}
 use Rattle.node_course.proofs.NodeKeeping.{SameHost, same_host, same_then, other_same, outcome_orders}
 
 -- ---- more orders
@@ -129,9 +135,9 @@ pub record Wrote (node : ℕ) (orders : List Asked) (c : Course) (h g : HostStat
   pub at : AtHost node (orders ++ added) c.host g
   pub moves : Moves (Asks node (orders ++ added) c.host.commands) h.side.turn [] units g.side.turn [] written
 
-pub writes_go : (node : ℕ) (orders : List Asked) (c : Course) (rest : Rest) (up yet down : List Item) (h g : HostState) (w : Outside) (outs : List HostOut) → HostFollows node orders c rest up yet down h w → Wrote node orders c h g (host_units outs)
+pub writes_go : (node : ℕ) (orders : List Asked) (c : Course) (rest : Rest) (up yet down : List Item) (h g : HostState) (w : Outside) (outs : List HostOut) → HostFollows node orders c rest up yet down h w → KeepsOutcomes h.commands g.commands → Wrote node orders c h g (host_units outs)
     → AllByRecursion BeginsNone outs → AllByRecursion IsUnit (host_units outs) → HostGoes node c rest yet down g (happens_all_outside w (routed outs))
-writes_go node orders c rest up yet down h g w outs f wrote none units =
+writes_go node orders c rest up yet down h g w outs f keeps wrote none units =
     let w' : Outside = happens_all_outside w (routed outs) in
     let written : Written (host_units outs) w.outer w'.outer = routed_all w outs in
     let same : SameAir w w' = routed_air w outs none in
@@ -147,6 +153,8 @@ writes_go node orders c rest up yet down h g w outs f wrote none units =
       on_air = subst (λ (a : AirState). OnAir node more c.host c.air c.old f.mesh.log f.mesh.flights a.frames) (sym same.air)
           (order_accepted node orders wrote.added c.host c.air c.old f.mesh.log f.mesh.flights w.outer.air.frames f.mesh.on_air);
       device = subst (λ (ds : List State). HasDevice node later ds) (sym same.devices) (has_same node c later w.devices (record { device = refl; kept = refl; ends = refl }) f.mesh.device);
+      made = subst (λ (ds : List State). AllMake node more c.host.commands ds) (sym same.devices)
+          (subst (λ (cs : List ℕ). AllMake node more cs w.devices) (append-nil c.host.commands) (all_make_more node orders wrote.added c.host.commands [] w.devices f.mesh.made));
     } in
     record {
       orders = more;
@@ -164,6 +172,7 @@ writes_go node orders c rest up yet down h g w outs f wrote none units =
         messages = l.on_way;
         reports = subst (λ (x : ChipParts). OnWay (Tells node) c.down (yet ++ down) x.state.port.side.turn x.state.port.waiting) (sym written.chip) f.reports;
         host = record { node_as = wrote.at.node_as; orders_are = wrote.at.orders_are; plain = wrote.at.plain; queue = wrote.at.queue };
+        outcomes = outcomes_stay h.commands g.commands c.host.commands c.told keeps f.outcomes;
       };
     }
 
@@ -300,7 +309,7 @@ set_here (x ∷ xs) zero y d within = refl
 set_here (x ∷ xs) (suc n) y d within = set_here xs n y d (omega (arith, within))
 
 module _ (laws : AirLaws) (node : ℕ) (orders : List Asked) (c : Course) (rest : Rest) (up yet down : List Item) (h : HostState) (w : Outside) (facts : HostFacts h) (f : HostFollows node orders c rest up yet down h w) (n session command : ℕ)
-    (may : May h (host.Begins n session command)) where
+    (may : May h (host.Begins n session command)) (course : CourseFacts c) (keeps : KeepsOutcomes h.commands (after_host h (host.Begins n session command)).commands) where
   abbrev g : HostState
   g = after_host h (host.Begins n session command)
 
@@ -316,9 +325,9 @@ module _ (laws : AirLaws) (node : ℕ) (orders : List Asked) (c : Course) (rest 
 
   -- with this course, and these frames on the air
   begun_with : (later : Course) (log : List Mark) → Goes c later → later.up ≡ c.up → later.down ≡ c.down → SameDevice c later
-      → OnAir node orders later.host later.air later.old log f.mesh.flights (air_begins w.outer.air n session).frames → AtHost node orders later.host g
+      → OnAir node orders later.host later.air later.old log f.mesh.flights (air_begins w.outer.air n session).frames → AtHost node orders later.host g → AreOutcomes g.commands later.host.commands later.told → AllMake node orders later.host.commands w.devices
       → ((fr : FrameParts) (mark : Option Message) → Asks node orders c.host.commands fr mark → Asks node orders later.host.commands fr mark) → HostGoes node c rest yet down g w'
-  begun_with later log goes same_up same_down same on there asks = record {
+  begun_with later log goes same_up same_down same on there told made asks = record {
     orders = orders;
     later = later;
     goes = goes;
@@ -329,6 +338,7 @@ module _ (laws : AirLaws) (node : ℕ) (orders : List Asked) (c : Course) (rest 
         flights = f.mesh.flights;
         on_air = subst (λ (a : AirState). OnAir node orders later.host later.air later.old log f.mesh.flights a.frames) (sym begin_air.0) on;
         device = subst (λ (ds : List State). HasDevice node later ds) (sym begin_air.1) (has_same node c later w.devices same f.mesh.device);
+        made = subst (λ (ds : List State). AllMake node orders later.host.commands ds) (sym begin_air.1) made;
       };
       to_chip = subst (λ (y : WayState). Carries w'.outer.chip.decoder y up) (sym written.to_chip) (subst (λ (r : Rest). Carries r w.outer.to_chip up) (sym (ap (λ (x : ChipParts). x.decoder) written.chip)) f.to_chip);
       to_host = subst (λ (y : WayState). Carries rest y down) (sym written.to_host) f.to_host;
@@ -339,6 +349,7 @@ module _ (laws : AirLaws) (node : ℕ) (orders : List Asked) (c : Course) (rest 
       reports = subst (λ (x : ChipParts). OnWay (Tells node) later.down (yet ++ down) x.state.port.side.turn x.state.port.waiting) (sym written.chip)
           (subst (λ (ds : List Report). OnWay (Tells node) ds (yet ++ down) w.outer.chip.state.port.side.turn w.outer.chip.state.port.waiting) (sym same_down) f.reports);
       host = there;
+      outcomes = told;
     };
   }
 
@@ -353,6 +364,9 @@ module _ (laws : AirLaws) (node : ℕ) (orders : List Asked) (c : Course) (rest 
           let some : 0 < length (node_of h n).waiting = may.1.0 in
           absurd (let bad : 0 < length (unknown 0).waiting = subst (λ (s : NodeState). 0 < length s.waiting) none some in omega (arith, bad))
 
+  still_told : AreOutcomes g.commands c.host.commands c.told
+  still_told = outcomes_stay h.commands g.commands c.host.commands c.told keeps f.outcomes
+
   pub begin_goes : HostGoes node c rest yet down g w'
   begin_goes = by (n == node) refl
     where
@@ -362,7 +376,7 @@ module _ (laws : AirLaws) (node : ℕ) (orders : List Asked) (c : Course) (rest 
           let done : HostState = node_does h n node_begins in
           let same : SameHost node h g = same_then node h done g (other_same node h n (after_node (node_of h n) node_begins) (λ e. absurd (grind (arith, apart, e)))) (same_host node done g refl (outcome_orders h.commands command _) refl refl) in
           let there : AtHost node orders c.host g = subst (λ (os : List Asked). AtHost node os c.host g) (append-nil orders) (same_at node orders c.host h g same f.host) in
-          begun_with c air.0 (goes_nowhere c) refl refl (record { device = refl; kept = refl; ends = refl }) air.1 there (λ fr mark is. is)
+          begun_with c air.0 (goes_nowhere c) refl refl (record { device = refl; kept = refl; ends = refl }) air.1 there still_told f.mesh.made (λ fr mark is. is)
       by true mine =
           let own : n ≡ node = eqb-true n node mine in
           let within : node < 233 = subst (λ (k : ℕ). k < 233) own waits_somewhere in
@@ -381,4 +395,6 @@ module _ (laws : AirLaws) (node : ℕ) (orders : List Asked) (c : Course) (rest 
           begun_with later (f.mesh.log ++ begins_mark node ∷ []) (goes_once c (begins_step command) closed) refl refl (record { device = refl; kept = refl; ends = refl })
           (subst (λ (k : ℕ). OnAir node orders later.host c.air c.old (f.mesh.log ++ begins_mark node ∷ []) f.mesh.flights (air_begins w.outer.air k session).frames) (sym own)
           (own_begins laws node orders c.host c.air c.old f.mesh.log f.mesh.flights w.outer.air f.mesh.on_air command session within count))
-          there (λ fr mark is. asks_longer node orders c.host.commands (command ∷ []) fr mark is)
+          there (outcomes_begin g.commands c.host.commands c.told command (let all = course.told_are.closed closed in omega (arith, all)) still_told)
+          (subst (λ (os : List Asked). AllMake node os (c.host.commands ++ command ∷ []) w.devices) (append-nil orders) (all_make_more node orders [] c.host.commands (command ∷ []) w.devices f.mesh.made))
+          (λ fr mark is. asks_longer node orders c.host.commands (command ∷ []) fr mark is)

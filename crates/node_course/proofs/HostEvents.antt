@@ -85,11 +85,11 @@ plain_at : (node : ℕ) (commands : List Command) (number : ℕ) (command : Comm
 plain_at node commands zero command all e = absurd (grind (arith, e))
 plain_at node commands (suc before) command all e = all_get (IsPlainFor node) (map asked_of commands) before (asked_of command) all (get_map commands before command e)
 
-owned : (commands : List Command) (node : ℕ) (numbers : List ℕ) (session number : ℕ) → All (IsCommandOf commands node) numbers → command_of_session numbers session ≡ Some number → IsCommandOf commands node number
+pub owned : (commands : List Command) (node : ℕ) (numbers : List ℕ) (session number : ℕ) → All (IsCommandOf commands node) numbers → command_of_session numbers session ≡ Some number → IsCommandOf commands node number
 owned commands node numbers zero number all e = absurd (grind (arith, e))
 owned commands node numbers (suc before) number all e = All-slice_get (IsCommandOf commands node) numbers before number all e
 
-open_is : (book : HostBook) (session : ℕ) → open_session book ≡ Some session → (session ≡ begun_of book) × (0 < begun_of book)
+pub open_is : (book : HostBook) (session : ℕ) → open_session book ≡ Some session → (session ≡ begun_of book) × (0 < begun_of book)
 open_is book session e = by book.outcome book.commands refl refl e
   where
     by : (outcome : Option ℕ) (commands : List ℕ) → book.outcome ≡ outcome → book.commands ≡ commands → open_session (record { commands = commands; outcome = outcome; attempts = book.attempts }) ≡ Some session → (session ≡ begun_of book) × (0 < begun_of book)

@@ -1,12 +1,13 @@
 -- The host judges items, one after another, in the course of one node; and what it does of itself.
-use Rattle.std.proofs.Common.{◌≡◌, ℕ, ◌<◌, ◌⊎◌, inl, inr, Bool, Option, Some, List, [], ◌∷◌, ◌++◌, refl, ap, sym, ◌∙◌, subst, append-nil, append_assoc, arith}
+use Rattle.std.proofs.Common.{◌≡◌, ℕ, ◌+◌, ◌<◌, ◌⊎◌, inl, inr, Bool, Option, Some, List, [], ◌∷◌, ◌++◌, length, refl, ap, sym, ◌∙◌, subst, append-nil, append_assoc, arith}
 use Rattle.std.specs.List.{AllByRecursion}
 use Rattle.std.specs.Option.{option_to_list}
 use Rattle.supervision.specs.Session.{wire_id}
-use Rattle.supervision.specs.Host.{HostBook, told_of}
+use Rattle.supervision.specs.Host.{HostBook, open_session, told_of, command_at as command_of_session}
 use Rattle.supervision.specs.Ends.{Report}
 use Rattle.supervision.specs.declared.host_node.Told.TheVariants.{Final}
-use Rattle.courses.specs.Sessions.{Course, Judges, judges}
+use Rattle.courses.specs.Sessions.{Course, Step, Judges, judges, after_all as after_all_steps, MayAll as MayAllSteps}
+use Rattle.courses.specs.SessionFacts.{CourseFacts}
 use Rattle.serial_frame.specs.Frame.{FrameParts}
 use Rattle.serial_frame.specs.Items.{IsUnit}
 use Rattle.serial_frame.specs.Stream.{Rest}
@@ -33,14 +34,15 @@ use Rattle.host_node.specs.State.{NodeState, unknown}
 use Rattle.host_node.specs.Steps.{after_told, with_final}
 use Rattle.host_node.specs.Events.{after as after_node}
 use Rattle.host_node.specs.Events.NodeEvent.{Reports as node_reports}
-use Rattle.host_events.specs.State.{HostState, node_of, with_node, command_at}
+use Rattle.host_events.specs.State.{HostState, Command as TheCommand, node_of, with_node, with_outcome, command_at}
+use Rattle.host_events.specs.Facts.{IsCommandOf}
+use Rattle.host_facts.specs.Tables.{outcome_in}
 use Rattle.host_events.specs.Sessions.{settings_with}
 use Rattle.host_events.specs.declared.out.HostOut.{HostOut}
 use Rattle.host_events.specs.After.{after as after_host, finishing, is_held, outcome_of}
 use Rattle.host_events.specs.Did.{after_all, outs_all, MayAll}
 use Rattle.host_events.specs.Outs.{outs, ended_of, stored_entries, held_entries}
 use Rattle.host_events.specs.May.{May}
-use Rattle.host_events.specs.Facts.{HostFacts}
 use Rattle.host_events.specs.Taking.{IsJudged, AreJudged}
 use Rattle.host_events.specs.Events.{HostEvent, Hears, Finishes, Begins}
 use Rattle.line_facts.specs.Way.{Carries}
@@ -51,16 +53,20 @@ use Rattle.message_facts.specs.Others.{IsOther}
 use Rattle.node_course.specs.Ways.{Beside, Thinned, Goes}
 use Rattle.node_course.specs.Meaning.{Asked}
 use Rattle.node_course.specs.Air.{OnAir}
+use Rattle.node_course.specs.Making.{AllMake}
 use Rattle.node_course.specs.Mesh.{HasDevice, labels}
 use Rattle.node_course.specs.Lines.{Tells, Asks, ItemIs, OnWay}
 use Rattle.node_course.specs.Host.{NodeAs, AsksPlainly}
+use Rattle.once_facts.specs.Tied.{AreOutcomes}
+use Rattle.node_course.specs.Told.{HasPast}
 use Rattle.node_course.specs.HostGoing.{HostFollows, HostGoes, IsAside, IsNoBegin, IsAnswer, EndsNone, AllWell}
 use Rattle.node_course.proofs.Thinning.{goes_nowhere, goes_on, goes_once, down_thins}
 use Rattle.node_course.proofs.Moving.{thinned_same, thinned_behind}
 use Rattle.node_course.proofs.Outer.{has_same, mesh_down}
 use Rattle.node_course.proofs.NodeKeeping.{SameHost, holding_same, outcome_orders}
 use Rattle.node_course.proofs.HostDoing.{AirLaws, SameAir, routed_air, writes_go, begin_goes, set_here}
-use Rattle.node_course.proofs.HostEvents.{event_wrote, noted_none}
+use Rattle.node_course.proofs.HostEvents.{event_wrote, noted_none, open_is, owned}
+use Rattle.node_course.proofs.Told.{PastLaws, past_kept, outcomes_kept, outcomes_stay, told_more, final_open, holding_commands, outcome_same}
 use Rattle.node_course.proofs.HostEntries.{event_begins_none}
 use Rattle.node_course.proofs.HostJudging.{AllAside, IsFinish, Bytes, item_told}
 
@@ -122,21 +128,25 @@ pub record Laws : Type 0 where
   pub air : AirLaws
   pub nonces : (nonce : List ℕ) → IsOther (nonce_report nonce)
   pub no_more : IsOther no_more_information
-  pub kept : (h : HostState) (event : HostEvent) → HostFacts h → May h event → HostFacts (after_host h event)
+  pub past : PastLaws
+  pub course : (c : Course) (steps : List Step) → CourseFacts c → MayAllSteps c steps → CourseFacts (after_all_steps c steps)
   pub bytes : Bytes 0
 
 module _ (laws : Laws) (node : ℕ) (rest : Rest) (down : List Item) where
   goes_then : (c : Course) (yet later_yet : List Item) (h g : HostState) (w v : Outside) (one : HostGoes node c rest yet down h w) → HostGoes node one.later rest later_yet down g v → HostGoes node c rest later_yet down g v
   goes_then c yet later_yet h g w v one two = record { orders = two.orders; later = two.later; goes = goes_on c one.later two.later one.goes two.goes; up = two.up; follows = two.follows }
 
+  course_goes : (c later : Course) → CourseFacts c → Goes c later → CourseFacts later
+  course_goes c later course goes = subst (λ (x : Course). CourseFacts x) (sym goes.is) (laws.course c goes.steps course goes.may)
+
   -- ---- one event
 
-  aside_goes : (orders : List Asked) (c : Course) (up yet : List Item) (h : HostState) (w : Outside) (event : HostEvent) → HostFollows node orders c rest up yet down h w → HostFacts h → May h event → AsksPlainly node event
+  aside_goes : (orders : List Asked) (c : Course) (up yet : List Item) (h : HostState) (w : Outside) (event : HostEvent) → HostFollows node orders c rest up yet down h w → HasPast h → May h event → AsksPlainly node event
       → IsAside node event → IsNoBegin event → AllByRecursion IsUnit (host_units (outs h event)) → HostGoes node c rest yet down (after_host h event) (happens_all_outside w (routed (outs h event)))
   aside_goes orders c up yet h w event f facts may asks aside none units =
-      writes_go node orders c rest up yet down h (after_host h event) w (outs h event) f (event_wrote laws.nonces laws.no_more node orders c h facts f.host event may asks aside) (event_begins_none h event none) units
+      writes_go node orders c rest up yet down h (after_host h event) w (outs h event) f (outcomes_kept laws.past h event facts may) (event_wrote laws.nonces laws.no_more node orders c h facts.facts.host f.host event may asks aside) (event_begins_none h event none) units
 
-  asides_go : (orders : List Asked) (c : Course) (up yet : List Item) (h : HostState) (w : Outside) (events : List HostEvent) → HostFollows node orders c rest up yet down h w → HostFacts h → AllWell h events → AllAside node events
+  asides_go : (orders : List Asked) (c : Course) (up yet : List Item) (h : HostState) (w : Outside) (events : List HostEvent) → HostFollows node orders c rest up yet down h w → HasPast h → AllWell h events → AllAside node events
       → HostGoes node c rest yet down (after_all h events) (happens_all_outside w (routed (outs_all h events)))
   asides_go orders c up yet h w [] f facts well aside = record { orders = orders; later = c; goes = goes_nowhere c; up = up; follows = f }
   asides_go orders c up yet h w (event ∷ events) f facts well aside =
@@ -144,7 +154,7 @@ module _ (laws : Laws) (node : ℕ) (rest : Rest) (down : List Item) where
       let one : HostGoes node c rest yet down (after_host h event) v = aside_goes orders c up yet h w event f facts well.may.0 (answer_asks node event aside.0.1) aside.0.0 (answer_no_begin node event aside.0.1) well.units.0 in
       subst (λ (u : Outside). HostGoes node c rest yet down (after_all (after_host h event) events) u) (sym (routed_then w (outs h event) (outs_all (after_host h event) events)))
       (goes_then c yet yet (after_host h event) (after_all (after_host h event) events) v _ one
-      (asides_go one.orders one.later one.up yet (after_host h event) v events one.follows (laws.kept h event facts well.may.0) (record { may = well.may.1; units = well.units.1 }) aside.1))
+      (asides_go one.orders one.later one.up yet (after_host h event) v events one.follows (past_kept laws.past h event facts well.may.0) (record { may = well.may.1; units = well.units.1 }) aside.1))
 
   -- ---- a report ends the last session
 
@@ -157,7 +167,7 @@ module _ (laws : Laws) (node : ℕ) (rest : Rest) (down : List Item) where
       by [] none are = absurd none
       by (mark ∷ marks) (first, more) are = (mark, (first, (labels (marks ++ (on.on_link ++ on.waits)), (are, record { on_line = marks; on_link = on.on_link; waits = on.waits; line = more; link = on.link; behind = on.behind; are = refl }))))
 
-  module _ (orders : List Asked) (c : Course) (up yet : List Item) (h : HostState) (w : Outside) (item : Item) (f : HostFollows node orders c rest up (item ∷ yet) down h w) (facts : HostFacts h) (within : node < 233)
+  module _ (orders : List Asked) (c : Course) (up yet : List Item) (h : HostState) (w : Outside) (item : Item) (f : HostFollows node orders c rest up (item ∷ yet) down h w) (facts : HasPast h) (course : CourseFacts c) (within : node < 233)
       (report : Report) (now : List Report) (are : c.down ≡ report ∷ now) (on : OnWay (Tells node) now (yet ++ down) w.outer.chip.state.port.side.turn w.outer.chip.state.port.waiting)
       (session command : ℕ) (status : FinalStatus) (wake_request : Bool) (status_is : report.status ≡ status_byte status) (may : May h (Finishes node session (wire_id report.session) command status wake_request)) where
     abbrev event : HostEvent
@@ -188,7 +198,7 @@ module _ (laws : Laws) (node : ℕ) (rest : Rest) (down : List Item) where
 
     node_is : node_of done node ≡ with_final (node_of h node) (status_byte status)
     node_is =
-        set_here h.nodes node (after_node (node_of h node) (node_reports (wire_id report.session) (status_byte status))) (unknown 0) (let places = facts.nodes.places in omega (arith, places, within))
+        set_here h.nodes node (after_node (node_of h node) (node_reports (wire_id report.session) (status_byte status))) (unknown 0) (let places = facts.facts.host.nodes.places in omega (arith, places, within))
         ∙ final_node (node_of h node) (wire_id report.session) (status_byte status) session may.told
 
     kept : NodeAs c.host.commands (Some report.status) (node_of done node)
@@ -206,6 +216,29 @@ module _ (laws : Laws) (node : ℕ) (rest : Rest) (down : List Item) where
     written : Written [] w.outer w'.outer
     written = subst (λ (us : List LineUnit). Written us w.outer w'.outer) units_none (routed_all w (outs h event))
 
+    -- its command has the outcome of that status
+    ended_commands : g.commands ≡ with_outcome h.commands command (outcome_of status)
+    ended_commands = holding_commands (finishing h node (wire_id report.session) command status) node (is_held h node wake_request)
+
+    next_session : session ≡ length c.told + 1
+    next_session =
+        let opened : open_session c.host ≡ Some session = final_open c.host (wire_id report.session) report.status session told_is in
+        let count = course.told_are.opened session opened in
+        let last = (open_is c.host session opened).0 in omega (arith, count, last)
+
+    next_command : command_of_session c.host.commands (length c.told + 1) ≡ Some command
+    next_command = subst (λ (k : ℕ). command_of_session c.host.commands k ≡ Some command) next_session (subst (λ (cs : List ℕ). command_of_session cs session ≡ Some command) old.0 may.carried)
+
+    ended_outcome : outcome_in g.commands command ≡ outcome_of status
+    ended_outcome =
+        let own : IsCommandOf h.commands node command = owned h.commands node (node_of h node).book.commands session command (facts.facts.host.owns node).sessions may.carried in
+        subst (λ (cs : List TheCommand). outcome_in cs command ≡ outcome_of status) (sym ended_commands) (outcome_same h.commands command (outcome_of status) own.command own.found)
+
+    told_outcomes : AreOutcomes g.commands c.host.commands (c.told ++ report.status ∷ [])
+    told_outcomes =
+        subst (λ (s : ℕ). AreOutcomes g.commands c.host.commands (c.told ++ s ∷ [])) (sym status_is)
+        (told_more g.commands c.host.commands c.told command status (outcomes_stay h.commands g.commands c.host.commands c.told (outcomes_kept laws.past h event facts may) f.outcomes) next_command ended_outcome)
+
     finish_goes : HostGoes node c rest yet down g w'
     finish_goes = record {
       orders = orders;
@@ -219,6 +252,7 @@ module _ (laws : Laws) (node : ℕ) (rest : Rest) (down : List Item) where
           on_air = subst (λ (a : AirState). OnAir node orders told.host c.air c.old f.mesh.log f.mesh.flights a.frames) (sym same.air)
               (record { fly = f.mesh.on_air.fly; flying = f.mesh.on_air.flying; flown = f.mesh.on_air.flown; begun = f.mesh.on_air.begun });
           device = subst (λ (ds : List State). HasDevice node told ds) (sym same.devices) (has_same node c told w.devices (record { device = refl; kept = refl; ends = refl }) f.mesh.device);
+          made = subst (λ (ds : List State). AllMake node orders c.host.commands ds) (sym same.devices) f.mesh.made;
         };
         to_chip = subst (λ (y : WayState). Carries w'.outer.chip.decoder y up) (sym written.to_chip) (subst (λ (r : Rest). Carries r w.outer.to_chip up) (sym (ap (λ (x : ChipParts). x.decoder) written.chip)) f.to_chip);
         to_host = subst (λ (y : WayState). Carries rest y down) (sym written.to_host) f.to_host;
@@ -232,6 +266,7 @@ module _ (laws : Laws) (node : ℕ) (rest : Rest) (down : List Item) where
           plain = f.host.plain;
           queue = held.queue f.host.queue;
         };
+        outcomes = told_outcomes;
       };
     }
 
@@ -253,12 +288,13 @@ module _ (laws : Laws) (node : ℕ) (rest : Rest) (down : List Item) where
       messages = f.messages;
       reports = on;
       host = f.host;
+      outcomes = f.outcomes;
     };
   }
 
-  judge_item : (orders : List Asked) (c : Course) (up yet : List Item) (h : HostState) (w : Outside) (item : Item) (events : List HostEvent) → node < 233 → HostFollows node orders c rest up (item ∷ yet) down h w → HostFacts h → AllWell h events
+  judge_item : (orders : List Asked) (c : Course) (up yet : List Item) (h : HostState) (w : Outside) (item : Item) (events : List HostEvent) → node < 233 → HostFollows node orders c rest up (item ∷ yet) down h w → HasPast h → CourseFacts c → AllWell h events
       → IsJudged h item events → HostGoes node c rest yet down (after_all h events) (happens_all_outside w (routed (outs_all h events)))
-  judge_item orders c up yet h w item events within f facts well (later, are, followed) =
+  judge_item orders c up yet h w item events within f facts course well (later, are, followed) =
       subst (λ (es : List HostEvent). HostGoes node c rest yet down (after_all h es) (happens_all_outside w (routed (outs_all h es)))) (sym are)
       (by (subst (λ (es : List HostEvent). AllWell h es) are well))
     where
@@ -269,44 +305,44 @@ module _ (laws : Laws) (node : ℕ) (rest : Rest) (down : List Item) where
           let one : HostGoes node c rest (item ∷ yet) down k v = aside_goes orders c up (item ∷ yet) h w (Hears item) f facts these.may.0 tt tt tt these.units.0 in
           let label = first_label one.later item (yet ++ down) v.outer.chip.state.port.side.turn v.outer.chip.state.port.waiting one.follows.reports in
           let more : AllWell k later = record { may = these.may.1; units = these.units.1 } in
-          let facts' : HostFacts k = laws.kept h (Hears item) facts these.may.0 in
+          let facts' : HasPast k = past_kept laws.past h (Hears item) facts these.may.0 in
           subst (λ (u : Outside). HostGoes node c rest yet down (after_all k later) u) (sym (routed_then w (outs h (Hears item)) (outs_all k later)))
           (goes_then c (item ∷ yet) yet k (after_all k later) v (happens_all_outside v (routed (outs_all k later))) one
-          (told_by one.orders one.later one.up k v label.0 label.1.1.0 one.follows label.1.1.1.0 label.1.1.1.1 facts' more (item_told node laws.bytes k h.side.turn item label.0 later label.1.0 followed)))
+          (told_by one.orders one.later one.up k v label.0 label.1.1.0 one.follows label.1.1.1.0 label.1.1.1.1 facts' (course_goes c one.later course one.goes) more (item_told node laws.bytes k h.side.turn item label.0 later label.1.0 followed)))
         where
           ended : (orders : List Asked) (c : Course) (up : List Item) (k : HostState) (v : Outside) (mark : Option Report) (now : List Report) → HostFollows node orders c rest up (item ∷ yet) down k v → c.down ≡ option_to_list mark ++ now
-              → OnWay (Tells node) now (yet ++ down) v.outer.chip.state.port.side.turn v.outer.chip.state.port.waiting → HostFacts k → AllWell k later → (is : IsFinish node mark later) → (events : List HostEvent) → events ≡ later
+              → OnWay (Tells node) now (yet ++ down) v.outer.chip.state.port.side.turn v.outer.chip.state.port.waiting → HasPast k → CourseFacts c → AllWell k later → (is : IsFinish node mark later) → (events : List HostEvent) → events ≡ later
               → HostGoes node c rest yet down (after_all k later) (happens_all_outside v (routed (outs_all k later)))
-          ended orders c up k v mark now f are on facts well is events named =
+          ended orders c up k v mark now f are on facts course well is events named =
               let finish : HostEvent = Finishes node is.session (wire_id is.report.session) is.command is.status is.wake_request in
               let w2 : AllWell k (finish ∷ []) = subst (λ (es : List HostEvent). AllWell k es) is.are well in
-              let g = finish_goes orders c up yet k v item f facts within is.report now (are ∙ ap (λ (m : Option Report). option_to_list m ++ now) is.labelled) on is.session is.command is.status is.wake_request is.status_is w2.may.0 in
+              let g = finish_goes orders c up yet k v item f facts course within is.report now (are ∙ ap (λ (m : Option Report). option_to_list m ++ now) is.labelled) on is.session is.command is.status is.wake_request is.status_is w2.may.0 in
               subst (λ (es : List HostEvent). HostGoes node c rest yet down (after_all k es) (happens_all_outside v (routed (outs_all k es)))) (sym is.are)
               (subst (λ (os : List HostOut). HostGoes node c rest yet down (after_host k finish) (happens_all_outside v (routed os))) (sym (append-nil (outs k finish))) g)
 
           told_by : (orders : List Asked) (c : Course) (up : List Item) (k : HostState) (v : Outside) (mark : Option Report) (now : List Report) → HostFollows node orders c rest up (item ∷ yet) down k v → c.down ≡ option_to_list mark ++ now
-              → OnWay (Tells node) now (yet ++ down) v.outer.chip.state.port.side.turn v.outer.chip.state.port.waiting → HostFacts k → AllWell k later → AllAside node later ⊎ IsFinish node mark later
+              → OnWay (Tells node) now (yet ++ down) v.outer.chip.state.port.side.turn v.outer.chip.state.port.waiting → HasPast k → CourseFacts c → AllWell k later → AllAside node later ⊎ IsFinish node mark later
               → HostGoes node c rest yet down (after_all k later) (happens_all_outside v (routed (outs_all k later)))
-          told_by orders c up k v mark now f are on facts well (inl aside) =
+          told_by orders c up k v mark now f are on facts course well (inl aside) =
               let dropped : HostGoes node c rest yet down k v = without_label orders c up yet k v item mark now f are on in
               goes_then c yet yet k (after_all k later) v (happens_all_outside v (routed (outs_all k later))) dropped (asides_go dropped.orders dropped.later dropped.up yet k v later dropped.follows facts well aside)
-          told_by orders c up k v mark now f are on facts well (inr finish) = ended orders c up k v mark now f are on facts well finish later refl
+          told_by orders c up k v mark now f are on facts course well (inr finish) = ended orders c up k v mark now f are on facts course well finish later refl
 
-  pub facts_then : (h : HostState) (events : List HostEvent) → HostFacts h → MayAll h events → HostFacts (after_all h events)
+  pub facts_then : (h : HostState) (events : List HostEvent) → HasPast h → MayAll h events → HasPast (after_all h events)
   facts_then h [] facts may = facts
-  facts_then h (event ∷ events) facts may = facts_then (after_host h event) events (laws.kept h event facts may.0) may.1
+  facts_then h (event ∷ events) facts may = facts_then (after_host h event) events (past_kept laws.past h event facts may.0) may.1
 
   -- items one after another
-  pub judge_items : (orders : List Asked) (c : Course) (up : List Item) (h : HostState) (w : Outside) (items : List Item) (events : List HostEvent) → node < 233 → HostFollows node orders c rest up items down h w → HostFacts h → AllWell h events
+  pub judge_items : (orders : List Asked) (c : Course) (up : List Item) (h : HostState) (w : Outside) (items : List Item) (events : List HostEvent) → node < 233 → HostFollows node orders c rest up items down h w → HasPast h → CourseFacts c → AllWell h events
       → AreJudged h items events → HostGoes node c rest [] down (after_all h events) (happens_all_outside w (routed (outs_all h events)))
-  judge_items orders c up h w [] events within f facts well none =
+  judge_items orders c up h w [] events within f facts course well none =
       subst (λ (es : List HostEvent). HostGoes node c rest [] down (after_all h es) (happens_all_outside w (routed (outs_all h es)))) (sym none) (record { orders = orders; later = c; goes = goes_nowhere c; up = up; follows = f })
-  judge_items orders c up h w (item ∷ items) events within f facts well (first, later, are, one, more) =
+  judge_items orders c up h w (item ∷ items) events within f facts course well (first, later, are, one, more) =
       let both = well_front h first later (subst (λ (es : List HostEvent). AllWell h es) are well) in
       let v : Outside = happens_all_outside w (routed (outs_all h first)) in
-      let g : HostGoes node c rest items down (after_all h first) v = judge_item orders c up items h w item first within f facts both.0 one in
+      let g : HostGoes node c rest items down (after_all h first) v = judge_item orders c up items h w item first within f facts course both.0 one in
       let rest_goes : HostGoes node g.later rest [] down (after_all (after_all h first) later) (happens_all_outside v (routed (outs_all (after_all h first) later))) =
-      judge_items g.orders g.later g.up (after_all h first) v items later within g.follows (facts_then h first facts both.0.may) both.1 more in
+      judge_items g.orders g.later g.up (after_all h first) v items later within g.follows (facts_then h first facts both.0.may) (course_goes c g.later course g.goes) both.1 more in
       let all : HostGoes node c rest [] down (after_all (after_all h first) later) (happens_all_outside v (routed (outs_all (after_all h first) later))) = goes_then c items [] (after_all h first) (after_all (after_all h first) later) v _ g rest_goes in
       subst (λ (es : List HostEvent). HostGoes node c rest [] down (after_all h es) (happens_all_outside w (routed (outs_all h es)))) (sym are)
       (subst (λ (k : HostState). HostGoes node c rest [] down k (happens_all_outside w (routed (outs_all h (first ++ later))))) (sym (after_then h first later))
@@ -314,9 +350,10 @@ module _ (laws : Laws) (node : ℕ) (rest : Rest) (down : List Item) where
       (subst (λ (u : Outside). HostGoes node c rest [] down (after_all (after_all h first) later) u) (sym (routed_then w (outs_all h first) (outs_all (after_all h first) later))) all)))
 
   -- what the host does of itself, or is asked for: it judges no report of the node
-  pub own_goes : (orders : List Asked) (c : Course) (up : List Item) (h : HostState) (w : Outside) (event : HostEvent) → HostFollows node orders c rest up [] down h w → HostFacts h → May h event → AsksPlainly node event
+  pub own_goes : (orders : List Asked) (c : Course) (up : List Item) (h : HostState) (w : Outside) (event : HostEvent) → HostFollows node orders c rest up [] down h w → HasPast h → CourseFacts c → May h event → AsksPlainly node event
       → EndsNone node event → AllByRecursion IsUnit (host_units (outs h event)) → HostGoes node c rest [] down (after_host h event) (happens_all_outside w (routed (outs h event)))
-  own_goes orders c up h w (Begins n session command) f facts may asks none units = begin_goes laws.air node orders c rest up [] down h w facts f n session command may
-  own_goes orders c up h w (Finishes n session id command status wake_request) f facts may asks none units =
+  own_goes orders c up h w (Begins n session command) f facts course may asks none units =
+      begin_goes laws.air node orders c rest up [] down h w facts.facts.host f n session command may course (outcomes_kept laws.past h (Begins n session command) facts may)
+  own_goes orders c up h w (Finishes n session id command status wake_request) f facts course may asks none units =
       aside_goes orders c up [] h w (Finishes n session id command status wake_request) f facts may asks none tt units
-  own_goes orders c up h w event f facts may asks none units = aside_goes orders c up [] h w event f facts may asks tt tt units
+  own_goes orders c up h w event f facts course may asks none units = aside_goes orders c up [] h w event f facts may asks tt tt units

@@ -2,6 +2,7 @@ pub mod Thinning
 pub mod Flights
 pub mod Saying
 pub mod Devices
+pub mod Making
 pub mod Replies
 pub mod Arriving
 pub mod Moving
@@ -11,6 +12,7 @@ pub mod Outer
 pub mod OuterEvents
 pub mod NodeKeeping
 pub mod HostFrames
+pub mod Told
 pub mod HostDoing
 pub mod HostEvents
 pub mod HostEntries
@@ -18,4 +20,6 @@ pub mod HostJudging
 pub mod HostItems
 pub mod Whole
 pub mod Hearing
+pub mod Asking
+pub mod Taken
 pub mod Running

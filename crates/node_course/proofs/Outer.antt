@@ -65,6 +65,7 @@ use Rattle.node_course.specs.Meaning.{Asked, HostMeans, NodeMeans}
 use Rattle.node_course.specs.Air.{BearsBy, Bears, OnAir}
 use Rattle.node_course.specs.Device.{AtDevice}
 use Rattle.node_course.specs.Chip.{GivesAs}
+use Rattle.node_course.specs.Making.{AllMake}
 use Rattle.node_course.specs.Mesh.{HasDevice, InMesh, labels, Adds}
 use Rattle.node_course.specs.Lines.{Tells, Asks, asked_as, ItemIs, OnWay, Later}
 use Rattle.node_course.specs.Outside.{Follows, OuterGoes}
@@ -102,6 +103,7 @@ mesh_down node orders c mesh now is = record {
   flights = is.flights;
   on_air = record { fly = is.on_air.fly; flying = is.on_air.flying; flown = is.on_air.flown; begun = is.on_air.begun };
   device = has_same node c (record c { down = now }) mesh.devices (record { device = refl; kept = refl; ends = refl }) is.device;
+  made = is.made;
 }
 
 pub mesh_up : (node : ℕ) (orders : List Asked) (c : Course) (mesh : Mesh) (now : List Message) → InMesh node orders c mesh → InMesh node orders (record c { up = now }) mesh
@@ -110,6 +112,7 @@ mesh_up node orders c mesh now is = record {
   flights = is.flights;
   on_air = record { fly = is.on_air.fly; flying = is.on_air.flying; flown = is.on_air.flown; begun = is.on_air.begun };
   device = has_same node c (record c { up = now }) mesh.devices (record { device = refl; kept = refl; ends = refl }) is.device;
+  made = is.made;
 }
 
 -- ---- the chip's side of the line
@@ -438,6 +441,7 @@ module _ (flying : Flying) (room : (log : List Mark) (before : List Flown) (flig
               (subst (λ (a : List (Flight Cargo)). OnAir node orders mid.host a later.old (mesh.log ++ goes_mark d ∷ []) (mesh.flights ++ flown_now mesh.log d ∷ []) (departing air to Outward (Some route) payload).frames) (sym same_air)
               (subst (λ (a : List (Flight Cargo)). OnAir node orders mid.host (flies mid cargo).air a (mesh.log ++ goes_mark d ∷ []) (mesh.flights ++ flown_now mesh.log d ∷ []) (departing air to Outward (Some route) payload).frames) (sym same_old) on)));
           device = has_same node mid later devices same mesh.device;
+          made = subst (λ (h : HostBook). AllMake node orders h.commands devices) (sym host) mesh.made;
         },
       )
     where

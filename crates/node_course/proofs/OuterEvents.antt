@@ -3,8 +3,10 @@ use Rattle.std.proofs.Common.{◌≡◌, ℕ, ◌<◌, ◌≤◌, Bool, true, fa
 use Rattle.std.specs.Prelude.{slice_get, slice_set}
 use Rattle.std.specs.Option.{option_map}
 use Rattle.supervision.specs.Host.{no_sessions}
+use Rattle.supervision.specs.Device.{Taken}
 use Rattle.supervision.specs.Ends.{Report}
 use Rattle.courses.specs.Sessions.{Course, Message, first_course}
+use Rattle.courses.specs.SessionFacts.{CourseFacts}
 use Rattle.serial_frame.specs.Stream.{Rest, no_rest, after_tick}
 use Rattle.serial_frame.specs.declared.item.Item.{Item}
 use Rattle.serial_link.specs.declared.turn.Turn.{Turn}
@@ -46,11 +48,13 @@ use Rattle.line_facts.proofs.Ways.{carries_none}
 use Rattle.node_course.specs.Ways.{Thinned}
 use Rattle.node_course.specs.Meaning.{Asked}
 use Rattle.node_course.specs.Air.{OnAir}
+use Rattle.node_course.specs.Making.{Makes, AllMake, HearsNone}
 use Rattle.node_course.specs.Device.{AtDevice, GoesAs}
 use Rattle.node_course.specs.Mesh.{HasDevice, InMesh, labels, brought, Adds, MeshGoes}
 use Rattle.node_course.specs.Outside.{Follows, OuterGoes, SideRests, Rests}
 use Rattle.node_course.proofs.Thinning.{goes_nowhere, up_thins, down_thins}
 use Rattle.node_course.proofs.Moving.{thinned_same, thinned_behind, labels-append}
+use Rattle.node_course.proofs.Making.{first_makes}
 use Rattle.node_course.proofs.Replies.{Flying}
 use Rattle.node_course.proofs.ChipTelling.{ChipTells, tells_still, tells_one, deals_tell, gives_tells, joins_tell, discovers_tell, collides_tell}
 use Rattle.node_course.proofs.Outer.{mesh_down, mesh_up, outer_goes, entered, takes_go}
@@ -59,16 +63,17 @@ use Rattle.node_course.proofs.Outer.{mesh_down, mesh_up, outer_goes, entered, ta
 pub record Laws : Type 0 where
   pub flying : Flying
   pub room : (log : List Mark) (before : List Flown) (flight : Flown) (o : OuterState) → Fly log (before ++ flight ∷ []) o.air.frames → flight.heading ≡ Outward → IsFew o → outward before ≤ 1
-  pub arrives : (node : ℕ) (orders : List Asked) (c : Course) (m : Mesh) (drawn : List ℕ) (route : Option Route) → node < 233 → InMesh node orders c m → MayHappen m (mesh.Arrives drawn route)
+  pub arrives : (node : ℕ) (orders : List Asked) (c : Course) (m : Mesh) (drawn : List ℕ) (route : Option Route) → node < 233 → CourseFacts c → InMesh node orders c m → MayHappen m (mesh.Arrives drawn route)
       → MeshGoes node orders c (mesh_after m (mesh.Arrives drawn route)) (brought (mesh_outs m (mesh.Arrives drawn route)))
-  pub repeats : (node : ℕ) (orders : List Asked) (c : Course) (m : Mesh) (number : ℕ) (drawn : List ℕ) (route : Option Route) → node < 233 → InMesh node orders c m → refusal_of m.air.frames number ≡ None → MayHappen m (mesh.Repeats number drawn route)
+  pub repeats : (node : ℕ) (orders : List Asked) (c : Course) (m : Mesh) (number : ℕ) (drawn : List ℕ) (route : Option Route) → node < 233 → CourseFacts c → InMesh node orders c m → refusal_of m.air.frames number ≡ None → MayHappen m (mesh.Repeats number drawn route)
       → MeshGoes node orders c (mesh_after m (mesh.Repeats number drawn route)) (brought (mesh_outs m (mesh.Repeats number drawn route)))
   pub own : (node : ℕ) (orders : List Asked) (c : Course) (m : Mesh) (place : ℕ) (device : State) (event : DeviceEvent) (found : Option Route) → InMesh node orders c m → slice_get m.devices place ≡ Some device
-      → (device.node ≡ node → GoesAs c device event)
+      → (device.node ≡ node → GoesAs c device event) → (device.node ≡ node → Makes orders c.host.commands (device_after device event))
       → MeshGoes node orders c (record { air = answered_if (is_joined m.air device.node) m.air device.node found (device_replies device event); devices = slice_set m.devices place (device_after device event) }) []
   pub ticks : (c : Course) (device : State) (drawn : List ℕ) → AtDevice c device → GoesAs c device (Ticks drawn)
   pub wakes : (c : Course) (device : State) → AtDevice c device → GoesAs c device Wakes
   pub sets : (c : Course) (device : State) (value : ℕ) → AtDevice c device → GoesAs c device (Sets value)
+  pub keeps : (orders : List Asked) (commands : List ℕ) (device : State) (event : DeviceEvent) → HearsNone event → Makes orders commands device → Makes orders commands (device_after device event)
 
 module _ (laws : Laws) (node : ℕ) (orders : List Asked) (c : Course) (rest : Rest) (turn : Turn) (up down : List Item) where
   nothing_adds : Adds c c []
@@ -76,7 +81,7 @@ module _ (laws : Laws) (node : ℕ) (orders : List Asked) (c : Course) (rest : R
 
   same_mesh : (w : Outside) (air : AirState) → air.frames ≡ w.outer.air.frames → InMesh node orders c (mesh_of w) → InMesh node orders c (record { air = air; devices = w.devices })
   same_mesh w air is m =
-      record { log = m.log; flights = m.flights; on_air = subst (λ (fs : FramesState). OnAir node orders c.host c.air c.old m.log m.flights fs) (sym is) m.on_air; device = m.device }
+      record { log = m.log; flights = m.flights; on_air = subst (λ (fs : FramesState). OnAir node orders c.host c.air c.old m.log m.flights fs) (sym is) m.on_air; device = m.device; made = m.made }
 
   -- nothing of this changes
   still : (w : Outside) (n : OuterState) → Follows node orders c rest turn up down w → n.chip ≡ w.outer.chip → n.to_host ≡ w.outer.to_host → n.to_chip ≡ w.outer.to_chip → n.air.frames ≡ w.outer.air.frames
@@ -96,27 +101,28 @@ module _ (laws : Laws) (node : ℕ) (orders : List Asked) (c : Course) (rest : R
       outer_goes node orders c rest turn up down w g.later (labels g.marks) (record w.outer { air = m.air }) (each (deals m.devices) (record w.outer { air = m.air }) outs).outer m.devices f refl refl refl g.goes g.adds g.in_mesh
       (deals_tell node m.devices (record w.outer { air = m.air }) outs g.marks g.brings)
 
-  repeats_go : (w : Outside) (refused : Option RepeatRefusal) (number : ℕ) (drawn : List ℕ) (route : Option Route) → node < 233 → Follows node orders c rest turn up down w → refusal_of w.outer.air.frames number ≡ refused
+  repeats_go : (w : Outside) (refused : Option RepeatRefusal) (number : ℕ) (drawn : List ℕ) (route : Option Route) → node < 233 → CourseFacts c → Follows node orders c rest turn up down w → refusal_of w.outer.air.frames number ≡ refused
       → MayRepeat w refused (mesh.Repeats number drawn route) → OuterGoes node orders c rest turn (outside (repeats w refused (mesh.Repeats number drawn route)).outer (devices_repeated w refused (mesh.Repeats number drawn route)))
-  repeats_go w None number drawn route within f is may =
-      mesh_goes w (mesh_after (mesh_of w) (mesh.Repeats number drawn route)) (mesh_outs (mesh_of w) (mesh.Repeats number drawn route)) f (laws.repeats node orders c (mesh_of w) number drawn route within f.mesh is may)
-  repeats_go w (Some refused) number drawn route within f is may = still w w.outer f refl refl refl refl
+  repeats_go w None number drawn route within course f is may =
+      mesh_goes w (mesh_after (mesh_of w) (mesh.Repeats number drawn route)) (mesh_outs (mesh_of w) (mesh.Repeats number drawn route)) f (laws.repeats node orders c (mesh_of w) number drawn route within course f.mesh is may)
+  repeats_go w (Some refused) number drawn route within course f is may = still w w.outer f refl refl refl refl
 
   -- an event of a device
-  acts_go : (w : Outside) (place : ℕ) (found : Option State) (event : DeviceEvent) (route : Option Route) → Follows node orders c rest turn up down w → slice_get w.devices place ≡ found → ((device : State) → AtDevice c device → GoesAs c device event)
+  acts_go : (w : Outside) (place : ℕ) (found : Option State) (event : DeviceEvent) (route : Option Route) → HearsNone event → Follows node orders c rest turn up down w → slice_get w.devices place ≡ found → ((device : State) → AtDevice c device → GoesAs c device event)
       → OuterGoes node orders c rest turn (outside (acts_at w.outer found event route).outer (device_set w.devices place found event))
-  acts_go w place None event route f stood goes = still w w.outer f refl refl refl refl
-  acts_go w place (Some device) event route f stood goes =
+  acts_go w place None event route none f stood goes = still w w.outer f refl refl refl refl
+  acts_go w place (Some device) event route none f stood goes =
       mesh_goes w (record { air = answered_if (is_joined w.outer.air device.node) w.outer.air device.node (option_map backwards route) (device_replies device event); devices = slice_set w.devices place (device_after device event) }) [] f
       (laws.own node orders c (mesh_of w) place device event (option_map backwards route) f.mesh stood
       (λ own. let h = f.mesh.device in
       let found : Some device ≡ Some h.device = sym stood ∙ (ap (λ (k : ℕ). slice_get w.devices k) (h.alone place device stood own) ∙ h.stands) in
-      let one : device ≡ h.device = cc in goes device (subst (λ (d : State). AtDevice c d) (sym one) h.at)))
+      let one : device ≡ h.device = cc in goes device (subst (λ (d : State). AtDevice c d) (sym one) h.at))
+      (λ own. laws.keeps orders c.host.commands device event none (f.mesh.made place device stood own)))
 
-  hand_go : (w : Outside) (place : Option ℕ) (event : DeviceEvent) (route : Option Route) → Follows node orders c rest turn up down w → ((device : State) → AtDevice c device → GoesAs c device event)
+  hand_go : (w : Outside) (place : Option ℕ) (event : DeviceEvent) (route : Option Route) → HearsNone event → Follows node orders c rest turn up down w → ((device : State) → AtDevice c device → GoesAs c device event)
       → OuterGoes node orders c rest turn (outside (acts_by_hand w.outer w.devices place event route).outer (set_by_hand w.devices place event))
-  hand_go w None event route f goes = still w w.outer f refl refl refl refl
-  hand_go w (Some place) event route f goes = acts_go w place (slice_get w.devices place) event route f refl goes
+  hand_go w None event route none f goes = still w w.outer f refl refl refl refl
+  hand_go w (Some place) event route none f goes = acts_go w place (slice_get w.devices place) event route none f refl goes
 
   -- a node joins
   joins_go : (w : Outside) (n : ℕ) (listening : Bool) → Follows node orders c rest turn up down w → OuterGoes node orders c rest turn (outside (joins w.outer n listening) w.devices)
@@ -132,7 +138,7 @@ module _ (laws : Laws) (node : ℕ) (orders : List Asked) (c : Course) (rest : R
         up = g.up;
         down = g.down;
         follows = record {
-          mesh = record { log = g.follows.mesh.log; flights = g.follows.mesh.flights; on_air = g.follows.mesh.on_air; device = g.follows.mesh.device };
+          mesh = record { log = g.follows.mesh.log; flights = g.follows.mesh.flights; on_air = g.follows.mesh.on_air; device = g.follows.mesh.device; made = g.follows.mesh.made };
           to_chip = g.follows.to_chip;
           to_host = g.follows.to_host;
           frames = g.follows.frames;
@@ -243,48 +249,54 @@ module _ (laws : Laws) (node : ℕ) (orders : List Asked) (c : Course) (rest : R
   wrong : {X : Type 0} → false ≡ true → X
   wrong bad = absurd cc
 
-  goes_by : (w : Outside) (event : OuterEvent) → node < 233 → Follows node orders c rest turn up down w → is_own event ≡ true → May w event → Rests rest w event → OuterStaysFew w.outer event
+  goes_by : (w : Outside) (event : OuterEvent) → node < 233 → CourseFacts c → Follows node orders c rest turn up down w → is_own event ≡ true → May w event → Rests rest w event → OuterStaysFew w.outer event
       → OuterGoes node orders c rest turn (outside (outcome w event).outer (devices_after w event))
   unfolding outcome devices_after May
-  goes_by w Begins_line within f own may rests few = still w _ f refl refl refl refl
-  goes_by w Begins_tick within f own may rests few = still w _ f refl refl refl refl
-  goes_by w (Host_writes unit) within f own may rests few = wrong own
-  goes_by w (host_takes count) within f own may rests few = wrong own
-  goes_by w (Host_notes entry) within f own may rests few = wrong own
-  goes_by w (Host_begins n sessions) within f own may rests few = wrong own
-  goes_by w (Chip_takes count after_rest ways) within f own may rests few = takes_go laws.flying laws.room node orders c rest turn up down w count after_rest ways f may few
-  goes_by w (Arrives drawn route) within f own may rests few =
-      mesh_goes w (mesh_after (mesh_of w) (mesh.Arrives drawn route)) (mesh_outs (mesh_of w) (mesh.Arrives drawn route)) f (laws.arrives node orders c (mesh_of w) drawn route within f.mesh may)
-  goes_by w (Gives route) within f own may rests few = chip_goes w (gives w.outer w.devices w.outer.due route).outer f (gives_tells node w.outer w.devices w.outer.due route)
-  goes_by w (Device_ticks place drawn route) within f own may rests few = acts_go w place (slice_get w.devices place) (Ticks drawn) route f refl (λ device at. laws.ticks c device drawn at)
-  goes_by w Chip_ticks within f own may rests few = tick_goes w f rests
-  goes_by w (Repeats number drawn route) within f own may rests few = repeats_go w (refusal_of w.outer.air.frames number) number drawn route within f refl may
-  goes_by w (Wakes_device n route) within f own may rests few = hand_go w (place_of n w.devices) Wakes route f (λ device at. laws.wakes c device at)
-  goes_by w (Sets_device n value route) within f own may rests few = hand_go w (place_of n w.devices) (Sets value) route f (λ device at. laws.sets c device value at)
-  goes_by w (Shows n) within f own may rests few = still w _ f refl refl refl refl
-  goes_by w (Joins n) within f own may rests few = joins_go w n (listens_at (device_at w.devices (place_of n w.devices))) f
-  goes_by w Discovers within f own may rests few = chip_goes w (discovers w.outer) f (discovers_tell node w.outer)
-  goes_by w (Links a b live) within f own may rests few = still w _ f refl refl refl refl
-  goes_by w (Loses count) within f own may rests few = still w _ f refl refl refl refl
-  goes_by w (Loses_acks count) within f own may rests few = still w _ f refl refl refl refl
-  goes_by w (Marks_loss side) within f own may rests few = loses_go w side f
-  goes_by w (Marks_change side garble) within f own may rests few = changes_go w side garble f
-  goes_by w (Clears_pipe side) within f own may rests few = clears_go w side f rests
-  goes_by w Collides_next within f own may rests few = chip_goes w (with_chip w.outer (after w.outer.chip.state Collides)) f (collides_tell node w.outer)
-  goes_by w (Stalls ticks) within f own may rests few = still w _ f refl refl refl refl
-  goes_by w (Cuts size) within f own may rests few = still w _ f refl refl refl refl
+  goes_by w Begins_line within course f own may rests few = still w _ f refl refl refl refl
+  goes_by w Begins_tick within course f own may rests few = still w _ f refl refl refl refl
+  goes_by w (Host_writes unit) within course f own may rests few = wrong own
+  goes_by w (host_takes count) within course f own may rests few = wrong own
+  goes_by w (Host_notes entry) within course f own may rests few = wrong own
+  goes_by w (Host_begins n sessions) within course f own may rests few = wrong own
+  goes_by w (Chip_takes count after_rest ways) within course f own may rests few = takes_go laws.flying laws.room node orders c rest turn up down w count after_rest ways f may few
+  goes_by w (Arrives drawn route) within course f own may rests few =
+      mesh_goes w (mesh_after (mesh_of w) (mesh.Arrives drawn route)) (mesh_outs (mesh_of w) (mesh.Arrives drawn route)) f (laws.arrives node orders c (mesh_of w) drawn route within course f.mesh may)
+  goes_by w (Gives route) within course f own may rests few = chip_goes w (gives w.outer w.devices w.outer.due route).outer f (gives_tells node w.outer w.devices w.outer.due route)
+  goes_by w (Device_ticks place drawn route) within course f own may rests few = acts_go w place (slice_get w.devices place) (Ticks drawn) route tt f refl (λ device at. laws.ticks c device drawn at)
+  goes_by w Chip_ticks within course f own may rests few = tick_goes w f rests
+  goes_by w (Repeats number drawn route) within course f own may rests few = repeats_go w (refusal_of w.outer.air.frames number) number drawn route within course f refl may
+  goes_by w (Wakes_device n route) within course f own may rests few = hand_go w (place_of n w.devices) Wakes route tt f (λ device at. laws.wakes c device at)
+  goes_by w (Sets_device n value route) within course f own may rests few = hand_go w (place_of n w.devices) (Sets value) route tt f (λ device at. laws.sets c device value at)
+  goes_by w (Shows n) within course f own may rests few = still w _ f refl refl refl refl
+  goes_by w (Joins n) within course f own may rests few = joins_go w n (listens_at (device_at w.devices (place_of n w.devices))) f
+  goes_by w Discovers within course f own may rests few = chip_goes w (discovers w.outer) f (discovers_tell node w.outer)
+  goes_by w (Links a b live) within course f own may rests few = still w _ f refl refl refl refl
+  goes_by w (Loses count) within course f own may rests few = still w _ f refl refl refl refl
+  goes_by w (Loses_acks count) within course f own may rests few = still w _ f refl refl refl refl
+  goes_by w (Marks_loss side) within course f own may rests few = loses_go w side f
+  goes_by w (Marks_change side garble) within course f own may rests few = changes_go w side garble f
+  goes_by w (Clears_pipe side) within course f own may rests few = clears_go w side f rests
+  goes_by w Collides_next within course f own may rests few = chip_goes w (with_chip w.outer (after w.outer.chip.state Collides)) f (collides_tell node w.outer)
+  goes_by w (Stalls ticks) within course f own may rests few = still w _ f refl refl refl refl
+  goes_by w (Cuts size) within course f own may rests few = still w _ f refl refl refl refl
 
-  pub event_goes : (w : Outside) (event : OuterEvent) → node < 233 → Follows node orders c rest turn up down w → is_own event ≡ true → May w event → Rests rest w event → OuterStaysFew w.outer event
+  pub event_goes : (w : Outside) (event : OuterEvent) → node < 233 → CourseFacts c → Follows node orders c rest turn up down w → is_own event ≡ true → May w event → Rests rest w event → OuterStaysFew w.outer event
       → OuterGoes node orders c rest turn (happens w event)
-  event_goes w event within f own may rests few = entered node orders c rest turn (outcome w event).outer (devices_after w event) (outcome w event).entries (goes_by w event within f own may rests few)
+  event_goes w event within course f own may rests few = entered node orders c rest turn (outcome w event).outer (devices_after w event) (outcome w event).entries (goes_by w event within course f own may rests few)
 
 -- ---- at first
+
+first_make : (node : ℕ) (devices : List State) → HasDevice node first_course devices → AllMake node [] [] devices
+first_make node devices has place device stands own =
+    let found : Some device ≡ Some has.device = sym stands ∙ (ap (λ (k : ℕ). slice_get devices k) (has.alone place device stands own) ∙ has.stands) in
+    let one : device ≡ has.device = cc in
+    subst (λ (d : State). Makes [] [] d) (sym one) (first_makes has.device has.at.ended (ap (λ (t : Taken). t.taken) has.at.sessions))
 
 pub first_follows : ((node : ℕ) → OnAir node [] no_sessions [] [] [] [] no_frames) → (node : ℕ) (devices : List State) → HasDevice node first_course devices
     → Follows node [] first_course no_rest Idle [] [] (outside first_outer devices)
 unfolding first_outer
 first_follows first node devices has = record {
-  mesh = record { log = []; flights = []; on_air = first node; device = has };
+  mesh = record { log = []; flights = []; on_air = first node; device = has; made = first_make node devices has };
   to_chip = record { reads = (tt, refl); ticks = refl };
   to_host = record { reads = (tt, refl); ticks = refl };
   frames = record { turn = tt; waiting = tt };

@@ -28,8 +28,10 @@ use Rattle.node_course.specs.Ways.{Beside, Goes}
 use Rattle.node_course.specs.Meaning.{Asked, NodeMeans}
 use Rattle.node_course.specs.Air.{BearsBy, Bears, OnAir}
 use Rattle.node_course.specs.Device.{AtDevice, finishes, Says, GoesAs}
+use Rattle.node_course.specs.Making.{Makes, AllMake}
 use Rattle.node_course.specs.Mesh.{HasDevice, InMesh, labels, Brings, Adds, MeshGoes}
 use Rattle.node_course.proofs.Thinning.{goes_nowhere, goes_on, goes_once}
+use Rattle.node_course.proofs.Making.{get_same, get_other, all_make_set}
 
 -- how frames go on the air, as the course has it
 abbrev pub Flying : Type 0
@@ -169,18 +171,6 @@ finished_ways c (Some status) = record { host = refl; sent = refl; up = refl; do
 
 -- ---- the devices
 
-get_same : (devices : List State) (place : ℕ) (device other : State) → slice_get devices place ≡ Some device → slice_get (slice_set devices place other) place ≡ Some other
-get_same [] place device other at = absurd cc
-get_same (first ∷ devices) zero device other at = refl
-get_same (first ∷ devices) (suc place) device other at = get_same devices place device other at
-
-get_other : (devices : List State) (place at : ℕ) (other : State) → at ≢ place → slice_get (slice_set devices place other) at ≡ slice_get devices at
-get_other [] place at other apart = refl
-get_other (first ∷ devices) zero zero other apart = absurd (apart refl)
-get_other (first ∷ devices) zero (suc at) other apart = refl
-get_other (first ∷ devices) (suc place) zero other apart = refl
-get_other (first ∷ devices) (suc place) (suc at) other apart = get_other devices place at other (λ e. apart (ap suc e))
-
 place_set : (node : ℕ) (devices : List State) (place : ℕ) (device other : State) → slice_get devices place ≡ Some device → other.node ≡ device.node → place_of node (slice_set devices place other) ≡ place_of node devices
 place_set node [] place device other at same = refl
 place_set node (first ∷ devices) zero device other at same =
@@ -227,6 +217,14 @@ other_set node c devices place device new h stood apart same = record {
     own : slice_get devices place ≡ Some h.device → device.node ≡ node
     own e = let is : Some device ≡ Some h.device = sym stood ∙ e in let same : device ≡ h.device = cc in ap (λ (d : State). d.node) same ∙ place_is node devices h.place h.device h.first h.stands
 
+-- the device of the node, and what the node's devices made
+pub record Stands (node : ℕ) (orders : List Asked) (c : Course) (devices : List State) : Type 0 where
+  pub has : HasDevice node c devices
+  pub made : AllMake node orders c.host.commands devices
+
+pub stands_of : (node : ℕ) (orders : List Asked) (c : Course) (mesh : Mesh) → InMesh node orders c mesh → Stands node orders c mesh.devices
+stands_of node orders c mesh is = record { has = is.device; made = is.made }
+
 pub device_moves : (node : ℕ) (c later : Course) (devices : List State) → OnlyAir c later → HasDevice node c devices → HasDevice node later devices
 device_moves node c later devices only h =
     record { device = h.device; place = h.place; first = h.first; stands = h.stands; at = device_stays c later h.device only h.at; alone = h.alone; nodes = h.nodes }
@@ -271,12 +269,15 @@ ways_stay c = record { host = refl; sent = refl; up = refl; down = refl; told = 
 -- an event of a device of which the course may have heard before; where the device is another, the node's is as the course has it
 pub device_goes : Flying → ((device : State) (event : DeviceEvent) → IsSame device (device_after device event)) → (node : ℕ) (orders : List Asked) (old c : Course) (mesh : Mesh) (place of : ℕ) (device : State) (event : DeviceEvent)
     (way : Option Route) (h : HasDevice node old mesh.devices) → Airs node orders c mesh.air → slice_get mesh.devices place ≡ Some device → of ≡ device.node → (device.node ≡ node → GoesAs c device event)
-    → (device.node ≢ node → AtDevice c h.device)
+    → (device.node ≢ node → AtDevice c h.device) → AllMake node orders c.host.commands mesh.devices → (device.node ≡ node → Makes orders c.host.commands (device_after device event))
     → MeshGoes node orders c (record { air = answered_if (is_joined mesh.air of) mesh.air of way (device_replies device event); devices = slice_set mesh.devices place (device_after device event) }) []
-device_goes flying same node orders old c mesh place of device event way h airs stood named own other = by (device.node == node) refl
+device_goes flying same node orders old c mesh place of device event way h airs stood named own other made makes = by (device.node == node) refl
   where
     within : of < 233
     within = subst (λ (n : ℕ). n < 233) (sym named) (h.nodes place device stood)
+
+    now_made : AllMake node orders c.host.commands (slice_set mesh.devices place (device_after device event))
+    now_made = all_make_set node orders c.host.commands mesh.devices place device (device_after device event) stood (same device event).node makes made
 
     by : (b : Bool) → (device.node == node) ≡ b
         → MeshGoes node orders c (record { air = answered_if (is_joined mesh.air of) mesh.air of way (device_replies device event); devices = slice_set mesh.devices place (device_after device event) }) []
@@ -300,6 +301,7 @@ device_goes flying same node orders old c mesh place of device event way h airs 
             device = device_moves node between s.later (slice_set mesh.devices place (device_after device event)) s.only
                 (subst (λ (k : ℕ). HasDevice node between (slice_set mesh.devices k (device_after device event))) (sym here)
                 (own_set node old between mesh.devices (device_after device event) h ((same device event).node ∙ ap (λ (d : State). d.node) one) g.at));
+            made = subst (λ (b : HostBook). AllMake node orders b.commands (slice_set mesh.devices place (device_after device event))) (sym (s.only.host ∙ (finished_ways c g.final).host)) now_made;
           };
           marks = [];
           brings = tt;
@@ -319,6 +321,7 @@ device_goes flying same node orders old c mesh place of device event way h airs 
             on_air = s.airs.on_air;
             device = device_moves node c s.later (slice_set mesh.devices place (device_after device event)) s.only
                 (other_set node c mesh.devices place device (device_after device event) here stood apart (same device event).node);
+            made = subst (λ (b : HostBook). AllMake node orders b.commands (slice_set mesh.devices place (device_after device event))) (sym s.only.host) now_made;
           };
           marks = [];
           brings = tt;
@@ -326,7 +329,7 @@ device_goes flying same node orders old c mesh place of device event way h airs 
         }
 
 pub own_goes : Flying → ((device : State) (event : DeviceEvent) → IsSame device (device_after device event)) → (node : ℕ) (orders : List Asked) (c : Course) (mesh : Mesh) (place : ℕ) (device : State) (event : DeviceEvent) (way : Option Route)
-    → InMesh node orders c mesh → slice_get mesh.devices place ≡ Some device → (device.node ≡ node → GoesAs c device event)
+    → InMesh node orders c mesh → slice_get mesh.devices place ≡ Some device → (device.node ≡ node → GoesAs c device event) → (device.node ≡ node → Makes orders c.host.commands (device_after device event))
     → MeshGoes node orders c (record { air = answered_if (is_joined mesh.air device.node) mesh.air device.node way (device_replies device event); devices = slice_set mesh.devices place (device_after device event) }) []
-own_goes flying same node orders c mesh place device event way is stood own =
-    device_goes flying same node orders c c mesh place device.node device event way is.device (airs_of node orders c mesh is) stood refl own (λ apart. is.device.at)
+own_goes flying same node orders c mesh place device event way is stood own makes =
+    device_goes flying same node orders c c mesh place device.node device event way is.device (airs_of node orders c mesh is) stood refl own (λ apart. is.device.at) is.made makes

@@ -1,8 +1,9 @@
 -- The machine at first, and lines from there on, in the course of one node.
-use Rattle.std.proofs.Common.{◌≡◌, ℕ, zero, suc, ◌<◌, true, Option, Some, None, List, [], ◌∷◌, get_or, refl, sym, subst}
+use Rattle.std.proofs.Common.{◌≡◌, ℕ, zero, suc, ◌<◌, true, Option, Some, None, List, [], ◌∷◌, get_or, refl, sym, subst, arith}
 use Rattle.std.specs.Prelude.{slice_get}
 use Rattle.std.specs.List.{AllByRecursion}
 use Rattle.s0_crypto.specs.declared.key_pair.Keys.{Keys}
+use Rattle.supervision.specs.Host.{command_at as session_at}
 use Rattle.courses.specs.Sessions.{Course, Step, first_course, after_all, MayAll as MayAllSteps}
 use Rattle.courses.specs.SessionFacts.{CourseFacts}
 use Rattle.courses.specs.SessionLaws.{IsDone, IsApplied}
@@ -16,7 +17,7 @@ use Rattle.host_node.specs.Events.NodeEvent.{Joins as node_joins, Interviews as 
 use Rattle.host_nodes.specs.State.{unknown_nodes, unknown_from}
 use Rattle.host_events.specs.State.{HostState, first_nodes, first_classes, first_host, node_of}
 use Rattle.host_events.specs.After.{node_does}
-use Rattle.host_events.specs.Facts.{HostFacts}
+use Rattle.host_facts.specs.Facts.{Facts}
 use Rattle.outer_events.specs.State.{outside, first_outer}
 use Rattle.outer_traffic.specs.Traffic.{AreNodes}
 use Rattle.zw_machine.specs.State.{Machine, first_machine}
@@ -26,14 +27,19 @@ use Rattle.line_facts.specs.Line.{AllWriteWell, AllAtRest, AreLines, Stays}
 use Rattle.line_facts.specs.Host.{AllAskWell}
 use Rattle.world_traffic.specs.OnAir.{AlwaysFew}
 use Rattle.node_course.specs.Meaning.{Asked}
+use Rattle.node_course.specs.Making.{MakesAsked}
 use Rattle.node_course.specs.Mesh.{HasDevice}
 use Rattle.node_course.specs.Outside.{Follows}
 use Rattle.node_course.specs.Host.{NodeAs}
 use Rattle.node_course.specs.World.{WorldFollows, WorldGoes, HasCourse, IsPlainly, EndsByHearing}
 use Rattle.node_course.proofs.NodeKeeping.{SameHost, does_same}
-use Rattle.node_course.proofs.Hearing.{lines_end}
+use Rattle.node_course.proofs.Taken.{changes_taken}
 
 -- ---- at first
+
+none_told : (session status : ℕ) → session_at [] session ≡ Some status → ⊥
+none_told zero status e = absurd (grind (arith, e))
+none_told (suc before) status e = absurd (grind (arith, e))
 
 from_as : (start count at : ℕ) → NodeAs [] None (get_or (unknown_from start count) at (unknown 0))
 from_as start zero at = (refl, (refl, (refl, refl)))
@@ -57,7 +63,7 @@ first_as keys node =
 -- the laws that are used
 pub record Laws : Type 0 where
   pub outside_first : (node : ℕ) (devices : List State) → HasDevice node first_course devices → Follows node [] first_course no_rest turns.Idle [] [] (outside first_outer devices)
-  pub facts_first : (keys : Keys) → HostFacts (first_host keys)
+  pub facts_first : (keys : Keys) → Facts [] (first_host keys)
   pub events : (node : ℕ) (orders : List Asked) (c : Course) (up down : List Item) (m : Machine) (events : List Event) → node < 233 → WorldFollows node orders c up down m → MayAll m events → AllAtRest m events →
       AllWriteWell m events → AlwaysFew m events → AllByRecursion (IsPlainly node) events → AllByRecursion (EndsByHearing node) events → WorldGoes node c (happens_all m events)
   pub stays : (keys : Keys) (records : Option (List (List ℕ))) (devices : List State) (lines : List Line) (events : List Event) → AreLines lines (first_machine keys records devices) events → MayAll (first_machine keys records devices) events →
@@ -70,6 +76,7 @@ pub record Laws : Type 0 where
   pub course_all : (c : Course) (steps : List Step) → CourseFacts c → MayAllSteps c steps → CourseFacts (after_all c steps)
   pub done : (steps : List Step) → MayAllSteps first_course steps → IsDone (after_all first_course steps)
   pub applied : (steps : List Step) → MayAllSteps first_course steps → IsApplied (after_all first_course steps)
+  pub ends : (node : ℕ) (lines : List Line) (m : Machine) (events : List Event) → AreLines lines m events → AllByRecursion (EndsByHearing node) events
 
 nodes_of : (devices : List State) → ((other : ℕ) (one : State) → slice_get devices other ≡ Some one → one.node < 233) → AreNodes devices
 nodes_of [] all = tt
@@ -83,7 +90,10 @@ module _ (laws : Laws) (node : ℕ) (within : node < 233) (keys : Keys) (records
   first_follows = record {
     outside = laws.outside_first node devices has;
     host = record { node_as = first_as keys node; orders_are = refl; plain = tt; queue = tt };
-    facts = laws.facts_first keys;
+    facts = (laws.facts_first keys).host;
+    past = record { past = []; facts = laws.facts_first keys };
+    course = laws.course_first;
+    outcomes = λ session number status at is. absurd (none_told session status is);
   }
 
   pub lines_have : (lines : List Line) (events : List Event) → AreLines lines first events → MayAll first events → AllAskWell first events → AllByRecursion (IsPlainly node) events → HasCourse node (happens_all first events)
@@ -91,7 +101,7 @@ module _ (laws : Laws) (node : ℕ) (within : node < 233) (keys : Keys) (records
       let well : AllWriteWell first events = laws.writes keys records devices events may asks in
       let rests : Stays first events = laws.stays keys records devices lines events are may well in
       let few : AlwaysFew first events = laws.few keys records devices lines events (nodes_of devices has.nodes) are may asks in
-      let g : WorldGoes node first_course (happens_all first events) = laws.events node [] first_course [] [] first events within first_follows may rests.at_rest well few plain (lines_end node lines first events are) in
+      let g : WorldGoes node first_course (happens_all first events) = laws.events node [] first_course [] [] first events within first_follows may rests.at_rest well few plain (laws.ends node lines first events are) in
       record {
         orders = g.orders;
         course = g.later;
@@ -101,4 +111,9 @@ module _ (laws : Laws) (node : ℕ) (within : node < 233) (keys : Keys) (records
         facts = subst (λ (c : Course). CourseFacts c) (sym g.goes.is) (laws.course_all first_course g.goes.steps laws.course_first g.goes.may);
         done = subst (λ (c : Course). IsDone c) (sym g.goes.is) (laws.done g.goes.steps g.goes.may);
         applied = subst (λ (c : Course). IsApplied c) (sym g.goes.is) (laws.applied g.goes.steps g.goes.may);
+        outcomes = g.follows.outcomes;
+        made = λ place device stands own.
+            let makes : AllByRecursion (MakesAsked g.orders g.later.host.commands) device.journal = (g.follows.outside.mesh.made place device stands own).changes in
+            changes_taken (happens_all first events).host.state.commands g.later.host.commands device.journal
+            (subst (λ (os : List Asked). AllByRecursion (MakesAsked os g.later.host.commands) device.journal) g.follows.host.orders_are makes);
       }

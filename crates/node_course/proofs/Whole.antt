@@ -2,7 +2,8 @@
 use Rattle.std.proofs.Common.{◌≡◌, ℕ, ◌<◌, true, List, [], ◌∷◌, ◌++◌, drop, refl, ap, sym, ◌∙◌, subst, append-nil}
 use Rattle.std.specs.List.{AllByRecursion}
 use Rattle.supervision.specs.Host.{HostBook}
-use Rattle.courses.specs.Sessions.{Course}
+use Rattle.courses.specs.Sessions.{Course, Step, after_all as after_all_steps, MayAll as MayAllSteps}
+use Rattle.courses.specs.SessionFacts.{CourseFacts}
 use Rattle.serial_frame.specs.Items.{IsUnit}
 use Rattle.serial_frame.specs.Stream.{Rest, no_rest, after_tick}
 use Rattle.serial_frame.specs.declared.unit.Unit.{Unit as LineUnit}
@@ -24,7 +25,6 @@ use Rattle.host_events.specs.Events.{HostEvent}
 use Rattle.host_events.specs.After.{after as after_host}
 use Rattle.host_events.specs.Outs.{outs}
 use Rattle.host_events.specs.Did.{after_all, outs_all, MayAll as MayAllHost}
-use Rattle.host_events.specs.Facts.{HostFacts}
 use Rattle.host_events.specs.May.{May as MayHost}
 use Rattle.host_events.specs.Taking.{AreJudged}
 use Rattle.host_events.specs.declared.out.HostOut.{HostOut}
@@ -38,16 +38,29 @@ use Rattle.line_facts.proofs.Outer.{Written}
 use Rattle.line_facts.proofs.Reading.{LeftOf}
 use Rattle.line_facts.proofs.Ways.{carries_left}
 use Rattle.world_traffic.specs.OnAir.{OuterStaysFew, EventStaysFew, AlwaysFew}
+use Rattle.node_course.specs.Ways.{Goes}
 use Rattle.node_course.specs.Meaning.{Asked}
 use Rattle.node_course.specs.Air.{OnAir}
+use Rattle.node_course.specs.Making.{AllMake}
 use Rattle.node_course.specs.Mesh.{HasDevice}
 use Rattle.node_course.specs.Lines.{Tells, OnWay}
 use Rattle.node_course.specs.Outside.{Follows, OuterGoes, Rests}
 use Rattle.node_course.specs.Host.{AtHost, AsksPlainly}
+use Rattle.once_facts.specs.Tied.{AreOutcomes}
+use Rattle.node_course.specs.Told.{HasPast}
 use Rattle.node_course.specs.HostGoing.{HostFollows, HostGoes, EndsNone, UnitsAll, AllWell}
 use Rattle.node_course.specs.World.{WorldFollows, WorldGoes, IsPlainly, EndsByHearing}
 use Rattle.node_course.proofs.Thinning.{goes_nowhere, goes_on}
 use Rattle.node_course.proofs.HostDoing.{SameAir, note_air}
+use Rattle.node_course.proofs.Told.{PastLaws, past_kept}
+
+-- ---- the facts of courses
+
+abbrev CourseLaw : Type 0
+CourseLaw = (c : Course) (steps : List Step) → CourseFacts c → MayAllSteps c steps → CourseFacts (after_all_steps c steps)
+
+course_goes : CourseLaw → (c later : Course) → CourseFacts c → Goes c later → CourseFacts later
+course_goes law c later course goes = subst (λ (x : Course). CourseFacts x) (sym goes.is) (law c goes.steps course goes.may)
 
 -- ---- entries alone
 
@@ -64,6 +77,7 @@ module _ (node : ℕ) where
       flights = f.mesh.flights;
       on_air = subst (λ (a : AirState). OnAir node orders c.host c.air c.old f.mesh.log f.mesh.flights a.frames) (sym same.air) f.mesh.on_air;
       device = subst (λ (ds : List State). HasDevice node c ds) (sym same.devices) f.mesh.device;
+      made = subst (λ (ds : List State). AllMake node orders c.host.commands ds) (sym same.devices) f.mesh.made;
     };
     to_chip = subst (λ (y : WayState). Carries v.outer.chip.decoder y up) (sym written.to_chip) (subst (λ (r : Rest). Carries r w.outer.to_chip up) (sym (ap (λ (x : ChipParts). x.decoder) written.chip)) f.to_chip);
     to_host = subst (λ (y : WayState). Carries rest y down) (sym written.to_host) f.to_host;
@@ -72,6 +86,7 @@ module _ (node : ℕ) where
     messages = f.messages;
     reports = subst (λ (x : ChipParts). OnWay (Tells node) c.down (yet ++ down) x.state.port.side.turn x.state.port.waiting) (sym written.chip) f.reports;
     host = f.host;
+    outcomes = f.outcomes;
   }
 
   note_goes : (c : Course) (rest : Rest) (down : List Item) (h : HostState) (w : Outside) (e : Entry) → HostGoes node c rest [] down h w → HostGoes node c rest [] down h (happens_outside w (Host_notes e))
@@ -99,10 +114,11 @@ module _ (node : ℕ) where
     messages = f.outside.messages;
     reports = f.outside.reports;
     host = f.host;
+    outcomes = f.outcomes;
   }
 
-  in_world : (c : Course) (down : List Item) (m : Machine) → HostFacts m.host.state → HostGoes node c m.host.decoder [] down m.host.state m.outside → WorldGoes node c m
-  in_world c down m facts g = record {
+  in_world : CourseLaw → (c : Course) (down : List Item) (m : Machine) → CourseFacts c → HasPast m.host.state → HostGoes node c m.host.decoder [] down m.host.state m.outside → WorldGoes node c m
+  in_world law c down m course past g = record {
     orders = g.orders;
     later = g.later;
     goes = g.goes;
@@ -119,7 +135,10 @@ module _ (node : ℕ) where
         reports = g.follows.reports;
       };
       host = g.follows.host;
-      facts = facts;
+      facts = past.facts.host;
+      past = past;
+      course = course_goes law c g.later course g.goes;
+      outcomes = g.follows.outcomes;
     };
   }
 
@@ -164,6 +183,7 @@ fed_follows node orders c up down m count rest items left f = subst (λ (u : Out
   messages = f.outside.messages;
   reports = subst (λ (ds : List Item). OnWay (Tells node) c.down ds m.outside.outer.chip.state.port.side.turn m.outside.outer.chip.state.port.waiting) left.parts f.outside.reports;
   host = f.host;
+  outcomes = f.outcomes;
 })
 
 -- ---- every event
@@ -176,31 +196,40 @@ rests_of m event e = tt
 
 -- the laws that are used
 pub record Laws : Type 0 where
-  pub outside : (node : ℕ) (orders : List Asked) (c : Course) (rest : Rest) (turn : Turn) (up down : List Item) (w : Outside) (event : OuterEvent) → node < 233 → Follows node orders c rest turn up down w →
+  pub outside : (node : ℕ) (orders : List Asked) (c : Course) (rest : Rest) (turn : Turn) (up down : List Item) (w : Outside) (event : OuterEvent) → node < 233 → CourseFacts c → Follows node orders c rest turn up down w →
       is_own event ≡ true → MayOutside w event → Rests rest w event → OuterStaysFew w.outer event → OuterGoes node orders c rest turn (happens_outside w event)
-  pub does : (node : ℕ) (orders : List Asked) (c : Course) (rest : Rest) (up down : List Item) (h : HostState) (w : Outside) (event : HostEvent) → HostFollows node orders c rest up [] down h w → HostFacts h → MayHost h event →
+  pub does : (node : ℕ) (orders : List Asked) (c : Course) (rest : Rest) (up down : List Item) (h : HostState) (w : Outside) (event : HostEvent) → HostFollows node orders c rest up [] down h w → HasPast h → CourseFacts c → MayHost h event →
       AsksPlainly node event → EndsNone node event → AllByRecursion IsUnit (host_units (outs h event)) → HostGoes node c rest [] down (after_host h event) (happens_all_outside w (routed (outs h event)))
-  pub judges : (node : ℕ) (orders : List Asked) (c : Course) (rest : Rest) (up down items : List Item) (h : HostState) (w : Outside) (events : List HostEvent) → node < 233 → HostFollows node orders c rest up items down h w → HostFacts h →
+  pub judges : (node : ℕ) (orders : List Asked) (c : Course) (rest : Rest) (up down items : List Item) (h : HostState) (w : Outside) (events : List HostEvent) → node < 233 → HostFollows node orders c rest up items down h w → HasPast h → CourseFacts c →
       AllWell h events → AreJudged h items events → HostGoes node c rest [] down (after_all h events) (happens_all_outside w (routed (outs_all h events)))
-  pub kept : (h : HostState) (event : HostEvent) → HostFacts h → MayHost h event → HostFacts (after_host h event)
+  pub past : PastLaws
+  pub course : CourseLaw
 
 module _ (laws : Laws) (node : ℕ) (within : node < 233) where
-  facts_all : (h : HostState) (events : List HostEvent) → HostFacts h → MayAllHost h events → HostFacts (after_all h events)
-  facts_all h [] facts may = facts
-  facts_all h (event ∷ events) facts may = facts_all (after_host h event) events (laws.kept h event facts may.0) may.1
+  past_all : (h : HostState) (events : List HostEvent) → HasPast h → MayAllHost h events → HasPast (after_all h events)
+  past_all h [] past may = past
+  past_all h (event ∷ events) past may = past_all (after_host h event) events (past_kept laws.past h event past may.0) may.1
 
   outside_goes : (orders : List Asked) (c : Course) (up down : List Item) (m : Machine) (event : OuterEvent) → WorldFollows node orders c up down m → is_own event ≡ true → MayOutside m.outside event → OuterAtRest m event → OuterStaysFew m.outside.outer event
       → WorldGoes node c (with_outside m (happens_outside m.outside event))
   outside_goes orders c up down m event f own may rests few =
       let g : OuterGoes node orders c m.host.decoder m.host.state.side.turn (happens_outside m.outside event) =
-      laws.outside node orders c m.host.decoder m.host.state.side.turn up down m.outside event within f.outside own may (rests_of m event rests) few in
+      laws.outside node orders c m.host.decoder m.host.state.side.turn up down m.outside event within f.course f.outside own may (rests_of m event rests) few in
       record {
         orders = orders;
         later = g.later;
         goes = g.goes;
         up = g.up;
         down = g.down;
-        follows = record { outside = g.follows; host = subst (λ (b : HostBook). AtHost node orders b m.host.state) (sym g.host) f.host; facts = f.facts };
+        follows = record {
+          outside = g.follows;
+          host = subst (λ (b : HostBook). AtHost node orders b m.host.state) (sym g.host) f.host;
+          facts = f.facts;
+          past = f.past;
+          course = course_goes laws.course c g.later f.course g.goes;
+          outcomes = subst (λ (told : List ℕ). AreOutcomes m.host.state.commands g.later.host.commands told) (sym g.told)
+              (subst (λ (b : HostBook). AreOutcomes m.host.state.commands b.commands c.told) (sym g.host) f.outcomes);
+        };
       }
 
   host_goes : (orders : List Asked) (c : Course) (up down : List Item) (m : Machine) (event : HostEvent) → WorldFollows node orders c up down m → MayHost m.host.state event → AsksPlainly node event → EndsNone node event
@@ -210,10 +239,10 @@ module _ (laws : Laws) (node : ℕ) (within : node < 233) where
       let h : HostState = m.host.state in
       let one : AllByRecursion IsUnit (host_units (outs h event)) = subst (λ (os : List HostOut). AllByRecursion IsUnit (host_units os)) (append-nil (outs h event)) units in
       let g : HostGoes node c m.host.decoder [] down (after_host h event) (happens_all_outside m.outside (routed (outs h event))) =
-      laws.does node orders c m.host.decoder up down h m.outside event (at_host node orders c up down m f) f.facts may asks none one in
+      laws.does node orders c m.host.decoder up down h m.outside event (at_host node orders c up down m f) f.past f.course may asks none one in
       let same : HostGoes node c m.host.decoder [] down (after_host h event) (happens_all_outside m.outside (routed (outs_all h (event ∷ [])))) =
       subst (λ (os : List HostOut). HostGoes node c m.host.decoder [] down (after_host h event) (happens_all_outside m.outside (routed os))) (sym (append-nil (outs h event))) g in
-      in_world node c down (happens m (Host_does event)) (laws.kept h event f.facts may)
+      in_world node laws.course c down (happens m (Host_does event)) f.course (past_kept laws.past h event f.past may)
       (notes_go node c m.host.decoder down (after_host h event) (happens_all_outside m.outside (routed (outs_all h (event ∷ [])))) (answers h event) same)
 
   takes_goes : (orders : List Asked) (c : Course) (up down : List Item) (m : Machine) (count : ℕ) (rest : Rest) (items : List Item) (events : List HostEvent) → WorldFollows node orders c up down m → MayTake m count rest items events
@@ -222,8 +251,8 @@ module _ (laws : Laws) (node : ℕ) (within : node < 233) where
   takes_goes orders c up down m count rest items events f may units =
       let h : HostState = m.host.state in
       let left = carries_left m.host.decoder rest count m.outside.outer.to_host down items may.feeds f.outside.to_host in
-      in_world node c left.left (happens m (Host_takes count rest items events)) (facts_all h events f.facts may.may)
-      (laws.judges node orders c rest up left.left items h (happens_outside m.outside (host_takes count)) events within (fed_follows node orders c up down m count rest items left f) f.facts
+      in_world node laws.course c left.left (happens m (Host_takes count rest items events)) f.course (past_all h events f.past may.may)
+      (laws.judges node orders c rest up left.left items h (happens_outside m.outside (host_takes count)) events within (fed_follows node orders c up down m count rest items left f) f.past f.course
       (record { may = may.may; units = units_each h events units }) may.judged)
 
   ticks_goes : (orders : List Asked) (c : Course) (up down : List Item) (m : Machine) → WorldFollows node orders c up down m → m.host.decoder ≡ no_rest → WorldGoes node c (happens m Decoder_ticks)
@@ -236,12 +265,12 @@ module _ (laws : Laws) (node : ℕ) (within : node < 233) where
         goes = goes_nowhere c;
         up = up;
         down = down;
-        follows = record { outside = subst (λ (r : Rest). Follows node orders c r m.host.state.side.turn up down m.outside) same f.outside; host = f.host; facts = f.facts };
+        follows = record { outside = subst (λ (r : Rest). Follows node orders c r m.host.state.side.turn up down m.outside) same f.outside; host = f.host; facts = f.facts; past = f.past; course = f.course; outcomes = f.outcomes };
       }
 
   enters_goes : (orders : List Asked) (c : Course) (up down : List Item) (m : Machine) (e : Entry) → WorldFollows node orders c up down m → WorldGoes node c (with_outside m (happens_outside m.outside (Host_notes e)))
   enters_goes orders c up down m e f =
-      in_world node c down (with_outside m (happens_outside m.outside (Host_notes e))) f.facts (note_goes node c m.host.decoder down m.host.state m.outside e (still node orders c up down m f))
+      in_world node laws.course c down (with_outside m (happens_outside m.outside (Host_notes e))) f.course f.past (note_goes node c m.host.decoder down m.host.state m.outside e (still node orders c up down m f))
 
   pub event_goes : (orders : List Asked) (c : Course) (up down : List Item) (m : Machine) (event : Event) → WorldFollows node orders c up down m → May m event → IsAtRest m event → WritesWell m event → EventStaysFew m event → IsPlainly node event
       → EndsByHearing node event → WorldGoes node c (happens m event)

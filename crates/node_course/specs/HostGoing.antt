@@ -21,6 +21,7 @@ use Rattle.node_course.specs.Meaning.{Asked}
 use Rattle.node_course.specs.Mesh.{InMesh}
 use Rattle.node_course.specs.Lines.{Tells, Asks, OnWay}
 use Rattle.node_course.specs.Host.{AtHost, AsksPlainly}
+use Rattle.once_facts.specs.Tied.{AreOutcomes}
 
 -- The course is where the host is, and what is outside it; the host has taken `yet` out of its pipe, and judges these items next
 pub record HostFollows (node : ℕ) (orders : List Asked) (c : Course) (rest : Rest) (up yet down : List Item) (h : HostState) (w : Outside) : Type 0 where
@@ -32,6 +33,7 @@ pub record HostFollows (node : ℕ) (orders : List Asked) (c : Course) (rest : R
   pub messages : OnWay (Asks node orders c.host.commands) c.up up h.side.turn []
   pub reports : OnWay (Tells node) c.down (yet ++ down) w.outer.chip.state.port.side.turn w.outer.chip.state.port.waiting
   pub host : AtHost node orders c.host h
+  pub outcomes : AreOutcomes h.commands c.host.commands c.told
 
 -- steps of the course lead to where the host is then, and what is outside it; the items on their way to the host stay
 pub record HostGoes (node : ℕ) (c : Course) (rest : Rest) (yet down : List Item) (h : HostState) (w : Outside) : Type 0 where

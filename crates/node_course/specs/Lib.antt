@@ -1,11 +1,13 @@
 pub mod Ways
 pub mod Meaning
 pub mod Air
+pub mod Making
 pub mod Device
 pub mod Mesh
 pub mod Lines
 pub mod Chip
 pub mod Outside
 pub mod Host
+pub mod Told
 pub mod HostGoing
 pub mod World

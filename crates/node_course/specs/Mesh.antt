@@ -13,6 +13,7 @@ use Rattle.mesh_sim.specs.Fates.{Mesh, place_of}
 use Rattle.node_course.specs.Ways.{Beside, Goes}
 use Rattle.node_course.specs.Meaning.{Asked, NodeMeans}
 use Rattle.node_course.specs.Air.{OnAir}
+use Rattle.node_course.specs.Making.{AllMake}
 use Rattle.node_course.specs.Device.{AtDevice}
 
 -- the device of a node is the only one of that node in the list, and is as the course has it; each device is of a node that has a place in the tables
@@ -25,12 +26,13 @@ pub record HasDevice (node : ℕ) (c : Course) (devices : List State) : Type 0 w
   pub alone : (other : ℕ) (one : State) → slice_get devices other ≡ Some one → one.node ≡ node → other ≡ place
   pub nodes : (other : ℕ) (one : State) → slice_get devices other ≡ Some one → one.node < 233
 
--- so with the frames on the air
+-- so with the frames on the air; and the sessions of the node's devices made what their commands ask for
 pub record InMesh (node : ℕ) (orders : List Asked) (c : Course) (mesh : Mesh) : Type 0 where
   pub log : List Mark
   pub flights : List Flown
   pub on_air : OnAir node orders c.host c.air c.old log flights mesh.air.frames
   pub device : HasDevice node c mesh.devices
+  pub made : AllMake node orders c.host.commands mesh.devices
 
 -- ---- labels
 

@@ -1,23 +1,36 @@
 -- The whole machine, in the course of one node (this project's own rule).
-use Rattle.std.specs.Prelude.{ℕ, List}
+use Rattle.std.specs.Prelude.{◌≡◌, ◌≢◌, ℕ, ◌≤◌, List, Some, slice_get}
+use Rattle.std.specs.List.{AllByRecursion}
 use Rattle.courses.specs.Sessions.{Course}
 use Rattle.courses.specs.SessionFacts.{CourseFacts}
 use Rattle.courses.specs.SessionLaws.{IsDone, IsApplied}
 use Rattle.serial_frame.specs.declared.item.Item.{Item}
+use Rattle.device_sim.specs.State.{State}
+use Rattle.zw_text.specs.declared.line.Line.{Line}
+use Rattle.zw_text.specs.declared.line.Line.TheVariants.{Command, Get}
+use Rattle.host_orders.specs.Wrapping.{form_of}
+use Rattle.host_orders.specs.declared.carriage.Form.TheVariants.{Plain}
+use Rattle.host_events.specs.Events.{HostEvent, Accepts, Queues, Requests_do, Finishes}
 use Rattle.host_events.specs.Facts.{HostFacts}
 use Rattle.zw_machine.specs.State.{Machine}
 use Rattle.zw_machine.specs.Events.{Event, Host_does, Restarts}
 use Rattle.node_course.specs.Ways.{Goes}
 use Rattle.node_course.specs.Meaning.{Asked}
 use Rattle.node_course.specs.Outside.{Follows}
-use Rattle.node_course.specs.Host.{AtHost, AsksPlainly}
+use Rattle.node_course.specs.Host.{IsOtherTask, AtHost, PushesOther, AsksPlainly}
 use Rattle.node_course.specs.HostGoing.{EndsNone}
+use Rattle.once_facts.specs.Tied.{AreOutcomes, MakesWhatIsTaken}
+use Rattle.node_course.specs.Told.{HasPast}
 
--- The course is where the machine is: where its host is, with its facts, and what is outside it. These orders were accepted, and these items are on their way up and down the line
+-- The course is where the machine is: where its host is, with its facts, and what is outside it; and the table of commands says what the host was told. These orders were accepted, and these items are on their way up
+-- and down the line
 pub record WorldFollows (node : ℕ) (orders : List Asked) (c : Course) (up down : List Item) (m : Machine) : Type 0 where
   pub outside : Follows node orders c m.host.decoder m.host.state.side.turn up down m.outside
   pub host : AtHost node orders c.host m.host.state
   pub facts : HostFacts m.host.state
+  pub past : HasPast m.host.state
+  pub course : CourseFacts c
+  pub outcomes : AreOutcomes m.host.state.commands c.host.commands c.told
 
 -- steps of the course lead to where the machine is
 pub record WorldGoes (node : ℕ) (c : Course) (m : Machine) : Type 0 where
@@ -29,7 +42,8 @@ pub record WorldGoes (node : ℕ) (c : Course) (m : Machine) : Type 0 where
   pub follows : WorldFollows node orders later up down m
 
 -- So the course is where the machine is, over any events from the first on: the facts of courses hold, what the host was told is what the device did, and what the device applied is a part of the commands of the sessions. That the device
--- ended its sessions with the statuses of the course, and has changed by those that ended with success, is said by `follows`; so is that the host's sessions are the course's
+-- ended its sessions with the statuses of the course, and has changed by those that ended with success, is said by `follows`; so is that the host's sessions are the course's. The table of commands says of each session what the host was told,
+-- and each change by a session has exactly the settings that the table says of its command
 pub record HasCourse (node : ℕ) (m : Machine) : Type 0 where
   pub orders : List Asked
   pub course : Course
@@ -39,6 +53,8 @@ pub record HasCourse (node : ℕ) (m : Machine) : Type 0 where
   pub facts : CourseFacts course
   pub done : IsDone course
   pub applied : IsApplied course
+  pub outcomes : AreOutcomes m.host.state.commands course.host.commands course.told
+  pub made : (place : ℕ) (device : State) → slice_get m.outside.devices place ≡ Some device → device.node ≡ node → AllByRecursion (MakesWhatIsTaken m.host.state.commands course.host.commands) device.journal
 
 -- ---- what is premised of events
 
@@ -47,6 +63,34 @@ abbrev pub IsPlainly : ℕ → Event → Type 0
 IsPlainly node (Host_does event) = AsksPlainly node event
 IsPlainly node (Restarts state) = ⊥
 IsPlainly node event = Unit {0}
+
+-- the orders for the node go whole and unsealed, and no host starts again: no more is premised of lines
+abbrev pub OrderPlain : ℕ → HostEvent → Type 0
+OrderPlain node (Accepts order carriage) = order.node ≡ node → form_of carriage.outer ≡ Plain
+OrderPlain node event = Unit {0}
+
+abbrev pub OrdersPlain : ℕ → Event → Type 0
+OrdersPlain node (Host_does event) = OrderPlain node event
+OrdersPlain node (Restarts state) = ⊥
+OrdersPlain node event = Unit {0}
+
+-- the end point that a line names is at most 127, as of each line that is read
+abbrev pub NamesEnd : Line → Type 0
+NamesEnd (Command order) = order.end ≤ 127
+NamesEnd (Get n end) = end ≤ 127
+NamesEnd line = Unit {0}
+
+-- what the host does of itself or for a line, where lines name such end points: it ends no session of the node, and what it is asked to send to it is no message of a session
+abbrev pub IsOfLine : Type 0 → ℕ → HostEvent → Type 0
+IsOfLine Near node (Accepts order carriage) = Near → order.end ≤ 127
+IsOfLine Near node (Queues queued) = Near → IsOtherTask node queued
+IsOfLine Near node (Requests_do event moment) = PushesOther node event
+IsOfLine Near node (Finishes n session id command status wake_request) = n ≢ node
+IsOfLine Near node event = Unit {0}
+
+abbrev pub ComesOfLine : Type 0 → ℕ → Event → Type 0
+ComesOfLine Near node (Host_does event) = IsOfLine Near node event
+ComesOfLine Near node event = Unit {0}
 
 -- the host ends a session of the node only by what it has taken out of its pipe
 abbrev pub EndsByHearing : ℕ → Event → Type 0

@@ -3,6 +3,7 @@
 ghost use Rattle.std.specs.Prelude.{ℕ, ◌<◌, List, []};
 ghost use Rattle.std.specs.List.{AllByRecursion};
 ghost use Rattle.courses.specs.Sessions.{Course};
+ghost use Rattle.courses.specs.SessionFacts.{CourseFacts};
 ghost use Rattle.serial_frame.specs.Items.{IsUnit};
 ghost use Rattle.serial_frame.specs.Stream.{Rest};
 ghost use Rattle.serial_frame.specs.declared.item.Item.{Item};
@@ -14,28 +15,32 @@ ghost use Rattle.host_events.specs.After.{after};
 ghost use Rattle.host_events.specs.Outs.{outs};
 ghost use Rattle.host_events.specs.Did.{after_all, outs_all};
 ghost use Rattle.host_events.specs.May.{May};
-ghost use Rattle.host_events.specs.Facts.{HostFacts};
 ghost use Rattle.host_events.specs.Taking.{AreJudged};
 ghost use Rattle.host_events.specs.Events.{HostEvent};
 ghost use Rattle.line_facts.specs.Line.{host_units};
 ghost use Rattle.node_course.specs.Meaning.{Asked};
 ghost use Rattle.node_course.specs.Host.{AsksPlainly};
+ghost use Rattle.node_course.specs.Told.{HasPast};
 ghost use Rattle.node_course.specs.HostGoing.{HostFollows, HostGoes, EndsNone, AllWell};
 
 use air_flights::frames_fly_in_order;
-use host_events::facts_are_kept;
+use courses::courses_keep_facts;
+use host_facts::{events_keep_facts, laws_follow, what_is_over_stays};
 use message_facts::{others_are_no_messages, reports_tell};
 
 /// What the host does makes steps of the course of a node whose commands go whole and unsealed: it begins a session; it writes the message of the last one, or writes it again; and it judges what it has taken out of its pipe, where a
-/// report of the last session's end ends it at the host. Whatever else it does, or writes, is nothing to the course.
+/// report of the last session's end ends it at the host, and gives its command the outcome of that status. Whatever else it does, or writes, is nothing to the course.
 pub fn hosts_follow_the_course()
-    ensures does { (node : ℕ) (orders : List Asked) (c : Course) (rest : Rest) (up down : List Item) (h : HostState) (w : Outside) (event : HostEvent) → HostFollows node orders c rest up [] down h w → HostFacts h → May h event →
+    ensures does { (node : ℕ) (orders : List Asked) (c : Course) (rest : Rest) (up down : List Item) (h : HostState) (w : Outside) (event : HostEvent) → HostFollows node orders c rest up [] down h w → HasPast h → CourseFacts c → May h event →
         AsksPlainly node event → EndsNone node event → AllByRecursion IsUnit (host_units (outs h event)) → HostGoes node c rest [] down (after h event) (happens_all w (routed (outs h event))) }
-    ensures judges { (node : ℕ) (orders : List Asked) (c : Course) (rest : Rest) (up down items : List Item) (h : HostState) (w : Outside) (events : List HostEvent) → node < 233 → HostFollows node orders c rest up items down h w → HostFacts h →
+    ensures judges { (node : ℕ) (orders : List Asked) (c : Course) (rest : Rest) (up down items : List Item) (h : HostState) (w : Outside) (events : List HostEvent) → node < 233 → HostFollows node orders c rest up items down h w → HasPast h → CourseFacts c →
         AllWell h events → AreJudged h items events → HostGoes node c rest [] down (after_all h events) (happens_all w (routed (outs_all h events))) }
 {
     frames_fly_in_order();
-    facts_are_kept();
+    courses_keep_facts();
+    events_keep_facts();
+    laws_follow();
+    what_is_over_stays();
     others_are_no_messages();
     reports_tell();
 }

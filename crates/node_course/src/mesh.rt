@@ -2,6 +2,7 @@
 
 ghost use Rattle.std.specs.Prelude.{◌≡◌, ◌≢◌, ℕ, ◌<◌, List, [], Some, None, Option, slice_get, slice_set};
 ghost use Rattle.courses.specs.Sessions.{Course};
+ghost use Rattle.courses.specs.SessionFacts.{CourseFacts};
 ghost use Rattle.route_table.specs.declared.route.Route.{Route as TheRoute};
 ghost use Rattle.air_frames.specs.Ages.{refusal_of};
 ghost use Rattle.device_sim.specs.State.{State};
@@ -10,28 +11,31 @@ ghost use Rattle.mesh_sim.specs.Air.{AirState, is_joined};
 ghost use Rattle.mesh_sim.specs.Fates.{Mesh};
 ghost use Rattle.mesh_sim.specs.Steps.{Arrives, Repeats, mesh_after, mesh_outs, MayHappen, answered_if};
 ghost use Rattle.node_course.specs.Meaning.{Asked};
+ghost use Rattle.node_course.specs.Making.{Makes};
 ghost use Rattle.node_course.specs.Device.{GoesAs};
 ghost use Rattle.node_course.specs.Mesh.{InMesh, MeshGoes, brought};
 
 use crate::air::frames_follow_the_course;
 use crate::device::devices_follow_the_course;
 use air_flights::frames_fly_in_order;
+use courses::ids_name_one_session;
 use device_facts::devices_stay_the_same;
 
 /// The next frame arrives, or one is heard again that may be: by the device of the node, by another, by the chip or by nobody. What a device answers goes on the air. A device
 /// has an event of its own, and what it sends goes on the air, where it is joined.
 pub fn arrivals_follow_the_course()
-    ensures arrives { (node : ℕ) (orders : List Asked) (c : Course) (mesh : Mesh) (drawn : List ℕ) (route : Option TheRoute) → node < 233 → InMesh node orders c mesh → MayHappen mesh (Arrives drawn route) →
+    ensures arrives { (node : ℕ) (orders : List Asked) (c : Course) (mesh : Mesh) (drawn : List ℕ) (route : Option TheRoute) → node < 233 → CourseFacts c → InMesh node orders c mesh → MayHappen mesh (Arrives drawn route) →
         MeshGoes node orders c (mesh_after mesh (Arrives drawn route)) (brought (mesh_outs mesh (Arrives drawn route))) }
-    ensures repeats { (node : ℕ) (orders : List Asked) (c : Course) (mesh : Mesh) (number : ℕ) (drawn : List ℕ) (route : Option TheRoute) → node < 233 → InMesh node orders c mesh →
+    ensures repeats { (node : ℕ) (orders : List Asked) (c : Course) (mesh : Mesh) (number : ℕ) (drawn : List ℕ) (route : Option TheRoute) → node < 233 → CourseFacts c → InMesh node orders c mesh →
         refusal_of mesh.air.frames number ≡ None → MayHappen mesh (Repeats number drawn route) →
         MeshGoes node orders c (mesh_after mesh (Repeats number drawn route)) (brought (mesh_outs mesh (Repeats number drawn route))) }
     ensures own { (node : ℕ) (orders : List Asked) (c : Course) (mesh : Mesh) (place : ℕ) (device : State) (event : DeviceEvent) (way : Option TheRoute) → InMesh node orders c mesh →
-        slice_get mesh.devices place ≡ Some device → (device.node ≡ node → GoesAs c device event) →
+        slice_get mesh.devices place ≡ Some device → (device.node ≡ node → GoesAs c device event) → (device.node ≡ node → Makes orders c.host.commands (device_after device event)) →
         MeshGoes node orders c (record { air = answered_if (is_joined mesh.air device.node) mesh.air device.node way (device_replies device event); devices = slice_set mesh.devices place (device_after device event) }) [] }
 {
     frames_fly_in_order();
     frames_follow_the_course();
     devices_follow_the_course();
     devices_stay_the_same();
+    ids_name_one_session();
 }

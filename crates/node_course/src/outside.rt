@@ -2,6 +2,7 @@
 
 ghost use Rattle.std.specs.Prelude.{◌≡◌, ℕ, ◌<◌, true, List, []};
 ghost use Rattle.courses.specs.Sessions.{Course, first_course};
+ghost use Rattle.courses.specs.SessionFacts.{CourseFacts};
 ghost use Rattle.serial_frame.specs.Stream.{Rest, no_rest};
 ghost use Rattle.serial_frame.specs.declared.item.Item.{Item};
 ghost use Rattle.serial_link.specs.declared.turn.Turn.{Turn as TheTurn};
@@ -25,7 +26,7 @@ use world_traffic::at_most_two_are_on_the_air;
 /// while the chip judges items, and that who ticks or loses bytes has nothing unfinished.
 pub fn outsides_follow_the_course()
     ensures first { (node : ℕ) (devices : List State) → HasDevice node first_course devices → Follows node [] first_course no_rest turns.Idle [] [] (outside first_outer devices) }
-    ensures events { (node : ℕ) (orders : List Asked) (c : Course) (rest : Rest) (turn : TheTurn) (up down : List Item) (w : Outside) (event : OuterEvent) → node < 233 → Follows node orders c rest turn up down w →
+    ensures events { (node : ℕ) (orders : List Asked) (c : Course) (rest : Rest) (turn : TheTurn) (up down : List Item) (w : Outside) (event : OuterEvent) → node < 233 → CourseFacts c → Follows node orders c rest turn up down w →
         is_own event ≡ true → May w event → Rests rest w event → OuterStaysFew w.outer event → OuterGoes node orders c rest turn (happens w event) }
 {
     frames_follow_the_course();

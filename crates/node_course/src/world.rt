@@ -1,11 +1,12 @@
 //! The whole machine, in the course of one node.
 
-ghost use Rattle.std.specs.Prelude.{ℕ, ◌<◌, List, [], Option};
+ghost use Rattle.std.specs.Prelude.{◌≡◌, ℕ, ◌<◌, List, [], Option, Some, Ok};
 ghost use Rattle.std.specs.List.{AllByRecursion};
 ghost use Rattle.courses.specs.Sessions.{Course, first_course};
 ghost use Rattle.serial_frame.specs.declared.item.Item.{Item};
 ghost use Rattle.s0_crypto.specs.declared.key_pair.Keys.{Keys};
 ghost use Rattle.zw_text.specs.declared.line.Line.{Line};
+ghost use Rattle.zw_text.specs.Line.{line_at};
 ghost use Rattle.device_sim.specs.State.{State};
 ghost use Rattle.zw_machine.specs.State.{Machine, first_machine};
 ghost use Rattle.zw_machine.specs.Events.{Event, May, happens};
@@ -15,13 +16,14 @@ ghost use Rattle.line_facts.specs.Host.{AllAskWell};
 ghost use Rattle.world_traffic.specs.OnAir.{EventStaysFew, AlwaysFew};
 ghost use Rattle.node_course.specs.Meaning.{Asked};
 ghost use Rattle.node_course.specs.Mesh.{HasDevice};
-ghost use Rattle.node_course.specs.World.{WorldFollows, WorldGoes, HasCourse, IsPlainly, EndsByHearing};
+ghost use Rattle.node_course.specs.World.{WorldFollows, WorldGoes, HasCourse, IsPlainly, EndsByHearing, OrdersPlain, NamesEnd};
 
 use crate::host::hosts_follow_the_course;
 use crate::outside::outsides_follow_the_course;
 use courses::{courses_keep_facts, what_is_told_was_done};
-use host_events::facts_are_kept;
+use host_facts::{events_keep_facts, first_facts_hold, laws_follow, what_is_over_stays};
 use line_facts::{hosts_write_well, units_are_judged_whole};
+use message_facts::others_are_no_messages;
 use world_traffic::at_most_two_are_on_the_air;
 
 /// Every event of the whole machine makes steps of the course of a node, and so do events one after another.
@@ -33,21 +35,41 @@ pub fn worlds_follow_the_course()
 {
     outsides_follow_the_course();
     hosts_follow_the_course();
-    facts_are_kept();
+    courses_keep_facts();
+    events_keep_facts();
+    laws_follow();
+    what_is_over_stays();
+}
+
+/// What lines ask the host to send beside orders is no message of a session, where the end points that they name are at most 127; a line that is read names no
+/// other. And in a line the host ends a session only by what it has taken out of its pipe.
+pub fn lines_ask_plainly()
+    ensures text { (text : List ℕ) (line : Line) → line_at text ≡ Ok (Some line) → NamesEnd line }
+    ensures ends { (node : ℕ) (lines : List Line) (m : Machine) (events : List Event) → AreLines lines m events → AllByRecursion (EndsByHearing node) events }
+    ensures plain { (node : ℕ) (lines : List Line) (m : Machine) (events : List Event) → AllByRecursion NamesEnd lines → AreLines lines m events →
+        AllByRecursion (OrdersPlain node) events → AllByRecursion (IsPlainly node) events }
+{
+    others_are_no_messages();
 }
 
 /// So over any lines from the first on, where no host starts again: for a node whose commands go whole and unsealed, and whose device is the only one of it and takes what is not sealed, there is a course of its sessions, from the first. The sessions of the
 /// host are the course's, and so are those of the device, with the statuses to which it came; what the device applied by sessions is a part of the commands of the sessions that began, in order, each once; and each session of which the host was told success is
-/// among them.
+/// among them. The command of each session of which the host was told has the outcome of the status that was told, and each change
+/// of the device by a session has exactly the settings that the host's table of commands says the session's command asks for. It is enough that the
+/// orders go so (`plain`).
 pub fn lines_have_a_course()
     ensures first { (node : ℕ) (keys : Keys) (records : Option (List (List ℕ))) (devices : List State) → node < 233 → HasDevice node first_course devices → WorldFollows node [] first_course [] [] (first_machine keys records devices) }
     ensures lines { (node : ℕ) (keys : Keys) (records : Option (List (List ℕ))) (devices : List State) (lines : List Line) (events : List Event) → node < 233 → HasDevice node first_course devices →
         AreLines lines (first_machine keys records devices) events → MayAll (first_machine keys records devices) events → AllAskWell (first_machine keys records devices) events → AllByRecursion (IsPlainly node) events →
         HasCourse node (happens_all (first_machine keys records devices) events) }
+    ensures plain { (node : ℕ) (keys : Keys) (records : Option (List (List ℕ))) (devices : List State) (lines : List Line) (events : List Event) → node < 233 → HasDevice node first_course devices →
+        AllByRecursion NamesEnd lines → AreLines lines (first_machine keys records devices) events → MayAll (first_machine keys records devices) events → AllAskWell (first_machine keys records devices) events →
+        AllByRecursion (OrdersPlain node) events → HasCourse node (happens_all (first_machine keys records devices) events) }
 {
+    lines_ask_plainly();
     worlds_follow_the_course();
     outsides_follow_the_course();
-    facts_are_kept();
+    first_facts_hold();
     units_are_judged_whole();
     hosts_write_well();
     at_most_two_are_on_the_air();

@@ -1,5 +1,6 @@
 -- Each clause is a lemma, over the laws of devices and of messages.
 use Rattle.node_course.proofs.Devices.{fresh_at, payload_heard, tick_goes, wake_goes, set_goes}
+use Rattle.node_course.proofs.Making.{payload_makes, event_makes}
 use Rattle.node_course.proofs.device.devices_follow_the_course.Goals as goal
 
 pub returns-clause-fresh : goal.returns-clause-fresh
@@ -71,3 +72,13 @@ returns-clause-sets c = set_goes (record {
   can = c.reports_tell.ensures.kept;
   same = c.devices_stay_the_same.ensures.event;
 })
+
+pub returns-clause-makes : goal.returns-clause-makes
+returns-clause-makes c = payload_makes (record {
+  follows = c.messages_do_what_is_asked.ensures.heard;
+  asked = c.messages_do_what_is_asked.ensures.asked;
+  left = c.others_are_no_messages.ensures.left;
+})
+
+pub returns-clause-keeps : goal.returns-clause-keeps
+returns-clause-keeps c orders commands device event none makes = event_makes orders commands device makes event none

@@ -8,7 +8,13 @@ returns-clause-does c node orders course rest up down h w event =
       air = record { begins = c.frames_fly_in_order.ensures.begins };
       nonces = nonces_other c.others_are_no_messages.ensures.nonce_report;
       no_more = c.others_are_no_messages.ensures.no_more;
-      kept = c.facts_are_kept.ensures.each;
+      past = record {
+        each = c.events_keep_facts.ensures.each;
+        legal = c.laws_follow.ensures.laws;
+        tables = c.laws_follow.ensures.tables;
+        stays = c.what_is_over_stays.ensures;
+      };
+      course = c.courses_keep_facts.ensures.all;
       bytes = c.reports_tell.ensures.status;
     }) node rest down orders course up h w event
 
@@ -18,6 +24,12 @@ returns-clause-judges c node orders course rest up down items h w events =
       air = record { begins = c.frames_fly_in_order.ensures.begins };
       nonces = nonces_other c.others_are_no_messages.ensures.nonce_report;
       no_more = c.others_are_no_messages.ensures.no_more;
-      kept = c.facts_are_kept.ensures.each;
+      past = record {
+        each = c.events_keep_facts.ensures.each;
+        legal = c.laws_follow.ensures.laws;
+        tables = c.laws_follow.ensures.tables;
+        stays = c.what_is_over_stays.ensures;
+      };
+      course = c.courses_keep_facts.ensures.all;
       bytes = c.reports_tell.ensures.status;
     }) node rest down orders course up h w items events

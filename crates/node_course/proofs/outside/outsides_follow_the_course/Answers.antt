@@ -16,4 +16,5 @@ returns-clause-events c node orders course rest turn up down w event =
       ticks = c.devices_follow_the_course.ensures.ticks;
       wakes = c.devices_follow_the_course.ensures.wakes;
       sets = c.devices_follow_the_course.ensures.sets;
+      keeps = c.devices_follow_the_course.ensures.keeps;
     }) node orders course rest turn up down w event

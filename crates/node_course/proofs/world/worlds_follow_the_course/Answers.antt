@@ -8,7 +8,13 @@ returns-clause-event c node orders course up down m event within =
       outside = c.outsides_follow_the_course.ensures.events;
       does = c.hosts_follow_the_course.ensures.does;
       judges = c.hosts_follow_the_course.ensures.judges;
-      kept = c.facts_are_kept.ensures.each;
+      past = record {
+        each = c.events_keep_facts.ensures.each;
+        legal = c.laws_follow.ensures.laws;
+        tables = c.laws_follow.ensures.tables;
+        stays = c.what_is_over_stays.ensures;
+      };
+      course = c.courses_keep_facts.ensures.all;
     }) node within orders course up down m event
 
 pub returns-clause-events : goal.returns-clause-events
@@ -17,5 +23,11 @@ returns-clause-events c node orders course up down m events within =
       outside = c.outsides_follow_the_course.ensures.events;
       does = c.hosts_follow_the_course.ensures.does;
       judges = c.hosts_follow_the_course.ensures.judges;
-      kept = c.facts_are_kept.ensures.each;
+      past = record {
+        each = c.events_keep_facts.ensures.each;
+        legal = c.laws_follow.ensures.laws;
+        tables = c.laws_follow.ensures.tables;
+        stays = c.what_is_over_stays.ensures;
+      };
+      course = c.courses_keep_facts.ensures.all;
     }) node within orders course up down m events

@@ -1,0 +1,230 @@
+-- The sessions of a device make what their commands ask for, at each of its events.
+use Rattle.std.proofs.Common.{◌≡◌, ℕ, zero, suc, ◌<◌, ◌≤◌, ◌==◌, ◌≢◌, Bool, true, false, Some, List, [], ◌∷◌, ◌++◌, refl, ap, sym, ◌∙◌, subst, arith}
+use Rattle.std.specs.Prelude.{slice_get, slice_set}
+use Rattle.std.specs.List.{AllByRecursion}
+use Rattle.std.proofs.lemmas.Bool.{eqb-true}
+use Rattle.std.proofs.lemmas.Bool.Decides.{nat_tests}
+use Rattle.zw_base.specs.declared.property.By.{By}
+use Rattle.zw_base.specs.declared.property.By.TheVariants.{Session, Plain, Local}
+use Rattle.zw_base.specs.declared.property.Setting.{Setting}
+use Rattle.zw_order.specs.declared.order.Order.{Order}
+use Rattle.supervision.specs.Session.{wire_id}
+use Rattle.supervision.specs.Device.{Taken, heard_of}
+use Rattle.supervision.specs.declared.device_book.Heard.{Heard}
+use Rattle.supervision.specs.declared.device_book.Heard.TheVariants.{New, Again, Old}
+use Rattle.courses.specs.Parts.{numbered}
+use Rattle.courses.specs.Sessions.{Course, Cargo, Command, Of_host, Answer, Of_node}
+use Rattle.courses.specs.SessionLaws.{NamesOne}
+use Rattle.host_orders.specs.Refusals.{IsFit, is_bad}
+use Rattle.host_orders.specs.Settings.{settings}
+use Rattle.host_orders.specs.Wrapping.{message_of}
+use Rattle.host_orders.specs.declared.carriage.Carriage.{Carriage}
+use Rattle.device_stack.specs.declared.change.Change.{Change}
+use Rattle.device_stack.specs.declared.verdict.Verdict.{Verdict}
+use Rattle.device_stack.specs.declared.verdict.Verdict.TheVariants.{NoSupport, Fails, Makes as MakesNow, Works}
+use Rattle.device_stack.specs.declared.work.Work.{Work}
+use Rattle.device_stack.specs.Kind.{lists, listens}
+use Rattle.device_stack.specs.Ticking.{ticked, woken, set_by_hand}
+use Rattle.device_sim.specs.State.{State}
+use Rattle.device_sim.specs.Event.{DeviceEvent, Hears, Ticks, Wakes, Sets, outcome_of, device_after}
+use Rattle.device_sim.specs.Laws.{IsMade, numbers}
+use Rattle.device_course.specs.Ending.{HasEnded, one_at_work}
+use Rattle.message_facts.specs.Asking.{takes_openly, verdict_on, MakesOnly, IsAtWork, IsUntouched, IsLeft, Follows}
+use Rattle.message_facts.specs.Others.{IsOther}
+use Rattle.node_course.specs.Meaning.{Asked, IsMessageOf, HostMeans}
+use Rattle.node_course.specs.Making.{IsAskedFor, MakesBy, MakesAsked, Makes, AllMake, Names, HearsNone}
+use Rattle.node_course.specs.Device.{AtDevice}
+use Rattle.node_course.proofs.Flights.{numbered-append}
+use Rattle.node_course.proofs.Devices.{at_rest, knows_supervision}
+
+-- ---- more orders, more sessions
+
+asked_stays : (orders more : List Asked) (commands later : List ℕ) (session : ℕ) (made : List Setting) → IsAskedFor orders commands session made → IsAskedFor (orders ++ more) (commands ++ later) session made
+asked_stays orders more commands later session made is = record {
+  number = is.number;
+  asked = is.asked;
+  carried = numbered-append commands later session is.number is.carried;
+  accepted = numbered-append orders more is.number is.asked is.accepted;
+  settings_are = is.settings_are;
+}
+
+change_stays : (orders more : List Asked) (commands later : List ℕ) (by : By) (made : List Setting) → MakesBy orders commands by made → MakesBy (orders ++ more) (commands ++ later) by made
+change_stays orders more commands later (Session session) made is = asked_stays orders more commands later session made is
+change_stays orders more commands later Plain made is = tt
+change_stays orders more commands later Local made is = tt
+
+changes_stay : (orders more : List Asked) (commands later : List ℕ) (journal : List Change) → AllByRecursion (MakesAsked orders commands) journal → AllByRecursion (MakesAsked (orders ++ more) (commands ++ later)) journal
+changes_stay orders more commands later [] all = tt
+changes_stay orders more commands later (change ∷ journal) all = (change_stays orders more commands later change.by change.settings all.0, changes_stay orders more commands later journal all.1)
+
+pub all_make_more : (node : ℕ) (orders more : List Asked) (commands later : List ℕ) (devices : List State) → AllMake node orders commands devices → AllMake node (orders ++ more) (commands ++ later) devices
+all_make_more node orders more commands later devices all place device stands own =
+    let m = all place device stands own in
+    record { changes = changes_stay orders more commands later device.journal m.changes; work = λ some. asked_stays orders more commands later device.sessions.taken device.work.settings (m.work some) }
+
+-- ---- one event
+
+all-append : {A : Type 0} (P : A → Type 0) (xs ys : List A) → AllByRecursion P xs → AllByRecursion P ys → AllByRecursion P (xs ++ ys)
+all-append P [] ys first later = later
+all-append P (x ∷ xs) ys first later = (first.0, all-append P xs ys first.1 later)
+
+untouched : (orders : List Asked) (commands : List ℕ) (old new : State) → IsUntouched old new → Makes orders commands old → Makes orders commands new
+untouched orders commands old new same m = record {
+  changes = subst (λ (j : List Change). AllByRecursion (MakesAsked orders commands) j) (sym same.journal) m.changes;
+  work = λ some.
+      subst (λ (w : Work). IsAskedFor orders commands new.sessions.taken w.settings) (sym same.work)
+      (subst (λ (t : Taken). IsAskedFor orders commands t.taken old.work.settings) (sym same.sessions) (m.work (subst (λ (k : ℕ). 0 < k) same.work_left some)));
+}
+
+-- the laws of messages
+pub record Laws : Type 0 where
+  pub follows : (device : State) (drawn : List ℕ) (carriage : Carriage) (order : Order) (session : ℕ) → IsFit carriage.actuator order → order.end ≤ 127 → device.awake ≡ true → takes_openly device.kind ≡ true
+      → Follows device (device_after device (Hears (message_of carriage order session) drawn)) (verdict_on device carriage order) (heard_of device.sessions (wire_id session))
+  pub asked : (device : State) (carriage : Carriage) (order : Order) → is_bad carriage.actuator order.what ≡ false → MakesOnly (settings carriage.actuator order) (verdict_on device carriage order)
+  pub left : (device : State) (payload drawn : List ℕ) → IsOther payload → lists device.kind 0x6C ≡ true → IsLeft device (device_after device (Hears payload drawn))
+
+module _ (laws : Laws) (orders : List Asked) (commands : List ℕ) (c : Course) (device : State) (session : ℕ) (payload drawn : List ℕ) (at : AtDevice c device) (awake : device.awake ≡ true) (is : IsMessageOf orders commands session payload)
+    (segment : Bool) (names : NamesOne c.device (record { session = session; is_segment = segment })) (m : Makes orders commands device) where
+  abbrev new : State
+  new = device_after device (Hears (message_of is.asked.carriage is.asked.order session) drawn)
+
+  module _ (number : ℕ) (own : number ≡ session) (sessions : new.sessions.taken ≡ number) (none : device.work_left ≡ 0) where
+    asked_for : (made : List Setting) → made ≡ settings is.asked.carriage.actuator is.asked.order → IsAskedFor orders commands number made
+    asked_for made same = record { number = is.number; asked = is.asked; carried = subst (λ (k : ℕ). numbered commands k ≡ is.number ∷ []) (sym own) is.carried; accepted = is.accepted; settings_are = same }
+
+    still : new.journal ≡ device.journal → new.work_left ≡ device.work_left → Makes orders commands new
+    still journal left = record {
+      changes = subst (λ (j : List Change). AllByRecursion (MakesAsked orders commands) j) (sym journal) m.changes;
+      work = λ some. absurd (omega (arith, some, left, none));
+    }
+
+    taken_by : (verdict : Verdict) → MakesOnly (settings is.asked.carriage.actuator is.asked.order) verdict → IsMade number device.journal new.journal device.work_left new.work_left verdict → IsAtWork device.work new.work verdict
+        → Makes orders commands new
+    taken_by (MakesNow made) only (changed, left) work = record {
+      changes = subst (λ (j : List Change). AllByRecursion (MakesAsked orders commands) j) (sym changed)
+          (all-append (MakesAsked orders commands) device.journal (record { by = Session number; settings = made } ∷ []) m.changes (asked_for made only, tt));
+      work = λ some. absurd (omega (arith, some, left, none));
+    }
+    taken_by (Works made) only (journal, left) work = record {
+      changes = subst (λ (j : List Change). AllByRecursion (MakesAsked orders commands) j) (sym journal) m.changes;
+      work = λ some. subst (λ (k : ℕ). IsAskedFor orders commands k new.work.settings) (sym sessions) (asked_for new.work.settings (work ∙ only));
+    }
+    taken_by Fails only (journal, left) work = still journal left
+    taken_by NoSupport only (journal, left) work = still journal left
+
+  heard_by : (heard : Heard) → heard_of device.sessions (wire_id session) ≡ heard → Follows device new (verdict_on device is.asked.carriage is.asked.order) heard → Makes orders commands new
+  heard_by (New number) e t =
+      let one = names.is_new number (subst (λ (s : Taken). heard_of s (wire_id session) ≡ New number) at.sessions e) in
+      taken_by number one.0 (ap (λ (s : Taken). s.taken) t.sessions) (at_rest device c.ends at.ended t.free).0 (verdict_on device is.asked.carriage is.asked.order)
+      (laws.asked device is.asked.carriage is.asked.order is.fit.good) t.made t.work
+  heard_by (Again status) e same = untouched orders commands device new same.0 m
+  heard_by Old e same = untouched orders commands device new same.0 m
+
+  message_makes : Makes orders commands (device_after device (Hears payload drawn))
+  message_makes =
+      subst (λ (p : List ℕ). Makes orders commands (device_after device (Hears p drawn))) (sym is.text)
+      (heard_by (heard_of device.sessions (wire_id session)) refl (laws.follows device drawn is.asked.carriage is.asked.order session is.fit is.end awake at.is_open))
+
+-- a payload of the host is heard
+pub payload_makes : Laws → (orders : List Asked) (commands : List ℕ) (c : Course) (device : State) (cargo : Cargo) (payload drawn : List ℕ) → AtDevice c device → device.awake ≡ true → HostMeans orders commands payload cargo
+    → Names c.device cargo → Makes orders commands device → Makes orders commands (device_after device (Hears payload drawn))
+payload_makes laws orders commands c device (Command message) payload drawn at awake (whole, is) names m =
+    message_makes laws orders commands c device message.session payload drawn at awake is message.is_segment names m
+payload_makes laws orders commands c device Of_host payload drawn at awake is names m =
+    untouched orders commands device (device_after device (Hears payload drawn)) (laws.left device payload drawn is (knows_supervision device.kind at.is_open)).0 m
+payload_makes laws orders commands c device (Answer session status) payload drawn at awake is names m = absurd is
+payload_makes laws orders commands c device Of_node payload drawn at awake is names m = absurd is
+
+-- ---- a tick, a wake-up, a hand
+
+module _ (orders : List Asked) (commands : List ℕ) (device : State) (m : Makes orders commands device) where
+  tick_makes : (none last : Bool) → device.work_left == 0 ≡ none → device.work_left == 1 ≡ last → Makes orders commands (ticked device).device
+  unfolding ticked
+  tick_makes true last n l = untouched orders commands device (ticked device).device (record { journal = rw n refl; sessions = rw n refl; work_left = rw n refl; work = rw n refl }) m
+  tick_makes false false n l =
+      let journal : (ticked device).device.journal ≡ device.journal = rw (n, l) refl in
+      let sessions : (ticked device).device.sessions ≡ device.sessions = rw (n, l) refl in
+      let work : (ticked device).device.work ≡ device.work = rw (n, l) refl in
+      record {
+        changes = subst (λ (j : List Change). AllByRecursion (MakesAsked orders commands) j) (sym journal) m.changes;
+        work = λ some.
+            subst (λ (w : Work). IsAskedFor orders commands (ticked device).device.sessions.taken w.settings) (sym work)
+            (subst (λ (t : Taken). IsAskedFor orders commands t.taken device.work.settings) (sym sessions) (m.work (grind (arith, n, nat_tests))));
+      }
+  tick_makes false true n l =
+      let one : device.work_left ≡ 1 = eqb-true device.work_left 1 l in
+      let journal : (ticked device).device.journal ≡ device.journal ++ record { by = Session device.sessions.taken; settings = device.work.settings } ∷ [] = rw (n, l) refl in
+      let left : (ticked device).device.work_left ≡ 0 = rw (n, l) refl in
+      record {
+        changes = subst (λ (j : List Change). AllByRecursion (MakesAsked orders commands) j) (sym journal)
+            (all-append (MakesAsked orders commands) device.journal (record { by = Session device.sessions.taken; settings = device.work.settings } ∷ []) m.changes (m.work (omega (arith, one)), tt));
+        work = λ some. absurd (omega (arith, some, left));
+      }
+
+  wake_makes : (b : Bool) → listens device.kind ≡ b → Makes orders commands (woken device).device
+  unfolding woken
+  wake_makes true e = untouched orders commands device (woken device).device (record { journal = rw e refl; sessions = rw e refl; work_left = rw e refl; work = rw e refl }) m
+  wake_makes false e = untouched orders commands device (woken device).device (record { journal = rw e refl; sessions = rw e refl; work_left = rw e refl; work = rw e refl }) m
+
+  hand_makes : (value : ℕ) → Makes orders commands (set_by_hand device value).device
+  unfolding set_by_hand
+  hand_makes value = record { changes = all-append (MakesAsked orders commands) device.journal _ m.changes (tt, tt); work = m.work }
+
+  pub event_makes : (event : DeviceEvent) → HearsNone event → Makes orders commands (device_after device event)
+  unfolding device_after outcome_of
+  event_makes (Hears payload drawn) none = absurd none
+  event_makes (Ticks drawn) none = tick_makes (device.work_left == 0) (device.work_left == 1) refl refl
+  event_makes Wakes none = wake_makes (listens device.kind) refl
+  event_makes (Sets value) none = hand_makes value
+
+-- ---- at first
+
+no_sessions : (journal : List Change) → numbers journal ≡ [] → AllByRecursion (MakesAsked [] []) journal
+no_sessions [] none = tt
+no_sessions (change ∷ journal) none = by change.by refl (λ later. no_sessions journal later)
+  where
+    by : (made_by : By) → change.by ≡ made_by → (numbers journal ≡ [] → AllByRecursion (MakesAsked [] []) journal) → AllByRecursion (MakesAsked [] []) (change ∷ journal)
+    by (Session number) e rest = absurd (bad (subst (λ (b : By). numbers (record { by = b; settings = change.settings } ∷ journal) ≡ []) e none))
+      where
+        bad : number ∷ numbers journal ≡ [] → ⊥
+        bad is = absurd (grind (arith, is))
+    by Plain e rest = (subst (λ (b : By). MakesBy [] [] b change.settings) (sym e) tt, rest (subst (λ (b : By). numbers (record { by = b; settings = change.settings } ∷ journal) ≡ []) e none))
+    by Local e rest = (subst (λ (b : By). MakesBy [] [] b change.settings) (sym e) tt, rest (subst (λ (b : By). numbers (record { by = b; settings = change.settings } ∷ journal) ≡ []) e none))
+
+-- a device that ended no session has made nothing by one
+pub first_makes : (device : State) → HasEnded device [] → device.sessions.taken ≡ 0 → Makes [] [] device
+first_makes device is none = record { changes = no_sessions device.journal is.changed; work = λ some. absurd (busy device.work_left refl some) }
+  where
+    busy : (left : ℕ) → device.work_left ≡ left → 0 < device.work_left → ⊥
+    busy zero e some = absurd (omega (arith, e, some))
+    busy (suc left) e some =
+        let test : device.work_left == 0 ≡ false = grind (arith, some, nat_tests) in
+        let one : one_at_work device.work_left ≡ 1 = rw test refl in
+        let count = is.count in absurd (omega (arith, count, one, none))
+
+-- ---- the devices
+
+pub get_same : (devices : List State) (place : ℕ) (device other : State) → slice_get devices place ≡ Some device → slice_get (slice_set devices place other) place ≡ Some other
+get_same [] place device other at = absurd cc
+get_same (first ∷ devices) zero device other at = refl
+get_same (first ∷ devices) (suc place) device other at = get_same devices place device other at
+
+pub get_other : (devices : List State) (place at : ℕ) (other : State) → at ≢ place → slice_get (slice_set devices place other) at ≡ slice_get devices at
+get_other [] place at other apart = refl
+get_other (first ∷ devices) zero zero other apart = absurd (apart refl)
+get_other (first ∷ devices) zero (suc at) other apart = refl
+get_other (first ∷ devices) (suc place) zero other apart = refl
+get_other (first ∷ devices) (suc place) (suc at) other apart = get_other devices place at other (λ e. apart (ap suc e))
+
+-- one of them goes on
+pub all_make_set : (node : ℕ) (orders : List Asked) (commands : List ℕ) (devices : List State) (place : ℕ) (device new : State) → slice_get devices place ≡ Some device → new.node ≡ device.node
+    → (device.node ≡ node → Makes orders commands new) → AllMake node orders commands devices → AllMake node orders commands (slice_set devices place new)
+all_make_set node orders commands devices place device new stood same makes all other one found own = by (other == place) refl
+  where
+    by : (b : Bool) → (other == place) ≡ b → Makes orders commands one
+    by true e =
+        let here : other ≡ place = eqb-true other place e in
+        let is : Some new ≡ Some one = sym (get_same devices place device new stood) ∙ (ap (λ (k : ℕ). slice_get (slice_set devices place new) k) (sym here) ∙ found) in
+        let it : new ≡ one = cc in
+        subst (λ (d : State). Makes orders commands d) it (makes (sym same ∙ (ap (λ (d : State). d.node) it ∙ own)))
+    by false e = all other one (sym (get_other devices place other new (grind (arith, e))) ∙ found) own
