@@ -1,5 +1,6 @@
 -- A machine that has the course of a node has its device tied to the host.
 use Rattle.std.proofs.Common.{◌≡◌, ℕ, ◌+◌, suc, Bool, true, false, List, [], ◌∷◌, length, Option, Some, None, option_map, if◌then◌else◌, ◌==◌, slice_get, refl, sym, ap, ap₂, subst, ◌∙◌, arith}
+use Rattle.std.proofs.lemmas.Bool.{eqb-true}
 use Rattle.std.specs.List.{AllByRecursion}
 use Rattle.supervision.specs.Host.{HostBook, begun_of, open_session}
 use Rattle.courses.specs.Sessions.{Course}
@@ -31,7 +32,7 @@ found_by true node first rest at place device other is later more here stands fo
     let at_first : slice_get (first ∷ rest) 0 ≡ Some device = subst (λ (p : ℕ). slice_get (first ∷ rest) p ≡ Some device) (sym zero_is) stands in
     let one : first ≡ device = cc in
     let two : first ≡ other = cc in
-    record { same = sym one ∙ two; of_node = ap (λ (d : State). d.node) (sym one) ∙ omega (arith, is) }
+    record { same = sym one ∙ two; of_node = ap (λ (d : State). d.node) (sym one) ∙ eqb-true first.node node is }
 found_by false node first rest None place device other is later more here stands found = absurd cc
 found_by false node first rest (Some at) place device other is later more here stands found =
     let next : suc at ≡ place = cc in
