@@ -4,7 +4,7 @@ use Rattle.s0_crypto.specs.declared.key_pair.Keys.{Keys}
 use Rattle.zw_text.specs.declared.entry.Entry.{Entry}
 use Rattle.host_keep.specs.Legal.{AreTextsOf}
 use Rattle.host_keep.specs.declared.record.Record.{Record}
-use Rattle.host_events.specs.State.{HostState, first_host}
+use Rattle.host_events.specs.State.{HostState}
 use Rattle.host_events.specs.Events.{HostEvent}
 use Rattle.host_records.specs.Opening.{opened}
 use Rattle.host_facts.specs.Lives.{AreLives, entries_of_lives, with_records}
@@ -14,12 +14,16 @@ abbrev pub records_from : Keys → HostState → List Record → List (List Host
 records_from keys h records [] = records
 records_from keys h records (events ∷ more) = records_from keys (opened keys (with_records h records events)) (with_records h records events) more
 
--- the records, and the entries, of lives from the beginning
-abbrev pub records_of_lives : Keys → List (List HostEvent) → List Record
-records_of_lives keys lives = records_from keys (first_host keys) [] lives
+-- lives of a host that starts without records
+abbrev pub AreLivesOf : Keys → List (List HostEvent) → Type 0
+AreLivesOf keys lives = AreLives keys (opened keys []) [] lives
 
-abbrev pub entries_before : Keys → List (List HostEvent) → List Entry
-entries_before keys lives = entries_of_lives keys (first_host keys) [] lives
+-- their records, and what the host noted in them
+abbrev pub records_of : Keys → List (List HostEvent) → List Record
+records_of keys lives = records_from keys (opened keys []) [] lives
+
+abbrev pub entries_of : Keys → List (List HostEvent) → List Entry
+entries_of keys lives = entries_of_lives keys (opened keys []) [] lives
 
 -- a keeper that holds so many records holds these: it tells their texts; or it tells none, and there are none
 abbrev pub HasRecords : ℕ → Option (List (List ℕ)) → List Record → Type 0
@@ -28,5 +32,5 @@ HasRecords number (Some texts) records = AreTextsOf records texts
 
 -- the keeper holds the records of these earlier lives of a host; there may be none
 pub record GoesOn (keys : Keys) (number : ℕ) (told : Option (List (List ℕ))) (lives : List (List HostEvent)) : Type 0 where
-  pub are : AreLives keys (first_host keys) [] lives
-  pub kept : HasRecords number told (records_of_lives keys lives)
+  pub are : AreLivesOf keys lives
+  pub kept : HasRecords number told (records_of keys lives)

@@ -1,5 +1,5 @@
 -- What a run of `host` keeps true (this project's own): its story is the events of the host that its steps are, and the laws are of this story.
-use Rattle.std.specs.Prelude.{◌≡◌, ℕ, ◌⊎◌, List, [], ◌++◌, Option}
+use Rattle.std.specs.Prelude.{◌≡◌, ℕ, ◌⊎◌, List, [], ◌∷◌, ◌++◌, Option, IsSome}
 use Rattle.zw_text.specs.declared.entry.Entry.{Entry}
 use Rattle.host_keep.specs.declared.record.Record.{Record}
 use Rattle.s0_crypto.specs.declared.key_pair.Keys.{Keys}
@@ -22,7 +22,8 @@ use Rattle.port_run.specs.Steps.{Place, Step}
 use Rattle.port_run.specs.Schedule.{Telling, CutRun, is_quiet}
 use Rattle.port_run.specs.Serving.{Broke, Halts}
 use Rattle.port_run.specs.Ending.{Desk, Started, start_of, RanAll, RanSome, HostRan, IsUntouched, status_of}
-use Rattle.host_runs.specs.Lives.{GoesOn, entries_before}
+use Rattle.world_facts.specs.Restarts.{HostsKeepWell}
+use Rattle.host_runs.specs.Lives.{GoesOn, entries_of}
 
 -- ---- stories
 
@@ -40,7 +41,7 @@ last key story = after_all (first key story) story.events
 
 -- what the host notes in it, with the answers to orders, after what it noted in its earlier lives
 abbrev pub transcript : List ℕ → List (List HostEvent) → Story → List Entry
-transcript key lives story = entries_before (keys_of key) lives ++ entries_all (first key story) story.events
+transcript key lives story = entries_of (keys_of key) lives ++ entries_all (first key story) story.events
 
 -- ---- the story of a run
 
@@ -120,9 +121,17 @@ ShowsTables ended key number texts old new = Always ended key number texts old n
 abbrev pub ConfirmsValues : Status → List ℕ → ℕ → List (List ℕ) → Desk → Desk → Type 0
 ConfirmsValues ended key number texts old new = Always ended key number texts old new (λ lives story. StoresLaw (transcript key lives story) (last key story))
 
+-- A run that starts where this one ended goes on from one life more: where the keeper tells its records, their numbers are in range, and an
+-- interview that ends well is of a node that is joined.
+abbrev pub LeavesALife : Status → List ℕ → ℕ → List (List ℕ) → Desk → Desk → Type 0
+LeavesALife ended key number texts old new =
+    Always ended key number texts old new
+    (λ lives story. (many : ℕ) → IsSome new.shelf.records → HostsKeepWell (first key story) story.events → GoesOn (keys_of key) many new.shelf.records (lives ++ story.events ∷ []))
+
 -- What holds of every run of `host`, at every status.
 pub record PortKeepsLaws (ended : Status) (key : List ℕ) (number : ℕ) (texts : List (List ℕ)) (old new : Desk) : Type 0 where
   pub story : HasStory ended key number texts old new
   pub orders : KeepsOrders ended key number texts old new
   pub tables : ShowsTables ended key number texts old new
   pub values : ConfirmsValues ended key number texts old new
+  pub next : LeavesALife ended key number texts old new
