@@ -1,6 +1,9 @@
 -- What a run of `host` keeps true (this project's own): its story is the events of the host that its steps are, and the laws are of this story.
 use Rattle.std.specs.Prelude.{◌≡◌, ℕ, ◌⊎◌, List, [], ◌∷◌, ◌++◌, Option, IsSome}
+use Rattle.std.specs.List.{AllByRecursion}
+use Rattle.zw_text.specs.Transcript.{outcome}
 use Rattle.zw_text.specs.declared.entry.Entry.{Entry}
+use Rattle.zw_text.specs.declared.entry.Outcome.TheVariants.{Success}
 use Rattle.host_keep.specs.declared.record.Record.{Record}
 use Rattle.s0_crypto.specs.declared.key_pair.Keys.{Keys}
 use Rattle.host_core.specs.Network.{keys_of}
@@ -14,6 +17,8 @@ use Rattle.host_facts.specs.Entries.{entries_all}
 use Rattle.host_facts.specs.Facts.{AreShown}
 use Rattle.host_facts.specs.Laws.{HostLaws}
 use Rattle.host_facts.specs.Stores.{StoresLaw}
+use Rattle.port_run.specs.declared.asking.Answer.{Answer}
+use Rattle.port_run.specs.declared.asking.Answer.TheVariants.{Taken, Command, Refused}
 use Rattle.port_run.specs.declared.stop.Stop.{Stop}
 use Rattle.port_run.specs.declared.stop.Stop.TheVariants as stop
 use Rattle.port_run.specs.declared.ending.Served.{Served}
@@ -121,6 +126,18 @@ ShowsTables ended key number texts old new = Always ended key number texts old n
 abbrev pub ConfirmsValues : Status → List ℕ → ℕ → List (List ℕ) → Desk → Desk → Type 0
 ConfirmsValues ended key number texts old new = Always ended key number texts old new (λ lives story. StoresLaw (transcript key lives story) (last key story))
 
+-- the transcript bears out an answer that is good: the order of that number is a success
+abbrev pub IsBorneOut : List Entry → Answer → Type 0
+IsBorneOut transcript Taken = Unit {0}
+IsBorneOut transcript (Command number) = outcome number transcript ≡ Success
+IsBorneOut transcript Refused = ⊥
+
+-- where all lines were run and none was refused, the command of each order is a success
+abbrev pub DoneIsSuccess : List ℕ → ℕ → List (List ℕ) → Desk → Desk → Type 0
+DoneIsSuccess key number texts old new =
+    (story : Story) (lives : List (List HostEvent)) (told : ToldAll Ok is_quiet (keys_of key) number texts old new story) → GoesOn (keys_of key) number old.shelf.records lives
+    → AllByRecursion (IsBorneOut (transcript key lives story)) told.0.answers
+
 -- A run that starts where this one ended goes on from one life more: where the keeper tells its records, their numbers are in range, and an
 -- interview that ends well is of a node that is joined.
 abbrev pub LeavesALife : Status → List ℕ → ℕ → List (List ℕ) → Desk → Desk → Type 0
@@ -134,4 +151,5 @@ pub record PortKeepsLaws (ended : Status) (key : List ℕ) (number : ℕ) (texts
   pub orders : KeepsOrders ended key number texts old new
   pub tables : ShowsTables ended key number texts old new
   pub values : ConfirmsValues ended key number texts old new
+  pub success : DoneIsSuccess key number texts old new
   pub next : LeavesALife ended key number texts old new

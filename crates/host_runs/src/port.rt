@@ -10,7 +10,7 @@ ghost use Rattle.host_records.specs.Opening.{opened};
 ghost use Rattle.host_facts.specs.Facts.{Facts};
 ghost use Rattle.port_run.specs.Ending.{Desk};
 ghost use Rattle.host_runs.specs.Lives.{AreLivesOf, GoesOn, entries_of, records_of};
-ghost use Rattle.host_runs.specs.Port.{ConfirmsValues, HasStory, KeepsOrders, LeavesALife, PortKeepsLaws, ShowsTables};
+ghost use Rattle.host_runs.specs.Port.{ConfirmsValues, DoneIsSuccess, HasStory, KeepsOrders, LeavesALife, PortKeepsLaws, ShowsTables};
 
 use host_facts::{events_keep_facts, first_facts_hold, laws_follow, lives_keep_facts};
 use host_keep::a_text_is_of_one_record;
@@ -22,6 +22,7 @@ pub fn port_keeps_laws()
 {
     runs_have_stories();
     stories_keep_laws();
+    done_is_success();
 }
 
 /// Each run that starts its host has a story: the events of the host that its steps are.
@@ -53,4 +54,11 @@ fn stories_keep_laws()
     lives_go_on();
     events_keep_facts();
     laws_follow();
+}
+
+/// Where the answers to all lines are good, the transcript shows the command of each order as a success.
+fn done_is_success()
+    ensures { (key : List ℕ) (number : ℕ) (texts : List (List ℕ)) (old new : Desk) → DoneIsSuccess key number texts old new }
+{
+    stories_keep_laws();
 }

@@ -7,5 +7,6 @@ returns c = λ ended key number texts old new. record {
   orders = c.stories_keep_laws.ensures.orders ended key number texts old new;
   tables = c.stories_keep_laws.ensures.tables ended key number texts old new;
   values = c.stories_keep_laws.ensures.values ended key number texts old new;
+  success = c.done_is_success.ensures key number texts old new;
   next = c.stories_keep_laws.ensures.next ended key number texts old new;
 }
