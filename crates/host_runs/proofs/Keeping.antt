@@ -62,7 +62,7 @@ may_first : (keys : Keys) (number : ℕ) (before after : Option (List (List ℕ)
 may_first keys number before after story l = ap (λ (p : HostParts). p.state) l.opens.state ∙ ap (λ (r : List Record). opened keys r) l.records
 
 module _ (records_so : (keys : Keys) (number : ℕ) (told : Option (List (List ℕ))) (lives : List (List HostEvent)) (host : HostParts) → GoesOn keys number told lives
-        → (opens : Opens keys number told host) → records_of keys lives ≡ opens.records) where
+    → (opens : Opens keys number told host) → records_of keys lives ≡ opens.records) where
   -- the story goes on from the records of the lives
   from_lives : (keys : Keys) (number : ℕ) (before after : Option (List (List ℕ))) (story : Story) (lives : List (List HostEvent)) → Lived keys number before after story
       → GoesOn keys number before lives → records_of keys lives ≡ story.records

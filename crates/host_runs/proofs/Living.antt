@@ -1,5 +1,5 @@
 -- A host that starts from the records of earlier lives goes on with their facts.
-use Rattle.std.proofs.Common.{◌≡◌, ℕ, Bool, true, false, List, [], ◌∷◌, ◌++◌, length, Option, Some, None, refl, sym, ap, ap₂, subst, ◌∙◌, append-nil}
+use Rattle.std.proofs.Common.{◌≡◌, ℕ, true, false, List, [], ◌∷◌, ◌++◌, length, Option, Some, None, refl, sym, ap, ap₂, subst, ◌∙◌, append-nil}
 use Rattle.std.specs.Prelude.{IsSome}
 use Rattle.std.specs.List.{AllByRecursion}
 use Rattle.s0_crypto.specs.declared.key_pair.Keys.{Keys}
@@ -127,7 +127,7 @@ module _ (of_one : (one other : Record) (text : List ℕ) → IsTextOf one text 
 module _ (begins : (keys : Keys) → Facts [] (first_host keys)) (first_holds : (keys : Keys) → HoldsAlone (first_host keys) first_kept)
     (opened_holds : (keys : Keys) (records : List Record) → AreLegal records → HoldsAlone (opened keys records) (kept_of records))
     (keeps : (keys : Keys) (past : List Entry) (h : HostState) (records : List Record) (lives : List (List HostEvent)) → Facts past h → Holds h (kept_of records) → AreLegal records
-        → AreLives keys h records lives → Facts (past ++ entries_of_lives keys h records lives) (last_of_lives keys h records lives)) where
+    → AreLives keys h records lives → Facts (past ++ entries_of_lives keys h records lives) (last_of_lives keys h records lives)) where
   -- a host that starts without records has the facts of the first one, which did nothing
   opens_first : (keys : Keys) → Facts [] (opened keys [])
   opens_first keys =

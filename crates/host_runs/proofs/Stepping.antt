@@ -1,9 +1,9 @@
 -- The steps of a run are events of the host, one after another.
-use Rattle.std.proofs.Common.{◌≡◌, ℕ, ◌≤◌, ◌⊎◌, inl, inr, List, [], ◌∷◌, ◌++◌, Option, refl, sym, ap, subst, arith}
+use Rattle.std.proofs.Common.{◌≡◌, ℕ, inl, inr, List, [], ◌∷◌, ◌++◌, Option, refl, sym, ap, subst, arith}
 use Rattle.zw_text.specs.declared.line.Line.{Line}
 use Rattle.host_events.specs.Events.{HostEvent}
 use Rattle.host_events.specs.State.{HostParts}
-use Rattle.host_events.specs.Did.{Did, Shelf}
+use Rattle.host_events.specs.Did.{Did}
 use Rattle.host_events.specs.declared.out.HostOut.{HostOut}
 use Rattle.host_events.proofs.Doing.{did_both, did_nothing, none_added}
 use Rattle.host_core.specs.Network.{keys_of}
@@ -15,11 +15,11 @@ use Rattle.port_run.specs.declared.stop.Stop.{Stop}
 use Rattle.port_run.specs.declared.stop.Stop.TheVariants as stop
 use Rattle.port_run.specs.declared.ending.Served.{Served}
 use Rattle.port_run.specs.declared.ending.Served.TheVariants.{Ok, Undone, BadLine, Opening, ReadFault, WriteFault, InputTooLong, NoMemory}
-use Rattle.port_run.specs.Steps.{Place, Step, Asks, Takes, Rests, Ticks, Pumps, IsStill, Asked, Ran, AllRan}
+use Rattle.port_run.specs.Steps.{Place, Step, Asks, Takes, Rests, Ticks, Pumps, Asked, Ran, AllRan}
 use Rattle.port_run.specs.Schedule.{Telling, is_quiet}
 use Rattle.port_run.specs.Serving.{Halts}
 use Rattle.port_run.specs.Ending.{Desk, start_of, RanAll, RanSome, Ended, HostRan, IsUntouched, status_of}
-use Rattle.host_runs.specs.Port.{Story, Does, DoesAll, DoesSome, ToldAll, ToldSome, Tells, StillOr, outs_by}
+use Rattle.host_runs.specs.Port.{Story, ToldAll, ToldSome, Tells, StillOr, outs_by}
 
 -- what happened from one place to another
 abbrev Goes : Place → Place → List HostOut → Type 0
@@ -73,9 +73,10 @@ halts_go stop.ReadFault steps old new sink sink' halts = steps_go steps old new 
 halts_go stop.InputTooLong steps old new sink sink' halts = steps_go steps old new halts.outs halts.ran
 halts_go stop.WriteFault steps old new sink sink' halts = steps_go steps old new halts.outs halts.ran
 halts_go stop.NoMemory steps old new sink sink' halts =
-    let (events, did) = steps_go steps old halts.mid halts.some halts.ran in
-    (events ++ halts.events,
-    did_both events halts.events old.host.state halts.mid.host.state new.host.state [] halts.some halts.all old.shelf halts.mid.shelf new.shelf did halts.did)
+    let (events, did) = steps_go steps old halts.mid halts.some halts.ran in (
+      events ++ halts.events,
+      did_both events halts.events old.host.state halts.mid.host.state new.host.state [] halts.some halts.all old.shelf halts.mid.shelf new.shelf did halts.did,
+    )
 
 -- ---- stories
 

@@ -15,7 +15,7 @@ use Rattle.host_events.specs.Did.{after_all}
 use Rattle.host_keep.specs.declared.record.Record.{Record}
 use Rattle.host_records.specs.Opening.{opened}
 use Rattle.host_facts.specs.Facts.{AreShown}
-use Rattle.host_facts.specs.Tables.{outcome_by, outcome_in, recorded}
+use Rattle.host_facts.specs.Tables.{outcome_by, recorded}
 use Rattle.port_run.specs.declared.asking.Answer.{Answer}
 use Rattle.port_run.specs.declared.asking.Answer.TheVariants.{Taken, Command, Refused}
 use Rattle.port_run.specs.declared.ending.Served.TheVariants.{Ok}

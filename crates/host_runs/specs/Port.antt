@@ -24,8 +24,8 @@ use Rattle.port_run.specs.declared.stop.Stop.TheVariants as stop
 use Rattle.port_run.specs.declared.ending.Served.{Served}
 use Rattle.port_run.specs.declared.ending.Served.TheVariants.{Ok, Undone, BadLine, Opening, ReadFault, WriteFault, InputTooLong, NoMemory}
 use Rattle.port_run.specs.Steps.{Place, Step}
-use Rattle.port_run.specs.Schedule.{Telling, CutRun, is_quiet}
-use Rattle.port_run.specs.Serving.{Broke, Halts}
+use Rattle.port_run.specs.Schedule.{Telling, is_quiet}
+use Rattle.port_run.specs.Serving.{Halts}
 use Rattle.port_run.specs.Ending.{Desk, Started, start_of, RanAll, RanSome, HostRan, IsUntouched, status_of}
 use Rattle.world_facts.specs.Restarts.{HostsKeepWell}
 use Rattle.host_runs.specs.Lives.{GoesOn, entries_of}

@@ -13,10 +13,10 @@ returns c = λ status key left left' records records' faults faults' sink sink' 
     let old = point_of (first_replay key) records faults in
     is_kept old
     (λ lines new T all.
-      let facts = c.whole_lines_keep_facts.ensures lines old new [] T (c.first_facts_hold.ensures (keys_of key)) all in
-      record {
-        orders = c.laws_follow.ensures.laws T new.lone.host.state facts;
-        tables = c.laws_follow.ensures.tables T new.lone.host.state facts;
-        values = c.laws_follow.ensures.stores T new.lone.host.state facts;
-      })
+    let facts = c.whole_lines_keep_facts.ensures lines old new [] T (c.first_facts_hold.ensures (keys_of key)) all in
+    record {
+      orders = c.laws_follow.ensures.laws T new.lone.host.state facts;
+      tables = c.laws_follow.ensures.tables T new.lone.host.state facts;
+      values = c.laws_follow.ensures.stores T new.lone.host.state facts;
+    })
     ran.told.end (lines_in replay_at ran.told.texts) ran.point ran.told.transcript ran.told.ran
