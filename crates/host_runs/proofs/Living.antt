@@ -70,29 +70,29 @@ of_joined h [] well = tt
 of_joined h (event ∷ events) well = (well.0.of_joined, of_joined (after h event) events well.1)
 
 -- what the keeper told, once nothing was added and then these records were
-told_more : (before told after : Option (List (List ℕ))) (kept more : List Record) (number many : ℕ) → HasRecords number before kept → OptAdds before told [] → OptAdds told after (texts_of more)
-    → IsSome after → AreTextsOf more (texts_of more) → HasRecords many after (kept ++ more)
-told_more None told after kept more number many has still adds some texts =
-    let none : after ≡ None = subst (λ (o : Option (List (List ℕ))). OptAdds o after (texts_of more)) still adds in
+told_more : (before told later : Option (List (List ℕ))) (kept more : List Record) (number many : ℕ) → HasRecords number before kept → OptAdds before told [] → OptAdds told later (texts_of more)
+    → IsSome later → AreTextsOf more (texts_of more) → HasRecords many later (kept ++ more)
+told_more None told later kept more number many has still adds some texts =
+    let none : later ≡ None = subst (λ (o : Option (List (List ℕ))). OptAdds o later (texts_of more)) still adds in
     let wrong : false ≡ true = subst (λ (o : Option (List (List ℕ))). IsSome o) none some in absurd cc
-told_more (Some before) told after kept more number many has still adds some texts =
+told_more (Some before) told later kept more number many has still adds some texts =
     let same : told ≡ Some before = still ∙ ap (λ (l : List (List ℕ)). Some l) (append-nil before) in
-    let now : after ≡ Some (before ++ texts_of more) = subst (λ (o : Option (List (List ℕ))). OptAdds o after (texts_of more)) same adds in
+    let now : later ≡ Some (before ++ texts_of more) = subst (λ (o : Option (List (List ℕ))). OptAdds o later (texts_of more)) same adds in
     subst (λ (o : Option (List (List ℕ))). HasRecords many o (kept ++ more)) (sym now) (texts_both kept more before (texts_of more) has texts)
 
 -- a run that did these events from the records of lives on leaves those of one life more
-pub leaves_life : (keys : Keys) (number many : ℕ) (before told after : Option (List (List ℕ))) (lives : List (List HostEvent)) (events : List HostEvent) → GoesOn keys number before lives
-    → OptAdds before told [] → OptAdds told after (texts_of (records_all (opened keys (records_of keys lives)) events)) → IsSome after → MayAll (opened keys (records_of keys lives)) events
-    → HostsKeepWell (opened keys (records_of keys lives)) events → GoesOn keys many after (lives ++ events ∷ [])
-leaves_life keys number many before told after lives events on still adds some may well =
+pub leaves_life : (keys : Keys) (number many : ℕ) (before told later : Option (List (List ℕ))) (lives : List (List HostEvent)) (events : List HostEvent) → GoesOn keys number before lives
+    → OptAdds before told [] → OptAdds told later (texts_of (records_all (opened keys (records_of keys lives)) events)) → IsSome later → MayAll (opened keys (records_of keys lives)) events
+    → HostsKeepWell (opened keys (records_of keys lives)) events → GoesOn keys many later (lives ++ events ∷ [])
+leaves_life keys number many before told later lives events on still adds some may well =
     let here = opened keys (records_of keys lives) in
     let last : last_of_lives keys (opened keys []) [] lives ≡ here = last_opened keys [] lives in
     record {
       are = one_more keys (opened keys []) [] lives events on.are (subst (λ (h : HostState). MayAll h events) (sym last) may)
           (subst (λ (h : HostState). AllOfJoined h events) (sym last) (of_joined here events well));
-      kept = subst (λ (l : List Record). HasRecords many after l)
+      kept = subst (λ (l : List Record). HasRecords many later l)
           (ap (λ (h : HostState). records_of keys lives ++ records_all h events) (sym last) ∙ sym (more_records keys (opened keys []) [] lives events))
-          (told_more before told after (records_of keys lives) (records_all here events) number many on.kept still adds some (texts_of_range (records_all here events) (in_range here events well)));
+          (told_more before told later (records_of keys lives) (records_all here events) number many on.kept still adds some (texts_of_range (records_all here events) (in_range here events well)));
     }
 
 -- ---- records
