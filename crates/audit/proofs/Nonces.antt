@@ -26,10 +26,10 @@ count-from before (nonce ∷ nonces) = let e = count-from (counted before (Some 
 pub count-is : (nonces : List (List ℕ)) → (shown_by nonces).count ≡ news_after None nonces
 count-is nonces = let e : (shown_by nonces).count ≡ 0 + news_after None nonces = count-from no_nonces nonces in omega (arith, e)
 
-pub shown-from-more : (before : Shown) (nonces : List (List ℕ)) (nonce : Option (List ℕ)) → shown_from before (nonces ++ listed nonce) ≡ counted (shown_from before nonces) nonce
+pub shown-from-more : (before : Shown) (nonces : List (List ℕ)) (found : Option (List ℕ)) → shown_from before (nonces ++ listed found) ≡ counted (shown_from before nonces) found
 shown-from-more before [] None = refl
 shown-from-more before [] (Some nonce) = refl
-shown-from-more before (first ∷ nonces) nonce = shown-from-more (counted before (Some first)) nonces nonce
+shown-from-more before (first ∷ nonces) found = shown-from-more (counted before (Some first)) nonces found
 
 -- the nonces that an entry shows
 abbrev pub showing_of : ℕ → ℕ → AirFrame → List (List ℕ)
@@ -42,27 +42,27 @@ nonces-more sender receiver past entry =
     ∙ flat_map-append (showing_of sender receiver) (frames past) (frame_at entry)
 
 -- one nonce more in a table, of the nodes of a way
-pub table-more : (table : List Shown) (is_shown : Bool) (at n : ℕ) (nonce : Option (List ℕ)) (before : List (List ℕ)) → at < length table →
+pub table-more : (table : List Shown) (is_shown : Bool) (at n : ℕ) (found : Option (List ℕ)) (before : List (List ℕ)) → at < length table →
     shown_at table n ≡ shown_by before →
-    shown_at (shown_if is_shown at nonce table) n ≡ shown_by (before ++ cond (is_shown && eqb at n) (listed nonce) [])
-table-more table false at n nonce before within is = is ∙ ap shown_by (sym (append-nil before))
-table-more table true at n nonce before within is =
+    shown_at (shown_if is_shown at found table) n ≡ shown_by (before ++ cond (is_shown && eqb at n) (listed found) [])
+table-more table false at n found before within is = is ∙ ap shown_by (sym (append-nil before))
+table-more table true at n found before within is =
     ⊎_elim
     (λ (e : at ≡ n).
-    ap (λ m. shown_at (set table at (counted (shown_at table at) nonce)) m) (sym e)
-    ∙ get_or-set_same table at (counted (shown_at table at) nonce) no_nonces within
-    ∙ ap (λ s. counted s nonce) (ap (shown_at table) e ∙ is)
-    ∙ sym (shown-from-more no_nonces before nonce)
-    ∙ ap (λ b. shown_by (before ++ cond b (listed nonce) [])) (sym (eq-eqb at n e)))
+    ap (λ m. shown_at (set table at (counted (shown_at table at) found)) m) (sym e)
+    ∙ get_or-set_same table at (counted (shown_at table at) found) no_nonces within
+    ∙ ap (λ s. counted s found) (ap (shown_at table) e ∙ is)
+    ∙ sym (shown-from-more no_nonces before found)
+    ∙ ap (λ b. shown_by (before ++ cond b (listed found) [])) (sym (eq-eqb at n e)))
     (λ (ne : at ≡ n → ⊥).
-    get_or-set_other table at n (counted (shown_at table at) nonce) no_nonces (λ e. ne (sym e))
+    get_or-set_other table at n (counted (shown_at table at) found) no_nonces (λ e. ne (sym e))
     ∙ is ∙ ap shown_by (sym (append-nil before))
-    ∙ ap (λ b. shown_by (before ++ cond b (listed nonce) [])) (sym (ne_eqb at n ne)))
+    ∙ ap (λ b. shown_by (before ++ cond b (listed found) [])) (sym (ne_eqb at n ne)))
     (cases_eq at n)
 
-pub places-shown : (table : List Shown) (is_shown : Bool) (at : ℕ) (nonce : Option (List ℕ)) → length (shown_if is_shown at nonce table) ≡ length table
-places-shown table false at nonce = refl
-places-shown table true at nonce = length-set table at (counted (shown_at table at) nonce)
+pub places-shown : (table : List Shown) (is_shown : Bool) (at : ℕ) (found : Option (List ℕ)) → length (shown_if is_shown at found table) ≡ length table
+places-shown table false at found = refl
+places-shown table true at found = length-set table at (counted (shown_at table at) found)
 
 and-swap : (a b : Bool) → (a && b) ≡ (b && a)
 and-swap true true = refl

@@ -38,8 +38,8 @@ counted before (Some nonce) = record { count = before.count + (if is_news before
 
 -- the nonces of all nodes with one more of that node, where it is shown there
 abbrev pub shown_if : Bool → ℕ → Option (List ℕ) → List Shown → List Shown
-shown_if true node nonce table = slice_set table node (counted (shown_at table node) nonce)
-shown_if false node nonce table = table
+shown_if true node found table = slice_set table node (counted (shown_at table node) found)
+shown_if false node found table = table
 
 -- how many new nonces a node and the controller have shown each other
 abbrev pub shown_count : Flying → ℕ → ℕ

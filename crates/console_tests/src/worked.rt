@@ -70,15 +70,15 @@ fn run_words<S: Source, K: Sink>(
     run(alloc, words, source, sink, devices, KEY, draw, keeper)
 }
 
-/// Runs the command of these words over the switch of node 2.
-fn ended<S: Source, K: Sink>(
+/// Runs the command of these words, with a bar between each two, over the switch of node 2.
+pub(crate) fn ended<S: Source, K: Sink>(
     alloc: Global,
     words: &str,
     source: &mut S,
     sink: &mut K,
 ) -> Result<Status, Fail> {
     let mut list = Vec::new(alloc);
-    for word in words.split_whitespace() {
+    for word in words.split('|') {
         list.push(String::from_str(alloc, word)?)?;
     }
     let mut devices: Vec<Box<dyn Device>> = Vec::new(alloc);
@@ -126,14 +126,14 @@ fn commands_answer(rt: HostRuntime) -> Result<(), Fail> {
             "> set 3 on\nrefused notjoined\nbadline 2 Unknown\n",
         ),
         (
-            "sim --quiet",
+            "sim|--quiet",
             SWITCHES_ON,
             Status::Ok,
             "> set 2 on\naccepted 1 node 2\nbegin 2 1 1\n> tick 2\nt 1\ndev 2 1 0/switch 255\nt 2\nout 1 success\nstore 2 0/switch 255\nend 2\nnode 2 sessions 1\nvalue 2 0/switch confirmed 255 heard -\ndevice 2 0/switch 255\n",
         ),
         ("check", "01030015E8", Status::Ok, "badsum want E9 got E8\n"),
         (
-            "check --from host",
+            "check|--from|host",
             "01030015E9",
             Status::Ok,
             "frame request 15 -\n  body ok\n",
@@ -152,7 +152,7 @@ fn commands_answer(rt: HostRuntime) -> Result<(), Fail> {
             Status::Ok,
             "> chip 010B00040002056C0201FF0066\nh 15\nend 0\nnode 2 sessions -\n",
         ),
-        ("host wait", "", missing, ""),
+        ("host|wait", "", missing, ""),
         ("audit", "", Status::Ok, "yes\n"),
         (
             "audit",

@@ -15,10 +15,13 @@ ghost use Rattle.zw_machine.specs.Events.{Event, happens, entries, May};
 ghost use Rattle.once_facts.specs.Tied.{AllTied, AreTied};
 ghost use Rattle.said_facts.specs.Said.{LinesTell};
 ghost use Rattle.said_facts.specs.Spoken.{Spoken, AreSpoken, after_all, transcript_of};
+ghost use Rattle.run_facts.specs.Premises.{AllDrawBytes, AreFew};
+ghost use Rattle.listing_facts.specs.Lines.{AreDone, events_of};
 ghost use Rattle.headline_facts.specs.Truly.{IsTrue, LinesAreTrue};
 
 use device_facts::{changes_are_shown, devices_go_on, devices_stay_the_same};
 use host_facts::{asides_keep_facts, events_keep_facts};
+use listing_facts::lines_tell_what_nodes_list;
 use once_facts::{devices_change_in_sessions, endings_are_shown, headlines_follow};
 use said_facts::{
     answers_stand_behind_their_lines, interviews_give_what_is_known, runs_have_their_tables,
@@ -77,4 +80,22 @@ pub fn runs_have_the_headline()
     runs_have_their_tables();
     runs_report_after_the_change();
     headlines_follow();
+}
+
+/// So over any lines that were read, over a keeper that tells its records and has none at first: nothing is premised of interviews and of restarts then, but that the keeper
+/// holds fewer than 2 ^ 32 records in the end and what is drawn is bytes. Of each supervised device that is tied in the end, and the whole.
+pub fn lines_have_the_headline()
+    ensures one { (keys : Keys) (devices : List State) (lines : List Spoken) (node : ℕ) (device : State) → AreUnchanged devices → AreDone (first_machine keys (Some []) devices) lines →
+        AllDrawBytes (first_machine keys (Some []) devices) (events_of lines) → AreFew (after_all (first_machine keys (Some []) devices) lines).records →
+        device_of node (after_all (first_machine keys (Some []) devices) lines).outside.devices ≡ Some device → is_supervised device ≡ true →
+        AreTied (after_all (first_machine keys (Some []) devices) lines).host.state node device →
+        HeadlineOf (listing_of devices) node (transcript_of (first_machine keys (Some []) devices) lines) device }
+    ensures whole { (keys : Keys) (devices : List State) (lines : List Spoken) → AreUnchanged devices → AreApart devices → AreDone (first_machine keys (Some []) devices) lines →
+        AllDrawBytes (first_machine keys (Some []) devices) (events_of lines) → AreFew (after_all (first_machine keys (Some []) devices) lines).records →
+        LinesAreTrue (first_machine keys (Some []) devices) lines →
+        AllTied (after_all (first_machine keys (Some []) devices) lines).host.state (after_all (first_machine keys (Some []) devices) lines).outside.devices →
+        Headline devices (after_all (first_machine keys (Some []) devices) lines).outside.devices (transcript_of (first_machine keys (Some []) devices) lines) }
+{
+    lines_tell_what_nodes_list();
+    runs_have_the_headline();
 }

@@ -1,0 +1,41 @@
+-- What interviews hear, and lines that are said one after another with no word of restarts (this project's own).
+use Rattle.std.specs.Prelude.{◌≡◌, ℕ, List, [], ◌∷◌, ◌++◌}
+use Rattle.std.specs.List.{AllByRecursion}
+use Rattle.zw_text.specs.declared.entry.Entry.TheVariants.{Said}
+use Rattle.zw_text.specs.Transcript.{line_of}
+use Rattle.host_events.specs.Events.{HostEvent, Interviews}
+use Rattle.zw_machine.specs.State.{Machine}
+use Rattle.zw_machine.specs.Events.{Event, Host_takes}
+use Rattle.zw_machine.specs.Did.{MayAll}
+use Rattle.zw_machine.specs.Lines.{IsLine}
+use Rattle.said_facts.specs.Spoken.{Spoken, after}
+
+-- ---- interviews
+
+-- an interview that ends well hears the list of its node
+abbrev pub HearsList : (ℕ → List ℕ) → HostEvent → Type 0
+HearsList listing (Interviews n listens classes update) = classes ≡ listing n
+HearsList listing event = Unit {0}
+
+-- so where the host takes bytes: elsewhere it ends no interview
+abbrev pub HearLists : (ℕ → List ℕ) → Event → Type 0
+HearLists listing (Host_takes count rest items events) = AllByRecursion (HearsList listing) events
+HearLists listing event = Unit {0}
+
+-- ---- lines
+
+-- the words are read as the line, and its events are those of such a line, and may happen
+pub record IsDone (m : Machine) (spoken : Spoken) : Type 0 where
+  pub read : line_of (Said spoken.words) ≡ spoken.line ∷ []
+  pub is_line : IsLine spoken.line m spoken.events
+  pub may : MayAll m spoken.events
+
+-- so of lines, one after another
+abbrev pub AreDone : Machine → List Spoken → Type 0
+AreDone m [] = Unit {0}
+AreDone m (spoken ∷ more) = IsDone m spoken × AreDone (after m spoken) more
+
+-- all their events, in order
+abbrev pub events_of : List Spoken → List Event
+events_of [] = []
+events_of (spoken ∷ more) = spoken.events ++ events_of more
