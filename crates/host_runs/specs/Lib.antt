@@ -1,0 +1,3 @@
+pub mod Lives
+pub mod Port
+pub mod Replay
