@@ -1,1 +1,4 @@
 pub mod Tying
+mod Beginning
+mod Carrying
+mod Knowing

@@ -4,6 +4,6 @@ mod Plain
 mod Saying
 mod Reading
 mod Outside
-mod Classes
+pub mod Classes
 pub mod Noting
 mod Knowing

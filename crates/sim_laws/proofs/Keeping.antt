@@ -20,11 +20,11 @@ use Rattle.sim_laws.specs.Laws.{Ran, events_of, transcript_from}
 
 -- ---- events of two lists
 
-may_front : (m : Machine) (a b : List Event) → MayAll m (a ++ b) → MayAll m a
+pub may_front : (m : Machine) (a b : List Event) → MayAll m (a ++ b) → MayAll m a
 may_front m [] b may = tt
 may_front m (e ∷ a) b may = (may.0, may_front (happens m e) a b may.1)
 
-may_rest : (m : Machine) (a b : List Event) → MayAll m (a ++ b) → MayAll (happens_all m a) b
+pub may_rest : (m : Machine) (a b : List Event) → MayAll m (a ++ b) → MayAll (happens_all m a) b
 may_rest m [] b may = may
 may_rest m (e ∷ a) b may = may_rest (happens m e) a b may.1
 

@@ -1,3 +1,4 @@
 pub mod Stories
 pub mod Keeping
 pub mod Reading
+pub mod Speaking

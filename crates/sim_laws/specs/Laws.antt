@@ -20,12 +20,15 @@ use Rattle.sim_run.specs.Sim.{SimRan}
 use Rattle.host_facts.specs.Facts.{AreShown}
 use Rattle.host_facts.specs.Laws.{HostLaws}
 use Rattle.host_facts.specs.Stores.{StoresLaw}
+use Rattle.device_sim.specs.State.{State}
 use Rattle.device_facts.specs.GoingOn.{AreInOrder, AreSame, TakeOnce}
 use Rattle.device_facts.specs.Showing.{AreApart, IsShown}
-use Rattle.zw_laws.specs.Headline.{IsAsMade}
+use Rattle.zw_laws.specs.Headline.{HeadlineOf, IsAsMade}
+use Rattle.zw_laws.specs.Nodes.{device_of, listing_of}
 use Rattle.world_facts.specs.Devices.{GroupsSessions}
 use Rattle.world_facts.specs.Restarts.{AllKeepWell, BeginsEmpty}
 use Rattle.run_facts.specs.Premises.{AllDrawBytes, AreFew}
+use Rattle.plain_nodes.specs.Plain.{IsPlainKind}
 use Rattle.sim_laws.specs.Around.{Around}
 
 -- `sim` ran so, with what it was given and what it leaves
@@ -159,6 +162,13 @@ abbrev pub GroupsChanges : Status → List ℕ → Around → Around → Type 0
 GroupsChanges ended key old new = Always ended key old new
     (λ story. AllByRecursion (IsAsMade key) old.devices → AreApart old.devices → AllByRecursion (GroupsSessions (transcript key old story)) new.devices)
 
+-- The headline: each device of a plain kind has applied a part of the commands accepted for its node, in order, each at most once; every command that is reported
+-- successful is in it; and where the last change of a property came from a command reported successful, the confirmed value is the device's.
+abbrev pub HasHeadline : Status → List ℕ → Around → Around → Type 0
+HasHeadline ended key old new = Always ended key old new
+    (λ story. IsWholeRun key old story → AllByRecursion (IsAsMade key) old.devices → AreApart old.devices → (node : ℕ) (device : State) → device_of node new.devices ≡ Some device →
+    IsPlainKind device.kind → HeadlineOf (listing_of old.devices) node (transcript key old story) device)
+
 -- ---- all of them
 
 -- What holds of every run of `sim`, at every status: its story, and the laws of every story that it has.
@@ -172,3 +182,4 @@ pub record KeepsLaws (ended : Status) (key : List ℕ) (old new : Around) : Type
   pub same : KeepsDevices ended key old new
   pub shown : ShowsChanges ended key old new
   pub groups : GroupsChanges ended key old new
+  pub headline : HasHeadline ended key old new

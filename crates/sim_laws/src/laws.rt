@@ -7,6 +7,7 @@ ghost use Rattle.sim_laws.specs.Laws.{
   AppliesOnce,
   ConfirmsValues,
   GroupsChanges,
+  HasHeadline,
   HasStory,
   KeepsDevices,
   KeepsLaws,
@@ -17,7 +18,9 @@ ghost use Rattle.sim_laws.specs.Laws.{
 };
 
 use host_facts::{asides_keep_facts, laws_follow};
+use plain_nodes::{devices_as_made_begin_courses, orders_go_plain, plain_nodes_have_the_headline};
 use run_facts::lines_keep_and_ask_well;
+use said_lines::lines_are_read_as_said;
 use world_facts::{restarts_go_on, runs_take_once, the_machine_keeps_facts};
 
 /// Every run of `sim` has a story, and each story that it has keeps the laws.
@@ -28,6 +31,7 @@ pub fn sim_keeps_laws()
     runs_keep_records();
     stories_keep_laws();
     stories_take_once();
+    stories_have_the_headline();
 }
 
 /// Each run of `sim` has a story: its lines, each with the events of the machine that it was.
@@ -61,5 +65,16 @@ fn stories_take_once()
     ensures shown { (ended : Status) (key : List ℕ) (old new : Around) → ShowsChanges ended key old new }
     ensures groups { (ended : Status) (key : List ℕ) (old new : Around) → GroupsChanges ended key old new }
 {
+    runs_take_once();
+}
+
+/// What is said of lines that were said is so of the story of a run, whose transcript has the words of each line.
+fn stories_have_the_headline()
+    ensures { (ended : Status) (key : List ℕ) (old new : Around) → HasHeadline ended key old new }
+{
+    lines_are_read_as_said();
+    devices_as_made_begin_courses();
+    orders_go_plain();
+    plain_nodes_have_the_headline();
     runs_take_once();
 }

@@ -1,0 +1,8 @@
+use Rattle.plain_nodes.proofs.Beginning.{all_unchanged, begins_course}
+use Rattle.plain_nodes.proofs.devices.devices_as_made_begin_courses.Goals as goal
+
+pub returns-clause-begins : goal.returns-clause-begins
+returns-clause-begins c = begins_course c.devices_follow_the_course.ensures.fresh
+
+pub returns-clause-unchanged : goal.returns-clause-unchanged
+returns-clause-unchanged c = all_unchanged

@@ -1,0 +1,15 @@
+-- What interviews tell, and what is known at first.
+use Rattle.std.proofs.Common.{ℕ, List, [], Some}
+use Rattle.zw_laws.specs.Nodes.{listing_of}
+use Rattle.zw_machine.specs.State.{first_machine}
+use Rattle.host_events.specs.State.{first_host}
+use Rattle.said_facts.proofs.Classes.{classes_of}
+use Rattle.plain_nodes.proofs.Knowing.{events_plain, first_open, listing_open}
+use Rattle.plain_nodes.proofs.orders.orders_go_plain.Goals as goal
+
+pub returns : goal.returns
+returns c = λ keys devices lines events node device read are may drawn few found plain.
+    let listing : ℕ → List ℕ = listing_of devices in
+    events_plain c.a_restart_needs_the_records_alone.ensures.others listing node (listing_open devices node device found plain) (first_machine keys (Some []) devices) events may
+    (c.interviews_tell_what_nodes_list.ensures.tell keys devices lines events read are may drawn few)
+    (first_open node (classes_of (first_host keys).nodes node) (c.interviews_give_what_is_known.ensures.first listing keys node))

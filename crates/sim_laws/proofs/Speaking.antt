@@ -1,0 +1,91 @@
+-- A story as lines that were said: the words that are entered of a line are read as it.
+use Rattle.std.proofs.Common.{◌≡◌, ℕ, ◌==◌, Bool, true, false, if◌then◌else◌, List, [], ◌∷◌, ◌++◌, map, Option, Some, None, Ok, refl, sym, ap, subst, ◌∙◌}
+use Rattle.std.specs.List.{AllByRecursion, AllZip}
+use Rattle.zw_text.specs.Line.{line_at}
+use Rattle.zw_text.specs.Transcript.{read_as}
+use Rattle.zw_text.specs.declared.line.Line.{Line}
+use Rattle.zw_text.specs.declared.entry.Entry.{Entry}
+use Rattle.zw_text.specs.declared.entry.Entry.TheVariants.{Said}
+use Rattle.device_stack.specs.declared.kind.Kind.{Kind}
+use Rattle.device_sim.specs.State.{State}
+use Rattle.device_facts.specs.GoingOn.{AreSame, IsSame}
+use Rattle.zw_laws.specs.Nodes.{device_of}
+use Rattle.zw_machine.specs.State.{Machine}
+use Rattle.zw_machine.specs.Events.{Event}
+use Rattle.zw_machine.specs.Did.{happens_all, entries_all, MayAll}
+use Rattle.zw_machine.proofs.Doing.{happens_all-append}
+use Rattle.entry_pieces.specs.Pieces.{said_text}
+use Rattle.said_facts.specs.Spoken.{Spoken, after_all, transcript_of}
+use Rattle.listing_facts.specs.Lines.{AreDone, events_of as events_said}
+use Rattle.listing_facts.proofs.Speaking.{all_after}
+use Rattle.sim_laws.specs.Laws.{Ran, events_of, transcript_from, AreSchedules}
+use Rattle.sim_laws.proofs.Keeping.{may_front, may_rest}
+use Rattle.sim_laws.proofs.Reading.{AreRead}
+
+-- ---- the same story
+
+-- a line as it was said
+abbrev pub said_of : Ran → Spoken
+said_of ran = record { words = said_text ran.line.text; line = ran.line.line; events = ran.events }
+
+abbrev pub all_said : List Ran → List Spoken
+all_said [] = []
+all_said (ran ∷ more) = said_of ran ∷ all_said more
+
+pub same_events : (story : List Ran) → events_said (all_said story) ≡ events_of story
+same_events [] = refl
+same_events (ran ∷ more) = ap (λ (l : List Event). ran.events ++ l) (same_events more)
+
+pub same_transcript : (m : Machine) (story : List Ran) → transcript_of m (all_said story) ≡ transcript_from m story
+same_transcript m [] = refl
+same_transcript m (ran ∷ more) = ap (λ (l : List Entry). Said (said_text ran.line.text) ∷ (entries_all m ran.events ++ l)) (same_transcript (happens_all m ran.events) more)
+
+pub same_machine : (m : Machine) (story : List Ran) → after_all m (all_said story) ≡ happens_all m (events_of story)
+same_machine m story = all_after m (all_said story) ∙ ap (λ (l : List Event). happens_all m l) (same_events story)
+
+-- ---- they were said and done
+
+abbrev ReadAgain : Type 0
+ReadAgain = (text : List ℕ) (line : Line) → line_at text ≡ Ok (Some line) → line_at (said_text text) ≡ Ok (Some line)
+
+pub all_done : ReadAgain → (m : Machine) (story : List Ran) → AreRead story → AreSchedules m story → MayAll m (events_of story) → AreDone m (all_said story)
+all_done again m [] read are may = tt
+all_done again m (ran ∷ more) read are may = (
+  record {
+    read = ap read_as (again ran.line.text ran.line.line read.0);
+    is_line = are.0;
+    may = may_front m ran.events (events_of more) may;
+  },
+  all_done again (happens_all m ran.events) more read.1 are.1 (may_rest m ran.events (events_of more) may),
+)
+
+-- ---- devices
+
+-- the device that a node had
+pub record Was (node : ℕ) (old : List State) (device : State) : Type 0 where
+  pub before : State
+  pub found : device_of node old ≡ Some before
+  pub kind : device.kind ≡ before.kind
+
+was_by : (hit : Bool) (node : ℕ) (was now : State) (old new : List State) (device : State) → IsSame was now → (now.node == node) ≡ hit → (device_of node new ≡ Some device → Was node old device)
+    → (if hit then Some now else device_of node new) ≡ Some device → Was node (was ∷ old) device
+was_by true node was now old new device same is more e =
+    let one : now ≡ device = cc in
+    record {
+      before = was;
+      found = ap (λ (b : Bool). if b then Some was else device_of node old) (ap (λ (n : ℕ). n == node) (sym same.node) ∙ is);
+      kind = ap (λ (d : State). d.kind) (sym one) ∙ same.kind;
+    }
+was_by false node was now old new device same is more e =
+    let later = more e in
+    record {
+      before = later.before;
+      found = ap (λ (b : Bool). if b then Some was else device_of node old) (ap (λ (n : ℕ). n == node) (sym same.node) ∙ is) ∙ later.found;
+      kind = later.kind;
+    }
+
+pub was_there : (node : ℕ) (old new : List State) (device : State) → AreSame old new → device_of node new ≡ Some device → Was node old device
+was_there node [] [] device same e = absurd cc
+was_there node [] (now ∷ new) device same e = absurd same
+was_there node (was ∷ old) [] device same e = absurd same
+was_there node (was ∷ old) (now ∷ new) device same e = was_by (now.node == node) node was now old new device same.0 refl (was_there node old new device same.1) e
