@@ -8,7 +8,7 @@ use Rattle.zw_text.specs.declared.line.Line.TheVariants.{Command, Get}
 use Rattle.zw_text.specs.Line.{EndStands, LineWords, line_at}
 use Rattle.zw_text.proofs.TextLaws.{line_takes}
 use Rattle.host_events.specs.Events.{HostEvent, Accepts, Queues, Requests_do, Finishes}
-use Rattle.zw_machine.specs.Events.{Event, Host_does, Restarts}
+use Rattle.zw_machine.specs.Events.{Event, Host_does}
 use Rattle.node_course.specs.Host.{AsksPlainly}
 use Rattle.node_course.specs.HostGoing.{EndsNone}
 use Rattle.node_course.specs.World.{IsPlainly, EndsByHearing, OrderPlain, OrdersPlain, NamesEnd, IsOfLine, ComesOfLine}
@@ -52,7 +52,6 @@ event_ends Near node event is = tt
 
 event_plain : (node : ℕ) (event : Event) → ComesOfLine (Unit {0}) node event → OrdersPlain node event → IsPlainly node event
 event_plain node (Host_does event) is plain = asks_plainly node event is plain
-event_plain node (Restarts state) is plain = absurd plain
 event_plain node event is plain = tt
 
 pub events_end : (Near : Type 0) (node : ℕ) (events : List Event) → AllByRecursion (ComesOfLine Near node) events → AllByRecursion (EndsByHearing node) events

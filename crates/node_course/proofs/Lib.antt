@@ -18,6 +18,7 @@ pub mod HostEvents
 pub mod HostEntries
 pub mod HostJudging
 pub mod HostItems
+pub mod Restarting
 pub mod Whole
 pub mod Hearing
 pub mod Asking

@@ -121,7 +121,7 @@ works_keeps cs o n id works as_was = told_keeps cs o n 1 (told_of n.book id 1) (
 
 -- ---- the nodes
 
-get_set : {A : Type 0} (P : A → Type 0) (xs : List A) (k n : ℕ) (y d : A) → P (get_or xs n d) → (k ≡ n → P y) → P (get_or (set xs k y) n d)
+pub get_set : {A : Type 0} (P : A → Type 0) (xs : List A) (k n : ℕ) (y d : A) → P (get_or xs n d) → (k ≡ n → P y) → P (get_or (set xs k y) n d)
 get_set P [] k n y d was is = was
 get_set P (x ∷ xs) zero zero y d was is = is refl
 get_set P (x ∷ xs) zero (suc n) y d was is = was

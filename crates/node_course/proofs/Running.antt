@@ -1,5 +1,5 @@
 -- The machine at first, and lines from there on, in the course of one node.
-use Rattle.std.proofs.Common.{◌≡◌, ℕ, zero, suc, ◌<◌, true, Option, Some, None, List, [], ◌∷◌, get_or, refl, sym, subst, arith}
+use Rattle.std.proofs.Common.{◌≡◌, ℕ, zero, suc, ◌<◌, Option, Some, List, [], ◌∷◌, refl, sym, subst, arith}
 use Rattle.std.specs.Prelude.{slice_get}
 use Rattle.std.specs.List.{AllByRecursion}
 use Rattle.s0_crypto.specs.declared.key_pair.Keys.{Keys}
@@ -12,11 +12,7 @@ use Rattle.serial_frame.specs.declared.item.Item.{Item}
 use Rattle.serial_link.specs.declared.turn.Turn.TheVariants as turns
 use Rattle.zw_text.specs.declared.line.Line.{Line}
 use Rattle.device_sim.specs.State.{State}
-use Rattle.host_node.specs.State.{unknown}
-use Rattle.host_node.specs.Events.NodeEvent.{Joins as node_joins, Interviews as node_interviews}
-use Rattle.host_nodes.specs.State.{unknown_nodes, unknown_from}
-use Rattle.host_events.specs.State.{HostState, first_nodes, first_classes, first_host, node_of}
-use Rattle.host_events.specs.After.{node_does}
+use Rattle.host_events.specs.State.{first_host}
 use Rattle.host_facts.specs.Facts.{Facts}
 use Rattle.outer_events.specs.State.{outside, first_outer}
 use Rattle.outer_traffic.specs.Traffic.{AreNodes}
@@ -25,14 +21,14 @@ use Rattle.zw_machine.specs.Events.{Event}
 use Rattle.zw_machine.specs.Did.{happens_all, MayAll}
 use Rattle.line_facts.specs.Line.{AllWriteWell, AllAtRest, AreLines, Stays}
 use Rattle.line_facts.specs.Host.{AllAskWell}
+use Rattle.world_facts.specs.Restarts.{AllKeepWell, BeginsEmpty, IsHeld}
 use Rattle.world_traffic.specs.OnAir.{AlwaysFew}
 use Rattle.node_course.specs.Meaning.{Asked}
 use Rattle.node_course.specs.Making.{MakesAsked}
 use Rattle.node_course.specs.Mesh.{HasDevice}
 use Rattle.node_course.specs.Outside.{Follows}
-use Rattle.node_course.specs.Host.{NodeAs}
 use Rattle.node_course.specs.World.{WorldFollows, WorldGoes, HasCourse, IsPlainly, EndsByHearing}
-use Rattle.node_course.proofs.NodeKeeping.{SameHost, does_same}
+use Rattle.node_course.proofs.Restarting.{first_as}
 use Rattle.node_course.proofs.Taken.{changes_taken}
 
 -- ---- at first
@@ -41,31 +37,13 @@ none_told : (session status : ℕ) → session_at [] session ≡ Some status →
 none_told zero status e = absurd (grind (arith, e))
 none_told (suc before) status e = absurd (grind (arith, e))
 
-from_as : (start count at : ℕ) → NodeAs [] None (get_or (unknown_from start count) at (unknown 0))
-from_as start zero at = (refl, (refl, (refl, refl)))
-from_as start (suc count) zero = (refl, (refl, (refl, refl)))
-from_as start (suc count) (suc at) = from_as (suc start) count at
-
-unknown_as : (at : ℕ) → NodeAs [] None (get_or unknown_nodes at (unknown 0))
-unfolding unknown_nodes
-unknown_as zero = (refl, (refl, (refl, refl)))
-unknown_as (suc at) = from_as 1 232 at
-
-first_as : (keys : Keys) (node : ℕ) → NodeAs [] None (node_of (first_host keys) node)
-unfolding first_nodes
-first_as keys node =
-    let base : HostState = record (first_host keys) { nodes = unknown_nodes } in
-    let joined : HostState = node_does base 2 node_joins in
-    let one : SameHost node base joined = does_same node base 2 node_joins tt in
-    let two : SameHost node joined (node_does joined 2 (node_interviews true first_classes)) = does_same node joined 2 (node_interviews true first_classes) tt in
-    two.node_as [] None (one.node_as [] None (unknown_as node))
-
 -- the laws that are used
 pub record Laws : Type 0 where
   pub outside_first : (node : ℕ) (devices : List State) → HasDevice node first_course devices → Follows node [] first_course no_rest turns.Idle [] [] (outside first_outer devices)
   pub facts_first : (keys : Keys) → Facts [] (first_host keys)
-  pub events : (node : ℕ) (orders : List Asked) (c : Course) (up down : List Item) (m : Machine) (events : List Event) → node < 233 → WorldFollows node orders c up down m → MayAll m events → AllAtRest m events →
-      AllWriteWell m events → AlwaysFew m events → AllByRecursion (IsPlainly node) events → AllByRecursion (EndsByHearing node) events → WorldGoes node c (happens_all m events)
+  pub held_first : (keys : Keys) (records : Option (List (List ℕ))) → BeginsEmpty records → IsHeld (first_host keys) records
+  pub events : (node : ℕ) (orders : List Asked) (c : Course) (up down : List Item) (m : Machine) (events : List Event) → node < 233 → WorldFollows node orders c up down m → IsHeld m.host.state m.records → MayAll m events → AllAtRest m events →
+      AllWriteWell m events → AlwaysFew m events → AllKeepWell m events → AllByRecursion (IsPlainly node) events → AllByRecursion (EndsByHearing node) events → WorldGoes node c (happens_all m events)
   pub stays : (keys : Keys) (records : Option (List (List ℕ))) (devices : List State) (lines : List Line) (events : List Event) → AreLines lines (first_machine keys records devices) events → MayAll (first_machine keys records devices) events →
       AllWriteWell (first_machine keys records devices) events → Stays (first_machine keys records devices) events
   pub writes : (keys : Keys) (records : Option (List (List ℕ))) (devices : List State) (events : List Event) → MayAll (first_machine keys records devices) events → AllAskWell (first_machine keys records devices) events →
@@ -96,12 +74,13 @@ module _ (laws : Laws) (node : ℕ) (within : node < 233) (keys : Keys) (records
     outcomes = λ session number status at is. absurd (none_told session status is);
   }
 
-  pub lines_have : (lines : List Line) (events : List Event) → AreLines lines first events → MayAll first events → AllAskWell first events → AllByRecursion (IsPlainly node) events → HasCourse node (happens_all first events)
-  lines_have lines events are may asks plain =
+  pub lines_have : (lines : List Line) (events : List Event) → BeginsEmpty records → AreLines lines first events → MayAll first events → AllAskWell first events → AllKeepWell first events → AllByRecursion (IsPlainly node) events
+      → HasCourse node (happens_all first events)
+  lines_have lines events empty are may asks keeps plain =
       let well : AllWriteWell first events = laws.writes keys records devices events may asks in
       let rests : Stays first events = laws.stays keys records devices lines events are may well in
       let few : AlwaysFew first events = laws.few keys records devices lines events (nodes_of devices has.nodes) are may asks in
-      let g : WorldGoes node first_course (happens_all first events) = laws.events node [] first_course [] [] first events within first_follows may rests.at_rest well few plain (laws.ends node lines first events are) in
+      let g : WorldGoes node first_course (happens_all first events) = laws.events node [] first_course [] [] first events within first_follows (laws.held_first keys records empty) may rests.at_rest well few keeps plain (laws.ends node lines first events are) in
       record {
         orders = g.orders;
         course = g.later;

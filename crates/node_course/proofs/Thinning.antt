@@ -4,6 +4,7 @@ use Rattle.std.specs.List.{remove}
 use Rattle.supervision.specs.Ends.{Report}
 use Rattle.courses.specs.Ways.{doubled}
 use Rattle.courses.specs.Sessions.{Course, Message, Step, Up_loses, Up_doubles, Down_loses, Down_doubles, after, after_all, May, MayAll}
+use Rattle.courses.specs.SessionFacts.{CourseFacts}
 use Rattle.node_course.specs.Ways.{Thinned, Goes}
 
 -- ---- courses one after another
@@ -28,6 +29,13 @@ goes_on a b c first later = record {
 
 pub goes_once : (a : Course) (step : Step) → May a step → Goes a (after a step)
 goes_once a step may = record { steps = step ∷ []; may = (may, tt); is = refl }
+
+-- the facts of courses
+abbrev pub CourseLaw : Type 0
+CourseLaw = (c : Course) (steps : List Step) → CourseFacts c → MayAll c steps → CourseFacts (after_all c steps)
+
+pub course_goes : CourseLaw → (c later : Course) → CourseFacts c → Goes c later → CourseFacts later
+course_goes law c later course goes = subst (λ (x : Course). CourseFacts x) (sym goes.is) (law c goes.steps course goes.may)
 
 -- ---- places of a list
 

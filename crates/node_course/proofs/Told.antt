@@ -132,7 +132,7 @@ recorded_over Fail status e = e
 recorded_over NoSupport status e = e
 recorded_over Cancelled status e = e
 
-over_recorded : (status : FinalStatus) → recorded (outcome_of status) ≡ outcome_of status
+pub over_recorded : (status : FinalStatus) → recorded (outcome_of status) ≡ outcome_of status
 over_recorded final.NoSupport = refl
 over_recorded final.Fail = refl
 over_recorded final.Success = refl

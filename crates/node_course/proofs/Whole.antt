@@ -2,7 +2,7 @@
 use Rattle.std.proofs.Common.{◌≡◌, ℕ, ◌<◌, true, List, [], ◌∷◌, ◌++◌, drop, refl, ap, sym, ◌∙◌, subst, append-nil}
 use Rattle.std.specs.List.{AllByRecursion}
 use Rattle.supervision.specs.Host.{HostBook}
-use Rattle.courses.specs.Sessions.{Course, Step, after_all as after_all_steps, MayAll as MayAllSteps}
+use Rattle.courses.specs.Sessions.{Course}
 use Rattle.courses.specs.SessionFacts.{CourseFacts}
 use Rattle.serial_frame.specs.Items.{IsUnit}
 use Rattle.serial_frame.specs.Stream.{Rest, no_rest, after_tick}
@@ -26,6 +26,7 @@ use Rattle.host_events.specs.After.{after as after_host}
 use Rattle.host_events.specs.Outs.{outs}
 use Rattle.host_events.specs.Did.{after_all, outs_all, MayAll as MayAllHost}
 use Rattle.host_events.specs.May.{May as MayHost}
+use Rattle.host_events.specs.Facts.{HostFacts}
 use Rattle.host_events.specs.Taking.{AreJudged}
 use Rattle.host_events.specs.declared.out.HostOut.{HostOut}
 use Rattle.zw_machine.specs.State.{Machine, with_outside, routed}
@@ -37,8 +38,8 @@ use Rattle.line_facts.specs.Chip.{HasFrames}
 use Rattle.line_facts.proofs.Outer.{Written}
 use Rattle.line_facts.proofs.Reading.{LeftOf}
 use Rattle.line_facts.proofs.Ways.{carries_left}
+use Rattle.world_facts.specs.Restarts.{StartsWell, KeepsWell, AllKeepWell, IsHeld}
 use Rattle.world_traffic.specs.OnAir.{OuterStaysFew, EventStaysFew, AlwaysFew}
-use Rattle.node_course.specs.Ways.{Goes}
 use Rattle.node_course.specs.Meaning.{Asked}
 use Rattle.node_course.specs.Air.{OnAir}
 use Rattle.node_course.specs.Making.{AllMake}
@@ -50,17 +51,10 @@ use Rattle.once_facts.specs.Tied.{AreOutcomes}
 use Rattle.node_course.specs.Told.{HasPast}
 use Rattle.node_course.specs.HostGoing.{HostFollows, HostGoes, EndsNone, UnitsAll, AllWell}
 use Rattle.node_course.specs.World.{WorldFollows, WorldGoes, IsPlainly, EndsByHearing}
-use Rattle.node_course.proofs.Thinning.{goes_nowhere, goes_on}
+use Rattle.node_course.proofs.Thinning.{CourseLaw, course_goes, goes_nowhere, goes_on}
 use Rattle.node_course.proofs.HostDoing.{SameAir, note_air}
 use Rattle.node_course.proofs.Told.{PastLaws, past_kept}
-
--- ---- the facts of courses
-
-abbrev CourseLaw : Type 0
-CourseLaw = (c : Course) (steps : List Step) → CourseFacts c → MayAllSteps c steps → CourseFacts (after_all_steps c steps)
-
-course_goes : CourseLaw → (c later : Course) → CourseFacts c → Goes c later → CourseFacts later
-course_goes law c later course goes = subst (λ (x : Course). CourseFacts x) (sym goes.is) (law c goes.steps course goes.may)
+use Rattle.node_course.proofs.Restarting.{Laws as RestartLaws, restart_goes}
 
 -- ---- entries alone
 
@@ -203,7 +197,8 @@ pub record Laws : Type 0 where
   pub judges : (node : ℕ) (orders : List Asked) (c : Course) (rest : Rest) (up down items : List Item) (h : HostState) (w : Outside) (events : List HostEvent) → node < 233 → HostFollows node orders c rest up items down h w → HasPast h → CourseFacts c →
       AllWell h events → AreJudged h items events → HostGoes node c rest [] down (after_all h events) (happens_all_outside w (routed (outs_all h events)))
   pub past : PastLaws
-  pub course : CourseLaw
+  pub restart : RestartLaws
+  pub held : (m : Machine) (event : Event) → HostFacts m.host.state → IsHeld m.host.state m.records → May m event → KeepsWell m event → StartsWell m event × IsHeld (happens m event).host.state (happens m event).records
 
 module _ (laws : Laws) (node : ℕ) (within : node < 233) where
   past_all : (h : HostState) (events : List HostEvent) → HasPast h → MayAllHost h events → HasPast (after_all h events)
@@ -226,7 +221,7 @@ module _ (laws : Laws) (node : ℕ) (within : node < 233) where
           host = subst (λ (b : HostBook). AtHost node orders b m.host.state) (sym g.host) f.host;
           facts = f.facts;
           past = f.past;
-          course = course_goes laws.course c g.later f.course g.goes;
+          course = course_goes laws.restart.course c g.later f.course g.goes;
           outcomes = subst (λ (told : List ℕ). AreOutcomes m.host.state.commands g.later.host.commands told) (sym g.told)
               (subst (λ (b : HostBook). AreOutcomes m.host.state.commands b.commands c.told) (sym g.host) f.outcomes);
         };
@@ -242,7 +237,7 @@ module _ (laws : Laws) (node : ℕ) (within : node < 233) where
       laws.does node orders c m.host.decoder up down h m.outside event (at_host node orders c up down m f) f.past f.course may asks none one in
       let same : HostGoes node c m.host.decoder [] down (after_host h event) (happens_all_outside m.outside (routed (outs_all h (event ∷ [])))) =
       subst (λ (os : List HostOut). HostGoes node c m.host.decoder [] down (after_host h event) (happens_all_outside m.outside (routed os))) (sym (append-nil (outs h event))) g in
-      in_world node laws.course c down (happens m (Host_does event)) f.course (past_kept laws.past h event f.past may)
+      in_world node laws.restart.course c down (happens m (Host_does event)) f.course (past_kept laws.past h event f.past may)
       (notes_go node c m.host.decoder down (after_host h event) (happens_all_outside m.outside (routed (outs_all h (event ∷ [])))) (answers h event) same)
 
   takes_goes : (orders : List Asked) (c : Course) (up down : List Item) (m : Machine) (count : ℕ) (rest : Rest) (items : List Item) (events : List HostEvent) → WorldFollows node orders c up down m → MayTake m count rest items events
@@ -251,7 +246,7 @@ module _ (laws : Laws) (node : ℕ) (within : node < 233) where
   takes_goes orders c up down m count rest items events f may units =
       let h : HostState = m.host.state in
       let left = carries_left m.host.decoder rest count m.outside.outer.to_host down items may.feeds f.outside.to_host in
-      in_world node laws.course c left.left (happens m (Host_takes count rest items events)) f.course (past_all h events f.past may.may)
+      in_world node laws.restart.course c left.left (happens m (Host_takes count rest items events)) f.course (past_all h events f.past may.may)
       (laws.judges node orders c rest up left.left items h (happens_outside m.outside (host_takes count)) events within (fed_follows node orders c up down m count rest items left f) f.past f.course
       (record { may = may.may; units = units_each h events units }) may.judged)
 
@@ -270,23 +265,27 @@ module _ (laws : Laws) (node : ℕ) (within : node < 233) where
 
   enters_goes : (orders : List Asked) (c : Course) (up down : List Item) (m : Machine) (e : Entry) → WorldFollows node orders c up down m → WorldGoes node c (with_outside m (happens_outside m.outside (Host_notes e)))
   enters_goes orders c up down m e f =
-      in_world node laws.course c down (with_outside m (happens_outside m.outside (Host_notes e))) f.course f.past (note_goes node c m.host.decoder down m.host.state m.outside e (still node orders c up down m f))
+      in_world node laws.restart.course c down (with_outside m (happens_outside m.outside (Host_notes e))) f.course f.past (note_goes node c m.host.decoder down m.host.state m.outside e (still node orders c up down m f))
 
-  pub event_goes : (orders : List Asked) (c : Course) (up down : List Item) (m : Machine) (event : Event) → WorldFollows node orders c up down m → May m event → IsAtRest m event → WritesWell m event → EventStaysFew m event → IsPlainly node event
-      → EndsByHearing node event → WorldGoes node c (happens m event)
+  pub event_goes : (orders : List Asked) (c : Course) (up down : List Item) (m : Machine) (event : Event) → WorldFollows node orders c up down m → IsHeld m.host.state m.records → May m event → IsAtRest m event → WritesWell m event
+      → EventStaysFew m event → KeepsWell m event → IsPlainly node event → EndsByHearing node event → WorldGoes node c (happens m event)
   unfolding happens May
-  event_goes orders c up down m (Outside_does event) f may rests well few plain none = outside_goes orders c up down m event f may.0 may.1 rests few
-  event_goes orders c up down m (Host_does event) f may rests well few plain none = host_goes orders c up down m event f may plain none well
-  event_goes orders c up down m (Host_takes count rest items events) f may rests well few plain none = takes_goes orders c up down m count rest items events f may well
-  event_goes orders c up down m Decoder_ticks f may rests well few plain none = ticks_goes orders c up down m f rests
-  event_goes orders c up down m (Refuses line refusal) f may rests well few plain none = enters_goes orders c up down m (Refused refusal) f
-  event_goes orders c up down m (Shows_values n) f may rests well few plain none = enters_goes orders c up down m (shown_values m.host.state n) f
-  event_goes orders c up down m (Restarts state) f may rests well few plain none = absurd plain
+  event_goes orders c up down m (Outside_does event) f held may rests well few keeps plain none = outside_goes orders c up down m event f may.0 may.1 rests few
+  event_goes orders c up down m (Host_does event) f held may rests well few keeps plain none = host_goes orders c up down m event f may plain none well
+  event_goes orders c up down m (Host_takes count rest items events) f held may rests well few keeps plain none = takes_goes orders c up down m count rest items events f may well
+  event_goes orders c up down m Decoder_ticks f held may rests well few keeps plain none = ticks_goes orders c up down m f rests
+  event_goes orders c up down m (Refuses line refusal) f held may rests well few keeps plain none = enters_goes orders c up down m (Refused refusal) f
+  event_goes orders c up down m (Shows_values n) f held may rests well few keeps plain none = enters_goes orders c up down m (shown_values m.host.state n) f
+  event_goes orders c up down m (Restarts state) f held may rests well few keeps plain none =
+      let next : StartsWell m (Restarts state) × IsHeld (happens m (Restarts state)).host.state (happens m (Restarts state)).records = laws.held m (Restarts state) f.facts held may keeps in
+      restart_goes laws.restart node orders c up down m state f rests may keeps held next.1 next.0
 
-  pub events_go : (orders : List Asked) (c : Course) (up down : List Item) (m : Machine) (events : List Event) → WorldFollows node orders c up down m → MayAll m events → AllAtRest m events → AllWriteWell m events → AlwaysFew m events
-      → AllByRecursion (IsPlainly node) events → AllByRecursion (EndsByHearing node) events → WorldGoes node c (happens_all m events)
-  events_go orders c up down m [] f may rests well few plain none = record { orders = orders; later = c; goes = goes_nowhere c; up = up; down = down; follows = f }
-  events_go orders c up down m (event ∷ events) f may rests well few plain none =
-      let one : WorldGoes node c (happens m event) = event_goes orders c up down m event f may.0 rests.0 well.0 few.1 plain.0 none.0 in
-      let more : WorldGoes node one.later (happens_all (happens m event) events) = events_go one.orders one.later one.up one.down (happens m event) events one.follows may.1 rests.1 well.1 few.2 plain.1 none.1 in
+  pub events_go : (orders : List Asked) (c : Course) (up down : List Item) (m : Machine) (events : List Event) → WorldFollows node orders c up down m → IsHeld m.host.state m.records → MayAll m events → AllAtRest m events → AllWriteWell m events
+      → AlwaysFew m events → AllKeepWell m events → AllByRecursion (IsPlainly node) events → AllByRecursion (EndsByHearing node) events → WorldGoes node c (happens_all m events)
+  events_go orders c up down m [] f held may rests well few keeps plain none = record { orders = orders; later = c; goes = goes_nowhere c; up = up; down = down; follows = f }
+  events_go orders c up down m (event ∷ events) f held may rests well few keeps plain none =
+      let one : WorldGoes node c (happens m event) = event_goes orders c up down m event f held may.0 rests.0 well.0 few.1 keeps.0 plain.0 none.0 in
+      let next : StartsWell m event × IsHeld (happens m event).host.state (happens m event).records = laws.held m event f.facts held may.0 keeps.0 in
+      let more : WorldGoes node one.later (happens_all (happens m event) events) =
+      events_go one.orders one.later one.up one.down (happens m event) events one.follows next.1 may.1 rests.1 well.1 few.2 keeps.1 plain.1 none.1 in
       record { orders = more.orders; later = more.later; goes = goes_on c one.later more.later one.goes more.goes; up = more.up; down = more.down; follows = more.follows }

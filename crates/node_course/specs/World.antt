@@ -13,7 +13,7 @@ use Rattle.host_orders.specs.declared.carriage.Form.TheVariants.{Plain}
 use Rattle.host_events.specs.Events.{HostEvent, Accepts, Queues, Requests_do, Finishes}
 use Rattle.host_events.specs.Facts.{HostFacts}
 use Rattle.zw_machine.specs.State.{Machine}
-use Rattle.zw_machine.specs.Events.{Event, Host_does, Restarts}
+use Rattle.zw_machine.specs.Events.{Event, Host_does}
 use Rattle.node_course.specs.Ways.{Goes}
 use Rattle.node_course.specs.Meaning.{Asked}
 use Rattle.node_course.specs.Outside.{Follows}
@@ -58,20 +58,18 @@ pub record HasCourse (node : ℕ) (m : Machine) : Type 0 where
 
 -- ---- what is premised of events
 
--- the orders for the node go whole and unsealed, what else is queued for it is no message of a session, and no host starts again
+-- the orders for the node go whole and unsealed, and what else is queued for it is no message of a session
 abbrev pub IsPlainly : ℕ → Event → Type 0
 IsPlainly node (Host_does event) = AsksPlainly node event
-IsPlainly node (Restarts state) = ⊥
 IsPlainly node event = Unit {0}
 
--- the orders for the node go whole and unsealed, and no host starts again: no more is premised of lines
+-- the orders for the node go whole and unsealed: no more is premised of lines
 abbrev pub OrderPlain : ℕ → HostEvent → Type 0
 OrderPlain node (Accepts order carriage) = order.node ≡ node → form_of carriage.outer ≡ Plain
 OrderPlain node event = Unit {0}
 
 abbrev pub OrdersPlain : ℕ → Event → Type 0
 OrdersPlain node (Host_does event) = OrderPlain node event
-OrdersPlain node (Restarts state) = ⊥
 OrdersPlain node event = Unit {0}
 
 -- the end point that a line names is at most 127, as of each line that is read

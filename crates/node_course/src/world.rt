@@ -13,6 +13,7 @@ ghost use Rattle.zw_machine.specs.Events.{Event, May, happens};
 ghost use Rattle.zw_machine.specs.Did.{happens_all, MayAll};
 ghost use Rattle.line_facts.specs.Line.{WritesWell, AllWriteWell, IsAtRest, AllAtRest, AreLines};
 ghost use Rattle.line_facts.specs.Host.{AllAskWell};
+ghost use Rattle.world_facts.specs.Restarts.{KeepsWell, AllKeepWell, BeginsEmpty, IsHeld};
 ghost use Rattle.world_traffic.specs.OnAir.{EventStaysFew, AlwaysFew};
 ghost use Rattle.node_course.specs.Meaning.{Asked};
 ghost use Rattle.node_course.specs.Mesh.{HasDevice};
@@ -21,17 +22,22 @@ ghost use Rattle.node_course.specs.World.{WorldFollows, WorldGoes, HasCourse, Is
 use crate::host::hosts_follow_the_course;
 use crate::outside::outsides_follow_the_course;
 use courses::{courses_keep_facts, what_is_told_was_done};
-use host_facts::{events_keep_facts, first_facts_hold, laws_follow, what_is_over_stays};
+use host_facts::{
+    events_keep_facts, first_facts_hold, laws_follow, restarts_keep_facts, what_is_over_stays,
+};
+use host_keep::texts_give_one_thing;
 use line_facts::{hosts_write_well, units_are_judged_whole};
 use message_facts::others_are_no_messages;
+use world_facts::restarts_go_on;
 use world_traffic::at_most_two_are_on_the_air;
 
-/// Every event of the whole machine makes steps of the course of a node, and so do events one after another.
+/// Every event of the whole machine makes steps of the course of a node, and so do events one after another. Where the host starts again, the keeper tells its
+/// records, and they are those of the host before.
 pub fn worlds_follow_the_course()
-    ensures event { (node : ℕ) (orders : List Asked) (c : Course) (up down : List Item) (m : Machine) (event : Event) → node < 233 → WorldFollows node orders c up down m → May m event → IsAtRest m event → WritesWell m event →
-        EventStaysFew m event → IsPlainly node event → EndsByHearing node event → WorldGoes node c (happens m event) }
-    ensures events { (node : ℕ) (orders : List Asked) (c : Course) (up down : List Item) (m : Machine) (events : List Event) → node < 233 → WorldFollows node orders c up down m → MayAll m events → AllAtRest m events →
-        AllWriteWell m events → AlwaysFew m events → AllByRecursion (IsPlainly node) events → AllByRecursion (EndsByHearing node) events → WorldGoes node c (happens_all m events) }
+    ensures event { (node : ℕ) (orders : List Asked) (c : Course) (up down : List Item) (m : Machine) (event : Event) → node < 233 → WorldFollows node orders c up down m → IsHeld m.host.state m.records → May m event → IsAtRest m event →
+        WritesWell m event → EventStaysFew m event → KeepsWell m event → IsPlainly node event → EndsByHearing node event → WorldGoes node c (happens m event) }
+    ensures events { (node : ℕ) (orders : List Asked) (c : Course) (up down : List Item) (m : Machine) (events : List Event) → node < 233 → WorldFollows node orders c up down m → IsHeld m.host.state m.records → MayAll m events →
+        AllAtRest m events → AllWriteWell m events → AlwaysFew m events → AllKeepWell m events → AllByRecursion (IsPlainly node) events → AllByRecursion (EndsByHearing node) events → WorldGoes node c (happens_all m events) }
 {
     outsides_follow_the_course();
     hosts_follow_the_course();
@@ -39,6 +45,9 @@ pub fn worlds_follow_the_course()
     events_keep_facts();
     laws_follow();
     what_is_over_stays();
+    restarts_keep_facts();
+    restarts_go_on();
+    texts_give_one_thing();
 }
 
 /// What lines ask the host to send beside orders is no message of a session, where the end points that they name are at most 127; a line that is read names no
@@ -52,24 +61,25 @@ pub fn lines_ask_plainly()
     others_are_no_messages();
 }
 
-/// So over any lines from the first on, where no host starts again: for a node whose commands go whole and unsealed, and whose device is the only one of it and takes what is not sealed, there is a course of its sessions, from the first. The sessions of the
+/// So over any lines from the first on, however often the host starts again: for a node whose commands go whole and unsealed, and whose device is the only one of it and takes what is not sealed, there is a course of its sessions, from the first. The sessions of the
 /// host are the course's, and so are those of the device, with the statuses to which it came; what the device applied by sessions is a part of the commands of the sessions that began, in order, each once; and each session of which the host was told success is
 /// among them. The command of each session of which the host was told has the outcome of the status that was told, and each change
 /// of the device by a session has exactly the settings that the host's table of commands says the session's command asks for. It is enough that the
-/// orders go so (`plain`).
+/// orders go so (`plain`). Premised is of the keeper that it has no records at first, and that it tells them, as they were recorded, where the host starts again (`AllKeepWell`).
 pub fn lines_have_a_course()
     ensures first { (node : ℕ) (keys : Keys) (records : Option (List (List ℕ))) (devices : List State) → node < 233 → HasDevice node first_course devices → WorldFollows node [] first_course [] [] (first_machine keys records devices) }
-    ensures lines { (node : ℕ) (keys : Keys) (records : Option (List (List ℕ))) (devices : List State) (lines : List Line) (events : List Event) → node < 233 → HasDevice node first_course devices →
-        AreLines lines (first_machine keys records devices) events → MayAll (first_machine keys records devices) events → AllAskWell (first_machine keys records devices) events → AllByRecursion (IsPlainly node) events →
-        HasCourse node (happens_all (first_machine keys records devices) events) }
-    ensures plain { (node : ℕ) (keys : Keys) (records : Option (List (List ℕ))) (devices : List State) (lines : List Line) (events : List Event) → node < 233 → HasDevice node first_course devices →
+    ensures lines { (node : ℕ) (keys : Keys) (records : Option (List (List ℕ))) (devices : List State) (lines : List Line) (events : List Event) → node < 233 → HasDevice node first_course devices → BeginsEmpty records →
+        AreLines lines (first_machine keys records devices) events → MayAll (first_machine keys records devices) events → AllAskWell (first_machine keys records devices) events →
+        AllKeepWell (first_machine keys records devices) events → AllByRecursion (IsPlainly node) events → HasCourse node (happens_all (first_machine keys records devices) events) }
+    ensures plain { (node : ℕ) (keys : Keys) (records : Option (List (List ℕ))) (devices : List State) (lines : List Line) (events : List Event) → node < 233 → HasDevice node first_course devices → BeginsEmpty records →
         AllByRecursion NamesEnd lines → AreLines lines (first_machine keys records devices) events → MayAll (first_machine keys records devices) events → AllAskWell (first_machine keys records devices) events →
-        AllByRecursion (OrdersPlain node) events → HasCourse node (happens_all (first_machine keys records devices) events) }
+        AllKeepWell (first_machine keys records devices) events → AllByRecursion (OrdersPlain node) events → HasCourse node (happens_all (first_machine keys records devices) events) }
 {
     lines_ask_plainly();
     worlds_follow_the_course();
     outsides_follow_the_course();
     first_facts_hold();
+    restarts_go_on();
     units_are_judged_whole();
     hosts_write_well();
     at_most_two_are_on_the_air();

@@ -7,6 +7,7 @@ pub returns-clause-first : goal.returns-clause-first
 returns-clause-first c node keys records devices within has = first_follows (record {
   outside_first = c.outsides_follow_the_course.ensures.first;
   facts_first = c.first_facts_hold.ensures;
+  held_first = c.restarts_go_on.ensures.first;
   events = c.worlds_follow_the_course.ensures.events;
   stays = c.units_are_judged_whole.ensures.lines;
   writes = c.hosts_write_well.ensures.run;
@@ -22,6 +23,7 @@ pub returns-clause-lines : goal.returns-clause-lines
 returns-clause-lines c node keys records devices lines events within has = lines_have (record {
   outside_first = c.outsides_follow_the_course.ensures.first;
   facts_first = c.first_facts_hold.ensures;
+  held_first = c.restarts_go_on.ensures.first;
   events = c.worlds_follow_the_course.ensures.events;
   stays = c.units_are_judged_whole.ensures.lines;
   writes = c.hosts_write_well.ensures.run;
@@ -34,9 +36,10 @@ returns-clause-lines c node keys records devices lines events within has = lines
 }) node within keys records devices has lines events
 
 pub returns-clause-plain : goal.returns-clause-plain
-returns-clause-plain c node keys records devices lines events within has names are may asks plain = lines_have (record {
+returns-clause-plain c node keys records devices lines events within has empty names are may asks keeps plain = lines_have (record {
   outside_first = c.outsides_follow_the_course.ensures.first;
   facts_first = c.first_facts_hold.ensures;
+  held_first = c.restarts_go_on.ensures.first;
   events = c.worlds_follow_the_course.ensures.events;
   stays = c.units_are_judged_whole.ensures.lines;
   writes = c.hosts_write_well.ensures.run;
@@ -46,4 +49,4 @@ returns-clause-plain c node keys records devices lines events within has names a
   done = c.what_is_told_was_done.ensures.done;
   applied = c.what_is_told_was_done.ensures.applied;
   ends = c.lines_ask_plainly.ensures.ends;
-}) node within keys records devices has lines events are may asks (c.lines_ask_plainly.ensures.plain node lines (first_machine keys records devices) events names are plain)
+}) node within keys records devices has lines events empty are may asks keeps (c.lines_ask_plainly.ensures.plain node lines (first_machine keys records devices) events names are plain)

@@ -14,7 +14,8 @@ returns-clause-event c node orders course up down m event within =
         tables = c.laws_follow.ensures.tables;
         stays = c.what_is_over_stays.ensures;
       };
-      course = c.courses_keep_facts.ensures.all;
+      restart = record { one = c.texts_give_one_thing.ensures.one; facts = c.restarts_keep_facts.ensures.one; course = c.courses_keep_facts.ensures.all };
+      held = c.restarts_go_on.ensures.each;
     }) node within orders course up down m event
 
 pub returns-clause-events : goal.returns-clause-events
@@ -29,5 +30,6 @@ returns-clause-events c node orders course up down m events within =
         tables = c.laws_follow.ensures.tables;
         stays = c.what_is_over_stays.ensures;
       };
-      course = c.courses_keep_facts.ensures.all;
+      restart = record { one = c.texts_give_one_thing.ensures.one; facts = c.restarts_keep_facts.ensures.one; course = c.courses_keep_facts.ensures.all };
+      held = c.restarts_go_on.ensures.each;
     }) node within orders course up down m events

@@ -1,5 +1,5 @@
 -- The course of the node ties it, and what follows of that is the headline.
-use Rattle.std.proofs.Common.{◌≡◌, ℕ, List, [], ◌∷◌, Ok, Some, sym, subst}
+use Rattle.std.proofs.Common.{◌≡◌, ℕ, List, [], ◌∷◌, Ok, Some, refl, sym, subst}
 use Rattle.std.specs.List.{AllByRecursion}
 use Rattle.zw_text.specs.Line.{line_at}
 use Rattle.zw_text.specs.declared.line.Line.{Line}
@@ -27,9 +27,8 @@ returns c = λ keys devices lines node device within has unchanged done drawn fe
     let read = all_read m lines done in
     let are = all_lines m lines done in
     let may = all_may m lines done in
-    let ask = (c.lines_keep_and_ask_well.ensures.all keys devices (lines_of lines) events read are may drawn
-    (subst (λ (x : Machine). AreFew x.records) (all_after m lines) few)).1 in
-    let course = c.lines_have_a_course.ensures.plain node keys (Some []) devices (lines_of lines) events within has (all_name c.lines_ask_plainly.ensures.text (lines_of lines) read) are may ask plain in
+    let well = c.lines_keep_and_ask_well.ensures.all keys devices (lines_of lines) events read are may drawn (subst (λ (x : Machine). AreFew x.records) (all_after m lines) few) in
+    let course = c.lines_have_a_course.ensures.plain node keys (Some []) devices (lines_of lines) events within has refl (all_name c.lines_ask_plainly.ensures.text (lines_of lines) read) are may well.1 well.0 plain in
     let at_end : HasCourse node (after_all m lines) = subst (λ (x : Machine). HasCourse node x) (sym (all_after m lines)) course in
     c.lines_have_the_headline.ensures.one keys devices lines node device unchanged done drawn few found supervised
     (course_ties c.courses_tie_their_ends.ensures node (after_all m lines) device at_end found)
