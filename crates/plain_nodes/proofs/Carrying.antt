@@ -1,12 +1,12 @@
 -- An order that is accepted for a node without Security 0 and Transport Service goes whole and unsealed: what is too long is refused.
-use Rattle.std.proofs.Common.{◌≡◌, ℕ, ◌&&◌, not, nat_lt, nat_le, ◌+◌, Bool, true, false, if◌then◌else◌, List, [], ◌∷◌, length, Option, Some, None, unwrap_or, refl, sym, ap, subst, ◌∙◌}
+use Rattle.std.proofs.Common.{◌≡◌, ℕ, ◌&&◌, not, nat_lt, nat_le, ◌+◌, Bool, true, false, if◌then◌else◌, List, [], ◌∷◌, length, Option, Some, None, unwrap_or, refl, ap, subst, ◌∙◌}
 use Rattle.std.specs.Prelude.{is_some}
 use Rattle.zw_order.specs.declared.order.Order.{Order}
 use Rattle.encap.specs.declared.plan.Outer.TheVariants.{None as no_outer, Crc16, Security, Transport}
 use Rattle.host_orders.specs.Classes.{lists, actuator_of}
 use Rattle.host_orders.specs.Messages.{classes_needed}
-use Rattle.host_orders.specs.Refusals.{Known, classes_of, first_refusal, first_some, is_bad, is_too_long, known_refusal, mailbox_full, rules_for, too_long, unless, unsupported}
-use Rattle.host_orders.specs.Wrapping.{carriage_of, form_of, outer_for, supervised_text, wrapped_len}
+use Rattle.host_orders.specs.Refusals.{Known, classes_of, first_refusal, first_some, is_bad, known_refusal, mailbox_full, too_long, unless, unsupported}
+use Rattle.host_orders.specs.Wrapping.{form_of, supervised_text, wrapped_len}
 use Rattle.host_orders.specs.declared.carriage.Carriage.{Carriage}
 use Rattle.host_orders.specs.declared.carriage.Form.TheVariants.{Plain}
 use Rattle.host_orders.specs.declared.refused.Refused.{Refused}

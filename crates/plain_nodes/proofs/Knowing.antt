@@ -2,7 +2,6 @@
 use Rattle.std.proofs.Common.{◌≡◌, ℕ, ◌==◌, Bool, true, false, if◌then◌else◌, List, [], ◌∷◌, Option, Some, None, inl, inr, refl, sym, ap, subst, ◌∙◌}
 use Rattle.std.specs.List.{AllByRecursion}
 use Rattle.std.proofs.lemmas.Bool.{cases_eq}
-use Rattle.chip_functions.specs.declared.notice.Update.{Update}
 use Rattle.device_stack.specs.Kind.{classes_of as kind_classes}
 use Rattle.device_stack.specs.declared.kind.Kind.{Kind}
 use Rattle.device_stack.specs.declared.kind.Kind.TheVariants.{Switch}

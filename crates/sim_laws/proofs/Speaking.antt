@@ -1,19 +1,16 @@
 -- A story as lines that were said: the words that are entered of a line are read as it.
-use Rattle.std.proofs.Common.{◌≡◌, ℕ, ◌==◌, Bool, true, false, if◌then◌else◌, List, [], ◌∷◌, ◌++◌, map, Option, Some, None, Ok, refl, sym, ap, subst, ◌∙◌}
-use Rattle.std.specs.List.{AllByRecursion, AllZip}
+use Rattle.std.proofs.Common.{◌≡◌, ℕ, ◌==◌, Bool, true, false, if◌then◌else◌, List, [], ◌∷◌, ◌++◌, Some, Ok, refl, sym, ap, ◌∙◌}
 use Rattle.zw_text.specs.Line.{line_at}
 use Rattle.zw_text.specs.Transcript.{read_as}
 use Rattle.zw_text.specs.declared.line.Line.{Line}
 use Rattle.zw_text.specs.declared.entry.Entry.{Entry}
 use Rattle.zw_text.specs.declared.entry.Entry.TheVariants.{Said}
-use Rattle.device_stack.specs.declared.kind.Kind.{Kind}
 use Rattle.device_sim.specs.State.{State}
 use Rattle.device_facts.specs.GoingOn.{AreSame, IsSame}
 use Rattle.zw_laws.specs.Nodes.{device_of}
 use Rattle.zw_machine.specs.State.{Machine}
 use Rattle.zw_machine.specs.Events.{Event}
 use Rattle.zw_machine.specs.Did.{happens_all, entries_all, MayAll}
-use Rattle.zw_machine.proofs.Doing.{happens_all-append}
 use Rattle.entry_pieces.specs.Pieces.{said_text}
 use Rattle.said_facts.specs.Spoken.{Spoken, after_all, transcript_of}
 use Rattle.listing_facts.specs.Lines.{AreDone, events_of as events_said}
