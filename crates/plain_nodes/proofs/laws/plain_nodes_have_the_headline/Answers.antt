@@ -4,15 +4,12 @@ use Rattle.std.specs.List.{AllByRecursion}
 use Rattle.zw_text.specs.Line.{line_at}
 use Rattle.zw_text.specs.declared.line.Line.{Line}
 use Rattle.zw_machine.specs.State.{Machine, first_machine}
-use Rattle.line_facts.specs.Line.{AreLines}
 use Rattle.run_facts.specs.Lines.{IsRead}
 use Rattle.run_facts.specs.Premises.{AreFew}
-use Rattle.zw_laws.specs.Nodes.{device_of}
 use Rattle.said_facts.specs.Spoken.{after_all}
 use Rattle.listing_facts.specs.Lines.{events_of}
 use Rattle.listing_facts.proofs.Speaking.{lines_of, all_read, all_lines, all_may, all_after}
 use Rattle.node_course.specs.World.{HasCourse, NamesEnd}
-use Rattle.once_facts.specs.Tied.{AreTied}
 use Rattle.plain_nodes.proofs.Tying.{course_ties}
 use Rattle.plain_nodes.proofs.laws.plain_nodes_have_the_headline.Goals as goal
 
