@@ -2,3 +2,4 @@ mod Shown
 mod Succeeding
 mod Running
 mod Heading
+mod Unasked

@@ -1,5 +1,5 @@
 -- Over lines each success stands behind the change.
-use Rattle.std.proofs.Common.{List, [], ◌∷◌, ◌++◌, flat_map, sym, ap, subst, append_assoc, append-nil}
+use Rattle.std.proofs.Common.{ℕ, List, [], ◌∷◌, ◌++◌, flat_map, sym, ap, subst, append_assoc, append-nil}
 use Rattle.std.specs.List.{AllByRecursion}
 use Rattle.device_stack.specs.declared.change.Change.{Change}
 use Rattle.device_sim.specs.State.{State}
@@ -8,7 +8,7 @@ use Rattle.device_facts.specs.Showing.{AreApart, AreUnchanged, IsShown}
 use Rattle.zw_text.specs.declared.entry.Entry.{Entry}
 use Rattle.zw_text.specs.declared.entry.Entry.TheVariants.{Said}
 use Rattle.zw_laws.specs.Devices.{made_by}
-use Rattle.zw_laws.specs.Once.{MayEnd, SucceedsAfterChange}
+use Rattle.zw_laws.specs.Lists.{EachAfter}
 use Rattle.host_events.specs.State.{HostState}
 use Rattle.host_facts.specs.Entries.{IsAside}
 use Rattle.host_facts.specs.Facts.{Facts}
@@ -18,15 +18,17 @@ use Rattle.zw_machine.specs.Events.{Event, entries, happens, May}
 use Rattle.zw_machine.specs.Did.{happens_all, entries_all, MayAll}
 use Rattle.world_facts.specs.Restarts.{AllStartWell, StartsWell}
 use Rattle.said_facts.specs.Spoken.{Spoken, IsSpoken, AreSpoken, after, after_all, entries_of, transcript_of}
-use Rattle.headline_facts.specs.Truly.{AreTrue, IsTrue, LinesAreTrue}
+use Rattle.once_facts.specs.Truly.{AreTrue, IsTrue}
+use Rattle.headline_facts.specs.Truly.{LinesAreTrue}
 use Rattle.headline_facts.proofs.Shown.{said_shown}
+use Rattle.headline_facts.proofs.Succeeding.{Frees}
 
 -- what goes on from event to event
-pub record IsSo (past : List Entry) (m : Machine) : Type 0 where
+pub record IsSo (Ends : List Entry → Entry → Type 0) (past : List Entry) (m : Machine) : Type 0 where
   pub facts : Facts past m.host.state
   pub apart : AreApart m.outside.devices
   pub shown : AllByRecursion (IsShown past) m.outside.devices
-  pub succeeded : SucceedsAfterChange past
+  pub succeeded : EachAfter Ends [] past
 
 -- devices that have not changed
 pub first_shown : (devices : List State) → AreUnchanged devices → AllByRecursion (IsShown []) devices
@@ -39,9 +41,10 @@ module _ (keeps : (past : List Entry) (m : Machine) (event : Event) → Facts pa
     (apart_still : (old new : List State) → GoOn old new → AreApart old → AreApart new)
     (shows : (past : List Entry) (m : Machine) (event : Event) → AreApart m.outside.devices → AllByRecursion (IsShown past) m.outside.devices → May m event
     → AllByRecursion (IsShown (past ++ entries m event)) (happens m event).outside.devices)
-    (succeeds : (past : List Entry) (m : Machine) (event : Event) → Facts past m.host.state → AllByRecursion (IsShown past) m.outside.devices → May m event → IsTrue m event
-    → SucceedsAfterChange past → SucceedsAfterChange (past ++ entries m event)) where
-  event_so : (past : List Entry) (m : Machine) (event : Event) → May m event → StartsWell m event → IsTrue m event → IsSo past m → IsSo (past ++ entries m event) (happens m event)
+    (Ends : List Entry → Entry → Type 0) (free : Frees Ends) (Of : ℕ → Type 0)
+    (succeeds : (past : List Entry) (m : Machine) (event : Event) → Facts past m.host.state → AllByRecursion (IsShown past) m.outside.devices → May m event → ((node : ℕ) → Of node → IsTrue node m event)
+    → EachAfter Ends [] past → EachAfter Ends [] (past ++ entries m event)) where
+  event_so : (past : List Entry) (m : Machine) (event : Event) → May m event → StartsWell m event → ((node : ℕ) → Of node → IsTrue node m event) → IsSo Ends past m → IsSo Ends (past ++ entries m event) (happens m event)
   event_so past m event may well true so = record {
     facts = keeps past m event so.facts may well;
     apart = apart_still m.outside.devices (happens m event).outside.devices (goes m event) so.apart;
@@ -49,26 +52,26 @@ module _ (keeps : (past : List Entry) (m : Machine) (event : Event) → Facts pa
     succeeded = succeeds past m event so.facts so.shown may true so.succeeded;
   }
 
-  events_so : (past : List Entry) (m : Machine) (events : List Event) → MayAll m events → AllStartWell m events → AreTrue m events → IsSo past m
-      → IsSo (past ++ entries_all m events) (happens_all m events)
-  events_so past m [] may well true so = subst (λ (l : List Entry). IsSo l m) (sym (append-nil past)) so
+  events_so : (past : List Entry) (m : Machine) (events : List Event) → MayAll m events → AllStartWell m events → ((node : ℕ) → Of node → AreTrue node m events) → IsSo Ends past m
+      → IsSo Ends (past ++ entries_all m events) (happens_all m events)
+  events_so past m [] may well true so = subst (λ (l : List Entry). IsSo Ends l m) (sym (append-nil past)) so
   events_so past m (event ∷ events) may well true so =
-      subst (λ (l : List Entry). IsSo l (happens_all (happens m event) events)) (append_assoc past (entries m event) (entries_all (happens m event) events))
-      (events_so (past ++ entries m event) (happens m event) events may.1 well.1 true.1 (event_so past m event may.0 well.0 true.0 so))
+      subst (λ (l : List Entry). IsSo Ends l (happens_all (happens m event) events)) (append_assoc past (entries m event) (entries_all (happens m event) events))
+      (events_so (past ++ entries m event) (happens m event) events may.1 well.1 (λ node of. (true node of).1) (event_so past m event may.0 well.0 (λ node of. (true node of).0) so))
 
-  line_so : (past : List Entry) (m : Machine) (spoken : Spoken) → IsSpoken m spoken → AreTrue m spoken.events → IsSo past m → IsSo (past ++ entries_of m spoken) (after m spoken)
+  line_so : (past : List Entry) (m : Machine) (spoken : Spoken) → IsSpoken m spoken → ((node : ℕ) → Of node → AreTrue node m spoken.events) → IsSo Ends past m → IsSo Ends (past ++ entries_of m spoken) (after m spoken)
   line_so past m spoken is true so =
-      let begun : IsSo (past ++ Said spoken.words ∷ []) m = record {
+      let begun : IsSo Ends (past ++ Said spoken.words ∷ []) m = record {
         facts = aside past m.host.state (Said spoken.words) so.facts tt;
         apart = so.apart;
         shown = said_shown past spoken.words m.outside.devices so.shown;
-        succeeded = each-append MayEnd [] past (Said spoken.words ∷ []) so.succeeded (tt, tt);
+        succeeded = each-append Ends [] past (Said spoken.words ∷ []) so.succeeded (free past (Said spoken.words) tt, tt);
       } in
-      subst (λ (l : List Entry). IsSo l (after m spoken)) (append_assoc past (Said spoken.words ∷ []) (entries_all m spoken.events))
+      subst (λ (l : List Entry). IsSo Ends l (after m spoken)) (append_assoc past (Said spoken.words ∷ []) (entries_all m spoken.events))
       (events_so (past ++ Said spoken.words ∷ []) m spoken.events is.may is.well true begun)
 
-  pub lines_so : (past : List Entry) (m : Machine) (lines : List Spoken) → AreSpoken m lines → LinesAreTrue m lines → IsSo past m → IsSo (past ++ transcript_of m lines) (after_all m lines)
-  lines_so past m [] are true so = subst (λ (l : List Entry). IsSo l m) (sym (append-nil past)) so
+  pub lines_so : (past : List Entry) (m : Machine) (lines : List Spoken) → AreSpoken m lines → ((node : ℕ) → Of node → LinesAreTrue node m lines) → IsSo Ends past m → IsSo Ends (past ++ transcript_of m lines) (after_all m lines)
+  lines_so past m [] are true so = subst (λ (l : List Entry). IsSo Ends l m) (sym (append-nil past)) so
   lines_so past m (spoken ∷ more) are true so =
-      subst (λ (l : List Entry). IsSo l (after_all (after m spoken) more)) (append_assoc past (entries_of m spoken) (transcript_of (after m spoken) more))
-      (lines_so (past ++ entries_of m spoken) (after m spoken) more are.1 true.1 (line_so past m spoken are.0 true.0 so))
+      subst (λ (l : List Entry). IsSo Ends l (after_all (after m spoken) more)) (append_assoc past (entries_of m spoken) (transcript_of (after m spoken) more))
+      (lines_so (past ++ entries_of m spoken) (after m spoken) more are.1 (λ node of. (true node of).1) (line_so past m spoken are.0 (λ node of. (true node of).0) so))

@@ -1,52 +1,31 @@
--- When a success that the host is told is true (this project's own rule over the Supervision Report of the Supervision Command Class).
-use Rattle.std.specs.Prelude.{◌≡◌, ℕ, List, [], ◌∷◌, Some}
-use Rattle.std.specs.List.{AllByRecursion}
-use Rattle.supervision.specs.Host.{command_at as session_at}
-use Rattle.supervision.specs.declared.session.TheConstants.{SUCCESS}
+-- Lines in which each success that is told of a node is true, and success behind the change, of one node (this project's own rules).
+use Rattle.std.specs.Prelude.{◌≡◌, ◌⊎◌, ℕ, true, List, [], ◌∷◌, Some}
 use Rattle.device_sim.specs.State.{State}
-use Rattle.device_course.specs.Ending.{HasEnded}
-use Rattle.zw_laws.specs.Lists.{Has}
-use Rattle.host_keep.specs.declared.final_status.FinalStatus.TheVariants as final
-use Rattle.host_nodes.specs.State.{node_of}
-use Rattle.host_events.specs.State.{HostState}
-use Rattle.host_events.specs.Events.{HostEvent, Finishes}
-use Rattle.host_events.specs.After.{after}
+use Rattle.zw_text.specs.declared.entry.Ended.TheVariants.{Success}
+use Rattle.zw_text.specs.declared.entry.Entry.{Entry}
+use Rattle.zw_text.specs.declared.entry.Entry.TheVariants.{Out}
+use Rattle.zw_laws.specs.Lists.{EachAfter, Has}
+use Rattle.zw_laws.specs.Nodes.{device_of, first_node, is_supervised}
+use Rattle.zw_laws.specs.Once.{commands_shown}
 use Rattle.zw_machine.specs.State.{Machine}
-use Rattle.zw_machine.specs.Events.{Event, Host_does, Host_takes, happens}
-use Rattle.once_facts.specs.Tied.{MakesWhatIsTaken}
+use Rattle.host_facts.specs.Laws.{accepted_for}
+use Rattle.once_facts.specs.Truly.{AreTrue}
 use Rattle.said_facts.specs.Spoken.{Spoken, after as after_line}
 
--- a device of the node ended this session with success, and each of its changes by sessions made what the host's table asks for
-pub record IsDoneBy (h : HostState) (devices : List State) (node session : ℕ) : Type 0 where
-  pub device : State
-  pub among : Has devices device
-  pub of_node : device.node ≡ node
-  pub finals : List ℕ
-  pub ended : HasEnded device finals
-  pub success : session_at finals session ≡ Some SUCCESS
-  pub made : AllByRecursion (MakesWhatIsTaken h.commands (node_of h.nodes node).book.commands) device.journal
+-- each success that is told of the node in these lines is true
+abbrev pub LinesAreTrue : ℕ → Machine → List Spoken → Type 0
+LinesAreTrue node m [] = Unit {0}
+LinesAreTrue node m (spoken ∷ more) = AreTrue node m spoken.events × LinesAreTrue node (after_line m spoken) more
 
--- a report that ends a session with success comes once the device has done so
-abbrev pub TellsTruly : HostState → List State → HostEvent → Type 0
-TellsTruly h devices (Finishes node session id command final.Success wake_request) = IsDoneBy h devices node session
-TellsTruly h devices event = Unit {0}
+-- a command that was accepted for the node is reported successful only once the node's device is shown to have changed by it
+abbrev pub MayEndOf : ℕ → List Entry → Entry → Type 0
+MayEndOf node past (Out number Success) = accepted_for number past ≡ node ∷ [] → Has (commands_shown node past) number
+MayEndOf node past _ = Unit {0}
 
-abbrev pub TellTruly : HostState → List State → List HostEvent → Type 0
-TellTruly h devices [] = Unit {0}
-TellTruly h devices (event ∷ events) = TellsTruly h devices event × TellTruly (after h event) devices events
+-- each success of a command of the node is reported after the change
+abbrev pub SucceedsAfterChangeOf : ℕ → List Entry → Type 0
+SucceedsAfterChangeOf node transcript = EachAfter (MayEndOf node) [] transcript
 
--- so in what the host does at an event of the machine
-abbrev pub IsTrue : Machine → Event → Type 0
-IsTrue m (Host_does event) = TellsTruly m.host.state m.outside.devices event
-IsTrue m (Host_takes count rest items events) = TellTruly m.host.state m.outside.devices events
-IsTrue m event = Unit {0}
-
--- at each of these events
-abbrev pub AreTrue : Machine → List Event → Type 0
-AreTrue m [] = Unit {0}
-AreTrue m (event ∷ events) = IsTrue m event × AreTrue (happens m event) events
-
--- and in each of these lines
-abbrev pub LinesAreTrue : Machine → List Spoken → Type 0
-LinesAreTrue m [] = Unit {0}
-LinesAreTrue m (spoken ∷ more) = AreTrue m spoken.events × LinesAreTrue (after_line m spoken) more
+-- a node for which the host may accept an order: the one that is joined from the start, or one with a device that knows Supervision
+abbrev pub IsAskable : List State → ℕ → Type 0
+IsAskable devices node = (node ≡ first_node) ⊎ ((device : State) × (device_of node devices ≡ Some device) × (is_supervised device ≡ true))

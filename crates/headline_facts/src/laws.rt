@@ -13,11 +13,12 @@ ghost use Rattle.host_facts.specs.Facts.{Facts};
 ghost use Rattle.zw_machine.specs.State.{Machine, first_machine};
 ghost use Rattle.zw_machine.specs.Events.{Event, happens, entries, May};
 ghost use Rattle.once_facts.specs.Tied.{AllTied, AreTied};
+ghost use Rattle.once_facts.specs.Truly.{IsTrue};
 ghost use Rattle.said_facts.specs.Said.{LinesTell};
 ghost use Rattle.said_facts.specs.Spoken.{Spoken, AreSpoken, after_all, transcript_of};
 ghost use Rattle.run_facts.specs.Premises.{AllDrawBytes, AreFew};
 ghost use Rattle.listing_facts.specs.Lines.{AreDone, events_of};
-ghost use Rattle.headline_facts.specs.Truly.{IsTrue, LinesAreTrue};
+ghost use Rattle.headline_facts.specs.Truly.{IsAskable, LinesAreTrue, SucceedsAfterChangeOf};
 
 use device_facts::{changes_are_shown, devices_go_on, devices_stay_the_same};
 use host_facts::{asides_keep_facts, events_keep_facts};
@@ -28,11 +29,13 @@ use said_facts::{
 };
 use world_facts::the_machine_keeps_facts;
 
-/// Where reports of success are true, an event enters each success behind the change, and the changes that the transcript shows are those of the
-/// devices' journals after it.
+/// Where reports of success of a node are true, an event enters each success of its commands behind the change, and where those of all nodes are, each success; and the changes that the transcript
+/// shows are those of the devices' journals after it.
 pub fn successes_follow_changes()
-    ensures each { (past : List Entry) (m : Machine) (event : Event) → Facts past m.host.state → AllByRecursion (IsShown past) m.outside.devices →
-        May m event → IsTrue m event → SucceedsAfterChange past → SucceedsAfterChange (past ++ entries m event) }
+    ensures one { (past : List Entry) (m : Machine) (event : Event) (node : ℕ) → Facts past m.host.state → AllByRecursion (IsShown past) m.outside.devices →
+        May m event → IsTrue node m event → SucceedsAfterChangeOf node past → SucceedsAfterChangeOf node (past ++ entries m event) }
+    ensures all { (past : List Entry) (m : Machine) (event : Event) → Facts past m.host.state → AllByRecursion (IsShown past) m.outside.devices →
+        May m event → ((node : ℕ) → IsTrue node m event) → SucceedsAfterChange past → SucceedsAfterChange (past ++ entries m event) }
     ensures shown { (past : List Entry) (m : Machine) (event : Event) → AreApart m.outside.devices → AllByRecursion (IsShown past) m.outside.devices → May m event →
         AllByRecursion (IsShown (past ++ entries m event)) (happens m event).outside.devices }
 {
@@ -46,8 +49,11 @@ pub fn successes_follow_changes()
 
 /// So over any lines from the beginning on, with devices that have not changed yet, of which no two are of one node.
 pub fn runs_report_after_the_change()
-    ensures { (keys : Keys) (records : Option (List (List ℕ))) (devices : List State) (lines : List Spoken) → AreUnchanged devices → AreApart devices →
-        AreSpoken (first_machine keys records devices) lines → LinesAreTrue (first_machine keys records devices) lines →
+    ensures one { (keys : Keys) (records : Option (List (List ℕ))) (devices : List State) (lines : List Spoken) (node : ℕ) → AreUnchanged devices → AreApart devices →
+        AreSpoken (first_machine keys records devices) lines → LinesAreTrue node (first_machine keys records devices) lines →
+        SucceedsAfterChangeOf node (transcript_of (first_machine keys records devices) lines) }
+    ensures all { (keys : Keys) (records : Option (List (List ℕ))) (devices : List State) (lines : List Spoken) → AreUnchanged devices → AreApart devices →
+        AreSpoken (first_machine keys records devices) lines → ((node : ℕ) → LinesAreTrue node (first_machine keys records devices) lines) →
         SucceedsAfterChange (transcript_of (first_machine keys records devices) lines) }
 {
     changes_are_shown();
@@ -57,9 +63,20 @@ pub fn runs_report_after_the_change()
     successes_follow_changes();
 }
 
+/// For a node that is not the first and has no device that knows Supervision no order is accepted, where each interview that ends well tells what the node's device lists. So
+/// the host is told no success of it.
+pub fn others_are_told_nothing()
+    ensures { (keys : Keys) (records : Option (List (List ℕ))) (devices : List State) (lines : List Spoken) (node : ℕ) → AreSpoken (first_machine keys records devices) lines →
+        LinesTell (listing_of devices) (first_machine keys records devices) lines → (IsAskable devices node → ⊥) → LinesAreTrue node (first_machine keys records devices) lines }
+{
+    events_keep_facts();
+    the_machine_keeps_facts();
+    interviews_give_what_is_known();
+}
+
 /// The headline, over any lines from the beginning on, with devices that have not changed yet, where each interview that ends well tells what the node's device lists: of
 /// each device that knows Supervision, is the first of its node and is tied to the host in the end. And the whole, where all those are, each report of
-/// success is true, and no two devices are of one node.
+/// success is true of the first node and of those, and no two devices are of one node.
 pub fn runs_have_the_headline()
     ensures one { (keys : Keys) (records : Option (List (List ℕ))) (devices : List State) (lines : List Spoken) (node : ℕ) (device : State) → AreUnchanged devices →
         AreSpoken (first_machine keys records devices) lines → LinesTell (listing_of devices) (first_machine keys records devices) lines →
@@ -67,7 +84,7 @@ pub fn runs_have_the_headline()
         AreTied (after_all (first_machine keys records devices) lines).host.state node device →
         HeadlineOf (listing_of devices) node (transcript_of (first_machine keys records devices) lines) device }
     ensures whole { (keys : Keys) (records : Option (List (List ℕ))) (devices : List State) (lines : List Spoken) → AreUnchanged devices → AreApart devices →
-        AreSpoken (first_machine keys records devices) lines → LinesAreTrue (first_machine keys records devices) lines →
+        AreSpoken (first_machine keys records devices) lines → ((node : ℕ) → IsAskable devices node → LinesAreTrue node (first_machine keys records devices) lines) →
         LinesTell (listing_of devices) (first_machine keys records devices) lines →
         AllTied (after_all (first_machine keys records devices) lines).host.state (after_all (first_machine keys records devices) lines).outside.devices →
         Headline devices (after_all (first_machine keys records devices) lines).outside.devices (transcript_of (first_machine keys records devices) lines) }
@@ -78,6 +95,7 @@ pub fn runs_have_the_headline()
     answers_stand_behind_their_lines();
     interviews_give_what_is_known();
     runs_have_their_tables();
+    others_are_told_nothing();
     runs_report_after_the_change();
     headlines_follow();
 }
@@ -92,7 +110,7 @@ pub fn lines_have_the_headline()
         HeadlineOf (listing_of devices) node (transcript_of (first_machine keys (Some []) devices) lines) device }
     ensures whole { (keys : Keys) (devices : List State) (lines : List Spoken) → AreUnchanged devices → AreApart devices → AreDone (first_machine keys (Some []) devices) lines →
         AllDrawBytes (first_machine keys (Some []) devices) (events_of lines) → AreFew (after_all (first_machine keys (Some []) devices) lines).records →
-        LinesAreTrue (first_machine keys (Some []) devices) lines →
+        ((node : ℕ) → IsAskable devices node → LinesAreTrue node (first_machine keys (Some []) devices) lines) →
         AllTied (after_all (first_machine keys (Some []) devices) lines).host.state (after_all (first_machine keys (Some []) devices) lines).outside.devices →
         Headline devices (after_all (first_machine keys (Some []) devices) lines).outside.devices (transcript_of (first_machine keys (Some []) devices) lines) }
 {

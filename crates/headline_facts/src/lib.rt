@@ -8,6 +8,6 @@
 mod laws;
 
 pub use laws::{
-    lines_have_the_headline, runs_have_the_headline, runs_report_after_the_change,
-    successes_follow_changes,
+    lines_have_the_headline, others_are_told_nothing, runs_have_the_headline,
+    runs_report_after_the_change, successes_follow_changes,
 };

@@ -76,7 +76,7 @@ routed-append : (a b : List HostOut) → routed (a ++ b) ≡ routed a ++ routed 
 routed-append [] b = refl
 routed-append (out ∷ a) b = ap (λ l. routed_one out ++ l) (routed-append a b) ∙ sym (append_assoc (routed_one out) (routed a) (routed b))
 
-happens_then : (w : Outside) (a b : List OuterEvent) → happens_all_outside w (a ++ b) ≡ happens_all_outside (happens_all_outside w a) b
+pub happens_then : (w : Outside) (a b : List OuterEvent) → happens_all_outside w (a ++ b) ≡ happens_all_outside (happens_all_outside w a) b
 happens_then w [] b = refl
 happens_then w (event ∷ a) b = happens_then (happens_outside w event) a b
 
@@ -91,13 +91,13 @@ outs_then : (h : HostState) (a b : List HostEvent) → outs_all h (a ++ b) ≡ o
 outs_then h [] b = refl
 outs_then h (event ∷ a) b = ap (λ l. outs h event ++ l) (outs_then (after_host h event) a b) ∙ sym (append_assoc (outs h event) (outs_all (after_host h event) a) (outs_all (after_all (after_host h event) a) b))
 
-well_front : (h : HostState) (a b : List HostEvent) → AllWell h (a ++ b) → AllWell h a × AllWell (after_all h a) b
+pub well_front : (h : HostState) (a b : List HostEvent) → AllWell h (a ++ b) → AllWell h a × AllWell (after_all h a) b
 well_front h [] b is = (record { may = tt; units = tt }, is)
 well_front h (event ∷ a) b is =
     let later = well_front (after_host h event) a b (record { may = is.may.1; units = is.units.1 }) in
     (record { may = (is.may.0, later.0.may); units = (is.units.0, later.0.units) }, later.1)
 
-told_same : (a b : HostBook) (id status : ℕ) → a.commands ≡ b.commands → a.outcome ≡ b.outcome → told_of a id status ≡ told_of b id status
+pub told_same : (a b : HostBook) (id status : ℕ) → a.commands ≡ b.commands → a.outcome ≡ b.outcome → told_of a id status ≡ told_of b id status
 told_same a b id status commands outcomes =
     ap (λ (cs : List ℕ). told_of (record { commands = cs; outcome = a.outcome; attempts = 0 }) id status) commands ∙ ap (λ (o : Option ℕ). told_of (record { commands = b.commands; outcome = o; attempts = 0 }) id status) outcomes
 
@@ -136,12 +136,12 @@ module _ (laws : Laws) (node : ℕ) (rest : Rest) (down : List Item) where
   goes_then : (c : Course) (yet later_yet : List Item) (h g : HostState) (w v : Outside) (one : HostGoes node c rest yet down h w) → HostGoes node one.later rest later_yet down g v → HostGoes node c rest later_yet down g v
   goes_then c yet later_yet h g w v one two = record { orders = two.orders; later = two.later; goes = goes_on c one.later two.later one.goes two.goes; up = two.up; follows = two.follows }
 
-  course_goes : (c later : Course) → CourseFacts c → Goes c later → CourseFacts later
+  pub course_goes : (c later : Course) → CourseFacts c → Goes c later → CourseFacts later
   course_goes c later course goes = subst (λ (x : Course). CourseFacts x) (sym goes.is) (laws.course c goes.steps course goes.may)
 
   -- ---- one event
 
-  aside_goes : (orders : List Asked) (c : Course) (up yet : List Item) (h : HostState) (w : Outside) (event : HostEvent) → HostFollows node orders c rest up yet down h w → HasPast h → May h event → AsksPlainly node event
+  pub aside_goes : (orders : List Asked) (c : Course) (up yet : List Item) (h : HostState) (w : Outside) (event : HostEvent) → HostFollows node orders c rest up yet down h w → HasPast h → May h event → AsksPlainly node event
       → IsAside node event → IsNoBegin event → AllByRecursion IsUnit (host_units (outs h event)) → HostGoes node c rest yet down (after_host h event) (happens_all_outside w (routed (outs h event)))
   aside_goes orders c up yet h w event f facts may asks aside none units =
       writes_go node orders c rest up yet down h (after_host h event) w (outs h event) f (outcomes_kept laws.past h event facts may) (event_wrote laws.nonces laws.no_more node orders c h facts.facts.host f.host event may asks aside) (event_begins_none h event none) units
@@ -158,7 +158,7 @@ module _ (laws : Laws) (node : ℕ) (rest : Rest) (down : List Item) where
 
   -- ---- a report ends the last session
 
-  first_label : (c : Course) (item : Item) (items : List Item) (turn : Turn) (waiting : List FrameParts) → OnWay (Tells node) c.down (item ∷ items) turn waiting
+  pub first_label : (c : Course) (item : Item) (items : List Item) (turn : Turn) (waiting : List FrameParts) → OnWay (Tells node) c.down (item ∷ items) turn waiting
       → (mark : Option Report) × (ItemIs (Tells node) item mark × ((now : List Report) × ((c.down ≡ option_to_list mark ++ now) × OnWay (Tells node) now items turn waiting)))
   first_label c item items turn waiting on = by on.on_line on.line on.are
     where
@@ -292,7 +292,7 @@ module _ (laws : Laws) (node : ℕ) (rest : Rest) (down : List Item) where
     };
   }
 
-  judge_item : (orders : List Asked) (c : Course) (up yet : List Item) (h : HostState) (w : Outside) (item : Item) (events : List HostEvent) → node < 233 → HostFollows node orders c rest up (item ∷ yet) down h w → HasPast h → CourseFacts c → AllWell h events
+  pub judge_item : (orders : List Asked) (c : Course) (up yet : List Item) (h : HostState) (w : Outside) (item : Item) (events : List HostEvent) → node < 233 → HostFollows node orders c rest up (item ∷ yet) down h w → HasPast h → CourseFacts c → AllWell h events
       → IsJudged h item events → HostGoes node c rest yet down (after_all h events) (happens_all_outside w (routed (outs_all h events)))
   judge_item orders c up yet h w item events within f facts course well (later, are, followed) =
       subst (λ (es : List HostEvent). HostGoes node c rest yet down (after_all h es) (happens_all_outside w (routed (outs_all h es)))) (sym are)

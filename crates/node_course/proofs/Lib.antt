@@ -24,3 +24,5 @@ pub mod Hearing
 pub mod Asking
 pub mod Taken
 pub mod Running
+pub mod Telling
+pub mod TrueLines

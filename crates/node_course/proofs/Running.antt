@@ -56,7 +56,7 @@ pub record Laws : Type 0 where
   pub applied : (steps : List Step) → MayAllSteps first_course steps → IsApplied (after_all first_course steps)
   pub ends : (node : ℕ) (lines : List Line) (m : Machine) (events : List Event) → AreLines lines m events → AllByRecursion (EndsByHearing node) events
 
-nodes_of : (devices : List State) → ((other : ℕ) (one : State) → slice_get devices other ≡ Some one → one.node < 233) → AreNodes devices
+pub nodes_of : (devices : List State) → ((other : ℕ) (one : State) → slice_get devices other ≡ Some one → one.node < 233) → AreNodes devices
 nodes_of [] all = tt
 nodes_of (device ∷ devices) all = (all 0 device refl, nodes_of devices (λ other one e. all (suc other) one e))
 

@@ -153,20 +153,20 @@ all_front : {A : Type 0} (P : A → Type 0) (xs ys : List A) → AllByRecursion 
 all_front P [] ys all = (tt, all)
 all_front P (x ∷ xs) ys all = let later = all_front P xs ys all.1 in ((all.0, later.0), later.1)
 
-units_each : (h : HostState) (events : List HostEvent) → AllByRecursion IsUnit (host_units (outs_all h events)) → UnitsAll h events
+pub units_each : (h : HostState) (events : List HostEvent) → AllByRecursion IsUnit (host_units (outs_all h events)) → UnitsAll h events
 units_each h [] all = tt
 units_each h (event ∷ events) all =
     let both = all_front IsUnit (host_units (outs h event)) (host_units (outs_all (after_host h event) events)) (subst (λ (us : List LineUnit). AllByRecursion IsUnit us) (host_units-append (outs h event) (outs_all (after_host h event) events)) all) in
     (both.0, units_each (after_host h event) events both.1)
 
-abbrev taken_outside : Outside → ℕ → Outside
+abbrev pub taken_outside : Outside → ℕ → Outside
 taken_outside w count = record w { outer = record w.outer { to_host = record w.outer.to_host { bytes = drop count w.outer.to_host.bytes } } }
 
-fed_outside : (w : Outside) (count : ℕ) → happens_outside w (host_takes count) ≡ taken_outside w count
+pub fed_outside : (w : Outside) (count : ℕ) → happens_outside w (host_takes count) ≡ taken_outside w count
 unfolding outcome devices_after
 fed_outside w count = refl
 
-fed_follows : (node : ℕ) (orders : List Asked) (c : Course) (up down : List Item) (m : Machine) (count : ℕ) (rest : Rest) (items : List Item) (left : LeftOf rest (drop count m.outside.outer.to_host.bytes) down items) → WorldFollows node orders c up down m
+pub fed_follows : (node : ℕ) (orders : List Asked) (c : Course) (up down : List Item) (m : Machine) (count : ℕ) (rest : Rest) (items : List Item) (left : LeftOf rest (drop count m.outside.outer.to_host.bytes) down items) → WorldFollows node orders c up down m
     → HostFollows node orders c rest up items left.left m.host.state (happens_outside m.outside (host_takes count))
 fed_follows node orders c up down m count rest items left f = subst (λ (u : Outside). HostFollows node orders c rest up items left.left m.host.state u) (sym (fed_outside m.outside count)) (record {
   mesh = f.outside.mesh;

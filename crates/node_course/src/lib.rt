@@ -1,7 +1,8 @@
 //! That the whole machine goes, for each node whose commands go whole and unsealed, a course of its sessions (`courses`): what its device applied is a part of the commands of the sessions that began.
 //!
 //! It promises that every event outside the host (`outsides_follow_the_course`), what the host does (`hosts_follow_the_course`), every event of the machine (`worlds_follow_the_course`) and so any lines from the first on
-//! (`lines_have_a_course`) are steps of such a course; and that the host's table of commands says what the host was told and what the device changed. What lines ask beside orders is no matter (`lines_ask_plainly`). No code stands here. The definitions stand in `specs/`: `Ways` (labels beside what carries them, and what loss and doubling make of them), `Meaning` (what a label says
+//! (`lines_have_a_course`) are steps of such a course; and that the host's table of commands says what the host was told and what the device changed. What lines ask beside orders is no matter (`lines_ask_plainly`).
+//! And each success that the host is told of the node is true at the moment it is told (`hosts_are_told_the_truth`, `worlds_tell_the_truth`, `lines_tell_the_truth`). No code stands here. The definitions stand in `specs/`: `Ways` (labels beside what carries them, and what loss and doubling make of them), `Meaning` (what a label says
 //! of bytes), and where the course is: `Air`, `Device`, `Mesh`, `Lines` and `Chip`, `Outside`, `Host` and `HostGoing`, `World`; in `Told` what the host's table says, and in `Making` what sessions make.
 #![tactic(auto)]
 
@@ -11,6 +12,7 @@ mod host;
 mod lines;
 mod mesh;
 mod outside;
+mod truth;
 mod ways;
 mod world;
 
@@ -20,5 +22,6 @@ pub use host::hosts_follow_the_course;
 pub use lines::chips_carry_reports;
 pub use mesh::arrivals_follow_the_course;
 pub use outside::outsides_follow_the_course;
+pub use truth::{hosts_are_told_the_truth, lines_tell_the_truth, worlds_tell_the_truth};
 pub use ways::ways_may_thin;
 pub use world::{lines_ask_plainly, lines_have_a_course, worlds_follow_the_course};

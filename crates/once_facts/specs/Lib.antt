@@ -1,3 +1,4 @@
 pub mod Tied
 pub mod ByTable
 pub mod InSessions
+pub mod Truly

@@ -1,7 +1,7 @@
-mod Orders
+pub mod Orders
 mod Keeping
-mod Plain
-mod Saying
+pub mod Plain
+pub mod Saying
 mod Reading
 mod Outside
 pub mod Classes

@@ -70,7 +70,7 @@ abbrev pub IsNoOrder : HostEvent → Type 0
 IsNoOrder (Accepts order carriage) = ⊥
 IsNoOrder event = Unit {0}
 
-abbrev Keeps : HostState → HostState → Type 0
+abbrev pub Keeps : HostState → HostState → Type 0
 Keeps old new = SameOrders old.commands new.commands
 
 if_kept : (b : Bool) (h one other : HostState) → Keeps h one → Keeps h other → Keeps h (if b then one else other)

@@ -42,7 +42,7 @@ hosts_kept h [] none = same_orders h.commands
 hosts_kept h (event ∷ events) none =
     then_same h.commands (host_after h event).commands (host_after_all (host_after h event) events).commands (event_kept h event none.0) (hosts_kept (host_after h event) events none.1)
 
-machine_kept : (m : Machine) (event : Event) → IsPlain event → May m event → StartsWell m event → SameOrders m.host.state.commands (happens m event).host.state.commands
+pub machine_kept : (m : Machine) (event : Event) → IsPlain event → May m event → StartsWell m event → SameOrders m.host.state.commands (happens m event).host.state.commands
 unfolding happens May
 machine_kept m (Outside_does event) plain may well = same_orders m.host.state.commands
 machine_kept m (Host_does event) plain may well = event_kept m.host.state event plain
@@ -53,7 +53,7 @@ machine_kept m (Refuses line refusal) plain may well = same_orders m.host.state.
 machine_kept m (Shows_values node) plain may well = same_orders m.host.state.commands
 machine_kept m (Restarts state) plain may well = restart_kept m.host.state state well
 
-events_kept : (m : Machine) (events : List Event) → ArePlain events → MayAll m events → AllStartWell m events → SameOrders m.host.state.commands (happens_all m events).host.state.commands
+pub events_kept : (m : Machine) (events : List Event) → ArePlain events → MayAll m events → AllStartWell m events → SameOrders m.host.state.commands (happens_all m events).host.state.commands
 events_kept m [] plain may well = same_orders m.host.state.commands
 events_kept m (event ∷ events) plain may well =
     then_same m.host.state.commands (happens m event).host.state.commands (happens_all (happens m event) events).host.state.commands

@@ -1,10 +1,12 @@
-use Rattle.std.proofs.Common.{[]}
+use Rattle.std.proofs.Common.{ℕ, [], inl, inr}
 use Rattle.zw_laws.specs.Nodes.{listing_of}
 use Rattle.zw_machine.specs.State.{first_machine}
 use Rattle.once_facts.specs.InSessions.{ChangesInSessions}
 use Rattle.once_facts.proofs.Heading.{of_device}
 use Rattle.said_facts.specs.Spoken.{after_all, transcript_of}
+use Rattle.headline_facts.specs.Truly.{LinesAreTrue}
 use Rattle.headline_facts.proofs.Heading.{lines_still}
+use Rattle.headline_facts.proofs.Unasked.{askable_or}
 use Rattle.headline_facts.proofs.laws.runs_have_the_headline.Goals as goal
 
 pub returns-clause-one : goal.returns-clause-one
@@ -21,9 +23,13 @@ pub returns-clause-whole : goal.returns-clause-whole
 returns-clause-whole c = λ keys records devices lines unchanged apart are true tells tied.
     let m = first_machine keys records devices in
     let end = after_all m lines in
+    let all_true : (node : ℕ) → LinesAreTrue node m lines = λ node. elim (askable_or devices node) [
+      | inl askable ↦ true node askable
+      | inr other ↦ c.others_are_told_nothing.ensures keys records devices lines node are tells other
+    ] in
     let knows = c.interviews_give_what_is_known.ensures.lines (listing_of devices) [] m lines are tells (c.interviews_give_what_is_known.ensures.first (listing_of devices) keys) in
     let (facts, said) = c.answers_stand_behind_their_lines.ensures.lines (listing_of devices) [] m lines (c.the_machine_keeps_facts.ensures.first keys records devices) tt knows are in
     c.headlines_follow.ensures.whole (transcript_of m lines) end.host.state devices end.outside.devices facts
-    (c.runs_report_after_the_change.ensures keys records devices lines unchanged apart are true) tied
+    (c.runs_report_after_the_change.ensures.all keys records devices lines unchanged apart are all_true) tied
     (lines_still c.devices_go_on.ensures.all c.devices_change_in_sessions.ensures.all m lines (c.devices_change_in_sessions.ensures.unchanged devices unchanged))
     (λ node. c.runs_have_their_tables.ensures (listing_of devices) keys records devices lines node are tells)
