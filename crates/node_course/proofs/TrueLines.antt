@@ -12,7 +12,7 @@ use Rattle.zw_text.specs.declared.line.Line.{Line}
 use Rattle.outer_events.specs.State.{Outside}
 use Rattle.outer_events.specs.Events.{Host_takes as host_takes, happens as happens_outside}
 use Rattle.outer_traffic.specs.Traffic.{AreNodes}
-use Rattle.host_events.specs.State.{HostState}
+use Rattle.host_events.specs.State.{HostState, first_host}
 use Rattle.host_events.specs.Events.{HostEvent}
 use Rattle.host_events.specs.Did.{outs_all}
 use Rattle.host_events.specs.Taking.{AreJudged}
@@ -22,6 +22,8 @@ use Rattle.zw_machine.specs.Did.{MayAll}
 use Rattle.line_facts.specs.Line.{host_units, WritesWell, AllWriteWell, IsAtRest, AllAtRest, AreLines, Stays}
 use Rattle.line_facts.specs.Host.{AllAskWell}
 use Rattle.line_facts.proofs.Ways.{carries_left}
+use Rattle.host_events.specs.Facts.{HostFacts}
+use Rattle.world_facts.specs.Restarts.{AllKeepWell, BeginsEmpty, IsHeld, KeepsWell, StartsWell}
 use Rattle.world_traffic.specs.OnAir.{EventStaysFew, AlwaysFew}
 use Rattle.once_facts.specs.Truly.{TellTruly, IsTrue, AreTrue}
 use Rattle.node_course.specs.Meaning.{Asked}
@@ -60,25 +62,28 @@ module _ (judges : Judges) (node : ℕ) (within : node < 233) where
 
 -- the laws that are used: of one event, and that it makes steps of the course
 pub record EventLaws : Type 0 where
-  pub goes : (node : ℕ) (orders : List Asked) (c : Course) (up down : List Item) (m : Machine) (event : Event) → node < 233 → WorldFollows node orders c up down m → May m event → IsAtRest m event → WritesWell m event →
-      EventStaysFew m event → IsPlainly node event → EndsByHearing node event → WorldGoes node c (happens m event)
+  pub goes : (node : ℕ) (orders : List Asked) (c : Course) (up down : List Item) (m : Machine) (event : Event) → node < 233 → WorldFollows node orders c up down m → IsHeld m.host.state m.records → May m event → IsAtRest m event →
+      WritesWell m event → EventStaysFew m event → KeepsWell m event → IsPlainly node event → EndsByHearing node event → WorldGoes node c (happens m event)
+  pub held : (m : Machine) (event : Event) → HostFacts m.host.state → IsHeld m.host.state m.records → May m event → KeepsWell m event → StartsWell m event × IsHeld (happens m event).host.state (happens m event).records
   pub judges : Judges
 
 module _ (laws : EventLaws) (node : ℕ) (within : node < 233) where
-  pub events_true : (orders : List Asked) (c : Course) (up down : List Item) (m : Machine) (events : List Event) → WorldFollows node orders c up down m → MayAll m events → AllAtRest m events → AllWriteWell m events → AlwaysFew m events
-      → AllByRecursion (IsPlainly node) events → AllByRecursion (EndsByHearing node) events → AreTrue node m events
-  events_true orders c up down m [] f may rests well few plain none = tt
-  events_true orders c up down m (event ∷ events) f may rests well few plain none =
-      let one : WorldGoes node c (happens m event) = laws.goes node orders c up down m event within f may.0 rests.0 well.0 few.1 plain.0 none.0 in (
+  pub events_true : (orders : List Asked) (c : Course) (up down : List Item) (m : Machine) (events : List Event) → WorldFollows node orders c up down m → IsHeld m.host.state m.records → MayAll m events → AllAtRest m events → AllWriteWell m events
+      → AlwaysFew m events → AllKeepWell m events → AllByRecursion (IsPlainly node) events → AllByRecursion (EndsByHearing node) events → AreTrue node m events
+  events_true orders c up down m [] f held may rests well few keeps plain none = tt
+  events_true orders c up down m (event ∷ events) f held may rests well few keeps plain none =
+      let one : WorldGoes node c (happens m event) = laws.goes node orders c up down m event within f held may.0 rests.0 well.0 few.1 keeps.0 plain.0 none.0 in
+      let next = laws.held m event f.facts held may.0 keeps.0 in (
         event_true laws.judges node within orders c up down m event f may.0 well.0 none.0,
-        events_true one.orders one.later one.up one.down (happens m event) events one.follows may.1 rests.1 well.1 few.2 plain.1 none.1,
+        events_true one.orders one.later one.up one.down (happens m event) events one.follows next.1 may.1 rests.1 well.1 few.2 keeps.1 plain.1 none.1,
       )
 
 -- ---- lines
 
 pub record LineLaws : Type 0 where
-  pub events : (node : ℕ) (orders : List Asked) (c : Course) (up down : List Item) (m : Machine) (events : List Event) → node < 233 → WorldFollows node orders c up down m → MayAll m events → AllAtRest m events →
-      AllWriteWell m events → AlwaysFew m events → AllByRecursion (IsPlainly node) events → AllByRecursion (EndsByHearing node) events → AreTrue node m events
+  pub events : (node : ℕ) (orders : List Asked) (c : Course) (up down : List Item) (m : Machine) (events : List Event) → node < 233 → WorldFollows node orders c up down m → IsHeld m.host.state m.records → MayAll m events →
+      AllAtRest m events → AllWriteWell m events → AlwaysFew m events → AllKeepWell m events → AllByRecursion (IsPlainly node) events → AllByRecursion (EndsByHearing node) events → AreTrue node m events
+  pub held_first : (keys : Keys) (records : Option (List (List ℕ))) → BeginsEmpty records → IsHeld (first_host keys) records
   pub first : (node : ℕ) (keys : Keys) (records : Option (List (List ℕ))) (devices : List State) → node < 233 → HasDevice node first_course devices → WorldFollows node [] first_course [] [] (first_machine keys records devices)
   pub stays : (keys : Keys) (records : Option (List (List ℕ))) (devices : List State) (lines : List Line) (events : List Event) → AreLines lines (first_machine keys records devices) events → MayAll (first_machine keys records devices) events →
       AllWriteWell (first_machine keys records devices) events → Stays (first_machine keys records devices) events
@@ -92,9 +97,10 @@ module _ (laws : LineLaws) (node : ℕ) (within : node < 233) (keys : Keys) (rec
   abbrev first : Machine
   first = first_machine keys records devices
 
-  pub lines_true : (lines : List Line) (events : List Event) → AreLines lines first events → MayAll first events → AllAskWell first events → AllByRecursion (IsPlainly node) events → AreTrue node first events
-  lines_true lines events are may asks plain =
+  pub lines_true : (lines : List Line) (events : List Event) → BeginsEmpty records → AreLines lines first events → MayAll first events → AllAskWell first events → AllKeepWell first events → AllByRecursion (IsPlainly node) events
+      → AreTrue node first events
+  lines_true lines events empty are may asks keeps plain =
       let well : AllWriteWell first events = laws.writes keys records devices events may asks in
       let rests : Stays first events = laws.stays keys records devices lines events are may well in
       let few : AlwaysFew first events = laws.few keys records devices lines events (nodes_of devices has.nodes) are may asks in
-      laws.events node [] first_course [] [] first events within (laws.first node keys records devices within has) may rests.at_rest well few plain (laws.ends node lines first events are)
+      laws.events node [] first_course [] [] first events within (laws.first node keys records devices within has) (laws.held_first keys records empty) may rests.at_rest well few keeps plain (laws.ends node lines first events are)

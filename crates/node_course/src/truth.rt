@@ -18,6 +18,7 @@ ghost use Rattle.zw_machine.specs.Events.{Event, May};
 ghost use Rattle.zw_machine.specs.Did.{MayAll};
 ghost use Rattle.line_facts.specs.Line.{WritesWell, AllWriteWell, AllAtRest, AreLines};
 ghost use Rattle.line_facts.specs.Host.{AllAskWell};
+ghost use Rattle.world_facts.specs.Restarts.{AllKeepWell, BeginsEmpty, IsHeld};
 ghost use Rattle.world_traffic.specs.OnAir.{AlwaysFew};
 ghost use Rattle.once_facts.specs.Truly.{TellTruly, IsTrue, AreTrue};
 ghost use Rattle.node_course.specs.Meaning.{Asked};
@@ -32,6 +33,7 @@ use courses::{courses_keep_facts, ids_name_one_session};
 use host_facts::{events_keep_facts, laws_follow, what_is_over_stays};
 use line_facts::{hosts_write_well, units_are_judged_whole};
 use message_facts::{others_are_no_messages, reports_tell};
+use world_facts::restarts_go_on;
 use world_traffic::at_most_two_are_on_the_air;
 
 /// As the host judges a report that ends a session of the node with success, the node's device has ended that session so, and each of its changes by sessions
@@ -54,26 +56,28 @@ pub fn hosts_are_told_the_truth()
 pub fn worlds_tell_the_truth()
     ensures event { (node : ℕ) (orders : List Asked) (c : Course) (up down : List Item) (m : Machine) (event : Event) → node < 233 → WorldFollows node orders c up down m → May m event → WritesWell m event →
         EndsByHearing node event → IsTrue node m event }
-    ensures events { (node : ℕ) (orders : List Asked) (c : Course) (up down : List Item) (m : Machine) (events : List Event) → node < 233 → WorldFollows node orders c up down m → MayAll m events → AllAtRest m events →
-        AllWriteWell m events → AlwaysFew m events → AllByRecursion (IsPlainly node) events → AllByRecursion (EndsByHearing node) events → AreTrue node m events }
+    ensures events { (node : ℕ) (orders : List Asked) (c : Course) (up down : List Item) (m : Machine) (events : List Event) → node < 233 → WorldFollows node orders c up down m → IsHeld m.host.state m.records → MayAll m events →
+        AllAtRest m events → AllWriteWell m events → AlwaysFew m events → AllKeepWell m events → AllByRecursion (IsPlainly node) events → AllByRecursion (EndsByHearing node) events → AreTrue node m events }
 {
     hosts_are_told_the_truth();
     worlds_follow_the_course();
+    restarts_go_on();
 }
 
-/// So over any lines from the first on, for a node whose commands go whole and unsealed, where no host starts again: each success that the host is told of the node is true at the moment it is
-/// told. It is enough that the orders go so (`plain`).
+/// So over any lines from the first on, however often the host starts again, for a node whose commands go whole and unsealed: each success that the host is told of the node is true at the
+/// moment it is told. It is enough that the orders go so (`plain`). Premised is of the keeper what `lines_have_a_course` premises.
 pub fn lines_tell_the_truth()
-    ensures lines { (node : ℕ) (keys : Keys) (records : Option (List (List ℕ))) (devices : List State) (lines : List Line) (events : List Event) → node < 233 → HasDevice node first_course devices →
-        AreLines lines (first_machine keys records devices) events → MayAll (first_machine keys records devices) events → AllAskWell (first_machine keys records devices) events → AllByRecursion (IsPlainly node) events →
-        AreTrue node (first_machine keys records devices) events }
-    ensures plain { (node : ℕ) (keys : Keys) (records : Option (List (List ℕ))) (devices : List State) (lines : List Line) (events : List Event) → node < 233 → HasDevice node first_course devices →
+    ensures lines { (node : ℕ) (keys : Keys) (records : Option (List (List ℕ))) (devices : List State) (lines : List Line) (events : List Event) → node < 233 → HasDevice node first_course devices → BeginsEmpty records →
+        AreLines lines (first_machine keys records devices) events → MayAll (first_machine keys records devices) events → AllAskWell (first_machine keys records devices) events →
+        AllKeepWell (first_machine keys records devices) events → AllByRecursion (IsPlainly node) events → AreTrue node (first_machine keys records devices) events }
+    ensures plain { (node : ℕ) (keys : Keys) (records : Option (List (List ℕ))) (devices : List State) (lines : List Line) (events : List Event) → node < 233 → HasDevice node first_course devices → BeginsEmpty records →
         AllByRecursion NamesEnd lines → AreLines lines (first_machine keys records devices) events → MayAll (first_machine keys records devices) events → AllAskWell (first_machine keys records devices) events →
-        AllByRecursion (OrdersPlain node) events → AreTrue node (first_machine keys records devices) events }
+        AllKeepWell (first_machine keys records devices) events → AllByRecursion (OrdersPlain node) events → AreTrue node (first_machine keys records devices) events }
 {
     worlds_tell_the_truth();
     lines_ask_plainly();
     lines_have_a_course();
+    restarts_go_on();
     units_are_judged_whole();
     hosts_write_well();
     at_most_two_are_on_the_air();

@@ -6,6 +6,7 @@ use Rattle.node_course.proofs.truth.lines_tell_the_truth.Goals as goal
 pub returns-clause-lines : goal.returns-clause-lines
 returns-clause-lines c node keys records devices lines events within has = lines_true (record {
   events = c.worlds_tell_the_truth.ensures.events;
+  held_first = c.restarts_go_on.ensures.first;
   first = c.lines_have_a_course.ensures.first;
   stays = c.units_are_judged_whole.ensures.lines;
   writes = c.hosts_write_well.ensures.run;
@@ -14,11 +15,12 @@ returns-clause-lines c node keys records devices lines events within has = lines
 }) node within keys records devices has lines events
 
 pub returns-clause-plain : goal.returns-clause-plain
-returns-clause-plain c node keys records devices lines events within has names are may asks plain = lines_true (record {
+returns-clause-plain c node keys records devices lines events within has empty names are may asks keeps plain = lines_true (record {
   events = c.worlds_tell_the_truth.ensures.events;
+  held_first = c.restarts_go_on.ensures.first;
   first = c.lines_have_a_course.ensures.first;
   stays = c.units_are_judged_whole.ensures.lines;
   writes = c.hosts_write_well.ensures.run;
   few = c.at_most_two_are_on_the_air.ensures.always;
   ends = c.lines_ask_plainly.ensures.ends;
-}) node within keys records devices has lines events are may asks (c.lines_ask_plainly.ensures.plain node lines (first_machine keys records devices) events names are plain)
+}) node within keys records devices has lines events empty are may asks keeps (c.lines_ask_plainly.ensures.plain node lines (first_machine keys records devices) events names are plain)

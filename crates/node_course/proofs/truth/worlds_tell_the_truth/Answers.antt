@@ -7,4 +7,4 @@ returns-clause-event c node orders course up down m event within = event_true c.
 
 pub returns-clause-events : goal.returns-clause-events
 returns-clause-events c node orders course up down m events within =
-    events_true (record { goes = c.worlds_follow_the_course.ensures.event; judges = c.hosts_are_told_the_truth.ensures }) node within orders course up down m events
+    events_true (record { goes = c.worlds_follow_the_course.ensures.event; held = c.restarts_go_on.ensures.each; judges = c.hosts_are_told_the_truth.ensures }) node within orders course up down m events
