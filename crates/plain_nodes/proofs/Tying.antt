@@ -1,19 +1,45 @@
--- A machine that has the course of a node has its device tied to the host.
-use Rattle.std.proofs.Common.{◌≡◌, ℕ, ◌+◌, suc, Bool, true, false, List, [], ◌∷◌, length, Option, Some, None, option_map, if◌then◌else◌, ◌==◌, slice_get, refl, sym, ap, ap₂, subst, ◌∙◌, arith}
+-- A machine that has the course of a node has its device tied to the host; and what is true at all events is so line by line.
+use Rattle.std.proofs.Common.{◌≡◌, ℕ, ◌+◌, suc, Bool, true, false, List, [], ◌∷◌, length, Option, Some, None, option_map, ◌++◌, Ok, if◌then◌else◌, ◌==◌, slice_get, refl, sym, ap, ap₂, subst, ◌∙◌, arith}
 use Rattle.std.proofs.lemmas.Bool.{eqb-true}
 use Rattle.std.specs.List.{AllByRecursion}
 use Rattle.supervision.specs.Host.{HostBook, begun_of, open_session}
 use Rattle.courses.specs.Sessions.{Course}
 use Rattle.courses.specs.SessionFacts.{CourseFacts}
+use Rattle.device_stack.specs.Kind.{lists}
+use Rattle.device_stack.specs.declared.kind.Kind.{Kind}
 use Rattle.device_sim.specs.State.{State}
 use Rattle.device_course.specs.Ending.{HasEnded}
+use Rattle.device_facts.specs.GoingOn.{AreSame}
 use Rattle.mesh_sim.specs.Fates.{place_of}
-use Rattle.zw_laws.specs.Nodes.{device_of}
+use Rattle.zw_text.specs.Line.{line_at}
+use Rattle.zw_text.specs.declared.line.Line.{Line}
+use Rattle.zw_laws.specs.Nodes.{device_of, is_supervised}
 use Rattle.zw_machine.specs.State.{Machine}
+use Rattle.zw_machine.specs.Events.{Event, happens}
+use Rattle.zw_machine.specs.Did.{happens_all}
 use Rattle.host_events.specs.State.{Command}
 use Rattle.host_nodes.specs.State.{node_of}
+use Rattle.run_facts.specs.Lines.{IsRead}
 use Rattle.once_facts.specs.Tied.{AreOutcomes, AreTied, IsTied, MakesWhatIsTaken}
-use Rattle.node_course.specs.World.{HasCourse}
+use Rattle.once_facts.specs.Truly.{AreTrue}
+use Rattle.said_facts.specs.Spoken.{Spoken, after}
+use Rattle.listing_facts.specs.Lines.{events_of}
+use Rattle.headline_facts.specs.Truly.{LinesAreTrue}
+use Rattle.node_course.specs.World.{HasCourse, NamesEnd}
+
+-- ---- lines
+
+pub all_name : ((text : List ℕ) (line : Line) → line_at text ≡ Ok (Some line) → NamesEnd line) → (lines : List Line) → AllByRecursion IsRead lines → AllByRecursion NamesEnd lines
+all_name names [] all = tt
+all_name names (line ∷ lines) all = (names all.0.0 line all.0.1, all_name names lines all.1)
+
+both_true : (node : ℕ) (m : Machine) (a b : List Event) → AreTrue node m (a ++ b) → AreTrue node m a × AreTrue node (happens_all m a) b
+both_true node m [] b all = (tt, all)
+both_true node m (event ∷ a) b all = let more = both_true node (happens m event) a b all.1 in ((all.0, more.0), more.1)
+
+pub lines_true : (node : ℕ) (m : Machine) (lines : List Spoken) → AreTrue node m (events_of lines) → LinesAreTrue node m lines
+lines_true node m [] all = tt
+lines_true node m (spoken ∷ more) all = let both = both_true node m spoken.events (events_of more) all in (both.0, lines_true node (after m spoken) more both.1)
 
 -- ---- the first device of a node
 
@@ -42,6 +68,26 @@ finds : (node : ℕ) (devices : List State) → FindsIn node devices
 finds node [] place device other here stands found = absurd cc
 finds node (first ∷ rest) place device other here stands found =
     found_by (first.node == node) node first rest (place_of node rest) place device other refl refl (finds node rest) here stands found
+
+-- the first device of a node knows Supervision
+abbrev pub WasSuch : ℕ → List State → Type 0
+WasSuch node devices = (device : State) × (device_of node devices ≡ Some device) × (is_supervised device ≡ true)
+
+-- so it did at first, where it does now: devices keep their nodes and kinds
+pub first_was : (node : ℕ) (old new : List State) (device : State) → AreSame old new → device_of node new ≡ Some device → is_supervised device ≡ true → WasSuch node old
+first_was node [] [] device same found knows = absurd cc
+first_was node [] (y ∷ new) device same found knows = absurd same
+first_was node (x ∷ old) [] device same found knows = absurd same
+first_was node (x ∷ old) (y ∷ new) device same found knows = by (y.node == node) refl (λ there. first_was node old new device same.1 there knows) found
+  where
+    old_or : (b : Bool) → (y.node == node) ≡ b → device_of node (x ∷ old) ≡ (if b then Some x else device_of node old)
+    old_or b e = ap (λ (h : Bool). if h then Some x else device_of node old) (ap (λ (n : ℕ). n == node) (sym same.0.node) ∙ e)
+
+    by : (b : Bool) → (y.node == node) ≡ b → (device_of node new ≡ Some device → WasSuch node old) → (if b then Some y else device_of node new) ≡ Some device → WasSuch node (x ∷ old)
+    by true e later here =
+        let is : y ≡ device = cc in
+        (x, old_or true e, ap (λ (k : Kind). lists k 0x6C) (sym same.0.kind) ∙ (ap (λ (d : State). is_supervised d) is ∙ knows))
+    by false e later there = let was = later there in (was.0, old_or false e ∙ was.1, was.2)
 
 -- ---- the book of a node
 

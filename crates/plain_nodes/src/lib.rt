@@ -1,9 +1,13 @@
-//! The headline of a node whose commands go whole and unsealed, over any lines that were read, without a restart.
+//! The headline of nodes whose commands go whole and unsealed, over any lines that were read, without a restart.
 //!
-//! The course of such a node (`node_course`) ties its device to the host, and so it has what follows of that (`headline_facts`): once only, and the
-//! confirmed value. No code stands here; the law is the contract of a function that does nothing.
+//! The course of such a node (`node_course`) ties its device to the host, and each success that the host is told of it is true (`plain_nodes_are_tied`). So it has what follows of that
+//! (`headline_facts`): once only, the confirmed value, and success behind the change; and where all nodes that may be asked are such, the whole headline (`plain_runs_have_the_headline`).
+//! No code stands here: each law is the contract of a function that does nothing. `specs/Plain` says what a plain node is.
 #![tactic(auto)]
 
 mod laws;
 
-pub use laws::plain_nodes_have_the_headline;
+pub use laws::{
+    plain_nodes_are_tied, plain_nodes_have_the_headline, plain_nodes_report_after_the_change,
+    plain_runs_have_the_headline,
+};
