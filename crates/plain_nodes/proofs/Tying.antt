@@ -1,5 +1,5 @@
--- A machine that has the course of a node has its device tied to the host.
-use Rattle.std.proofs.Common.{◌≡◌, ℕ, suc, Bool, true, false, List, [], ◌∷◌, length, Option, Some, None, option_map, if◌then◌else◌, ◌==◌, slice_get, refl, sym, ap, ap₂, subst, ◌∙◌, arith}
+-- A machine that has the course of a node has its device tied to the host; and what is true at all events is so line by line.
+use Rattle.std.proofs.Common.{◌≡◌, ℕ, ◌+◌, suc, Bool, true, false, List, [], ◌∷◌, length, Option, Some, None, option_map, ◌++◌, Ok, if◌then◌else◌, ◌==◌, slice_get, refl, sym, ap, ap₂, subst, ◌∙◌, arith}
 use Rattle.std.proofs.lemmas.Bool.{eqb-true}
 use Rattle.std.specs.List.{AllByRecursion}
 use Rattle.supervision.specs.Host.{HostBook, begun_of, open_session}
@@ -7,13 +7,37 @@ use Rattle.courses.specs.Sessions.{Course}
 use Rattle.courses.specs.SessionFacts.{CourseFacts}
 use Rattle.device_sim.specs.State.{State}
 use Rattle.device_course.specs.Ending.{HasEnded}
+use Rattle.device_facts.specs.GoingOn.{AreSame, IsSame}
 use Rattle.mesh_sim.specs.Fates.{place_of}
+use Rattle.zw_text.specs.Line.{line_at}
+use Rattle.zw_text.specs.declared.line.Line.{Line}
 use Rattle.zw_laws.specs.Nodes.{device_of}
 use Rattle.zw_machine.specs.State.{Machine}
+use Rattle.zw_machine.specs.Events.{Event, happens}
+use Rattle.zw_machine.specs.Did.{happens_all}
 use Rattle.host_events.specs.State.{Command}
 use Rattle.host_nodes.specs.State.{node_of}
+use Rattle.run_facts.specs.Lines.{IsRead}
 use Rattle.once_facts.specs.Tied.{AreOutcomes, AreTied, IsTied, MakesWhatIsTaken}
-use Rattle.node_course.specs.World.{HasCourse}
+use Rattle.once_facts.specs.Truly.{AreTrue}
+use Rattle.said_facts.specs.Spoken.{Spoken, after}
+use Rattle.listing_facts.specs.Lines.{events_of}
+use Rattle.headline_facts.specs.Truly.{LinesAreTrue}
+use Rattle.node_course.specs.World.{HasCourse, NamesEnd}
+
+-- ---- lines
+
+pub all_name : ((text : List ℕ) (line : Line) → line_at text ≡ Ok (Some line) → NamesEnd line) → (lines : List Line) → AllByRecursion IsRead lines → AllByRecursion NamesEnd lines
+all_name names [] all = tt
+all_name names (line ∷ lines) all = (names all.0.0 line all.0.1, all_name names lines all.1)
+
+both_true : (node : ℕ) (m : Machine) (a b : List Event) → AreTrue node m (a ++ b) → AreTrue node m a × AreTrue node (happens_all m a) b
+both_true node m [] b all = (tt, all)
+both_true node m (event ∷ a) b all = let more = both_true node (happens m event) a b all.1 in ((all.0, more.0), more.1)
+
+pub lines_true : (node : ℕ) (m : Machine) (lines : List Spoken) → AreTrue node m (events_of lines) → LinesAreTrue node m lines
+lines_true node m [] all = tt
+lines_true node m (spoken ∷ more) all = let both = both_true node m spoken.events (events_of more) all in (both.0, lines_true node (after m spoken) more both.1)
 
 -- ---- the first device of a node
 
@@ -42,6 +66,35 @@ finds : (node : ℕ) (devices : List State) → FindsIn node devices
 finds node [] place device other here stands found = absurd cc
 finds node (first ∷ rest) place device other here stands found =
     found_by (first.node == node) node first rest (place_of node rest) place device other refl refl (finds node rest) here stands found
+
+-- the first device of a node, as it was among devices that went on: devices keep their nodes and kinds
+pub record Was (node : ℕ) (old : List State) (device : State) : Type 0 where
+  pub before : State
+  pub found : device_of node old ≡ Some before
+  pub kind : device.kind ≡ before.kind
+
+was_by : (hit : Bool) (node : ℕ) (was now : State) (old new : List State) (device : State) → IsSame was now → (now.node == node) ≡ hit → (device_of node new ≡ Some device → Was node old device)
+    → (if hit then Some now else device_of node new) ≡ Some device → Was node (was ∷ old) device
+was_by true node was now old new device same is more e =
+    let one : now ≡ device = cc in
+    record {
+      before = was;
+      found = ap (λ (b : Bool). if b then Some was else device_of node old) (ap (λ (n : ℕ). n == node) (sym same.node) ∙ is);
+      kind = ap (λ (d : State). d.kind) (sym one) ∙ same.kind;
+    }
+was_by false node was now old new device same is more e =
+    let later = more e in
+    record {
+      before = later.before;
+      found = ap (λ (b : Bool). if b then Some was else device_of node old) (ap (λ (n : ℕ). n == node) (sym same.node) ∙ is) ∙ later.found;
+      kind = later.kind;
+    }
+
+pub was_there : (node : ℕ) (old new : List State) (device : State) → AreSame old new → device_of node new ≡ Some device → Was node old device
+was_there node [] [] device same e = absurd cc
+was_there node [] (now ∷ new) device same e = absurd same
+was_there node (was ∷ old) [] device same e = absurd same
+was_there node (was ∷ old) (now ∷ new) device same e = was_by (now.node == node) node was now old new device same.0 refl (was_there node old new device same.1) e
 
 -- ---- the book of a node
 

@@ -1,16 +1,36 @@
--- Which devices have the headline so far (this project's own; the classes are those of a Node Information Frame).
-use Rattle.std.specs.Prelude.{◌≡◌, ℕ, true, false, List}
+-- Plain nodes (this project's own): their messages go whole and unsealed.
+use Rattle.std.specs.Prelude.{◌≡◌, ℕ, ◌<◌, true, false, List, Some}
+use Rattle.std.specs.List.{AllByRecursion}
+use Rattle.courses.specs.Sessions.{first_course}
 use Rattle.device_stack.specs.declared.kind.Kind.{Kind}
 use Rattle.device_stack.specs.Kind.{lists as kind_lists}
+use Rattle.device_sim.specs.State.{State}
 use Rattle.host_orders.specs.Classes.{lists}
+use Rattle.zw_laws.specs.Nodes.{device_of}
+use Rattle.zw_machine.specs.Events.{Event}
+use Rattle.node_course.specs.Mesh.{HasDevice}
+use Rattle.node_course.specs.World.{OrdersPlain}
 
--- A kind that lists Supervision, and neither Security 0 nor Transport Service: it takes commands in sessions, each in one frame and not sealed.
+-- A kind that lists Supervision, and neither Security 0 nor Transport Service (the classes are those of a Node Information Frame): it takes commands in sessions, each in one frame
+-- and not sealed.
 pub record IsPlainKind (kind : Kind) : Type 0 where
   pub supervised : kind_lists kind 0x6C ≡ true
   pub unsealed : kind_lists kind 0x98 ≡ false
   pub whole : kind_lists kind 0x55 ≡ false
 
+-- a node whose device, the first of it in the list, is of a plain kind
+pub record IsPlainNode (devices : List State) (node : ℕ) : Type 0 where
+  pub device : State
+  pub first : device_of node devices ≡ Some device
+  pub kind : IsPlainKind device.kind
+
 -- a list of classes has neither Security 0 nor Transport Service
 pub record IsOpenList (classes : List ℕ) : Type 0 where
   pub unsealed : lists classes 0x98 ≡ false
   pub whole : lists classes 0x55 ≡ false
+
+-- over these events: the device of the node is the only one of it, is as its maker left it and takes what is not sealed; and the orders for the node go whole and unsealed
+pub record IsPlain (devices : List State) (events : List Event) (node : ℕ) : Type 0 where
+  pub within : node < 233
+  pub device : HasDevice node first_course devices
+  pub orders : AllByRecursion (OrdersPlain node) events

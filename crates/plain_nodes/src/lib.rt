@@ -1,8 +1,9 @@
-//! The headline of a node whose commands go whole and unsealed, over any lines that were read, restarts among them.
+//! The headline of nodes whose commands go whole and unsealed, over any lines that were read, restarts among them.
 //!
-//! The course of such a node (`node_course`) ties its device to the host, and so it has what follows of that (`headline_facts`): once only, and the
-//! confirmed value. Which nodes these are is told by the kinds of their devices (`specs/Plain`). No code stands here; each law is the contract of a function that
-//! does nothing.
+//! The course of such a node (`node_course`) ties its device to the host, and each success that the host is told of it is true (`plain_nodes_are_tied`). So it has what follows of that
+//! (`headline_facts`): once only, the confirmed value, and success behind the change; and where all nodes that may be asked are such, the whole headline (`plain_runs_have_the_headline`).
+//! Which nodes these are is told by the kinds of their devices (`devices_as_made_begin_courses`, `orders_go_plain`). No code stands here: each law is the contract of a function that does nothing. `specs/Plain` says
+//! what a plain node is, and what a plain kind.
 #![tactic(auto)]
 
 mod devices;
@@ -10,5 +11,8 @@ mod laws;
 mod orders;
 
 pub use devices::devices_as_made_begin_courses;
-pub use laws::plain_nodes_have_the_headline;
+pub use laws::{
+    plain_nodes_are_tied, plain_nodes_have_the_headline, plain_nodes_report_after_the_change,
+    plain_runs_have_the_headline,
+};
 pub use orders::orders_go_plain;

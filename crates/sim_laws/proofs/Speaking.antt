@@ -1,13 +1,10 @@
 -- A story as lines that were said: the words that are entered of a line are read as it.
-use Rattle.std.proofs.Common.{◌≡◌, ℕ, ◌==◌, Bool, true, false, if◌then◌else◌, List, [], ◌∷◌, ◌++◌, Some, Ok, refl, sym, ap, ◌∙◌}
+use Rattle.std.proofs.Common.{◌≡◌, ℕ, List, [], ◌∷◌, ◌++◌, Some, Ok, refl, ap, ◌∙◌}
 use Rattle.zw_text.specs.Line.{line_at}
 use Rattle.zw_text.specs.Transcript.{read_as}
 use Rattle.zw_text.specs.declared.line.Line.{Line}
 use Rattle.zw_text.specs.declared.entry.Entry.{Entry}
 use Rattle.zw_text.specs.declared.entry.Entry.TheVariants.{Said}
-use Rattle.device_sim.specs.State.{State}
-use Rattle.device_facts.specs.GoingOn.{AreSame, IsSame}
-use Rattle.zw_laws.specs.Nodes.{device_of}
 use Rattle.zw_machine.specs.State.{Machine}
 use Rattle.zw_machine.specs.Events.{Event}
 use Rattle.zw_machine.specs.Did.{happens_all, entries_all, MayAll}
@@ -55,34 +52,3 @@ all_done again m (ran ∷ more) read are may = (
   },
   all_done again (happens_all m ran.events) more read.1 are.1 (may_rest m ran.events (events_of more) may),
 )
-
--- ---- devices
-
--- the device that a node had
-pub record Was (node : ℕ) (old : List State) (device : State) : Type 0 where
-  pub before : State
-  pub found : device_of node old ≡ Some before
-  pub kind : device.kind ≡ before.kind
-
-was_by : (hit : Bool) (node : ℕ) (was now : State) (old new : List State) (device : State) → IsSame was now → (now.node == node) ≡ hit → (device_of node new ≡ Some device → Was node old device)
-    → (if hit then Some now else device_of node new) ≡ Some device → Was node (was ∷ old) device
-was_by true node was now old new device same is more e =
-    let one : now ≡ device = cc in
-    record {
-      before = was;
-      found = ap (λ (b : Bool). if b then Some was else device_of node old) (ap (λ (n : ℕ). n == node) (sym same.node) ∙ is);
-      kind = ap (λ (d : State). d.kind) (sym one) ∙ same.kind;
-    }
-was_by false node was now old new device same is more e =
-    let later = more e in
-    record {
-      before = later.before;
-      found = ap (λ (b : Bool). if b then Some was else device_of node old) (ap (λ (n : ℕ). n == node) (sym same.node) ∙ is) ∙ later.found;
-      kind = later.kind;
-    }
-
-pub was_there : (node : ℕ) (old new : List State) (device : State) → AreSame old new → device_of node new ≡ Some device → Was node old device
-was_there node [] [] device same e = absurd cc
-was_there node [] (now ∷ new) device same e = absurd same
-was_there node (was ∷ old) [] device same e = absurd same
-was_there node (was ∷ old) (now ∷ new) device same e = was_by (now.node == node) node was now old new device same.0 refl (was_there node old new device same.1) e

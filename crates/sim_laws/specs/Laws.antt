@@ -23,12 +23,13 @@ use Rattle.host_facts.specs.Stores.{StoresLaw}
 use Rattle.device_sim.specs.State.{State}
 use Rattle.device_facts.specs.GoingOn.{AreInOrder, AreSame, TakeOnce}
 use Rattle.device_facts.specs.Showing.{AreApart, IsShown}
-use Rattle.zw_laws.specs.Headline.{HeadlineOf, IsAsMade}
+use Rattle.zw_laws.specs.Headline.{Headline, HeadlineOf, IsAsMade}
 use Rattle.zw_laws.specs.Nodes.{device_of, listing_of}
 use Rattle.world_facts.specs.Devices.{GroupsSessions}
 use Rattle.world_facts.specs.Restarts.{AllKeepWell, BeginsEmpty}
 use Rattle.run_facts.specs.Premises.{AllDrawBytes, AreFew}
-use Rattle.plain_nodes.specs.Plain.{IsPlainKind}
+use Rattle.headline_facts.specs.Truly.{IsAskable, SucceedsAfterChangeOf}
+use Rattle.plain_nodes.specs.Plain.{IsPlainKind, IsPlainNode}
 use Rattle.sim_laws.specs.Around.{Around}
 
 -- `sim` ran so, with what it was given and what it leaves
@@ -162,12 +163,32 @@ abbrev pub GroupsChanges : Status → List ℕ → Around → Around → Type 0
 GroupsChanges ended key old new = Always ended key old new
     (λ story. AllByRecursion (IsAsMade key) old.devices → AreApart old.devices → AllByRecursion (GroupsSessions (transcript key old story)) new.devices)
 
+-- ---- the headline
+
+-- What the headline premises of a run: all lines were run whole over such a keeper, and the devices are as their makers left them, one a node.
+pub record IsFairRun (key : List ℕ) (old : Around) (story : List Ran) : Type 0 where
+  pub run : IsWholeRun key old story
+  pub made : AllByRecursion (IsAsMade key) old.devices
+  pub apart : AreApart old.devices
+
+-- a law of such runs
+abbrev pub InFairRuns : Status → List ℕ → Around → Around → (List Ran → Type 0) → Type 0
+InFairRuns ended key old new Law = Always ended key old new (λ story. IsFairRun key old story → Law story)
+
 -- The headline: each device of a plain kind has applied a part of the commands accepted for its node, in order, each at most once; every command that is reported
 -- successful is in it; and where the last change of a property came from a command reported successful, the confirmed value is the device's.
 abbrev pub HasHeadline : Status → List ℕ → Around → Around → Type 0
-HasHeadline ended key old new = Always ended key old new
-    (λ story. IsWholeRun key old story → AllByRecursion (IsAsMade key) old.devices → AreApart old.devices → (node : ℕ) (device : State) → device_of node new.devices ≡ Some device →
-    IsPlainKind device.kind → HeadlineOf (listing_of old.devices) node (transcript key old story) device)
+HasHeadline ended key old new = InFairRuns ended key old new
+    (λ story. (node : ℕ) (device : State) → device_of node new.devices ≡ Some device → IsPlainKind device.kind → HeadlineOf (listing_of old.devices) node (transcript key old story) device)
+
+-- success of a command of such a node is reported after its change
+abbrev pub ReportsAfterChange : Status → List ℕ → Around → Around → Type 0
+ReportsAfterChange ended key old new = InFairRuns ended key old new (λ story. (node : ℕ) → IsPlainNode old.devices node → SucceedsAfterChangeOf node (transcript key old story))
+
+-- The whole headline, where each node that may be asked is such: node 2, and those with a device that takes commands in sessions.
+abbrev pub HasWholeHeadline : Status → List ℕ → Around → Around → Type 0
+HasWholeHeadline ended key old new = InFairRuns ended key old new
+    (λ story. ((node : ℕ) → IsAskable old.devices node → IsPlainNode old.devices node) → Headline old.devices new.devices (transcript key old story))
 
 -- ---- all of them
 
@@ -183,3 +204,5 @@ pub record KeepsLaws (ended : Status) (key : List ℕ) (old new : Around) : Type
   pub shown : ShowsChanges ended key old new
   pub groups : GroupsChanges ended key old new
   pub headline : HasHeadline ended key old new
+  pub after_change : ReportsAfterChange ended key old new
+  pub whole_headline : HasWholeHeadline ended key old new

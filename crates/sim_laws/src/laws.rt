@@ -9,16 +9,21 @@ ghost use Rattle.sim_laws.specs.Laws.{
   GroupsChanges,
   HasHeadline,
   HasStory,
+  HasWholeHeadline,
   KeepsDevices,
   KeepsLaws,
   KeepsOrders,
   KeepsWell,
+  ReportsAfterChange,
   ShowsChanges,
   ShowsTables,
 };
 
 use host_facts::{asides_keep_facts, laws_follow};
-use plain_nodes::{devices_as_made_begin_courses, orders_go_plain, plain_nodes_have_the_headline};
+use plain_nodes::{
+    devices_as_made_begin_courses, orders_go_plain, plain_nodes_have_the_headline,
+    plain_nodes_report_after_the_change, plain_runs_have_the_headline,
+};
 use run_facts::lines_keep_and_ask_well;
 use said_lines::lines_are_read_as_said;
 use world_facts::{restarts_go_on, runs_take_once, the_machine_keeps_facts};
@@ -68,13 +73,17 @@ fn stories_take_once()
     runs_take_once();
 }
 
-/// What is said of lines that were said is so of the story of a run, whose transcript has the words of each line.
+/// What is so of lines that were said is so of the story of a run, whose transcript has the words of each line.
 fn stories_have_the_headline()
-    ensures { (ended : Status) (key : List ℕ) (old new : Around) → HasHeadline ended key old new }
+    ensures one { (ended : Status) (key : List ℕ) (old new : Around) → HasHeadline ended key old new }
+    ensures after_change { (ended : Status) (key : List ℕ) (old new : Around) → ReportsAfterChange ended key old new }
+    ensures whole { (ended : Status) (key : List ℕ) (old new : Around) → HasWholeHeadline ended key old new }
 {
     lines_are_read_as_said();
     devices_as_made_begin_courses();
     orders_go_plain();
     plain_nodes_have_the_headline();
+    plain_nodes_report_after_the_change();
+    plain_runs_have_the_headline();
     runs_take_once();
 }

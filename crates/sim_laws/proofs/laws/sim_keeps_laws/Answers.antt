@@ -12,5 +12,7 @@ returns c = λ ended key old new. record {
   same = c.stories_take_once.ensures.same ended key old new;
   shown = c.stories_take_once.ensures.shown ended key old new;
   groups = c.stories_take_once.ensures.groups ended key old new;
-  headline = c.stories_have_the_headline.ensures ended key old new;
+  headline = c.stories_have_the_headline.ensures.one ended key old new;
+  after_change = c.stories_have_the_headline.ensures.after_change ended key old new;
+  whole_headline = c.stories_have_the_headline.ensures.whole ended key old new;
 }
