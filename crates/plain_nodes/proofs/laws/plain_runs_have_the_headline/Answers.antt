@@ -2,7 +2,6 @@
 use Rattle.std.proofs.Common.{[], Some, inr, ap, sym, subst, ◌∙◌}
 use Rattle.device_stack.specs.Kind.{lists}
 use Rattle.device_stack.specs.declared.kind.Kind.{Kind}
-use Rattle.device_sim.specs.State.{State}
 use Rattle.device_facts.specs.GoingOn.{GoOn}
 use Rattle.zw_machine.specs.State.{Machine, first_machine}
 use Rattle.said_facts.specs.Spoken.{after_all}

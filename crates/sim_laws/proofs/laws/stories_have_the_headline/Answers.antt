@@ -20,7 +20,7 @@ use Rattle.run_facts.specs.Lines.{IsRead}
 use Rattle.run_facts.specs.Premises.{AllDrawBytes, AreFew}
 use Rattle.said_facts.specs.Spoken.{Spoken, after_all, transcript_of}
 use Rattle.listing_facts.specs.Lines.{AreDone, events_of as events_said}
-use Rattle.headline_facts.specs.Truly.{IsAskable, SucceedsAfterChangeOf}
+use Rattle.headline_facts.specs.Truly.{SucceedsAfterChangeOf}
 use Rattle.node_course.specs.Mesh.{HasDevice}
 use Rattle.node_course.specs.World.{OrdersPlain}
 use Rattle.plain_nodes.specs.Plain.{IsPlain, IsPlainKind, IsPlainNode}
