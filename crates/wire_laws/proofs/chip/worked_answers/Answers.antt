@@ -1,0 +1,20 @@
+use Rattle.std.proofs.Common.{◌≡◌, ℕ, List, [], ◌∷◌, refl, inl, inr, arith}
+use Rattle.wire_laws.proofs.Computing.{reckoning}
+use Rattle.wire_laws.proofs.Plain.{plain_answers}
+use Rattle.wire_laws.proofs.Walks.{cannot_tell}
+use Rattle.wire_laws.proofs.chip.worked_answers.Goals as goal
+
+pub returns-clause-plain : goal.returns-clause-plain
+returns-clause-plain c = plain_answers
+
+pub returns-clause-unroutable : goal.returns-clause-unroutable
+unfolding reckoning
+returns-clause-unroutable c =
+    (tt, (tt, (tt, (tt, ((refl, tt), (tt, (tt, (tt, (tt, (tt, (tt, ((refl, (refl, tt)), (tt, (tt, (tt, ((refl, (refl, (refl, tt))), (tt, (tt, (tt,
+    ((refl, (refl, (refl, (refl, tt)))), (tt, tt)))))))))))))))))))))
+
+pub returns-clause-untold : goal.returns-clause-untold
+unfolding reckoning
+returns-clause-untold c =
+    (tt, (tt, (tt, (tt, ((refl, tt), (tt, (tt, (tt, ((refl, (refl, tt)), (tt, (tt, (tt,
+    ((refl, (refl, (inr ((λ can. cannot_tell _ can.way can.route), refl), tt))), (tt, (tt, tt)))))))))))))))

@@ -1,0 +1,11 @@
+pub mod Networks
+pub mod Routes
+pub mod Arriving
+pub mod Asked
+pub mod Taking
+pub mod Results
+pub mod Given
+pub mod Answering
+pub mod Worked
+pub mod WorkedCourses
+pub mod WorkedWrong

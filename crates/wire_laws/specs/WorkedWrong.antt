@@ -1,0 +1,105 @@
+-- Transcripts like the worked ones with one entry changed, left out or put in.
+use Rattle.std.specs.Prelude.{ℕ, ◌+◌, List, [], ◌∷◌, ◌++◌, codes, take, drop}
+use Rattle.zw_words.specs.declared.side.Side.TheVariants.{Host, Chip}
+use Rattle.zw_text.specs.declared.entry.Entry.{Entry}
+use Rattle.zw_text.specs.declared.entry.Entry.TheVariants.{Said, Written, Air, Heard, Lost, Unheard, Forget, ChipFull, Time}
+use Rattle.zw_laws.specs.Worked.{bytes, plain_exchange}
+use Rattle.wire_laws.specs.Worked.{rerouted, unroutable, untold}
+
+-- a transcript with another entry at a place, without the one there, or with one more before it; places count from 0
+abbrev pub changed_at : ℕ → Entry → List Entry → List Entry
+changed_at place entry transcript = take place transcript ++ entry ∷ drop (place + 1) transcript
+
+abbrev pub without_at : ℕ → List Entry → List Entry
+without_at place transcript = take place transcript ++ drop (place + 1) transcript
+
+abbrev pub with_more_at : ℕ → Entry → List Entry → List Entry
+with_more_at place entry transcript = take place transcript ++ entry ∷ drop place transcript
+
+-- ---- routes
+
+-- a frame of the controller over a repeater that is not there, and over a route that is not the first
+abbrev pub detoured : List Entry
+detoured = changed_at 6 (Air 1 1 2 (10 ∷ []) (bytes (codes "6C0101032501FF"))) plain_exchange
+
+abbrev pub second_choice : List Entry
+second_choice = changed_at 26 (Air 1 1 10 (18 ∷ []) (bytes (codes "6C0101032501FF"))) rerouted
+
+-- a frame of a device over a link that the air has not, and of a node that is not joined
+abbrev pub straight_home : List Entry
+straight_home = changed_at 42 (Air 3 10 1 [] (bytes (codes "6C0201FF00"))) rerouted
+
+abbrev pub from_a_stranger : List Entry
+from_a_stranger = changed_at 12 (Air 2 3 1 [] (bytes (codes "6C0201FF00"))) plain_exchange
+
+-- ---- fates
+
+-- a frame is lost without a mark, and unheard with its way live and its device awake
+abbrev pub lost_for_nothing : List Entry
+lost_for_nothing = changed_at 10 (Lost 1) plain_exchange
+
+abbrev pub unheard_for_nothing : List Entry
+unheard_for_nothing = changed_at 10 (Unheard 1) plain_exchange
+
+-- a frame of a device is unheard though nothing is in its way
+abbrev pub unheard_at_home : List Entry
+unheard_at_home = changed_at 16 (Unheard 2) plain_exchange
+
+-- a frame is heard over a dead link
+abbrev pub heard_over_nothing : List Entry
+heard_over_nothing = changed_at 30 (Heard 1) rerouted
+
+-- a dead hop is not forgotten, another one is, and one is for no reason
+abbrev pub not_forgotten : List Entry
+not_forgotten = without_at 31 rerouted
+
+abbrev pub forgotten_otherwise : List Entry
+forgotten_otherwise = changed_at 31 (Forget 1 2) rerouted
+
+abbrev pub forgotten_freely : List Entry
+forgotten_freely = with_more_at 11 (Forget 1 2) plain_exchange
+
+-- ---- the chip
+
+-- a SendData is taken and its frame held back, of another payload, or there twice
+abbrev pub held_back : List Entry
+held_back = without_at 6 plain_exchange
+
+abbrev pub aired_otherwise : List Entry
+aired_otherwise = changed_at 6 (Air 1 1 2 [] (bytes (codes "6C010103250100"))) plain_exchange
+
+abbrev pub aired_again : List Entry
+aired_again = with_more_at 7 (Air 2 1 2 [] (bytes (codes "6C0101032501FF"))) plain_exchange
+
+-- a SendData is refused though none is under way
+abbrev pub refused_though_idle : List Entry
+refused_though_idle = changed_at 5 (Written Chip (bytes (codes "0104011300E9"))) plain_exchange
+
+-- the callback says that nothing was acknowledged, and it comes before the frame has its fate
+abbrev pub called_otherwise : List Entry
+called_otherwise = changed_at 13 (Written Chip (bytes (codes "010500130101E9"))) plain_exchange
+
+abbrev pub called_early : List Entry
+called_early = changed_at 10 (Written Chip (bytes (codes "010500130100E8"))) plain_exchange
+
+-- the chip brings another report than it heard
+abbrev pub brought_otherwise : List Entry
+brought_otherwise = changed_at 17 (Written Chip (bytes (codes "010B00040002056C0202FF0064"))) plain_exchange
+
+-- the callback of a SendData without a route says that it was acknowledged
+abbrev pub routed_nowhere : List Entry
+routed_nowhere = changed_at 15 (Written Chip (bytes (codes "010500130100E8"))) unroutable
+
+-- a node that cannot tell its information tells it
+abbrev pub told_from_afar : List Entry
+told_from_afar = changed_at 12 (Written Chip (bytes (codes "010D00498405070400003180846C60"))) untold
+
+-- a frame is dropped though none waits
+abbrev pub full_of_nothing : List Entry
+full_of_nothing = changed_at 13 ChipFull plain_exchange
+
+-- ---- the serial line
+
+-- the chip answers a frame that never came
+abbrev pub answered_nothing : List Entry
+answered_nothing = Written Chip (bytes (codes "06")) ∷ []

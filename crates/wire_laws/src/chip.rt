@@ -1,0 +1,44 @@
+//! What the laws of the chip say of worked transcripts, and of others with one thing wrong.
+
+ghost use Rattle.std.specs.Prelude.{[], ◌∷◌, take};
+ghost use Rattle.zw_laws.specs.Worked.{plain_exchange, the_switch, the_sensor};
+ghost use Rattle.wire_laws.specs.Asked.{course_of};
+ghost use Rattle.wire_laws.specs.Taking.{AirsWhatIsTaken};
+ghost use Rattle.wire_laws.specs.Answering.{AnswersInOrder, DropsWhenFull};
+ghost use Rattle.wire_laws.specs.Worked.{unroutable, untold};
+ghost use Rattle.wire_laws.specs.WorkedCourses.{chip_history, without_copies, passed_in_unroutable, passed_in_untold};
+ghost use Rattle.wire_laws.specs.WorkedWrong.{held_back, aired_otherwise, aired_again, refused_though_idle, called_otherwise, called_early, brought_otherwise, routed_nowhere, told_from_afar, full_of_nothing};
+
+/// In worked transcripts the frames on the air are those of the SendData that the chip takes and has a route for.
+pub fn worked_taking()
+    ensures plain { AirsWhatIsTaken (the_switch ∷ []) (course_of chip_history) plain_exchange }
+    ensures unroutable { AirsWhatIsTaken (the_switch ∷ []) (without_copies passed_in_unroutable unroutable) unroutable }
+{}
+
+/// In worked transcripts the chip writes what it has for the host: responses, callbacks, what it heard, and information of nodes.
+pub fn worked_answers()
+    ensures plain { AnswersInOrder (the_switch ∷ []) (course_of chip_history) plain_exchange }
+    ensures unroutable { AnswersInOrder (the_switch ∷ []) (without_copies passed_in_unroutable unroutable) unroutable }
+    ensures untold { AnswersInOrder (the_sensor ∷ []) (without_copies passed_in_untold untold) untold }
+{}
+
+/// In worked transcripts the chip drops nothing, since few frames wait.
+pub fn worked_drops()
+    ensures plain { DropsWhenFull (the_switch ∷ []) (course_of chip_history) plain_exchange }
+{}
+
+/// Each of these breaks one part of the laws: a SendData that is taken and has no frame, another frame, or two; one that is refused
+/// though the chip is idle; a callback with another status, or before the fate; what was not heard; a callback of a frame where there
+/// was no route; information of a node that cannot tell it; and a frame dropped though none waits.
+pub fn rejected_chip()
+    ensures back { AirsWhatIsTaken (the_switch ∷ []) (course_of chip_history) held_back → ⊥ }
+    ensures otherwise { AirsWhatIsTaken (the_switch ∷ []) (course_of chip_history) aired_otherwise → ⊥ }
+    ensures again { AirsWhatIsTaken (the_switch ∷ []) (course_of chip_history) aired_again → ⊥ }
+    ensures refused { AnswersInOrder (the_switch ∷ []) (course_of chip_history) refused_though_idle → ⊥ }
+    ensures called { AnswersInOrder (the_switch ∷ []) (course_of chip_history) called_otherwise → ⊥ }
+    ensures early { AnswersInOrder (the_switch ∷ []) (course_of chip_history) called_early → ⊥ }
+    ensures brought { AnswersInOrder (the_switch ∷ []) (course_of chip_history) brought_otherwise → ⊥ }
+    ensures nowhere { AnswersInOrder (the_switch ∷ []) (without_copies passed_in_unroutable unroutable) routed_nowhere → ⊥ }
+    ensures afar { AnswersInOrder (the_sensor ∷ []) (without_copies passed_in_untold untold) told_from_afar → ⊥ }
+    ensures full { DropsWhenFull (the_switch ∷ []) (course_of chip_history) full_of_nothing → ⊥ }
+{}
