@@ -27,9 +27,14 @@ at_once f = record {
   ends = inl (record {
     turn = Copied f 1 0;
     busy = tt;
-    stands =
-        (submit_step f ∷ [], [], refl, omega arith, record { step = submit_step f; alone = refl; event = refl; written = refl },
-        record { silent = tt; ticks = refl; early = omega arith });
+    stands = (
+      submit_step f ∷ [],
+      [],
+      refl,
+      omega arith,
+      record { step = submit_step f; alone = refl; event = refl; written = refl },
+      record { silent = tt; ticks = refl; early = omega arith },
+    );
     event = refl;
     told = refl;
   });
@@ -43,9 +48,14 @@ after_a_tick f = record {
   ends = inl (record {
     turn = Copied f 1 1;
     busy = tt;
-    stands =
-        (submit_step f ∷ [], quiet_tick ∷ [], refl, omega arith, record { step = submit_step f; alone = refl; event = refl; written = refl },
-        record { silent = (tt, refl, tt); ticks = refl; early = omega arith });
+    stands = (
+      submit_step f ∷ [],
+      quiet_tick ∷ [],
+      refl,
+      omega arith,
+      record { step = submit_step f; alone = refl; event = refl; written = refl },
+      record { silent = (tt, refl, tt); ticks = refl; early = omega arith },
+    );
     event = refl;
     told = refl;
   });
@@ -69,7 +79,7 @@ plain_chip = record {
   rest = no_rest;
   obeys = record {
     answers =
-      (refl, (refl, (refl, (refl, (refl, (refl, (refl, (refl, (refl, tt)))))))));
+        (refl, (refl, (refl, (refl, (refl, (refl, (refl, (refl, (refl, tt)))))))));
     collisions = refl;
     turns = record {
       past = (hears_frame switching_on ∷ []) ∷ (submit_step taking_it ∷ hears_ack ∷ [])
@@ -77,28 +87,61 @@ plain_chip = record {
       now = [];
       parts = refl;
       are_past =
-        (inr (tt, refl, tt), (inl (at_once taking_it), (inl (after_a_tick calling_back), (inl (after_a_tick reporting), tt))));
+          (inr (tt, refl, tt), (inl (at_once taking_it), (inl (after_a_tick calling_back), (inl (after_a_tick reporting), tt))));
       stands = tt;
     };
   };
   wrote = refl;
-  heard =
-    ([], piece_of (bytes (codes "010E001302076C0101032501FF250177")), byte 6 ∷ mark ∷ byte 6 ∷ mark ∷ byte 6 ∷ [], refl, refl, record {
+  heard = (
+    [],
+    piece_of (bytes (codes "010E001302076C0101032501FF250177")),
+    byte 6 ∷ mark ∷ byte 6 ∷ mark ∷ byte 6 ∷ [],
+    refl,
+    refl,
+    record {
       front = piece_of (bytes (codes "010E001302076C0101032501FF2501"));
       last = byte 0x77;
       parts = refl;
       starts = tt;
       closes = (omega arith, (omega arith, refl));
     },
-    ([], byte 6 ∷ [], mark ∷ byte 6 ∷ mark ∷ byte 6 ∷ [], refl, refl, one_ack,
-    (mark ∷ [], byte 6 ∷ [], mark ∷ byte 6 ∷ [], refl, refl, one_ack,
-    (mark ∷ [], byte 6 ∷ [], [], refl, refl, one_ack,
-    ([], [], refl, refl, record {
-      is_rest = record { unfinished = tt; ticks = omega arith; idle = λ _. refl };
-      bytes = refl;
-      ticks = refl;
-      starts = inl refl;
-    })))));
+    (
+      [],
+      byte 6 ∷ [],
+      mark ∷ byte 6 ∷ mark ∷ byte 6 ∷ [],
+      refl,
+      refl,
+      one_ack,
+      (
+        mark ∷ [],
+        byte 6 ∷ [],
+        mark ∷ byte 6 ∷ [],
+        refl,
+        refl,
+        one_ack,
+        (
+          mark ∷ [],
+          byte 6 ∷ [],
+          [],
+          refl,
+          refl,
+          one_ack,
+          (
+            [],
+            [],
+            refl,
+            refl,
+            record {
+              is_rest = record { unfinished = tt; ticks = omega arith; idle = λ _. refl };
+              bytes = refl;
+              ticks = refl;
+              starts = inl refl;
+            },
+          ),
+        ),
+      ),
+    ),
+  );
   came = ([], refl);
   ticked = refl;
 }
@@ -112,7 +155,7 @@ plain_host = record {
   rest = no_rest;
   obeys = record {
     answers =
-      (refl, (refl, (refl, (refl, (refl, (refl, (refl, tt)))))));
+        (refl, (refl, (refl, (refl, (refl, (refl, (refl, tt)))))));
     collisions = refl;
     turns = record {
       past = (submit_step switching_on ∷ hears_ack ∷ [])
@@ -120,59 +163,226 @@ plain_host = record {
       now = [];
       parts = refl;
       are_past =
-        (inl (at_once switching_on), (inr (tt, refl, (tt, refl, (tt, refl, (tt, refl, (tt, refl, tt))))), tt));
+          (inl (at_once switching_on), (inr (tt, refl, (tt, refl, (tt, refl, (tt, refl, (tt, refl, tt))))), tt));
       stands = tt;
     };
   };
   wrote = refl;
-  heard =
-    ([], byte 6 ∷ [], piece_of (bytes (codes "0104011301E8")) ++ (mark ∷ (piece_of (bytes (codes "010500130100E8")) ++ (mark ∷ piece_of (bytes (codes "010B00040002056C0201FF0067"))))), refl, refl, one_ack,
-    ([], piece_of (bytes (codes "0104011301E8")), mark ∷ (piece_of (bytes (codes "010500130100E8")) ++ (mark ∷ piece_of (bytes (codes "010B00040002056C0201FF0067")))), refl, refl, record {
-      front = piece_of (bytes (codes "0104011301"));
-      last = byte 0xE8;
-      parts = refl;
-      starts = tt;
-      closes = (omega arith, (omega arith, refl));
-    },
-    (mark ∷ [], piece_of (bytes (codes "010500130100E8")), mark ∷ piece_of (bytes (codes "010B00040002056C0201FF0067")), refl, refl, record {
-      front = piece_of (bytes (codes "010500130100"));
-      last = byte 0xE8;
-      parts = refl;
-      starts = tt;
-      closes = (omega arith, (omega arith, refl));
-    },
-    (mark ∷ [], piece_of (bytes (codes "010B00040002056C0201FF0067")), [], refl, refl, record {
-      front = piece_of (bytes (codes "010B00040002056C0201FF00"));
-      last = byte 0x67;
-      parts = refl;
-      starts = tt;
-      closes = (omega arith, (omega arith, refl));
-    },
-    ([], [], refl, refl, record {
-      is_rest = record { unfinished = tt; ticks = omega arith; idle = λ _. refl };
-      bytes = refl;
-      ticks = refl;
-      starts = inl refl;
-    })))));
+  heard = (
+    [],
+    byte 6 ∷ [],
+    piece_of (bytes (codes "0104011301E8")) ++ (mark ∷ (piece_of (bytes (codes "010500130100E8")) ++ (mark ∷ piece_of (bytes (codes "010B00040002056C0201FF0067"))))),
+    refl,
+    refl,
+    one_ack,
+    (
+      [],
+      piece_of (bytes (codes "0104011301E8")),
+      mark ∷ (piece_of (bytes (codes "010500130100E8")) ++ (mark ∷ piece_of (bytes (codes "010B00040002056C0201FF0067")))),
+      refl,
+      refl,
+      record {
+        front = piece_of (bytes (codes "0104011301"));
+        last = byte 0xE8;
+        parts = refl;
+        starts = tt;
+        closes = (omega arith, (omega arith, refl));
+      },
+      (
+        mark ∷ [],
+        piece_of (bytes (codes "010500130100E8")),
+        mark ∷ piece_of (bytes (codes "010B00040002056C0201FF0067")),
+        refl,
+        refl,
+        record {
+          front = piece_of (bytes (codes "010500130100"));
+          last = byte 0xE8;
+          parts = refl;
+          starts = tt;
+          closes = (omega arith, (omega arith, refl));
+        },
+        (
+          mark ∷ [],
+          piece_of (bytes (codes "010B00040002056C0201FF0067")),
+          [],
+          refl,
+          refl,
+          record {
+            front = piece_of (bytes (codes "010B00040002056C0201FF00"));
+            last = byte 0x67;
+            parts = refl;
+            starts = tt;
+            closes = (omega arith, (omega arith, refl));
+          },
+          (
+            [],
+            [],
+            refl,
+            refl,
+            record {
+              is_rest = record { unfinished = tt; ticks = omega arith; idle = λ _. refl };
+              bytes = refl;
+              ticks = refl;
+              starts = inl refl;
+            },
+          ),
+        ),
+      ),
+    ),
+  );
   came = ([], refl);
   ticked = refl;
 }
 
 pub plain_airs : AirsWhatIsTaken (the_switch ∷ []) (course_of chip_history) plain_exchange
 unfolding reckoning
-plain_airs =
-    (tt, (tt, (tt, (tt, (tt, (tt,
-    (record { sending = sending_of (take 4 plain_exchange) 2 (bytes (codes "6C0101032501FF")) 1; taken = inl refl; to_node = refl; with_payload = refl },
-    (tt, (tt, (tt, (tt, (tt, (tt, (tt, (tt, (tt, (tt, (tt, (tt, (tt, (tt, tt)))))))))))))))))))))
+plain_airs = (
+  tt,
+  (
+    tt,
+    (
+      tt,
+      (
+        tt,
+        (
+          tt,
+          (
+            tt,
+            (
+              record { sending = sending_of (take 4 plain_exchange) 2 (bytes (codes "6C0101032501FF")) 1; taken = inl refl; to_node = refl; with_payload = refl },
+              (tt, (tt, (tt, (tt, (tt, (tt, (tt, (tt, (tt, (tt, (tt, (tt, (tt, (tt, tt)))))))))))))),
+            ),
+          ),
+        ),
+      ),
+    ),
+  ),
+)
 
 pub plain_answers : AnswersInOrder (the_switch ∷ []) (course_of chip_history) plain_exchange
 unfolding reckoning
-plain_answers =
-    (tt, (tt, (tt, (tt, (tt, ((refl, tt), (tt, (tt, (tt, (tt, (tt, (tt, (tt, ((refl, (refl, tt)), (tt, (tt, (tt, ((refl, (refl, (refl, tt))), (tt,
-    (tt, (tt, tt)))))))))))))))))))))
+plain_answers = (
+  tt,
+  (
+    tt,
+    (
+      tt,
+      (
+        tt,
+        (
+          tt,
+          (
+            (refl, tt),
+            (
+              tt,
+              (
+                tt,
+                (
+                  tt,
+                  (
+                    tt,
+                    (
+                      tt,
+                      (
+                        tt,
+                        (
+                          tt,
+                          (
+                            (refl, (refl, tt)),
+                            (
+                              tt,
+                              (
+                                tt,
+                                (
+                                  tt,
+                                  (
+                                    (refl, (refl, (refl, tt))),
+                                    (
+                                      tt,
+                                      (tt, (tt, tt)),
+                                    ),
+                                  ),
+                                ),
+                              ),
+                            ),
+                          ),
+                        ),
+                      ),
+                    ),
+                  ),
+                ),
+              ),
+            ),
+          ),
+        ),
+      ),
+    ),
+  ),
+)
 
 pub plain_drops : DropsWhenFull (the_switch ∷ []) (course_of chip_history) plain_exchange
 unfolding reckoning
-plain_drops =
-    (omega arith, (tt, (tt, (tt, (tt, (tt, (tt, (tt, (omega arith, (omega arith, (tt, (tt, (tt, (tt, (tt, (omega arith, (tt, (tt, (tt, (tt, (tt,
-    tt)))))))))))))))))))))
+plain_drops = (
+  omega arith,
+  (
+    tt,
+    (
+      tt,
+      (
+        tt,
+        (
+          tt,
+          (
+            tt,
+            (
+              tt,
+              (
+                tt,
+                (
+                  omega arith,
+                  (
+                    omega arith,
+                    (
+                      tt,
+                      (
+                        tt,
+                        (
+                          tt,
+                          (
+                            tt,
+                            (
+                              tt,
+                              (
+                                omega arith,
+                                (
+                                  tt,
+                                  (
+                                    tt,
+                                    (
+                                      tt,
+                                      (
+                                        tt,
+                                        (
+                                          tt,
+                                          tt,
+                                        ),
+                                      ),
+                                    ),
+                                  ),
+                                ),
+                              ),
+                            ),
+                          ),
+                        ),
+                      ),
+                    ),
+                  ),
+                ),
+              ),
+            ),
+          ),
+        ),
+      ),
+    ),
+  ),
+)

@@ -96,8 +96,11 @@ one_first : (links : List Link) (nodes : List ℕ) (node via : ℕ) → has_link
     → (other : List ℕ) → Walk (network_of links nodes) node other → ComesFirst (via ∷ []) other
 one_first links nodes node via apart lowest [] other = absurd (false_true (sym (is_linked links nodes 1 node ∙ apart) ∙ other.hops))
 one_first links nodes node via apart lowest (x ∷ []) other =
-    inr (refl, then_le (nat_cmp via x) (among _ nodes lowest x (sym (is_repeater links nodes x) ∙ other.marked 0 0 (omega arith))
-    (sym (is_linked links nodes 1 x) ∙ other.hops.0) (sym (is_linked links nodes x node) ∙ other.hops.1)))
+    inr (
+      refl,
+      then_le (nat_cmp via x) (among _ nodes lowest x (sym (is_repeater links nodes x) ∙ other.marked 0 0 (omega arith))
+          (sym (is_linked links nodes 1 x) ∙ other.hops.0) (sym (is_linked links nodes x node) ∙ other.hops.1)),
+    )
 one_first links nodes node via apart lowest (x ∷ y ∷ more) other = inl (omega arith)
 
 pub one_route : (links : List Link) (nodes : List ℕ) (node via : ℕ) → Walk (network_of links nodes) node (via ∷ []) → has_link links 1 node ≡ false

@@ -8,4 +8,5 @@ pub mod Given
 pub mod Answering
 pub mod Worked
 pub mod WorkedCourses
+pub mod WorkedFull
 pub mod WorkedWrong

@@ -1,7 +1,8 @@
--- Worked transcripts of the chip and of the air, as the program prints them, before the table at the end.
-use Rattle.std.specs.Prelude.{List, [], ◌∷◌, codes}
+-- Worked transcripts of the chip and of the air, as the program prints them, before the table at the end; the last but
+-- one is by hand.
+use Rattle.std.specs.Prelude.{List, [], ◌∷◌, ◌++◌, codes, take}
 use Rattle.zw_base.specs.declared.property.Name.TheVariants as names
-use Rattle.zw_base.specs.declared.property.By.TheVariants.{Session}
+use Rattle.zw_base.specs.declared.property.By.TheVariants.{Session, Local}
 use Rattle.zw_words.specs.declared.side.Side.TheVariants.{Host, Chip}
 use Rattle.host_orders.specs.Settings.{setting}
 use Rattle.device_stack.specs.declared.kind.Kind.TheVariants as kinds
@@ -9,8 +10,8 @@ use Rattle.device_stack.specs.State.{State, fresh}
 use Rattle.zw_text.specs.declared.entry.Ended.TheVariants as endings
 use Rattle.zw_text.specs.declared.entry.Done.TheVariants as ends
 use Rattle.zw_text.specs.declared.entry.Entry.{Entry}
-use Rattle.zw_text.specs.declared.entry.Entry.TheVariants.{Said, Accepted, Begin, Written, Air, Heard, Unheard, Dev, Forget, Out, Store, Awake, Asleep, Interviewed, InterviewFailed, Done, Time}
-use Rattle.zw_laws.specs.Worked.{bytes}
+use Rattle.zw_text.specs.declared.entry.Entry.TheVariants.{Said, Accepted, Begin, Written, Air, Heard, Lost, Unheard, Dev, Forget, Out, Store, Awake, Asleep, Interviewed, InterviewFailed, Done, Time}
+use Rattle.zw_laws.specs.Worked.{bytes, plain_exchange}
 
 -- two routes of one repeater each; the first has lost a link, which is found and forgotten
 abbrev pub rerouted : List Entry
@@ -72,6 +73,32 @@ asleep =
     Written Chip (bytes (codes "0104011301E8")) ∷ Air 3 1 5 [] (bytes (codes "3104")) ∷ Written Host (bytes (codes "06")) ∷
     Said (codes "tick 1") ∷ Time 3 ∷ Unheard 3 ∷ Written Chip (bytes (codes "010500130201EA")) ∷
     Written Host (bytes (codes "06")) ∷ Done 5 ends.NoAck ∷ []
+
+-- `collide`, `set 2 on`, `tick 3`, `repeat 1`: the chip answers CAN, and a frame is heard again
+abbrev pub heard_twice : List Entry
+heard_twice =
+    Said (codes "collide") ∷ Said (codes "set 2 on") ∷ Accepted 1 2 ∷ Begin 2 1 1 ∷
+    Written Host (bytes (codes "010E001302076C0101032501FF250177")) ∷ Written Chip (bytes (codes "18")) ∷ Said (codes "tick 3") ∷
+    Time 1 ∷ Written Host (bytes (codes "010E001302076C0101032501FF250177")) ∷ Written Chip (bytes (codes "06")) ∷
+    Written Chip (bytes (codes "0104011301E8")) ∷ Air 1 1 2 [] (bytes (codes "6C0101032501FF")) ∷
+    Written Host (bytes (codes "06")) ∷ Time 2 ∷ Heard 1 ∷ Dev 2 (Session 1) (setting 0 names.Switch 255) ∷
+    Air 2 2 1 [] (bytes (codes "6C0201FF00")) ∷ Written Chip (bytes (codes "010500130100E8")) ∷
+    Written Host (bytes (codes "06")) ∷ Time 3 ∷ Heard 2 ∷ Written Chip (bytes (codes "010B00040002056C0201FF0067")) ∷
+    Written Host (bytes (codes "06")) ∷ Out 1 endings.Success ∷ Store 2 (setting 0 names.Switch 255) ∷ Said (codes "repeat 1") ∷
+    Heard 1 ∷ Air 3 2 1 [] (bytes (codes "6C0201FF00")) ∷ []
+
+-- `unlink 1 2`, `local 2 1`, `tick 1`: a device has no way to the controller
+abbrev pub cut_off : List Entry
+cut_off =
+    Said (codes "unlink 1 2") ∷ Said (codes "local 2 1") ∷ Dev 2 Local (setting 0 names.Switch 255) ∷
+    Air 1 2 1 [] (bytes (codes "2503FF")) ∷ Said (codes "tick 1") ∷ Time 1 ∷ Lost 1 ∷ []
+
+-- by hand: the host takes back a SendData of which the frame is on the air
+abbrev pub aborted : List Entry
+aborted =
+    take 8 plain_exchange ++ Written Host (bytes (codes "01030016EA")) ∷ Written Chip (bytes (codes "06")) ∷
+    Written Chip (bytes (codes "010500130102EA")) ∷ Written Host (bytes (codes "06")) ∷ Said (codes "tick 1") ∷ Time 1 ∷ Heard 1 ∷
+    Dev 2 (Session 1) (setting 0 names.Switch 255) ∷ Air 2 2 1 [] (bytes (codes "6C0201FF00")) ∷ []
 
 -- the devices of these runs, as their makers leave them
 abbrev pub the_switches : List State

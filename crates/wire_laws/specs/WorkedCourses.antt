@@ -70,3 +70,15 @@ passed_in_unroutable = request 0x02 [] ∷ switching_on ∷ request 0x13 (codes 
 
 abbrev pub passed_in_untold : List FrameParts
 passed_in_untold = request 0x41 (codes "05") ∷ request 0x60 (codes "05") ∷ []
+
+-- where a sensor falls asleep, where the host starts again, and where it takes a SendData back
+abbrev pub passed_in_asleep : List FrameParts
+passed_in_asleep =
+    request 0x41 (codes "05") ∷ request 0x60 (codes "05") ∷ request 0x13 (codes "050284082501") ∷ request 0x13 (codes "050231042502") ∷ []
+
+abbrev pub passed_in_restarted : List FrameParts
+passed_in_restarted =
+    switching_on ∷ switching_on ∷ request 0x13 (codes "02076C0101032501FF2502") ∷ request 0x13 (codes "02076C0101032501FF2503") ∷ []
+
+abbrev pub passed_in_aborted : List FrameParts
+passed_in_aborted = switching_on ∷ request 0x16 [] ∷ []

@@ -3,8 +3,8 @@ use Rattle.std.specs.Prelude.{ℕ, ◌+◌, List, [], ◌∷◌, ◌++◌, codes
 use Rattle.zw_words.specs.declared.side.Side.TheVariants.{Host, Chip}
 use Rattle.zw_text.specs.declared.entry.Entry.{Entry}
 use Rattle.zw_text.specs.declared.entry.Entry.TheVariants.{Said, Written, Air, Heard, Lost, Unheard, Forget, ChipFull, Time}
-use Rattle.zw_laws.specs.Worked.{bytes, plain_exchange}
-use Rattle.wire_laws.specs.Worked.{rerouted, unroutable, untold}
+use Rattle.zw_laws.specs.Worked.{bytes, plain_exchange, lossy_exchange, restarted_host}
+use Rattle.wire_laws.specs.Worked.{rerouted, unroutable, untold, asleep, heard_twice, cut_off, aborted}
 
 -- a transcript with another entry at a place, without the one there, or with one more before it; places count from 0
 abbrev pub changed_at : ℕ → Entry → List Entry → List Entry
@@ -48,6 +48,20 @@ unheard_at_home = changed_at 16 (Unheard 2) plain_exchange
 -- a frame is heard over a dead link
 abbrev pub heard_over_nothing : List Entry
 heard_over_nothing = changed_at 30 (Heard 1) rerouted
+
+-- a frame is heard that had no way, by a sensor that sleeps, and with a mark
+abbrev pub heard_without_a_way : List Entry
+heard_without_a_way = changed_at 6 (Heard 1) cut_off
+
+abbrev pub heard_in_sleep : List Entry
+heard_in_sleep = changed_at 40 (Heard 3) asleep
+
+abbrev pub heard_though_lost : List Entry
+heard_though_lost = changed_at 11 (Heard 1) (take 12 lossy_exchange)
+
+-- a frame that is repeated is not heard
+abbrev pub not_repeated : List Entry
+not_repeated = changed_at 26 (Said (codes "tick 1")) heard_twice
 
 -- a dead hop is not forgotten, another one is, and one is for no reason
 abbrev pub not_forgotten : List Entry
@@ -93,6 +107,18 @@ routed_nowhere = changed_at 15 (Written Chip (bytes (codes "010500130100E8"))) u
 -- a node that cannot tell its information tells it
 abbrev pub told_from_afar : List Entry
 told_from_afar = changed_at 12 (Written Chip (bytes (codes "010D00498405070400003180846C60"))) untold
+
+-- a node that can tell its information does not
+abbrev pub not_told : List Entry
+not_told = changed_at 19 (Written Chip (bytes (codes "0106004981000031"))) asleep
+
+-- a SendData is taken though another is under way
+abbrev pub taken_though_busy : List Entry
+taken_though_busy = changed_at 11 (Written Chip (bytes (codes "0104011301E8"))) restarted_host
+
+-- a SendData that was aborted has a second callback
+abbrev pub called_twice : List Entry
+called_twice = aborted ++ Written Chip (bytes (codes "010500130100E8")) ∷ []
 
 -- a frame is dropped though none waits
 abbrev pub full_of_nothing : List Entry

@@ -7,12 +7,16 @@
 //! and `Answering` (what it has for the host and what it writes). `Worked..` are the transcripts that the functions here speak of.
 #![tactic(auto)]
 
+mod arriving;
 mod chip;
+mod full;
 mod links;
 mod records;
 mod routes;
 
+pub use arriving::{rejected_arrivals, worked_arrivals, worked_forgetting, worked_repeats};
 pub use chip::{rejected_chip, worked_answers, worked_drops, worked_taking};
+pub use full::worked_full;
 pub use links::{rejected_links, worked_links};
 pub use records::worked_records;
 pub use routes::{rejected_routes, worked_routes};

@@ -5,6 +5,7 @@ ghost use Rattle.host_keep.specs.RecordText.{record_text};
 ghost use Rattle.zw_laws.specs.Records.{KeepsRecords};
 ghost use Rattle.zw_laws.specs.Worked.{plain_exchange};
 ghost use Rattle.zw_laws.specs.WorkedDevices.{plain_records};
+
 use host_keep::texts_give_one_thing;
 
 /// The records of a plain exchange give what it shows, of all nodes; without the last one they do not.

@@ -21,6 +21,9 @@ two_one e = omega (arith, e)
 on_off : ◌≡◌ {A = ℕ} 255 0 → ⊥
 on_off e = omega (arith, e)
 
+six_thirteen : ◌≡◌ {A = ℕ} 6 13 → ⊥
+six_thirteen e = omega (arith, e)
+
 thirteen_six : ◌≡◌ {A = ℕ} 13 6 → ⊥
 thirteen_six e = omega (arith, e)
 
@@ -69,3 +72,18 @@ returns-clause-afar c = λ law. elim law.1.1.1.1.1.1.1.1.1.1.1.1.0.1.1.0 [
 pub returns-clause-full : goal.returns-clause-full
 unfolding reckoning
 returns-clause-full c = λ law. omega (arith, law.1.1.1.1.1.1.1.1.1.1.1.1.1.0)
+
+pub returns-clause-untold : goal.returns-clause-untold
+unfolding reckoning
+returns-clause-untold c = λ law. elim law.1.1.1.1.1.1.1.1.1.1.1.1.1.1.1.1.1.1.1.0.1.1.1.0 [
+  | inl told ↦ six_thirteen (ap (byte_at 1) told.1)
+  | inr failed ↦ failed.0 (record { joined = refl; way = []; route = (direct _ _ 5 refl).walk; awake = refl })
+]
+
+pub returns-clause-busy : goal.returns-clause-busy
+unfolding reckoning
+returns-clause-busy c = λ law. zero_one (sym (ap (byte_at 4) law.1.1.1.1.1.1.1.1.1.1.1.0.1.0))
+
+pub returns-clause-twice : goal.returns-clause-twice
+unfolding reckoning
+returns-clause-twice c = λ law. law.1.1.1.1.1.1.1.1.1.1.1.1.1.1.1.1.1.0.1.1

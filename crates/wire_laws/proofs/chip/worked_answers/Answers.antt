@@ -1,7 +1,7 @@
 use Rattle.std.proofs.Common.{◌≡◌, ℕ, List, [], ◌∷◌, refl, inl, inr, arith}
 use Rattle.wire_laws.proofs.Computing.{reckoning}
 use Rattle.wire_laws.proofs.Plain.{plain_answers}
-use Rattle.wire_laws.proofs.Walks.{cannot_tell}
+use Rattle.wire_laws.proofs.Walks.{direct, cannot_tell}
 use Rattle.wire_laws.proofs.chip.worked_answers.Goals as goal
 
 pub returns-clause-plain : goal.returns-clause-plain
@@ -9,12 +9,333 @@ returns-clause-plain c = plain_answers
 
 pub returns-clause-unroutable : goal.returns-clause-unroutable
 unfolding reckoning
-returns-clause-unroutable c =
-    (tt, (tt, (tt, (tt, ((refl, tt), (tt, (tt, (tt, (tt, (tt, (tt, ((refl, (refl, tt)), (tt, (tt, (tt, ((refl, (refl, (refl, tt))), (tt, (tt, (tt,
-    ((refl, (refl, (refl, (refl, tt)))), (tt, tt)))))))))))))))))))))
+returns-clause-unroutable c = (
+  tt,
+  (
+    tt,
+    (
+      tt,
+      (
+        tt,
+        (
+          (refl, tt),
+          (
+            tt,
+            (
+              tt,
+              (
+                tt,
+                (
+                  tt,
+                  (
+                    tt,
+                    (
+                      tt,
+                      (
+                        (refl, (refl, tt)),
+                        (
+                          tt,
+                          (
+                            tt,
+                            (
+                              tt,
+                              (
+                                (refl, (refl, (refl, tt))),
+                                (
+                                  tt,
+                                  (
+                                    tt,
+                                    (
+                                      tt,
+                                      ((refl, (refl, (refl, (refl, tt)))), (tt, tt)),
+                                    ),
+                                  ),
+                                ),
+                              ),
+                            ),
+                          ),
+                        ),
+                      ),
+                    ),
+                  ),
+                ),
+              ),
+            ),
+          ),
+        ),
+      ),
+    ),
+  ),
+)
 
 pub returns-clause-untold : goal.returns-clause-untold
 unfolding reckoning
-returns-clause-untold c =
-    (tt, (tt, (tt, (tt, ((refl, tt), (tt, (tt, (tt, ((refl, (refl, tt)), (tt, (tt, (tt,
-    ((refl, (refl, (inr ((λ can. cannot_tell _ can.way can.route), refl), tt))), (tt, (tt, tt)))))))))))))))
+returns-clause-untold c = (
+  tt,
+  (
+    tt,
+    (
+      tt,
+      (
+        tt,
+        (
+          (refl, tt),
+          (
+            tt,
+            (
+              tt,
+              (
+                tt,
+                (
+                  (refl, (refl, tt)),
+                  (
+                    tt,
+                    (
+                      tt,
+                      (
+                        tt,
+                        ((refl, (refl, (inr ((λ can. cannot_tell _ can.way can.route), refl), tt))), (tt, (tt, tt))),
+                      ),
+                    ),
+                  ),
+                ),
+              ),
+            ),
+          ),
+        ),
+      ),
+    ),
+  ),
+)
+
+pub returns-clause-asleep : goal.returns-clause-asleep
+unfolding reckoning
+returns-clause-asleep c = (
+  tt,
+  (
+    tt,
+    (
+      tt,
+      (
+        tt,
+        (
+          tt,
+          (
+            tt,
+            (
+              tt,
+              (
+                (refl, tt),
+                (
+                  tt,
+                  (
+                    tt,
+                    (
+                      tt,
+                      (
+                        (refl, (refl, tt)),
+                        (
+                          tt,
+                          (
+                            tt,
+                            (
+                              tt,
+                              (
+                                tt,
+                                (
+                                  (refl, (refl, (refl, tt))),
+                                  (
+                                    tt,
+                                    (
+                                      tt,
+                                      (
+                                        (refl, (refl, (refl, (inl (record { joined = refl; way = []; route = (direct _ _ 5 refl).walk; awake = refl }, refl), tt)))),
+                                        (
+                                          tt,
+                                          (
+                                            tt,
+                                            (
+                                              tt,
+                                              (
+                                                tt,
+                                                (
+                                                  (refl, (refl, (refl, (inl (record { joined = refl; way = []; route = (direct _ _ 5 refl).walk; awake = refl }, refl), (refl, tt))))),
+                                                  (
+                                                    tt,
+                                                    (
+                                                      tt,
+                                                      (
+                                                        tt,
+                                                        (
+                                                          tt,
+                                                          (
+                                                            (refl, (refl, (refl, (inl (record { joined = refl; way = []; route = (direct _ _ 5 refl).walk; awake = refl }, refl), (refl, (refl, tt)))))),
+                                                            (
+                                                              tt,
+                                                              (
+                                                                tt,
+                                                                (
+                                                                  tt,
+                                                                  (
+                                                                    tt,
+                                                                    (
+                                                                      tt,
+                                                                      (
+                                                                        (refl, (refl, (refl, (inl (record { joined = refl; way = []; route = (direct _ _ 5 refl).walk; awake = refl }, refl), (refl, (refl, (refl, tt))))))),
+                                                                        (
+                                                                          tt,
+                                                                          (
+                                                                            tt,
+                                                                            (
+                                                                              tt,
+                                                                              (
+                                                                                tt,
+                                                                                (
+                                                                                  tt,
+                                                                                  (
+                                                                                    (refl, (refl, (refl, (inl (record { joined = refl; way = []; route = (direct _ _ 5 refl).walk; awake = refl }, refl), (refl, (refl, (refl, (refl, tt)))))))),
+                                                                                    (tt, (tt, tt)),
+                                                                                  ),
+                                                                                ),
+                                                                              ),
+                                                                            ),
+                                                                          ),
+                                                                        ),
+                                                                      ),
+                                                                    ),
+                                                                  ),
+                                                                ),
+                                                              ),
+                                                            ),
+                                                          ),
+                                                        ),
+                                                      ),
+                                                    ),
+                                                  ),
+                                                ),
+                                              ),
+                                            ),
+                                          ),
+                                        ),
+                                      ),
+                                    ),
+                                  ),
+                                ),
+                              ),
+                            ),
+                          ),
+                        ),
+                      ),
+                    ),
+                  ),
+                ),
+              ),
+            ),
+          ),
+        ),
+      ),
+    ),
+  ),
+)
+
+pub returns-clause-restarted : goal.returns-clause-restarted
+unfolding reckoning
+returns-clause-restarted c = (
+  tt,
+  (
+    tt,
+    (
+      tt,
+      (
+        tt,
+        (
+          tt,
+          (
+            (refl, tt),
+            (
+              tt,
+              (
+                tt,
+                (
+                  tt,
+                  (
+                    tt,
+                    (
+                      tt,
+                      (
+                        (refl, (refl, tt)),
+                        (
+                          tt,
+                          (
+                            tt,
+                            (
+                              tt,
+                              (
+                                (refl, (refl, (refl, tt))),
+                                (
+                                  tt,
+                                  (
+                                    tt,
+                                    (
+                                      tt,
+                                      (
+                                        (refl, (refl, (refl, (refl, tt)))),
+                                        (
+                                          tt,
+                                          (
+                                            tt,
+                                            (
+                                              tt,
+                                              (
+                                                tt,
+                                                (
+                                                  tt,
+                                                  (
+                                                    tt,
+                                                    (
+                                                      tt,
+                                                      (
+                                                        (refl, (refl, (refl, (refl, (refl, tt))))),
+                                                        (
+                                                          tt,
+                                                          (
+                                                            tt,
+                                                            (
+                                                              tt,
+                                                              ((refl, (refl, (refl, (refl, (refl, (refl, tt)))))), (tt, (tt, (tt, tt)))),
+                                                            ),
+                                                          ),
+                                                        ),
+                                                      ),
+                                                    ),
+                                                  ),
+                                                ),
+                                              ),
+                                            ),
+                                          ),
+                                        ),
+                                      ),
+                                    ),
+                                  ),
+                                ),
+                              ),
+                            ),
+                          ),
+                        ),
+                      ),
+                    ),
+                  ),
+                ),
+              ),
+            ),
+          ),
+        ),
+      ),
+    ),
+  ),
+)
+
+pub returns-clause-aborted : goal.returns-clause-aborted
+unfolding reckoning
+returns-clause-aborted c =
+    (tt, (tt, (tt, (tt, (tt, ((refl, tt), (tt, (tt, (tt, (tt, ((refl, (refl, tt)), (tt, (tt, (tt, (tt, (tt, (tt, tt)))))))))))))))))
