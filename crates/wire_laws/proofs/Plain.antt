@@ -1,13 +1,12 @@
 -- What holds of a plain exchange.
-use Rattle.std.proofs.Common.{◌≡◌, ℕ, List, [], ◌∷◌, ◌++◌, refl, inl, inr, arith}
+use Rattle.std.proofs.Common.{List, [], ◌∷◌, ◌++◌, refl, inl, inr, arith}
 use Rattle.std.specs.Prelude.{codes, take}
 use Rattle.serial_frame.specs.Frame.{FrameParts}
-use Rattle.serial_frame.specs.Stream.{Signal, byte, mark, Splits, Spans, no_rest, piece_of}
+use Rattle.serial_frame.specs.Stream.{Signal, byte, mark, Spans, no_rest, piece_of}
 use Rattle.serial_frame.specs.declared.item.Item.TheVariants.{Good}
-use Rattle.serial_frame.specs.declared.unit.Unit.TheVariants.{Ack, Framed}
-use Rattle.serial_link.specs.Rules.{Step, Stands, EndsSent, IsLife, SideObeys, items_of}
+use Rattle.serial_frame.specs.declared.unit.Unit.TheVariants.{Ack}
+use Rattle.serial_link.specs.Rules.{IsLife}
 use Rattle.serial_link.specs.Calls.{submit_step}
-use Rattle.serial_link.specs.declared.turn.Turn.{Turn}
 use Rattle.serial_link.specs.declared.turn.Turn.TheVariants.{Idle, Copied}
 use Rattle.zw_words.specs.declared.side.Side.TheVariants.{Host, Chip}
 use Rattle.zw_laws.specs.Links.{KeepsLink}

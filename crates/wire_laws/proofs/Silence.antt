@@ -1,8 +1,8 @@
 -- A side that hears nothing answers nothing.
-use Rattle.std.proofs.Common.{◌≡◌, ℕ, Bool, List, [], ◌∷◌, ◌++◌, refl, sym, ap, subst, ◌∙◌, arith}
+use Rattle.std.proofs.Common.{◌≡◌, ℕ, Bool, List, [], ◌∷◌, ◌++◌, refl, sym, ap, subst, ◌∙◌}
 use Rattle.std.specs.List.{AllByRecursion, flat_map}
 use Rattle.std.specs.Prelude.{slice_index}
-use Rattle.serial_frame.specs.Stream.{Signal, Rest, byte, mark, bytes_of, Splits, Spans, Starts}
+use Rattle.serial_frame.specs.Stream.{Signal, Rest, byte, mark, bytes_of, Splits, Starts}
 use Rattle.serial_frame.specs.declared.item.Item.{Item}
 use Rattle.serial_frame.specs.declared.unit.Unit.TheVariants.{Ack, Nak, Can, Framed}
 use Rattle.serial_frame.proofs.Streams.{bytes_of-append}

@@ -1,13 +1,13 @@
 -- Walks of at most one repeater, and which of them comes first.
-use Rattle.std.proofs.Common.{◌≡◌, ◌⊎◌, ◌||◌, ℕ, suc, zero, ◌≤◌, ◌<◌, ◌==◌, length, Bool, true, false, List, [], ◌∷◌, refl, sym, ap, subst, ◌∙◌, inl, inr, arith}
-use Rattle.std.specs.Prelude.{IsTrue, All, AllPairs, nat_eq, slice_index_or, ◌≢◌}
+use Rattle.std.proofs.Common.{◌≡◌, ◌⊎◌, ◌||◌, ℕ, suc, zero, Bool, true, false, List, [], ◌∷◌, refl, sym, ap, subst, ◌∙◌, inl, inr, arith}
+use Rattle.std.specs.Prelude.{IsTrue, All, AllPairs, nat_eq, ◌≢◌}
 use Rattle.std.specs.List.{list_any, AllByRecursion}
 use Rattle.std.proofs.lemmas.Bool.Decides.{nat_tests}
 use Rattle.std.specs.Ordering.{nat_cmp, eq_by_cmp, is_le, ordering_then}
 use Rattle.std.specs.declared.cmp.Ordering.{Ordering}
 use Rattle.std.specs.declared.cmp.Ordering.TheVariants.{Less, Equal, Greater}
 use Rattle.std.specs.FinSet as set
-use Rattle.route_table.specs.Network.{Network, Link, link_cmp, link_of, linked, repeats}
+use Rattle.route_table.specs.Network.{Link, link_cmp, link_of, linked, repeats}
 use Rattle.route_table.specs.Walk.{Hops, Walk, ComesFirst}
 use Rattle.route_table.proofs.Networks.{link_cmp_total, tied_links}
 use Rattle.wire_laws.specs.Networks.{network_of}

@@ -1,7 +1,6 @@
 -- What the chip writes (Serial API; the order and the number that may wait are this project's own rule): what it has for the host, one
 -- frame each and in order, but for what `chipfull` dropped and what still waits while its link is busy.
 use Rattle.std.specs.Prelude.{◌≡◌, ◌⊎◌, ◌≤◌, ◌<◌, ℕ, zero, suc, ◌+◌, ◌-◌, Bool, true, false, if◌then◌else◌, List, [], ◌∷◌, ◌++◌, length, slice_index_or, ⊤}
-use Rattle.serial_link.specs.declared.turn.Turn.{Turn}
 use Rattle.serial_link.specs.declared.turn.Turn.TheVariants.{Idle}
 use Rattle.device_sim.specs.State.{State}
 use Rattle.zw_words.specs.declared.side.Side.TheVariants.{Chip}

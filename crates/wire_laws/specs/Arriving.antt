@@ -1,6 +1,6 @@
 -- What becomes of each frame, and why (this project's own rule): lost by a mark or for want of a way, unheard at a dead link or
 -- where no device is awake, heard else; and which hop the chip forgets.
-use Rattle.std.specs.Prelude.{◌≡◌, ℕ, zero, suc, ◌+◌, ◌-◌, ◌==◌, ◌&&◌, ◌||◌, not, Bool, true, false, if◌then◌else◌, List, [], ◌∷◌, map, filter, length, take, drop, Option, Some, None, ⊤}
+use Rattle.std.specs.Prelude.{◌≡◌, ℕ, zero, suc, ◌-◌, ◌==◌, ◌&&◌, ◌||◌, not, Bool, true, false, if◌then◌else◌, List, [], ◌∷◌, map, filter, length, take, drop, Option, Some, None, ⊤}
 use Rattle.std.specs.List.{list_any, flat_map}
 use Rattle.route_table.specs.Network.{Link}
 use Rattle.device_sim.specs.State.{State}

@@ -1,6 +1,6 @@
 -- What the chip has been asked, and which SendData it takes (Serial API: SendData, SendDataAbort; when the chip is idle is this
 -- project's own rule): one at a time, until the next tick or until it is aborted.
-use Rattle.std.specs.Prelude.{ℕ, ◌+◌, ◌-◌, ◌==◌, ◌&&◌, nat_le, max, Bool, true, false, if◌then◌else◌, List, [], ◌∷◌, ◌++◌, map, filter, length, take, slice_get, slice_index}
+use Rattle.std.specs.Prelude.{ℕ, ◌+◌, ◌-◌, ◌==◌, ◌&&◌, nat_le, max, Bool, true, false, if◌then◌else◌, List, [], ◌∷◌, map, filter, length, take, slice_get, slice_index}
 use Rattle.std.specs.List.{flat_map}
 use Rattle.serial_frame.specs.Frame.{FrameParts}
 use Rattle.serial_frame.specs.declared.frame.Kind.{Kind}

@@ -1,6 +1,6 @@
 -- Which frames the controller puts on the air (Serial API: SendData): directly behind the answer to a SendData that is taken stands
 -- its frame, where the chip's table has a route, and nowhere else.
-use Rattle.std.specs.Prelude.{◌≡◌, ℕ, ◌+◌, ◌==◌, ◌&&◌, ◌||◌, not, Bool, true, false, if◌then◌else◌, List, [], ◌∷◌, filter, length, ⊤}
+use Rattle.std.specs.Prelude.{◌≡◌, ℕ, ◌+◌, ◌==◌, ◌&&◌, ◌||◌, not, Bool, true, false, if◌then◌else◌, List, [], filter, length, ⊤}
 use Rattle.std.specs.List.{AllByRecursion}
 use Rattle.device_sim.specs.State.{State}
 use Rattle.zw_words.specs.declared.side.Side.TheVariants.{Chip}

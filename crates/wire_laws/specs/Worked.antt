@@ -1,6 +1,6 @@
 -- Worked transcripts of the chip and of the air, as the program prints them, before the table at the end; the last but
 -- one is by hand.
-use Rattle.std.specs.Prelude.{List, [], ◌∷◌, ◌++◌, codes, take}
+use Rattle.std.specs.Prelude.{false, List, [], ◌∷◌, ◌++◌, codes, take}
 use Rattle.zw_base.specs.declared.property.Name.TheVariants as names
 use Rattle.zw_base.specs.declared.property.By.TheVariants.{Session, Local}
 use Rattle.zw_words.specs.declared.side.Side.TheVariants.{Host, Chip}
@@ -10,7 +10,7 @@ use Rattle.device_stack.specs.State.{State, fresh}
 use Rattle.zw_text.specs.declared.entry.Ended.TheVariants as endings
 use Rattle.zw_text.specs.declared.entry.Done.TheVariants as ends
 use Rattle.zw_text.specs.declared.entry.Entry.{Entry}
-use Rattle.zw_text.specs.declared.entry.Entry.TheVariants.{Said, Accepted, Begin, Written, Air, Heard, Lost, Unheard, Dev, Forget, Out, Store, Awake, Asleep, Interviewed, InterviewFailed, Done, Time}
+use Rattle.zw_text.specs.declared.entry.Entry.TheVariants.{Said, Accepted, Begin, Written, Air, Heard, Lost, Unheard, Dev, Forget, Out, Store, Awake, Asleep, Interviewed, InterviewFailed, Done, Neighbours, Failed, Time}
 use Rattle.zw_laws.specs.Worked.{bytes, plain_exchange}
 
 -- two routes of one repeater each; the first has lost a link, which is found and forgotten
@@ -93,13 +93,32 @@ cut_off =
     Said (codes "unlink 1 2") ∷ Said (codes "local 2 1") ∷ Dev 2 Local (setting 0 names.Switch 255) ∷
     Air 1 2 1 [] (bytes (codes "2503FF")) ∷ Said (codes "tick 1") ∷ Time 1 ∷ Lost 1 ∷ []
 
+-- `link 2 10`, `join 10`, `discover`, `neighbours 10`, `failed 10`, `probe`: the chip is asked what it knows
+abbrev pub questions : List Entry
+questions =
+    Said (codes "link 2 10") ∷ Said (codes "join 10") ∷ Said (codes "discover") ∷ Written Host (bytes (codes "01030002FE")) ∷
+    Written Chip (bytes (codes "06")) ∷
+    Written Chip (bytes (codes "0125010205001D03020000000000000000000000000000000000000000000000000000000700C7")) ∷
+    Written Host (bytes (codes "06")) ∷ Said (codes "neighbours 10") ∷ Written Host (bytes (codes "010700800A00000072")) ∷
+    Written Chip (bytes (codes "06")) ∷
+    Written Chip (bytes (codes "0120018002000000000000000000000000000000000000000000000000000000005C")) ∷
+    Written Host (bytes (codes "06")) ∷ Neighbours 10 (2 ∷ []) ∷ Said (codes "failed 10") ∷
+    Written Host (bytes (codes "010400620A93")) ∷ Written Chip (bytes (codes "06")) ∷
+    Written Chip (bytes (codes "010401620098")) ∷ Written Host (bytes (codes "06")) ∷ Failed 10 false ∷ Said (codes "probe") ∷
+    Written Host (bytes (codes "01030015E9")) ∷ Written Chip (bytes (codes "06")) ∷
+    Written Chip (bytes (codes "011001155A2D5761766520302E3030000196")) ∷ Written Host (bytes (codes "06")) ∷
+    Written Host (bytes (codes "01030020DC")) ∷ Written Chip (bytes (codes "06")) ∷
+    Written Chip (bytes (codes "010801200000000101D6")) ∷ Written Host (bytes (codes "06")) ∷
+    Written Host (bytes (codes "01030007FB")) ∷ Written Chip (bytes (codes "06")) ∷
+    Written Chip (bytes (codes "012B010701000000000000004A003480000000000101008002000080000000000000000000000000000000002F")) ∷
+    Written Host (bytes (codes "06")) ∷ []
+
 -- by hand: the host takes back a SendData of which the frame is on the air
 abbrev pub aborted : List Entry
 aborted =
     take 8 plain_exchange ++ Written Host (bytes (codes "01030016EA")) ∷ Written Chip (bytes (codes "06")) ∷
     Written Chip (bytes (codes "010500130102EA")) ∷ Written Host (bytes (codes "06")) ∷ Said (codes "tick 1") ∷ Time 1 ∷ Heard 1 ∷
     Dev 2 (Session 1) (setting 0 names.Switch 255) ∷ Air 2 2 1 [] (bytes (codes "6C0201FF00")) ∷ []
-
 -- the devices of these runs, as their makers leave them
 abbrev pub the_switches : List State
 the_switches = fresh 2 kinds.Switch [] ∷ fresh 10 kinds.Switch [] ∷ fresh 18 kinds.Switch [] ∷ []

@@ -82,3 +82,8 @@ passed_in_restarted =
 
 abbrev pub passed_in_aborted : List FrameParts
 passed_in_aborted = switching_on ∷ request 0x16 [] ∷ []
+
+-- where the chip is asked what it knows
+abbrev pub passed_in_questions : List FrameParts
+passed_in_questions =
+    request 0x02 [] ∷ request 0x80 (codes "0A000000") ∷ request 0x62 (codes "0A") ∷ request 0x15 [] ∷ request 0x20 [] ∷ request 0x07 [] ∷ []

@@ -1,10 +1,10 @@
 -- Transcripts like the worked ones with one entry changed, left out or put in.
 use Rattle.std.specs.Prelude.{ℕ, ◌+◌, List, [], ◌∷◌, ◌++◌, codes, take, drop}
-use Rattle.zw_words.specs.declared.side.Side.TheVariants.{Host, Chip}
+use Rattle.zw_words.specs.declared.side.Side.TheVariants.{Chip}
 use Rattle.zw_text.specs.declared.entry.Entry.{Entry}
-use Rattle.zw_text.specs.declared.entry.Entry.TheVariants.{Said, Written, Air, Heard, Lost, Unheard, Forget, ChipFull, Time}
+use Rattle.zw_text.specs.declared.entry.Entry.TheVariants.{Said, Written, Air, Heard, Lost, Unheard, Forget, ChipFull}
 use Rattle.zw_laws.specs.Worked.{bytes, plain_exchange, lossy_exchange, restarted_host}
-use Rattle.wire_laws.specs.Worked.{rerouted, unroutable, untold, asleep, heard_twice, cut_off, aborted}
+use Rattle.wire_laws.specs.Worked.{rerouted, unroutable, untold, asleep, heard_twice, cut_off, aborted, questions}
 
 -- a transcript with another entry at a place, without the one there, or with one more before it; places count from 0
 abbrev pub changed_at : ℕ → Entry → List Entry → List Entry
@@ -119,6 +119,13 @@ taken_though_busy = changed_at 11 (Written Chip (bytes (codes "0104011301E8"))) 
 -- a SendData that was aborted has a second callback
 abbrev pub called_twice : List Entry
 called_twice = aborted ++ Written Chip (bytes (codes "010500130100E8")) ∷ []
+
+-- a node has another neighbour than the table says, and has failed though no callback said so
+abbrev pub neighbours_otherwise : List Entry
+neighbours_otherwise = changed_at 10 (Written Chip (bytes (codes "0120018003000000000000000000000000000000000000000000000000000000005D"))) questions
+
+abbrev pub failed_for_nothing : List Entry
+failed_for_nothing = changed_at 16 (Written Chip (bytes (codes "010401620199"))) questions
 
 -- a frame is dropped though none waits
 abbrev pub full_of_nothing : List Entry

@@ -1,4 +1,4 @@
-use Rattle.std.proofs.Common.{◌≡◌, ℕ, List, [], ◌∷◌, refl, sym, ap, ◌∙◌, inl, inr, arith}
+use Rattle.std.proofs.Common.{◌≡◌, ℕ, List, [], refl, sym, ap, ◌∙◌, inl, inr, arith}
 use Rattle.std.specs.Prelude.{slice_index}
 use Rattle.wire_laws.specs.Asked.{Sending}
 use Rattle.wire_laws.proofs.Computing.{reckoning}
@@ -87,3 +87,14 @@ returns-clause-busy c = λ law. zero_one (sym (ap (byte_at 4) law.1.1.1.1.1.1.1.
 pub returns-clause-twice : goal.returns-clause-twice
 unfolding reckoning
 returns-clause-twice c = λ law. law.1.1.1.1.1.1.1.1.1.1.1.1.1.1.1.1.1.0.1.1
+
+three_two : ◌≡◌ {A = ℕ} 3 2 → ⊥
+three_two e = omega (arith, e)
+
+pub returns-clause-neighbour : goal.returns-clause-neighbour
+unfolding reckoning
+returns-clause-neighbour c = λ law. three_two (ap (byte_at 4) law.1.1.1.1.1.1.1.1.1.1.0.1.0)
+
+pub returns-clause-healthy : goal.returns-clause-healthy
+unfolding reckoning
+returns-clause-healthy c = λ law. zero_one (sym (ap (byte_at 4) law.1.1.1.1.1.1.1.1.1.1.1.1.1.1.1.1.0.1.1.0))

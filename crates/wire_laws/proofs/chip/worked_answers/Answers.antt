@@ -1,4 +1,4 @@
-use Rattle.std.proofs.Common.{◌≡◌, ℕ, List, [], ◌∷◌, refl, inl, inr, arith}
+use Rattle.std.proofs.Common.{[], refl, inl, inr}
 use Rattle.wire_laws.proofs.Computing.{reckoning}
 use Rattle.wire_laws.proofs.Plain.{plain_answers}
 use Rattle.wire_laws.proofs.Walks.{direct, cannot_tell}
@@ -339,3 +339,10 @@ pub returns-clause-aborted : goal.returns-clause-aborted
 unfolding reckoning
 returns-clause-aborted c =
     (tt, (tt, (tt, (tt, (tt, ((refl, tt), (tt, (tt, (tt, (tt, ((refl, (refl, tt)), (tt, (tt, (tt, (tt, (tt, (tt, tt)))))))))))))))))
+
+pub returns-clause-questions : goal.returns-clause-questions
+unfolding reckoning
+returns-clause-questions c =
+    (tt, (tt, (tt, (tt, (tt, ((refl, tt), (tt, (tt, (tt, (tt, ((refl, (refl, tt)), (tt, (tt, (tt, (tt, (tt, ((refl, (refl, (refl, tt))), (tt, (tt,
+    (tt, (tt, (tt, ((refl, (refl, (refl, (refl, tt)))), (tt, (tt, (tt, ((refl, (refl, (refl, (refl, (refl, tt))))), (tt, (tt, (tt,
+    ((refl, (refl, (refl, (refl, (refl, (refl, tt)))))), (tt, tt))))))))))))))))))))))))))))))))

@@ -1,4 +1,4 @@
-use Rattle.std.proofs.Common.{◌≡◌, ℕ, List, [], ◌∷◌, refl, inl, inr, arith}
+use Rattle.std.proofs.Common.{refl, inl}
 use Rattle.std.specs.Prelude.{codes, take}
 use Rattle.zw_laws.specs.Worked.{bytes, restarted_host}
 use Rattle.wire_laws.specs.Asked.{sending_of}

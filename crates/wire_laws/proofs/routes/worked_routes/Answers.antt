@@ -1,10 +1,6 @@
-use Rattle.std.proofs.Common.{◌≡◌, ℕ, true, false, List, [], ◌∷◌, refl, inl, inr, arith}
-use Rattle.std.specs.Prelude.{nat_eq, IsTrue}
-use Rattle.std.specs.List.{list_any}
-use Rattle.std.specs.Ordering.{nat_cmp, is_le}
-use Rattle.route_table.specs.Network.{Link}
+use Rattle.std.proofs.Common.{◌≡◌, ℕ, true, false, refl, inl, arith}
 use Rattle.wire_laws.proofs.Computing.{reckoning}
-use Rattle.wire_laws.proofs.Walks.{direct, over_one, one_route, has_link}
+use Rattle.wire_laws.proofs.Walks.{direct, over_one, one_route}
 use Rattle.wire_laws.proofs.routes.worked_routes.Goals as goal
 
 not_so : false ≡ true → ⊥
