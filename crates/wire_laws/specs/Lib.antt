@@ -6,6 +6,7 @@ pub mod Taking
 pub mod Results
 pub mod Given
 pub mod Answering
+pub mod Marks
 pub mod Worked
 pub mod WorkedCourses
 pub mod WorkedFull

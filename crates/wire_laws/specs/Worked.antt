@@ -10,7 +10,7 @@ use Rattle.device_stack.specs.State.{State, fresh}
 use Rattle.zw_text.specs.declared.entry.Ended.TheVariants as endings
 use Rattle.zw_text.specs.declared.entry.Done.TheVariants as ends
 use Rattle.zw_text.specs.declared.entry.Entry.{Entry}
-use Rattle.zw_text.specs.declared.entry.Entry.TheVariants.{Said, Accepted, Begin, Written, Air, Heard, Lost, Unheard, Dev, Forget, Out, Store, Awake, Asleep, Interviewed, InterviewFailed, Done, Neighbours, Failed, Time}
+use Rattle.zw_text.specs.declared.entry.Entry.TheVariants.{Said, Accepted, Begin, Written, Dropped, Garbled, Air, Heard, Lost, Unheard, Dev, Forget, Out, Store, Awake, Asleep, Interviewed, InterviewFailed, Done, Neighbours, Failed, Time}
 use Rattle.zw_laws.specs.Worked.{bytes, plain_exchange}
 
 -- two routes of one repeater each; the first has lost a link, which is found and forgotten
@@ -112,6 +112,32 @@ questions =
     Written Host (bytes (codes "01030007FB")) ∷ Written Chip (bytes (codes "06")) ∷
     Written Chip (bytes (codes "012B010701000000000000004A003480000000000101008002000080000000000000000000000000000000002F")) ∷
     Written Host (bytes (codes "06")) ∷ []
+
+-- `set 2 on`, `drop h`, `tick 20`: the ACK of a callback is lost, so that it is written again and a report waits
+abbrev pub copied : List Entry
+copied =
+    Said (codes "set 2 on") ∷ Accepted 1 2 ∷ Begin 2 1 1 ∷ Written Host (bytes (codes "010E001302076C0101032501FF250177")) ∷
+    Written Chip (bytes (codes "06")) ∷ Written Chip (bytes (codes "0104011301E8")) ∷
+    Air 1 1 2 [] (bytes (codes "6C0101032501FF")) ∷ Written Host (bytes (codes "06")) ∷ Said (codes "drop h") ∷
+    Said (codes "tick 20") ∷ Time 1 ∷ Heard 1 ∷ Dev 2 (Session 1) (setting 0 names.Switch 255) ∷
+    Air 2 2 1 [] (bytes (codes "6C0201FF00")) ∷ Written Chip (bytes (codes "010500130100E8")) ∷
+    Written Host (bytes (codes "06")) ∷ Dropped Host ∷ Time 2 ∷ Heard 2 ∷ Time 16 ∷
+    Written Chip (bytes (codes "010500130100E8")) ∷ Written Host (bytes (codes "06")) ∷
+    Written Chip (bytes (codes "010B00040002056C0201FF0067")) ∷ Written Host (bytes (codes "06")) ∷ Out 1 endings.Success ∷
+    Store 2 (setting 0 names.Switch 255) ∷ []
+
+-- `garble h 3 1`, `set 2 on`, `tick 3`: a byte of the SendData is changed, and the chip answers NAK
+abbrev pub garbled_frame : List Entry
+garbled_frame =
+    Said (codes "garble h 3 1") ∷ Said (codes "set 2 on") ∷ Accepted 1 2 ∷ Begin 2 1 1 ∷
+    Written Host (bytes (codes "010E001302076C0101032501FF250177")) ∷
+    Garbled Host (bytes (codes "010E001302066C0101032501FF250177")) ∷ Written Chip (bytes (codes "15")) ∷ Said (codes "tick 3") ∷
+    Time 1 ∷ Written Host (bytes (codes "010E001302076C0101032501FF250177")) ∷ Written Chip (bytes (codes "06")) ∷
+    Written Chip (bytes (codes "0104011301E8")) ∷ Air 1 1 2 [] (bytes (codes "6C0101032501FF")) ∷
+    Written Host (bytes (codes "06")) ∷ Time 2 ∷ Heard 1 ∷ Dev 2 (Session 1) (setting 0 names.Switch 255) ∷
+    Air 2 2 1 [] (bytes (codes "6C0201FF00")) ∷ Written Chip (bytes (codes "010500130100E8")) ∷
+    Written Host (bytes (codes "06")) ∷ Time 3 ∷ Heard 2 ∷ Written Chip (bytes (codes "010B00040002056C0201FF0067")) ∷
+    Written Host (bytes (codes "06")) ∷ Out 1 endings.Success ∷ Store 2 (setting 0 names.Switch 255) ∷ []
 
 -- by hand: the host takes back a SendData of which the frame is on the air
 abbrev pub aborted : List Entry

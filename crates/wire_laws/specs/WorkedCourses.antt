@@ -1,5 +1,5 @@
 -- What the links of worked transcripts heard and wrote, step by step, and what they passed up.
-use Rattle.std.specs.Prelude.{ℕ, ◌==◌, not, List, [], ◌∷◌, map, length, codes}
+use Rattle.std.specs.Prelude.{ℕ, ◌==◌, not, true, false, List, [], ◌∷◌, map, length, codes}
 use Rattle.serial_frame.specs.Frame.{FrameParts}
 use Rattle.serial_frame.specs.declared.frame.Kind.TheVariants.{Request, Response}
 use Rattle.serial_frame.specs.declared.unit.Unit.TheVariants.{Ack, Framed}
@@ -87,3 +87,8 @@ passed_in_aborted = switching_on ∷ request 0x16 [] ∷ []
 abbrev pub passed_in_questions : List FrameParts
 passed_in_questions =
     request 0x02 [] ∷ request 0x80 (codes "0A000000") ∷ request 0x62 (codes "0A") ∷ request 0x15 [] ∷ request 0x20 [] ∷ request 0x07 [] ∷ []
+
+-- ---- a course in which the callback is written twice
+
+abbrev pub copied_course : Course
+copied_course = record { passed = switching_on ∷ []; firsts = false ∷ true ∷ true ∷ false ∷ true ∷ [] }

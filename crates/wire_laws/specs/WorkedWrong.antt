@@ -1,10 +1,10 @@
 -- Transcripts like the worked ones with one entry changed, left out or put in.
 use Rattle.std.specs.Prelude.{ℕ, ◌+◌, List, [], ◌∷◌, ◌++◌, codes, take, drop}
-use Rattle.zw_words.specs.declared.side.Side.TheVariants.{Chip}
+use Rattle.zw_words.specs.declared.side.Side.TheVariants.{Host, Chip}
 use Rattle.zw_text.specs.declared.entry.Entry.{Entry}
-use Rattle.zw_text.specs.declared.entry.Entry.TheVariants.{Said, Written, Air, Heard, Lost, Unheard, Forget, ChipFull}
+use Rattle.zw_text.specs.declared.entry.Entry.TheVariants.{Said, Written, Dropped, Garbled, Air, Heard, Lost, Unheard, Forget, ChipFull}
 use Rattle.zw_laws.specs.Worked.{bytes, plain_exchange, lossy_exchange, restarted_host}
-use Rattle.wire_laws.specs.Worked.{rerouted, unroutable, untold, asleep, heard_twice, cut_off, aborted, questions}
+use Rattle.wire_laws.specs.Worked.{rerouted, unroutable, untold, asleep, heard_twice, cut_off, aborted, questions, copied, garbled_frame}
 
 -- a transcript with another entry at a place, without the one there, or with one more before it; places count from 0
 abbrev pub changed_at : ℕ → Entry → List Entry → List Entry
@@ -136,3 +136,24 @@ full_of_nothing = changed_at 13 ChipFull plain_exchange
 -- the chip answers a frame that never came
 abbrev pub answered_nothing : List Entry
 answered_nothing = Written Chip (bytes (codes "06")) ∷ []
+
+-- a unit is lost without a mark, and a marked one is not
+abbrev pub lost_on_the_line : List Entry
+lost_on_the_line = with_more_at 14 (Dropped Chip) plain_exchange
+
+abbrev pub kept_on_the_line : List Entry
+kept_on_the_line = without_at 16 copied
+
+-- a frame is changed otherwise than its mark says, and not at all
+abbrev pub changed_otherwise : List Entry
+changed_otherwise = changed_at 5 (Garbled Host (bytes (codes "010E001302056C0101032501FF250177"))) garbled_frame
+
+abbrev pub not_changed : List Entry
+not_changed = without_at 5 garbled_frame
+
+-- a frame is answered CAN though no line asks for it, and ACK though one does
+abbrev pub collided_freely : List Entry
+collided_freely = changed_at 4 (Written Chip (bytes (codes "18"))) plain_exchange
+
+abbrev pub not_collided : List Entry
+not_collided = changed_at 5 (Written Chip (bytes (codes "06"))) heard_twice

@@ -98,3 +98,10 @@ returns-clause-neighbour c = λ law. three_two (ap (byte_at 4) law.1.1.1.1.1.1.1
 pub returns-clause-healthy : goal.returns-clause-healthy
 unfolding reckoning
 returns-clause-healthy c = λ law. zero_one (sym (ap (byte_at 4) law.1.1.1.1.1.1.1.1.1.1.1.1.1.1.1.1.0.1.1.0))
+
+five_eleven : ◌≡◌ {A = ℕ} 5 11 → ⊥
+five_eleven e = omega (arith, e)
+
+pub returns-clause-anew : goal.returns-clause-anew
+unfolding reckoning
+returns-clause-anew c = λ law. five_eleven (ap (byte_at 1) law.1.1.1.1.1.1.1.1.1.1.1.1.1.1.1.1.1.1.1.1.0.1.1.0)

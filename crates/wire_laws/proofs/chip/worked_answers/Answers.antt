@@ -346,3 +346,9 @@ returns-clause-questions c =
     (tt, (tt, (tt, (tt, (tt, ((refl, tt), (tt, (tt, (tt, (tt, ((refl, (refl, tt)), (tt, (tt, (tt, (tt, (tt, ((refl, (refl, (refl, tt))), (tt, (tt,
     (tt, (tt, (tt, ((refl, (refl, (refl, (refl, tt)))), (tt, (tt, (tt, ((refl, (refl, (refl, (refl, (refl, tt))))), (tt, (tt, (tt,
     ((refl, (refl, (refl, (refl, (refl, (refl, tt)))))), (tt, tt))))))))))))))))))))))))))))))))
+
+pub returns-clause-copied : goal.returns-clause-copied
+unfolding reckoning
+returns-clause-copied c =
+    (tt, (tt, (tt, (tt, (tt, ((refl, tt), (tt, (tt, (tt, (tt, (tt, (tt, (tt, (tt, ((refl, (refl, tt)), (tt, (tt, (tt, (tt, (tt, (tt, (tt,
+    ((refl, (refl, (refl, tt))), (tt, (tt, (tt, tt))))))))))))))))))))))))))
