@@ -13,6 +13,7 @@ use Rattle.zw_laws.specs.Links.{KeepsLink}
 use Rattle.zw_laws.specs.Worked.{bytes, plain_exchange, the_switch}
 use Rattle.wire_laws.specs.WorkedCourses.{hears_ack, quiet_tick, hears_frame, switching_on, taking_it, calling_back, reporting, chip_history, host_history}
 use Rattle.wire_laws.specs.Asked.{course_of, sending_of}
+use Rattle.wire_laws.specs.Marks.{CollidesWhenAsked}
 use Rattle.wire_laws.specs.Taking.{AirsWhatIsTaken}
 use Rattle.wire_laws.specs.Answering.{AnswersInOrder, DropsWhenFull}
 use Rattle.wire_laws.proofs.Computing.{reckoning}
@@ -385,3 +386,8 @@ plain_drops = (
     ),
   ),
 )
+
+pub plain_collides : CollidesWhenAsked plain_exchange
+unfolding reckoning
+plain_collides =
+    (tt, (tt, (tt, (tt, (refl, (tt, (tt, (tt, (tt, (tt, (tt, (tt, (tt, (tt, (tt, (tt, (tt, (tt, (tt, (tt, (tt, tt)))))))))))))))))))))

@@ -12,6 +12,7 @@ use Rattle.zw_laws.specs.Links.{KeepsLink}
 use Rattle.wire_laws.specs.Asked.{Course, course_of}
 use Rattle.wire_laws.specs.Taking.{AirsWhatIsTaken}
 use Rattle.wire_laws.specs.Given.{Given, given, IsOf}
+use Rattle.wire_laws.specs.Marks.{CollidesWhenAsked}
 
 -- whether the next unit of the chip is the first copy of a frame
 abbrev pub begins_next : Course → List Entry → Bool
@@ -71,10 +72,11 @@ DropsWhenFull devices course transcript = EachAfter (MayWait devices course) [] 
 
 -- ---- all of the chip
 
--- the chip serves the host: its link obeys the rules, and with the course of that link the laws above hold; a frame waits only
--- while the link is busy
+-- the chip serves the host: its link obeys the rules, it collides when asked, and with the course of that link the laws above hold; a
+-- frame waits only while the link is busy
 pub record ServesHost (devices : List State) (transcript : List Entry) : Type 0 where
   pub link : KeepsLink Chip transcript
+  pub collides : CollidesWhenAsked transcript
   pub airs : AirsWhatIsTaken devices (course_of link.history) transcript
   pub answers : AnswersInOrder devices (course_of link.history) transcript
   pub drops : DropsWhenFull devices (course_of link.history) transcript

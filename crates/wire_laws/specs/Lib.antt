@@ -5,8 +5,8 @@ pub mod Asked
 pub mod Taking
 pub mod Results
 pub mod Given
-pub mod Answering
 pub mod Marks
+pub mod Answering
 pub mod Worked
 pub mod WorkedCourses
 pub mod WorkedFull

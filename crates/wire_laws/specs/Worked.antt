@@ -145,6 +145,7 @@ aborted =
     take 8 plain_exchange ++ Written Host (bytes (codes "01030016EA")) ∷ Written Chip (bytes (codes "06")) ∷
     Written Chip (bytes (codes "010500130102EA")) ∷ Written Host (bytes (codes "06")) ∷ Said (codes "tick 1") ∷ Time 1 ∷ Heard 1 ∷
     Dev 2 (Session 1) (setting 0 names.Switch 255) ∷ Air 2 2 1 [] (bytes (codes "6C0201FF00")) ∷ []
+
 -- the devices of these runs, as their makers leave them
 abbrev pub the_switches : List State
 the_switches = fresh 2 kinds.Switch [] ∷ fresh 10 kinds.Switch [] ∷ fresh 18 kinds.Switch [] ∷ []

@@ -342,13 +342,164 @@ returns-clause-aborted c =
 
 pub returns-clause-questions : goal.returns-clause-questions
 unfolding reckoning
-returns-clause-questions c =
-    (tt, (tt, (tt, (tt, (tt, ((refl, tt), (tt, (tt, (tt, (tt, ((refl, (refl, tt)), (tt, (tt, (tt, (tt, (tt, ((refl, (refl, (refl, tt))), (tt, (tt,
-    (tt, (tt, (tt, ((refl, (refl, (refl, (refl, tt)))), (tt, (tt, (tt, ((refl, (refl, (refl, (refl, (refl, tt))))), (tt, (tt, (tt,
-    ((refl, (refl, (refl, (refl, (refl, (refl, tt)))))), (tt, tt))))))))))))))))))))))))))))))))
+returns-clause-questions c = (
+  tt,
+  (
+    tt,
+    (
+      tt,
+      (
+        tt,
+        (
+          tt,
+          (
+            (refl, tt),
+            (
+              tt,
+              (
+                tt,
+                (
+                  tt,
+                  (
+                    tt,
+                    (
+                      (refl, (refl, tt)),
+                      (
+                        tt,
+                        (
+                          tt,
+                          (
+                            tt,
+                            (
+                              tt,
+                              (
+                                tt,
+                                (
+                                  (refl, (refl, (refl, tt))),
+                                  (
+                                    tt,
+                                    (
+                                      tt,
+                                      (
+                                        tt,
+                                        (
+                                          tt,
+                                          (
+                                            tt,
+                                            (
+                                              (refl, (refl, (refl, (refl, tt)))),
+                                              (
+                                                tt,
+                                                (
+                                                  tt,
+                                                  (
+                                                    tt,
+                                                    (
+                                                      (refl, (refl, (refl, (refl, (refl, tt))))),
+                                                      (
+                                                        tt,
+                                                        (
+                                                          tt,
+                                                          (
+                                                            tt,
+                                                            ((refl, (refl, (refl, (refl, (refl, (refl, tt)))))), (tt, tt)),
+                                                          ),
+                                                        ),
+                                                      ),
+                                                    ),
+                                                  ),
+                                                ),
+                                              ),
+                                            ),
+                                          ),
+                                        ),
+                                      ),
+                                    ),
+                                  ),
+                                ),
+                              ),
+                            ),
+                          ),
+                        ),
+                      ),
+                    ),
+                  ),
+                ),
+              ),
+            ),
+          ),
+        ),
+      ),
+    ),
+  ),
+)
 
 pub returns-clause-copied : goal.returns-clause-copied
 unfolding reckoning
-returns-clause-copied c =
-    (tt, (tt, (tt, (tt, (tt, ((refl, tt), (tt, (tt, (tt, (tt, (tt, (tt, (tt, (tt, ((refl, (refl, tt)), (tt, (tt, (tt, (tt, (tt, (tt, (tt,
-    ((refl, (refl, (refl, tt))), (tt, (tt, (tt, tt))))))))))))))))))))))))))
+returns-clause-copied c = (
+  tt,
+  (
+    tt,
+    (
+      tt,
+      (
+        tt,
+        (
+          tt,
+          (
+            (refl, tt),
+            (
+              tt,
+              (
+                tt,
+                (
+                  tt,
+                  (
+                    tt,
+                    (
+                      tt,
+                      (
+                        tt,
+                        (
+                          tt,
+                          (
+                            tt,
+                            (
+                              (refl, (refl, tt)),
+                              (
+                                tt,
+                                (
+                                  tt,
+                                  (
+                                    tt,
+                                    (
+                                      tt,
+                                      (
+                                        tt,
+                                        (
+                                          tt,
+                                          (
+                                            tt,
+                                            ((refl, (refl, (refl, tt))), (tt, (tt, (tt, tt)))),
+                                          ),
+                                        ),
+                                      ),
+                                    ),
+                                  ),
+                                ),
+                              ),
+                            ),
+                          ),
+                        ),
+                      ),
+                    ),
+                  ),
+                ),
+              ),
+            ),
+          ),
+        ),
+      ),
+    ),
+  ),
+)
