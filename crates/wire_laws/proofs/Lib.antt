@@ -1,0 +1,4 @@
+mod Computing
+mod Plain
+mod Silence
+mod Walks

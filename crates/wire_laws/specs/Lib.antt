@@ -1,0 +1,13 @@
+pub mod Networks
+pub mod Routes
+pub mod Arriving
+pub mod Asked
+pub mod Taking
+pub mod Results
+pub mod Given
+pub mod Marks
+pub mod Answering
+pub mod Worked
+pub mod WorkedCourses
+pub mod WorkedFull
+pub mod WorkedWrong

@@ -1,0 +1,59 @@
+//! What the laws of the chip say of worked transcripts, and of others with one thing wrong.
+
+ghost use Rattle.std.specs.Prelude.{[], ◌∷◌};
+ghost use Rattle.zw_laws.specs.Worked.{plain_exchange, restarted_host, the_switch, the_sensor};
+ghost use Rattle.wire_laws.specs.Asked.{course_of};
+ghost use Rattle.wire_laws.specs.Taking.{AirsWhatIsTaken};
+ghost use Rattle.wire_laws.specs.Answering.{AnswersInOrder, DropsWhenFull};
+ghost use Rattle.wire_laws.specs.Worked.{unroutable, untold, asleep, aborted, questions, copied, the_switches};
+ghost use Rattle.wire_laws.specs.WorkedCourses.{chip_history, without_copies, passed_in_unroutable, passed_in_untold, passed_in_asleep, passed_in_restarted, passed_in_aborted, passed_in_questions, copied_course, switching_on};
+ghost use Rattle.wire_laws.specs.WorkedWrong.{held_back, aired_otherwise, aired_again, refused_though_idle, called_otherwise, called_early, brought_otherwise, routed_nowhere, told_from_afar, not_told, taken_though_busy, called_twice, neighbours_otherwise, failed_for_nothing, full_of_nothing};
+
+/// In worked transcripts the frames on the air are those of the SendData that the chip takes and has a route for.
+pub fn worked_taking()
+    ensures plain { AirsWhatIsTaken (the_switch ∷ []) (course_of chip_history) plain_exchange }
+    ensures unroutable { AirsWhatIsTaken (the_switch ∷ []) (without_copies passed_in_unroutable unroutable) unroutable }
+    ensures restarted { AirsWhatIsTaken (the_switch ∷ []) (without_copies passed_in_restarted restarted_host) restarted_host }
+{}
+
+/// In worked transcripts the chip writes what it has for the host: responses, callbacks, what it heard, and information of nodes.
+pub fn worked_answers()
+    ensures plain { AnswersInOrder (the_switch ∷ []) (course_of chip_history) plain_exchange }
+    ensures unroutable { AnswersInOrder (the_switch ∷ []) (without_copies passed_in_unroutable unroutable) unroutable }
+    ensures untold { AnswersInOrder (the_sensor ∷ []) (without_copies passed_in_untold untold) untold }
+    ensures asleep { AnswersInOrder (the_sensor ∷ []) (without_copies passed_in_asleep asleep) asleep }
+    ensures restarted { AnswersInOrder (the_switch ∷ []) (without_copies passed_in_restarted restarted_host) restarted_host }
+    ensures aborted { AnswersInOrder (the_switch ∷ []) (without_copies passed_in_aborted aborted) aborted }
+    ensures questions { AnswersInOrder the_switches (without_copies passed_in_questions questions) questions }
+    ensures copied { AnswersInOrder (the_switch ∷ []) copied_course copied }
+{}
+
+/// In worked transcripts the chip drops nothing, since few frames wait.
+pub fn worked_drops()
+    ensures plain { DropsWhenFull (the_switch ∷ []) (course_of chip_history) plain_exchange }
+    ensures copied { DropsWhenFull (the_switch ∷ []) copied_course copied }
+{}
+
+/// Each of these breaks one part of the laws: a SendData that is taken and has no frame, another frame, or two; one that is refused
+/// though the chip is idle; a callback with another status, or before the fate; what was not heard; a callback of a frame where there
+/// was no route; information of a node that cannot tell it, or none of one that can; a SendData taken while another is under way; a second
+/// callback of one that was aborted; other neighbours than the table has, or a node that failed without a callback; a callback given anew
+/// where it was to be a copy; and a frame dropped though none waits.
+pub fn rejected_chip()
+    ensures back { AirsWhatIsTaken (the_switch ∷ []) (course_of chip_history) held_back → ⊥ }
+    ensures otherwise { AirsWhatIsTaken (the_switch ∷ []) (course_of chip_history) aired_otherwise → ⊥ }
+    ensures again { AirsWhatIsTaken (the_switch ∷ []) (course_of chip_history) aired_again → ⊥ }
+    ensures refused { AnswersInOrder (the_switch ∷ []) (course_of chip_history) refused_though_idle → ⊥ }
+    ensures called { AnswersInOrder (the_switch ∷ []) (course_of chip_history) called_otherwise → ⊥ }
+    ensures early { AnswersInOrder (the_switch ∷ []) (course_of chip_history) called_early → ⊥ }
+    ensures brought { AnswersInOrder (the_switch ∷ []) (course_of chip_history) brought_otherwise → ⊥ }
+    ensures nowhere { AnswersInOrder (the_switch ∷ []) (without_copies passed_in_unroutable unroutable) routed_nowhere → ⊥ }
+    ensures afar { AnswersInOrder (the_sensor ∷ []) (without_copies passed_in_untold untold) told_from_afar → ⊥ }
+    ensures untold { AnswersInOrder (the_sensor ∷ []) (without_copies passed_in_asleep asleep) not_told → ⊥ }
+    ensures busy { AnswersInOrder (the_switch ∷ []) (without_copies passed_in_restarted restarted_host) taken_though_busy → ⊥ }
+    ensures twice { AnswersInOrder (the_switch ∷ []) (without_copies passed_in_aborted called_twice) called_twice → ⊥ }
+    ensures neighbour { AnswersInOrder the_switches (without_copies passed_in_questions questions) neighbours_otherwise → ⊥ }
+    ensures healthy { AnswersInOrder the_switches (without_copies passed_in_questions questions) failed_for_nothing → ⊥ }
+    ensures anew { AnswersInOrder (the_switch ∷ []) (without_copies (switching_on ∷ []) copied) copied → ⊥ }
+    ensures full { DropsWhenFull (the_switch ∷ []) (course_of chip_history) full_of_nothing → ⊥ }
+{}

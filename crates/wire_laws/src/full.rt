@@ -1,0 +1,15 @@
+//! What the law of frames that wait for the host says where many come.
+
+ghost use Rattle.std.specs.Prelude.{[], ◌∷◌};
+ghost use Rattle.zw_text.specs.declared.entry.Entry.TheVariants.{ChipFull, Time};
+ghost use Rattle.zw_laws.specs.Worked.{the_switch};
+ghost use Rattle.wire_laws.specs.Answering.{MayWait};
+ghost use Rattle.wire_laws.specs.WorkedFull.{crowded, busy_course};
+
+/// Where 32 frames wait behind the one under way, the next one is dropped, and not before: then a tick may begin with all of them.
+pub fn worked_full()
+    ensures full { MayWait (the_switch ∷ []) busy_course (crowded 33) ChipFull }
+    ensures late { MayWait (the_switch ∷ []) busy_course (crowded 33) (Time 2) → ⊥ }
+    ensures early { MayWait (the_switch ∷ []) busy_course (crowded 32) ChipFull → ⊥ }
+    ensures room { MayWait (the_switch ∷ []) busy_course (crowded 32) (Time 2) }
+{}

@@ -1,0 +1,18 @@
+//! What the laws of the serial link and of the chip as a whole say of a plain exchange.
+
+ghost use Rattle.std.specs.Prelude.{[], ◌∷◌};
+ghost use Rattle.zw_laws.specs.Links.{KeepsLinks};
+ghost use Rattle.zw_laws.specs.Worked.{plain_exchange, the_switch};
+ghost use Rattle.wire_laws.specs.Answering.{ServesHost};
+ghost use Rattle.wire_laws.specs.WorkedWrong.{answered_nothing};
+
+/// In a plain exchange both sides of the serial link obey its rules, and the chip serves the host.
+pub fn worked_links()
+    ensures plain { KeepsLinks plain_exchange }
+    ensures serves { ServesHost (the_switch ∷ []) plain_exchange }
+{}
+
+/// An answer to a frame that never came breaks the law.
+pub fn rejected_links()
+    ensures nothing { KeepsLinks answered_nothing → ⊥ }
+{}

@@ -1,0 +1,30 @@
+//! What the laws of marks on units and of collisions say of worked transcripts, and of others with one thing wrong.
+
+ghost use Rattle.zw_laws.specs.Worked.{plain_exchange};
+ghost use Rattle.wire_laws.specs.Marks.{MarksUnits, CollidesWhenAsked};
+ghost use Rattle.wire_laws.specs.Worked.{copied, garbled_frame, heard_twice};
+ghost use Rattle.wire_laws.specs.WorkedWrong.{lost_on_the_line, kept_on_the_line, changed_otherwise, not_changed, collided_freely, not_collided};
+
+/// In worked transcripts the units that lines mark are lost or changed, and no others.
+pub fn worked_marks()
+    ensures plain { MarksUnits plain_exchange }
+    ensures copied { MarksUnits copied }
+    ensures garbled { MarksUnits garbled_frame }
+{}
+
+/// In worked transcripts the chip answers CAN where a line asks for it.
+pub fn worked_collisions()
+    ensures plain { CollidesWhenAsked plain_exchange }
+    ensures twice { CollidesWhenAsked heard_twice }
+{}
+
+/// Each of these breaks one part of the laws: a unit that is lost without a mark, or not though it is marked; a frame changed otherwise than
+/// its mark says, or not at all; and a frame answered CAN that no line asks for, or ACK though one does.
+pub fn rejected_marks()
+    ensures lost { MarksUnits lost_on_the_line → ⊥ }
+    ensures kept { MarksUnits kept_on_the_line → ⊥ }
+    ensures otherwise { MarksUnits changed_otherwise → ⊥ }
+    ensures unchanged { MarksUnits not_changed → ⊥ }
+    ensures freely { CollidesWhenAsked collided_freely → ⊥ }
+    ensures acknowledged { CollidesWhenAsked not_collided → ⊥ }
+{}

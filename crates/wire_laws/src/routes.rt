@@ -1,0 +1,23 @@
+//! What the law of routes says of worked transcripts, and of others with one thing wrong.
+
+ghost use Rattle.std.specs.Prelude.{[], ◌∷◌};
+ghost use Rattle.zw_laws.specs.Worked.{plain_exchange, the_switch};
+ghost use Rattle.wire_laws.specs.Routes.{GoesByRoute};
+ghost use Rattle.wire_laws.specs.Worked.{rerouted, the_switches};
+ghost use Rattle.wire_laws.specs.WorkedWrong.{detoured, second_choice, straight_home, from_a_stranger};
+
+/// In worked transcripts each frame goes over the route of its moment: a direct one, and one of two over a repeater, before and
+/// after the chip has forgotten a link of it.
+pub fn worked_routes()
+    ensures plain { GoesByRoute (the_switch ∷ []) plain_exchange }
+    ensures rerouted { GoesByRoute the_switches rerouted }
+{}
+
+/// Each of these breaks one part of the law: a frame of the controller over no walk, or over a walk that is not the first; a frame of a
+/// device over no walk, or of a node that is not joined.
+pub fn rejected_routes()
+    ensures detoured { GoesByRoute (the_switch ∷ []) detoured → ⊥ }
+    ensures second { GoesByRoute the_switches second_choice → ⊥ }
+    ensures straight { GoesByRoute the_switches straight_home → ⊥ }
+    ensures stranger { GoesByRoute (the_switch ∷ []) from_a_stranger → ⊥ }
+{}
