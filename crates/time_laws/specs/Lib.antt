@@ -4,6 +4,7 @@ pub mod Requests
 pub mod Errands
 pub mod Questions
 pub mod Queue
+pub mod Turns
 pub mod Interviews
 pub mod Waking
 pub mod Holds

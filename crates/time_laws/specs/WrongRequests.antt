@@ -134,3 +134,14 @@ let_in_though_full =
     Said (codes "probe") ∷ Said (codes "probe") ∷ Said (codes "probe") ∷ Said (codes "probe") ∷ Said (codes "probe") ∷ Said (codes "probe") ∷
     Said (codes "probe") ∷ Said (codes "neighbours 2") ∷ Said (codes "neighbours 2") ∷ Said (codes "neighbours 2") ∷
     Refused (refusals.QueueFull 64) ∷ []
+
+-- a later question is sent before an earlier one
+abbrev pub sent_out_of_turn : List Entry
+sent_out_of_turn =
+    Said (codes "stall 1") ∷ Said (codes "get 2") ∷ Written Host (bytes (codes "01090013020225022501E6")) ∷ Said (codes "neighbours 2") ∷
+    Said (codes "failed 2") ∷ Said (codes "tick 5") ∷ Time 1 ∷ Written Host (bytes (codes "01040062029B")) ∷ []
+
+-- a question is sent that no line asks for
+abbrev pub sent_unasked : List Entry
+sent_unasked =
+    Written Host (bytes (codes "01040062029B")) ∷ []

@@ -13,11 +13,14 @@ ghost use Rattle.zw_laws.specs.Worked.{plain_exchange, sleeping_node, the_sensor
 ghost use Rattle.zw_text.specs.Transcript.{joined};
 ghost use Rattle.zw_text.specs.declared.entry.Entry.TheVariants.{Said};
 
-/// A run begins in a calm moment, and is calm again when its command is answered, and when a node that sleeps is asleep.
+/// A run begins in a calm moment, and is calm again when its command is answered, and when a node that sleeps is
+/// asleep; so are the moments before the stretches below.
 pub fn worked_calm()
     ensures first { IsCalm (listing_of (the_switch ∷ [])) (the_switch ∷ []) [] 0 }
     ensures last { IsCalm (listing_of (the_switch ∷ [])) (the_switch ∷ []) calm_exchange 500 }
     ensures sleeping { IsCalm (listing_of (the_sensor ∷ [])) (the_sensor ∷ []) sleeping_node 9 }
+    ensures before_two { IsCalm (listing_of (the_switch ∷ the_other_switch ∷ [])) (the_switch ∷ the_other_switch ∷ []) before_two 2 }
+    ensures before_waking { IsCalm (listing_of (the_sensor ∷ [])) (the_sensor ∷ []) before_waking 4 }
 {}
 
 /// A moment is not calm while a frame is to be lost, a request is under way, the chip waits for an acknowledgement, a frame is on the air,

@@ -1,4 +1,5 @@
 use Rattle.std.proofs.Common.{List, [], ◌∷◌, refl}
+use Rattle.time_laws.specs.WorkedWaits.{before_two, before_waking}
 use Rattle.time_laws.proofs.Computing.{computing}
 use Rattle.time_laws.proofs.calm.worked_calm.Goals as goal
 
@@ -13,3 +14,11 @@ returns-clause-last c = record { still = record { marks = refl; host = refl; chi
 pub returns-clause-sleeping : goal.returns-clause-sleeping
 unfolding computing
 returns-clause-sleeping c = record { still = record { marks = refl; host = refl; chip = refl; air = refl; idle = refl; asleep = refl; working = refl }; to_come = refl }
+
+pub returns-clause-before_two : goal.returns-clause-before_two
+unfolding computing
+returns-clause-before_two c = record { still = record { marks = refl; host = refl; chip = refl; air = refl; idle = refl; asleep = refl; working = refl }; to_come = refl }
+
+pub returns-clause-before_waking : goal.returns-clause-before_waking
+unfolding computing
+returns-clause-before_waking c = record { still = record { marks = refl; host = refl; chip = refl; air = refl; idle = refl; asleep = refl; working = refl }; to_come = refl }

@@ -3,7 +3,8 @@ use Rattle.time_laws.specs.Errands.{may_say_done}
 use Rattle.time_laws.specs.Interviews.{may_end}
 use Rattle.time_laws.specs.Questions.{may_answer}
 use Rattle.time_laws.specs.Queue.{may_queue}
-use Rattle.time_laws.specs.WrongRequests.{answered_of_another, answered_otherwise, failed_though_informed, interviewed_early, left_unanswered, left_unended, left_unsaid, let_in_though_full, refused_with_room, said_early, said_otherwise, said_unasked, silent_early}
+use Rattle.time_laws.specs.Turns.{may_send}
+use Rattle.time_laws.specs.WrongRequests.{answered_of_another, answered_otherwise, failed_though_informed, interviewed_early, left_unanswered, left_unended, left_unsaid, let_in_though_full, refused_with_room, said_early, said_otherwise, said_unasked, sent_out_of_turn, sent_unasked, silent_early}
 use Rattle.zw_laws.specs.Nodes.{listing_of}
 use Rattle.zw_laws.specs.Worked.{the_switch}
 use Rattle.time_laws.proofs.Computing.{computing}
@@ -61,3 +62,11 @@ returns-clause-room c = broken (may_queue (listing_of (the_switch ∷ []))) refu
 pub returns-clause-full : goal.returns-clause-full
 unfolding computing
 returns-clause-full c = broken (may_queue (listing_of (the_switch ∷ []))) let_in_though_full refl
+
+pub returns-clause-out_of_turn : goal.returns-clause-out_of_turn
+unfolding computing
+returns-clause-out_of_turn c = broken (may_send (listing_of (the_switch ∷ []))) sent_out_of_turn refl
+
+pub returns-clause-sent_unasked : goal.returns-clause-sent_unasked
+unfolding computing
+returns-clause-sent_unasked c = broken (may_send (listing_of (the_switch ∷ []))) sent_unasked refl
