@@ -13,12 +13,13 @@ use Rattle.zw_text.specs.declared.entry.Outcome.{Outcome}
 use Rattle.zw_text.specs.declared.entry.Outcome.TheVariants.{Begun}
 use Rattle.zw_text.specs.declared.entry.Entry.{Entry}
 use Rattle.zw_text.specs.declared.entry.Entry.TheVariants.{Said, Written, Out, Awake, Asleep}
-use Rattle.zw_text.specs.Transcript.{sessions, outcome, wakings}
+use Rattle.zw_text.specs.Transcript.{sessions, outcome, shown, wakings}
 use Rattle.zw_laws.specs.Commands.{waiting}
 use Rattle.zw_laws.specs.Lists.{last_or}
 use Rattle.zw_laws.specs.Nodes.{known_classes}
 use Rattle.zw_laws.specs.Payloads.{no_more_information}
 use Rattle.zw_laws.specs.Restarts.{since_restart}
+use Rattle.zw_laws.specs.Stores.{node_at}
 use Rattle.zw_laws.specs.Units.{Carried, sending_in}
 use Rattle.time_laws.specs.Moments.{Keeps}
 use Rattle.time_laws.specs.Judged.{last_of, is_directly_behind, is_mark, brought_here, may_be_told}
@@ -97,13 +98,22 @@ says_asleep node (Asleep other) = other == node
 says_asleep node _ = false
 
 -- whether a frame ends the No More Information of a node here that counts as awake, and nothing has said so
-abbrev pub owes_sleep : List Entry → Bool
-owes_sleep past =
+abbrev pub owes_sleep_to_told : List Entry → Bool
+owes_sleep_to_told past =
     is_directly_behind past && not (asked past).told && is_ended_by_frame past
     && list_any (λ node. is_awake_sleeper node past) (nodes_told (asked past).frame)
 
+-- whether the third attempt of a node that counts as awake has just ended
+abbrev pub owes_sleep_to_given_up : List Entry → Bool
+owes_sleep_to_given_up past =
+    list_any (λ node. is_given_up_on node past && is_awake_sleeper node past)
+    (flat_map (λ command. shown (node_at command) past) (flat_map given_up_at (last_of past)))
+
+abbrev pub owes_sleep : List Entry → Bool
+owes_sleep past = owes_sleep_to_told past || owes_sleep_to_given_up past
+
 -- a node that counts as awake and does not listen counts as asleep where its third attempt or its No More Information has
--- ended, and wherever a frame ends that
+-- ended, and wherever the one does or a frame ends the other
 abbrev pub may_sleep : List Entry → Entry → Bool
 may_sleep past (Asleep node) = is_awake_sleeper node past && (is_given_up_on node past || ends_telling node past)
 may_sleep past entry = is_mark entry || not (owes_sleep past)

@@ -233,6 +233,30 @@ stretch_of_sleeper =
     Written Chip (bytes (codes "0104011301E8")) ∷ Air 6 1 5 [] (bytes (codes "8408")) ∷ Written Host (bytes (codes "06")) ∷ Time 8 ∷ Heard 6 ∷
     Written Chip (bytes (codes "010500130300EA")) ∷ Written Host (bytes (codes "06")) ∷ Asleep 5 ∷ []
 
+-- `link 1 5`, `join 5`, `wake 5`, `interview 5`, `tick 4`, `interval 5 300`, `wake 5`, `lose 3`, `tick 4`: a node that sleeps is given up
+abbrev pub given_up_asleep : List Entry
+given_up_asleep =
+    Said (codes "link 1 5") ∷ Said (codes "join 5") ∷ Said (codes "wake 5") ∷ Air 1 5 1 [] (bytes (codes "8407")) ∷ Said (codes "interview 5") ∷
+    Written Host (bytes (codes "0104004105BF")) ∷ Written Chip (bytes (codes "06")) ∷ Written Chip (bytes (codes "01090141000000040000B2")) ∷
+    Written Host (bytes (codes "06")) ∷ Written Host (bytes (codes "01040060059E")) ∷ Written Chip (bytes (codes "06")) ∷
+    Written Chip (bytes (codes "01040160019B")) ∷ Written Host (bytes (codes "06")) ∷ Said (codes "tick 4") ∷ Time 1 ∷ Heard 1 ∷
+    Written Chip (bytes (codes "01080004000502840777")) ∷ Written Host (bytes (codes "06")) ∷ Awake 5 ∷
+    Written Chip (bytes (codes "010D00498405070400003180846C60")) ∷ Written Host (bytes (codes "06")) ∷ Interviewed 5 ∷
+    Written Host (bytes (codes "010900130502840825014A")) ∷ Written Chip (bytes (codes "06")) ∷ Written Chip (bytes (codes "0104011301E8")) ∷
+    Air 2 1 5 [] (bytes (codes "8408")) ∷ Written Host (bytes (codes "06")) ∷ Time 2 ∷ Heard 2 ∷ Written Chip (bytes (codes "010500130100E8")) ∷
+    Written Host (bytes (codes "06")) ∷ Asleep 5 ∷ Said (codes "interval 5 300") ∷ Accepted 1 5 ∷ Said (codes "wake 5") ∷
+    Air 3 5 1 [] (bytes (codes "8407")) ∷ Said (codes "lose 3") ∷ Said (codes "tick 4") ∷ Time 5 ∷ Heard 3 ∷
+    Written Chip (bytes (codes "01080004000502840777")) ∷ Written Host (bytes (codes "06")) ∷ Awake 5 ∷ Begin 5 1 1 ∷
+    Written Host (bytes (codes "01110013050A6C010106840400012C01250213")) ∷ Written Chip (bytes (codes "06")) ∷
+    Written Chip (bytes (codes "0104011301E8")) ∷ Air 4 1 5 [] (bytes (codes "6C010106840400012C01")) ∷ Written Host (bytes (codes "06")) ∷ Time 6 ∷
+    Lost 4 ∷ Written Chip (bytes (codes "010500130201EA")) ∷ Written Host (bytes (codes "06")) ∷
+    Written Host (bytes (codes "01110013050A6C010106840400012C01250312")) ∷ Written Chip (bytes (codes "06")) ∷
+    Written Chip (bytes (codes "0104011301E8")) ∷ Air 5 1 5 [] (bytes (codes "6C010106840400012C01")) ∷ Written Host (bytes (codes "06")) ∷ Time 7 ∷
+    Lost 5 ∷ Written Chip (bytes (codes "010500130301EB")) ∷ Written Host (bytes (codes "06")) ∷
+    Written Host (bytes (codes "01110013050A6C010106840400012C01250415")) ∷ Written Chip (bytes (codes "06")) ∷
+    Written Chip (bytes (codes "0104011301E8")) ∷ Air 6 1 5 [] (bytes (codes "6C010106840400012C01")) ∷ Written Host (bytes (codes "06")) ∷ Time 8 ∷
+    Lost 6 ∷ Written Chip (bytes (codes "010500130401EC")) ∷ Written Host (bytes (codes "06")) ∷ Out 1 endings.Unanswered ∷ Asleep 5 ∷ []
+
 -- the devices of these runs that the other worked transcripts do not have, as their makers leave them
 abbrev pub the_keeper : State
 the_keeper = fresh 101 kinds.Sensor []

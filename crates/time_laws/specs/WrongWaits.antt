@@ -56,6 +56,30 @@ sleep_passed_over =
     Air 2 1 5 [] (bytes (codes "8408")) ∷ Written Host (bytes (codes "06")) ∷ Time 2 ∷ Heard 2 ∷ Written Chip (bytes (codes "010500130100E8")) ∷
     Written Host (bytes (codes "06")) ∷ Said (codes "interval 5 300") ∷ []
 
+-- a node that sleeps counts as awake though its third attempt has ended
+abbrev pub given_up_awake : List Entry
+given_up_awake =
+    Said (codes "link 1 5") ∷ Said (codes "join 5") ∷ Said (codes "wake 5") ∷ Air 1 5 1 [] (bytes (codes "8407")) ∷ Said (codes "interview 5") ∷
+    Written Host (bytes (codes "0104004105BF")) ∷ Written Chip (bytes (codes "06")) ∷ Written Chip (bytes (codes "01090141000000040000B2")) ∷
+    Written Host (bytes (codes "06")) ∷ Written Host (bytes (codes "01040060059E")) ∷ Written Chip (bytes (codes "06")) ∷
+    Written Chip (bytes (codes "01040160019B")) ∷ Written Host (bytes (codes "06")) ∷ Said (codes "tick 4") ∷ Time 1 ∷ Heard 1 ∷
+    Written Chip (bytes (codes "01080004000502840777")) ∷ Written Host (bytes (codes "06")) ∷ Awake 5 ∷
+    Written Chip (bytes (codes "010D00498405070400003180846C60")) ∷ Written Host (bytes (codes "06")) ∷ Interviewed 5 ∷
+    Written Host (bytes (codes "010900130502840825014A")) ∷ Written Chip (bytes (codes "06")) ∷ Written Chip (bytes (codes "0104011301E8")) ∷
+    Air 2 1 5 [] (bytes (codes "8408")) ∷ Written Host (bytes (codes "06")) ∷ Time 2 ∷ Heard 2 ∷ Written Chip (bytes (codes "010500130100E8")) ∷
+    Written Host (bytes (codes "06")) ∷ Asleep 5 ∷ Said (codes "interval 5 300") ∷ Accepted 1 5 ∷ Said (codes "wake 5") ∷
+    Air 3 5 1 [] (bytes (codes "8407")) ∷ Said (codes "lose 3") ∷ Said (codes "tick 4") ∷ Time 5 ∷ Heard 3 ∷
+    Written Chip (bytes (codes "01080004000502840777")) ∷ Written Host (bytes (codes "06")) ∷ Awake 5 ∷ Begin 5 1 1 ∷
+    Written Host (bytes (codes "01110013050A6C010106840400012C01250213")) ∷ Written Chip (bytes (codes "06")) ∷
+    Written Chip (bytes (codes "0104011301E8")) ∷ Air 4 1 5 [] (bytes (codes "6C010106840400012C01")) ∷ Written Host (bytes (codes "06")) ∷ Time 6 ∷
+    Lost 4 ∷ Written Chip (bytes (codes "010500130201EA")) ∷ Written Host (bytes (codes "06")) ∷
+    Written Host (bytes (codes "01110013050A6C010106840400012C01250312")) ∷ Written Chip (bytes (codes "06")) ∷
+    Written Chip (bytes (codes "0104011301E8")) ∷ Air 5 1 5 [] (bytes (codes "6C010106840400012C01")) ∷ Written Host (bytes (codes "06")) ∷ Time 7 ∷
+    Lost 5 ∷ Written Chip (bytes (codes "010500130301EB")) ∷ Written Host (bytes (codes "06")) ∷
+    Written Host (bytes (codes "01110013050A6C010106840400012C01250415")) ∷ Written Chip (bytes (codes "06")) ∷
+    Written Chip (bytes (codes "0104011301E8")) ∷ Air 6 1 5 [] (bytes (codes "6C010106840400012C01")) ∷ Written Host (bytes (codes "06")) ∷ Time 8 ∷
+    Lost 6 ∷ Written Chip (bytes (codes "010500130401EC")) ∷ Written Host (bytes (codes "06")) ∷ Out 1 endings.Unanswered ∷ Said (codes "tick 1") ∷ []
+
 -- a node is told that there is no more while a command waits for it
 abbrev pub told_while_waiting : List Entry
 told_while_waiting =

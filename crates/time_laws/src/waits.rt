@@ -4,7 +4,7 @@ ghost use Rattle.std.specs.Prelude.{◌≡◌, true, false, [], ◌∷◌};
 ghost use Rattle.time_laws.specs.Rests.{IsPrompt};
 ghost use Rattle.time_laws.specs.Unanswered.{GivesUpAfterThree};
 ghost use Rattle.time_laws.specs.Waking.{is_up};
-ghost use Rattle.time_laws.specs.WorkedWaits.{answered_errands, the_other_switch, waited_attempts, woken_before_restart};
+ghost use Rattle.time_laws.specs.WorkedWaits.{answered_errands, given_up_asleep, the_other_switch, waited_attempts, woken_before_restart};
 ghost use Rattle.time_laws.specs.WrongWaits.{given_up_after_two, given_up_before_time, given_up_under_way, gone_on_after_three, left_awake, left_overdue, left_unbegun, left_unsent, left_waiting};
 ghost use Rattle.zw_laws.specs.Commands.{waiting};
 ghost use Rattle.zw_laws.specs.Lists.{last_or};
@@ -16,6 +16,7 @@ ghost use Rattle.zw_text.specs.Transcript.{wakings};
 pub fn worked_attempts()
     ensures lossy { GivesUpAfterThree (listing_of (the_switch ∷ [])) lossy_exchange }
     ensures waited { GivesUpAfterThree (listing_of (the_switch ∷ [])) waited_attempts }
+    ensures sleeping { GivesUpAfterThree (listing_of (the_sensor ∷ [])) given_up_asleep }
 {}
 
 /// In worked transcripts nothing is owed at a rest. In the last one a restart leaves a node as asleep though it was last said to be awake and

@@ -1,7 +1,7 @@
 use Rattle.std.proofs.Common.{List, [], ◌∷◌, refl}
 use Rattle.time_laws.specs.Holds.{may_hold}
 use Rattle.time_laws.specs.Waking.{may_wake, may_sleep, may_tell_no_more}
-use Rattle.time_laws.specs.WrongWaits.{asleep_untold, asleep_unwoken, awake_untold, held_unasked, not_held, sleep_passed_over, told_while_waiting, waking_passed_over}
+use Rattle.time_laws.specs.WrongWaits.{asleep_untold, asleep_unwoken, awake_untold, given_up_awake, held_unasked, not_held, sleep_passed_over, told_while_waiting, waking_passed_over}
 use Rattle.zw_laws.specs.Nodes.{listing_of}
 use Rattle.zw_laws.specs.Worked.{the_sensor}
 use Rattle.time_laws.proofs.Computing.{computing}
@@ -27,6 +27,10 @@ returns-clause-sleeps_untold c = broken may_sleep asleep_untold refl
 pub returns-clause-sleep_passed : goal.returns-clause-sleep_passed
 unfolding computing
 returns-clause-sleep_passed c = broken may_sleep sleep_passed_over refl
+
+pub returns-clause-given_up : goal.returns-clause-given_up
+unfolding computing
+returns-clause-given_up c = broken may_sleep given_up_awake refl
 
 pub returns-clause-waiting : goal.returns-clause-waiting
 unfolding computing

@@ -1,5 +1,6 @@
 use Rattle.std.proofs.Common.{List, [], ◌∷◌, refl}
 use Rattle.time_laws.specs.Waking.{may_wake, may_sleep, may_tell_no_more}
+use Rattle.time_laws.specs.WorkedWaits.{given_up_asleep}
 use Rattle.zw_laws.specs.Nodes.{listing_of}
 use Rattle.zw_laws.specs.Worked.{sleeping_node, the_sensor}
 use Rattle.time_laws.proofs.Computing.{computing}
@@ -17,3 +18,7 @@ returns-clause-sleeps c = kept may_sleep sleeping_node refl
 pub returns-clause-told : goal.returns-clause-told
 unfolding computing
 returns-clause-told c = kept (may_tell_no_more (listing_of (the_sensor ∷ []))) sleeping_node refl
+
+pub returns-clause-given_up : goal.returns-clause-given_up
+unfolding computing
+returns-clause-given_up c = kept may_sleep given_up_asleep refl
