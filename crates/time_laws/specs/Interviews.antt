@@ -1,7 +1,7 @@
 -- How an interview ends, and which nodes the host takes to listen (Serial API: GetNodeProtocolInfo and RequestNodeInfo; that an
 -- interview is these two requests is this project's own rule).
 use Rattle.std.specs.Prelude.{ℕ, ◌==◌, ◌&&◌, ◌||◌, not, nat_le, Bool, true, false, List, [], ◌∷◌, slice_index}
-use Rattle.std.specs.List.{flat_map, list_any}
+use Rattle.std.specs.List.{list_any}
 use Rattle.chip_functions.specs.declared.request.Request.{Request}
 use Rattle.chip_functions.specs.declared.request.Request.TheVariants.{GetNodeProtocolInfo, RequestNodeInfo}
 use Rattle.chip_functions.specs.declared.notice.Notice.{Notice}

@@ -1,6 +1,6 @@
 -- What the host has judged of what the chip wrote (Serial API: each good data frame is acknowledged; that the host's notes
 -- stand behind the acknowledgement is this project's own rule).
-use Rattle.std.specs.Prelude.{ℕ, ◌-◌, ◌==◌, ◌&&◌, bytes_eq, Bool, true, false, if◌then◌else◌, List, [], ◌∷◌, length, take, drop, filter, slice_index}
+use Rattle.std.specs.Prelude.{ℕ, ◌-◌, ◌==◌, bytes_eq, Bool, true, false, if◌then◌else◌, List, [], ◌∷◌, length, take, drop, filter, slice_index}
 use Rattle.std.specs.List.{flat_map, list_any}
 use Rattle.serial_frame.specs.declared.unit.TheConstants.{SOF, ACK}
 use Rattle.chip_functions.specs.declared.notice.Notice.{Notice}
@@ -14,7 +14,7 @@ use Rattle.zw_words.specs.declared.side.Side.{Side}
 use Rattle.zw_words.specs.declared.side.Side.TheVariants.{Host, Chip}
 use Rattle.zw_text.specs.declared.entry.Entry.{Entry}
 use Rattle.zw_text.specs.declared.entry.Entry.TheVariants.{Said, Accepted, Refused, Begin, Written, Dropped, Garbled, Overrun, Air, Heard as OnAir, Lost, Unheard, Dev, Forget, ChipFull, Cleared, Time}
-use Rattle.zw_text.specs.Transcript.{Way, Unit_on, units, written, folded}
+use Rattle.zw_text.specs.Transcript.{Way, units, written, folded}
 use Rattle.zw_text.specs.Transcript.Way.{Whole}
 use Rattle.zw_laws.specs.Restarts.{since_restart}
 use Rattle.zw_laws.specs.Units.{Carried, is_frame, function_in, body_in, read_well, notice_in, bringing_in, from_node}

@@ -1,5 +1,5 @@
 -- The answers to questions (Serial API: GetRoutingInfo and IsFailedNode; which entry gives them is this project's own rule).
-use Rattle.std.specs.Prelude.{ℕ, ◌==◌, ◌&&◌, ◌||◌, not, bytes_eq, Bool, true, false, List, [], ◌∷◌}
+use Rattle.std.specs.Prelude.{◌==◌, ◌&&◌, ◌||◌, not, bytes_eq, Bool, true, false, List, ◌∷◌}
 use Rattle.chip_functions.specs.declared.request.Request.{Request}
 use Rattle.chip_functions.specs.declared.request.Request.TheVariants as requests
 use Rattle.chip_functions.specs.declared.response.Response.{Response}

@@ -21,7 +21,7 @@ use Rattle.zw_laws.specs.Restarts.{since_restart}
 use Rattle.zw_laws.specs.Units.{Carried, sending_of, request_in, bringing_in}
 use Rattle.time_laws.specs.Moments.{Keeps}
 use Rattle.time_laws.specs.Judged.{is_data, judged, may_tell}
-use Rattle.time_laws.specs.Requests.{are_none, is_abort}
+use Rattle.time_laws.specs.Requests.{is_abort}
 use Rattle.time_laws.specs.Errands.{is_asked_for}
 
 -- the places of the queue, and how many a line asks for

@@ -37,8 +37,18 @@ pub record Asked : Type 0 where
 
 abbrev pub asked_nothing : Asked
 asked_nothing = record {
-    frame = []; copies = 0; written = 0; acknowledgements = 0; answer = []; answered = 0; place = 0; ended = true; told = false;
-    frame_before = []; answer_before = [] }
+  frame = [];
+  copies = 0;
+  written = 0;
+  acknowledgements = 0;
+  answer = [];
+  answered = 0;
+  place = 0;
+  ended = true;
+  told = false;
+  frame_before = [];
+  answer_before = [];
+}
 
 -- whether a frame of the chip is a response to a frame of the host
 abbrev pub is_response_to : List ℕ → List ℕ → Bool
@@ -96,8 +106,18 @@ abbrev pub asked_again : List Entry → Asked → List ℕ → Asked
 asked_again past asked unit =
     if bytes_eq unit asked.frame then record asked { copies = asked.copies + 1 }
     else record {
-        frame = unit; copies = 1; written = clock past; acknowledgements = acknowledgements_come Chip past; answer = []; answered = 0; place = 0;
-        ended = list_any is_abort (request_in unit); told = false; frame_before = asked.frame; answer_before = asked.answer }
+      frame = unit;
+      copies = 1;
+      written = clock past;
+      acknowledgements = acknowledgements_come Chip past;
+      answer = [];
+      answered = 0;
+      place = 0;
+      ended = list_any is_abort (request_in unit);
+      told = false;
+      frame_before = asked.frame;
+      answer_before = asked.answer;
+    }
 
 -- a unit of the host, after this past
 abbrev pub asked_by_unit : List Entry → Asked → List ℕ → Asked

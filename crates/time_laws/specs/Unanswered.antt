@@ -1,8 +1,7 @@
 -- When a command counts as unanswered (Supervision Command Class; that a series has three attempts of 100 ticks is this project's own
 -- rule).
 use Rattle.std.specs.Prelude.{ℕ, ◌+◌, ◌-◌, ◌*◌, ◌/◌, ◌%◌, ◌==◌, ◌&&◌, ◌||◌, not, bytes_eq, nat_le, Bool, true, false, if◌then◌else◌, List, [], ◌∷◌, ◌++◌, length, filter}
-use Rattle.std.specs.List.{flat_map, list_any, list_all}
-use Rattle.class_info.specs.declared.report_status.ReportStatus.{ReportStatus}
+use Rattle.std.specs.List.{flat_map, list_any}
 use Rattle.class_info.specs.declared.report_status.ReportStatus.TheVariants.{Working}
 use Rattle.host_heard.specs.declared.told.Told.{Told}
 use Rattle.host_heard.specs.declared.told.Told.TheVariants.{Report as Reports}
@@ -18,7 +17,7 @@ use Rattle.zw_text.specs.declared.entry.Outcome.{Outcome}
 use Rattle.zw_text.specs.declared.entry.Outcome.TheVariants as outcomes
 use Rattle.zw_text.specs.Transcript.{accepted, sessions, outcome, shown}
 use Rattle.zw_laws.specs.Commands.{order_of, classes_for, message_for}
-use Rattle.zw_laws.specs.Lists.{shown_after, last_or}
+use Rattle.zw_laws.specs.Lists.{shown_after}
 use Rattle.zw_laws.specs.Payloads.{nonce_get, form_by}
 use Rattle.zw_laws.specs.Stores.{node_at}
 use Rattle.zw_laws.specs.Units.{Carried, sending_in}
@@ -35,10 +34,11 @@ pub record Session : Type 0 where
 
 abbrev pub session_of : (ℕ → List ℕ) → List Entry → ℕ → ℕ → Session
 session_of listing past node command = record {
-    node = node;
-    number = length (sessions node past);
-    message = message_for listing past node (length (sessions node past)) command;
-    form = form_by (classes_for listing past node command) (order_of command (accepted node past)) }
+  node = node;
+  number = length (sessions node past);
+  message = message_for listing past node (length (sessions node past)) command;
+  form = form_by (classes_for listing past node command) (order_of command (accepted node past));
+}
 
 -- the segment of its message at a place, and the place of the last one
 abbrev pub segment_at : Session → ℕ → List ℕ

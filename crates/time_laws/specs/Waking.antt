@@ -12,7 +12,7 @@ use Rattle.zw_text.specs.declared.entry.Ended.TheVariants.{Unanswered}
 use Rattle.zw_text.specs.declared.entry.Outcome.{Outcome}
 use Rattle.zw_text.specs.declared.entry.Outcome.TheVariants.{Begun}
 use Rattle.zw_text.specs.declared.entry.Entry.{Entry}
-use Rattle.zw_text.specs.declared.entry.Entry.TheVariants.{Said, Written, Out, Awake, Asleep}
+use Rattle.zw_text.specs.declared.entry.Entry.TheVariants.{Written, Out, Awake, Asleep}
 use Rattle.zw_text.specs.Transcript.{sessions, outcome, shown, wakings}
 use Rattle.zw_laws.specs.Commands.{waiting}
 use Rattle.zw_laws.specs.Lists.{last_or}

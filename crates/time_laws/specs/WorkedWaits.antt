@@ -1,5 +1,5 @@
 -- Worked transcripts of waits, in the form in which the program prints them, before the table at the end.
-use Rattle.std.specs.Prelude.{Bool, true, false, List, [], ◌∷◌, codes}
+use Rattle.std.specs.Prelude.{true, List, [], ◌∷◌, codes}
 use Rattle.zw_base.specs.declared.property.Name.TheVariants as names
 use Rattle.zw_base.specs.declared.property.By.TheVariants.{Session}
 use Rattle.zw_words.specs.declared.side.Side.TheVariants.{Host, Chip}

@@ -1,14 +1,13 @@
 -- Transcripts like the worked ones that break the laws of how requests end and of their queue, one thing wrong in each.
-use Rattle.std.specs.Prelude.{Bool, true, false, List, [], ◌∷◌, codes}
+use Rattle.std.specs.Prelude.{true, List, [], ◌∷◌, codes}
 use Rattle.zw_base.specs.declared.property.Name.TheVariants as names
 use Rattle.zw_base.specs.declared.property.By.TheVariants.{Session}
 use Rattle.zw_words.specs.declared.side.Side.TheVariants.{Host, Chip}
 use Rattle.host_orders.specs.Settings.{setting}
-use Rattle.zw_text.specs.declared.entry.Ended.TheVariants as endings
 use Rattle.zw_text.specs.declared.entry.Done.TheVariants as done
 use Rattle.zw_text.specs.declared.entry.Refusal.TheVariants as refusals
 use Rattle.zw_text.specs.declared.entry.Entry.{Entry}
-use Rattle.zw_text.specs.declared.entry.Entry.TheVariants.{Said, Accepted, Refused, Begin, Written, Dropped, Air, Heard, Lost, Dev, Out, Store, Report, Awake, Asleep, Interviewed, InterviewFailed, Done, Neighbours, Failed, Held, Time}
+use Rattle.zw_text.specs.declared.entry.Entry.TheVariants.{Said, Accepted, Refused, Begin, Written, Dropped, Air, Heard, Lost, Dev, Awake, Interviewed, InterviewFailed, Done, Neighbours, Failed, Time}
 use Rattle.zw_laws.specs.Worked.{bytes}
 
 -- it is said how a Set ended before that is judged

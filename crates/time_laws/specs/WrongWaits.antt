@@ -1,14 +1,12 @@
 -- Transcripts like the worked ones that break the laws of waking, attempts, rests and stretches, one thing wrong in each.
-use Rattle.std.specs.Prelude.{Bool, true, false, List, [], ◌∷◌, codes}
+use Rattle.std.specs.Prelude.{List, [], ◌∷◌, codes}
 use Rattle.zw_base.specs.declared.property.Name.TheVariants as names
 use Rattle.zw_base.specs.declared.property.By.TheVariants.{Session}
 use Rattle.zw_words.specs.declared.side.Side.TheVariants.{Host, Chip}
 use Rattle.host_orders.specs.Settings.{setting}
 use Rattle.zw_text.specs.declared.entry.Ended.TheVariants as endings
-use Rattle.zw_text.specs.declared.entry.Done.TheVariants as done
-use Rattle.zw_text.specs.declared.entry.Refusal.TheVariants as refusals
 use Rattle.zw_text.specs.declared.entry.Entry.{Entry}
-use Rattle.zw_text.specs.declared.entry.Entry.TheVariants.{Said, Accepted, Refused, Begin, Written, Dropped, Air, Heard, Lost, Dev, Out, Store, Report, Awake, Asleep, Interviewed, InterviewFailed, Done, Neighbours, Failed, Held, Time}
+use Rattle.zw_text.specs.declared.entry.Entry.TheVariants.{Said, Accepted, Begin, Written, Dropped, Air, Heard, Lost, Dev, Out, Store, Awake, Asleep, Interviewed, Held, Time}
 use Rattle.zw_laws.specs.Worked.{bytes}
 
 -- a node counts as awake though it has not told so

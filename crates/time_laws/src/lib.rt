@@ -15,6 +15,8 @@ mod waits;
 mod waking;
 
 pub use calm::{rejected_calm, rejected_stretches, stuck_stretches, worked_calm, worked_stretches};
-pub use requests::{rejected_requests, worked_errands, worked_interviews, worked_questions, worked_queue};
+pub use requests::{
+    rejected_requests, worked_errands, worked_interviews, worked_questions, worked_queue,
+};
 pub use waits::{rejected_waits, worked_attempts, worked_rests};
 pub use waking::{rejected_waking, worked_holds, worked_waking};

@@ -1,4 +1,3 @@
-use Rattle.std.proofs.Common.{List, [], ◌∷◌, refl}
 use Rattle.time_laws.proofs.Computing.{computing}
 use Rattle.time_laws.proofs.Keeping.{not_true}
 use Rattle.time_laws.proofs.calm.rejected_calm.Goals as goal

@@ -1,5 +1,4 @@
-use Rattle.std.proofs.Common.{List, [], ◌∷◌, refl}
-use Rattle.time_laws.specs.WorkedWaits.{before_two, before_waking}
+use Rattle.std.proofs.Common.{refl}
 use Rattle.time_laws.proofs.Computing.{computing}
 use Rattle.time_laws.proofs.calm.worked_calm.Goals as goal
 

@@ -1,4 +1,4 @@
-use Rattle.std.proofs.Common.{List, [], ◌∷◌, refl}
+use Rattle.std.proofs.Common.{[], ◌∷◌, refl}
 use Rattle.time_laws.specs.Errands.{may_say_done}
 use Rattle.time_laws.specs.Interviews.{may_end}
 use Rattle.time_laws.specs.Questions.{may_answer}

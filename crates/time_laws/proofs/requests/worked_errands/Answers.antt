@@ -1,4 +1,4 @@
-use Rattle.std.proofs.Common.{List, [], ◌∷◌, refl}
+use Rattle.std.proofs.Common.{[], ◌∷◌, refl}
 use Rattle.time_laws.specs.Errands.{may_say_done}
 use Rattle.time_laws.specs.WorkedWaits.{answered_errands, silent_request}
 use Rattle.zw_laws.specs.Nodes.{listing_of}

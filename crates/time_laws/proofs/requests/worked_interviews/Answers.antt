@@ -1,4 +1,4 @@
-use Rattle.std.proofs.Common.{List, [], ◌∷◌, refl}
+use Rattle.std.proofs.Common.{refl}
 use Rattle.time_laws.specs.Interviews.{may_end}
 use Rattle.time_laws.specs.WorkedWaits.{woken_before_restart}
 use Rattle.zw_laws.specs.Worked.{sleeping_node}

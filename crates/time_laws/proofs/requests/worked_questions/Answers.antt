@@ -1,4 +1,4 @@
-use Rattle.std.proofs.Common.{List, [], ◌∷◌, refl}
+use Rattle.std.proofs.Common.{refl}
 use Rattle.time_laws.specs.Questions.{may_answer}
 use Rattle.time_laws.specs.WorkedWaits.{answered_errands}
 use Rattle.zw_laws.specs.Worked.{plain_exchange}

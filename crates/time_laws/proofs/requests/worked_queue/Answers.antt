@@ -1,4 +1,4 @@
-use Rattle.std.proofs.Common.{List, [], ◌∷◌, refl}
+use Rattle.std.proofs.Common.{[], ◌∷◌, refl}
 use Rattle.time_laws.specs.Queue.{may_queue}
 use Rattle.time_laws.specs.Turns.{may_send}
 use Rattle.time_laws.specs.WorkedWaits.{answered_errands, full_queue, the_other_switch, woken_before_restart}

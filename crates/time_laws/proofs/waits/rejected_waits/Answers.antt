@@ -1,4 +1,4 @@
-use Rattle.std.proofs.Common.{List, [], ◌∷◌, refl}
+use Rattle.std.proofs.Common.{[], ◌∷◌, refl}
 use Rattle.time_laws.specs.Rests.{may_rest}
 use Rattle.time_laws.specs.Unanswered.{may_give_up}
 use Rattle.time_laws.specs.WrongWaits.{given_up_after_two, given_up_before_time, given_up_under_way, gone_on_after_three, left_awake, left_overdue, left_unbegun, left_unsent, left_waiting}

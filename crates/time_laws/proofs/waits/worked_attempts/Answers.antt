@@ -1,4 +1,4 @@
-use Rattle.std.proofs.Common.{List, [], ◌∷◌, refl}
+use Rattle.std.proofs.Common.{[], ◌∷◌, refl}
 use Rattle.time_laws.specs.Unanswered.{may_give_up}
 use Rattle.time_laws.specs.WorkedWaits.{given_up_asleep, waited_attempts}
 use Rattle.zw_laws.specs.Nodes.{listing_of}

@@ -1,4 +1,4 @@
-use Rattle.std.proofs.Common.{List, [], ◌∷◌, refl}
+use Rattle.std.proofs.Common.{[], ◌∷◌, refl}
 use Rattle.time_laws.specs.Holds.{may_hold}
 use Rattle.time_laws.specs.Waking.{may_tell_no_more}
 use Rattle.time_laws.specs.WorkedWaits.{held_node, the_keeper}

@@ -1,4 +1,4 @@
-use Rattle.std.proofs.Common.{List, [], ◌∷◌, refl}
+use Rattle.std.proofs.Common.{[], ◌∷◌, refl}
 use Rattle.time_laws.specs.Waking.{may_wake, may_sleep, may_tell_no_more}
 use Rattle.time_laws.specs.WorkedWaits.{given_up_asleep}
 use Rattle.zw_laws.specs.Nodes.{listing_of}
