@@ -15,7 +15,7 @@ use Rattle.zw_laws.specs.Nodes.{first_node}
 use Rattle.zw_laws.specs.Units.{body_in, request_in}
 use Rattle.time_laws.specs.Moments.{Keeps}
 use Rattle.time_laws.specs.Judged.{is_directly_behind, is_mark, notices_here}
-use Rattle.time_laws.specs.Requests.{asked, request_last, is_refused_here, is_silent, is_given_up}
+use Rattle.time_laws.specs.Requests.{asked, request_last, is_refused_here, is_silent, has_four_copies}
 
 -- whether the request asks for the node's information, or for what the chip knows of it
 abbrev pub asks_information : ℕ → List Request → Bool
@@ -46,7 +46,7 @@ succeeds node past = asks_information node (request_last past) && informs node (
 -- it fails here: the second request ends without information, or the first one was not answered
 abbrev pub fails : ℕ → List Entry → Bool
 fails node past =
-    asks_information node (request_last past) && (says_none (notices_here past) || is_refused_here past || is_silent past || is_given_up past
+    asks_information node (request_last past) && (says_none (notices_here past) || is_refused_here past || is_silent past || has_four_copies past
     || (informs node (notices_here past) && not (is_known node past)))
 
 -- the nodes whose information the last request asks for

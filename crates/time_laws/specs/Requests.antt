@@ -80,11 +80,12 @@ abbrev pub are_none : {A : Type 0} → List A → Bool
 are_none [] = true
 are_none (item ∷ items) = false
 
--- a frame of the chip is judged, when and as the how manieth
+-- a frame of the chip is judged at this time and place: it is the first response, or none
 abbrev pub with_answer : ℕ → ℕ → Asked → List ℕ → Bool → Asked
 with_answer now place asked unit true = record asked { answer = unit ∷ []; answered = now; place = place }
 with_answer now place asked unit false = asked
 
+-- it ends the request, or does not
 abbrev pub with_end : Asked → Bool → Asked
 with_end asked ends = record asked { ended = asked.ended || ends }
 
@@ -178,9 +179,9 @@ silent_since (answer ∷ more) asked now = asked.answered + 65 == now
 abbrev pub is_silent : List Entry → Bool
 is_silent past = silent_since (asked past).answer (asked past) (clock past)
 
--- the fourth copy has ended
-abbrev pub is_given_up : List Entry → Bool
-is_given_up past = (asked past).copies == 4
+-- all four copies were written
+abbrev pub has_four_copies : List Entry → Bool
+has_four_copies past = (asked past).copies == 4
 
 -- it ends here in this way
 abbrev pub ends_here : List Entry → HowDone → Bool
@@ -191,9 +192,9 @@ ends_here past done.NotIdle = is_called_back 3 past
 ends_here past done.NoRoute = is_called_back 4 past
 ends_here past done.Refused = is_refused_here past
 ends_here past done.Silent = is_silent past
-ends_here past done.LinkFailed = is_given_up past
+ends_here past done.LinkFailed = has_four_copies past
 
--- a frame of the chip ends it here
+-- a callback other than OK ends it here, or some frame of the chip does
 abbrev pub is_called_back_badly : List Entry → Bool
 is_called_back_badly past = is_called_back 1 past || is_called_back 2 past || is_called_back 3 past || is_called_back 4 past
 
@@ -202,4 +203,4 @@ is_ended_by_frame past = is_called_back 0 past || is_called_back_badly past || i
 
 -- it ends here in some way
 abbrev pub is_ended_here : List Entry → Bool
-is_ended_here past = is_ended_by_frame past || is_silent past || is_given_up past
+is_ended_here past = is_ended_by_frame past || is_silent past || has_four_copies past

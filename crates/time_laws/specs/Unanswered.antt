@@ -23,7 +23,7 @@ use Rattle.zw_laws.specs.Stores.{node_at}
 use Rattle.zw_laws.specs.Units.{Carried, sending_in}
 use Rattle.time_laws.specs.Moments.{Keeps, clock}
 use Rattle.time_laws.specs.Judged.{is_data, is_acknowledgement, is_directly_behind, is_mark, last_of, may_be_told}
-use Rattle.time_laws.specs.Requests.{asked, are_none, starts_anew, is_called_back, is_called_back_badly, is_refused_here, is_silent, is_given_up}
+use Rattle.time_laws.specs.Requests.{asked, are_none, starts_anew, is_called_back, is_called_back_badly, is_refused_here, is_silent, has_four_copies}
 
 -- the last session of a node: its number, its message, and how that is carried
 pub record Session : Type 0 where
@@ -111,7 +111,7 @@ abbrev pub ends_badly : Session → List Entry → Bool
 ends_badly session past =
     goes_to session.node (asked past).frame
     && ((is_called_back 1 past && not (is_inner session session.form (asked past).frame)) || is_called_back 2 past || is_called_back 3 past
-    || is_called_back 4 past || is_refused_here past || is_silent past || is_given_up past)
+    || is_called_back 4 past || is_refused_here past || is_silent past || has_four_copies past)
 
 -- whether a report says that the session is at work
 abbrev pub is_at_work : ℕ → Told → Bool

@@ -49,11 +49,6 @@ abbrev pub tells_waking : Heard → Bool
 tells_waking (Messages (Notification ∷ [])) = true
 tells_waking _ = false
 
--- whether the entry says that a node is awake
-abbrev pub says_awake : Entry → Bool
-says_awake (Awake node) = true
-says_awake _ = false
-
 -- whether some node tells here that it is awake
 abbrev pub owes_waking : List Entry → Bool
 owes_waking past = is_directly_behind past && list_any (λ carried. tells_waking (heard_at carried.payload)) (brought_here past)

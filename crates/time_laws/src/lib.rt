@@ -5,7 +5,8 @@
 //! moments, the devices as they are then. Worked transcripts, and others with one thing wrong, show what each law means.
 //! The definitions stand in `specs/`, one file a law: `Moments` (the clock, and laws that judge each entry by those before it),
 //! `Judged` and `Requests` (what the host has judged, and its request under way); `Errands`, `Questions` and `Interviews` (how
-//! requests end); `Queue` (how many may wait) and `Turns` (in which order they go); `Waking` and `Holds`; `Unanswered`; `Rests` (what is owed when the host rests); `Calm` and `Stretches`.
+//! requests end); `Queue` (how many may wait) and `Turns` (in which order they go); `Waking` and `Holds`; `Unanswered`; `Rests`
+//! (what is owed when the host rests); `Calm` and `Stretches`.
 //! `Worked..` and `Wrong..` are the transcripts that the functions here speak of.
 #![tactic(auto)]
 
