@@ -257,6 +257,54 @@ given_up_asleep =
     Written Chip (bytes (codes "0104011301E8")) ∷ Air 6 1 5 [] (bytes (codes "6C010106840400012C01")) ∷ Written Host (bytes (codes "06")) ∷ Time 8 ∷
     Lost 6 ∷ Written Chip (bytes (codes "010500130401EC")) ∷ Written Host (bytes (codes "06")) ∷ Out 1 endings.Unanswered ∷ Asleep 5 ∷ []
 
+-- `link 1 4`, `join 4`, `interview 4`, `tick 2`, `lose 3`, `set 4 on`, `tick 3`: three Nonce Gets are lost
+abbrev pub given_up_lock : List Entry
+given_up_lock =
+    Said (codes "link 1 4") ∷ Said (codes "join 4") ∷ Said (codes "interview 4") ∷ Written Host (bytes (codes "0104004104BE")) ∷
+    Written Chip (bytes (codes "06")) ∷ Written Chip (bytes (codes "0109014180000004000032")) ∷ Written Host (bytes (codes "06")) ∷
+    Written Host (bytes (codes "01040060049F")) ∷ Written Chip (bytes (codes "06")) ∷ Written Chip (bytes (codes "01040160019B")) ∷
+    Written Host (bytes (codes "06")) ∷ Said (codes "tick 2") ∷ Time 1 ∷ Written Chip (bytes (codes "010C004984040604000062986CAE")) ∷
+    Written Host (bytes (codes "06")) ∷ Interviewed 4 ∷ Said (codes "lose 3") ∷ Said (codes "set 4 on") ∷ Accepted 1 4 ∷ Begin 4 1 1 ∷
+    Written Host (bytes (codes "010900130402984025011F")) ∷ Written Chip (bytes (codes "06")) ∷ Written Chip (bytes (codes "0104011301E8")) ∷
+    Air 1 1 4 [] (bytes (codes "9840")) ∷ Written Host (bytes (codes "06")) ∷ Said (codes "tick 3") ∷ Time 3 ∷ Lost 1 ∷
+    Written Chip (bytes (codes "010500130101E9")) ∷ Written Host (bytes (codes "06")) ∷ Written Host (bytes (codes "010900130402984025021C")) ∷
+    Written Chip (bytes (codes "06")) ∷ Written Chip (bytes (codes "0104011301E8")) ∷ Air 2 1 4 [] (bytes (codes "9840")) ∷
+    Written Host (bytes (codes "06")) ∷ Time 4 ∷ Lost 2 ∷ Written Chip (bytes (codes "010500130201EA")) ∷ Written Host (bytes (codes "06")) ∷
+    Written Host (bytes (codes "010900130402984025031D")) ∷ Written Chip (bytes (codes "06")) ∷ Written Chip (bytes (codes "0104011301E8")) ∷
+    Air 3 1 4 [] (bytes (codes "9840")) ∷ Written Host (bytes (codes "06")) ∷ Time 5 ∷ Lost 3 ∷ Written Chip (bytes (codes "010500130301EB")) ∷
+    Written Host (bytes (codes "06")) ∷ Out 1 endings.Unanswered ∷ []
+
+-- `link 1 8`, `join 8`, `interview 8`, `tick 2`, `lose 6`, `bulk 8 0 ..`, `tick 6`: three times both segments are lost
+abbrev pub given_up_segments : List Entry
+given_up_segments =
+    Said (codes "link 1 8") ∷ Said (codes "join 8") ∷ Said (codes "interview 8") ∷ Written Host (bytes (codes "0104004108B2")) ∷
+    Written Chip (bytes (codes "06")) ∷ Written Chip (bytes (codes "0109014180000004000032")) ∷ Written Host (bytes (codes "06")) ∷
+    Written Host (bytes (codes "010400600893")) ∷ Written Chip (bytes (codes "06")) ∷ Written Chip (bytes (codes "01040160019B")) ∷
+    Written Host (bytes (codes "06")) ∷ Said (codes "tick 2") ∷ Time 1 ∷ Written Chip (bytes (codes "010C004984080604000070556C7D")) ∷
+    Written Host (bytes (codes "06")) ∷ Interviewed 8 ∷ Said (codes "lose 6") ∷
+    Said (codes "bulk 8 0 01010101010101010101010101010101010101010101010101010101010101010101010101") ∷ Accepted 1 8 ∷ Begin 8 1 1 ∷
+    Written Host (bytes (codes "01340013082D55C02F106C01012B70070000250101010101010101010101010101010101010101010101010101010101014E7A250152")) ∷
+    Written Chip (bytes (codes "06")) ∷ Written Chip (bytes (codes "0104011301E8")) ∷
+    Air 1 1 8 [] (bytes (codes "55C02F106C01012B70070000250101010101010101010101010101010101010101010101010101010101014E7A")) ∷
+    Written Host (bytes (codes "06")) ∷ Said (codes "tick 6") ∷ Time 3 ∷ Lost 1 ∷ Written Chip (bytes (codes "010500130101E9")) ∷
+    Written Host (bytes (codes "06")) ∷ Written Host (bytes (codes "01160013080F55E02F102701010101010101018A7725028A")) ∷
+    Written Chip (bytes (codes "06")) ∷ Written Chip (bytes (codes "0104011301E8")) ∷ Air 2 1 8 [] (bytes (codes "55E02F102701010101010101018A77")) ∷
+    Written Host (bytes (codes "06")) ∷ Time 4 ∷ Lost 2 ∷ Written Chip (bytes (codes "010500130201EA")) ∷ Written Host (bytes (codes "06")) ∷
+    Written Host (bytes (codes "01340013082D55C02F106C01012B70070000250101010101010101010101010101010101010101010101010101010101014E7A250350")) ∷
+    Written Chip (bytes (codes "06")) ∷ Written Chip (bytes (codes "0104011301E8")) ∷
+    Air 3 1 8 [] (bytes (codes "55C02F106C01012B70070000250101010101010101010101010101010101010101010101010101010101014E7A")) ∷
+    Written Host (bytes (codes "06")) ∷ Time 5 ∷ Lost 3 ∷ Written Chip (bytes (codes "010500130301EB")) ∷ Written Host (bytes (codes "06")) ∷
+    Written Host (bytes (codes "01160013080F55E02F102701010101010101018A7725048C")) ∷ Written Chip (bytes (codes "06")) ∷
+    Written Chip (bytes (codes "0104011301E8")) ∷ Air 4 1 8 [] (bytes (codes "55E02F102701010101010101018A77")) ∷ Written Host (bytes (codes "06")) ∷
+    Time 6 ∷ Lost 4 ∷ Written Chip (bytes (codes "010500130401EC")) ∷ Written Host (bytes (codes "06")) ∷
+    Written Host (bytes (codes "01340013082D55C02F106C01012B70070000250101010101010101010101010101010101010101010101010101010101014E7A250556")) ∷
+    Written Chip (bytes (codes "06")) ∷ Written Chip (bytes (codes "0104011301E8")) ∷
+    Air 5 1 8 [] (bytes (codes "55C02F106C01012B70070000250101010101010101010101010101010101010101010101010101010101014E7A")) ∷
+    Written Host (bytes (codes "06")) ∷ Time 7 ∷ Lost 5 ∷ Written Chip (bytes (codes "010500130501ED")) ∷ Written Host (bytes (codes "06")) ∷
+    Written Host (bytes (codes "01160013080F55E02F102701010101010101018A7725068E")) ∷ Written Chip (bytes (codes "06")) ∷
+    Written Chip (bytes (codes "0104011301E8")) ∷ Air 6 1 8 [] (bytes (codes "55E02F102701010101010101018A77")) ∷ Written Host (bytes (codes "06")) ∷
+    Time 8 ∷ Lost 6 ∷ Written Chip (bytes (codes "010500130601EE")) ∷ Written Host (bytes (codes "06")) ∷ Out 1 endings.Unanswered ∷ []
+
 -- the devices of these runs that the other worked transcripts do not have, as their makers leave them
 abbrev pub the_keeper : State
 the_keeper = fresh 101 kinds.Sensor []

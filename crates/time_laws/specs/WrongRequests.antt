@@ -48,6 +48,24 @@ silent_early =
     Written Chip (bytes (codes "0104011301E8")) ∷ Dropped Chip ∷ Air 1 1 2 [] (bytes (codes "2502")) ∷ Said (codes "tick 17") ∷ Time 1 ∷ Heard 1 ∷
     Air 2 2 1 [] (bytes (codes "250300")) ∷ Time 2 ∷ Heard 2 ∷ Time 10 ∷ Done 2 done.Silent ∷ []
 
+-- a Set is said to have been refused that was taken
+abbrev pub said_refused : List Entry
+said_refused =
+    Said (codes "send 2 on") ∷ Written Host (bytes (codes "010A001302032501FF250118")) ∷ Written Chip (bytes (codes "06")) ∷
+    Written Chip (bytes (codes "0104011301E8")) ∷ Air 1 1 2 [] (bytes (codes "2501FF")) ∷ Written Host (bytes (codes "06")) ∷ Done 2 done.Refused ∷ []
+
+-- a Set is said to have failed on the line after one copy
+abbrev pub said_given_up : List Entry
+said_given_up =
+    Said (codes "send 2 on") ∷ Written Host (bytes (codes "010A001302032501FF250118")) ∷ Said (codes "tick 20") ∷ Time 16 ∷ Done 2 done.LinkFailed ∷ []
+
+-- a Set is said to have had no callback 64 ticks after its response
+abbrev pub silent_too_soon : List Entry
+silent_too_soon =
+    Said (codes "send 2 on") ∷ Written Host (bytes (codes "010A001302032501FF250118")) ∷ Written Chip (bytes (codes "06")) ∷
+    Written Chip (bytes (codes "0104011301E8")) ∷ Air 1 1 2 [] (bytes (codes "2501FF")) ∷ Written Host (bytes (codes "06")) ∷
+    Said (codes "tick 64") ∷ Time 64 ∷ Done 2 done.Silent ∷ []
+
 -- a question is answered otherwise than the response says
 abbrev pub answered_otherwise : List Entry
 answered_otherwise =

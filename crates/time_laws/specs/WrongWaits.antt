@@ -172,6 +172,35 @@ given_up_before_time =
     Said (codes "lose 1") ∷ Said (codes "tick 101") ∷ Time 203 ∷ Heard 5 ∷ Air 6 2 1 [] (bytes (codes "6C0201FF00")) ∷
     Written Chip (bytes (codes "010500130300EA")) ∷ Written Host (bytes (codes "06")) ∷ Time 204 ∷ Lost 6 ∷ Time 302 ∷ Out 1 endings.Unanswered ∷ []
 
+-- a command is given up behind the first of two segments of its third attempt
+abbrev pub given_up_inside : List Entry
+given_up_inside =
+    Said (codes "link 1 8") ∷ Said (codes "join 8") ∷ Said (codes "interview 8") ∷ Written Host (bytes (codes "0104004108B2")) ∷
+    Written Chip (bytes (codes "06")) ∷ Written Chip (bytes (codes "0109014180000004000032")) ∷ Written Host (bytes (codes "06")) ∷
+    Written Host (bytes (codes "010400600893")) ∷ Written Chip (bytes (codes "06")) ∷ Written Chip (bytes (codes "01040160019B")) ∷
+    Written Host (bytes (codes "06")) ∷ Said (codes "tick 2") ∷ Time 1 ∷ Written Chip (bytes (codes "010C004984080604000070556C7D")) ∷
+    Written Host (bytes (codes "06")) ∷ Interviewed 8 ∷ Said (codes "lose 6") ∷
+    Said (codes "bulk 8 0 01010101010101010101010101010101010101010101010101010101010101010101010101") ∷ Accepted 1 8 ∷ Begin 8 1 1 ∷
+    Written Host (bytes (codes "01340013082D55C02F106C01012B70070000250101010101010101010101010101010101010101010101010101010101014E7A250152")) ∷
+    Written Chip (bytes (codes "06")) ∷ Written Chip (bytes (codes "0104011301E8")) ∷
+    Air 1 1 8 [] (bytes (codes "55C02F106C01012B70070000250101010101010101010101010101010101010101010101010101010101014E7A")) ∷
+    Written Host (bytes (codes "06")) ∷ Said (codes "tick 6") ∷ Time 3 ∷ Lost 1 ∷ Written Chip (bytes (codes "010500130101E9")) ∷
+    Written Host (bytes (codes "06")) ∷ Written Host (bytes (codes "01160013080F55E02F102701010101010101018A7725028A")) ∷
+    Written Chip (bytes (codes "06")) ∷ Written Chip (bytes (codes "0104011301E8")) ∷ Air 2 1 8 [] (bytes (codes "55E02F102701010101010101018A77")) ∷
+    Written Host (bytes (codes "06")) ∷ Time 4 ∷ Lost 2 ∷ Written Chip (bytes (codes "010500130201EA")) ∷ Written Host (bytes (codes "06")) ∷
+    Written Host (bytes (codes "01340013082D55C02F106C01012B70070000250101010101010101010101010101010101010101010101010101010101014E7A250350")) ∷
+    Written Chip (bytes (codes "06")) ∷ Written Chip (bytes (codes "0104011301E8")) ∷
+    Air 3 1 8 [] (bytes (codes "55C02F106C01012B70070000250101010101010101010101010101010101010101010101010101010101014E7A")) ∷
+    Written Host (bytes (codes "06")) ∷ Time 5 ∷ Lost 3 ∷ Written Chip (bytes (codes "010500130301EB")) ∷ Written Host (bytes (codes "06")) ∷
+    Written Host (bytes (codes "01160013080F55E02F102701010101010101018A7725048C")) ∷ Written Chip (bytes (codes "06")) ∷
+    Written Chip (bytes (codes "0104011301E8")) ∷ Air 4 1 8 [] (bytes (codes "55E02F102701010101010101018A77")) ∷ Written Host (bytes (codes "06")) ∷
+    Time 6 ∷ Lost 4 ∷ Written Chip (bytes (codes "010500130401EC")) ∷ Written Host (bytes (codes "06")) ∷
+    Written Host (bytes (codes "01340013082D55C02F106C01012B70070000250101010101010101010101010101010101010101010101010101010101014E7A250556")) ∷
+    Written Chip (bytes (codes "06")) ∷ Written Chip (bytes (codes "0104011301E8")) ∷
+    Air 5 1 8 [] (bytes (codes "55C02F106C01012B70070000250101010101010101010101010101010101010101010101010101010101014E7A")) ∷
+    Written Host (bytes (codes "06")) ∷ Time 7 ∷ Lost 5 ∷ Written Chip (bytes (codes "010500130501ED")) ∷ Written Host (bytes (codes "06")) ∷
+    Out 1 endings.Unanswered ∷ []
+
 -- a command waits for a node that is awake and has no session
 abbrev pub left_waiting : List Entry
 left_waiting =

@@ -23,10 +23,16 @@ pub fn worked_calm()
     ensures before_waking { IsCalm (listing_of (the_sensor ∷ [])) (the_sensor ∷ []) before_waking 4 }
 {}
 
-/// A moment is not calm while a frame is to be lost, a request is under way, the chip waits for an acknowledgement, a frame is on the air,
+/// A moment is not calm while a frame, an acknowledgement or a unit is to be lost, changed or answered by CAN, bytes are stalled, a request is
+/// under way, the chip waits for an acknowledgement, a frame is on the air,
 /// a series runs, a node that does not listen is kept awake, or a device is at work on a change.
 pub fn rejected_calm()
     ensures marked { IsCalm (listing_of (the_switch ∷ [])) (the_switch ∷ []) (Said (codes "lose 1") ∷ []) 0 → ⊥ }
+    ensures acknowledgement { IsCalm (listing_of (the_switch ∷ [])) (the_switch ∷ []) (Said (codes "loseack 1") ∷ []) 0 → ⊥ }
+    ensures to_drop { IsCalm (listing_of (the_switch ∷ [])) (the_switch ∷ []) (Said (codes "drop h") ∷ []) 0 → ⊥ }
+    ensures to_change { IsCalm (listing_of (the_switch ∷ [])) (the_switch ∷ []) (Said (codes "garble c 0 1") ∷ []) 0 → ⊥ }
+    ensures to_collide { IsCalm (listing_of (the_switch ∷ [])) (the_switch ∷ []) (Said (codes "collide") ∷ []) 0 → ⊥ }
+    ensures stalled { IsCalm (listing_of (the_switch ∷ [])) (the_switch ∷ []) (Said (codes "stall 3") ∷ Said (codes "tick 2") ∷ []) 2 → ⊥ }
     ensures under_way { IsCalm (listing_of (the_switch ∷ [])) (the_switch ∷ []) (take 8 calm_exchange) 0 → ⊥ }
     ensures unacknowledged { IsCalm (listing_of (the_switch ∷ [])) (the_switch ∷ []) unheard_acknowledgement 500 → ⊥ }
     ensures flying { IsCalm (listing_of (the_switch ∷ [])) (the_switch ∷ []) reported_next 1 → ⊥ }

@@ -7,7 +7,7 @@ ghost use Rattle.time_laws.specs.Questions.{AnswersQuestions};
 ghost use Rattle.time_laws.specs.Queue.{FitsQueue};
 ghost use Rattle.time_laws.specs.Turns.{SendsInTurn};
 ghost use Rattle.time_laws.specs.WorkedWaits.{answered_errands, full_queue, silent_request, the_other_switch, woken_before_restart};
-ghost use Rattle.time_laws.specs.WrongRequests.{answered_of_another, answered_otherwise, failed_though_informed, interviewed_early, left_unanswered, left_unended, left_unsaid, let_in_though_full, refused_with_room, said_early, said_otherwise, said_unasked, sent_out_of_turn, sent_unasked, silent_early};
+ghost use Rattle.time_laws.specs.WrongRequests.{answered_of_another, answered_otherwise, failed_though_informed, interviewed_early, left_unanswered, left_unended, left_unsaid, let_in_though_full, refused_with_room, said_early, said_given_up, said_otherwise, said_refused, said_unasked, sent_out_of_turn, sent_unasked, silent_early, silent_too_soon};
 ghost use Rattle.zw_laws.specs.Nodes.{listing_of};
 ghost use Rattle.zw_laws.specs.Worked.{plain_exchange, sleeping_node, the_sensor, the_switch};
 
@@ -39,7 +39,8 @@ pub fn worked_queue()
 {}
 
 /// Each of these breaks one part of the laws: an end said before it is judged, otherwise than it was, or not at all; the end of
-/// a message of a session said as that of a Set; silence before 15 ticks; a question answered otherwise, of another node, or
+/// a message of a session said as that of a Set; silence before 15 ticks, or before 65 behind a
+/// response; refusal of what was taken; failure after one copy; a question answered otherwise, of another node, or
 /// not; and an interview that succeeds too early, fails though the information came, or does not end; and a line refused
 /// for a full queue that has room, or let in though it is full; and a question sent out of turn, or that no line asks for.
 pub fn rejected_requests()
@@ -48,6 +49,9 @@ pub fn rejected_requests()
     ensures unsaid { SaysHowDone (listing_of (the_switch ∷ [])) left_unsaid → ⊥ }
     ensures unasked { SaysHowDone (listing_of (the_switch ∷ [])) said_unasked → ⊥ }
     ensures silent { SaysHowDone (listing_of (the_switch ∷ [])) silent_early → ⊥ }
+    ensures refused { SaysHowDone (listing_of (the_switch ∷ [])) said_refused → ⊥ }
+    ensures given_up { SaysHowDone (listing_of (the_switch ∷ [])) said_given_up → ⊥ }
+    ensures too_soon { SaysHowDone (listing_of (the_switch ∷ [])) silent_too_soon → ⊥ }
     ensures answered_otherwise { AnswersQuestions answered_otherwise → ⊥ }
     ensures another { AnswersQuestions answered_of_another → ⊥ }
     ensures unanswered { AnswersQuestions left_unanswered → ⊥ }

@@ -6,6 +6,26 @@ pub returns-clause-marked : goal.returns-clause-marked
 unfolding computing
 returns-clause-marked c = λ calm. not_true calm.still.marks
 
+pub returns-clause-acknowledgement : goal.returns-clause-acknowledgement
+unfolding computing
+returns-clause-acknowledgement c = λ calm. not_true calm.still.marks
+
+pub returns-clause-to_drop : goal.returns-clause-to_drop
+unfolding computing
+returns-clause-to_drop c = λ calm. not_true calm.still.marks
+
+pub returns-clause-to_change : goal.returns-clause-to_change
+unfolding computing
+returns-clause-to_change c = λ calm. not_true calm.still.marks
+
+pub returns-clause-to_collide : goal.returns-clause-to_collide
+unfolding computing
+returns-clause-to_collide c = λ calm. not_true calm.still.marks
+
+pub returns-clause-stalled : goal.returns-clause-stalled
+unfolding computing
+returns-clause-stalled c = λ calm. not_true calm.still.host
+
 pub returns-clause-under_way : goal.returns-clause-under_way
 unfolding computing
 returns-clause-under_way c = λ calm. not_true calm.still.host

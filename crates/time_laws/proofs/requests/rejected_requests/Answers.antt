@@ -4,7 +4,7 @@ use Rattle.time_laws.specs.Interviews.{may_end}
 use Rattle.time_laws.specs.Questions.{may_answer}
 use Rattle.time_laws.specs.Queue.{may_queue}
 use Rattle.time_laws.specs.Turns.{may_send}
-use Rattle.time_laws.specs.WrongRequests.{answered_of_another, answered_otherwise, failed_though_informed, interviewed_early, left_unanswered, left_unended, left_unsaid, let_in_though_full, refused_with_room, said_early, said_otherwise, said_unasked, sent_out_of_turn, sent_unasked, silent_early}
+use Rattle.time_laws.specs.WrongRequests.{answered_of_another, answered_otherwise, failed_though_informed, interviewed_early, left_unanswered, left_unended, left_unsaid, let_in_though_full, refused_with_room, said_early, said_given_up, said_otherwise, said_refused, said_unasked, sent_out_of_turn, sent_unasked, silent_early, silent_too_soon}
 use Rattle.zw_laws.specs.Nodes.{listing_of}
 use Rattle.zw_laws.specs.Worked.{the_switch}
 use Rattle.time_laws.proofs.Computing.{computing}
@@ -30,6 +30,18 @@ returns-clause-unasked c = broken (may_say_done (listing_of (the_switch ∷ []))
 pub returns-clause-silent : goal.returns-clause-silent
 unfolding computing
 returns-clause-silent c = broken (may_say_done (listing_of (the_switch ∷ []))) silent_early refl
+
+pub returns-clause-refused : goal.returns-clause-refused
+unfolding computing
+returns-clause-refused c = broken (may_say_done (listing_of (the_switch ∷ []))) said_refused refl
+
+pub returns-clause-given_up : goal.returns-clause-given_up
+unfolding computing
+returns-clause-given_up c = broken (may_say_done (listing_of (the_switch ∷ []))) said_given_up refl
+
+pub returns-clause-too_soon : goal.returns-clause-too_soon
+unfolding computing
+returns-clause-too_soon c = broken (may_say_done (listing_of (the_switch ∷ []))) silent_too_soon refl
 
 pub returns-clause-answered_otherwise : goal.returns-clause-answered_otherwise
 unfolding computing

@@ -1,9 +1,9 @@
 use Rattle.std.proofs.Common.{[], ◌∷◌, refl}
 use Rattle.time_laws.specs.Rests.{may_rest}
 use Rattle.time_laws.specs.Unanswered.{may_give_up}
-use Rattle.time_laws.specs.WrongWaits.{given_up_after_two, given_up_before_time, given_up_under_way, gone_on_after_three, left_awake, left_overdue, left_unbegun, left_unsent, left_waiting}
+use Rattle.time_laws.specs.WrongWaits.{given_up_after_two, given_up_before_time, given_up_inside, given_up_under_way, gone_on_after_three, left_awake, left_overdue, left_unbegun, left_unsent, left_waiting}
 use Rattle.zw_laws.specs.Nodes.{listing_of}
-use Rattle.zw_laws.specs.Worked.{the_sensor, the_switch}
+use Rattle.zw_laws.specs.Worked.{the_plug, the_sensor, the_switch}
 use Rattle.time_laws.proofs.Computing.{computing}
 use Rattle.time_laws.proofs.Keeping.{broken}
 use Rattle.time_laws.proofs.waits.rejected_waits.Goals as goal
@@ -23,6 +23,10 @@ returns-clause-before c = broken (may_give_up (listing_of (the_switch ∷ []))) 
 pub returns-clause-gone_on : goal.returns-clause-gone_on
 unfolding computing
 returns-clause-gone_on c = broken (may_give_up (listing_of (the_switch ∷ []))) gone_on_after_three refl
+
+pub returns-clause-inside : goal.returns-clause-inside
+unfolding computing
+returns-clause-inside c = broken (may_give_up (listing_of (the_plug ∷ []))) given_up_inside refl
 
 pub returns-clause-waiting : goal.returns-clause-waiting
 unfolding computing
