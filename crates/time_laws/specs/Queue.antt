@@ -65,12 +65,12 @@ abbrev pub is_from_queue : (ℕ → List ℕ) → List Entry → Request → Boo
 is_from_queue listing past request =
     is_of_line listing past request || list_any (λ carried. is_answer_to_node carried.payload) (sending_of request)
 
--- at least so many were sent, and at most so many that lines asked for
+-- at least so many were sent of it, and at most so many
 abbrev pub sent_surely : (ℕ → List ℕ) → List Entry → ℕ
 sent_surely listing past = length (filter (is_from_queue listing past) (flat_map request_in (without_copies [] (frames_written past))))
 
-abbrev pub sent_perhaps : (ℕ → List ℕ) → List Entry → ℕ
-sent_perhaps listing past = length (filter (is_of_line listing past) (flat_map request_in (frames_written past)))
+abbrev pub sent_perhaps : List Entry → ℕ
+sent_perhaps past = length (frames_written past)
 
 -- ---- what was put into it
 
@@ -94,8 +94,8 @@ most_waiting listing past =
     (places (lines_done (since_restart past)) + length (filter may_ask_back (flat_map bringing_in (judged past))) + length (shown woke_at (since_restart past)))
     - sent_surely listing past
 
-abbrev pub least_waiting : (ℕ → List ℕ) → List Entry → ℕ
-least_waiting listing past = places (lines_done (since_restart past)) - sent_perhaps listing past
+abbrev pub least_waiting : List Entry → ℕ
+least_waiting past = places (lines_done (since_restart past)) - sent_perhaps past
 
 -- ---- the law
 
@@ -103,14 +103,14 @@ least_waiting listing past = places (lines_done (since_restart past)) - sent_per
 abbrev pub may_be_refused : (ℕ → List ℕ) → List Entry → List Line → Bool
 may_be_refused listing past asked = nat_lt queue_places (most_waiting listing past + places asked)
 
-abbrev pub may_be_let_in : (ℕ → List ℕ) → List Entry → List Line → Bool
-may_be_let_in listing past asked = (places asked == 0) || nat_le (least_waiting listing past + places asked) queue_places
+abbrev pub may_be_let_in : List Entry → List Line → Bool
+may_be_let_in past asked = (places asked == 0) || nat_le (least_waiting past + places asked) queue_places
 
 abbrev pub may_queue : (ℕ → List ℕ) → List Entry → Entry → Bool
 may_queue listing past (Refused (refusals.QueueFull waiting)) = (waiting == queue_places) && may_be_refused listing (before_last past) (line_last past)
 may_queue listing past (Refused refusal) = true
 may_queue listing past (QueueFull node) = nat_le queue_places (most_waiting listing past)
-may_queue listing past entry = may_be_let_in listing (before_last past) (line_last past)
+may_queue listing past entry = may_be_let_in (before_last past) (line_last past)
 
 abbrev pub FitsQueue : (ℕ → List ℕ) → List Entry → Type 0
 FitsQueue listing transcript = Keeps (may_queue listing) transcript

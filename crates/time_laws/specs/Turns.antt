@@ -11,12 +11,13 @@ use Rattle.zw_text.specs.declared.line.Line.{Line}
 use Rattle.zw_text.specs.declared.line.Line.TheVariants as lines
 use Rattle.zw_text.specs.declared.entry.Entry.{Entry}
 use Rattle.zw_text.specs.declared.entry.Entry.TheVariants.{Written}
-use Rattle.zw_text.specs.Transcript.{lines_done}
+use Rattle.zw_text.specs.Transcript.{line_of}
 use Rattle.zw_laws.specs.Nodes.{host_list}
-use Rattle.zw_laws.specs.Restarts.{since_restart}
+use Rattle.zw_laws.specs.Restarts.{begins_refused}
 use Rattle.zw_laws.specs.Units.{request_in}
 use Rattle.time_laws.specs.Moments.{Keeps}
-use Rattle.time_laws.specs.Queue.{frames_written, without_copies, is_of_line}
+use Rattle.time_laws.specs.Requests.{starts_anew}
+use Rattle.time_laws.specs.Queue.{without_copies, is_of_line}
 
 -- what a request wants: its function, its node and its payload, and not its callback id
 abbrev pub want_of : Request → List ℕ
@@ -48,13 +49,33 @@ is_front [] all = true
 is_front (one ∷ more) [] = false
 is_front (one ∷ more) (item ∷ items) = bytes_eq one item && is_front more items
 
--- what the requests want that were sent for lines, and what the lines want, since the host started; like ones behind each other count once,
--- since a copy looks the same
+-- what an entry shows to be sent for a line, after this past
+abbrev pub sent_at : (ℕ → List ℕ) → List Entry → Entry → List (List ℕ)
+sent_at listing past (Written Host unit) = map want_of (filter (is_of_line listing past) (request_in unit))
+sent_at listing past entry = []
+
+-- what was sent for lines since the host started
+abbrev pub sent_from : (ℕ → List ℕ) → List Entry → List (List ℕ) → List Entry → List (List ℕ)
+sent_from listing past sent [] = sent
+sent_from listing past sent (entry ∷ rest) =
+    sent_from listing (past ++ entry ∷ []) (if starts_anew entry rest then [] else sent ++ sent_at listing past entry) rest
+
+-- what an entry asks for, after this past, where it shows a line that is not refused
+abbrev pub asked_at : (ℕ → List ℕ) → List Entry → Entry → List Entry → List (List ℕ)
+asked_at listing past entry rest = if begins_refused rest then [] else flat_map (wants_of listing past) (line_of entry)
+
+-- what lines have asked for since the host started
+abbrev pub asked_from : (ℕ → List ℕ) → List Entry → List (List ℕ) → List Entry → List (List ℕ)
+asked_from listing past wants [] = wants
+asked_from listing past wants (entry ∷ rest) =
+    asked_from listing (past ++ entry ∷ []) (if starts_anew entry rest then [] else wants ++ asked_at listing past entry rest) rest
+
+-- both, where like ones behind each other count once, since a copy looks the same
 abbrev pub wants_sent : (ℕ → List ℕ) → List Entry → List (List ℕ)
-wants_sent listing past = without_copies [] (map want_of (filter (is_of_line listing past) (flat_map request_in (frames_written past))))
+wants_sent listing past = without_copies [] (sent_from listing [] [] past)
 
 abbrev pub wants_asked : (ℕ → List ℕ) → List Entry → List (List ℕ)
-wants_asked listing past = without_copies [] (flat_map (wants_of listing past) (lines_done (since_restart past)))
+wants_asked listing past = without_copies [] (asked_from listing [] [] past)
 
 -- a request for a line is the next that lines ask for, or a copy
 abbrev pub may_send : (ℕ → List ℕ) → List Entry → Entry → Bool
