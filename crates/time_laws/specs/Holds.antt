@@ -44,7 +44,7 @@ abbrev pub asks_hold : ℕ → List Entry → Bool
 asks_hold node past =
     is_of node past && not (listens node past) && list_any (λ payload. tells_to_stay (length (sessions node past) % 64) (heard_at payload)) (payloads_here node past)
 
--- the nodes whose payloads were judged here
+-- whether a node whose payload was judged here does
 abbrev pub owes_hold : List Entry → Bool
 owes_hold past = list_any (λ carried. asks_hold carried.node past) (brought_here past)
 

@@ -57,10 +57,11 @@ abbrev pub is_of_line : (ℕ → List ℕ) → List Entry → Request → Bool
 is_of_line listing past (SendData node payload options id) = is_asked_for listing past (record { node = node; payload = payload })
 is_of_line listing past request = not (is_abort request)
 
--- whether it is one, or tells a node that there is no more, or gives it a nonce
+-- whether a payload tells a node that there is no more, or gives it a nonce
 abbrev pub is_answer_to_node : List ℕ → Bool
 is_answer_to_node payload = bytes_eq payload no_more_information || begins_with payload 0x98 0x80
 
+-- whether a request is surely from the queue; a segment may be of an attempt
 abbrev pub is_from_queue : (ℕ → List ℕ) → List Entry → Request → Bool
 is_from_queue listing past request =
     is_of_line listing past request || list_any (λ carried. is_answer_to_node carried.payload) (sending_of request)
