@@ -1,0 +1,84 @@
+use Rattle.std.proofs.Common.{[], ◌∷◌, refl}
+use Rattle.time_laws.specs.Errands.{may_say_done}
+use Rattle.time_laws.specs.Interviews.{may_end}
+use Rattle.time_laws.specs.Questions.{may_answer}
+use Rattle.time_laws.specs.Queue.{may_queue}
+use Rattle.time_laws.specs.Turns.{may_send}
+use Rattle.time_laws.specs.WrongRequests.{answered_of_another, answered_otherwise, failed_though_informed, interviewed_early, left_unanswered, left_unended, left_unsaid, let_in_though_full, refused_with_room, said_early, said_given_up, said_otherwise, said_refused, said_unasked, sent_out_of_turn, sent_unasked, silent_early, silent_too_soon}
+use Rattle.zw_laws.specs.Nodes.{listing_of}
+use Rattle.zw_laws.specs.Worked.{the_switch}
+use Rattle.time_laws.proofs.Computing.{computing}
+use Rattle.time_laws.proofs.Keeping.{broken}
+use Rattle.time_laws.proofs.requests.rejected_requests.Goals as goal
+
+pub returns-clause-early : goal.returns-clause-early
+unfolding computing
+returns-clause-early c = broken (may_say_done (listing_of (the_switch ∷ []))) said_early refl
+
+pub returns-clause-otherwise : goal.returns-clause-otherwise
+unfolding computing
+returns-clause-otherwise c = broken (may_say_done (listing_of (the_switch ∷ []))) said_otherwise refl
+
+pub returns-clause-unsaid : goal.returns-clause-unsaid
+unfolding computing
+returns-clause-unsaid c = broken (may_say_done (listing_of (the_switch ∷ []))) left_unsaid refl
+
+pub returns-clause-unasked : goal.returns-clause-unasked
+unfolding computing
+returns-clause-unasked c = broken (may_say_done (listing_of (the_switch ∷ []))) said_unasked refl
+
+pub returns-clause-silent : goal.returns-clause-silent
+unfolding computing
+returns-clause-silent c = broken (may_say_done (listing_of (the_switch ∷ []))) silent_early refl
+
+pub returns-clause-refused : goal.returns-clause-refused
+unfolding computing
+returns-clause-refused c = broken (may_say_done (listing_of (the_switch ∷ []))) said_refused refl
+
+pub returns-clause-given_up : goal.returns-clause-given_up
+unfolding computing
+returns-clause-given_up c = broken (may_say_done (listing_of (the_switch ∷ []))) said_given_up refl
+
+pub returns-clause-too_soon : goal.returns-clause-too_soon
+unfolding computing
+returns-clause-too_soon c = broken (may_say_done (listing_of (the_switch ∷ []))) silent_too_soon refl
+
+pub returns-clause-answered_otherwise : goal.returns-clause-answered_otherwise
+unfolding computing
+returns-clause-answered_otherwise c = broken may_answer answered_otherwise refl
+
+pub returns-clause-another : goal.returns-clause-another
+unfolding computing
+returns-clause-another c = broken may_answer answered_of_another refl
+
+pub returns-clause-unanswered : goal.returns-clause-unanswered
+unfolding computing
+returns-clause-unanswered c = broken may_answer left_unanswered refl
+
+pub returns-clause-interviewed_early : goal.returns-clause-interviewed_early
+unfolding computing
+returns-clause-interviewed_early c = broken may_end interviewed_early refl
+
+pub returns-clause-informed : goal.returns-clause-informed
+unfolding computing
+returns-clause-informed c = broken may_end failed_though_informed refl
+
+pub returns-clause-unended : goal.returns-clause-unended
+unfolding computing
+returns-clause-unended c = broken may_end left_unended refl
+
+pub returns-clause-room : goal.returns-clause-room
+unfolding computing
+returns-clause-room c = broken (may_queue (listing_of (the_switch ∷ []))) refused_with_room refl
+
+pub returns-clause-full : goal.returns-clause-full
+unfolding computing
+returns-clause-full c = broken (may_queue (listing_of (the_switch ∷ []))) let_in_though_full refl
+
+pub returns-clause-out_of_turn : goal.returns-clause-out_of_turn
+unfolding computing
+returns-clause-out_of_turn c = broken (may_send (listing_of (the_switch ∷ []))) sent_out_of_turn refl
+
+pub returns-clause-sent_unasked : goal.returns-clause-sent_unasked
+unfolding computing
+returns-clause-sent_unasked c = broken (may_send (listing_of (the_switch ∷ []))) sent_unasked refl

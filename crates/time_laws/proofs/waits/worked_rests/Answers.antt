@@ -1,0 +1,40 @@
+use Rattle.std.proofs.Common.{[], ◌∷◌, refl}
+use Rattle.time_laws.specs.Rests.{may_rest}
+use Rattle.time_laws.specs.WorkedWaits.{answered_errands, the_other_switch, waited_attempts, woken_before_restart}
+use Rattle.zw_laws.specs.Nodes.{listing_of}
+use Rattle.zw_laws.specs.Worked.{plain_exchange, sleeping_node, the_sensor, the_switch}
+use Rattle.time_laws.proofs.Computing.{computing}
+use Rattle.time_laws.proofs.Keeping.{kept}
+use Rattle.time_laws.proofs.waits.worked_rests.Goals as goal
+
+pub returns-clause-plain : goal.returns-clause-plain
+unfolding computing
+returns-clause-plain c = record { between = kept (may_rest (listing_of (the_switch ∷ []))) plain_exchange refl; in_the_end = λ whole. refl }
+
+pub returns-clause-errands : goal.returns-clause-errands
+unfolding computing
+returns-clause-errands c = record { between = kept (may_rest (listing_of (the_switch ∷ []))) answered_errands refl; in_the_end = λ whole. refl }
+
+pub returns-clause-waited : goal.returns-clause-waited
+unfolding computing
+returns-clause-waited c = record { between = kept (may_rest (listing_of (the_switch ∷ []))) waited_attempts refl; in_the_end = λ whole. refl }
+
+pub returns-clause-sleeping : goal.returns-clause-sleeping
+unfolding computing
+returns-clause-sleeping c = record { between = kept (may_rest (listing_of (the_sensor ∷ []))) sleeping_node refl; in_the_end = λ whole. refl }
+
+pub returns-clause-restarted : goal.returns-clause-restarted
+unfolding computing
+returns-clause-restarted c = record { between = kept (may_rest (listing_of (the_sensor ∷ the_other_switch ∷ []))) woken_before_restart refl; in_the_end = λ whole. refl }
+
+pub returns-clause-said_awake : goal.returns-clause-said_awake
+unfolding computing
+returns-clause-said_awake c = refl
+
+pub returns-clause-not_up : goal.returns-clause-not_up
+unfolding computing
+returns-clause-not_up c = refl
+
+pub returns-clause-waits : goal.returns-clause-waits
+unfolding computing
+returns-clause-waits c = refl

@@ -1,0 +1,17 @@
+pub mod Moments
+pub mod Judged
+pub mod Requests
+pub mod Errands
+pub mod Questions
+pub mod Queue
+pub mod Turns
+pub mod Interviews
+pub mod Waking
+pub mod Holds
+pub mod Unanswered
+pub mod Rests
+pub mod Calm
+pub mod Stretches
+pub mod WorkedWaits
+pub mod WrongRequests
+pub mod WrongWaits

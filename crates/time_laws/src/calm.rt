@@ -1,0 +1,83 @@
+//! What calm moments and answers in time are, by worked transcripts, and by others with one thing wrong.
+
+ghost use Rattle.std.specs.Prelude.{◌≡◌, true, false, [], ◌∷◌, take, codes};
+ghost use Rattle.device_stack.specs.State.{fresh};
+ghost use Rattle.device_stack.specs.declared.kind.Kind.TheVariants as kinds;
+ghost use Rattle.std.specs.List.{list_all};
+ghost use Rattle.time_laws.specs.Calm.{IsCalm, IsStill, is_not_stuck};
+ghost use Rattle.time_laws.specs.Stretches.{are_plain_listeners, is_stretch, is_time, is_alone, answers_all, AnswersInTime};
+ghost use Rattle.time_laws.specs.WorkedWaits.{before_two, before_waking, calm_exchange, stretch_of_sleeper, stretch_of_two, stuck_node, the_other_switch};
+ghost use Rattle.time_laws.specs.WrongWaits.{asleep_not_yet, left_in_time, reported_next, stretch_unwoken, unheard_acknowledgement};
+ghost use Rattle.zw_laws.specs.Nodes.{listing_of};
+ghost use Rattle.zw_laws.specs.Worked.{plain_exchange, sleeping_node, the_sensor, the_switch};
+ghost use Rattle.zw_text.specs.Transcript.{joined};
+ghost use Rattle.zw_text.specs.declared.entry.Entry.TheVariants.{Said};
+
+/// A run begins in a calm moment, and is calm again when its command is answered, and when a node that sleeps is
+/// asleep; so are the moments before the stretches below.
+pub fn worked_calm()
+    ensures first { IsCalm (listing_of (the_switch ∷ [])) (the_switch ∷ []) [] 0 }
+    ensures last { IsCalm (listing_of (the_switch ∷ [])) (the_switch ∷ []) calm_exchange 500 }
+    ensures sleeping { IsCalm (listing_of (the_sensor ∷ [])) (the_sensor ∷ []) sleeping_node 9 }
+    ensures before_two { IsCalm (listing_of (the_switch ∷ the_other_switch ∷ [])) (the_switch ∷ the_other_switch ∷ []) before_two 2 }
+    ensures before_waking { IsCalm (listing_of (the_sensor ∷ [])) (the_sensor ∷ []) before_waking 4 }
+{}
+
+/// A moment is not calm while a frame, an acknowledgement or a unit is to be lost, changed or answered by CAN, bytes are stalled, a request is
+/// under way, the chip waits for an acknowledgement, a frame is on the air,
+/// a series runs, a node that does not listen is kept awake, or a device is at work on a change.
+pub fn rejected_calm()
+    ensures marked { IsCalm (listing_of (the_switch ∷ [])) (the_switch ∷ []) (Said (codes "lose 1") ∷ []) 0 → ⊥ }
+    ensures acknowledgement { IsCalm (listing_of (the_switch ∷ [])) (the_switch ∷ []) (Said (codes "loseack 1") ∷ []) 0 → ⊥ }
+    ensures to_drop { IsCalm (listing_of (the_switch ∷ [])) (the_switch ∷ []) (Said (codes "drop h") ∷ []) 0 → ⊥ }
+    ensures to_change { IsCalm (listing_of (the_switch ∷ [])) (the_switch ∷ []) (Said (codes "garble c 0 1") ∷ []) 0 → ⊥ }
+    ensures to_collide { IsCalm (listing_of (the_switch ∷ [])) (the_switch ∷ []) (Said (codes "collide") ∷ []) 0 → ⊥ }
+    ensures stalled { IsCalm (listing_of (the_switch ∷ [])) (the_switch ∷ []) (Said (codes "stall 3") ∷ Said (codes "tick 2") ∷ []) 2 → ⊥ }
+    ensures under_way { IsCalm (listing_of (the_switch ∷ [])) (the_switch ∷ []) (take 8 calm_exchange) 0 → ⊥ }
+    ensures unacknowledged { IsCalm (listing_of (the_switch ∷ [])) (the_switch ∷ []) unheard_acknowledgement 500 → ⊥ }
+    ensures flying { IsCalm (listing_of (the_switch ∷ [])) (the_switch ∷ []) reported_next 1 → ⊥ }
+    ensures running { IsCalm (listing_of (the_switch ∷ [])) (the_switch ∷ []) reported_next 1 → ⊥ }
+    ensures awake { IsCalm (listing_of (the_sensor ∷ [])) (the_sensor ∷ []) asleep_not_yet 4 → ⊥ }
+    ensures working { IsCalm (listing_of (the_switch ∷ [])) (record the_switch { work_left = 3 } ∷ []) [] 0 → ⊥ }
+{}
+
+/// Stretches that answer in time: of one node, of two that listen, and of one that sleeps.
+pub fn worked_stretches()
+    ensures one { is_stretch [] (the_switch ∷ []) [] calm_exchange ≡ true }
+    ensures one_in_time { is_time [] calm_exchange ≡ true }
+    ensures one_answered { AnswersInTime [] (the_switch ∷ []) [] calm_exchange }
+    ensures two { is_stretch [] (the_switch ∷ the_other_switch ∷ []) before_two stretch_of_two ≡ true }
+    ensures two_plain { are_plain_listeners (the_switch ∷ the_other_switch ∷ []) before_two stretch_of_two ≡ true }
+    ensures two_in_time { is_time before_two stretch_of_two ≡ true }
+    ensures two_answered { AnswersInTime [] (the_switch ∷ the_other_switch ∷ []) before_two stretch_of_two }
+    ensures sleeper { is_stretch [] (the_sensor ∷ []) before_waking stretch_of_sleeper ≡ true }
+    ensures sleeper_alone { is_alone before_waking stretch_of_sleeper ≡ true }
+    ensures sleeper_in_time { is_time before_waking stretch_of_sleeper ≡ true }
+    ensures sleeper_answered { AnswersInTime [] (the_sensor ∷ []) before_waking stretch_of_sleeper }
+{}
+
+/// These are none: with a line that loses frames, of a device with another key, of one that the host takes for another, of a node out of
+/// reach, with a node that sleeps and is not woken, and with one woken that has nothing to do. Two ticks are not time enough. And where the
+/// outcome is missing in time, the promise is broken, of one node and of nodes that listen.
+pub fn rejected_stretches()
+    ensures lossy { is_stretch [] (the_switch ∷ []) [] (Said (codes "lose 1") ∷ []) ≡ false }
+    ensures other_key { is_stretch (1 ∷ []) (the_switch ∷ []) [] calm_exchange ≡ false }
+    ensures other_device { is_stretch [] (fresh 2 kinds.Sensor [] ∷ []) [] calm_exchange ≡ false }
+    ensures out_of_reach { is_stretch [] (the_switch ∷ []) (Said (codes "unlink 1 2") ∷ []) calm_exchange ≡ false }
+    ensures unwoken { is_stretch [] (the_sensor ∷ []) before_waking stretch_unwoken ≡ false }
+    ensures idly_woken { is_stretch [] (the_switch ∷ []) [] (Said (codes "wake 2") ∷ []) ≡ false }
+    ensures too_soon { is_time [] plain_exchange ≡ false }
+    ensures missing { AnswersInTime [] (the_switch ∷ []) [] left_in_time → ⊥ }
+    ensures missing_together { AnswersInTime [] (the_switch ∷ []) [] left_in_time → ⊥ }
+{}
+
+/// A node that is stuck: all is still and the node is ready, and its command is never answered, since nothing makes a new series due. So
+/// such a moment is not calm.
+pub fn stuck_stretches()
+    ensures still { IsStill (listing_of (the_switch ∷ the_sensor ∷ the_other_switch ∷ [])) (the_switch ∷ the_sensor ∷ the_other_switch ∷ []) stuck_node 104 }
+    ensures stuck { list_all (is_not_stuck stuck_node 104) (joined stuck_node) ≡ false }
+    ensures ready { is_stretch [] (the_switch ∷ the_sensor ∷ the_other_switch ∷ []) stuck_node (Said (codes "tick 500") ∷ []) ≡ true }
+    ensures one { is_alone stuck_node (Said (codes "tick 500") ∷ []) ≡ true }
+    ensures in_time { is_time stuck_node (Said (codes "tick 500") ∷ []) ≡ true }
+    ensures unanswered { answers_all stuck_node (Said (codes "tick 500") ∷ []) ≡ false }
+{}
