@@ -10,7 +10,7 @@ use Rattle.device_sim.specs.State.{State}
 use Rattle.zw_text.specs.declared.entry.Entry.{Entry}
 use Rattle.zw_text.specs.declared.entry.Outcome.TheVariants.{Waiting}
 use Rattle.zw_text.specs.declared.line.Line.{Line}
-use Rattle.zw_laws.specs.Nodes.{device_of, first_node, is_interviewed, is_supervised, known_at_first, known_classes, listed_by, listing_of}
+use Rattle.zw_laws.specs.Nodes.{device_of, first_node, is_interviewed, is_supervised, known_at_first, listed_by, listing_of}
 use Rattle.host_keep.specs.Kept.{Taken}
 use Rattle.host_keep.specs.declared.final_status.FinalStatus.TheVariants as final
 use Rattle.host_orders.specs.Classes.{lists, actuator_of}
@@ -40,7 +40,7 @@ use Rattle.once_facts.specs.Truly.{AreTrue, IsTrue, TellTruly, TellsTruly}
 use Rattle.said_facts.specs.Said.{AllKnow, KnowsListing}
 use Rattle.said_facts.specs.Spoken.{Spoken, IsSpoken, AreSpoken, after as after_line, entries_of}
 use Rattle.said_facts.proofs.Orders.{IsNoOrder, SameOrders, event_kept}
-use Rattle.said_facts.proofs.Plain.{IsPlain, ArePlain, Orders, OrdersNothing, line_kind, line_orders, line_plain, silent_none}
+use Rattle.said_facts.proofs.Plain.{ArePlain, line_kind, line_orders, line_plain, silent_none}
 use Rattle.said_facts.proofs.Saying.{events_kept, machine_kept, may_accept, taken_then}
 use Rattle.headline_facts.specs.Truly.{IsAskable, LinesAreTrue}
 use Rattle.headline_facts.proofs.Succeeding.{owned}

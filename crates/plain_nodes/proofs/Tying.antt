@@ -1,5 +1,5 @@
 -- A machine that has the course of a node has its device tied to the host; and what is true at all events is so line by line.
-use Rattle.std.proofs.Common.{◌≡◌, ℕ, ◌+◌, suc, Bool, true, false, List, [], ◌∷◌, length, Option, Some, None, option_map, ◌++◌, Ok, if◌then◌else◌, ◌==◌, slice_get, refl, sym, ap, ap₂, subst, ◌∙◌, arith}
+use Rattle.std.proofs.Common.{◌≡◌, ℕ, suc, Bool, true, false, List, [], ◌∷◌, length, Option, Some, None, option_map, ◌++◌, Ok, if◌then◌else◌, ◌==◌, slice_get, refl, sym, ap, ap₂, subst, ◌∙◌, arith}
 use Rattle.std.proofs.lemmas.Bool.{eqb-true}
 use Rattle.std.specs.List.{AllByRecursion}
 use Rattle.supervision.specs.Host.{HostBook, begun_of, open_session}

@@ -1,6 +1,5 @@
 -- Each node that may be asked is plain, so each supervised device is tied and each success of its node is true.
 use Rattle.std.proofs.Common.{[], Some, inr, sym, subst}
-use Rattle.device_sim.specs.State.{State}
 use Rattle.device_facts.specs.GoingOn.{GoOn}
 use Rattle.zw_machine.specs.State.{Machine, first_machine}
 use Rattle.said_facts.specs.Spoken.{after_all}
