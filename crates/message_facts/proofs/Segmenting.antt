@@ -1,19 +1,18 @@
 -- What a device makes of a segment of a message.
-use Rattle.std.proofs.Common.{◌≡◌, ◌≢◌, ℕ, zero, suc, ◌+◌, ◌-◌, ◌*◌, ◌/◌, ◌%◌, ◌<◌, ◌≤◌, ◌==◌, ◌⊎◌, inl, inr, Bool, true, false, ◌&&◌, nat_lt, if◌then◌else◌, Option, Some, None, List, [], ◌∷◌, length, map, refl, ap, sym, ◌∙◌, subst, arith}
-use Rattle.std.specs.Prelude.{nat_le, slice_get, slice_index_or, is_some}
+use Rattle.std.proofs.Common.{◌≡◌, ◌≢◌, ℕ, zero, suc, ◌+◌, ◌-◌, ◌%◌, ◌<◌, ◌≤◌, ◌==◌, ◌⊎◌, inl, inr, Bool, true, false, ◌&&◌, nat_lt, if◌then◌else◌, Option, Some, None, List, [], ◌∷◌, length, map, refl, ap, sym, ◌∙◌, subst, arith}
+use Rattle.std.specs.Prelude.{nat_le, slice_index_or, is_some}
 use Rattle.std.specs.List.{AllByRecursion}
 use Rattle.std.proofs.lemmas.Bool.Decides.{Decides-eqb, nat_tests}
 use Rattle.zw_base.specs.Crc.{crc}
 use Rattle.class_info.specs.declared.message.InfoMessage.TheVariants.{TransportComplete}
 use Rattle.class_info.specs.InfoSpelling.{form}
 use Rattle.encap.specs.Begins.{IsMisplaced}
-use Rattle.transport_segments.specs.Segment.{IsSegment, id_of, size_of, offset_of, payload_of, extension_of, check_of, covered_of, segment_text}
-use Rattle.transport_segments.specs.Parts.{slice_at}
+use Rattle.transport_segments.specs.Segment.{IsSegment, id_of, size_of, offset_of, payload_of, extension_of, check_of, covered_of}
 use Rattle.transport_segments.specs.Faults.{IsSound}
 use Rattle.transport_segments.specs.Places.{IsThere, IsLeastMissing, present}
 use Rattle.transport_segments.specs.Kept.{Reassembly, Empty, Partial}
 use Rattle.transport_segments.specs.Reassembly.{places_after}
-use Rattle.transport_segments.specs.Runs.{IsDatagram, IsPart, Agrees}
+use Rattle.transport_segments.specs.Runs.{IsPart, Agrees}
 use Rattle.transport_segments.specs.Taking.{is_segment, is_sound, ends_its_datagram, first_missing, taken_by, taken_at, kept_after}
 use Rattle.transport_segments.specs.declared.assembler.Taken.TheVariants.{Kept, Need, Whole}
 use Rattle.transport_segments.proofs.PlacesLemmas.{there_at, missing_at}

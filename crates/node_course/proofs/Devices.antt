@@ -198,6 +198,17 @@ fresh_at laws node kind key plain = record {
 
 -- ---- a payload is heard
 
+openly_by : (kind : Kind) (device : State) (payload drawn : List ℕ) → takes_openly kind ≡ true → is_segment payload ≡ false → hears_by kind device payload drawn ≡ hears_openly device payload
+unfolding hears_in_segments
+openly_by Switch device payload drawn is whole = refl
+openly_by Dimmer device payload drawn is whole = refl
+openly_by Sensor device payload drawn is whole = refl
+openly_by Thermostat device payload drawn is whole = refl
+openly_by Strip device payload drawn is whole = refl
+openly_by Configurable device payload drawn is whole = rw whole refl
+openly_by Relay device payload drawn is whole = cc
+openly_by Lock device payload drawn is whole = cc
+
 awake_after : (device : State) (payload drawn : List ℕ) → device.awake ≡ true → device_after device (Hears payload drawn) ≡ (hears_by device.kind (active device) payload drawn).device
 unfolding device_after outcome_of device_hears
 awake_after device payload drawn e = rw e refl
@@ -353,11 +364,11 @@ module _ (laws : Laws) (orders : List Asked) (commands : List ℕ) (c : Course) 
   still_open : takes_openly later_device.kind ≡ true
   still_open = ap takes_openly (laws.same device event).kind ∙ at.is_open
 
-  bare : AllByRecursion IsBare (device_replies device event)
-  bare = subst (λ (rs : List (List ℕ)). AllByRecursion IsBare rs) (sym (replies_awake device payload drawn awake)) (bare_kind device.kind (active device) payload drawn at.is_open)
+  segment_bare : AllByRecursion IsBare (device_replies device event)
+  segment_bare = subst (λ (rs : List (List ℕ)). AllByRecursion IsBare rs) (sym (replies_awake device payload drawn awake)) (bare_kind device.kind (active device) payload drawn at.is_open)
 
   says : AllOwnTaken later_device (device_replies device event) → AllByRecursion (Says later_device.sessions) (device_replies device event)
-  says taken = all_said later_device (device_replies device event) can (laws.replies device event at.can) taken bare
+  says taken = all_said later_device (device_replies device event) can (laws.replies device event at.can) taken segment_bare
 
   -- as a course has it
   lands_as : (is_whole : Bool) → LandsAs device later_device segment is_whole → Took device.sessions (after_message c.device segment is_whole) → AllOwnTaken later_device (device_replies device event)
@@ -391,7 +402,7 @@ module _ (laws : Laws) (orders : List Asked) (commands : List ℕ) (c : Course) 
 
   -- it is nothing to the device
   another_heard : IsLeft device later_device → (device.kind ≢ Configurable) ⊎ ((0 < device.sessions.taken) ⊎ (device_replies device event ≡ [])) → GoesAs c device event
-  another_heard left which = quiet laws c device event at left.0.sessions left.1 (taken which) bare
+  another_heard left which = quiet laws c device event at left.0.sessions left.1 (taken which) segment_bare
     where
       openly : device.kind ≢ Configurable → (sessions : Taken) → device_replies (record device { sessions = sessions }) event ≡ (hears_openly (active (record device { sessions = sessions })) payload).replies
       openly not sessions =
