@@ -137,7 +137,7 @@ module _ (nonces : (nonce : List ℕ) → IsOther (nonce_report nonce)) (no_more
 
   -- the command of a session of the node
   record Carried (command : Command) : Type 0 where
-    open : form_of command.carriage.outer ≢ Sealed
+    unsealed : form_of command.carriage.outer ≢ Sealed
     end : command.order.end ≤ 127
     sound : IsSound h.store command
 
@@ -148,7 +148,7 @@ module _ (nonces : (nonce : List ℕ) → IsOther (nonce_report nonce)) (no_more
       let same : own.command ≡ command = cc in
       let of : command.order.node ≡ node = ap (λ (x : Command). x.order.node) (sym same) ∙ own.node in
       let plain = plain_at node h.commands number command plain_all found of in
-      record { open = plain.0; end = plain.1; sound = sound_at number command found }
+      record { unsealed = plain.0; end = plain.1; sound = sound_at number command found }
     where
       sound_at : (number : ℕ) (command : Command) → command_at h.commands number ≡ Some command → IsSound h.store command
       sound_at zero command e = absurd (grind (arith, e))
@@ -205,7 +205,7 @@ module _ (nonces : (nonce : List ℕ) → IsOther (nonce_report nonce)) (no_more
       form_by : (number : ℕ) (command : Command) (form : Form) → form_of command.carriage.outer ≡ form → command_at h.commands number ≡ Some command → command_of_session (node_of h node).book.commands session ≡ Some number
           → segment_by form session (message_for command session) k ≡ Some payload → LastSegment payload
       form_by number command Plain form is carried e = absurd (grind (arith, e))
-      form_by number command Sealed form is carried e = absurd ((carried_by session number command carried is).open form)
+      form_by number command Sealed form is carried e = absurd ((carried_by session number command carried is).unsealed form)
       form_by number command Cut form is carried e = within (nat_lt k (segment_count (message_for command session))) refl e
         where
           within : (b : Bool) → nat_lt k (segment_count (message_for command session)) ≡ b → (if b then Some (segment_at session (message_for command session) k) else None) ≡ Some payload → LastSegment payload
@@ -311,7 +311,7 @@ module _ (nonces : (nonce : List ℕ) → IsOther (nonce_report nonce)) (no_more
               (attempt_asks nonces no_more node orders c.host.commands n more payload (next_id h.requests.last_id) (Some (record { session = begun_of c.host; is_segment = is_segment })) (λ e. message))
 
           by_form : (f : Form) → form_of is.command.carriage.outer ≡ f → Wrote node orders c h (after_host h (Starts n plan more payload)) (host_units (outs h (Starts n plan more payload)))
-          by_form Sealed e = absurd ((carried_by is.session is.carried.0 is.command carried is.carried.2).open e)
+          by_form Sealed e = absurd ((carried_by is.session is.carried.0 is.command carried is.carried.2).unsealed e)
           by_form Plain e =
               let whole : plan ≡ Whole = is.plan_is ∙ ap (λ (s : Start). s.plan) (start Plain e) in
               let text : payload ≡ message_for is.command is.session = is.payload_is ∙ ap (λ (s : Start). s.payload) (start Plain e) in
