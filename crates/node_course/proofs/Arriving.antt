@@ -33,7 +33,7 @@ use Rattle.device_facts.proofs.Telling.{place_is, listener_is, fate_listens}
 use Rattle.node_course.specs.Ways.{Goes}
 use Rattle.node_course.specs.Meaning.{Asked, HostMeans, NodeMeans}
 use Rattle.node_course.specs.Air.{BearsBy, OnAir, Lands, WasThere}
-use Rattle.node_course.specs.Device.{AtDevice, GoesAs, HearsAs}
+use Rattle.node_course.specs.Device.{AtDevice, HearsAs}
 use Rattle.node_course.specs.Making.{Makes, AllMake, NamesNext, Names}
 use Rattle.node_course.specs.Mesh.{InMesh, brought_by, brought, MeshGoes}
 use Rattle.node_course.proofs.Thinning.{goes_nowhere, goes_once}
@@ -181,7 +181,7 @@ module _ (laws : Laws) (node : ℕ) (orders : List Asked) where
               (heard_airs node orders before mesh.air flight.since flight.cargo is_whole airs) stood (sym named) (λ own. heard) (λ apart. absurd (apart mine))
               (subst (λ (b : HostBook). AllMake node orders b.commands mesh.devices) (sym same) h.made)
               (λ own. subst (λ (b : HostBook). Makes orders b.commands (device_after device (Hears frame.payload drawn))) (sym same) made))
-          as_heard (inr unheard) =
+          as_heard (inr (segment, unheard)) =
               mesh_then node orders c before _ still ways
               (device_goes laws.flying laws.same node orders before before mesh place frame.node device (Hears frame.payload drawn) (option_map backwards route) h.has airs stood (sym named)
               (λ own. unheard) (λ apart. h.has.at) h.made (λ own. made))

@@ -14,7 +14,6 @@ use Rattle.transport_segments.specs.Kept.{Reassembly}
 use Rattle.transport_segments.specs.Runs.{IsPart}
 use Rattle.transport_segments.specs.Taking.{is_segment}
 use Rattle.encap.specs.Opening.{opened_at}
-use Rattle.encap.specs.declared.plan.Supervised.{Supervised}
 use Rattle.host_orders.specs.Refusals.{IsFit}
 use Rattle.host_orders.specs.Wrapping.{message_of, supervised_of}
 use Rattle.host_orders.specs.declared.carriage.Carriage.{Carriage}
@@ -431,7 +430,7 @@ module _ (laws : Laws) (orders : List Asked) (commands : List ℕ) (c : Course) 
       by : IsNext laws.segments orders commands device session payload drawn awake at.is_open is named keeps ⊎ IsAnother laws.segments orders commands device session payload drawn awake at.is_open is named keeps
           → HearsAs c device since (Command segment) event
       by (inl next) = of_next next.same next.heard
-      by (inr another) = inr (another_heard another.left another.says)
+      by (inr another) = inr (refl, another_heard another.left another.says)
 
 -- ---- any payload
 
@@ -444,7 +443,7 @@ command_heard laws orders commands c device since false session payload drawn at
 pub payload_heard : Laws → (orders : List Asked) (commands : List ℕ) (c : Course) (device : State) (since : ℕ) (cargo : Cargo) (payload drawn : List ℕ) → AtDevice c device → device.awake ≡ true
     → HostMeans orders commands payload cargo → Names c.device cargo → Makes orders commands device → HearsAs c device since cargo (Hears payload drawn)
 payload_heard laws orders commands c device since (Command message) payload drawn at awake is names m = command_heard laws orders commands c device since message.is_segment message.session payload drawn at awake is names m
-payload_heard laws orders commands c device since Of_host payload drawn at awake is names m = inr (other_heard laws c device payload drawn at awake is)
+payload_heard laws orders commands c device since Of_host payload drawn at awake is names m = inl (false, other_heard laws c device payload drawn at awake is)
 payload_heard laws orders commands c device since (Answer session status) payload drawn at awake is names m = absurd is
 payload_heard laws orders commands c device since Of_node payload drawn at awake is names m = absurd is
 

@@ -13,7 +13,7 @@ use Rattle.supervision.specs.Device.{Taken, heard_of}
 use Rattle.supervision.specs.declared.device_book.Heard.{Heard}
 use Rattle.supervision.specs.declared.device_book.Heard.TheVariants.{New, Again, Old}
 use Rattle.courses.specs.Parts.{numbered}
-use Rattle.courses.specs.Sessions.{Course, Message, Cargo, Command, Of_host, Answer, Of_node}
+use Rattle.courses.specs.Sessions.{Course, Cargo, Command, Of_host, Answer, Of_node}
 use Rattle.courses.specs.SessionLaws.{NamesOne}
 use Rattle.transport_segments.specs.Kept.{Reassembly, Empty, Partial}
 use Rattle.transport_segments.specs.Runs.{Agrees}

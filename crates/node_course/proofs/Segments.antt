@@ -1,10 +1,7 @@
 -- A segment of a message of the node's sessions, at a device of it.
 use Rattle.std.proofs.Common.{◌≡◌, ◌≢◌, ℕ, ◌+◌, ◌*◌, ◌%◌, ◌<◌, ◌≤◌, ◌==◌, ◌⊎◌, inl, inr, Bool, true, false, Option, Some, None, List, [], ◌∷◌, length, refl, ap, sym, ◌∙◌, subst, arith}
-use Rattle.std.specs.List.{AllByRecursion}
 use Rattle.std.proofs.lemmas.Bool.Decides.{Decides-eqb}
-use Rattle.supervision.specs.Device.{Taken}
 use Rattle.courses.specs.Parts.{numbered}
-use Rattle.courses.specs.Sessions.{Message}
 use Rattle.class_info.specs.declared.message.InfoMessage.TheVariants.{TransportComplete}
 use Rattle.class_info.specs.InfoSpelling.{form}
 use Rattle.transport_segments.specs.Segment.{segment_text}

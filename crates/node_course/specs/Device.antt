@@ -2,7 +2,7 @@
 use Rattle.std.specs.Prelude.{◌≡◌, ◌⊎◌, ℕ, ◌<◌, Bool, true, List, [], ◌∷◌, Option, Some, None}
 use Rattle.std.specs.List.{AllByRecursion}
 use Rattle.supervision.specs.Device.{Taken}
-use Rattle.courses.specs.Sessions.{Course, Cargo, Of_node, Step, Finishes, hears, after_all, MayAll}
+use Rattle.courses.specs.Sessions.{Course, Cargo, Command, Of_host, Answer, Of_node, Step, Finishes, hears, after_all, MayAll}
 use Rattle.device_sim.specs.State.{State}
 use Rattle.device_sim.specs.Event.{DeviceEvent, device_after, device_replies}
 use Rattle.device_course.specs.Ending.{HasEnded}
@@ -35,7 +35,14 @@ pub record GoesAs (c : Course) (device : State) (event : DeviceEvent) : Type 0 w
   pub at : AtDevice (after_all c (finishes final)) (device_after device event)
   pub says : AllByRecursion (Says (device_after device event).sessions) (device_replies device event)
 
--- a payload is heard as the course hears what it holds, where a segment may be the one that makes its message whole; or it is nothing to the device, as a segment of
--- another session than the next, or at a device that keeps none
+-- it is one segment of a message
+abbrev pub IsSegment : Cargo → Type 0
+IsSegment (Command message) = message.is_segment ≡ true
+IsSegment Of_host = ⊥
+IsSegment (Answer session status) = ⊥
+IsSegment Of_node = ⊥
+
+-- a payload is heard as the course hears what it holds, where a segment may be the one that makes its message whole; or it is a segment, and nothing to the device: of another session than the next, or at
+-- a device that keeps none
 abbrev pub HearsAs : Course → State → ℕ → Cargo → DeviceEvent → Type 0
-HearsAs c device since cargo event = ((is_whole : Bool) × GoesAs (hears c since cargo is_whole) device event) ⊎ GoesAs c device event
+HearsAs c device since cargo event = ((is_whole : Bool) × GoesAs (hears c since cargo is_whole) device event) ⊎ (IsSegment cargo × GoesAs c device event)
