@@ -305,8 +305,7 @@ module _ (laws : Laws) (node : ℕ) (orders : List Asked) where
 
     names : (cargo : Cargo) → l.flight.cargo ≡ cargo → Names c.device cargo
     names (Command message) is =
-        let heard : CourseFacts (hears before l.flight.since l.flight.cargo false) = subst (λ (flights : List (Flight Cargo)). CourseFacts (lands c flights true false)) l.first (laws.facts c (lands_step true false) course tt) in
-        (
+        let heard : CourseFacts (hears before l.flight.since l.flight.cargo false) = subst (λ (flights : List (Flight Cargo)). CourseFacts (lands c flights true false)) l.first (laws.facts c (lands_step true false) course tt) in (
           laws.landing_names c message l.flight.since l.flights course (l.first ∙ ap (λ (cargo : Cargo). record { cargo = cargo; since = l.flight.since } ∷ l.flights) is),
           next_named laws before message l.flight.since (subst (λ (cargo : Cargo). CourseFacts (hears before l.flight.since cargo false)) is heard),
         )
@@ -366,8 +365,7 @@ module _ (laws : Laws) (node : ℕ) (orders : List Asked) where
 
     names_again : (cargo : Cargo) → was.flight.cargo ≡ cargo → Names c.device cargo
     names_again (Command message) is =
-        let heard : CourseFacts (hears c was.flight.since was.flight.cargo false) = subst (λ (found : Option (Flight Cargo)). CourseFacts (repeats c found false)) was.found (laws.facts c (repeats_step was.at false) course may_repeat) in
-        (
+        let heard : CourseFacts (hears c was.flight.since was.flight.cargo false) = subst (λ (found : Option (Flight Cargo)). CourseFacts (repeats c found false)) was.found (laws.facts c (repeats_step was.at false) course may_repeat) in (
           laws.repeated_names c message was.flight.since was.at course (was.found ∙ ap (λ (cargo : Cargo). Some (record { cargo = cargo; since = was.flight.since })) is)
               (subst (λ (cargo : Cargo). IsFreshCargo (begun_of c.host) was.flight.since cargo) is was.fresh),
           next_named laws c message was.flight.since (subst (λ (cargo : Cargo). CourseFacts (hears c was.flight.since cargo false)) is heard),

@@ -395,9 +395,10 @@ module _ (laws : Laws) (orders : List Asked) (commands : List ℕ) (c : Course) 
       let taken : after_message c.device segment true ≡ after_get c.device (wire_id session) = ap (λ (b : Bool). if true && b then after_get c.device (wire_id session) else c.device) next in
       lands_as true (laws.whole_lands device (device_after device (Hears is.message drawn)) later_device (verdict_on device is.of.asked.carriage is.of.asked.order) session same follows whole)
       (subst (λ (t : Taken). Took device.sessions t) (sym taken) (subst (λ (t : Taken). Took t (after_get c.device (wire_id session))) (sym at.sessions) (took_get c.device (wire_id session))))
-      (subst (λ (rs : List (List ℕ)). AllOwnTaken later_device rs) (sym said)
-      (λ own. absurd (laws.segments.acknowledged (session % 16) _ own).0,
-      subst (λ (d : State). AllOwnTaken d (device_replies device (Hears is.message drawn))) (sym whole) (message_taken laws orders commands c device since session is.message drawn at awake is.of)))
+      (subst (λ (rs : List (List ℕ)). AllOwnTaken later_device rs) (sym said) (
+        λ own. absurd (laws.segments.acknowledged (session % 16) _ own).0,
+        subst (λ (d : State). AllOwnTaken d (device_replies device (Hears is.message drawn))) (sym whole) (message_taken laws orders commands c device since session is.message drawn at awake is.of),
+      ))
 
   -- it is nothing to the device
   another_heard : IsLeft device later_device → (device.kind ≢ Configurable) ⊎ ((0 < device.sessions.taken) ⊎ (device_replies device event ≡ [])) → GoesAs c device event
