@@ -20,7 +20,7 @@ use node_course::{lines_ask_plainly, lines_have_a_course};
 use once_facts::courses_tie_their_ends;
 use run_facts::lines_keep_and_ask_well;
 
-/// Over any lines that were read, whatever is lost, changed, delayed or repeated, and however often the host starts again: for a node whose orders go whole and unsealed, whose device is as its maker
+/// Over any lines that were read, whatever is lost, changed, delayed or repeated, and however often the host starts again: for a node whose orders go unsealed, whole or in segments, whose device is as its maker
 /// left it, the only one of that node, and takes what is not sealed. The device has applied a part of the commands accepted for it, in
 /// order, each at most once, with exactly the settings that each asks for; every command reported successful is in it, and none that failed, was taken back or
 /// waits; and where the last change of a property is of a command reported successful, its confirmed value is the device's.
