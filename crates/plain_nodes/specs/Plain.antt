@@ -4,13 +4,11 @@ use Rattle.device_stack.specs.declared.kind.Kind.{Kind}
 use Rattle.device_stack.specs.Kind.{lists as kind_lists}
 use Rattle.host_orders.specs.Classes.{lists}
 
--- A kind that lists Supervision, and neither Security 0 nor Transport Service: it takes commands in sessions, each in one frame and not sealed.
+-- A kind that lists Supervision, and not Security 0: it takes commands in sessions, whole or in segments, and not sealed.
 pub record IsPlainKind (kind : Kind) : Type 0 where
   pub supervised : kind_lists kind 0x6C ≡ true
   pub unsealed : kind_lists kind 0x98 ≡ false
-  pub whole : kind_lists kind 0x55 ≡ false
 
--- a list of classes has neither Security 0 nor Transport Service
+-- a list of classes has no Security 0
 pub record IsOpenList (classes : List ℕ) : Type 0 where
   pub unsealed : lists classes 0x98 ≡ false
-  pub whole : lists classes 0x55 ≡ false
