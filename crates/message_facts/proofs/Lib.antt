@@ -5,6 +5,7 @@ mod Following
 mod Leaving
 mod Reporting
 mod Saying
+mod Parting
 mod Segmenting
 mod Courses
 mod Unsealing

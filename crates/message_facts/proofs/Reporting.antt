@@ -170,14 +170,14 @@ complete_read : (byte : ℕ) → info_at (0x55 ∷ 0xE8 ∷ byte ∷ []) ≡ Ok 
 unfolding info_at message_at own_at byte_at in_class bits_at
 complete_read byte = refl
 
-complete_none : (id : ℕ) → TellsNone (form (TransportComplete id))
+pub complete_none : (id : ℕ) → TellsNone (form (TransportComplete id))
 complete_none id = bare_read (form (TransportComplete id)) (TransportComplete (bits 4 4 _)) (low_command 0x55 _ (omega arith)) refl (complete_read _) tt
 
 request_read : (byte low : ℕ) → info_at (0x55 ∷ 0xC8 ∷ byte ∷ low ∷ []) ≡ Ok (TransportRequest (bits 4 4 byte) (bits 0 3 byte * 256 + low))
 unfolding info_at message_at own_at byte_at in_class bits_at transport_request_at
 request_read byte low = refl
 
-request_none : (id at : ℕ) → TellsNone (form (TransportRequest id at))
+pub request_none : (id at : ℕ) → TellsNone (form (TransportRequest id at))
 request_none id at = bare_read (form (TransportRequest id at)) (TransportRequest (bits 4 4 _) (bits 0 3 _ * 256 + _)) (low_command 0x55 _ (omega arith)) refl (request_read _ _) tt
 
 all_true : (a : Bool) → a ≡ true → (a && true) && true ≡ true

@@ -1,20 +1,20 @@
 -- What a device makes of a segment of a message.
-use Rattle.std.proofs.Common.{◌≡◌, ◌≢◌, ℕ, zero, suc, ◌+◌, ◌-◌, ◌*◌, ◌/◌, ◌%◌, ◌<◌, ◌≤◌, ◌==◌, ◌⊎◌, inl, inr, Bool, true, false, ◌&&◌, nat_lt, if◌then◌else◌, Option, Some, None, List, [], ◌∷◌, length, map, refl, ap, sym, ◌∙◌, subst, arith}
-use Rattle.std.specs.Prelude.{nat_le, slice_get, slice_index_or, is_some}
-use Rattle.std.specs.List.{range_with_len}
+use Rattle.std.proofs.Common.{◌≡◌, ◌≢◌, ℕ, zero, suc, ◌+◌, ◌-◌, ◌%◌, ◌<◌, ◌≤◌, ◌==◌, ◌⊎◌, inl, inr, Bool, true, false, ◌&&◌, nat_lt, if◌then◌else◌, Option, Some, None, List, [], ◌∷◌, length, map, refl, ap, sym, ◌∙◌, subst, arith}
+use Rattle.std.specs.Prelude.{nat_le, slice_index_or, is_some}
+use Rattle.std.specs.List.{AllByRecursion}
 use Rattle.std.proofs.lemmas.Bool.Decides.{Decides-eqb, nat_tests}
 use Rattle.zw_base.specs.Crc.{crc}
+use Rattle.class_info.specs.declared.message.InfoMessage.TheVariants.{TransportComplete}
+use Rattle.class_info.specs.InfoSpelling.{form}
 use Rattle.encap.specs.Begins.{IsMisplaced}
-use Rattle.transport_segments.specs.Segment.{IsSegment, id_of, size_of, offset_of, payload_of, extension_of, check_of, covered_of, segment_text}
-use Rattle.transport_segments.specs.Parts.{slice_at}
+use Rattle.transport_segments.specs.Segment.{IsSegment, id_of, size_of, offset_of, payload_of, extension_of, check_of, covered_of}
 use Rattle.transport_segments.specs.Faults.{IsSound}
 use Rattle.transport_segments.specs.Places.{IsThere, IsLeastMissing, present}
 use Rattle.transport_segments.specs.Kept.{Reassembly, Empty, Partial}
 use Rattle.transport_segments.specs.Reassembly.{places_after}
-use Rattle.transport_segments.specs.Runs.{IsDatagram, IsPart, Agrees}
+use Rattle.transport_segments.specs.Runs.{IsPart, Agrees}
 use Rattle.transport_segments.specs.Taking.{is_segment, is_sound, ends_its_datagram, first_missing, taken_by, taken_at, kept_after}
 use Rattle.transport_segments.specs.declared.assembler.Taken.TheVariants.{Kept, Need, Whole}
-use Rattle.transport_segments.proofs.PartLemmas.{are_parts}
 use Rattle.transport_segments.proofs.PlacesLemmas.{there_at, missing_at}
 use Rattle.transport_segments.proofs.AgreeLemmas.{keeps_agreement}
 use Rattle.transport_segments.proofs.TakingLemmas.{segment_decides}
@@ -22,40 +22,16 @@ use Rattle.device_stack.specs.declared.kind.Kind.{Kind}
 use Rattle.device_stack.specs.declared.kind.Kind.TheVariants.{Relay, Switch, Dimmer, Lock, Sensor, Thermostat, Strip, Configurable}
 use Rattle.device_stack.specs.Kind.{lists}
 use Rattle.device_stack.specs.State.{State, Outcome, silent}
-use Rattle.device_stack.specs.Hearing.{hears_openly, segment_session, assembles, repeats_segment, hears_segment, hears_in_segments, hears_by, active}
-use Rattle.device_sim.specs.Event.{Hears, device_after}
+use Rattle.device_stack.specs.Hearing.{hears_openly, segment_session, assembles, repeats_segment, hears_segment, hears_in_segments, hears_by, active, hears}
+use Rattle.device_sim.specs.Event.{Hears, outcome_of, device_after, device_replies}
 use Rattle.message_facts.specs.Asking.{IsLeft}
 use Rattle.message_facts.specs.Others.{IsNoGet}
-use Rattle.message_facts.specs.Segments.{KeepsPart, IsWhole}
+use Rattle.message_facts.specs.Reporting.{TellsNone}
+use Rattle.message_facts.specs.Segments.{KeepsPart, KeepsSegment, MakesWhole}
 use Rattle.message_facts.proofs.Bare.{never_begins}
-use Rattle.message_facts.proofs.Following.{left, awake_after}
+use Rattle.message_facts.proofs.Following.{left}
 use Rattle.message_facts.proofs.Leaving.{bare_no_get, openly_left, securely_left, if_awake}
-
--- ---- the segments of a message are parts of it
-
-length-row : (f : ℕ → List ℕ) (first count : ℕ) → length (map f (range_with_len first count)) ≡ count
-length-row f first zero = refl
-length-row f first (suc count) = ap suc (length-row f (first + 1) count)
-
-row_at : (f : ℕ → List ℕ) (first count at : ℕ) → at < count → slice_get (map f (range_with_len first count)) at ≡ Some (f (first + at))
-row_at f first zero at less = absurd (omega (arith, less))
-row_at f first (suc count) zero less = ap (λ (n : ℕ). Some (f n)) (let same : first ≡ first + 0 = omega arith in same)
-row_at f first (suc count) (suc at) less =
-    row_at f (first + 1) count at (omega (arith, less)) ∙ ap (λ (n : ℕ). Some (f n)) (let same : first + 1 + at ≡ first + suc at = omega arith in same)
-
-row_is : (f : ℕ → List ℕ) (count at : ℕ) → at < count → slice_get (map f (range_with_len 0 count)) at ≡ Some (f at)
-row_is f count at less = row_at f 0 count at less ∙ ap (λ (n : ℕ). Some (f n)) (let same : 0 + at ≡ at = omega arith in same)
-
-pub is_part : (message : List ℕ) (session place : ℕ) → IsDatagram message → 39 * place < length message
-    → IsPart message (session % 16) (segment_text (session % 16) (length message) (39 * place) (slice_at message place))
-is_part message session place is within =
-    let text : ℕ → List ℕ = λ k. segment_text (session % 16) (length message) (39 * k) (slice_at message k) in
-    let count : ℕ = (length message + 38) / 39 in
-    let few : place < (length message + 38) / 39 = omega (arith, within) in
-    let long = length-row text 0 count in
-    are_parts message (text place) (session % 16) (map text (range_with_len 0 count)) is (omega arith)
-    (record { count = long; each = λ k less. row_is text count k (omega (arith, less, long)) })
-    (place, row_is text count place few)
+use Rattle.message_facts.proofs.Reporting.{request_none}
 
 -- ---- a sound segment is taken
 
@@ -154,25 +130,37 @@ kept_part device message segment id first part agrees e = record {
   agrees = still_agrees message segment id device.reassembly first part agrees e;
 }
 
+-- what is answered of segments alone is no report
+abbrev TellNone : List (List ℕ) → Type 0
+TellNone replies = AllByRecursion TellsNone replies
+
 assembled : (device : State) (message segment : List ℕ) (id : ℕ) → IsPart message id segment → Agrees message id device.reassembly
-    → KeepsPart message id device (assembles (active device) segment (taken_at device.reassembly segment)).device
-    ⊎ IsWhole (hears_openly (active device) message).device (assembles (active device) segment (taken_at device.reassembly segment)).device
+    → KeepsSegment message id device (assembles (active device) segment (taken_at device.reassembly segment)).device (assembles (active device) segment (taken_at device.reassembly segment)).replies
+    ⊎ MakesWhole id (hears_openly (active device) message).device (hears_openly (active device) message).replies
+    (assembles (active device) segment (taken_at device.reassembly segment)).device (assembles (active device) segment (taken_at device.reassembly segment)).replies
 assembled device message segment id part agrees =
     rw (taken_is device.reassembly segment part.sound) (by (first_missing 0 (places_after device.reassembly segment)) refl)
   where
     asks : (b : Bool) (first : ℕ) → first_missing 0 (places_after device.reassembly segment) ≡ Some first
-        → KeepsPart message id device (assembles (active device) segment (Some (if b then Need first else Kept))).device
-    asks true first e = kept_part device message segment id first part agrees e
-    asks false first e = kept_part device message segment id first part agrees e
+        → KeepsSegment message id device (assembles (active device) segment (Some (if b then Need first else Kept))).device (assembles (active device) segment (Some (if b then Need first else Kept))).replies
+    asks true first e = (kept_part device message segment id first part agrees e, (request_none (id_of segment) first, tt))
+    asks false first e = (kept_part device message segment id first part agrees e, tt)
 
     by : (first : Option ℕ) → first_missing 0 (places_after device.reassembly segment) ≡ first
-        → KeepsPart message id device (assembles (active device) segment (Some (taken_by (places_after device.reassembly segment) first))).device
-        ⊎ IsWhole (hears_openly (active device) message).device (assembles (active device) segment (Some (taken_by (places_after device.reassembly segment) first))).device
+        → KeepsSegment message id device (assembles (active device) segment (Some (taken_by (places_after device.reassembly segment) first))).device
+        (assembles (active device) segment (Some (taken_by (places_after device.reassembly segment) first))).replies
+        ⊎ MakesWhole id (hears_openly (active device) message).device (hears_openly (active device) message).replies
+        (assembles (active device) segment (Some (taken_by (places_after device.reassembly segment) first))).device
+        (assembles (active device) segment (Some (taken_by (places_after device.reassembly segment) first))).replies
     by (Some first) e = inl (asks (has_last (places_after device.reassembly segment)) first e)
     by None e =
         let places = places_after device.reassembly segment in
         let whole : present places ≡ message = (keeps_agreement message segment id device.reassembly Empty (Whole (present places)) part agrees (none_missing 0 places e, refl)).1 in
-        inr (ap (λ (bytes : List ℕ). record (hears_openly (active device) bytes).device { reassembly = Empty }) whole)
+        inr (
+          ap (λ (bytes : List ℕ). record (hears_openly (active device) bytes).device { reassembly = Empty }) whole,
+          ap (λ (bytes : List ℕ). form (TransportComplete (id_of segment)) ∷ (hears_openly (active device) bytes).replies) whole
+              ∙ ap (λ (n : ℕ). form (TransportComplete n) ∷ (hears_openly (active device) message).replies) part.session,
+        )
 
 next_assembles : (device : State) (segment : List ℕ) → is_segment segment ≡ true → id_of segment ≡ (device.sessions.taken + 1) % 16
     → hears_in_segments device segment ≡ assembles device segment (taken_at device.reassembly segment)
@@ -184,21 +172,25 @@ unfolding hears_in_segments
 whole_heard device message is = rw is refl
 
 by_kind : (device : State) (payload drawn : List ℕ) → device.awake ≡ true → device.kind ≡ Configurable
-    → device_after device (Hears payload drawn) ≡ (hears_in_segments (active device) payload).device
-by_kind device payload drawn awake kind =
-    awake_after device payload drawn awake ∙ ap (λ (k : Kind). (hears_by k (active device) payload drawn).device) kind
+    → outcome_of device (Hears payload drawn) ≡ hears_in_segments (active device) payload
+unfolding outcome_of hears
+by_kind device payload drawn awake kind = rw (awake, kind) refl
 
 pub next_segment : (device : State) (message segment drawn : List ℕ) (session : ℕ) → device.awake ≡ true → device.kind ≡ Configurable
     → IsPart message (session % 16) segment → is_segment message ≡ false → session % 16 ≡ (device.sessions.taken + 1) % 16 → Agrees message (session % 16) device.reassembly
-    → KeepsPart message (session % 16) device (device_after device (Hears segment drawn)) ⊎ IsWhole (device_after device (Hears message drawn)) (device_after device (Hears segment drawn))
+    → KeepsSegment message (session % 16) device (device_after device (Hears segment drawn)) (device_replies device (Hears segment drawn))
+    ⊎ MakesWhole (session % 16) (device_after device (Hears message drawn)) (device_replies device (Hears message drawn)) (device_after device (Hears segment drawn)) (device_replies device (Hears segment drawn))
+unfolding device_after device_replies
 next_segment device message segment drawn session awake kind part whole id agrees =
-    let of_segment : device_after device (Hears segment drawn) ≡ (assembles (active device) segment (taken_at device.reassembly segment)).device =
+    let of_segment : outcome_of device (Hears segment drawn) ≡ assembles (active device) segment (taken_at device.reassembly segment) =
     by_kind device segment drawn awake kind
-    ∙ ap (λ (o : Outcome). o.device) (next_assembles (active device) segment (segment_is message segment (session % 16) part) (part.session ∙ id)) in
-    let of_message : device_after device (Hears message drawn) ≡ (hears_openly (active device) message).device =
-    by_kind device message drawn awake kind ∙ ap (λ (o : Outcome). o.device) (whole_heard (active device) message whole) in
-    let is = assembled device message segment (session % 16) part agrees in
-    rw (of_segment, of_message) is
+    ∙ next_assembles (active device) segment (segment_is message segment (session % 16) part) (part.session ∙ id) in
+    let of_message : outcome_of device (Hears message drawn) ≡ hears_openly (active device) message =
+    by_kind device message drawn awake kind ∙ whole_heard (active device) message whole in
+    let taken : Outcome = assembles (active device) segment (taken_at device.reassembly segment) in
+    subst (λ (o : Outcome). KeepsSegment message (session % 16) device o.device o.replies ⊎ MakesWhole (session % 16) (outcome_of device (Hears message drawn)).device (outcome_of device (Hears message drawn)).replies o.device o.replies) (sym of_segment)
+    (subst (λ (o : Outcome). KeepsSegment message (session % 16) device taken.device taken.replies ⊎ MakesWhole (session % 16) o.device o.replies taken.device taken.replies) (sym of_message)
+    (assembled device message segment (session % 16) part agrees))
 
 -- ---- any other
 
@@ -210,13 +202,18 @@ differs : (a b : ℕ) → a ≢ b → (a == b) ≡ false
 differs a b not = never_true (a == b) (λ e. not ((Decides-eqb a b).0 e))
 
 other_same : (device : State) (segment : List ℕ) → is_segment segment ≡ true → id_of segment ≢ (device.sessions.taken + 1) % 16
-    → (hears_in_segments device segment).device ≡ device
+    → ((hears_in_segments device segment).device ≡ device) × ((0 < device.sessions.taken) ⊎ ((hears_in_segments device segment).replies ≡ []))
 unfolding hears_in_segments hears_segment
-other_same device segment is other = rw (is, differs (id_of segment) ((device.sessions.taken + 1) % 16) other) (by (nat_lt 0 device.sessions.taken && (id_of segment == segment_session device.sessions.taken) && ends_its_datagram segment))
+other_same device segment is other =
+    rw (is, differs (id_of segment) ((device.sessions.taken + 1) % 16) other)
+    (by (nat_lt 0 device.sessions.taken) refl (id_of segment == segment_session device.sessions.taken) (ends_its_datagram segment))
   where
-    by : (b : Bool) → (if b then repeats_segment device segment else silent device).device ≡ device
-    by true = refl
-    by false = refl
+    by : (a : Bool) → nat_lt 0 device.sessions.taken ≡ a → (b d : Bool) → ((if a && b && d then repeats_segment device segment else silent device).device ≡ device)
+        × ((0 < device.sessions.taken) ⊎ ((if a && b && d then repeats_segment device segment else silent device).replies ≡ []))
+    by true some true true = (refl, inl (grind (arith, some)))
+    by true some true false = (refl, inr refl)
+    by true some false d = (refl, inr refl)
+    by false none b d = (refl, inr refl)
 
 pub other_segment : (device : State) (message segment drawn : List ℕ) (session : ℕ) → device.kind ≡ Configurable
     → IsPart message (session % 16) segment → session % 16 ≢ (device.sessions.taken + 1) % 16 → IsLeft device (device_after device (Hears segment drawn))
@@ -224,8 +221,15 @@ other_segment device message segment drawn session kind part other =
     if_awake device segment drawn
     (let same : (hears_by device.kind (active device) segment drawn).device ≡ active device =
     ap (λ (k : Kind). (hears_by k (active device) segment drawn).device) kind
-    ∙ other_same (active device) segment (segment_is message segment (session % 16) part) (λ e. other (sym part.session ∙ e)) in
+    ∙ (other_same (active device) segment (segment_is message segment (session % 16) part) (λ e. other (sym part.session ∙ e))).0 in
     subst (λ (new : State). IsLeft (active device) new) (sym same) (left (active device)))
+
+pub other_says : (device : State) (message segment drawn : List ℕ) (session : ℕ) → device.awake ≡ true → device.kind ≡ Configurable
+    → IsPart message (session % 16) segment → session % 16 ≢ (device.sessions.taken + 1) % 16 → (0 < device.sessions.taken) ⊎ (device_replies device (Hears segment drawn) ≡ [])
+unfolding device_replies
+other_says device message segment drawn session awake kind part other =
+    subst (λ (o : Outcome). (0 < device.sessions.taken) ⊎ (o.replies ≡ [])) (sym (by_kind device segment drawn awake kind))
+    (other_same (active device) segment (segment_is message segment (session % 16) part) (λ e. other (sym part.session ∙ e))).1
 
 -- ---- at other devices
 
@@ -258,3 +262,6 @@ pub segment_elsewhere : (device : State) (message segment drawn : List ℕ) (ses
     → IsPart message (session % 16) segment → IsLeft device (device_after device (Hears segment drawn))
 segment_elsewhere device message segment drawn session not known part =
     if_awake device segment drawn (kind_elsewhere device.kind (active device) segment drawn not (segment_no_get segment part.sound.sized.plain.intact.segment) known)
+
+pub part_no_get : (message segment : List ℕ) (id : ℕ) → IsPart message id segment → IsNoGet segment
+part_no_get message segment id part = segment_no_get segment part.sound.sized.plain.intact.segment

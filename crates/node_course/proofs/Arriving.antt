@@ -1,14 +1,15 @@
 -- Frames arrive, or are heard again, in the course of one node.
-use Rattle.std.proofs.Common.{◌≡◌, ◌≢◌, ℕ, zero, suc, ◌+◌, ◌-◌, ◌<◌, ◌==◌, Bool, true, false, if◌then◌else◌, Option, Some, None, List, [], ◌∷◌, ◌++◌, length, refl, ap, sym, ◌∙◌, subst, append-nil, arith}
+use Rattle.std.proofs.Common.{◌≡◌, ◌≢◌, ℕ, zero, suc, ◌+◌, ◌-◌, ◌<◌, ◌==◌, inl, inr, Bool, true, false, if◌then◌else◌, Option, Some, None, List, [], ◌∷◌, ◌++◌, length, refl, ap, sym, ◌∙◌, subst, append-nil, arith}
 use Rattle.std.specs.Prelude.{slice_get}
 use Rattle.std.specs.Option.{option_map}
 use Rattle.std.proofs.lemmas.Bool.{eqb-true}
 use Rattle.supervision.specs.Host.{HostBook, begun_of}
+use Rattle.supervision.specs.Device.{Taken}
 use Rattle.supervision.specs.Ends.{Report}
 use Rattle.courses.specs.Flying.{Flight}
 use Rattle.courses.specs.SessionFacts.{CourseFacts}
 use Rattle.courses.specs.SessionLaws.{NamesOne}
-use Rattle.courses.specs.Sessions.{Course, Message, IsFresh, IsFreshCargo, Cargo, Command, Of_host, Answer, Of_node, Lands as lands_step, Repeats as repeats_step, hears, lands, repeats, MayRepeat}
+use Rattle.courses.specs.Sessions.{Course, Message, IsFresh, IsFreshCargo, Cargo, Command, Of_host, Answer, Of_node, Step, Lands as lands_step, Repeats as repeats_step, hears, lands, repeats, after, after_message, kept_after, May, MayRepeat}
 use Rattle.route_table.specs.declared.route.Route.{Route}
 use Rattle.air_frames.specs.declared.frame.Heading.{Heading}
 use Rattle.air_frames.specs.declared.frame.Heading.TheVariants.{Outward, Homeward}
@@ -32,8 +33,8 @@ use Rattle.device_facts.proofs.Telling.{place_is, listener_is, fate_listens}
 use Rattle.node_course.specs.Ways.{Goes}
 use Rattle.node_course.specs.Meaning.{Asked, HostMeans, NodeMeans}
 use Rattle.node_course.specs.Air.{BearsBy, OnAir, Lands, WasThere}
-use Rattle.node_course.specs.Device.{AtDevice, GoesAs}
-use Rattle.node_course.specs.Making.{Makes, AllMake, Names}
+use Rattle.node_course.specs.Device.{AtDevice, HearsAs}
+use Rattle.node_course.specs.Making.{Makes, AllMake, NamesNext, Names}
 use Rattle.node_course.specs.Mesh.{InMesh, brought_by, brought, MeshGoes}
 use Rattle.node_course.proofs.Thinning.{goes_nowhere, goes_once}
 use Rattle.node_course.proofs.Replies.{Flying, Airs, KeepsWays, Stands, stands_of, ways_stay, airs_of, mesh_then, device_moves, device_goes}
@@ -74,37 +75,41 @@ done_brings Homeward number status dead = refl
 
 -- ---- what a frame that is heard leaves
 
-heard_airs : (node : ℕ) (orders : List Asked) (c : Course) (air : AirState) (since : ℕ) (cargo : Cargo) → Airs node orders c air → Airs node orders (hears c since cargo false) air
-heard_airs node orders c air since (Command message) a = record { log = a.log; flights = a.flights; on_air = record { fly = a.on_air.fly; flying = a.on_air.flying; flown = a.on_air.flown; begun = a.on_air.begun } }
-heard_airs node orders c air since Of_host a = a
-heard_airs node orders c air since (Answer session status) a = record { log = a.log; flights = a.flights; on_air = record { fly = a.on_air.fly; flying = a.on_air.flying; flown = a.on_air.flown; begun = a.on_air.begun } }
-heard_airs node orders c air since Of_node a = a
+heard_airs : (node : ℕ) (orders : List Asked) (c : Course) (air : AirState) (since : ℕ) (cargo : Cargo) (is_whole : Bool) → Airs node orders c air → Airs node orders (hears c since cargo is_whole) air
+heard_airs node orders c air since (Command message) is_whole a =
+    record { log = a.log; flights = a.flights; on_air = record { fly = a.on_air.fly; flying = a.on_air.flying; flown = a.on_air.flown; begun = a.on_air.begun } }
+heard_airs node orders c air since Of_host is_whole a = a
+heard_airs node orders c air since (Answer session status) is_whole a =
+    record { log = a.log; flights = a.flights; on_air = record { fly = a.on_air.fly; flying = a.on_air.flying; flown = a.on_air.flown; begun = a.on_air.begun } }
+heard_airs node orders c air since Of_node is_whole a = a
 
 -- a payload of the host leaves the ways
-heard_ways : (a c : Course) (orders : List Asked) (commands payload : List ℕ) (since : ℕ) (cargo : Cargo) → HostMeans orders commands payload cargo → KeepsWays a c → KeepsWays a (hears c since cargo false)
-heard_ways a c orders commands payload since (Command message) means ways = record { host = ways.host; sent = ways.sent; up = ways.up; down = ways.down; told = ways.told }
-heard_ways a c orders commands payload since Of_host means ways = ways
-heard_ways a c orders commands payload since (Answer session status) means ways = absurd means
-heard_ways a c orders commands payload since Of_node means ways = absurd means
+heard_ways : (a c : Course) (orders : List Asked) (commands payload : List ℕ) (since : ℕ) (cargo : Cargo) (is_whole : Bool) → HostMeans orders commands payload cargo → KeepsWays a c → KeepsWays a (hears c since cargo is_whole)
+heard_ways a c orders commands payload since (Command message) is_whole means ways = record { host = ways.host; sent = ways.sent; up = ways.up; down = ways.down; told = ways.told }
+heard_ways a c orders commands payload since Of_host is_whole means ways = ways
+heard_ways a c orders commands payload since (Answer session status) is_whole means ways = absurd means
+heard_ways a c orders commands payload since Of_node is_whole means ways = absurd means
 
 -- it begins no session
-heard_host : (c : Course) (since : ℕ) (cargo : Cargo) → (hears c since cargo false).host ≡ c.host
-heard_host c since (Command message) = refl
-heard_host c since Of_host = refl
-heard_host c since (Answer session status) = refl
-heard_host c since Of_node = refl
+heard_host : (c : Course) (since : ℕ) (cargo : Cargo) (is_whole : Bool) → (hears c since cargo is_whole).host ≡ c.host
+heard_host c since (Command message) is_whole = refl
+heard_host c since Of_host is_whole = refl
+heard_host c since (Answer session status) is_whole = refl
+heard_host c since Of_node is_whole = refl
 
 -- the laws that are used
 pub record Laws : Type 0 where
   pub flying : Flying
   pub same : (device : State) (event : DeviceEvent) → IsSame device (device_after device event)
   pub hears : (orders : List Asked) (commands : List ℕ) (c : Course) (device : State) (since : ℕ) (cargo : Cargo) (payload drawn : List ℕ) → AtDevice c device → device.awake ≡ true → HostMeans orders commands payload cargo
-      → GoesAs (hears c since cargo false) device (Hears payload drawn)
+      → Names c.device cargo → Makes orders commands device → HearsAs c device since cargo (Hears payload drawn)
   pub makes : (orders : List Asked) (commands : List ℕ) (c : Course) (device : State) (cargo : Cargo) (payload drawn : List ℕ) → AtDevice c device → device.awake ≡ true → HostMeans orders commands payload cargo
       → Names c.device cargo → Makes orders commands device → Makes orders commands (device_after device (Hears payload drawn))
   pub landing_names : (c : Course) (message : Message) (begun : ℕ) (later : List (Flight Cargo)) → CourseFacts c → c.air ≡ record { cargo = Command message; since = begun } ∷ later → NamesOne c.device message
   pub repeated_names : (c : Course) (message : Message) (begun at : ℕ) → CourseFacts c → slice_get c.old at ≡ Some (record { cargo = Command message; since = begun }) → IsFresh (begun_of c.host) begun message.is_segment
       → NamesOne c.device message
+  pub facts : (c : Course) (step : Step) → CourseFacts c → May c step → CourseFacts (after c step)
+  pub kept : (c : Course) (session : ℕ) → CourseFacts c → c.kept ≡ Some session → session ≡ c.device.taken + 1
   pub next : (log : List Mark) (flight : Flown) (later : List Flown) (frames : FramesState) → Fly log (flight ∷ later) frames → next_of frames ≡ Some flight
   pub none : (log : List Mark) (frames : FramesState) → Fly log [] frames → next_of frames ≡ None
   pub lands : (node : ℕ) (orders : List Asked) (host : HostBook) (air old : List (Flight Cargo)) (log : List Mark) (frame : Flown) (later : List Flown) (frames : FramesState)
@@ -123,15 +128,22 @@ awake_at_place devices node place device e stood = by (place_of node devices) re
     by None is = absurd (let bad : None ≡ Some place = sym (ap (λ (o : Option ℕ). awake_at devices o) is) ∙ e in grind (arith, bad))
     by (Some there) is = awake there (is_awake (slice_get devices there)) refl (sym (ap (λ (o : Option ℕ). awake_at devices o) is) ∙ e)
 
+-- a course that keeps a segment knows of which session it is
+next_named : Laws → (c : Course) (message : Message) (since : ℕ) → CourseFacts (hears c since (Command message) false) → NamesNext c.device message
+next_named laws c message since facts segment next =
+    let keeps : kept_after c.device c.kept message false ≡ Some message.session = rw (segment, next) refl in
+    let same : after_message c.device message false ≡ c.device = rw segment refl in
+    laws.kept (hears c since (Command message) false) message.session facts keeps ∙ ap (λ (t : Taken). t.taken + 1) same
+
 module _ (laws : Laws) (node : ℕ) (orders : List Asked) where
   -- ---- by a device
 
   -- the frame that is heard is the course's flight; the course goes from `c` to where it was heard, and `before` is what is there without it
   device_hears : (c before : Course) (mesh : Mesh) (frame : Flown) (flight : Flight Cargo) (place : ℕ) (device : State) (drawn : List ℕ) (route : Option Route)
-      → Goes c (hears before flight.since flight.cargo false) → KeepsWays c before → Airs node orders before mesh.air → Stands node orders before mesh.devices
+      → ((is_whole : Bool) → Goes c (hears before flight.since flight.cargo is_whole)) → Goes c before → KeepsWays c before → Airs node orders before mesh.air → Stands node orders before mesh.devices
       → BearsBy Outward (frame.node == node) orders before.host.commands frame flight → listener_of frame.node mesh.devices ≡ Some place → slice_get mesh.devices place ≡ Some device → Names before.device flight.cargo
       → MeshGoes node orders c (heard_at mesh place (Some device) frame.node route (Hears frame.payload drawn)) []
-  device_hears c before mesh frame flight place device drawn route goes ways airs h bears listens stood names = by (frame.node == node) refl bears
+  device_hears c before mesh frame flight place device drawn route goes still ways airs h bears listens stood names = by (frame.node == node) refl bears
     where
       event : DeviceEvent
       event = Hears frame.payload drawn
@@ -139,25 +151,43 @@ module _ (laws : Laws) (node : ℕ) (orders : List Asked) where
       named : device.node ≡ frame.node
       named = place_is frame.node mesh.devices place device (listener_is frame.node mesh.devices place listens) stood
 
+      awake : device.awake ≡ true
+      awake = awake_at_place mesh.devices frame.node place device listens stood
+
       by : (b : Bool) → (frame.node == node) ≡ b → BearsBy Outward b orders before.host.commands frame flight → MeshGoes node orders c (heard_at mesh place (Some device) frame.node route (Hears frame.payload drawn)) []
-      by true e (since, means) =
-          let mine : device.node ≡ node = named ∙ eqb-true frame.node node e in
-          let found : Some device ≡ Some h.has.device = sym stood ∙ (ap (λ (k : ℕ). slice_get mesh.devices k) (h.has.alone place device stood mine) ∙ h.has.stands) in
-          let one : device ≡ h.has.device = cc in
-          let at : AtDevice before device = subst (λ (d : State). AtDevice before d) (sym one) h.has.at in
-          let now : Course = hears before flight.since flight.cargo false in
-          mesh_then node orders c now _ goes (heard_ways c before orders before.host.commands frame.payload flight.since flight.cargo means ways)
-          (device_goes laws.flying laws.same node orders before now mesh place frame.node device (Hears frame.payload drawn) (option_map backwards route) h.has
-          (heard_airs node orders before mesh.air flight.since flight.cargo airs) stood (sym named)
-          (λ own. laws.hears orders before.host.commands before device flight.since flight.cargo frame.payload drawn at (awake_at_place mesh.devices frame.node place device listens stood) means)
-          (λ apart. absurd (apart mine))
-          (subst (λ (b : HostBook). AllMake node orders b.commands mesh.devices) (sym (heard_host before flight.since flight.cargo)) h.made)
-          (λ own. subst (λ (b : HostBook). Makes orders b.commands (device_after device (Hears frame.payload drawn))) (sym (heard_host before flight.since flight.cargo))
-          (laws.makes orders before.host.commands before device flight.cargo frame.payload drawn at (awake_at_place mesh.devices frame.node place device listens stood) means names (h.made place device stood mine))))
+      by true e (since, means) = as_heard (laws.hears orders before.host.commands before device flight.since flight.cargo frame.payload drawn at awake means names makes)
+        where
+          mine : device.node ≡ node
+          mine = named ∙ eqb-true frame.node node e
+
+          at : AtDevice before device
+          at =
+              let found : Some device ≡ Some h.has.device = sym stood ∙ (ap (λ (k : ℕ). slice_get mesh.devices k) (h.has.alone place device stood mine) ∙ h.has.stands) in
+              let one : device ≡ h.has.device = cc in
+              subst (λ (d : State). AtDevice before d) (sym one) h.has.at
+
+          makes : Makes orders before.host.commands device
+          makes = h.made place device stood mine
+
+          made : Makes orders before.host.commands (device_after device event)
+          made = laws.makes orders before.host.commands before device flight.cargo frame.payload drawn at awake means names makes
+
+          as_heard : HearsAs before device flight.since flight.cargo event → MeshGoes node orders c (heard_at mesh place (Some device) frame.node route (Hears frame.payload drawn)) []
+          as_heard (inl (is_whole, heard)) =
+              let now : Course = hears before flight.since flight.cargo is_whole in
+              let same : now.host ≡ before.host = heard_host before flight.since flight.cargo is_whole in
+              mesh_then node orders c now _ (goes is_whole) (heard_ways c before orders before.host.commands frame.payload flight.since flight.cargo is_whole means ways)
+              (device_goes laws.flying laws.same node orders before now mesh place frame.node device (Hears frame.payload drawn) (option_map backwards route) h.has
+              (heard_airs node orders before mesh.air flight.since flight.cargo is_whole airs) stood (sym named) (λ own. heard) (λ apart. absurd (apart mine))
+              (subst (λ (b : HostBook). AllMake node orders b.commands mesh.devices) (sym same) h.made)
+              (λ own. subst (λ (b : HostBook). Makes orders b.commands (device_after device (Hears frame.payload drawn))) (sym same) made))
+          as_heard (inr (segment, unheard)) =
+              mesh_then node orders c before _ still ways
+              (device_goes laws.flying laws.same node orders before before mesh place frame.node device (Hears frame.payload drawn) (option_map backwards route) h.has airs stood (sym named)
+              (λ own. unheard) (λ apart. h.has.at) h.made (λ own. made))
       by false e other =
-          let nothing : hears before flight.since flight.cargo false ≡ before = ap (λ (cargo : Cargo). hears before flight.since cargo false) other in
           let apart : device.node ≢ node = λ mine. let bad : (frame.node == node) ≡ false = e in let same : frame.node ≡ node = sym named ∙ mine in grind (arith, bad, same) in
-          mesh_then node orders c before _ (subst (λ (x : Course). Goes c x) nothing goes) ways
+          mesh_then node orders c before _ still ways
           (device_goes laws.flying laws.same node orders before before mesh place frame.node device (Hears frame.payload drawn) (option_map backwards route) h.has airs stood (sym named)
           (λ own. absurd (apart own)) (λ apart. h.has.at) h.made (λ own. absurd (apart own)))
 
@@ -207,7 +237,7 @@ module _ (laws : Laws) (node : ℕ) (orders : List Asked) where
                 place = h.has.place;
                 first = h.has.first;
                 stands = h.has.stands;
-                at = record { sessions = h.has.at.sessions; none_kept = h.has.at.none_kept; empty = h.has.at.empty; ended = h.has.at.ended; can = h.has.at.can; is_open = h.has.at.is_open };
+                at = record { sessions = h.has.at.sessions; kept = h.has.at.kept; ended = h.has.at.ended; can = h.has.at.can; is_open = h.has.at.is_open };
                 alone = h.has.alone;
                 nodes = h.has.nodes;
               };
@@ -258,8 +288,8 @@ module _ (laws : Laws) (node : ℕ) (orders : List Asked) where
     abbrev before : Course
     before = record c { air = l.flights }
 
-    heard : Goes c (hears before l.flight.since l.flight.cargo false)
-    heard = subst (λ (flights : List (Flight Cargo)). Goes c (lands c flights true false)) l.first (goes_once c (lands_step true false) tt)
+    heard : (is_whole : Bool) → Goes c (hears before l.flight.since l.flight.cargo is_whole)
+    heard is_whole = subst (λ (flights : List (Flight Cargo)). Goes c (lands c flights true is_whole)) l.first (goes_once c (lands_step true is_whole) tt)
 
     missed : Goes c before
     missed = subst (λ (flights : List (Flight Cargo)). Goes c (lands c flights false false)) l.first (goes_once c (lands_step false false) tt)
@@ -275,7 +305,10 @@ module _ (laws : Laws) (node : ℕ) (orders : List Asked) where
 
     names : (cargo : Cargo) → l.flight.cargo ≡ cargo → Names c.device cargo
     names (Command message) is =
-        laws.landing_names c message l.flight.since l.flights course (l.first ∙ ap (λ (cargo : Cargo). record { cargo = cargo; since = l.flight.since } ∷ l.flights) is)
+        let heard : CourseFacts (hears before l.flight.since l.flight.cargo false) = subst (λ (flights : List (Flight Cargo)). CourseFacts (lands c flights true false)) l.first (laws.facts c (lands_step true false) course tt) in (
+          laws.landing_names c message l.flight.since l.flights course (l.first ∙ ap (λ (cargo : Cargo). record { cargo = cargo; since = l.flight.since } ∷ l.flights) is),
+          next_named laws before message l.flight.since (subst (λ (cargo : Cargo). CourseFacts (hears before l.flight.since cargo false)) is heard),
+        )
     names Of_host is = tt
     names (Answer session status) is = tt
     names Of_node is = tt
@@ -297,7 +330,7 @@ module _ (laws : Laws) (node : ℕ) (orders : List Asked) where
         brought-append (outs_hearing now.air number frame.node route one (Hears frame.payload drawn)) (Done number (status_of mesh.air) None ∷ [])
         ∙ ap (λ g. g ++ []) (hearing_brings now.air number frame.node route one (Hears frame.payload drawn)) in
         subst (λ g. MeshGoes node orders c (heard_at now place (Some one) frame.node route (Hears frame.payload drawn)) g) (sym nothing)
-        (device_hears c before now frame l.flight place one drawn route heard ways (there (landed (acknowledged mesh.air)) refl) device
+        (device_hears c before now frame l.flight place one drawn route heard missed ways (there (landed (acknowledged mesh.air)) refl) device
         (subst (λ (heading : Heading). BearsBy heading (frame.node == node) orders c.host.commands frame l.flight) outward l.bears) listens stood (names l.flight.cargo refl))
 
     by_fate : (number : ℕ) (x : Fate) → fate_of mesh.air.network mesh.devices frame ≡ x → MeshGoes node orders c (arriving_as mesh frame x drawn route) (brought (arrival_outs_as mesh number frame x drawn route))
@@ -306,7 +339,7 @@ module _ (laws : Laws) (node : ℕ) (orders : List Asked) where
     by_fate number fate.Missed is = lost_by (Unheard number) 1 None number refl
     by_fate number fate.AtChip is =
         let home : frame.heading ≡ Homeward = home_by frame.lost (dead_hop_of mesh.air.network frame) frame.heading (listener_of frame.node mesh.devices) is in
-        chip_hears c before (record mesh { air = landed mesh.air }) frame l.flight heard missed ways (there (landed mesh.air) refl) device
+        chip_hears c before (record mesh { air = landed mesh.air }) frame l.flight (heard false) missed ways (there (landed mesh.air) refl) device
         (subst (λ (heading : Heading). BearsBy heading (frame.node == node) orders c.host.commands frame l.flight) home l.bears)
     by_fate number (fate.AtDevice place) is = at_device number place (slice_get mesh.devices place) refl is
 
@@ -324,15 +357,19 @@ module _ (laws : Laws) (node : ℕ) (orders : List Asked) where
   -- ---- a frame is heard again
 
   module _ (c : Course) (mesh : Mesh) (number : ℕ) (frame : Flown) (course : CourseFacts c) (is : InMesh node orders c mesh) (was : WasThere node orders c.host c.old frame) (drawn : List ℕ) (route : Option Route) where
-    again : Goes c (hears c was.flight.since was.flight.cargo false)
-    again =
-        subst (λ (found : Option (Flight Cargo)). Goes c (repeats c found false)) was.found
-        (goes_once c (repeats_step was.at false) (subst (λ (found : Option (Flight Cargo)). MayRepeat c found) (sym was.found) was.fresh))
+    may_repeat : MayRepeat c (slice_get c.old was.at)
+    may_repeat = subst (λ (found : Option (Flight Cargo)). MayRepeat c found) (sym was.found) was.fresh
+
+    again : (is_whole : Bool) → Goes c (hears c was.flight.since was.flight.cargo is_whole)
+    again is_whole = subst (λ (found : Option (Flight Cargo)). Goes c (repeats c found is_whole)) was.found (goes_once c (repeats_step was.at is_whole) may_repeat)
 
     names_again : (cargo : Cargo) → was.flight.cargo ≡ cargo → Names c.device cargo
     names_again (Command message) is =
-        laws.repeated_names c message was.flight.since was.at course (was.found ∙ ap (λ (cargo : Cargo). Some (record { cargo = cargo; since = was.flight.since })) is)
-        (subst (λ (cargo : Cargo). IsFreshCargo (begun_of c.host) was.flight.since cargo) is was.fresh)
+        let heard : CourseFacts (hears c was.flight.since was.flight.cargo false) = subst (λ (found : Option (Flight Cargo)). CourseFacts (repeats c found false)) was.found (laws.facts c (repeats_step was.at false) course may_repeat) in (
+          laws.repeated_names c message was.flight.since was.at course (was.found ∙ ap (λ (cargo : Cargo). Some (record { cargo = cargo; since = was.flight.since })) is)
+              (subst (λ (cargo : Cargo). IsFreshCargo (begun_of c.host) was.flight.since cargo) is was.fresh),
+          next_named laws c message was.flight.since (subst (λ (cargo : Cargo). CourseFacts (hears c was.flight.since cargo false)) is heard),
+        )
     names_again Of_host is = tt
     names_again (Answer session status) is = tt
     names_again Of_node is = tt
@@ -342,7 +379,7 @@ module _ (laws : Laws) (node : ℕ) (orders : List Asked) where
     device_again place None stood listens outward = unheard c c mesh (goes_nowhere c) (ways_stay c) (airs_of node orders c mesh is) (stands_of node orders c mesh is)
     device_again place (Some one) stood listens outward =
         subst (λ g. MeshGoes node orders c (heard_at mesh place (Some one) frame.node route (Hears frame.payload drawn)) g) (sym (hearing_brings mesh.air number frame.node route one (Hears frame.payload drawn)))
-        (device_hears c c mesh frame was.flight place one drawn route again (ways_stay c) (airs_of node orders c mesh is) (stands_of node orders c mesh is)
+        (device_hears c c mesh frame was.flight place one drawn route again (goes_nowhere c) (ways_stay c) (airs_of node orders c mesh is) (stands_of node orders c mesh is)
         (subst (λ (heading : Heading). BearsBy heading (frame.node == node) orders c.host.commands frame was.flight) outward was.bears) listens stood (names_again was.flight.cargo refl))
 
     listener_again : (listener : Option ℕ) → listener_of frame.node mesh.devices ≡ listener → frame.heading ≡ Outward
@@ -353,7 +390,7 @@ module _ (laws : Laws) (node : ℕ) (orders : List Asked) where
     again_by : (heading : Heading) → frame.heading ≡ heading → MeshGoes node orders c (repeating_by heading mesh frame drawn route) (brought (repeat_outs_by heading mesh number frame drawn route))
     again_by Outward e = listener_again (listener_of frame.node mesh.devices) refl e
     again_by Homeward e =
-        chip_hears c c mesh frame was.flight again (goes_nowhere c) (ways_stay c) (airs_of node orders c mesh is) (stands_of node orders c mesh is)
+        chip_hears c c mesh frame was.flight (again false) (goes_nowhere c) (ways_stay c) (airs_of node orders c mesh is) (stands_of node orders c mesh is)
         (subst (λ (heading : Heading). BearsBy heading (frame.node == node) orders c.host.commands frame was.flight) e was.bears)
 
   repeats_by : (c : Course) (mesh : Mesh) (number : ℕ) (drawn : List ℕ) (route : Option Route) (found : Option Flown) → remembered mesh.air.frames number ≡ found → node < 233 → CourseFacts c → InMesh node orders c mesh → refusal_of mesh.air.frames number ≡ None

@@ -1,19 +1,19 @@
 -- The device of a node goes on as its course has it.
-use Rattle.std.proofs.Common.{◌≡◌, ◌≢◌, ℕ, zero, suc, ◌+◌, ◌<◌, ◌≤◌, ◌==◌, ◌⊎◌, inl, inr, Bool, true, false, ◌&&◌, not, if◌then◌else◌, Option, Some, None, List, [], ◌∷◌, ◌++◌, length, refl, ap, sym, ◌∙◌, subst, append-nil, arith}
+use Rattle.std.proofs.Common.{◌≡◌, ◌≢◌, ℕ, zero, suc, ◌+◌, ◌%◌, ◌<◌, ◌≤◌, ◌==◌, ◌⊎◌, inl, inr, Bool, true, false, ◌&&◌, not, if◌then◌else◌, Option, Some, None, List, [], ◌∷◌, ◌++◌, length, refl, ap, sym, ◌∙◌, subst, append-nil, arith}
 use Rattle.std.specs.List.{AllByRecursion}
 use Rattle.std.proofs.lemmas.List.{length-append}
 use Rattle.std.proofs.lemmas.Bool.{eqb-true}
-use Rattle.std.proofs.lemmas.Bool.Decides.{nat_tests}
+use Rattle.std.proofs.lemmas.Bool.Decides.{Decides-eqb, nat_tests}
 use Rattle.zw_order.specs.declared.order.Order.{Order}
 use Rattle.supervision.specs.Session.{wire_id}
-use Rattle.supervision.specs.Device.{Taken, is_new, heard_of, finished}
+use Rattle.supervision.specs.Device.{Taken, is_new, heard_of, after_get, finished}
 use Rattle.supervision.specs.declared.session.TheConstants.{WORKING, SUCCESS}
 use Rattle.courses.specs.Parts.{numbered}
-use Rattle.courses.specs.Sessions.{Course, Message, Cargo, Command, Of_host, Answer, Of_node, first_course, hears, after_message, kept_after, MayAll, after_all}
-use Rattle.transport_segments.specs.Kept.{Reassembly, Empty, Partial}
+use Rattle.courses.specs.Sessions.{Course, Message, Cargo, Command, Of_host, Answer, Of_node, first_course, hears, is_segment_of_next, after_message, kept_after, MayAll, after_all}
+use Rattle.transport_segments.specs.Kept.{Reassembly}
+use Rattle.transport_segments.specs.Runs.{IsPart}
 use Rattle.transport_segments.specs.Taking.{is_segment}
 use Rattle.encap.specs.Opening.{opened_at}
-use Rattle.encap.specs.declared.plan.Supervised.{Supervised}
 use Rattle.host_orders.specs.Refusals.{IsFit}
 use Rattle.host_orders.specs.Wrapping.{message_of, supervised_of}
 use Rattle.host_orders.specs.declared.carriage.Carriage.{Carriage}
@@ -32,15 +32,13 @@ use Rattle.message_facts.specs.Asking.{message_in, takes_openly, verdict_on, IsL
 use Rattle.message_facts.specs.Landing.{HasLanded, IsOf, LandsAs}
 use Rattle.message_facts.specs.Others.{IsOther}
 use Rattle.message_facts.specs.Reporting.{TellsOwn, TellsTrue, CanSay}
-use Rattle.host_orders.specs.Wrapping.{ends_of}
-use Rattle.encap.specs.Written.{addressed_form, supervised_form}
-use Rattle.encap.specs.declared.plan.Outer.{Outer}
-use Rattle.encap.specs.declared.plan.Outer.TheVariants.{None as no_outer, Crc16, Security, Transport}
-use Rattle.encap.specs.declared.plan.Ends.{Ends}
 use Rattle.device_stack.specs.Hearing.{hears_in_segments}
-use Rattle.node_course.specs.Meaning.{Asked, IsMessageOf, HostMeans}
-use Rattle.node_course.specs.Device.{AtDevice, finishes, Says, GoesAs}
-use Rattle.node_course.proofs.Saying.{IsBare, openly_bare, AllTaken, get_taken, later, openly_same, never_own, all_said, all_taken, weaken_taken, ticks_bare, wakes_bare, wakes_same, sets_bare_all, sets_same}
+use Rattle.message_facts.specs.Segments.{KeepsPart, IsWhole, KeepsSegment, MakesWhole}
+use Rattle.node_course.specs.Meaning.{Asked, IsMessageOf, IsSegmentOf, IsMessage, HostMeans}
+use Rattle.node_course.specs.Making.{KeepsNext, Makes, NamesNext, Names}
+use Rattle.node_course.specs.Device.{AtDevice, finishes, Says, GoesAs, HearsAs}
+use Rattle.node_course.proofs.Segments.{Laws as SegmentLaws, message_whole, knows_supervision, part_of, IsNext, IsAnother, segment_heard}
+use Rattle.node_course.proofs.Saying.{IsBare, AllOwnTaken, in_segments_bare, none_own, openly_bare, AllTaken, get_taken, later, openly_same, never_own, all_said, all_taken, weaken_taken, ticks_bare, wakes_bare, wakes_same, sets_bare_all, sets_same}
 
 -- ---- statuses that are added
 
@@ -145,20 +143,19 @@ adds old new between ends more was is took (inr (status, (busy, (final, done))))
 
 -- ---- one event
 
--- the course may go on by itself before, in what it knows of the device: it knows the same of segments and of statuses
-event_goes : (c : Course) (device : State) (event : DeviceEvent) (ends more : List ℕ) → HasEnded device ends → c.ends ≡ ends → c.kept ≡ None
-    → HasEnded (device_after device event) (ends ++ more) → Took device.sessions c.device → Ended c.device (device_after device event).sessions → (device_after device event).reassembly ≡ Empty
+-- the course may go on by itself before, in what it knows of the device: it knows the same of statuses, and where segments are kept, of which session
+event_goes : (c : Course) (device : State) (event : DeviceEvent) (ends more : List ℕ) → HasEnded device ends → c.ends ≡ ends → IsOf (device_after device event).reassembly c.kept
+    → HasEnded (device_after device event) (ends ++ more) → Took device.sessions c.device → Ended c.device (device_after device event).sessions
     → CanSay (device_after device event) → takes_openly (device_after device event).kind ≡ true
     → AllByRecursion (Says (device_after device event).sessions) (device_replies device event) → GoesAs c device event
-event_goes c device event ends more was ends_are kept is took ended empty can plain says =
+event_goes c device event ends more was ends_are kept is took ended can plain says =
     let a = adds device (device_after device event) c.device ends more was is took ended in
     record {
       final = a.final;
       may = a.may c refl;
       at = record {
         sessions = a.device c refl;
-        none_kept = none_kept a.final;
-        empty = empty;
+        kept = still_kept a.final;
         ended = a.ended c ends_are;
         can = can;
         is_open = plain;
@@ -166,9 +163,9 @@ event_goes c device event ends more was ends_are kept is took ended empty can pl
       says = says;
     }
   where
-    none_kept : (final : Option ℕ) → (after_all c (finishes final)).kept ≡ None
-    none_kept None = kept
-    none_kept (Some status) = kept
+    still_kept : (final : Option ℕ) → IsOf (device_after device event).reassembly (after_all c (finishes final)).kept
+    still_kept None = kept
+    still_kept (Some status) = kept
 
 -- ---- the laws of devices and of what they say
 
@@ -184,32 +181,21 @@ pub record Laws : Type 0 where
   pub fresh_can : (node : ℕ) (kind : Kind) (key : List ℕ) → CanSay (fresh node kind key)
   pub can : (device : State) (event : DeviceEvent) → CanSay device → CanSay (device_after device event)
   pub same : (device : State) (event : DeviceEvent) → IsSame device (device_after device event)
+  pub part_lands : (old new : State) (message : List ℕ) (session : ℕ) → session % 16 ≡ (old.sessions.taken + 1) % 16 → KeepsPart message (session % 16) old new → LandsAs old new (record { session = session; is_segment = true }) false
+  pub whole_lands : (old heard new : State) (verdict : Verdict) (session : ℕ) → session % 16 ≡ (old.sessions.taken + 1) % 16 → Follows old heard verdict (heard_of old.sessions (wire_id session)) → IsWhole heard new
+      → LandsAs old new (record { session = session; is_segment = true }) true
+  pub segments : SegmentLaws
 
 pub fresh_at : Laws → (node : ℕ) (kind : Kind) (key : List ℕ) → takes_openly kind ≡ true → AtDevice first_course (fresh node kind key)
 fresh_at laws node kind key plain = record {
   sessions = refl;
-  none_kept = refl;
-  empty = refl;
+  kept = tt;
   ended = laws.fresh_ended node kind key;
   can = laws.fresh_can node kind key;
   is_open = plain;
 }
 
 -- ---- a payload is heard
-
--- the message of a session is no segment
-addressed_whole : (channel : Option Ends) (asked : Supervised) (text : List ℕ) → is_segment (addressed_form channel (supervised_form (Some asked) text)) ≡ false
-addressed_whole None asked text = refl
-addressed_whole (Some ends) asked text = refl
-
-message_whole : (carriage : Carriage) (order : Order) (session : ℕ) → is_segment (message_of carriage order session) ≡ false
-message_whole carriage order session = by carriage.outer refl
-  where
-    by : (outer : Outer) → carriage.outer ≡ outer → is_segment (message_of carriage order session) ≡ false
-    by Crc16 e = rw e refl
-    by no_outer e = rw e (addressed_whole (ends_of order.end) (supervised_of carriage.actuator order session) _)
-    by Security e = rw e (addressed_whole (ends_of order.end) (supervised_of carriage.actuator order session) _)
-    by Transport e = rw e (addressed_whole (ends_of order.end) (supervised_of carriage.actuator order session) _)
 
 openly_by : (kind : Kind) (device : State) (payload drawn : List ℕ) → takes_openly kind ≡ true → is_segment payload ≡ false → hears_by kind device payload drawn ≡ hears_openly device payload
 unfolding hears_in_segments
@@ -221,16 +207,6 @@ openly_by Strip device payload drawn is whole = refl
 openly_by Configurable device payload drawn is whole = rw whole refl
 openly_by Relay device payload drawn is whole = cc
 openly_by Lock device payload drawn is whole = cc
-
-pub knows_supervision : (kind : Kind) → takes_openly kind ≡ true → lists kind 0x6C ≡ true
-knows_supervision Switch is = refl
-knows_supervision Dimmer is = refl
-knows_supervision Sensor is = refl
-knows_supervision Thermostat is = refl
-knows_supervision Strip is = refl
-knows_supervision Configurable is = refl
-knows_supervision Relay is = cc
-knows_supervision Lock is = cc
 
 awake_after : (device : State) (payload drawn : List ℕ) → device.awake ≡ true → device_after device (Hears payload drawn) ≡ (hears_by device.kind (active device) payload drawn).device
 unfolding device_after outcome_of device_hears
@@ -251,6 +227,18 @@ awake_device : (device : State) (payload drawn : List ℕ) → device.awake ≡ 
     → device_after device (Hears payload drawn) ≡ (hears_openly (active device) payload).device
 awake_device device payload drawn awake plain whole = awake_after device payload drawn awake ∙ ap (λ (o : Outcome). o.device) (openly_by device.kind (active device) payload drawn plain whole)
 
+-- a message is new, or takes nothing
+took_get : (t : Taken) (id : ℕ) → Took t (after_get t id)
+took_get t id = by (is_new t id) refl
+  where
+    idle : (b : Bool) → t.status == WORKING ≡ b → ((id == wire_id (t.taken + 1)) && not b) ≡ true → t.status ≢ WORKING
+    idle true same both = absurd (grind (arith, both))
+    idle false same both = grind (arith, same, nat_tests)
+
+    by : (b : Bool) → is_new t id ≡ b → Took t (if b then record { taken = t.taken + 1; status = WORKING } else t)
+    by false e = inl refl
+    by true e = inr (idle (t.status == WORKING) refl e, refl)
+
 module _ (laws : Laws) (orders : List Asked) (commands : List ℕ) (c : Course) (device : State) (since session : ℕ) (payload drawn : List ℕ) (at : AtDevice c device) (awake : device.awake ≡ true) (is : IsMessageOf orders commands session payload) where
   abbrev message : Message
   message = record { session = session; is_segment = false }
@@ -264,30 +252,8 @@ module _ (laws : Laws) (orders : List Asked) (commands : List ℕ) (c : Course) 
   lands : LandsAs device new message false
   lands = laws.lands device new (verdict_on device is.asked.carriage is.asked.order) session (laws.follows device drawn is.asked.carriage is.asked.order session is.fit is.end awake at.is_open)
 
-  took_by : (t : Taken) (b : Bool) → is_new t (wire_id session) ≡ b → Took t (if b then record { taken = t.taken + 1; status = WORKING } else t)
-  took_by t false e = inl refl
-  took_by t true e = inr (idle (t.status == WORKING) refl e, refl)
-    where
-      idle : (b : Bool) → t.status == WORKING ≡ b → ((wire_id session == wire_id (t.taken + 1)) && not b) ≡ true → t.status ≢ WORKING
-      idle true same both = absurd (grind (arith, both))
-      idle false same both = grind (arith, same, nat_tests)
-
-  empty_of : (r : Reassembly) → IsOf r None → r ≡ Empty
-  empty_of Empty of = refl
-  empty_of (Partial id places) of = absurd of
-
-  none_of : (r : Reassembly) → r ≡ Empty → IsOf r None
-  none_of r e = rw e tt
-
-  kept_none : (b : Bool) (k : Option ℕ) → k ≡ None → (if b then None else k) ≡ None
-  kept_none true k e = refl
-  kept_none false k e = e
-
-  still_none : kept_after device.sessions None message false ≡ None
-  still_none = kept_none (is_new device.sessions (wire_id session)) None refl
-
-  empty : new.reassembly ≡ Empty
-  empty = empty_of new.reassembly (subst (λ (k : Option ℕ). IsOf new.reassembly k) still_none (lands.kept None (none_of device.reassembly at.empty)))
+  kept : IsOf new.reassembly (kept_after c.device c.kept message false)
+  kept = subst (λ (t : Taken). IsOf new.reassembly (kept_after t c.kept message false)) at.sessions (lands.kept c.kept at.kept)
 
   whole : is_segment text ≡ false
   whole = message_whole is.asked.carriage is.asked.order session
@@ -308,16 +274,17 @@ module _ (laws : Laws) (orders : List Asked) (commands : List ℕ) (c : Course) 
   message_lands : GoesAs (hears c since (Command message) false) device (Hears text drawn)
   message_lands =
       let more = laws.ended device (Hears text drawn) c.ends at.ended in
-      event_goes (hears c since (Command message) false) device (Hears text drawn) c.ends more.0 at.ended refl
-      (subst (λ (k : Option ℕ). kept_after c.device k message false ≡ None) (sym at.none_kept) (kept_none (is_new c.device (wire_id session)) None refl))
-      more.1
-      (subst (λ (t : Taken). Took t (after_message c.device message false)) (sym at.sessions) (took_by c.device (is_new c.device (wire_id session)) refl))
+      event_goes (hears c since (Command message) false) device (Hears text drawn) c.ends more.0 at.ended refl kept more.1
+      (subst (λ (t : Taken). Took t (after_message c.device message false)) (sym at.sessions) (took_get c.device (wire_id session)))
       (subst (λ (t : Taken). HasLanded t message false new.sessions) at.sessions lands.sessions)
-      empty (laws.can device (Hears text drawn) at.can) (ap takes_openly (laws.same device (Hears text drawn)).kind ∙ at.is_open)
+      (laws.can device (Hears text drawn) at.can) (ap takes_openly (laws.same device (Hears text drawn)).kind ∙ at.is_open)
       (all_said new (device_replies device (Hears text drawn)) (laws.can device (Hears text drawn) at.can) (laws.replies device (Hears text drawn) at.can) taken bare)
 
   pub message_heard : GoesAs (hears c since (Command message) false) device (Hears payload drawn)
   message_heard = subst (λ (p : List ℕ). GoesAs (hears c since (Command message) false) device (Hears p drawn)) (sym is.text) message_lands
+
+  pub message_taken : AllOwnTaken (device_after device (Hears payload drawn)) (device_replies device (Hears payload drawn))
+  message_taken = subst (λ (p : List ℕ). AllOwnTaken (device_after device (Hears p drawn)) (device_replies device (Hears p drawn))) (sym is.text) taken
 
 -- ---- an event that no session hears of
 
@@ -327,7 +294,7 @@ quiet : Laws → (c : Course) (device : State) (event : DeviceEvent) → AtDevic
     → AllByRecursion IsBare (device_replies device event) → GoesAs c device event
 quiet laws c device event at sessions kept taken bare =
     let more = laws.ended device event c.ends at.ended in
-    event_goes c device event c.ends more.0 at.ended refl at.none_kept more.1 (inl (sym at.sessions)) (inl (sessions ∙ at.sessions)) (kept ∙ at.empty)
+    event_goes c device event c.ends more.0 at.ended refl (subst (λ (r : Reassembly). IsOf r c.kept) (sym kept) at.kept) more.1 (inl (sym at.sessions)) (inl (sessions ∙ at.sessions))
     (laws.can device event at.can) (ap takes_openly (laws.same device event).kind ∙ at.is_open)
     (all_said (device_after device event) (device_replies device event) (laws.can device event at.can) (laws.replies device event at.can) taken bare)
 
@@ -353,14 +320,133 @@ other_heard laws c device payload drawn at awake other =
     (awake_replies (later device) payload drawn awake at.is_open other.1 ∙ (openly_same (active device) payload other.0 ∙ sym (awake_replies device payload drawn awake at.is_open other.1))))
     (subst (λ (rs : List (List ℕ)). AllByRecursion IsBare rs) (sym (awake_replies device payload drawn awake at.is_open other.1)) (openly_bare (active device) payload))
 
+-- ---- a segment
+
+-- where a device keeps no segments, it hears one as what is no message of a session
+openly_kind : (kind : Kind) (device : State) (payload drawn : List ℕ) → kind ≢ Configurable → takes_openly kind ≡ true → hears_by kind device payload drawn ≡ hears_openly device payload
+openly_kind Switch device payload drawn not plain = refl
+openly_kind Dimmer device payload drawn not plain = refl
+openly_kind Sensor device payload drawn not plain = refl
+openly_kind Thermostat device payload drawn not plain = refl
+openly_kind Strip device payload drawn not plain = refl
+openly_kind Configurable device payload drawn not plain = absurd (not refl)
+openly_kind Relay device payload drawn not plain = cc
+openly_kind Lock device payload drawn not plain = cc
+
+bare_kind : (kind : Kind) (device : State) (payload drawn : List ℕ) → takes_openly kind ≡ true → AllByRecursion IsBare (hears_by kind device payload drawn).replies
+bare_kind Switch device payload drawn plain = openly_bare device payload
+bare_kind Dimmer device payload drawn plain = openly_bare device payload
+bare_kind Sensor device payload drawn plain = openly_bare device payload
+bare_kind Thermostat device payload drawn plain = openly_bare device payload
+bare_kind Strip device payload drawn plain = openly_bare device payload
+bare_kind Configurable device payload drawn plain = in_segments_bare device payload
+bare_kind Relay device payload drawn plain = cc
+bare_kind Lock device payload drawn plain = cc
+
+module _ (laws : Laws) (orders : List Asked) (commands : List ℕ) (c : Course) (device : State) (since session : ℕ) (payload drawn : List ℕ) (at : AtDevice c device) (awake : device.awake ≡ true)
+    (is : IsSegmentOf orders commands session payload) (names : Names c.device (Command (record { session = session; is_segment = true }))) (keeps : KeepsNext orders commands (device.sessions.taken + 1) device.reassembly) where
+  abbrev segment : Message
+  segment = record { session = session; is_segment = true }
+
+  abbrev event : DeviceEvent
+  event = Hears payload drawn
+
+  abbrev later_device : State
+  later_device = device_after device event
+
+  named : NamesNext device.sessions segment
+  named = subst (λ (t : Taken). NamesNext t segment) (sym at.sessions) names.1
+
+  can : CanSay later_device
+  can = laws.can device event at.can
+
+  still_open : takes_openly later_device.kind ≡ true
+  still_open = ap takes_openly (laws.same device event).kind ∙ at.is_open
+
+  segment_bare : AllByRecursion IsBare (device_replies device event)
+  segment_bare = subst (λ (rs : List (List ℕ)). AllByRecursion IsBare rs) (sym (replies_awake device payload drawn awake)) (bare_kind device.kind (active device) payload drawn at.is_open)
+
+  says : AllOwnTaken later_device (device_replies device event) → AllByRecursion (Says later_device.sessions) (device_replies device event)
+  says taken = all_said later_device (device_replies device event) can (laws.replies device event at.can) taken segment_bare
+
+  -- as a course has it
+  lands_as : (is_whole : Bool) → LandsAs device later_device segment is_whole → Took device.sessions (after_message c.device segment is_whole) → AllOwnTaken later_device (device_replies device event)
+      → GoesAs (hears c since (Command segment) is_whole) device event
+  lands_as is_whole lands took taken =
+      let more = laws.ended device event c.ends at.ended in
+      event_goes (hears c since (Command segment) is_whole) device event c.ends more.0 at.ended refl
+      (subst (λ (t : Taken). IsOf later_device.reassembly (kept_after t c.kept segment is_whole)) at.sessions (lands.kept c.kept at.kept))
+      more.1 took (subst (λ (t : Taken). HasLanded t segment is_whole later_device.sessions) at.sessions lands.sessions) can still_open (says taken)
+
+  -- it is kept
+  part_heard : session % 16 ≡ (device.sessions.taken + 1) % 16 → KeepsSegment is.message (session % 16) device later_device (device_replies device event) → GoesAs (hears c since (Command segment) false) device event
+  part_heard same (k, none) =
+      lands_as false (laws.part_lands device later_device is.message session same k) (inl (sym at.sessions)) (none_own later_device (device_replies device event) none)
+
+  -- it makes the message whole
+  whole_heard : session % 16 ≡ (device.sessions.taken + 1) % 16
+      → MakesWhole (session % 16) (device_after device (Hears is.message drawn)) (device_replies device (Hears is.message drawn)) later_device (device_replies device event) → GoesAs (hears c since (Command segment) true) device event
+  whole_heard same (whole, said) =
+      let follows : Follows device (device_after device (Hears is.message drawn)) (verdict_on device is.of.asked.carriage is.of.asked.order) (heard_of device.sessions (wire_id session)) =
+      subst (λ (p : List ℕ). Follows device (device_after device (Hears p drawn)) (verdict_on device is.of.asked.carriage is.of.asked.order) (heard_of device.sessions (wire_id session))) (sym is.of.text)
+      (laws.follows device drawn is.of.asked.carriage is.of.asked.order session is.of.fit is.of.end awake at.is_open) in
+      let next : is_segment_of_next c.device session ≡ true =
+      (Decides-eqb (session % 16) ((c.device.taken + 1) % 16)).1 (subst (λ (t : Taken). session % 16 ≡ (t.taken + 1) % 16) at.sessions same) in
+      let taken : after_message c.device segment true ≡ after_get c.device (wire_id session) = ap (λ (b : Bool). if true && b then after_get c.device (wire_id session) else c.device) next in
+      lands_as true (laws.whole_lands device (device_after device (Hears is.message drawn)) later_device (verdict_on device is.of.asked.carriage is.of.asked.order) session same follows whole)
+      (subst (λ (t : Taken). Took device.sessions t) (sym taken) (subst (λ (t : Taken). Took t (after_get c.device (wire_id session))) (sym at.sessions) (took_get c.device (wire_id session))))
+      (subst (λ (rs : List (List ℕ)). AllOwnTaken later_device rs) (sym said) (
+        λ own. absurd (laws.segments.acknowledged (session % 16) _ own).0,
+        subst (λ (d : State). AllOwnTaken d (device_replies device (Hears is.message drawn))) (sym whole) (message_taken laws orders commands c device since session is.message drawn at awake is.of),
+      ))
+
+  -- it is nothing to the device
+  another_heard : IsLeft device later_device → (device.kind ≢ Configurable) ⊎ ((0 < device.sessions.taken) ⊎ (device_replies device event ≡ [])) → GoesAs c device event
+  another_heard left which = quiet laws c device event at left.0.sessions left.1 (taken which) segment_bare
+    where
+      openly : device.kind ≢ Configurable → (sessions : Taken) → device_replies (record device { sessions = sessions }) event ≡ (hears_openly (active (record device { sessions = sessions })) payload).replies
+      openly not sessions =
+          replies_awake (record device { sessions = sessions }) payload drawn awake
+          ∙ ap (λ (o : Outcome). o.replies) (openly_kind device.kind (active (record device { sessions = sessions })) payload drawn not at.is_open)
+
+      part : IsPart is.message (session % 16) payload
+      part = part_of laws.segments orders commands session payload is
+
+      taken : (device.kind ≢ Configurable) ⊎ ((0 < device.sessions.taken) ⊎ (device_replies device event ≡ [])) → AllOwnTaken later_device (device_replies device event)
+      taken (inr (inl some)) = all_taken later_device (device_replies device event) (subst (λ (t : Taken). 0 < t.taken) (sym left.0.sessions) some)
+      taken (inr (inr none)) = subst (λ (rs : List (List ℕ)). AllOwnTaken later_device rs) (sym none) tt
+      taken (inl not) =
+          let after : IsLeft (later device) (device_after (later device) event) = laws.segments.elsewhere (later device) is.message payload drawn session not (knows_supervision device.kind at.is_open) part in
+          said_alike laws device event at.can left.0.sessions after.0.sessions
+          (openly not (later device).sessions ∙ (openly_same (active device) payload (laws.segments.no_get is.message payload (session % 16) part) ∙ sym (openly not device.sessions)))
+
+  pub segment_lands : HearsAs c device since (Command segment) event
+  segment_lands = by (segment_heard laws.segments orders commands device session payload drawn awake at.is_open is named keeps)
+    where
+      of_next : session % 16 ≡ (device.sessions.taken + 1) % 16 → KeepsSegment is.message (session % 16) device later_device (device_replies device event)
+          ⊎ MakesWhole (session % 16) (device_after device (Hears is.message drawn)) (device_replies device (Hears is.message drawn)) later_device (device_replies device event) → HearsAs c device since (Command segment) event
+      of_next same (inl kept) = inl (false, part_heard same kept)
+      of_next same (inr whole) = inl (true, whole_heard same whole)
+
+      by : IsNext laws.segments orders commands device session payload drawn awake at.is_open is named keeps ⊎ IsAnother laws.segments orders commands device session payload drawn awake at.is_open is named keeps
+          → HearsAs c device since (Command segment) event
+      by (inl next) = of_next next.same next.heard
+      by (inr another) = inr (refl, another_heard another.left another.says)
+
+-- ---- any payload
+
+command_heard : Laws → (orders : List Asked) (commands : List ℕ) (c : Course) (device : State) (since : ℕ) (segment : Bool) (session : ℕ) (payload drawn : List ℕ) → AtDevice c device → device.awake ≡ true
+    → IsMessage segment orders commands session payload → Names c.device (Command (record { session = session; is_segment = segment })) → Makes orders commands device
+    → HearsAs c device since (Command (record { session = session; is_segment = segment })) (Hears payload drawn)
+command_heard laws orders commands c device since true session payload drawn at awake is names m = segment_lands laws orders commands c device since session payload drawn at awake is names m.keeps
+command_heard laws orders commands c device since false session payload drawn at awake is names m = inl (false, message_heard laws orders commands c device since session payload drawn at awake is)
+
 pub payload_heard : Laws → (orders : List Asked) (commands : List ℕ) (c : Course) (device : State) (since : ℕ) (cargo : Cargo) (payload drawn : List ℕ) → AtDevice c device → device.awake ≡ true
-    → HostMeans orders commands payload cargo → GoesAs (hears c since cargo false) device (Hears payload drawn)
-payload_heard laws orders commands c device since (Command message) payload drawn at awake (whole, is) =
-    let same : record { session = message.session; is_segment = false } ≡ message = ap (λ (b : Bool). record { session = message.session; is_segment = b }) (sym whole) in
-    subst (λ (m : Message). GoesAs (hears c since (Command m) false) device (Hears payload drawn)) same (message_heard laws orders commands c device since message.session payload drawn at awake is)
-payload_heard laws orders commands c device since Of_host payload drawn at awake is = other_heard laws c device payload drawn at awake is
-payload_heard laws orders commands c device since (Answer session status) payload drawn at awake is = absurd is
-payload_heard laws orders commands c device since Of_node payload drawn at awake is = absurd is
+    → HostMeans orders commands payload cargo → Names c.device cargo → Makes orders commands device → HearsAs c device since cargo (Hears payload drawn)
+payload_heard laws orders commands c device since (Command message) payload drawn at awake is names m = command_heard laws orders commands c device since message.is_segment message.session payload drawn at awake is names m
+payload_heard laws orders commands c device since Of_host payload drawn at awake is names m = inl (false, other_heard laws c device payload drawn at awake is)
+payload_heard laws orders commands c device since (Answer session status) payload drawn at awake is names m = absurd is
+payload_heard laws orders commands c device since Of_node payload drawn at awake is names m = absurd is
 
 -- ---- a tick
 
@@ -400,9 +486,9 @@ last_tick laws c device drawn at n l =
     let taken : (ticked device).device.sessions.taken ≡ device.sessions.taken = ap (λ (t : Taken). t.taken) sessions in
     let more = laws.ended device (Ticks drawn) c.ends at.ended in
     let ended : Ended device.sessions (ticked device).device.sessions = inr (SUCCESS, (busy, ((λ e. absurd cc), sessions))) in
-    event_goes c device (Ticks drawn) c.ends more.0 at.ended refl at.none_kept more.1 (inl (sym at.sessions))
+    event_goes c device (Ticks drawn) c.ends more.0 at.ended refl (subst (λ (r : Reassembly). IsOf r c.kept) (sym both.1) at.kept) more.1 (inl (sym at.sessions))
     (subst (λ (t : Taken). Ended t (ticked device).device.sessions) at.sessions ended)
-    (both.1 ∙ at.empty) (laws.can device (Ticks drawn) at.can) (ap takes_openly (laws.same device (Ticks drawn)).kind ∙ at.is_open)
+    (laws.can device (Ticks drawn) at.can) (ap takes_openly (laws.same device (Ticks drawn)).kind ∙ at.is_open)
     (all_said (ticked device).device (ticked device).replies (laws.can device (Ticks drawn) at.can) (laws.replies device (Ticks drawn) at.can)
     (all_taken (ticked device).device (ticked device).replies (omega (arith, count, taken))) (ticks_bare device))
 

@@ -1,5 +1,5 @@
 -- Frames on the air, in the course of one node.
-use Rattle.std.proofs.Common.{◌≡◌, ℕ, zero, suc, ◌+◌, ◌-◌, ◌<◌, ◌≤◌, ◌==◌, Bool, true, false, if◌then◌else◌, Some, None, List, [], ◌∷◌, ◌++◌, length, refl, ap, sym, ◌∙◌, subst, arith}
+use Rattle.std.proofs.Common.{◌≡◌, ℕ, zero, suc, ◌+◌, ◌-◌, ◌*◌, ◌/◌, ◌%◌, ◌<◌, ◌≤◌, ◌==◌, Bool, true, false, if◌then◌else◌, Some, None, List, [], ◌∷◌, ◌++◌, length, refl, ap, sym, ◌∙◌, subst, arith}
 use Rattle.std.proofs.lemmas.Bool.{eqb-true}
 use Rattle.std.specs.Prelude.{slice_get, nat_lt, nat_le, ◌&&◌, ◌||◌}
 use Rattle.supervision.specs.Host.{HostBook, no_sessions, begins, begun_of}
@@ -17,7 +17,9 @@ use Rattle.air_frames.specs.History.{Mark, Goes, Begins, begins_in}
 use Rattle.air_frames.proofs.Logs.{stamped-append, begins_in-append}
 use Rattle.air_flights.specs.Flights.{flown_in, flown_now, Fly}
 use Rattle.node_course.specs.Ways.{Beside}
-use Rattle.node_course.specs.Meaning.{Asked, IsMessageOf, HostMeans, NodeMeans}
+use Rattle.transport_segments.specs.Segment.{with_check}
+use Rattle.transport_segments.specs.Parts.{slice_at}
+use Rattle.node_course.specs.Meaning.{Asked, IsMessageOf, IsSegmentOf, IsMessage, HostMeans, NodeMeans}
 use Rattle.node_course.specs.Air.{BearsBy, Bears, OnAir, Lands, WasThere}
 
 -- ---- lists beside each other
@@ -64,8 +66,19 @@ message_stays orders more commands later session payload is = record {
   text = is.text;
 }
 
+pub segment_stays : (orders more : List Asked) (commands later : List ℕ) (segment : Bool) (session : ℕ) (payload : List ℕ) → IsMessage segment orders commands session payload → IsMessage segment (orders ++ more) (commands ++ later) session payload
+segment_stays orders more commands later false session payload is = message_stays orders more commands later session payload is
+segment_stays orders more commands later true session payload is = record {
+  message = is.message;
+  of = message_stays orders more commands later session is.message is.of;
+  most = is.most;
+  place = is.place;
+  within = is.within;
+  text = is.text;
+}
+
 pub meaning_stays : (orders more : List Asked) (commands later : List ℕ) (payload : List ℕ) (cargo : Cargo) → HostMeans orders commands payload cargo → HostMeans (orders ++ more) (commands ++ later) payload cargo
-meaning_stays orders more commands later payload (Command message) is = (is.0, message_stays orders more commands later message.session payload is.1)
+meaning_stays orders more commands later payload (Command message) is = segment_stays orders more commands later message.is_segment message.session payload is
 meaning_stays orders more commands later payload Of_host is = is
 meaning_stays orders more commands later payload (Answer session status) is = absurd is
 meaning_stays orders more commands later payload Of_node is = absurd is
@@ -197,27 +210,49 @@ not_stale payload later nonces e = by (nat_le 62 later) refl e
     by true is none = absurd (grind (arith, none))
     by false is none = grind (arith, is)
 
+-- a segment that is not stale at most 13
+segment_not_stale : (payload : List ℕ) (later nonces : ℕ) → is_class payload 0x55 ≡ true → stale_by payload later nonces ≡ None → later ≤ 13
+segment_not_stale payload later nonces class e = by (nat_le 62 later) (nat_le 14 later) refl (subst (λ (b : Bool). (if nat_le 62 later || (b && nat_le 14 later) then Some (Stale later) else (if is_class payload 0x98 && nat_le 120 nonces then Some (Stale nonces) else None)) ≡ None) class e)
+  where
+    by : (a b : Bool) → nat_le 14 later ≡ b → (if a || (true && b) then Some (Stale later) else (if is_class payload 0x98 && nat_le 120 nonces then Some (Stale nonces) else None)) ≡ None → later ≤ 13
+    by true b is none = absurd (grind (arith, none))
+    by false true is none = absurd (grind (arith, none))
+    by false false is none = grind (arith, is)
+
+-- a segment begins with its class
+segment_class : (orders : List Asked) (commands : List ℕ) (session : ℕ) (payload : List ℕ) → IsSegmentOf orders commands session payload → is_class payload 0x55 ≡ true
+segment_class orders commands session payload is = subst (λ (p : List ℕ). is_class p 0x55 ≡ true) (sym is.text) (by (39 * is.place == 0))
+  where
+    size : ℕ
+    size = length is.message
+
+    by : (b : Bool) → is_class (with_check (if b then 85 ∷ (192 + size / 256) ∷ size % 256 ∷ session % 16 * 16 ∷ slice_at is.message is.place
+        else 85 ∷ (224 + size / 256) ∷ size % 256 ∷ (session % 16 * 16 + 39 * is.place / 256) ∷ 39 * is.place % 256 ∷ slice_at is.message is.place)) 0x55 ≡ true
+    by true = refl
+    by false = refl
+
 fresh_cargo : (heading : Heading) (own : Bool) (orders : List Asked) (host : HostBook) (frame : Flown) (flight : Flight Cargo) → BearsBy heading own orders host.commands frame flight
-    → (own ≡ true → begun_of host ≤ frame.begun + 61) → IsFreshCargo (begun_of host) flight.since flight.cargo
-fresh_cargo Outward true orders host frame flight is age = by flight.cargo is.1
+    → (own ≡ true → begun_of host ≤ frame.begun + 61) → (own ≡ true → is_class frame.payload 0x55 ≡ true → begun_of host ≤ frame.begun + 13) → IsFreshCargo (begun_of host) flight.since flight.cargo
+fresh_cargo Outward true orders host frame flight is age segment_age = by flight.cargo is.1
   where
     by : (cargo : Cargo) → HostMeans orders host.commands frame.payload cargo → IsFreshCargo (begun_of host) flight.since cargo
-    by (Command message) (whole, of) =
-        let near = age refl in let same = is.0 in
-        let fresh : begun_of host ≤ flight.since + 61 = omega (arith, near, same) in
-        subst (λ (b : Bool). IsFresh (begun_of host) flight.since b) (sym whole) fresh
+    by (Command message) of = message_fresh message.is_segment message.session of
+      where
+        message_fresh : (segment : Bool) (session : ℕ) → IsMessage segment orders host.commands session frame.payload → IsFresh (begun_of host) flight.since segment
+        message_fresh false session whole = let near = age refl in let same = is.0 in omega (arith, near, same)
+        message_fresh true session part = let near = segment_age refl (segment_class orders host.commands session frame.payload part) in let same = is.0 in omega (arith, near, same)
     by Of_host of = tt
     by (Answer session status) of = absurd of
     by Of_node of = tt
-fresh_cargo Homeward true orders host frame flight is age = by flight.cargo is.1
+fresh_cargo Homeward true orders host frame flight is age segment_age = by flight.cargo is.1
   where
     by : (cargo : Cargo) → NodeMeans frame.payload cargo → IsFreshCargo (begun_of host) flight.since cargo
     by (Command message) of = absurd of
     by Of_host of = absurd of
     by (Answer session status) of = let near = age refl in let same = is.0 in omega (arith, near, same)
     by Of_node of = tt
-fresh_cargo Outward false orders host frame flight is age = rw is tt
-fresh_cargo Homeward false orders host frame flight is age = rw is tt
+fresh_cargo Outward false orders host frame flight is age segment_age = rw is tt
+fresh_cargo Homeward false orders host frame flight is age segment_age = rw is tt
 
 -- the frame is remembered, and is not stale
 remembered_fresh : (frames : FramesState) (number : ℕ) (frame : Flown) → refusal_of frames number ≡ None → remembered frames number ≡ Some frame
@@ -250,5 +285,10 @@ frame_was_there kept node orders host air old log flights frames (suc number) fr
       fresh = fresh_cargo frame.heading (frame.node == node) orders host frame here.other here.beside
           (λ own. let at : frame.node ≡ node = eqb-true frame.node node own in
           let close : (peer_of frames node).begun - frame.begun ≤ 61 = subst (λ (n : ℕ). (peer_of frames n).begun - frame.begun ≤ 61) at near in
+          omega (arith, close, count, same))
+          (λ own class. let at : frame.node ≡ node = eqb-true frame.node node own in
+          let segment : (peer_of frames frame.node).begun - frame.begun ≤ 13 =
+          segment_not_stale frame.payload ((peer_of frames frame.node).begun - frame.begun) ((peer_of frames frame.node).shown - frame.shown) class (remembered_fresh frames (suc number) frame none is).1 in
+          let close : (peer_of frames node).begun - frame.begun ≤ 13 = subst (λ (n : ℕ). (peer_of frames n).begun - frame.begun ≤ 13) at segment in
           omega (arith, close, count, same));
     }

@@ -56,7 +56,8 @@ use Rattle.node_course.specs.Air.{OnAir}
 use Rattle.node_course.specs.Making.{AllMake}
 use Rattle.node_course.specs.Mesh.{HasDevice, InMesh}
 use Rattle.node_course.specs.Lines.{Tells, Asks, asked_as, ItemIs, own_frames, OnWay, Later, Moves}
-use Rattle.node_course.specs.Host.{NodeAs, AtHost}
+use Rattle.host_requests.specs.declared.task.Task.{Task}
+use Rattle.node_course.specs.Host.{NodeAs, IsTaskFor, AtHost}
 use Rattle.node_course.specs.HostGoing.{HostFollows, HostGoes}
 use Rattle.node_course.proofs.Thinning.{goes_nowhere, goes_on, goes_once, up_thins}
 use Rattle.node_course.proofs.Flights.{beside-weaker, meaning_stays, order_accepted, session_begins, air_stays}
@@ -183,7 +184,7 @@ same_at node orders book h g same at = subst (λ (os : List Asked). AtHost node 
   node_as = same.node_as book.commands book.outcome at.node_as;
   orders_are = at.orders_are ∙ sym same.orders;
   plain = at.plain;
-  queue = same.queue at.queue;
+  queue = same.queue orders book.commands at.queue;
 })
 
 module _ (node : ℕ) (orders : List Asked) (c : Course) (h : HostState) (at : AtHost node orders c.host h) where
@@ -236,15 +237,15 @@ module _ (node : ℕ) (orders : List Asked) (c : Course) (h : HostState) (at : A
       none_own (Copied g copies ticks) e = absurd (grind (arith, e))
       none_own (Paused g copies ticks) e = absurd (grind (arith, e))
 
-  -- the message of the last session is submitted
-  pub submits_message : (g : HostState) (f : FrameParts) → SameHost node h (record g { side = h.side }) → g.side.turn ≡ Copied f 1 0 → is_busy h.side.turn ≡ false → 0 < begun_of c.host
-      → Asks node orders c.host.commands f (Some (record { session = begun_of c.host; is_segment = false })) → Wrote node orders c h g (Framed f ∷ [])
-  submits_message g f same turn free some is =
-      let message : Message = record { session = begun_of c.host; is_segment = false } in
+  -- a message of the last session is submitted, whole or one segment
+  pub submits_message : (g : HostState) (f : FrameParts) (is_segment : Bool) → SameHost node h (record g { side = h.side }) → g.side.turn ≡ Copied f 1 0 → is_busy h.side.turn ≡ false → 0 < begun_of c.host
+      → Asks node orders c.host.commands f (Some (record { session = begun_of c.host; is_segment = is_segment })) → Wrote node orders c h g (Framed f ∷ [])
+  submits_message g f is_segment same turn free some is =
+      let message : Message = record { session = begun_of c.host; is_segment = is_segment } in
       record {
         added = [];
         written = message ∷ [];
-        goes = goes_once c (Writes false) some;
+        goes = goes_once c (Writes is_segment) some;
         at = let there : AtHost node (orders ++ []) c.host (record g { side = h.side }) = same_at node orders c.host h (record g { side = h.side }) same at in record { node_as = there.node_as; orders_are = there.orders_are; plain = there.plain; queue = there.queue };
         moves = subst (λ (t : Turn). Moves (Asks node (orders ++ []) c.host.commands) h.side.turn [] (Framed f ∷ []) t [] (message ∷ [])) (sym turn)
             (move_submit (Asks node (orders ++ []) c.host.commands) f (Some message) h.side.turn (Copied f 1 0) (asks_more node orders [] c.host.commands f (Some message) is) (none_own h.side.turn free) refl);
@@ -391,7 +392,7 @@ module _ (laws : AirLaws) (node : ℕ) (orders : List Asked) (c : Course) (rest 
           let kept : NodeAs (c.host.commands ++ command ∷ []) None (node_of g node) =
           subst (λ (s : NodeState). NodeAs (c.host.commands ++ command ∷ []) None s) (sym now)
           (ap (λ (cs : List ℕ). cs ++ slice_index (node_of h node).waiting 0 ∷ []) old.0 ∙ ap (λ (k : ℕ). c.host.commands ++ k ∷ []) (sym named), (refl, (old.1.1.0, old.1.1.1))) in
-          let there : AtHost node orders later.host g = record { node_as = kept; orders_are = f.host.orders_are ∙ sym (outcome_orders h.commands command _); plain = f.host.plain; queue = f.host.queue } in
+          let there : AtHost node orders later.host g = record { node_as = kept; orders_are = f.host.orders_are ∙ sym (outcome_orders h.commands command _); plain = f.host.plain; queue = subst (λ (q : List Task). AllByRecursion (IsTaskFor node orders later.host.commands) q) (sym may.0.no_task) tt } in
           begun_with later (f.mesh.log ++ begins_mark node ∷ []) (goes_once c (begins_step command) closed) refl refl (record { device = refl; kept = refl; ends = refl })
           (subst (λ (k : ℕ). OnAir node orders later.host c.air c.old (f.mesh.log ++ begins_mark node ∷ []) f.mesh.flights (air_begins w.outer.air k session).frames) (sym own)
           (own_begins laws node orders c.host c.air c.old f.mesh.log f.mesh.flights w.outer.air f.mesh.on_air command session within count))

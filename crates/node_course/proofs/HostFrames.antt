@@ -138,10 +138,13 @@ module _ (nonces : (nonce : List ℕ) → IsOther (nonce_report nonce)) (no_more
   pub abort_asks : (id : ℕ) → Asks node orders commands (frame_of Abort id) None
   abort_asks id payload options other e = absurd (frame_sends SendDataAbort node payload options other e)
 
+  pub segment_asks : (to : ℕ) (text : List ℕ) (id : ℕ) (mark : Option Message) → (to ≡ node → HostMeans orders commands text (asked_as mark)) → Asks node orders commands (frame_of (Housekeeping (task.Segment to text)) id) mark
+  segment_asks to text id mark means = sends_asks to text id mark means
+
   pub task_asks : (queued : Task) (id : ℕ) → IsOtherTask node queued → Asks node orders commands (frame_of (Housekeeping queued) id) None
   task_asks (task.Plain n payload) id other = sends_asks n payload id None other
   task_asks (task.Offer n nonce) id other = sends_asks n (nonce_report nonce) id None (λ own. nonces nonce)
-  task_asks (task.Segment n payload) id other = sends_asks n payload id None other
+  task_asks (task.Segment n payload) id apart = sends_asks n payload id None (λ own. absurd (apart own))
   task_asks (task.NoMore n) id other = sends_asks n no_more_information id None (λ own. no_more)
   task_asks (task.First n) id other = λ payload options o e. absurd (frame_sends (GetNodeProtocolInfo n) node payload options o e)
   task_asks (task.Second n) id other = λ payload options o e. absurd (frame_sends (RequestNodeInfo n) node payload options o e)

@@ -264,7 +264,7 @@ module _ (laws : Laws) (node : ℕ) (rest : Rest) (down : List Item) where
           node_as = held.node_as c.host.commands (Some report.status) kept;
           orders_are = f.host.orders_are ∙ sym (held.orders ∙ outcome_orders h.commands command (outcome_of status));
           plain = f.host.plain;
-          queue = held.queue f.host.queue;
+          queue = held.queue orders c.host.commands f.host.queue;
         };
         outcomes = told_outcomes;
       };

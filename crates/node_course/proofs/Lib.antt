@@ -1,5 +1,6 @@
 pub mod Thinning
 pub mod Flights
+pub mod Segments
 pub mod Saying
 pub mod Devices
 pub mod Making

@@ -17,7 +17,7 @@ use Rattle.host_requests.specs.declared.end.How.{How}
 use Rattle.host_requests.specs.declared.end.How.TheVariants.{LinkFailed}
 use Rattle.host_requests.specs.declared.under_way.UnderWay.{UnderWay}
 use Rattle.host_requests.specs.declared.task.Task.{Task}
-use Rattle.host_requests.specs.declared.task.Task.TheVariants.{NoMore, First, Second, Version, MemoryId, Capabilities}
+use Rattle.host_requests.specs.declared.task.Task.TheVariants.{Segment, NoMore, First, Second, Version, MemoryId, Capabilities}
 use Rattle.host_requests.specs.declared.task.Purpose.{Purpose}
 use Rattle.host_requests.specs.declared.task.Purpose.TheVariants.{Housekeeping, Attempt, Abort}
 use Rattle.host_node.specs.State.{NodeState, unknown, is_open, is_up, is_idle, is_running, has_waiting}
@@ -35,7 +35,8 @@ use Rattle.host_events.specs.State.{HostState, Command, node_of, with_node, with
 use Rattle.host_events.specs.Sessions.{open_command}
 use Rattle.host_events.specs.Ends.{unanswered, attempt_ended, PartEnd, Good as well, Passed_over, Bad, part_end, after_part, after_task, after_end, after_end_if}
 use Rattle.host_events.specs.After.{node_does, requests_do, request_does, is_full, queues_if_room, holding, failing_if}
-use Rattle.node_course.specs.Host.{NodeAs, asked_of, IsOtherTask, PushesOther}
+use Rattle.node_course.specs.Meaning.{Asked}
+use Rattle.node_course.specs.Host.{NodeAs, asked_of, IsOtherTask, IsTaskFor, PushesOther}
 
 -- ---- a node
 
@@ -137,7 +138,7 @@ set_as cs o h node k state was is = get_set (NodeAs cs o) h.nodes k node state (
 pub record SameHost (node : ℕ) (old new : HostState) : Type 0 where
   pub node_as : (cs : List ℕ) (o : Option ℕ) → NodeAs cs o (node_of old node) → NodeAs cs o (node_of new node)
   pub orders : map asked_of new.commands ≡ map asked_of old.commands
-  pub queue : AllByRecursion (IsOtherTask node) old.requests.queue → AllByRecursion (IsOtherTask node) new.requests.queue
+  pub queue : (asked : List Asked) (commands : List ℕ) → AllByRecursion (IsTaskFor node asked commands) old.requests.queue → AllByRecursion (IsTaskFor node asked commands) new.requests.queue
   pub side : new.side ≡ old.side
 
 all-append : {A : Type 0} (P : A → Type 0) (xs ys : List A) → AllByRecursion P xs → AllByRecursion P ys → AllByRecursion P (xs ++ ys)
@@ -158,7 +159,7 @@ module _ (node : ℕ) where
   same_host old new nodes commands requests side = record {
     node_as = λ cs o was. subst (λ (ns : List NodeState). NodeAs cs o (node_among ns node)) (sym nodes) was;
     orders = commands;
-    queue = λ all. subst (λ (r : RequestsState). AllByRecursion (IsOtherTask node) r.queue) (sym requests) all;
+    queue = λ asked commands all. subst (λ (r : RequestsState). AllByRecursion (IsTaskFor node asked commands) r.queue) (sym requests) all;
     side = side;
   }
 
@@ -166,7 +167,7 @@ module _ (node : ℕ) where
   same_then a b c first later = record {
     node_as = λ cs o was. later.node_as cs o (first.node_as cs o was);
     orders = later.orders ∙ first.orders;
-    queue = λ all. later.queue (first.queue all);
+    queue = λ asked commands all. later.queue asked commands (first.queue asked commands all);
     side = later.side ∙ first.side;
   }
 
@@ -174,13 +175,13 @@ module _ (node : ℕ) where
   does_same h n event quiet = record {
     node_as = λ cs o was. set_as cs o h node n (after_node (node_of h n) event) was (λ e. node_keeps cs o (node_of h n) event (subst (λ (k : ℕ). NodeAs cs o (node_of h k)) (sym e) was) quiet);
     orders = refl;
-    queue = λ all. all;
+    queue = λ asked commands all. all;
     side = refl;
   }
 
   -- of another node nothing matters
   pub other_same : (h : HostState) (n : ℕ) (state : NodeState) → n ≢ node → SameHost node h (with_node h n state)
-  other_same h n state apart = record { node_as = λ cs o was. set_as cs o h node n state was (λ e. absurd (apart e)); orders = refl; queue = λ all. all; side = refl }
+  other_same h n state apart = record { node_as = λ cs o was. set_as cs o h node n state was (λ e. absurd (apart e)); orders = refl; queue = λ asked commands all. all; side = refl }
 
   -- ---- requests
 
@@ -195,30 +196,37 @@ module _ (node : ℕ) where
       by None = refl
       by (Some u) = went u (next u)
 
-  next_others : (s : RequestsState) (next : UnderWay → Next) → AllByRecursion (IsOtherTask node) s.queue → AllByRecursion (IsOtherTask node) (after_next s next).queue
-  next_others s next all = subst (λ (l : List Task). AllByRecursion (IsOtherTask node) l) (sym (next_queue s next)) all
+  -- what is asked for is no segment
+  other_task : (asked : List Asked) (commands : List ℕ) (task : Task) → IsOtherTask node task → IsTaskFor node asked commands task
+  other_task asked commands (Segment n payload) apart = λ own. absurd (apart own)
+  other_task asked commands _ is = is
 
-  front_others : (s : RequestsState) (queue : List Task) → AllByRecursion (IsOtherTask node) s.queue → AllByRecursion (IsOtherTask node) queue → AllByRecursion (IsOtherTask node) (front_begun s queue).queue
-  front_others s [] all these = all
-  front_others s (task ∷ rest) all these = these.1
+  next_others : (asked : List Asked) (commands : List ℕ) (s : RequestsState) (next : UnderWay → Next) → AllByRecursion (IsTaskFor node asked commands) s.queue → AllByRecursion (IsTaskFor node asked commands) (after_next s next).queue
+  next_others asked commands s next all = subst (λ (l : List Task). AllByRecursion (IsTaskFor node asked commands) l) (sym (next_queue s next)) all
 
-  queue_others : (s : RequestsState) (event : RequestsEvent) → AllByRecursion (IsOtherTask node) s.queue → PushesOther node event → AllByRecursion (IsOtherTask node) (after_request s event).queue
-  queue_others s (Pushes task) all is = all-append (IsOtherTask node) s.queue (task ∷ []) all (is, tt)
-  queue_others s (PushesInterview n) all is = all-append (IsOtherTask node) s.queue (First n ∷ Second n ∷ []) all (tt, (tt, tt))
-  queue_others s PushesProbe all is = all-append (IsOtherTask node) s.queue (Version ∷ MemoryId ∷ Capabilities ∷ []) all (tt, (tt, (tt, tt)))
-  queue_others s BeginsAbort all is = all
-  queue_others s BeginsFront all is = front_others s s.queue all all
-  queue_others s (BeginsAttempt n more payload) all is = all
-  queue_others s IsSent all is = next_others s at_sent all
-  queue_others s Fails all is = next_others s (λ _. Ends LinkFailed) all
-  queue_others s (Responds response) all is = next_others s (at_response response) all
-  queue_others s (CallsBack id status) all is = next_others s (at_callback s.last_id id status) all
-  queue_others s (Updates update) all is = next_others s (at_update s.first update) all
-  queue_others s request_ticks all is = next_others s at_tick all
-  queue_others s Forgets all is = tt
+  front_others : (asked : List Asked) (commands : List ℕ) (s : RequestsState) (queue : List Task) → AllByRecursion (IsTaskFor node asked commands) s.queue → AllByRecursion (IsTaskFor node asked commands) queue
+      → AllByRecursion (IsTaskFor node asked commands) (front_begun s queue).queue
+  front_others asked commands s [] all these = all
+  front_others asked commands s (task ∷ rest) all these = these.1
+
+  queue_others : (asked : List Asked) (commands : List ℕ) (s : RequestsState) (event : RequestsEvent) → AllByRecursion (IsTaskFor node asked commands) s.queue → PushesOther node event
+      → AllByRecursion (IsTaskFor node asked commands) (after_request s event).queue
+  queue_others asked commands s (Pushes task) all is = all-append (IsTaskFor node asked commands) s.queue (task ∷ []) all (other_task asked commands task is, tt)
+  queue_others asked commands s (PushesInterview n) all is = all-append (IsTaskFor node asked commands) s.queue (First n ∷ Second n ∷ []) all (tt, (tt, tt))
+  queue_others asked commands s PushesProbe all is = all-append (IsTaskFor node asked commands) s.queue (Version ∷ MemoryId ∷ Capabilities ∷ []) all (tt, (tt, (tt, tt)))
+  queue_others asked commands s BeginsAbort all is = all
+  queue_others asked commands s BeginsFront all is = front_others asked commands s s.queue all all
+  queue_others asked commands s (BeginsAttempt n more payload) all is = all
+  queue_others asked commands s IsSent all is = next_others asked commands s at_sent all
+  queue_others asked commands s Fails all is = next_others asked commands s (λ _. Ends LinkFailed) all
+  queue_others asked commands s (Responds response) all is = next_others asked commands s (at_response response) all
+  queue_others asked commands s (CallsBack id status) all is = next_others asked commands s (at_callback s.last_id id status) all
+  queue_others asked commands s (Updates update) all is = next_others asked commands s (at_update s.first update) all
+  queue_others asked commands s request_ticks all is = next_others asked commands s at_tick all
+  queue_others asked commands s Forgets all is = tt
 
   pub requests_same : (h : HostState) (event : RequestsEvent) → PushesOther node event → SameHost node h (requests_do h event)
-  requests_same h event is = record { node_as = λ cs o was. was; orders = refl; queue = λ all. queue_others h.requests event all is; side = refl }
+  requests_same h event is = record { node_as = λ cs o was. was; orders = refl; queue = λ asked commands all. queue_others asked commands h.requests event all is; side = refl }
 
   -- ---- the end of a request
 

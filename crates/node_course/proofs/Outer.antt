@@ -60,6 +60,7 @@ use Rattle.line_facts.specs.Chip.{HasFrames, ChipDoes}
 use Rattle.line_facts.proofs.Ways.{carries_all, carries_left}
 use Rattle.line_facts.proofs.Frames.{events_have, events_fit}
 use Rattle.line_facts.proofs.ChipWays.{does_one, does_each}
+use Rattle.message_facts.specs.Landing.{IsOf}
 use Rattle.node_course.specs.Ways.{Beside, Thinned, Goes}
 use Rattle.node_course.specs.Meaning.{Asked, HostMeans, NodeMeans}
 use Rattle.node_course.specs.Air.{BearsBy, Bears, OnAir}
@@ -86,8 +87,7 @@ pub record SameDevice (old new : Course) : Type 0 where
 pub at_same : (old new : Course) (device : State) → SameDevice old new → AtDevice old device → AtDevice new device
 at_same old new device same at = record {
   sessions = at.sessions ∙ sym same.device;
-  none_kept = same.kept ∙ at.none_kept;
-  empty = at.empty;
+  kept = subst (λ (k : Option ℕ). IsOf device.reassembly k) (sym same.kept) at.kept;
   ended = subst (λ (ends : List ℕ). HasEnded device ends) (sym same.ends) at.ended;
   can = at.can;
   is_open = at.is_open;

@@ -54,6 +54,7 @@ use Rattle.node_course.specs.Mesh.{HasDevice, InMesh, labels, brought, Adds, Mes
 use Rattle.node_course.specs.Outside.{Follows, OuterGoes, SideRests, Rests}
 use Rattle.node_course.proofs.Thinning.{goes_nowhere, up_thins, down_thins}
 use Rattle.node_course.proofs.Moving.{thinned_same, thinned_behind, labels-append}
+use Rattle.node_course.proofs.Segments.{kept_none}
 use Rattle.node_course.proofs.Making.{first_makes}
 use Rattle.node_course.proofs.Replies.{Flying}
 use Rattle.node_course.proofs.ChipTelling.{ChipTells, tells_still, tells_one, deals_tell, gives_tells, joins_tell, discovers_tell, collides_tell}
@@ -290,7 +291,7 @@ first_make : (node : ℕ) (devices : List State) → HasDevice node first_course
 first_make node devices has place device stands own =
     let found : Some device ≡ Some has.device = sym stands ∙ (ap (λ (k : ℕ). slice_get devices k) (has.alone place device stands own) ∙ has.stands) in
     let one : device ≡ has.device = cc in
-    subst (λ (d : State). Makes [] [] d) (sym one) (first_makes has.device has.at.ended (ap (λ (t : Taken). t.taken) has.at.sessions))
+    subst (λ (d : State). Makes [] [] d) (sym one) (first_makes has.device has.at.ended (ap (λ (t : Taken). t.taken) has.at.sessions) (kept_none has.device.reassembly has.at.kept))
 
 pub first_follows : ((node : ℕ) → OnAir node [] no_sessions [] [] [] [] no_frames) → (node : ℕ) (devices : List State) → HasDevice node first_course devices
     → Follows node [] first_course no_rest Idle [] [] (outside first_outer devices)

@@ -24,6 +24,7 @@ use Rattle.mesh_sim.specs.Fates.{Mesh, place_of}
 use Rattle.device_facts.specs.GoingOn.{IsSame}
 use Rattle.device_facts.proofs.Telling.{place_is}
 use Rattle.device_course.specs.Ending.{HasEnded}
+use Rattle.message_facts.specs.Landing.{IsOf}
 use Rattle.node_course.specs.Ways.{Beside, Goes}
 use Rattle.node_course.specs.Meaning.{Asked, NodeMeans}
 use Rattle.node_course.specs.Air.{BearsBy, Bears, OnAir}
@@ -73,8 +74,7 @@ air_then a b c first later = record {
 pub device_stays : (old new : Course) (device : State) → OnlyAir old new → AtDevice old device → AtDevice new device
 device_stays old new device same at = record {
   sessions = at.sessions ∙ sym same.device;
-  none_kept = same.kept ∙ at.none_kept;
-  empty = at.empty;
+  kept = subst (λ (k : Option ℕ). IsOf device.reassembly k) (sym same.kept) at.kept;
   ended = subst (λ (ends : List ℕ). HasEnded device ends) (sym same.ends) at.ended;
   can = at.can;
   is_open = at.is_open;

@@ -41,7 +41,7 @@ use Rattle.world_facts.specs.Restarts.{AreHeld, IsHeld}
 use Rattle.node_course.specs.Ways.{Goes, Thinned}
 use Rattle.node_course.specs.Meaning.{Asked}
 use Rattle.node_course.specs.Lines.{Asks, Later, OnWay, own_frames}
-use Rattle.node_course.specs.Host.{NodeAs, asked_of, IsOtherTask}
+use Rattle.node_course.specs.Host.{NodeAs, asked_of, IsTaskFor}
 use Rattle.node_course.specs.World.{WorldFollows, WorldGoes}
 use Rattle.node_course.proofs.Thinning.{CourseLaw, course_goes, up_thins}
 use Rattle.node_course.proofs.Moving.{move_done}
@@ -255,7 +255,7 @@ module _ (laws : Laws) (node : ℕ) where
             node_as = (on.sessions ∙ f.host.node_as.0, (on.ended ∙ f.host.node_as.1.0, fresh.bare));
             orders_are = f.host.orders_are ∙ sym on.orders;
             plain = f.host.plain;
-            queue = subst (λ (l : List Task). AllByRecursion (IsOtherTask node) l) (sym fresh.queue) tt;
+            queue = subst (λ (l : List Task). AllByRecursion (IsTaskFor node orders c.host.commands) l) (sym fresh.queue) tt;
           };
           facts = starts.host;
           past = record { past = f.past.past; facts = laws.facts f.past.past h state f.past.facts starts };

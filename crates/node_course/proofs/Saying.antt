@@ -15,7 +15,7 @@ use Rattle.class_fields.specs.declared.fault.ClassFault.{ClassFault}
 use Rattle.class_core.specs.declared.message.CoreMessage.TheVariants.{SwitchBinarySet, ThermostatSetpointReport, ConfigurationReport}
 use Rattle.class_fields.specs.declared.number.Number.TheVariants.{Two, Four}
 use Rattle.class_info.specs.declared.message.InfoMessage.{InfoMessage}
-use Rattle.class_info.specs.declared.message.InfoMessage.TheVariants.{Core, AssociationGet, AssociationReport, SensorMultilevelReport, SupervisionReport, WakeUpNotification, WakeUpNoMoreInformation}
+use Rattle.class_info.specs.declared.message.InfoMessage.TheVariants.{Core, AssociationGet, AssociationReport, SensorMultilevelReport, SupervisionReport, TransportComplete, TransportRequest, WakeUpNotification, WakeUpNoMoreInformation}
 use Rattle.class_info.specs.declared.report_status.ReportStatus.{ReportStatus}
 use Rattle.class_info.specs.declared.report_status.ReportStatus.TheVariants as statuses
 use Rattle.class_info.specs.InfoReading.{info_at}
@@ -42,9 +42,13 @@ use Rattle.device_stack.specs.Judging.{judged_message, judged_set, status_of}
 use Rattle.device_stack.specs.Telling.{report_of, asked_name, members_of, value_told, told}
 use Rattle.device_stack.specs.Answers.{report_status, asks_to_wake, status_report, final_report, swapped, answer_plan, worded}
 use Rattle.device_stack.specs.Effects.{end_of, set_plainly, effect_untold, telling, effect_alone, effect_in_session, effect_by, effect_of, takes, after_effect, status_answer, answer_of}
-use Rattle.device_stack.specs.Hearing.{answers, answers_opened, answers_bytes, sent_openly, hears_openly}
+use Rattle.device_stack.specs.Hearing.{answers, answers_opened, answers_bytes, sent_openly, hears_openly, segment_session, assembles, repeats_segment, hears_segment, hears_in_segments}
+use Rattle.transport_segments.specs.Segment.{id_of}
+use Rattle.transport_segments.specs.Taking.{is_segment, ends_its_datagram, taken_at}
+use Rattle.transport_segments.specs.declared.assembler.Taken.{Taken as Assembled}
+use Rattle.transport_segments.specs.declared.assembler.Taken.TheVariants.{Kept, Need, Whole}
 use Rattle.device_stack.specs.Ticking.{aged, works_out, ticked, woken, by_hand, main_told, tells_by_hand, set_by_hand}
-use Rattle.message_facts.specs.Reporting.{TellsOwn, TellsTrue, CanSay, asks_now}
+use Rattle.message_facts.specs.Reporting.{TellsOwn, TellsNone, TellsTrue, CanSay, asks_now}
 use Rattle.message_facts.specs.Others.{IsNoGet}
 use Rattle.node_course.specs.Device.{Says}
 
@@ -219,6 +223,32 @@ openly_bare device payload = by (opened_at payload)
     by None = tt
     by (Some message) = message_bare device message
 
+pub in_segments_bare : (device : State) (payload : List ℕ) → AllBare (hears_in_segments device payload).replies
+unfolding hears_in_segments hears_segment
+in_segments_bare device payload = by (is_segment payload)
+  where
+    complete_bare : (id : ℕ) → IsBareMessage (TransportComplete id)
+    complete_bare id = class_bare (form (TransportComplete id)) refl
+
+    assembled : (taken : Option Assembled) → AllBare (assembles device payload taken).replies
+    assembled None = tt
+    assembled (Some (Whole datagram)) = (complete_bare (id_of payload), openly_bare device datagram)
+    assembled (Some (Need at)) = (class_bare (form (TransportRequest (id_of payload) at)) refl, tt)
+    assembled (Some Kept) = tt
+
+    again : (b : Bool) → AllBare (if b then repeats_segment device payload else silent device).replies
+    again true = (complete_bare (id_of payload), (status_bare device (record { updates = false; id = wire_id device.sessions.taken }) device.sessions.status, tt))
+    again false = tt
+
+    next : (b : Bool) → AllBare (if b then assembles device payload (taken_at device.reassembly payload)
+        else if nat_lt 0 device.sessions.taken && (id_of payload == segment_session device.sessions.taken) && ends_its_datagram payload then repeats_segment device payload else silent device).replies
+    next true = assembled (taken_at device.reassembly payload)
+    next false = again (nat_lt 0 device.sessions.taken && (id_of payload == segment_session device.sessions.taken) && ends_its_datagram payload)
+
+    by : (b : Bool) → AllBare (if b then hears_segment device payload else hears_openly device payload).replies
+    by true = next (id_of payload == segment_session (device.sessions.taken + 1))
+    by false = openly_bare device payload
+
 -- ---- no report before a session is taken
 
 -- the answer to a message of a session, where there is one, is of a session that was taken
@@ -345,6 +375,15 @@ never_own device other (reply ∷ replies) more (is, all) = (by is, never_own de
         let same : wire_id other.sessions.taken ≡ wire_id device.sessions.taken = one_report _ _ _ _ _ _ (sym own ∙ mine) in
         absurd (omega (arith, same, more))
     by (inr none) mine = absurd (none (Report (wire_id device.sessions.taken) (report_status device.sessions.status) (asks_now device) ∷ []) mine).0
+
+-- each report of its own is of a device that took a session
+abbrev pub AllOwnTaken : State → List (List ℕ) → Type 0
+AllOwnTaken device replies = AllByRecursion (λ (reply : List ℕ). TellsOwn device reply → 0 < device.sessions.taken) replies
+
+-- what tells nothing is no report of its own
+pub none_own : (device : State) (replies : List (List ℕ)) → AllByRecursion TellsNone replies → AllOwnTaken device replies
+none_own device [] all = tt
+none_own device (reply ∷ replies) (none, all) = (λ own. absurd (none _ own).0, none_own device replies all)
 
 -- ---- together
 

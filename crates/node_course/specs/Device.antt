@@ -1,21 +1,20 @@
 -- The device of a node in the course of its sessions (this project's own rule).
-use Rattle.std.specs.Prelude.{◌≡◌, ◌⊎◌, ℕ, ◌<◌, true, List, [], ◌∷◌, Option, Some, None}
+use Rattle.std.specs.Prelude.{◌≡◌, ◌⊎◌, ℕ, ◌<◌, Bool, true, List, [], ◌∷◌, Option, Some, None}
 use Rattle.std.specs.List.{AllByRecursion}
 use Rattle.supervision.specs.Device.{Taken}
-use Rattle.courses.specs.Sessions.{Course, Of_node, Step, Finishes, after_all, MayAll}
-use Rattle.transport_segments.specs.Kept.{Empty}
+use Rattle.courses.specs.Sessions.{Course, Cargo, Command, Of_host, Answer, Of_node, Step, Finishes, hears, after_all, MayAll}
 use Rattle.device_sim.specs.State.{State}
 use Rattle.device_sim.specs.Event.{DeviceEvent, device_after, device_replies}
 use Rattle.device_course.specs.Ending.{HasEnded}
 use Rattle.message_facts.specs.Asking.{takes_openly}
+use Rattle.message_facts.specs.Landing.{IsOf}
 use Rattle.message_facts.specs.Reporting.{CanSay}
 use Rattle.node_course.specs.Meaning.{Reports, NodeMeans}
 
--- the course has the sessions of a device that takes what is not sealed, and the statuses to which it came; nothing of segments is kept
+-- the course has the sessions of a device that takes what is not sealed, the session of which it keeps segments, and the statuses to which it came
 pub record AtDevice (c : Course) (device : State) : Type 0 where
   pub sessions : device.sessions ≡ c.device
-  pub none_kept : c.kept ≡ None
-  pub empty : device.reassembly ≡ Empty
+  pub kept : IsOf device.reassembly c.kept
   pub ended : HasEnded device c.ends
   pub can : CanSay device
   pub is_open : takes_openly device.kind ≡ true
@@ -35,3 +34,15 @@ pub record GoesAs (c : Course) (device : State) (event : DeviceEvent) : Type 0 w
   pub may : MayAll c (finishes final)
   pub at : AtDevice (after_all c (finishes final)) (device_after device event)
   pub says : AllByRecursion (Says (device_after device event).sessions) (device_replies device event)
+
+-- it is one segment of a message
+abbrev pub IsSegment : Cargo → Type 0
+IsSegment (Command message) = message.is_segment ≡ true
+IsSegment Of_host = ⊥
+IsSegment (Answer session status) = ⊥
+IsSegment Of_node = ⊥
+
+-- a payload is heard as the course hears what it holds, where a segment may be the one that makes its message whole; or it is a segment, and nothing to the device: of another session than the next, or at
+-- a device that keeps none
+abbrev pub HearsAs : Course → State → ℕ → Cargo → DeviceEvent → Type 0
+HearsAs c device since cargo event = ((is_whole : Bool) × GoesAs (hears c since cargo is_whole) device event) ⊎ (IsSegment cargo × GoesAs c device event)

@@ -1,10 +1,12 @@
 -- What payloads are to the sessions of one node (this project's own): a message of one of them, a report of one, or neither.
-use Rattle.std.specs.Prelude.{◌≡◌, ℕ, ◌≤◌, Bool, false, List, [], ◌∷◌}
+use Rattle.std.specs.Prelude.{◌≡◌, ℕ, ◌*◌, ◌%◌, ◌<◌, ◌≤◌, Bool, true, false, List, [], ◌∷◌, length}
 use Rattle.zw_order.specs.declared.order.Order.{Order}
 use Rattle.supervision.specs.Session.{wire_id, IsStatus}
 use Rattle.courses.specs.Parts.{numbered}
 use Rattle.courses.specs.Sessions.{Cargo, Command, Of_host, Answer, Of_node}
 use Rattle.encap.specs.Opening.{begins_with}
+use Rattle.transport_segments.specs.Segment.{segment_text}
+use Rattle.transport_segments.specs.Parts.{slice_at}
 use Rattle.host_orders.specs.Refusals.{IsFit}
 use Rattle.host_orders.specs.Wrapping.{message_of}
 use Rattle.host_orders.specs.declared.carriage.Carriage.{Carriage}
@@ -30,9 +32,23 @@ pub record IsMessageOf (orders : List Asked) (commands : List ℕ) (session : �
   pub end : asked.order.end ≤ 127
   pub text : payload ≡ message_of asked.carriage asked.order session
 
--- a payload of the host: the message of a session, or none
+-- one segment of the message of a session
+pub record IsSegmentOf (orders : List Asked) (commands : List ℕ) (session : ℕ) (payload : List ℕ) : Type 0 where
+  pub message : List ℕ
+  pub of : IsMessageOf orders commands session message
+  pub most : length message ≤ 512
+  pub place : ℕ
+  pub within : 39 * place < length message
+  pub text : payload ≡ segment_text (session % 16) (length message) (39 * place) (slice_at message place)
+
+-- a message of a session: one segment of it, or the whole
+abbrev pub IsMessage : Bool → List Asked → List ℕ → ℕ → List ℕ → Type 0
+IsMessage true orders commands session payload = IsSegmentOf orders commands session payload
+IsMessage false orders commands session payload = IsMessageOf orders commands session payload
+
+-- a payload of the host: a message of a session, whole or one segment of it, or none
 abbrev pub HostMeans : List Asked → List ℕ → List ℕ → Cargo → Type 0
-HostMeans orders commands payload (Command message) = (message.is_segment ≡ false) × IsMessageOf orders commands message.session payload
+HostMeans orders commands payload (Command message) = IsMessage message.is_segment orders commands message.session payload
 HostMeans orders commands payload Of_host = IsOther payload
 HostMeans orders commands payload (Answer session status) = ⊥
 HostMeans orders commands payload Of_node = ⊥

@@ -9,7 +9,7 @@ use Rattle.device_sim.specs.State.{State}
 use Rattle.zw_text.specs.declared.line.Line.{Line}
 use Rattle.zw_text.specs.declared.line.Line.TheVariants.{Command, Get}
 use Rattle.host_orders.specs.Wrapping.{form_of}
-use Rattle.host_orders.specs.declared.carriage.Form.TheVariants.{Plain}
+use Rattle.host_orders.specs.declared.carriage.Form.TheVariants.{Sealed}
 use Rattle.host_events.specs.Events.{HostEvent, Accepts, Queues, Requests_do, Finishes}
 use Rattle.host_events.specs.Facts.{HostFacts}
 use Rattle.zw_machine.specs.State.{Machine}
@@ -58,14 +58,14 @@ pub record HasCourse (node : ℕ) (m : Machine) : Type 0 where
 
 -- ---- what is premised of events
 
--- the orders for the node go whole and unsealed, and what else is queued for it is no message of a session
+-- the orders for the node go unsealed, and what else is queued for it is no message of a session
 abbrev pub IsPlainly : ℕ → Event → Type 0
 IsPlainly node (Host_does event) = AsksPlainly node event
 IsPlainly node event = Unit {0}
 
--- the orders for the node go whole and unsealed: no more is premised of lines
+-- the orders for the node go unsealed: no more is premised of lines
 abbrev pub OrderPlain : ℕ → HostEvent → Type 0
-OrderPlain node (Accepts order carriage) = order.node ≡ node → form_of carriage.outer ≡ Plain
+OrderPlain node (Accepts order carriage) = order.node ≡ node → form_of carriage.outer ≢ Sealed
 OrderPlain node event = Unit {0}
 
 abbrev pub OrdersPlain : ℕ → Event → Type 0

@@ -1,29 +1,29 @@
 //! The device of a node, in the course of its sessions.
 
 ghost use Rattle.std.specs.Prelude.{◌≡◌, ℕ, true, false, List};
-ghost use Rattle.courses.specs.Sessions.{Course, Cargo, Of_host, first_course, hears};
+ghost use Rattle.courses.specs.Sessions.{Course, Cargo, first_course};
 ghost use Rattle.device_stack.specs.declared.kind.Kind.{Kind};
 ghost use Rattle.device_sim.specs.State.{State, fresh};
 ghost use Rattle.device_sim.specs.Event.{DeviceEvent, Hears, Ticks, Wakes, Sets, device_after};
 ghost use Rattle.message_facts.specs.Asking.{takes_openly};
 ghost use Rattle.node_course.specs.Meaning.{Asked, HostMeans};
 ghost use Rattle.node_course.specs.Making.{Makes, Names, HearsNone};
-ghost use Rattle.node_course.specs.Device.{AtDevice, GoesAs};
+ghost use Rattle.node_course.specs.Device.{AtDevice, GoesAs, HearsAs};
 
 use device_course::devices_end_sessions;
 use device_facts::devices_stay_the_same;
 use message_facts::{
     messages_do_what_is_asked, messages_follow_the_course, messages_open, others_are_no_messages,
-    reports_tell,
+    reports_tell, segments_tell,
 };
 
-/// A device that takes what is not sealed goes on as the course has it: it hears a payload of the host for it, it ticks, wakes up or is set by hand. What it says then is a report
+/// A device that takes what is not sealed goes on as the course has it: it hears a payload of the host for it, whole or one segment, it ticks, wakes up or is set by hand. What it says then is a report
 /// of the last session that it took, with the status that it has by then; or no report. Each change by a
-/// session, at once or by work, is of the settings that the session's command asks for.
+/// session, at once or by work, is of the settings that the session's command asks for; and what it keeps of segments is of the message of the session after its last.
 pub fn devices_follow_the_course()
     ensures fresh { (node : ℕ) (kind : Kind) (key : List ℕ) → takes_openly kind ≡ true → AtDevice first_course (fresh node kind key) }
     ensures hears { (orders : List Asked) (commands : List ℕ) (c : Course) (device : State) (since : ℕ) (cargo : Cargo) (payload drawn : List ℕ) →
-        AtDevice c device → device.awake ≡ true → HostMeans orders commands payload cargo → GoesAs (hears c since cargo false) device (Hears payload drawn) }
+        AtDevice c device → device.awake ≡ true → HostMeans orders commands payload cargo → Names c.device cargo → Makes orders commands device → HearsAs c device since cargo (Hears payload drawn) }
     ensures makes { (orders : List Asked) (commands : List ℕ) (c : Course) (device : State) (cargo : Cargo) (payload drawn : List ℕ) →
         AtDevice c device → device.awake ≡ true → HostMeans orders commands payload cargo → Names c.device cargo → Makes orders commands device → Makes orders commands (device_after device (Hears payload drawn)) }
     ensures keeps { (orders : List Asked) (commands : List ℕ) (device : State) (event : DeviceEvent) → HearsNone event → Makes orders commands device → Makes orders commands (device_after device event) }
@@ -38,4 +38,5 @@ pub fn devices_follow_the_course()
     messages_follow_the_course();
     others_are_no_messages();
     reports_tell();
+    segments_tell();
 }

@@ -28,7 +28,7 @@ use courses::courses_keep_facts;
 use host_facts::{events_keep_facts, laws_follow, what_is_over_stays};
 use message_facts::{others_are_no_messages, reports_tell};
 
-/// What the host does makes steps of the course of a node whose commands go whole and unsealed: it begins a session; it writes the message of the last one, or writes it again; and it judges what it has taken out of its pipe, where a
+/// What the host does makes steps of the course of a node whose commands go unsealed: it begins a session; it writes the message of the last one, whole or segment by segment, or writes it again; and it judges what it has taken out of its pipe, where a
 /// report of the last session's end ends it at the host, and gives its command the outcome of that status. Whatever else it does, or writes, is nothing to the course.
 pub fn hosts_follow_the_course()
     ensures does { (node : ℕ) (orders : List Asked) (c : Course) (rest : Rest) (up down : List Item) (h : HostState) (w : Outside) (event : HostEvent) → HostFollows node orders c rest up [] down h w → HasPast h → CourseFacts c → May h event →

@@ -1,4 +1,4 @@
-//! That the whole machine goes, for each node whose commands go whole and unsealed, a course of its sessions (`courses`): what its device applied is a part of the commands of the sessions that began.
+//! That the whole machine goes, for each node whose commands go unsealed, whole or in segments, a course of its sessions (`courses`): what its device applied is a part of the commands of the sessions that began.
 //!
 //! It promises that every event outside the host (`outsides_follow_the_course`), what the host does (`hosts_follow_the_course`), every event of the machine (`worlds_follow_the_course`) and so any lines from the first on
 //! (`lines_have_a_course`) are steps of such a course; and that the host's table of commands says what the host was told and what the device changed. What lines ask beside orders is no matter (`lines_ask_plainly`).

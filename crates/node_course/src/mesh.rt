@@ -18,7 +18,7 @@ ghost use Rattle.node_course.specs.Mesh.{InMesh, MeshGoes, brought};
 use crate::air::frames_follow_the_course;
 use crate::device::devices_follow_the_course;
 use air_flights::frames_fly_in_order;
-use courses::ids_name_one_session;
+use courses::{courses_keep_facts, ids_name_one_session};
 use device_facts::devices_stay_the_same;
 
 /// The next frame arrives, or one is heard again that may be: by the device of the node, by another, by the chip or by nobody. What a device answers goes on the air. A device
@@ -37,5 +37,6 @@ pub fn arrivals_follow_the_course()
     frames_follow_the_course();
     devices_follow_the_course();
     devices_stay_the_same();
+    courses_keep_facts();
     ids_name_one_session();
 }

@@ -25,7 +25,7 @@ opens Lock plain = let sealed = plain.unsealed in absurd cc
 opens Sensor plain = refl
 opens Thermostat plain = refl
 opens Strip plain = refl
-opens Configurable plain = let cut = plain.whole in absurd cc
+opens Configurable plain = refl
 
 -- ---- the place of a device
 

@@ -1,4 +1,4 @@
--- The host never takes a node whose device is of a plain kind to list Security 0 or Transport Service.
+-- The host never takes a node whose device is of a plain kind to list Security 0.
 use Rattle.std.proofs.Common.{◌≡◌, ℕ, ◌==◌, Bool, true, false, if◌then◌else◌, List, [], ◌∷◌, Option, Some, None, inl, inr, refl, sym, ap, subst, ◌∙◌}
 use Rattle.std.specs.List.{AllByRecursion}
 use Rattle.std.proofs.lemmas.Bool.{cases_eq}
@@ -22,14 +22,14 @@ use Rattle.said_facts.specs.Said.{AllTell, TellListing, Tells, TellsListing}
 use Rattle.said_facts.proofs.Classes.{LeavesRecords, classes_of, event_kept, joined_place, set_here, set_there}
 use Rattle.node_course.specs.World.{OrderPlain, OrdersPlain}
 use Rattle.plain_nodes.specs.Plain.{IsOpenList, IsPlainKind}
-use Rattle.plain_nodes.proofs.Carrying.{goes_plain}
+use Rattle.plain_nodes.proofs.Carrying.{goes_unsealed}
 
 -- ---- lists
 
 -- what a plain kind lists
 kind_open : (kind : Kind) → IsPlainKind kind → IsOpenList (kind_classes kind)
 unfolding lists
-kind_open kind plain = record { unsealed = plain.unsealed; whole = plain.whole }
+kind_open kind plain = record { unsealed = plain.unsealed }
 
 pub listing_open : (devices : List State) (node : ℕ) (device : State) → device_of node devices ≡ Some device → IsPlainKind device.kind → IsOpenList (listing_of devices node)
 listing_open devices node device found plain = subst (λ (o : Option State). IsOpenList (listed_by o)) (sym found) (kind_open device.kind plain)
@@ -39,7 +39,7 @@ some_list a b e = cc
 
 first_by : (hit : Bool) (classes : List ℕ) → (if hit then Some (kind_classes Switch) else None) ≡ Some classes → IsOpenList classes
 unfolding lists
-first_by true classes e = subst IsOpenList (some_list (kind_classes Switch) classes e) (record { unsealed = refl; whole = refl })
+first_by true classes e = subst IsOpenList (some_list (kind_classes Switch) classes e) (record { unsealed = refl })
 first_by false classes e = absurd cc
 
 pub first_open : (node : ℕ) (known : Option (List ℕ)) → known ≡ known_at_first node → (classes : List ℕ) → known ≡ Some classes → IsOpenList classes
@@ -83,7 +83,7 @@ module _ (law : LeavesRecords) (listing : ℕ → List ℕ) (node : ℕ) (lists_
   -- ---- orders
 
   order_plain : (h : HostState) (event : HostEvent) → MayHost h event → KnowsOpen h → OrderPlain node event
-  order_plain h (Accepts order carriage) may knows = λ own. goes_plain h order carriage may (λ classes is. knows classes (ap (λ (k : ℕ). classes_of h.nodes k) (sym own) ∙ is))
+  order_plain h (Accepts order carriage) may knows = λ own. goes_unsealed h order carriage may (λ classes is. knows classes (ap (λ (k : ℕ). classes_of h.nodes k) (sym own) ∙ is))
   order_plain h event may knows = tt
 
   event_plain : (m : Machine) (event : Event) → May m event → KnowsOpen m.host.state → OrdersPlain node event

@@ -1,4 +1,4 @@
--- Plain nodes (this project's own): their messages go whole and unsealed.
+-- Plain nodes (this project's own): their messages go unsealed, whole or in segments.
 use Rattle.std.specs.Prelude.{◌≡◌, ℕ, ◌<◌, true, false, List, Some}
 use Rattle.std.specs.List.{AllByRecursion}
 use Rattle.courses.specs.Sessions.{first_course}
@@ -11,12 +11,10 @@ use Rattle.zw_machine.specs.Events.{Event}
 use Rattle.node_course.specs.Mesh.{HasDevice}
 use Rattle.node_course.specs.World.{OrdersPlain}
 
--- A kind that lists Supervision, and neither Security 0 nor Transport Service (the classes are those of a Node Information Frame): it takes commands in sessions, each in one frame
--- and not sealed.
+-- A kind that lists Supervision, and not Security 0 (the classes are those of a Node Information Frame): it takes commands in sessions, whole or in segments, and not sealed.
 pub record IsPlainKind (kind : Kind) : Type 0 where
   pub supervised : kind_lists kind 0x6C ≡ true
   pub unsealed : kind_lists kind 0x98 ≡ false
-  pub whole : kind_lists kind 0x55 ≡ false
 
 -- a node whose device, the first of it in the list, is of a plain kind
 pub record IsPlainNode (devices : List State) (node : ℕ) : Type 0 where
@@ -24,12 +22,11 @@ pub record IsPlainNode (devices : List State) (node : ℕ) : Type 0 where
   pub first : device_of node devices ≡ Some device
   pub kind : IsPlainKind device.kind
 
--- a list of classes has neither Security 0 nor Transport Service
+-- a list of classes has no Security 0
 pub record IsOpenList (classes : List ℕ) : Type 0 where
   pub unsealed : lists classes 0x98 ≡ false
-  pub whole : lists classes 0x55 ≡ false
 
--- over these events: the device of the node is the only one of it, is as its maker left it and takes what is not sealed; and the orders for the node go whole and unsealed
+-- over these events: the device of the node is the only one of it, is as its maker left it and takes what is not sealed; and the orders for the node go unsealed
 pub record IsPlain (devices : List State) (events : List Event) (node : ℕ) : Type 0 where
   pub within : node < 233
   pub device : HasDevice node first_course devices

@@ -1,4 +1,4 @@
-//! The headline of nodes whose commands go whole and unsealed, over any lines that were read, restarts among them.
+//! The headline of nodes whose commands go unsealed, whole or in segments, over any lines that were read, restarts among them.
 //!
 //! The course of such a node (`node_course`) ties its device to the host, and each success that the host is told of it is true (`plain_nodes_are_tied`). So it has what follows of that
 //! (`headline_facts`): once only, the confirmed value, and success behind the change; and where all nodes that may be asked are such, the whole headline (`plain_runs_have_the_headline`).

@@ -19,8 +19,8 @@ use host_node::a_restart_needs_the_records_alone;
 use listing_facts::interviews_tell_what_nodes_list;
 use said_facts::interviews_give_what_is_known;
 
-/// Over any lines that were read, each order that is accepted for a node whose device is of a plain kind goes whole and unsealed: before an interview the host takes
-/// node 2 for a switch and takes no order for others, an interview tells what the device lists, and what is too long for one frame is refused.
+/// Over any lines that were read, each order that is accepted for a node whose device is of a plain kind goes unsealed: before an interview the host takes
+/// node 2 for a switch and takes no order for others, and an interview tells what the device lists.
 pub fn orders_go_plain()
     ensures { (keys : Keys) (devices : List State) (lines : List Line) (events : List Event) (node : ℕ) (device : State) → AllByRecursion IsRead lines →
         AreLines lines (first_machine keys (Some []) devices) events → MayAll (first_machine keys (Some []) devices) events →

@@ -1,5 +1,7 @@
 -- Each clause is a lemma on a segment that is heard.
-use Rattle.message_facts.proofs.Segmenting.{is_part, next_segment, other_segment, segment_elsewhere}
+use Rattle.message_facts.proofs.Parting.{is_part}
+use Rattle.message_facts.proofs.Segmenting.{next_segment, other_segment, other_says, segment_elsewhere, part_no_get}
+use Rattle.message_facts.proofs.Reporting.{complete_none}
 use Rattle.message_facts.proofs.segments.segments_tell.Goals as goal
 
 pub returns-clause-part : goal.returns-clause-part
@@ -13,3 +15,12 @@ returns-clause-other c = other_segment
 
 pub returns-clause-elsewhere : goal.returns-clause-elsewhere
 returns-clause-elsewhere c = segment_elsewhere
+
+pub returns-clause-other_says : goal.returns-clause-other_says
+returns-clause-other_says c = other_says
+
+pub returns-clause-no_get : goal.returns-clause-no_get
+returns-clause-no_get c = part_no_get
+
+pub returns-clause-acknowledged : goal.returns-clause-acknowledged
+returns-clause-acknowledged c = complete_none

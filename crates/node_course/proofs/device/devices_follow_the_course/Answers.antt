@@ -15,6 +15,17 @@ returns-clause-fresh c = fresh_at (record {
   fresh_can = c.reports_tell.ensures.fresh;
   can = c.reports_tell.ensures.kept;
   same = c.devices_stay_the_same.ensures.event;
+  part_lands = c.messages_follow_the_course.ensures.part;
+  whole_lands = c.messages_follow_the_course.ensures.whole;
+  segments = record {
+    part = c.segments_tell.ensures.part;
+    next = c.segments_tell.ensures.next;
+    other = c.segments_tell.ensures.other;
+    other_says = c.segments_tell.ensures.other_says;
+    elsewhere = c.segments_tell.ensures.elsewhere;
+    no_get = c.segments_tell.ensures.no_get;
+    acknowledged = c.segments_tell.ensures.acknowledged;
+  };
 })
 
 pub returns-clause-hears : goal.returns-clause-hears
@@ -29,6 +40,17 @@ returns-clause-hears c = payload_heard (record {
   fresh_can = c.reports_tell.ensures.fresh;
   can = c.reports_tell.ensures.kept;
   same = c.devices_stay_the_same.ensures.event;
+  part_lands = c.messages_follow_the_course.ensures.part;
+  whole_lands = c.messages_follow_the_course.ensures.whole;
+  segments = record {
+    part = c.segments_tell.ensures.part;
+    next = c.segments_tell.ensures.next;
+    other = c.segments_tell.ensures.other;
+    other_says = c.segments_tell.ensures.other_says;
+    elsewhere = c.segments_tell.ensures.elsewhere;
+    no_get = c.segments_tell.ensures.no_get;
+    acknowledged = c.segments_tell.ensures.acknowledged;
+  };
 })
 
 pub returns-clause-ticks : goal.returns-clause-ticks
@@ -43,6 +65,17 @@ returns-clause-ticks c = tick_goes (record {
   fresh_can = c.reports_tell.ensures.fresh;
   can = c.reports_tell.ensures.kept;
   same = c.devices_stay_the_same.ensures.event;
+  part_lands = c.messages_follow_the_course.ensures.part;
+  whole_lands = c.messages_follow_the_course.ensures.whole;
+  segments = record {
+    part = c.segments_tell.ensures.part;
+    next = c.segments_tell.ensures.next;
+    other = c.segments_tell.ensures.other;
+    other_says = c.segments_tell.ensures.other_says;
+    elsewhere = c.segments_tell.ensures.elsewhere;
+    no_get = c.segments_tell.ensures.no_get;
+    acknowledged = c.segments_tell.ensures.acknowledged;
+  };
 })
 
 pub returns-clause-wakes : goal.returns-clause-wakes
@@ -57,6 +90,17 @@ returns-clause-wakes c = wake_goes (record {
   fresh_can = c.reports_tell.ensures.fresh;
   can = c.reports_tell.ensures.kept;
   same = c.devices_stay_the_same.ensures.event;
+  part_lands = c.messages_follow_the_course.ensures.part;
+  whole_lands = c.messages_follow_the_course.ensures.whole;
+  segments = record {
+    part = c.segments_tell.ensures.part;
+    next = c.segments_tell.ensures.next;
+    other = c.segments_tell.ensures.other;
+    other_says = c.segments_tell.ensures.other_says;
+    elsewhere = c.segments_tell.ensures.elsewhere;
+    no_get = c.segments_tell.ensures.no_get;
+    acknowledged = c.segments_tell.ensures.acknowledged;
+  };
 })
 
 pub returns-clause-sets : goal.returns-clause-sets
@@ -71,6 +115,17 @@ returns-clause-sets c = set_goes (record {
   fresh_can = c.reports_tell.ensures.fresh;
   can = c.reports_tell.ensures.kept;
   same = c.devices_stay_the_same.ensures.event;
+  part_lands = c.messages_follow_the_course.ensures.part;
+  whole_lands = c.messages_follow_the_course.ensures.whole;
+  segments = record {
+    part = c.segments_tell.ensures.part;
+    next = c.segments_tell.ensures.next;
+    other = c.segments_tell.ensures.other;
+    other_says = c.segments_tell.ensures.other_says;
+    elsewhere = c.segments_tell.ensures.elsewhere;
+    no_get = c.segments_tell.ensures.no_get;
+    acknowledged = c.segments_tell.ensures.acknowledged;
+  };
 })
 
 pub returns-clause-makes : goal.returns-clause-makes
@@ -78,6 +133,15 @@ returns-clause-makes c = payload_makes (record {
   follows = c.messages_do_what_is_asked.ensures.heard;
   asked = c.messages_do_what_is_asked.ensures.asked;
   left = c.others_are_no_messages.ensures.left;
+  segments = record {
+    part = c.segments_tell.ensures.part;
+    next = c.segments_tell.ensures.next;
+    other = c.segments_tell.ensures.other;
+    other_says = c.segments_tell.ensures.other_says;
+    elsewhere = c.segments_tell.ensures.elsewhere;
+    no_get = c.segments_tell.ensures.no_get;
+    acknowledged = c.segments_tell.ensures.acknowledged;
+  };
 })
 
 pub returns-clause-keeps : goal.returns-clause-keeps
