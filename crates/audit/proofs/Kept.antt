@@ -16,20 +16,24 @@ use Rattle.transcript_books.specs.OnceRule.{breaks_once}
 use Rattle.transcript_books.specs.SessionRule.{breaks_sessions}
 use Rattle.audit.specs.declared.breaks.Break.{Break}
 use Rattle.audit.specs.declared.breaks.Break.TheVariants.{Air, Once, Payload, Sessions, Store, Table}
-use Rattle.audit.specs.Scene.{Accepting, accepting_at, accepting_behind, line_shown, ticks_behind}
-use Rattle.audit.specs.AirRule.{breaks_air}
-use Rattle.audit.specs.PayloadRule.{breaks_payload}
-use Rattle.audit.specs.StoreRule.{breaks_store, breaks_storing, storing_behind}
-use Rattle.audit.specs.TableRule.{breaks_table}
+use Rattle.audit_table.specs.OrdersGiven.{Accepting, accepting_at, accepting_behind, line_shown}
+use Rattle.audit_frames.specs.Ticks.{ticks_behind}
+use Rattle.audit_frames.specs.AirRule.{breaks_air}
+use Rattle.audit_payloads.specs.PayloadRule.{breaks_payload}
+use Rattle.audit_table.specs.StoreRule.{breaks_store, breaks_storing, storing_behind}
+use Rattle.audit_table.specs.TableRule.{breaks_table}
 use Rattle.audit.specs.Breaking.{IsJudged, first_of_rest}
-use Rattle.audit.specs.Flying.{breaks_flying, flying_after, no_frames}
-use Rattle.audit.specs.Knowing.{IsWithin, breaks_closing, closing_after, no_closing}
-use Rattle.audit.specs.Sending.{breaks_sending, no_sendings, sendings_after}
-use Rattle.audit.specs.Keeping.{AreClosingOf, AreFlyingOf, AreSendingsOf, IsKeptOf, Kept, KeepsTables}
-use Rattle.audit.proofs.Views.{folded-more}
-use Rattle.audit.proofs.Flies.{air-begins, goes-air, judges-air}
-use Rattle.audit.proofs.Picks.{goes-payload, judges-payload, payloads-begin}
-use Rattle.audit.proofs.Closes.{closing-begins, goes-closing, judges-table}
+use Rattle.audit_frames.specs.Flying.{breaks_flying, flying_after, no_frames}
+use Rattle.audit_table.specs.Knowing.{IsWithin, breaks_closing, closing_after, no_closing}
+use Rattle.audit_payloads.specs.Sending.{breaks_sending, no_sendings, sendings_after}
+use Rattle.audit_table.specs.Keeping.{AreClosingOf}
+use Rattle.audit_frames.specs.Keeping.{AreFlyingOf}
+use Rattle.audit_payloads.specs.Keeping.{AreSendingsOf}
+use Rattle.audit.specs.Keeping.{IsKeptOf, Kept, KeepsTables}
+use Rattle.zw_text.proofs.Views.{folded-append}
+use Rattle.audit_frames.proofs.Flies.{air-begins, goes-air, judges-air}
+use Rattle.audit_payloads.proofs.Picks.{goes-payload, judges-payload, payloads-begin}
+use Rattle.audit_table.proofs.Closes.{closing-begins, goes-closing, judges-table}
 
 -- ---- judging
 
@@ -122,7 +126,7 @@ line-more scene (Said words) = refl
 line-more scene other = refl
 
 accepting-more : (past : List Entry) (entry : Entry) → accepting_at (past ++ (entry ∷ [])) ≡ accepting_behind (accepting_at past) entry
-accepting-more past entry = folded-more accepting_behind (record { orders = []; line = None }) past entry
+accepting-more past entry = folded-append accepting_behind (record { orders = []; line = None }) past (entry ∷ [])
 
 goes-kept : (kept : Kept) (endings : List (ℕ × Ending)) (changes : Changing) (past : List Entry) (entry : Entry) → GoOn → ChangesGoOn → IsKeptOf kept past → EntryFits entry → KeepsTables past entry →
     IsWithin kept.scene.line → ((command : ℕ) → ending_in endings command ≡ ending_after (ending_in kept.endings command) command entry) →
@@ -140,14 +144,14 @@ goes-kept : (kept : Kept) (endings : List (ℕ × Ending)) (changes : Changing) 
     }) (past ++ (entry ∷ []))
 goes-kept kept endings changes past entry go change are fits keeps within ended changing = record {
   books = go kept.scene kept.orders kept.endings endings kept.sessions past entry are.books fits keeps.sessions ended;
-  ticks = ticks-more kept.scene entry ∙ ap (λ t. ticks_behind t entry) are.ticks ∙ sym (folded-more ticks_behind false past entry);
+  ticks = ticks-more kept.scene entry ∙ ap (λ t. ticks_behind t entry) are.ticks ∙ sym (folded-append ticks_behind false past (entry ∷ []));
   line = line-more kept.scene entry ∙ sym (ap (λ (a : Accepting). a.line) (accepting-more past entry));
   orders =
       ap₂ (λ o l. orders_after o l entry) are.orders are.line ∙ sym (ap (λ (a : Accepting). a.orders) (accepting-more past entry));
   changes = change kept.scene.line kept.orders kept.endings kept.sessions kept.changes changes past entry are.books are.changes fits changing;
   air = goes-air kept.air kept.scene kept.sessions past entry are.air are.ticks (λ node below. are.books.sessions node below) fits keeps.air;
   payloads = goes-payload kept.payloads past entry are.payloads keeps.payload;
-  stores = ap (λ s. storing_behind s entry) are.stores ∙ sym (folded-more storing_behind None past entry);
+  stores = ap (λ s. storing_behind s entry) are.stores ∙ sym (folded-append storing_behind None past (entry ∷ []));
   closing =
       goes-closing kept.closing kept.scene.line (ending_in kept.endings) kept.orders kept.sessions past entry are.closing within fits are.books.line
       (λ node below. are.books.sessions node below) are.books.endings are.orders;

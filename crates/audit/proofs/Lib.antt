@@ -1,14 +1,3 @@
-mod Views
-mod Drops
-mod Nonces
-mod Flies
-mod Picks
-mod Ordered
-mod Knows
-mod TableLines
-mod Closes
 mod Kept
 mod Passes
 mod Alone
-mod Maps
-mod Marks

@@ -7,10 +7,10 @@ use Rattle.transcript_books.specs.Lines.{IsNext, IsNoLine}
 use Rattle.transcript_books.specs.Groups.{IsBehind, maker_at}
 use Rattle.transcript_books.specs.SessionRule.{breaks_sessions}
 use Rattle.transcript_books.specs.OnceRule.{breaks_once}
-use Rattle.audit.specs.AirRule.{breaks_air}
-use Rattle.audit.specs.PayloadRule.{breaks_payload}
-use Rattle.audit.specs.StoreRule.{breaks_store}
-use Rattle.audit.specs.TableRule.{breaks_table}
+use Rattle.audit_frames.specs.AirRule.{breaks_air}
+use Rattle.audit_payloads.specs.PayloadRule.{breaks_payload}
+use Rattle.audit_table.specs.StoreRule.{breaks_store}
+use Rattle.audit_table.specs.TableRule.{breaks_table}
 use Rattle.audit.specs.declared.breaks.Break.{Break}
 use Rattle.audit.specs.declared.breaks.Break.TheVariants.{Text, Sessions, Once, Air, Payload, Store, Table}
 

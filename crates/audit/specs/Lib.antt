@@ -1,10 +1,2 @@
-pub mod Scene
-pub mod AirRule
-pub mod PayloadRule
-pub mod StoreRule
-pub mod TableRule
 pub mod Breaking
-pub mod Flying
-pub mod Sending
-pub mod Knowing
 pub mod Keeping

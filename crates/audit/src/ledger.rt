@@ -8,10 +8,9 @@ ghost use Rattle.audit.specs.declared.breaks.Break.TheVariants.{Text};
 ghost use Rattle.audit.specs.Keeping.{IsKeptOf, KeepsTables};
 
 use crate::Break;
-use crate::air::Air;
-use crate::closing::Closing;
-use crate::payloads::Payloads;
-use crate::stores::Stores;
+use audit_frames::Air;
+use audit_payloads::Payloads;
+use audit_table::{Closing, Stores};
 use std::alloc::Global;
 use std::marker::Model;
 use transcript_books::{Changes, Endings, Orders, Scene, Sessions, changes_follow, tables_follow};

@@ -1,8 +1,0 @@
-use Rattle.transcript_books.specs.Ending.{ending_in}
-use Rattle.audit.proofs.Marks.{ends-after}
-use Rattle.audit.proofs.closing.Closing.take.Goals as goal
-
-pub returns-in_ok-end-in-TableEnd-clause-taken : goal.returns-in_ok-end-in-TableEnd-clause-taken
-returns-in_ok-end-in-TableEnd-clause-taken c =
-    ends-after c.args.self.now c.run.new.self c.end.new.self c.args.scene.now.line _ (ending_in c.args.endings.now) c.args.orders.now c.args.sessions.now c.args.entry.now c.in-TableEnd.ticks
-    c.in-TableEnd.is c.line.ensures c.in_ok-run.ensures.done c.in_ok-end-in-TableEnd.ensures

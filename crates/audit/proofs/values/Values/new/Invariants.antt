@@ -1,5 +1,0 @@
-use Rattle.std.proofs.Common.{◌≡◌, map, replicate, []}
-use Rattle.audit.proofs.values.Values.new.Given as goal
-
-abbrev pub invariant-loop : goal.invariant-loop
-invariant-loop l = map (λ known. known.entries) l.nodes.items ≡ replicate l.counter []

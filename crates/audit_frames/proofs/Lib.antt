@@ -1,0 +1,2 @@
+mod Nonces
+pub mod Flies

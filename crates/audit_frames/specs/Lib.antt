@@ -1,0 +1,4 @@
+pub mod Ticks
+pub mod AirRule
+pub mod Flying
+pub mod Keeping

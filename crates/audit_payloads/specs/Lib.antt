@@ -1,0 +1,3 @@
+pub mod PayloadRule
+pub mod Sending
+pub mod Keeping

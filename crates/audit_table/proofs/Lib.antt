@@ -1,0 +1,7 @@
+mod Drops
+mod Ordered
+mod Knows
+mod TableLines
+pub mod Closes
+mod Maps
+mod Marks

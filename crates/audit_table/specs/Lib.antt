@@ -1,0 +1,5 @@
+pub mod OrdersGiven
+pub mod StoreRule
+pub mod TableRule
+pub mod Knowing
+pub mod Keeping
