@@ -3,7 +3,7 @@
 use aes_block::Aes128;
 
 /// A key, a block, and its cipher text: FIPS 197, appendices B and C.1, and NIST SP 800-38A, section F.1.1.
-const VECTORS: [([u8; 16], [u8; 16], [u8; 16]); 6] = [
+const VECTORS: &[([u8; 16], [u8; 16], [u8; 16])] = &[
     (
         [
             0x2B, 0x7E, 0x15, 0x16, 0x28, 0xAE, 0xD2, 0xA6, 0xAB, 0xF7, 0x15, 0x88, 0x09, 0xCF,
@@ -90,13 +90,15 @@ const VECTORS: [([u8; 16], [u8; 16], [u8; 16]); 6] = [
     ),
 ];
 
+/// Whether a block is enciphered so.
+fn is_enciphered(key: [u8; 16], block: [u8; 16], cipher_text: &[u8; 16]) -> bool {
+    Aes128::new(key).encrypt(block) == *cipher_text
+}
+
 #[test]
 fn standard_vectors(rt: HostRuntime) {
     for (key, block, cipher_text) in VECTORS {
-        assert_eq!(rt;
-            Aes128::new(key).encrypt(block),
-            cipher_text,
-            "of {block:?}"
-        );
+        let same = is_enciphered(*key, *block, cipher_text);
+        assert!(rt; same, "of {block:?}");
     }
 }

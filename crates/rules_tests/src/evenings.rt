@@ -7,7 +7,7 @@ use std::process::Abort;
 use std::test::Fail;
 use supervision::{FAIL, SUCCESS, Told, WORKING};
 use wake_mailbox::NotWaiting;
-use zw_base::{Bytes, NodeId, read_node};
+use zw_base::{Bytes, NoMemory, NodeId, Payload, read_node};
 
 const NETWORK: [u8; 16] = [7; 16];
 
@@ -20,7 +20,7 @@ const PLAIN: [u8; 2] = [0x62, 0x02];
 const CLASSES: [u8; 2] = [0x62, 0x6C];
 
 /// One event, or so many ticks.
-#[derive(Clone, Copy, Debug)]
+#[derive(Clone, Copy)]
 enum Act {
     Interview(bool),
     Put(u32),
@@ -55,7 +55,7 @@ use Act::{
 };
 
 /// What the event answers. Of ticks it is the answer of the last; those before it end nothing.
-#[derive(Clone, Copy, Debug, PartialEq, Eq)]
+#[derive(Clone, Copy, PartialEq, Eq)]
 enum Answer {
     Nothing,
     Began(u32, u64),
@@ -76,7 +76,7 @@ use Moment::{BeforeItsTick, BetweenTicks};
 use Series::{Due, Idle, Running};
 
 /// A listening node: a plain exchange; three attempts and a new series at the hundredth tick; a sealed attempt; segments.
-const LISTENING: [Row; 44] = [
+const LISTENING: &[Row] = &[
     Row(Interview(true), Nothing, Idle, false),
     Row(Put(1), Nothing, Idle, true),
     Row(TakeBack, Nothing, Idle, false),
@@ -139,7 +139,7 @@ const LISTENING: [Row; 44] = [
 ];
 
 /// A node that sleeps: its waking, a hold, No More Information, a third attempt, restarts.
-const SLEEPING: [Row; 49] = [
+const SLEEPING: &[Row] = &[
     Row(Interview(false), Nothing, Idle, false),
     Row(Put(1), Nothing, Idle, false),
     Row(Accept, Nothing, Idle, false),
@@ -200,23 +200,37 @@ fn node(rt: &impl Abort, number: u8) -> NodeId {
     read_node(number).expect(rt, "a node")
 }
 
+/// Whether the message for a nonce is what the seal alone makes of the plain text.
+fn is_sealed(alloc: Global, receiver: NodeId, text: &Payload) -> Result<bool, Fail> {
+    let ends = SealEnds {
+        sender: read_node(1).ok_or("no node")?,
+        receiver,
+    };
+    let want = seal(alloc, &keys(NETWORK), DRAWN, NONCE, &ends, &PLAIN)?;
+    Ok(text.bytes() == want.as_slice())
+}
+
+/// Whether the nonces with that first byte stand there in the node's count.
+fn counts(one: &Node, first: u8, want: Option<u64>) -> Result<bool, NoMemory> {
+    Ok(one.count_at(first)? == want)
+}
+
+/// The message for a nonce of the node. None where no plain text waits, or sealing took it.
+fn sealed(one: &Node) -> Result<Option<Payload>, NoMemory> {
+    if !one.is_pending() {
+        return Ok(None);
+    }
+    Ok(Some(one.seal_text(&keys(NETWORK), NONCE, DRAWN)?))
+}
+
 /// The message for a nonce of the node, which the attempt then has to give.
 fn take_nonce(alloc: Global, rt: &impl Abort, one: &mut Node) -> Result<(), Fail> {
-    assert_eq!(rt; one.count_at(2)?, None);
-    assert_eq!(rt; one.count_at(1)?, Some(1));
-    assert!(rt; one.is_pending());
-    let keys = keys(NETWORK);
-    let text = one.seal_text(&keys, NONCE, DRAWN)?;
-    let ends = SealEnds {
-        sender: node(rt, 1),
-        receiver: one.node(),
-    };
-    let want = seal(alloc, &keys, DRAWN, NONCE, &ends, &PLAIN)?;
-    assert_eq!(rt; text.bytes(), want.as_slice());
+    assert!(rt; counts(one, 2, None)? && counts(one, 1, Some(1))?);
+    let text = sealed(one)?.expect(rt, "a message");
+    assert!(rt; is_sealed(alloc, one.node(), &text)?);
     assert!(rt; one.is_pending());
     one.take_nonce(1, text);
-    assert_eq!(rt; one.seen(), 1);
-    assert_eq!(rt; one.count_at(1)?, None);
+    assert!(rt; one.seen() == 1 && counts(one, 1, None)?);
     Ok(())
 }
 
@@ -231,7 +245,7 @@ fn order(rt: &impl Abort, one: &mut Node, act: Act) -> Result<Answer, Fail> {
         Accept => one.accept(),
         Cancel(command) => {
             let waited = one.waits(command);
-            assert_eq!(rt; one.cancel(command).is_ok(), waited);
+            assert!(rt; one.cancel(command).is_ok() == waited);
             return Ok(Waited(waited));
         }
         Block => one.block(),
@@ -258,7 +272,7 @@ fn attempt(alloc: Global, rt: &impl Abort, one: &mut Node, act: Act) -> Result<A
         }
         Act::Nonce => take_nonce(alloc, rt, one)?,
         _ => {
-            assert_eq!(rt; one.series(), Due);
+            assert!(rt; one.series() == Due);
             let plan = match act {
                 StartSegments(count) => {
                     assert!(rt; count > 0);
@@ -293,10 +307,10 @@ fn change(alloc: Global, rt: &impl Abort, one: &mut Node, act: Act) -> Result<An
             assert!(rt; one.wants_no_more());
             if matches!(act, DropNoMore) {
                 one.drop_no_more();
-                assert_eq!(rt; one.no_more(), NoMore::Dropped);
+                assert!(rt; one.no_more() == NoMore::Dropped);
             } else {
                 one.queue_no_more();
-                assert_eq!(rt; one.no_more(), NoMore::Queued);
+                assert!(rt; one.no_more() == NoMore::Queued);
             }
             assert!(rt; !one.wants_no_more());
         }
@@ -307,7 +321,7 @@ fn change(alloc: Global, rt: &impl Abort, one: &mut Node, act: Act) -> Result<An
 /// So many ticks. Those before the last end nothing.
 fn ticks(rt: &impl Abort, one: &mut Node, count: u8) -> Answer {
     for _ in 1..count {
-        assert_eq!(rt; one.tick(), NoneRan);
+        assert!(rt; one.tick() == NoneRan);
     }
     Ended(one.tick())
 }
@@ -328,39 +342,45 @@ fn perform(alloc: Global, rt: &impl Abort, one: &mut Node, act: Act) -> Result<A
     }
 }
 
+/// Whether a row is so.
+fn is_so(alloc: Global, rt: &impl Abort, one: &mut Node, row: &Row) -> Result<bool, Fail> {
+    let Row(act, answer, series, has_work) = row;
+    let answered = perform(alloc, rt, one, *act)?;
+    Ok(answered == *answer && one.series() == *series && one.has_work() == *has_work)
+}
+
 fn play(alloc: Global, rt: &impl Abort, rows: &[Row]) -> Result<Node, Fail> {
     let mut one = Node::new(alloc, node(rt, 7))?;
     one.join();
-    for (at, Row(act, answer, series, has_work)) in rows.iter().enumerate() {
-        assert_eq!(rt; perform(alloc, rt, &mut one, *act)?, *answer, "at {at}");
-        assert_eq!(rt; one.series(), *series, "at {at}");
-        assert_eq!(rt; one.has_work(), *has_work, "at {at}");
+    for (at, row) in rows.iter().enumerate() {
+        let same = is_so(alloc, rt, &mut one, row)?;
+        assert!(rt; same, "at {at}");
     }
     Ok(one)
 }
 
 #[test]
 fn an_evening_of_a_listening_node(rt: HostRuntime) -> Result<(), Fail> {
-    let one = play(rt.alloc(), &rt, &LISTENING)?;
+    let one = play(rt.alloc(), &rt, LISTENING)?;
     assert!(rt; one.is_joined());
     assert!(rt; one.lists(0x6C));
     assert!(rt; !one.lists(0x98));
-    assert_eq!(rt; one.classes().map(|classes| classes.len()), Some(2));
-    assert_eq!(rt; one.commands(), [1, 2, 3].as_slice());
-    assert_eq!(rt; one.command_of(2), Some(2));
+    assert!(rt; matches!(one.classes(), Some(classes) if classes.len() == 2));
+    assert!(rt; one.commands() == [1, 2, 3].as_slice());
+    assert!(rt; one.command_of(2) == Some(2));
     assert!(rt; !one.needs_tick());
     Ok(())
 }
 
 #[test]
 fn an_evening_of_a_sleeping_node(rt: HostRuntime) -> Result<(), Fail> {
-    let one = play(rt.alloc(), &rt, &SLEEPING)?;
+    let one = play(rt.alloc(), &rt, SLEEPING)?;
     assert!(rt; one.listens());
     assert!(rt; !one.is_awake());
     assert!(rt; one.is_up());
-    assert_eq!(rt; one.attempts(), 0);
-    assert_eq!(rt; one.current(), Some(2));
-    assert_eq!(rt; one.sessions(), 2);
-    assert_eq!(rt; one.oldest(), Some(6));
+    assert!(rt; one.attempts() == 0);
+    assert!(rt; one.current() == Some(2));
+    assert!(rt; one.sessions() == 2);
+    assert!(rt; one.oldest() == Some(6));
     Ok(())
 }

@@ -32,7 +32,7 @@ fn answers(mailbox: &mut Mailbox, call: &Call) -> bool {
 }
 
 /// A mailbox that wakes and sleeps, with three commands of which one is cancelled.
-const ROWS: [Call; 18] = [
+const ROWS: &[Call] = &[
     Call::IsAwake(false),
     Call::Wake(true),
     Call::IsAwake(true),

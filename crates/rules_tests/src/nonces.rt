@@ -36,7 +36,7 @@ fn answers(book: &mut NonceBook, peer: NodeId, call: &Call) -> bool {
     }
 }
 
-const BOOK: [(u8, Call); 9] = [
+const BOOK: &[(u8, Call)] = &[
     (232, Call::Given(0)),
     (232, Call::Give(DRAWN, FIRST)),
     (232, Call::Give(OTHER, FIRST)),
@@ -60,7 +60,7 @@ fn a_nonce_is_given_again_until_it_is_spent(rt: HostRuntime) -> Result<(), Fail>
 
 /// What happens to a sender: whether it is asked to seal the plain text, or to drop it, then the nonce that is offered, and
 /// whether it seals for that.
-const SENDER: [(Asked, [u8; 8], bool); 7] = [
+const SENDER: &[(Asked, [u8; 8], bool)] = &[
     (Asked::Seal, SECOND, false),
     (Asked::Nothing, FIRST, true),
     (Asked::Nothing, FIRST, false),
@@ -114,9 +114,9 @@ fn a_sender_seals_for_the_next_nonce_and_the_last(rt: HostRuntime) -> Result<(),
     let keys = keys(NETWORK);
     let mut sender = Sender::new(rt.alloc(), ends);
     for (asked, nonce, seals) in SENDER {
-        ask(rt.alloc(), &mut sender, &asked)?;
-        let offered = sender.offer(&keys, nonce, DRAWN)?;
-        let same = is_sealed(rt.alloc(), &keys, &ends, nonce, offered, seals)?;
+        ask(rt.alloc(), &mut sender, asked)?;
+        let offered = sender.offer(&keys, *nonce, DRAWN)?;
+        let same = is_sealed(rt.alloc(), &keys, &ends, *nonce, offered, *seals)?;
         assert!(rt; same, "at {nonce:?}");
     }
     Ok(())

@@ -8,7 +8,7 @@ use host_keep::{
 };
 use std::alloc::Global;
 use std::test::Fail;
-use zw_base::{Bytes, read_end};
+use zw_base::{Bytes, NoMemory, read_end};
 use zw_order::{Order, What, Word};
 
 /// One of each row, and its text.
@@ -138,24 +138,25 @@ fn session(status: Option<FinalStatus>) -> Result<Record, Fail> {
     })
 }
 
-/// The record of that row.
-fn by_hand(alloc: Global, row: usize) -> Result<Record, Fail> {
+/// A Configuration Bulk Set for the last end point.
+fn bulk(alloc: Global) -> Result<Record, Fail> {
+    let values = Bytes::from_slice(alloc, &[5, 6])?;
+    accepted(127, What::Bulk { offset: 9, values })
+}
+
+fn classes(alloc: Global) -> Result<Record, Fail> {
+    Ok(Record::Classes {
+        node: node(2)?,
+        listens: true,
+        classes: Bytes::from_slice(alloc, &[37, 108])?,
+    })
+}
+
+/// The records of node 2 that have numbers alone.
+fn numbers(row: usize) -> Result<Record, Fail> {
     let node = node(2)?;
     Ok(match row {
-        0 => accepted(0, What::Value(Word::On))?,
-        1 => {
-            let values = Bytes::from_slice(alloc, &[5, 6])?;
-            accepted(127, What::Bulk { offset: 9, values })?
-        }
         2 => Record::Joined { node },
-        3 => Record::Classes {
-            node,
-            listens: true,
-            classes: Bytes::from_slice(alloc, &[37, 108])?,
-        },
-        4 => session(None)?,
-        5 => session(Some(FinalStatus::Success))?,
-        6 => session(Some(FinalStatus::Fail))?,
         7 => Record::Cancelled { command: 7 },
         8 => Record::Given {
             node,
@@ -170,6 +171,19 @@ fn by_hand(alloc: Global, row: usize) -> Result<Record, Fail> {
     })
 }
 
+/// The record of that row.
+fn by_hand(alloc: Global, row: usize) -> Result<Record, Fail> {
+    match row {
+        0 => accepted(0, What::Value(Word::On)),
+        1 => bulk(alloc),
+        3 => classes(alloc),
+        4 => session(None),
+        5 => session(Some(FinalStatus::Success)),
+        6 => session(Some(FinalStatus::Fail)),
+        _ => numbers(row),
+    }
+}
+
 /// The text is read, and what was read is written as that text.
 fn goes_both_ways(alloc: Global, text: &str) -> Result<bool, Fail> {
     match read_record(alloc, text.as_bytes()) {
@@ -178,41 +192,83 @@ fn goes_both_ways(alloc: Global, text: &str) -> Result<bool, Fail> {
     }
 }
 
+/// Whether the record of that row is written as the text.
+fn is_written(alloc: Global, row: usize, text: &str) -> Result<bool, Fail> {
+    let written = write_record(alloc, &by_hand(alloc, row)?)?;
+    Ok(written.as_slice() == text.as_bytes())
+}
+
 #[test]
 fn records_and_their_texts(rt: HostRuntime) -> Result<(), Fail> {
-    let alloc = rt.alloc();
     for (row, text) in ROWS.lines().enumerate() {
-        let written = write_record(alloc, &by_hand(alloc, row)?)?;
-        assert_eq!(rt; written.as_slice(), text.as_bytes(), "{text}");
-        assert!(rt; goes_both_ways(alloc, text)?, "{text}");
-    }
-    for text in ENDS.lines() {
-        assert!(rt; goes_both_ways(alloc, text)?, "{text}");
-    }
-    for text in BAD.lines() {
-        let fault = read_record(alloc, text.as_bytes()).err();
-        assert_eq!(rt; fault, Some(RecordFault::Bad), "{text}");
+        let same = is_written(rt.alloc(), row, text)? && goes_both_ways(rt.alloc(), text)?;
+        assert!(rt; same, "{text}");
     }
     Ok(())
 }
 
 #[test]
-fn keepers_keep_all_but_the_calls_that_fail(rt: HostRuntime) -> Result<(), Fail> {
-    let alloc = rt.alloc();
-    let mut keeper = MemoryKeeper::new(alloc, &[2, 4])?;
-    assert!(rt; keep(&mut keeper, b"[2,3]")?);
-    assert!(rt; !keep(&mut keeper, b"[2,4]")?);
-    assert!(rt; keep(&mut keeper, b"[2,5]")?);
-    assert_eq!(rt; keeper.count(), 2);
-    assert!(rt; 1 < keeper.count());
-    assert_eq!(rt; keeper.read(alloc, 1).err(), Some(KeepFault::Failed));
-    assert!(rt; 1 < keeper.count());
-    let found = keeper.read(alloc, 1).ok().expect(&rt, "a record");
-    assert_eq!(rt; found.as_slice(), b"[2,5]".as_slice());
-    let mut keeper = PlainKeeper::new(alloc);
-    assert!(rt; keep(&mut keeper, b"[2,3]")?);
-    assert!(rt; 0 < keeper.count());
-    let found = keeper.read(alloc, 0).ok().expect(&rt, "a record");
-    assert_eq!(rt; found.as_slice(), b"[2,3]".as_slice());
+fn ranges_at_their_ends(rt: HostRuntime) -> Result<(), Fail> {
+    for text in ENDS.lines() {
+        let same = goes_both_ways(rt.alloc(), text)?;
+        assert!(rt; same, "{text}");
+    }
+    Ok(())
+}
+
+/// Whether the text is refused as one of no record.
+fn is_bad(alloc: Global, text: &str) -> bool {
+    read_record(alloc, text.as_bytes()).err() == Some(RecordFault::Bad)
+}
+
+#[test]
+fn texts_of_no_record(rt: HostRuntime) {
+    for text in BAD.lines() {
+        let same = is_bad(rt.alloc(), text);
+        assert!(rt; same, "{text}");
+    }
+}
+
+/// Whether the record is kept.
+fn keeps<K: Keeper>(keeper: &mut K, record: &[u8]) -> Result<bool, NoMemory> {
+    keep(keeper, record)
+}
+
+/// What is read at a place. None where nothing is kept there.
+fn read<K: Keeper>(alloc: Global, keeper: &mut K, at: u64) -> Option<Result<Bytes, KeepFault>> {
+    if at < keeper.count() {
+        Some(keeper.read(alloc, at))
+    } else {
+        None
+    }
+}
+
+/// Whether that record is read at a place.
+fn holds<K: Keeper>(alloc: Global, keeper: &mut K, at: u64, record: &[u8]) -> bool {
+    matches!(read(alloc, keeper, at), Some(Ok(found)) if found.as_slice() == record)
+}
+
+/// Whether a record at a place cannot be read now.
+fn fails<K: Keeper>(alloc: Global, keeper: &mut K, at: u64) -> bool {
+    matches!(read(alloc, keeper, at), Some(Err(KeepFault::Failed)))
+}
+
+#[test]
+fn a_keeper_keeps_all_but_the_calls_that_fail(rt: HostRuntime) -> Result<(), Fail> {
+    let mut keeper = MemoryKeeper::new(rt.alloc(), &[2, 4])?;
+    assert!(rt; keeps(&mut keeper, b"[2,3]")?);
+    assert!(rt; !keeps(&mut keeper, b"[2,4]")?);
+    assert!(rt; keeps(&mut keeper, b"[2,5]")?);
+    assert!(rt; keeper.count() == 2);
+    assert!(rt; fails(rt.alloc(), &mut keeper, 1));
+    assert!(rt; holds(rt.alloc(), &mut keeper, 1, b"[2,5]"));
+    Ok(())
+}
+
+#[test]
+fn a_plain_keeper_keeps_all(rt: HostRuntime) -> Result<(), Fail> {
+    let mut keeper = PlainKeeper::new(rt.alloc());
+    assert!(rt; keeps(&mut keeper, b"[2,3]")?);
+    assert!(rt; holds(rt.alloc(), &mut keeper, 0, b"[2,3]"));
     Ok(())
 }

@@ -64,10 +64,11 @@ fn each_task_has_its_unit(rt: HostRuntime) -> Result<(), Fail> {
     for ask in ASKS.iter() {
         push(&rt, &mut requests, ask);
     }
-    assert_eq!(rt; requests.len(), 12);
+    assert!(rt; requests.len() == 12);
     for unit in UNITS.iter() {
         let frame = next_frame(&rt, &mut requests, rt.alloc())?;
-        assert!(rt; has_bytes(rt.alloc(), frame, unit)?, "{unit:?}");
+        let same = has_bytes(rt.alloc(), frame, unit)?;
+        assert!(rt; same, "{unit:?}");
     }
     assert!(rt; requests.front_frame(rt.alloc())?.is_none());
     Ok(())
@@ -94,11 +95,7 @@ fn each_course(rt: HostRuntime) -> Result<(), Fail> {
         for (row, (act, at)) in rows.iter().enumerate() {
             let end = perform(&rt, &mut requests, rt.alloc(), act);
             let right = is_at(&requests, &end, at);
-            assert!(rt;
-                right,
-                "course {course} row {row}: {end:?} {:?}",
-                requests.under_way()
-            );
+            assert!(rt; right, "course {course} row {row}");
         }
     }
     Ok(())
@@ -112,7 +109,7 @@ fn sixty_four_tasks_wait_in_order(rt: HostRuntime) -> Result<(), Fail> {
         push(&rt, &mut requests, &Ask::Members);
     }
     for waiting in 62..64u8 {
-        assert_eq!(rt; requests.len(), waiting);
+        assert!(rt; requests.len() == waiting);
         assert!(rt; !requests.is_full());
         assert!(rt; requests.len() < QUEUE_CAPACITY);
         requests.push(Task::Version);
@@ -134,7 +131,7 @@ fn callback_ids_go_round(rt: HostRuntime) -> Result<(), Fail> {
         let frame = requests
             .front_frame(rt.alloc())?
             .expect(&rt, "a task waits");
-        assert_eq!(rt; frame.body.as_slice().last(), Some(&id));
+        assert!(rt; frame.body.as_slice().last() == Some(&id));
         assert!(rt; perform(&rt, &mut requests, rt.alloc(), &Act::Front).is_none());
         assert!(rt;
             perform(&rt, &mut requests, rt.alloc(), &Act::Callback(id, 0)).is_some(),

@@ -50,7 +50,7 @@ fn answers(node: &mut HostNode, call: &Call) -> bool {
 }
 
 /// A session stays begun until its final report; then three attempts end a series.
-const HOST: [Call; 22] = [
+const HOST: &[Call] = &[
     Call::Current(None),
     Call::Success(0, Told::Old),
     Call::Begin(7, Ok(1)),
@@ -96,7 +96,7 @@ fn hears(book: &mut DeviceBook, id: u8) -> Option<Heard> {
 }
 
 /// Ids that come to the device's end, and its answers; the one at work is finished after the third.
-const DEVICE: [(u8, Heard); 7] = [
+const DEVICE: &[(u8, Heard)] = &[
     (0, Heard::Old),
     (1, Heard::New(1)),
     (1, Heard::Again(WORKING)),
