@@ -1,13 +1,15 @@
 -- All that is kept goes with the transcript, and judges the next entry.
 use Rattle.std.proofs.Common.{◌≡◌, ℕ, cond, Bool, true, false, List, [], ◌∷◌, ◌++◌, Option, Some, None, ap, ap₂, refl, sym, subst, ◌∙◌}
 use Rattle.zw_base.specs.declared.property.Setting.{Setting}
+use Rattle.zw_order.specs.declared.order.Order.{Order}
+use Rattle.zw_text.specs.declared.line.Line.{Line}
 use Rattle.zw_text.specs.declared.entry.Entry.{Entry}
 use Rattle.zw_text.specs.declared.entry.Entry.TheVariants.{Said}
 use Rattle.zw_text.specs.Fits.{EntryFits}
 use Rattle.transcript_books.specs.declared.endings.Ending.{Ending}
 use Rattle.transcript_books.specs.Accepting.{order_at, orders_after}
 use Rattle.transcript_books.specs.Beginning.{no_sessions, sessions_after}
-use Rattle.transcript_books.specs.Changing.{Changing, IsChangingAfter, no_changes}
+use Rattle.transcript_books.specs.Changing.{IsChangingAfter, no_changes}
 use Rattle.transcript_books.specs.Ending.{ending_after, ending_in, no_ending}
 use Rattle.transcript_books.specs.Groups.{IsBehind, maker_at}
 use Rattle.transcript_books.specs.Keeping.{AreChangesOf, AreOf, BeginSo, ChangesBegin, ChangesGoOn, GoOn}
@@ -44,26 +46,21 @@ air-judged kept past entry are =
 pub store-judged : (kept : Kept) (past : List Entry) (entry : Entry) → IsKeptOf kept past → breaks_storing kept.stores (order_at kept.orders) entry ≡ breaks_store past entry
 store-judged kept past entry are = ap₂ (λ s o. breaks_storing s (order_at o) entry) are.stores are.orders
 
-pub rest-judged : (kept : Kept) (past : List Entry) (entry : Entry) → IsKeptOf kept past → EntryFits entry →
-    cond (breaks_flying kept.air kept.scene kept.sessions entry) (Some Air)
-    (cond (breaks_sending kept.payloads entry) (Some Payload)
-    (cond (breaks_storing kept.stores (order_at kept.orders) entry) (Some Store)
-    (cond (breaks_closing kept.closing entry) (Some Table) None)))
-    ≡ first_of_rest past entry
-rest-judged kept past entry are fits =
-    ap₂ (λ a r. cond a (Some Air) r) (air-judged kept past entry are)
-    (ap₂ (λ a r. cond a (Some Payload) r) (judges-payload kept.payloads past entry are.payloads)
-    (ap₂ (λ a r. cond a (Some Store) r) (store-judged kept past entry are)
-    (ap (λ a. cond a (Some Table) None) (judges-table kept.closing past entry are.closing fits))))
+-- the first of the last four rules of which it is known whether they are broken
+same-first : (air air' payload payload' store store' table table' : Bool) → air ≡ air' → payload ≡ payload' → store ≡ store' → table ≡ table' →
+    cond air (Some Air) (cond payload (Some Payload) (cond store (Some Store) (cond table (Some Table) None)))
+    ≡ cond air' (Some Air) (cond payload' (Some Payload) (cond store' (Some Store) (cond table' (Some Table) None)))
+same-first air air' payload payload' store store' table table' a p s t =
+    ap₂ (λ b r. cond b (Some Air) r) a (ap₂ (λ b r. cond b (Some Payload) r) p (ap₂ (λ b r. cond b (Some Store) r) s (ap (λ b. cond b (Some Table) None) t)))
 
--- the same where it is known of some tables what they say
 pub rest-is : (kept : Kept) (past : List Entry) (entry : Entry) (air payload store table : Bool) → IsKeptOf kept past → EntryFits entry →
     air ≡ breaks_flying kept.air kept.scene kept.sessions entry → payload ≡ breaks_sending kept.payloads entry → store ≡ breaks_storing kept.stores (order_at kept.orders) entry →
     table ≡ breaks_closing kept.closing entry →
     cond air (Some Air) (cond payload (Some Payload) (cond store (Some Store) (cond table (Some Table) None))) ≡ first_of_rest past entry
 rest-is kept past entry air payload store table are fits a p s t =
-    ap₂ (λ b r. cond b (Some Air) r) a (ap₂ (λ b r. cond b (Some Payload) r) p (ap₂ (λ b r. cond b (Some Store) r) s (ap (λ b. cond b (Some Table) None) t)))
-    ∙ rest-judged kept past entry are fits
+    same-first air (breaks_air past entry) payload (breaks_payload past entry) store (breaks_store past entry) table (breaks_table past entry)
+    (a ∙ air-judged kept past entry are) (p ∙ judges-payload kept.payloads past entry are.payloads) (s ∙ store-judged kept past entry are)
+    (t ∙ judges-table kept.closing past entry are.closing fits)
 
 some-none : {A : Type 0} {x : A} → Some x ≡ None → ⊥
 some-none {A} {x} e = subst G e tt
@@ -72,29 +69,32 @@ some-none {A} {x} e = subst G e tt
     G None = ⊥
     G (Some y) = Unit {0}
 
+keeps-two : (air payload : Bool) (rest : Option Break) → cond air (Some Air) (cond payload (Some Payload) rest) ≡ None → (air ≡ false) × (payload ≡ false)
+keeps-two true payload rest none = absurd (some-none none)
+keeps-two false true rest none = absurd (some-none none)
+keeps-two false false rest none = (refl, refl)
+
 pub rest-keeps : (past : List Entry) (entry : Entry) → first_of_rest past entry ≡ None → (breaks_air past entry ≡ false) × (breaks_payload past entry ≡ false)
-rest-keeps past entry none = by (breaks_air past entry) (breaks_payload past entry) refl refl none
-  where
-    by : (a b : Bool) → breaks_air past entry ≡ a → breaks_payload past entry ≡ b →
-        cond a (Some Air) (cond b (Some Payload) (cond (breaks_store past entry) (Some Store) (cond (breaks_table past entry) (Some Table) None))) ≡ None →
-        (breaks_air past entry ≡ false) × (breaks_payload past entry ≡ false)
-    by true b p q none = absurd (some-none none)
-    by false true p q none = absurd (some-none none)
-    by false false p q none = (p, q)
+rest-keeps past entry none =
+    keeps-two (breaks_air past entry) (breaks_payload past entry) (cond (breaks_store past entry) (Some Store) (cond (breaks_table past entry) (Some Table) None)) none
+
+same-judged : (sessions sessions' once once' : Bool) (rest rest' : Option Break) → sessions ≡ sessions' → once ≡ once' → rest ≡ rest' →
+    cond sessions (Some Sessions) (cond once (Some Once) rest) ≡ cond sessions' (Some Sessions) (cond once' (Some Once) rest')
+same-judged sessions sessions' once once' rest rest' s o r = ap₂ (λ b c. cond b (Some Sessions) c) s (ap₂ (λ b c. cond b (Some Once) c) o r)
 
 pub judged-sessions : (past : List Entry) (entry : Entry) (rest : List ℕ) → breaks_sessions past entry ≡ true → IsJudged past entry rest (Some Sessions)
 judged-sessions past entry rest broken behind group =
-    ap (λ b. cond b (Some Sessions) (cond (breaks_once past entry behind) (Some Once) (first_of_rest past entry))) (sym broken)
+    same-judged true (breaks_sessions past entry) (breaks_once past entry behind) (breaks_once past entry behind) (first_of_rest past entry) (first_of_rest past entry) (sym broken) refl refl
 
 pub judged-once : (past : List Entry) (entry : Entry) (rest : List ℕ) → breaks_sessions past entry ≡ false →
     ((behind : List Setting) → IsBehind (maker_at entry) rest behind → breaks_once past entry behind ≡ true) → IsJudged past entry rest (Some Once)
 judged-once past entry rest keeps broken behind group =
-    ap₂ (λ a b. cond a (Some Sessions) (cond b (Some Once) (first_of_rest past entry))) (sym keeps) (sym (broken behind group))
+    same-judged false (breaks_sessions past entry) true (breaks_once past entry behind) (first_of_rest past entry) (first_of_rest past entry) (sym keeps) (sym (broken behind group)) refl
 
 pub judged-rest : (past : List Entry) (entry : Entry) (rest : List ℕ) (found : Option Break) → breaks_sessions past entry ≡ false →
     ((behind : List Setting) → IsBehind (maker_at entry) rest behind → breaks_once past entry behind ≡ false) → found ≡ first_of_rest past entry → IsJudged past entry rest found
 judged-rest past entry rest found keeps once is behind group =
-    is ∙ ap₂ (λ a b. cond a (Some Sessions) (cond b (Some Once) (first_of_rest past entry))) (sym keeps) (sym (once behind group))
+    same-judged false (breaks_sessions past entry) false (breaks_once past entry behind) found (first_of_rest past entry) (sym keeps) (sym (once behind group)) is
 
 -- ---- the first tables
 
@@ -128,56 +128,37 @@ line-more scene other = refl
 accepting-more : (past : List Entry) (entry : Entry) → accepting_at (past ++ (entry ∷ [])) ≡ accepting_behind (accepting_at past) entry
 accepting-more past entry = folded-append accepting_behind (record { orders = []; line = None }) past (entry ∷ [])
 
-goes-kept : (kept : Kept) (endings : List (ℕ × Ending)) (changes : Changing) (past : List Entry) (entry : Entry) → GoOn → ChangesGoOn → IsKeptOf kept past → EntryFits entry → KeepsTables past entry →
-    IsWithin kept.scene.line → ((command : ℕ) → ending_in endings command ≡ ending_after (ending_in kept.endings command) command entry) →
-    IsChangingAfter kept.changes kept.sessions entry changes →
-    IsKeptOf (record {
-      scene = scene_after kept.scene entry;
-      orders = orders_after kept.orders kept.scene.line entry;
-      endings = endings;
-      sessions = sessions_after kept.sessions entry;
-      changes = changes;
-      air = flying_after kept.air kept.scene kept.sessions entry;
-      payloads = sendings_after kept.payloads entry;
-      stores = storing_behind kept.stores entry;
-      closing = closing_after kept.closing kept.scene.line (ending_in kept.endings) kept.orders kept.sessions entry;
-    }) (past ++ (entry ∷ []))
-goes-kept kept endings changes past entry go change are fits keeps within ended changing = record {
-  books = go kept.scene kept.orders kept.endings endings kept.sessions past entry are.books fits keeps.sessions ended;
-  ticks = ticks-more kept.scene entry ∙ ap (λ t. ticks_behind t entry) are.ticks ∙ sym (folded-append ticks_behind false past (entry ∷ []));
-  line = line-more kept.scene entry ∙ sym (ap (λ (a : Accepting). a.line) (accepting-more past entry));
-  orders =
-      ap₂ (λ o l. orders_after o l entry) are.orders are.line ∙ sym (ap (λ (a : Accepting). a.orders) (accepting-more past entry));
-  changes = change kept.scene.line kept.orders kept.endings kept.sessions kept.changes changes past entry are.books are.changes fits changing;
-  air = goes-air kept.air kept.scene kept.sessions past entry are.air are.ticks (λ node below. are.books.sessions node below) fits keeps.air;
-  payloads = goes-payload kept.payloads past entry are.payloads keeps.payload;
-  stores = ap (λ s. storing_behind s entry) are.stores ∙ sym (folded-append storing_behind None past (entry ∷ []));
-  closing =
-      goes-closing kept.closing kept.scene.line (ending_in kept.endings) kept.orders kept.sessions past entry are.closing within fits are.books.line
-      (λ node below. are.books.sessions node below) are.books.endings are.orders;
-}
+same-tables : (line line' : Option Line) (orders orders' : List (Option Order)) (endings : List (ℕ × Ending)) (sessions sessions' : List (List ℕ)) (past : List Entry) →
+    line' ≡ line → orders' ≡ orders → sessions' ≡ sessions → AreOf line orders endings sessions past → AreOf line' orders' endings sessions' past
+same-tables line line' orders orders' endings sessions sessions' past l o n are =
+    subst (λ it. AreOf it orders' endings sessions' past) (sym l)
+    (subst (λ it. AreOf line it endings sessions' past) (sym o) (subst (λ it. AreOf line orders endings it past) (sym n) are))
 
--- the same for tables that are what they go on to
 pub takes-kept : (kept after : Kept) (past : List Entry) (entry : Entry) → GoOn → ChangesGoOn → IsKeptOf kept past → EntryFits entry → KeepsTables past entry → IsWithin kept.scene.line →
     after.scene ≡ scene_after kept.scene entry → after.orders ≡ orders_after kept.orders kept.scene.line entry →
     ((command : ℕ) → ending_in after.endings command ≡ ending_after (ending_in kept.endings command) command entry) → after.sessions ≡ sessions_after kept.sessions entry →
     IsChangingAfter kept.changes kept.sessions entry after.changes → after.air ≡ flying_after kept.air kept.scene kept.sessions entry → after.payloads ≡ sendings_after kept.payloads entry →
     after.stores ≡ storing_behind kept.stores entry → after.closing ≡ closing_after kept.closing kept.scene.line (ending_in kept.endings) kept.orders kept.sessions entry →
     IsKeptOf after (past ++ (entry ∷ []))
-takes-kept kept after past entry go change are fits keeps within scene orders ended sessions changing air payloads stores closing =
-    let made = goes-kept kept after.endings after.changes past entry go change are fits keeps within ended changing in
-    let all = past ++ (entry ∷ []) in
-    record {
-      books =
-          subst (λ (s : Scenery). AreOf s.line after.orders after.endings after.sessions all) (sym scene)
-          (subst (λ o. AreOf (scene_after kept.scene entry).line o after.endings after.sessions all) (sym orders)
-          (subst (λ n. AreOf (scene_after kept.scene entry).line (orders_after kept.orders kept.scene.line entry) after.endings n all) (sym sessions) made.books));
-      ticks = ap (λ (s : Scenery). s.ticks) scene ∙ made.ticks;
-      line = ap (λ (s : Scenery). s.line) scene ∙ made.line;
-      orders = orders ∙ made.orders;
-      changes = made.changes;
-      air = subst (λ a. AreFlyingOf a all) (sym air) made.air;
-      payloads = subst (λ a. AreSendingsOf a all) (sym payloads) made.payloads;
-      stores = stores ∙ made.stores;
-      closing = subst (λ a. AreClosingOf a all) (sym closing) made.closing;
-    }
+takes-kept kept after past entry go change are fits keeps within scene orders ended sessions changing air payloads stores closing = record {
+  books =
+      same-tables (scene_after kept.scene entry).line after.scene.line (orders_after kept.orders kept.scene.line entry) after.orders after.endings
+      (sessions_after kept.sessions entry) after.sessions (past ++ (entry ∷ [])) (ap (λ (s : Scenery). s.line) scene) orders sessions
+      (go kept.scene kept.orders kept.endings after.endings kept.sessions past entry are.books fits keeps.sessions ended);
+  ticks =
+      ap (λ (s : Scenery). s.ticks) scene ∙ ticks-more kept.scene entry ∙ ap (λ t. ticks_behind t entry) are.ticks
+      ∙ sym (folded-append ticks_behind false past (entry ∷ []));
+  line = ap (λ (s : Scenery). s.line) scene ∙ line-more kept.scene entry ∙ sym (ap (λ (a : Accepting). a.line) (accepting-more past entry));
+  orders =
+      orders ∙ ap₂ (λ o l. orders_after o l entry) are.orders are.line ∙ sym (ap (λ (a : Accepting). a.orders) (accepting-more past entry));
+  changes = change kept.scene.line kept.orders kept.endings kept.sessions kept.changes after.changes past entry are.books are.changes fits changing;
+  air =
+      subst (λ a. AreFlyingOf a (past ++ (entry ∷ []))) (sym air)
+      (goes-air kept.air kept.scene kept.sessions past entry are.air are.ticks (λ node below. are.books.sessions node below) fits keeps.air);
+  payloads = subst (λ a. AreSendingsOf a (past ++ (entry ∷ []))) (sym payloads) (goes-payload kept.payloads past entry are.payloads keeps.payload);
+  stores = stores ∙ ap (λ s. storing_behind s entry) are.stores ∙ sym (folded-append storing_behind None past (entry ∷ []));
+  closing =
+      subst (λ a. AreClosingOf a (past ++ (entry ∷ []))) (sym closing)
+      (goes-closing kept.closing kept.scene.line (ending_in kept.endings) kept.orders kept.sessions past entry are.closing within fits are.books.line
+      (λ node below. are.books.sessions node below) are.books.endings are.orders);
+}
