@@ -1,0 +1,7 @@
+mod Numbering
+mod Texts
+mod Locking
+mod Hosting
+mod Unsealing
+mod Showing
+mod Answering
