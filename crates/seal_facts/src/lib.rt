@@ -1,0 +1,13 @@
+//! What each end makes of nonces and of sealed messages, by the numbers of nonces.
+//!
+//! Each law is the contract of a function that does nothing, in the words of the courses of nonces: `accounts_follow_the_courses` for the nonces that an end
+//! gives, `seals_name_their_nonce` for what is sealed for one of them.
+//! The definitions stand in `specs/`: `Numbers`, `Payloads`, `Locks`.
+#![tactic(auto)]
+
+mod numbers;
+
+pub use numbers::{
+    accounts_give_as_the_courses_do, accounts_spend_as_the_courses_do,
+    sealers_take_as_the_courses_do,
+};
