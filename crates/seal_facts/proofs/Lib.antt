@@ -1,1 +1,4 @@
 mod Numbering
+mod Texts
+mod Locking
+mod Hosting

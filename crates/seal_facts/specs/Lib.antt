@@ -1,3 +1,4 @@
 pub mod Numbers
 pub mod Payloads
 pub mod Locks
+pub mod Hosts

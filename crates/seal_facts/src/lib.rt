@@ -5,8 +5,12 @@
 //! The definitions stand in `specs/`: `Numbers`, `Payloads`, `Locks`.
 #![tactic(auto)]
 
+mod hosts;
+mod locks;
 mod numbers;
 
+pub use hosts::hosts_leave_nonces;
+pub use locks::locks_hear_by_numbers;
 pub use numbers::{
     accounts_give_as_the_courses_do, accounts_spend_as_the_courses_do,
     sealers_take_as_the_courses_do,
