@@ -2,3 +2,4 @@ mod Numbering
 mod Texts
 mod Locking
 mod Hosting
+mod Opened

@@ -119,7 +119,7 @@ offered_is nonces given live account drawn has = has.last (nonce_given account d
 abbrev names : Bool → ℕ → ℕ → Bool
 names live number given = live && (number % 256 == given % 256)
 
-same_sides : (a b : ℕ) → (a == b) ≡ (b == a)
+pub same_sides : (a b : ℕ) → (a == b) ≡ (b == a)
 same_sides a b = by (a == b) (b == a) refl refl
   where
     by : (p q : Bool) → (a == b) ≡ p → (b == a) ≡ q → p ≡ q

@@ -42,7 +42,7 @@ unfolding chained aes add_round_key
 length-chained key text zero = refl
 length-chained key text (suc i) = refl
 
-length-code : (keys : Keys) (vector : List ℕ) (ends : SealEnds) (text : List ℕ) → length (code_of keys vector ends text) ≡ 8
+pub length-code : (keys : Keys) (vector : List ℕ) (ends : SealEnds) (text : List ℕ) → length (code_of keys vector ends text) ≡ 8
 unfolding code_of cbc_mac
 length-code keys vector ends text =
     let blocks : ℕ = (length (covered vector ends text) + 15) / 16 in

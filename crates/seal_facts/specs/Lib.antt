@@ -2,3 +2,4 @@ pub mod Numbers
 pub mod Payloads
 pub mod Locks
 pub mod Hosts
+pub mod Opened

@@ -8,6 +8,7 @@
 mod hosts;
 mod locks;
 mod numbers;
+mod opened;
 
 pub use hosts::hosts_leave_nonces;
 pub use locks::locks_hear_by_numbers;
@@ -15,3 +16,4 @@ pub use numbers::{
     accounts_give_as_the_courses_do, accounts_spend_as_the_courses_do,
     sealers_take_as_the_courses_do,
 };
+pub use opened::{hosts_open_what_was_sealed, hosts_seal_what_waits};
