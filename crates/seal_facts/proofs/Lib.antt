@@ -2,4 +2,5 @@ mod Numbering
 mod Texts
 mod Locking
 mod Hosting
-mod Opened
+mod Unsealing
+mod Showing

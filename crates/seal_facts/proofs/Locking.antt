@@ -10,7 +10,8 @@ use Rattle.zw_base.specs.declared.property.Name.TheVariants as names
 use Rattle.supervision.specs.declared.device_book.Heard.{Heard}
 use Rattle.supervision.specs.declared.device_book.Heard.TheVariants.{New, Again, Old}
 use Rattle.supervision.specs.Device.{heard_of}
-use Rattle.s0_session.specs.Nonces.{nonce_spent, after_spend, nonce_given, after_give}
+use Rattle.s0_session.specs.declared.account.Account.{Account}
+use Rattle.s0_session.specs.Nonces.{with_first, live_after, nonce_spent, after_spend, nonce_given, after_give}
 use Rattle.s0_session.specs.Sending.{Sending, taken_from}
 use Rattle.s0_crypto.specs.declared.ends.SealEnds.{SealEnds}
 use Rattle.class_fields.specs.Reading.{byte_at, in_class, ◌>>=◌}
@@ -51,7 +52,9 @@ use Rattle.device_sim.specs.Event.{DeviceEvent, Hears, Ticks, Wakes, Sets, outco
 use Rattle.courses.specs.NodeNonces.{taken_as}
 use Rattle.seal_facts.specs.Numbers.{IsNonce}
 use Rattle.seal_facts.specs.Payloads.{report_of, IsOffer, IsUnnumbered}
-use Rattle.seal_facts.specs.Locks.{IsLock, Ignores, Offers, SealsFor, SealsIf, WaitsToAnswer, Spends, IsUnheard}
+use Rattle.seal_facts.specs.Locks.{IsLock, Ignores, Offers, SealsFor, SealsIf, WaitsToAnswer, Spends, SpendsNone, IsUnheard}
+use Rattle.message_facts.specs.Asking.{IsLeft}
+use Rattle.message_facts.proofs.Leaving.{securely_left}
 use Rattle.seal_facts.proofs.Numbering.{nonce_taken}
 use Rattle.seal_facts.proofs.Texts.{report_form, report_read, report_open, is_text}
 
@@ -320,6 +323,41 @@ sealed_heard device own nonce plain drawn is eight =
     let text = is_text (keys_of device.key) own nonce (record { sender = host_node; receiver = device.node }) plain eight in
     heard_so (Spends (slice_index nonce 0) device) device payload drawn is
     (rw (text.begins, text.long, text.named) (for_spends device (slice_index nonce 0) payload (nonce_spent device.given (slice_index nonce 0)) is))
+
+-- a message that names none
+none_spent : (live : Option (List ℕ)) (first : ℕ) → with_first live first ≡ None → live_after live first ≡ live
+none_spent None first e = refl
+none_spent (Some nonce) first e = by (slice_index nonce 0 == first) e
+  where
+    by : (b : Bool) → (if b then Some nonce else None) ≡ None → (if b then None else Some nonce) ≡ Some nonce
+    by true bad = absurd (grind (arith, bad))
+    by false is = refl
+
+account_same : (account : Account) (first : ℕ) → nonce_spent account first ≡ None → after_spend account first ≡ account
+account_same account first e = ap {B = Account} (λ (live : Option (List ℕ)). record { given = account.given; live = live }) (none_spent account.live first e)
+
+pub sealed_unnamed : (device : State) (own nonce plain drawn : List ℕ) → IsLock device → length own ≡ 8 → nonce_spent device.given (slice_index nonce 0) ≡ None
+    → SpendsNone device (device_after device (Hears (sealed_text (keys_of device.key) own nonce (record { sender = host_node; receiver = device.node }) plain) drawn))
+    (device_replies device (Hears (sealed_text (keys_of device.key) own nonce (record { sender = host_node; receiver = device.node }) plain) drawn))
+unfolding hears_securely hears_sealed
+sealed_unnamed device own nonce plain drawn is eight none =
+    let payload : List ℕ = sealed_text (keys_of device.key) own nonce (record { sender = host_node; receiver = device.node }) plain in
+    let text = is_text (keys_of device.key) own nonce (record { sender = host_node; receiver = device.node }) plain eight in
+    let first : ℕ = slice_index nonce 0 in
+    let so : SpendsNone device (record (active device) { given = after_spend device.given first }) [] = record {
+      ignores = record { lock = spent_lock device first is; given = account_same device.given first none; sealing = refl; silent = refl };
+      left = (record { journal = refl; sessions = refl; work_left = refl; work = refl }, refl);
+    } in
+    let found : (λ (o : Outcome). SpendsNone device o.device o.replies) (hears_for (record (active device) { given = after_spend device.given first }) payload (nonce_spent device.given first)) =
+        subst (λ (found : Option (List ℕ)). (λ (o : Outcome). SpendsNone device o.device o.replies) (hears_for (record (active device) { given = after_spend device.given first }) payload found)) (sym none) so in
+    heard_so (SpendsNone device) device payload drawn is (rw (text.begins, text.long, text.named) found)
+
+pub unsealed_left : (device : State) (payload drawn : List ℕ) → IsLock device → begins_with payload 0x98 0x81 ≡ false → IsLeft device (device_after device (Hears payload drawn))
+unsealed_left device payload drawn is unsealed =
+    heard_so (λ new replies. IsLeft device new) device payload drawn is (left_on (securely_left (active device) payload drawn unsealed))
+  where
+    left_on : IsLeft (active device) (hears_securely (active device) payload drawn).device → IsLeft device (hears_securely (active device) payload drawn).device
+    left_on (u, same) = (record { journal = u.journal; sessions = u.sessions; work_left = u.work_left; work = u.work }, same)
 
 -- ---- where nothing is heard
 

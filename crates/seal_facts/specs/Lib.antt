@@ -3,3 +3,4 @@ pub mod Payloads
 pub mod Locks
 pub mod Hosts
 pub mod Opened
+pub mod Shown

@@ -7,6 +7,7 @@ use Rattle.device_stack.specs.declared.kind.Kind.TheVariants as kinds
 use Rattle.device_stack.specs.Sealing.{sealed_text, keys_of}
 use Rattle.device_stack.specs.State.{State, host_node}
 use Rattle.device_sim.specs.Event.{DeviceEvent, Hears, Ticks, Wakes, Sets}
+use Rattle.message_facts.specs.Asking.{IsLeft}
 use Rattle.seal_facts.specs.Payloads.{report_of}
 
 -- a lock: it is awake and at no work, and seals for the host; it never sleeps, and no command of it takes time
@@ -55,6 +56,11 @@ pub record Spends (first : ℕ) (old new : State) (replies : List (List ℕ)) : 
   pub lock : IsLock new
   pub given : new.given ≡ after_spend old.given first
   pub answers : WaitsToAnswer old new replies
+
+-- a message named no nonce that is live: all stays as it was, and nothing is said
+pub record SpendsNone (old new : State) (replies : List (List ℕ)) : Type 0 where
+  pub ignores : Ignores old new replies
+  pub left : IsLeft old new
 
 -- an event at which nothing is heard
 abbrev pub IsUnheard : DeviceEvent → Type 0

@@ -1,14 +1,16 @@
 //! What each end makes of nonces and of sealed messages, by the numbers of nonces.
 //!
-//! Each law is the contract of a function that does nothing, in the words of the courses of nonces: `accounts_follow_the_courses` for the nonces that an end
-//! gives, `seals_name_their_nonce` for what is sealed for one of them.
-//! The definitions stand in `specs/`: `Numbers`, `Payloads`, `Locks`.
+//! Each law is the contract of a function that does nothing, in the words of the courses of nonces (`courses`): `accounts_give_as_the_courses_do`,
+//! `accounts_spend_as_the_courses_do` and `sealers_take_as_the_courses_do` for the books of one end; `locks_hear_by_numbers` for a lock at each of its events; `hosts_leave_nonces`,
+//! `hosts_open_what_was_sealed` and `hosts_seal_what_waits` for the host; and `the_air_counts_nonces` for how old a frame is. No course is told here, and nothing of the machine.
+//! The definitions stand in `specs/`: `Numbers` (which nonce has which number), `Payloads` (what is sealed for which), `Locks`, `Hosts`, `Opened`, `Shown`.
 #![tactic(auto)]
 
 mod hosts;
 mod locks;
 mod numbers;
 mod opened;
+mod shown;
 
 pub use hosts::hosts_leave_nonces;
 pub use locks::locks_hear_by_numbers;
@@ -17,3 +19,4 @@ pub use numbers::{
     sealers_take_as_the_courses_do,
 };
 pub use opened::{hosts_open_what_was_sealed, hosts_seal_what_waits};
+pub use shown::the_air_counts_nonces;

@@ -11,10 +11,11 @@ ghost use Rattle.message_facts.specs.Asking.{IsLeft};
 ghost use Rattle.courses.specs.NodeNonces.{taken_as};
 ghost use Rattle.seal_facts.specs.Numbers.{IsNonce};
 ghost use Rattle.seal_facts.specs.Payloads.{IsOffer, IsUnnumbered};
-ghost use Rattle.seal_facts.specs.Locks.{IsLock, Ignores, Offers, SealsIf, Spends, IsUnheard};
+ghost use Rattle.seal_facts.specs.Locks.{IsLock, Ignores, Offers, SealsIf, Spends, SpendsNone, IsUnheard};
 
 /// A lock gives a nonce only where a payload asks for one that is neither sealed nor a Nonce Report; it seals what waits only for a nonce of the host's that counts
-/// as the last or the next; and what is sealed spends the nonce that it names. A message that names none does nothing. At no other event does it do anything with nonces, or say anything.
+/// as the last or the next; and what is sealed spends the nonce that it names. A message that names no live nonce does nothing, to sessions neither; nor does anything that is not sealed. At no other event does it do anything with
+/// nonces, or say anything.
 pub fn locks_hear_by_numbers()
     ensures fresh { (node : ℕ) (key : List ℕ) → IsLock (fresh node kinds.Lock key) }
     ensures unnumbered { (device : State) (payload drawn : List ℕ) → IsLock device → IsUnnumbered payload →
@@ -24,5 +25,9 @@ pub fn locks_hear_by_numbers()
     ensures sealed { (device : State) (own nonce plain drawn : List ℕ) → IsLock device → length own ≡ 8 →
         Spends (slice_index nonce 0) device (device_after device (Hears (sealed_text (keys_of device.key) own nonce (record { sender = host_node; receiver = device.node }) plain) drawn))
         (device_replies device (Hears (sealed_text (keys_of device.key) own nonce (record { sender = host_node; receiver = device.node }) plain) drawn)) }
+    ensures unnamed { (device : State) (own nonce plain drawn : List ℕ) → IsLock device → length own ≡ 8 → nonce_spent device.given (slice_index nonce 0) ≡ None →
+        SpendsNone device (device_after device (Hears (sealed_text (keys_of device.key) own nonce (record { sender = host_node; receiver = device.node }) plain) drawn))
+        (device_replies device (Hears (sealed_text (keys_of device.key) own nonce (record { sender = host_node; receiver = device.node }) plain) drawn)) }
+    ensures left { (device : State) (payload drawn : List ℕ) → IsLock device → begins_with payload 0x98 0x81 ≡ false → IsLeft device (device_after device (Hears payload drawn)) }
     ensures other { (device : State) (event : DeviceEvent) → IsLock device → IsUnheard event → Ignores device (device_after device event) (device_replies device event) }
 {}

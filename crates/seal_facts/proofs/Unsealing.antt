@@ -73,7 +73,7 @@ opened_so : (h : HostState) (n : ℕ) (nonce plain payload : List ℕ) (messages
 opened_so h n nonce plain payload messages events is heard (inl unkept) = inl unkept
 opened_so h n nonce plain payload messages events is heard (inr (inl (inl bad, e))) = absurd (bad is.good)
 opened_so h n nonce plain payload messages events is heard (inr (inl (inr unread, e))) = absurd (unread.untold messages (ap heard_at (is.only unread.plain unread.seals) ∙ heard))
-opened_so h n nonce plain payload messages events is heard (inr (inr (told, (rest, (opens, (e, taken)))))) =
+opened_so h n nonce plain payload messages events is heard (inr (inr (told, rest, opens, e, taken))) =
     let same : told ≡ messages = messages_same told messages (sym opens.tells ∙ (ap heard_at (is.only opens.plain opens.seals) ∙ heard)) in
     inr (rest, (e, subst (λ (l : List Told). AreTaken (after h (Spends n)) n payload true l rest) same taken))
 
