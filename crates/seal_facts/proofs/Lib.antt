@@ -4,3 +4,4 @@ mod Locking
 mod Hosting
 mod Unsealing
 mod Showing
+mod Answering

@@ -54,7 +54,6 @@ use Rattle.seal_facts.specs.Numbers.{IsNonce}
 use Rattle.seal_facts.specs.Payloads.{report_of, IsOffer, IsUnnumbered}
 use Rattle.seal_facts.specs.Locks.{IsLock, Ignores, Offers, SealsFor, SealsIf, WaitsToAnswer, Spends, SpendsNone, IsUnheard}
 use Rattle.message_facts.specs.Asking.{IsLeft}
-use Rattle.message_facts.proofs.Leaving.{securely_left}
 use Rattle.seal_facts.proofs.Numbering.{nonce_taken}
 use Rattle.seal_facts.proofs.Texts.{report_form, report_read, report_open, is_text}
 
@@ -218,7 +217,7 @@ active_lock : (device : State) → IsLock device → IsLock (active device)
 active_lock device is = record { kind = is.kind; awake = is.awake; idle = is.idle; ends = is.ends }
 
 quiet : (device : State) → IsLock device → Ignores device (active device) []
-quiet device is = record { lock = active_lock device is; given = refl; sealing = refl; silent = refl }
+quiet device is = record { lock = active_lock device is; given = refl; sealing = refl; sessions = refl; silent = refl }
 
 -- ---- a nonce of the host, a Nonce Get, and what is neither
 
@@ -230,6 +229,7 @@ seals_so device nonce drawn (Some seen) (Some plain) is e none = record {
   waited = e;
   given = refl;
   sealing = refl;
+  sessions = refl;
   says = refl;
 }
 seals_so device nonce drawn (Some seen) None is e none = absurd (let no : Some seen ≡ None = none refl in grind (arith, no))
@@ -256,7 +256,7 @@ offer_heard device nonces number payload drawn offer is =
 unnumbered_so : (device : State) (payload drawn : List ℕ) (read : Result InfoMessage ClassFault) → IsLock device → info_at payload ≡ read → ((nonce : List ℕ) → info_at payload ≢ Ok (NonceReport nonce))
     → Ignores device (hears_nonces (active device) drawn read).device (hears_nonces (active device) drawn read).replies ⊎ Offers drawn device (hears_nonces (active device) drawn read).device (hears_nonces (active device) drawn read).replies
 unnumbered_so device payload drawn (Ok NonceGet) is e none =
-    inr (record { lock = record { kind = is.kind; awake = is.awake; idle = is.idle; ends = is.ends }; given = refl; sealing = refl; says = ap (λ (l : List ℕ). l ∷ []) (report_form (nonce_given device.given drawn)) })
+    inr (record { lock = record { kind = is.kind; awake = is.awake; idle = is.idle; ends = is.ends }; given = refl; sealing = refl; sessions = refl; says = ap (λ (l : List ℕ). l ∷ []) (report_form (nonce_given device.given drawn)) })
 unnumbered_so device payload drawn (Ok (NonceReport nonce)) is e none = absurd (none nonce e)
 unnumbered_so device payload drawn (Ok _) is e none = inl (quiet device is)
 unnumbered_so device payload drawn (Err fault) is e none = inl (quiet device is)
@@ -345,19 +345,12 @@ sealed_unnamed device own nonce plain drawn is eight none =
     let text = is_text (keys_of device.key) own nonce (record { sender = host_node; receiver = device.node }) plain eight in
     let first : ℕ = slice_index nonce 0 in
     let so : SpendsNone device (record (active device) { given = after_spend device.given first }) [] = record {
-      ignores = record { lock = spent_lock device first is; given = account_same device.given first none; sealing = refl; silent = refl };
+      ignores = record { lock = spent_lock device first is; given = account_same device.given first none; sealing = refl; sessions = refl; silent = refl };
       left = (record { journal = refl; sessions = refl; work_left = refl; work = refl }, refl);
     } in
     let found : (λ (o : Outcome). SpendsNone device o.device o.replies) (hears_for (record (active device) { given = after_spend device.given first }) payload (nonce_spent device.given first)) =
         subst (λ (found : Option (List ℕ)). (λ (o : Outcome). SpendsNone device o.device o.replies) (hears_for (record (active device) { given = after_spend device.given first }) payload found)) (sym none) so in
     heard_so (SpendsNone device) device payload drawn is (rw (text.begins, text.long, text.named) found)
-
-pub unsealed_left : (device : State) (payload drawn : List ℕ) → IsLock device → begins_with payload 0x98 0x81 ≡ false → IsLeft device (device_after device (Hears payload drawn))
-unsealed_left device payload drawn is unsealed =
-    heard_so (λ new replies. IsLeft device new) device payload drawn is (left_on (securely_left (active device) payload drawn unsealed))
-  where
-    left_on : IsLeft (active device) (hears_securely (active device) payload drawn).device → IsLeft device (hears_securely (active device) payload drawn).device
-    left_on (u, same) = (record { journal = u.journal; sessions = u.sessions; work_left = u.work_left; work = u.work }, same)
 
 -- ---- where nothing is heard
 
@@ -374,7 +367,7 @@ ticks_so device is = by (device.work_left == 0) refl
       lock = record { kind = is.kind; awake = still_awake device (nat_lt (device.clock + 1 - device.active_at) 200) is; idle = is.idle; ends = is.ends };
       given = refl;
       sealing = refl;
-      silent = refl;
+      sessions = refl; silent = refl;
     }
     by false e = absurd (let busy : false ≡ true = sym e ∙ eq-eqb device.work_left 0 is.idle in grind (arith, busy))
 
@@ -384,7 +377,7 @@ wakes_so device is = by (listens device.kind) refl
   where
     by : (b : Bool) → listens device.kind ≡ b
         → (λ (o : Outcome). Ignores device o.device o.replies) (if b then silent device else record { device = record device { awake = true; active_at = device.clock }; replies = form WakeUpNotification ∷ [] })
-    by true e = record { lock = is; given = refl; sealing = refl; silent = refl }
+    by true e = record { lock = is; given = refl; sealing = refl; sessions = refl; silent = refl }
     by false e = absurd (let deaf : false ≡ true = sym e ∙ ap (λ (k : Kind). listens k) is.kind in grind (arith, deaf))
 
 says_none : (device : State) (value : ℕ) → device.kind ≡ Lock → main_told device value ≡ None
@@ -401,6 +394,7 @@ sets_so device value is = record {
   lock = record { kind = is.kind; awake = is.awake; idle = is.idle; ends = is.ends };
   given = refl;
   sealing = refl;
+  sessions = refl;
   silent = ap (λ (o : Option InfoMessage). option_to_list (option_map (λ (report : InfoMessage). form report) o)) (says_none device (by_hand (main_name_of device.kind) value) is.kind);
 }
 

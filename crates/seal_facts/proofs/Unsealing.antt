@@ -75,7 +75,7 @@ opened_so h n nonce plain payload messages events is heard (inr (inl (inl bad, e
 opened_so h n nonce plain payload messages events is heard (inr (inl (inr unread, e))) = absurd (unread.untold messages (ap heard_at (is.only unread.plain unread.seals) ∙ heard))
 opened_so h n nonce plain payload messages events is heard (inr (inr (told, rest, opens, e, taken))) =
     let same : told ≡ messages = messages_same told messages (sym opens.tells ∙ (ap heard_at (is.only opens.plain opens.seals) ∙ heard)) in
-    inr (rest, (e, subst (λ (l : List Told). AreTaken (after h (Spends n)) n payload true l rest) same taken))
+    inr (rest, e, subst (λ (l : List Told). AreTaken (after h (Spends n)) n payload true l rest) same taken)
 
 pub sealed_opens : (h : HostState) (n : ℕ) (nonces : List (List ℕ)) (c : host.Nonces) (number : ℕ) (plain payload : List ℕ) (messages : List Told) (events : List HostEvent)
     → HasGiven nonces c.given c.is_live (account_of h.nonces n) → IsSealed h.keys (ends_from n) nonces number plain payload → NamesGiven c number → heard_at plain ≡ Messages messages

@@ -4,3 +4,4 @@ pub mod Locks
 pub mod Hosts
 pub mod Opened
 pub mod Shown
+pub mod Waiting

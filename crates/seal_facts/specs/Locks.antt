@@ -17,11 +17,12 @@ pub record IsLock (device : State) : Type 0 where
   pub idle : device.work_left ≡ 0
   pub ends : device.sealing.ends ≡ record { sender = device.node; receiver = host_node }
 
--- it does nothing with nonces, and says nothing
+-- it does nothing with nonces or sessions, and says nothing
 pub record Ignores (old new : State) (replies : List (List ℕ)) : Type 0 where
   pub lock : IsLock new
   pub given : new.given ≡ old.given
   pub sealing : new.sealing ≡ old.sealing
+  pub sessions : new.sessions ≡ old.sessions
   pub silent : replies ≡ []
 
 -- it gives a nonce, and says it
@@ -29,6 +30,7 @@ pub record Offers (drawn : List ℕ) (old new : State) (replies : List (List ℕ
   pub lock : IsLock new
   pub given : new.given ≡ after_give old.given drawn
   pub sealing : new.sealing ≡ old.sealing
+  pub sessions : new.sessions ≡ old.sessions
   pub says : replies ≡ report_of (nonce_given old.given drawn) ∷ []
 
 -- it seals the text that waits for this nonce, with which so many were seen, and says it
@@ -38,6 +40,7 @@ pub record SealsFor (nonce drawn : List ℕ) (seen : ℕ) (old new : State) (rep
   pub waited : old.sealing.pending ≡ Some plain
   pub given : new.given ≡ old.given
   pub sealing : new.sealing ≡ record old.sealing { seen = seen; pending = None }
+  pub sessions : new.sessions ≡ old.sessions
   pub says : replies ≡ sealed_text (keys_of old.key) drawn nonce old.sealing.ends plain ∷ []
 
 -- it does, where the nonce counts as the last or the next

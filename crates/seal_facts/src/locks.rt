@@ -2,19 +2,17 @@
 
 ghost use Rattle.std.specs.Prelude.{◌≡◌, ◌⊎◌, ℕ, false, List, length, slice_index, is_some, None};
 ghost use Rattle.s0_session.specs.Nonces.{nonce_spent};
-ghost use Rattle.encap.specs.Opening.{begins_with};
 ghost use Rattle.device_stack.specs.declared.kind.Kind.TheVariants as kinds;
 ghost use Rattle.device_stack.specs.Sealing.{keys_of, sealed_text};
 ghost use Rattle.device_sim.specs.State.{State, fresh, host_node};
 ghost use Rattle.device_sim.specs.Event.{DeviceEvent, Hears, device_after, device_replies};
-ghost use Rattle.message_facts.specs.Asking.{IsLeft};
 ghost use Rattle.courses.specs.NodeNonces.{taken_as};
 ghost use Rattle.seal_facts.specs.Numbers.{IsNonce};
 ghost use Rattle.seal_facts.specs.Payloads.{IsOffer, IsUnnumbered};
 ghost use Rattle.seal_facts.specs.Locks.{IsLock, Ignores, Offers, SealsIf, Spends, SpendsNone, IsUnheard};
 
 /// A lock gives a nonce only where a payload asks for one that is neither sealed nor a Nonce Report; it seals what waits only for a nonce of the host's that counts
-/// as the last or the next; and what is sealed spends the nonce that it names. A message that names no live nonce does nothing, to sessions neither; nor does anything that is not sealed. At no other event does it do anything with
+/// as the last or the next; and what is sealed spends the nonce that it names. A message that names no live nonce does nothing, to sessions neither. At no other event does it do anything with
 /// nonces, or say anything.
 pub fn locks_hear_by_numbers()
     ensures fresh { (node : ℕ) (key : List ℕ) → IsLock (fresh node kinds.Lock key) }
@@ -28,6 +26,5 @@ pub fn locks_hear_by_numbers()
     ensures unnamed { (device : State) (own nonce plain drawn : List ℕ) → IsLock device → length own ≡ 8 → nonce_spent device.given (slice_index nonce 0) ≡ None →
         SpendsNone device (device_after device (Hears (sealed_text (keys_of device.key) own nonce (record { sender = host_node; receiver = device.node }) plain) drawn))
         (device_replies device (Hears (sealed_text (keys_of device.key) own nonce (record { sender = host_node; receiver = device.node }) plain) drawn)) }
-    ensures left { (device : State) (payload drawn : List ℕ) → IsLock device → begins_with payload 0x98 0x81 ≡ false → IsLeft device (device_after device (Hears payload drawn)) }
     ensures other { (device : State) (event : DeviceEvent) → IsLock device → IsUnheard event → Ignores device (device_after device event) (device_replies device event) }
 {}

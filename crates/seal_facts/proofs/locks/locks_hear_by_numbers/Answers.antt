@@ -1,5 +1,5 @@
 -- Each clause is a lemma on what a lock hears.
-use Rattle.seal_facts.proofs.Locking.{unnumbered_heard, offer_heard, sealed_heard, other_event, sealed_unnamed, unsealed_left}
+use Rattle.seal_facts.proofs.Locking.{unnumbered_heard, offer_heard, sealed_heard, other_event, sealed_unnamed}
 use Rattle.seal_facts.proofs.locks.locks_hear_by_numbers.Goals as goal
 
 pub returns-clause-unnumbered : goal.returns-clause-unnumbered
@@ -16,6 +16,3 @@ returns-clause-other c = other_event
 
 pub returns-clause-unnamed : goal.returns-clause-unnamed
 returns-clause-unnamed c = sealed_unnamed
-
-pub returns-clause-left : goal.returns-clause-left
-returns-clause-left c = unsealed_left
