@@ -246,10 +246,10 @@ offer_heard device nonces number payload drawn offer is =
     let nonce : List ℕ = offer.nonce in
     let found : Option ℕ = taken_as (is_some device.sealing.pending) device.sealing.seen number in
     let so : SealsIf nonce drawn found device (seals_for (active device) nonce drawn found device.sealing.pending).device (seals_for (active device) nonce drawn found device.sealing.pending).replies =
-        seals_so device nonce drawn found device.sealing.pending is refl (not_waiting device.sealing.pending device.sealing.seen number) in
+    seals_so device nonce drawn found device.sealing.pending is refl (not_waiting device.sealing.pending device.sealing.seen number) in
     let taken : SealsIf nonce drawn found device (takes_nonce (active device) nonce drawn).device (takes_nonce (active device) nonce drawn).replies =
-        subst (λ (o : Option ℕ). SealsIf nonce drawn found device (seals_for (active device) nonce drawn o device.sealing.pending).device (seals_for (active device) nonce drawn o device.sealing.pending).replies)
-        (sym (nonce_taken nonces number device.sealing.seen device.sealing.pending nonce offer.is)) so in
+    subst (λ (o : Option ℕ). SealsIf nonce drawn found device (seals_for (active device) nonce drawn o device.sealing.pending).device (seals_for (active device) nonce drawn o device.sealing.pending).replies)
+    (sym (nonce_taken nonces number device.sealing.seen device.sealing.pending nonce offer.is)) so in
     heard_so (SealsIf nonce drawn found device) device payload drawn is
     (rw (offer.text, report_open nonce, report_read nonce offer.is.eight) taken)
 
@@ -349,7 +349,7 @@ sealed_unnamed device own nonce plain drawn is eight none =
       left = (record { journal = refl; sessions = refl; work_left = refl; work = refl }, refl);
     } in
     let found : (λ (o : Outcome). SpendsNone device o.device o.replies) (hears_for (record (active device) { given = after_spend device.given first }) payload (nonce_spent device.given first)) =
-        subst (λ (found : Option (List ℕ)). (λ (o : Outcome). SpendsNone device o.device o.replies) (hears_for (record (active device) { given = after_spend device.given first }) payload found)) (sym none) so in
+    subst (λ (found : Option (List ℕ)). (λ (o : Outcome). SpendsNone device o.device o.replies) (hears_for (record (active device) { given = after_spend device.given first }) payload found)) (sym none) so in
     heard_so (SpendsNone device) device payload drawn is (rw (text.begins, text.long, text.named) found)
 
 -- ---- where nothing is heard
@@ -367,7 +367,8 @@ ticks_so device is = by (device.work_left == 0) refl
       lock = record { kind = is.kind; awake = still_awake device (nat_lt (device.clock + 1 - device.active_at) 200) is; idle = is.idle; ends = is.ends };
       given = refl;
       sealing = refl;
-      sessions = refl; silent = refl;
+      sessions = refl;
+      silent = refl;
     }
     by false e = absurd (let busy : false ≡ true = sym e ∙ eq-eqb device.work_left 0 is.idle in grind (arith, busy))
 

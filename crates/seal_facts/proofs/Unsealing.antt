@@ -96,7 +96,7 @@ sealed_opens h n nonces c number plain payload messages events has is itself hea
     by true e =
         let live : live_of h.nonces n ≡ Some is.nonce = found_live nonces c.given number c.is_live (account_of h.nonces n) is.nonce has is.is itself e in
         let found : with_first (live_of h.nonces n) (slice_index is.nonce 0) ≡ Some is.nonce =
-            ap (λ (o : Option (List ℕ)). with_first o (slice_index is.nonce 0)) live ∙ ap (λ (b : Bool). if b then Some is.nonce else None) (eq-eqb (slice_index is.nonce 0) (slice_index is.nonce 0) refl) in
+        ap (λ (o : Option (List ℕ)). with_first o (slice_index is.nonce 0)) live ∙ ap (λ (b : Bool). if b then Some is.nonce else None) (eq-eqb (slice_index is.nonce 0) (slice_index is.nonce 0) refl) in
         opened_so h n is.nonce plain payload messages events so heard (subst (λ (o : Option (List ℕ)). SealedEvents h n payload o events) found first)
 
 -- ---- the host seals
