@@ -1,8 +1,7 @@
 -- What each event of a node, and of the host, leaves of nonces and of sealed texts.
-use Rattle.std.proofs.Common.{◌≡◌, ◌≢◌, ℕ, ◌+◌, ◌-◌, ◌<◌, ◌≤◌, ◌==◌, Bool, true, false, not, nat_lt, if◌then◌else◌, Option, Some, None, List, [], ◌∷◌, ◌++◌, length, refl, ap, sym, ◌∙◌, subst, ◌⊎◌, inl, inr, arith}
-use Rattle.std.specs.Prelude.{◌&&◌, is_some, slice_set, slice_index_or}
-use Rattle.std.proofs.lemmas.List.{get_or_past, get_or-set_same, get_or-set_other, set_past}
-use Rattle.zw_base.specs.declared.property.Setting.{Setting}
+use Rattle.std.proofs.Common.{◌≡◌, ◌≢◌, ℕ, ◌+◌, ◌-◌, ◌<◌, ◌≤◌, ◌==◌, Bool, true, false, nat_lt, if◌then◌else◌, Option, Some, None, List, length, refl, ap, sym, ◌∙◌, subst, ◌⊎◌, inl, inr, arith}
+use Rattle.std.specs.Prelude.{◌&&◌, slice_set, slice_index_or}
+use Rattle.std.proofs.lemmas.List.{get_or-set_same, get_or-set_other, set_past}
 use Rattle.serial_link.specs.State.{tick_side}
 use Rattle.supervision.specs.Host.{told_of}
 use Rattle.supervision.specs.declared.host_node.Told.{Told}
@@ -15,26 +14,24 @@ use Rattle.host_requests.specs.declared.task.Task.TheVariants as task
 use Rattle.host_requests.specs.declared.task.Purpose.{Purpose}
 use Rattle.host_requests.specs.declared.task.Purpose.TheVariants.{Housekeeping, Attempt, Abort}
 use Rattle.host_requests.specs.declared.end.End.{End}
-use Rattle.host_requests.specs.declared.end.How.{How}
 use Rattle.host_requests.specs.Events.{RequestsEvent, end_at}
 use Rattle.host_requests.specs.Events.RequestsEvent.{Fails as request_fails, Pushes as request_pushes, Updates as request_updates}
 use Rattle.host_node.specs.declared.attempt.AttemptEnd.{AttemptEnd}
 use Rattle.host_node.specs.declared.attempt.AttemptEnd.TheVariants.{NoneRan, Again, Unanswered}
 use Rattle.host_node.specs.declared.attempt.Moment.{Moment}
 use Rattle.host_node.specs.declared.attempt.Moment.TheVariants.{BetweenTicks, BeforeItsTick}
-use Rattle.host_node.specs.declared.attempt.Plan.{Plan}
 use Rattle.host_node.specs.declared.attempt.Plan.TheVariants.{Whole, Segments, Sealed}
 use Rattle.host_node.specs.State.{NodeState, unknown, is_open, is_up, is_idle, is_running, has_waiting}
-use Rattle.host_node.specs.Steps.{with_again, with_wait, new_series, after_occasion, without_attempt, after_sign, asleep, after_sleep, next_due, series_over, after_attempts, after_attempt_end, after_told, after_report, after_notification, after_no_more_end, after_no_more, after_hold_tick, after_again, after_again_tick, after_attempt_tick, after_tick, as_recorded, after_restart, tick_end}
+use Rattle.host_node.specs.Steps.{with_again, with_wait, new_series, after_occasion, without_attempt, after_sign, asleep, after_sleep, next_due, series_over, after_attempts, after_attempt_end, after_told, after_no_more_end, after_hold_tick, after_again, after_again_tick, after_attempt_tick, after_tick, as_recorded, tick_end}
 use Rattle.host_node.specs.Events.{NodeEvent, after as after_node}
 use Rattle.host_node.specs.Events.NodeEvent.{Accepts as node_accepts, Begins as node_begins, Blocks as node_blocks, Cancels as node_cancels, Drops_no_more as node_drops_no_more, Ends_attempt as node_ends_attempt, Ends_no_more as node_ends_no_more, Gives_segment as node_gives_segment, Gives_text as node_gives_text, Holds as node_holds, Interviews as node_interviews, Joins as node_joins, Notifies as node_notifies, Puts as node_puts, Queues_no_more as node_queues_no_more, Reports as node_reports, Restarts as node_restarts, Restores_seen as node_restores_seen, Sleeps as node_sleeps, Starts as node_starts, Succeeds as node_succeeds, Takes_back as node_takes_back, Takes_nonce as node_takes_nonce, Ticks as node_ticks}
-use Rattle.host_nodes.specs.State.{node_of as node_among, with_node as with_node_among}
-use Rattle.host_events.specs.State.{HostState, node_of, with_node, with_outcome}
+use Rattle.host_nodes.specs.State.{node_of as node_among}
+use Rattle.host_events.specs.State.{HostState, node_of, with_node}
 use Rattle.host_events.specs.Sessions.{open_command}
 use Rattle.host_events.specs.Ends.{unanswered, attempt_ended, without_report, PartEnd, Good, Passed_over, Bad, part_end, after_part, after_task, after_end, after_end_if}
 use Rattle.host_events.specs.Events.{HostEvent, Accepts, Cancels, Joins, Queues, Queues_interview, Queues_probe, Hears, Requests_do, Interviews, Interview_unkept, Unreads, Is_unkept, Reports_old, Works, Finishes, Offers, Gives, Spends, Spends_unread, Takes_nonce, Notifies, Resends, Hears_value, Has_no_room, Line_ticks, Node_ticks, Queues_no_more, Drops_no_more, Submits_abort, Submits_front, Starts, Gives_text, Gives_segment, Begins, Begin_unkept}
-use Rattle.host_events.specs.After.{node_does, requests_do, request_does, submits_part, queues_if_room, is_full, accepting, node_for, is_held, holding, finishing, giving, spending, offering, gives_up, line_ticked, failing_if, after}
-use Rattle.seal_facts.specs.Hosts.{LeavesSealing, IsOpenPlan, IsUnsealing, IsAside, LeavesNonces}
+use Rattle.host_events.specs.After.{node_does, requests_do, request_does, submits_part, queues_if_room, is_full, node_for, is_held, holding, finishing, giving, offering, gives_up, line_ticked, failing_if, after}
+use Rattle.seal_facts.specs.Hosts.{LeavesSealing, IsUnsealing, IsAside, LeavesNonces}
 
 -- ---- a node
 

@@ -1,34 +1,27 @@
 -- A lock that hears, and one that hears nothing.
-use Rattle.std.proofs.Common.{◌≡◌, ◌≢◌, ℕ, ◌+◌, ◌-◌, ◌==◌, Bool, true, false, not, nat_lt, if◌then◌else◌, Option, Some, None, List, [], ◌∷◌, ◌++◌, length, drop, take, refl, ap, sym, ◌∙◌, subst, ◌⊎◌, inl, inr, arith}
-use Rattle.std.specs.Prelude.{Result, Ok, Err, ◌&&◌, ◌||◌, slice_index, is_some, nat_le}
+use Rattle.std.proofs.Common.{◌≡◌, ◌≢◌, ℕ, ◌+◌, ◌-◌, ◌==◌, Bool, true, false, not, nat_lt, if◌then◌else◌, Option, Some, None, List, [], ◌∷◌, length, refl, ap, sym, ◌∙◌, subst, ◌⊎◌, inl, inr, arith}
+use Rattle.std.specs.Prelude.{Result, Ok, Err, ◌&&◌, ◌||◌, slice_index, is_some}
 use Rattle.std.specs.Option.{option_map, option_to_list}
 use Rattle.std.proofs.lemmas.Bool.{eq-eqb}
-use Rattle.std.proofs.lemmas.Bool.Decides.{nat_tests}
 use Rattle.zw_base.specs.declared.property.Property.{Property}
 use Rattle.zw_base.specs.declared.property.Setting.{Setting}
-use Rattle.zw_base.specs.declared.property.Name.TheVariants as names
 use Rattle.supervision.specs.declared.device_book.Heard.{Heard}
 use Rattle.supervision.specs.declared.device_book.Heard.TheVariants.{New, Again, Old}
 use Rattle.supervision.specs.Device.{heard_of}
 use Rattle.s0_session.specs.declared.account.Account.{Account}
-use Rattle.s0_session.specs.Nonces.{with_first, live_after, nonce_spent, after_spend, nonce_given, after_give}
-use Rattle.s0_session.specs.Sending.{Sending, taken_from}
+use Rattle.s0_session.specs.Nonces.{with_first, live_after, nonce_spent, after_spend, nonce_given}
+use Rattle.s0_session.specs.Sending.{Sending}
 use Rattle.s0_crypto.specs.declared.ends.SealEnds.{SealEnds}
-use Rattle.class_fields.specs.Reading.{byte_at, in_class, ◌>>=◌}
 use Rattle.class_fields.specs.declared.fault.ClassFault.{ClassFault}
-use Rattle.class_core.specs.MessageReading.{message_at}
 use Rattle.class_core.specs.declared.message.CoreMessage.{CoreMessage}
 use Rattle.class_core.specs.declared.message.CoreMessage.TheVariants.{SwitchBinarySet, SwitchMultilevelSet, ThermostatModeSet, ThermostatSetpointSet, DoorLockOperationSet, ConfigurationSet, ConfigurationBulkSet, AssociationSet, AssociationRemove, WakeUpIntervalSet}
 use Rattle.class_info.specs.declared.message.InfoMessage.{InfoMessage}
 use Rattle.class_info.specs.declared.message.InfoMessage.TheVariants.{Core, WakeUpNotification, WakeUpNoMoreInformation, NonceGet, NonceReport}
 use Rattle.class_info.specs.InfoReading.{info_at}
-use Rattle.class_info.specs.InfoSpelling.{form, cells}
-use Rattle.class_info.proofs.InfoLaws.{again}
-use Rattle.class_info.proofs.FormLaws.{form_spells}
-use Rattle.class_info.proofs.OwnLaws.{written_wholes}
+use Rattle.class_info.specs.InfoSpelling.{form}
 use Rattle.encap.specs.Wraps.{is_crc16}
 use Rattle.encap.specs.Written.{only_of}
-use Rattle.encap.specs.Opening.{Message, begins_with, opened_at}
+use Rattle.encap.specs.Opening.{Message, opened_at}
 use Rattle.encap.specs.declared.plan.Plan.{Plan}
 use Rattle.encap.specs.declared.plan.Supervised.{Supervised}
 use Rattle.device_stack.specs.declared.kind.Kind.{Kind}
@@ -44,16 +37,14 @@ use Rattle.device_stack.specs.Settings.{merged}
 use Rattle.device_stack.specs.Judging.{judged_set, judged, judged_all, judged_message}
 use Rattle.device_stack.specs.Telling.{told}
 use Rattle.device_stack.specs.Effects.{end_of, set_plainly, effect_untold, telling, effect_alone, effect_in_session, effect_by, effect_of, takes, after_effect}
-use Rattle.device_stack.specs.Hearing.{Answered, answers, nonce_named, sent_sealed, hears_inside, hears_plain, hears_for, hears_sealed, gives_nonce, seals_for, takes_nonce, hears_nonces, hears_securely, hears_by, active, hears}
+use Rattle.device_stack.specs.Hearing.{Answered, answers, sent_sealed, hears_inside, hears_plain, hears_for, hears_sealed, seals_for, takes_nonce, hears_nonces, hears_securely, hears_by, active, hears}
 use Rattle.device_stack.specs.Ticking.{aged, works_out, ticked, woken, by_hand, tells_by_hand, main_told, set_by_hand}
 use Rattle.device_stack.specs.Telling.{report_of as value_report}
 use Rattle.device_stack.specs.Sealing.{keys_of, unsealed_at, sealed_text}
 use Rattle.device_sim.specs.Event.{DeviceEvent, Hears, Ticks, Wakes, Sets, outcome_of, device_after, device_replies}
 use Rattle.courses.specs.NodeNonces.{taken_as}
-use Rattle.seal_facts.specs.Numbers.{IsNonce}
-use Rattle.seal_facts.specs.Payloads.{report_of, IsOffer, IsUnnumbered}
-use Rattle.seal_facts.specs.Locks.{IsLock, Ignores, Offers, SealsFor, SealsIf, WaitsToAnswer, Spends, SpendsNone, IsUnheard}
-use Rattle.message_facts.specs.Asking.{IsLeft}
+use Rattle.seal_facts.specs.Payloads.{IsOffer, IsUnnumbered}
+use Rattle.seal_facts.specs.Locks.{IsLock, Ignores, Offers, SealsIf, Spends, SpendsNone, IsUnheard}
 use Rattle.seal_facts.proofs.Numbering.{nonce_taken}
 use Rattle.seal_facts.proofs.Texts.{report_form, report_read, report_open, is_text}
 

@@ -1,5 +1,5 @@
 -- Nonces by their numbers, at who gives them and at who seals for them.
-use Rattle.std.proofs.Common.{◌≡◌, ℕ, zero, suc, ◌+◌, ◌-◌, ◌<◌, ◌≤◌, ◌==◌, Bool, true, false, not, if◌then◌else◌, Option, Some, None, List, [], ◌∷◌, ◌++◌, length, drop, refl, ap, sym, ◌∙◌, subst, arith, length-append, length-drop}
+use Rattle.std.proofs.Common.{◌≡◌, ℕ, zero, suc, ◌+◌, ◌-◌, ◌==◌, Bool, true, false, not, if◌then◌else◌, Option, Some, None, List, [], ◌∷◌, ◌++◌, length, drop, refl, ap, sym, ◌∙◌, subst, arith, length-append, length-drop}
 use Rattle.std.specs.Prelude.{◌%◌, ◌&&◌, slice_index, is_some}
 use Rattle.std.specs.Option.{ForSome}
 use Rattle.std.proofs.lemmas.Bool.{eqb-true, eq-eqb}
@@ -9,9 +9,9 @@ use Rattle.courses.specs.NodeNonces as node
 use Rattle.courses.specs.NodeNonces.{taken_as}
 use Rattle.courses.specs.HostNonces as host
 use Rattle.s0_session.specs.declared.account.Account.{Account}
-use Rattle.s0_session.specs.Nonces.{new_nonce, given_from, answer_from, nonce_given, after_give, with_first, live_after, nonce_spent, after_spend, unused}
+use Rattle.s0_session.specs.Nonces.{new_nonce, nonce_given, after_give, nonce_spent, after_spend, unused}
 use Rattle.s0_session.specs.Sending.{seen_after, taken_from}
-use Rattle.seal_facts.specs.Numbers.{IsNonce, HasGiven, brought_by, with_given, HasSeen}
+use Rattle.seal_facts.specs.Numbers.{IsNonce, HasGiven, with_given}
 
 -- ---- lists
 

@@ -1,5 +1,5 @@
 -- How many new nonces a history has shown, frame by frame.
-use Rattle.std.proofs.Common.{◌≡◌, ◌≢◌, ℕ, zero, suc, ◌+◌, ◌-◌, ◌<◌, ◌≤◌, ◌==◌, Bool, true, false, not, nat_lt, if◌then◌else◌, Option, Some, None, List, [], ◌∷◌, ◌++◌, length, take, drop, refl, ap, sym, ◌∙◌, subst, ◌⊎◌, inl, inr, arith}
+use Rattle.std.proofs.Common.{◌≡◌, ◌≢◌, ℕ, zero, suc, ◌+◌, ◌-◌, ◌<◌, ◌≤◌, ◌==◌, Bool, true, false, not, if◌then◌else◌, Option, Some, None, List, [], ◌∷◌, ◌++◌, length, take, refl, ap, sym, ◌∙◌, subst, ◌⊎◌, inl, inr, arith}
 use Rattle.std.specs.Prelude.{◌&&◌, ◌||◌, ◌%◌, slice_index, nat_le, nat_eq}
 use Rattle.std.specs.Cmp.Lexicographic.{pointwise}
 use Rattle.std.proofs.Math.Seq.{take-length}
@@ -11,7 +11,7 @@ use Rattle.air_frames.specs.declared.frame.Heading.{Heading}
 use Rattle.air_frames.specs.declared.frame.Heading.TheVariants.{Outward, Homeward}
 use Rattle.air_frames.specs.Ages.{is_class, stale_by}
 use Rattle.air_frames.specs.History.{Mark, Goes, Begins, same_heading, later_nonce, last_after, last_in, news_by, new_in, news_after}
-use Rattle.air_frames.specs.Nonces.{nonce_in, is_news}
+use Rattle.air_frames.specs.Nonces.{nonce_in}
 use Rattle.air_frames.proofs.Logs.{last_in-append, news_after-append}
 use Rattle.seal_facts.specs.Numbers.{IsNonce}
 use Rattle.seal_facts.specs.Payloads.{report_of, IsOffer}

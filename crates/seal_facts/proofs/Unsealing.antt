@@ -1,6 +1,6 @@
 -- What the host seals, and what it opens.
-use Rattle.std.proofs.Common.{◌≡◌, ◌≢◌, ℕ, suc, ◌+◌, ◌-◌, ◌≤◌, ◌==◌, Bool, true, false, nat_lt, if◌then◌else◌, Option, Some, None, List, [], ◌∷◌, ◌++◌, length, refl, ap, sym, ◌∙◌, subst, ◌⊎◌, inl, inr, arith, length-append}
-use Rattle.std.specs.Prelude.{◌&&◌, slice_index, nat_le}
+use Rattle.std.proofs.Common.{◌≡◌, ℕ, suc, ◌+◌, Bool, true, false, if◌then◌else◌, Option, Some, None, List, ◌∷◌, ◌++◌, length, refl, ap, sym, ◌∙◌, subst, inl, inr, arith, length-append}
+use Rattle.std.specs.Prelude.{slice_index, nat_le}
 use Rattle.std.proofs.lemmas.Bool.Decides.{nat_tests}
 use Rattle.std.proofs.lemmas.Bool.{eq-eqb}
 use Rattle.s0_crypto.specs.declared.key_pair.Keys.{Keys}
@@ -10,20 +10,18 @@ use Rattle.s0_crypto.specs.Opening.{nonce_in, IsGood}
 use Rattle.s0_crypto.proofs.MessageLemmas.{nonce_of_layout}
 use Rattle.s0_crypto.proofs.OpeningLemmas.{good_from_seals, one_plain_text}
 use Rattle.s0_crypto.proofs.StreamLemmas.{length-ofb_from}
-use Rattle.s0_session.specs.declared.account.Account.{Account}
 use Rattle.s0_session.specs.Nonces.{account_of, live_of, with_first, nonce_spent}
 use Rattle.device_stack.specs.Sealing.{cipher_text_of, sealed_text}
 use Rattle.device_stack.proofs.SealingLemmas.{sealed_is}
-use Rattle.encap.specs.Opening.{begins_with, opened_at}
-use Rattle.host_heard.specs.Telling.{heard_at, heard_by, told_in}
+use Rattle.host_heard.specs.Telling.{heard_at}
 use Rattle.host_heard.specs.declared.payload.Heard.{Heard}
-use Rattle.host_heard.specs.declared.payload.Heard.TheVariants.{Messages, Sealed, Unread}
+use Rattle.host_heard.specs.declared.payload.Heard.TheVariants.{Messages, Sealed}
 use Rattle.host_heard.specs.declared.told.Told.{Told}
 use Rattle.host_node.specs.State.{NodeState, SealsText, ends_to}
 use Rattle.host_events.specs.State.{HostState}
-use Rattle.host_events.specs.Events.{HostEvent, Unreads, Is_unkept, Spends, Spends_unread}
+use Rattle.host_events.specs.Events.{HostEvent, Spends}
 use Rattle.host_events.specs.After.{after}
-use Rattle.host_events.specs.Taking.{AreTaken, named_by, ends_from, OpensTo, OpensUnread, OpensInVain, IsOpened, SealedEvents, PayloadEvents}
+use Rattle.host_events.specs.Taking.{AreTaken, named_by, ends_from, IsOpened, SealedEvents, PayloadEvents}
 use Rattle.courses.specs.HostNonces as host
 use Rattle.courses.specs.NonceLaws.{NamesGiven}
 use Rattle.seal_facts.specs.Numbers.{IsNonce, HasGiven}

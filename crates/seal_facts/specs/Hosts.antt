@@ -1,5 +1,5 @@
 -- What the host makes of nonces and of what it seals, event by event (this project's own rule over the Security 0 Command Class).
-use Rattle.std.specs.Prelude.{◌≡◌, ◌≢◌, ◌⊎◌, ℕ, Some, None, List, slice_index}
+use Rattle.std.specs.Prelude.{◌≡◌, ◌≢◌, ◌⊎◌, ℕ, None}
 use Rattle.s0_session.specs.Nonces.{account_of}
 use Rattle.host_node.specs.State.{NodeState}
 use Rattle.host_node.specs.declared.attempt.Plan.{Plan}

@@ -2,7 +2,6 @@
 use Rattle.std.specs.Prelude.{◌≡◌, ◌<◌, ℕ, List, [], ◌∷◌, Some}
 use Rattle.device_stack.specs.Sealing.{keys_of}
 use Rattle.device_stack.specs.State.{State}
-use Rattle.message_facts.specs.Asking.{IsLeft}
 use Rattle.message_facts.specs.Reporting.{TellsOwn}
 use Rattle.seal_facts.specs.Payloads.{IsSealed}
 
