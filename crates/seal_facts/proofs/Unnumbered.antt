@@ -1,11 +1,10 @@
 -- What is neither sealed nor a Nonce Report.
-use Rattle.std.proofs.Common.{◌≡◌, ◌≢◌, ℕ, ◌==◌, Bool, true, false, if◌then◌else◌, Option, Some, None, List, [], ◌∷◌, ◌++◌, length, refl, ap, sym, ◌∙◌, subst, arith}
-use Rattle.std.specs.Prelude.{Result, Ok, Err, ◌&&◌, nat_le, slice_index, take, drop}
-use Rattle.class_fields.specs.Reading.{byte_at, in_class}
+use Rattle.std.proofs.Common.{◌≡◌, ℕ, ◌==◌, Bool, true, false, if◌then◌else◌, Option, Some, None, List, ◌∷◌, length, refl, ap, sym, ◌∙◌, subst}
+use Rattle.std.specs.Prelude.{Result, Ok, Err, ◌&&◌, nat_le, slice_index, take}
+use Rattle.class_fields.specs.Reading.{byte_at}
 use Rattle.class_fields.specs.declared.fault.ClassFault.{ClassFault}
 use Rattle.class_fields.specs.declared.fault.ClassFault.TheVariants.{UnknownClass}
 use Rattle.class_core.specs.MessageReading.{message_at}
-use Rattle.class_core.specs.declared.message.CoreMessage.{CoreMessage}
 use Rattle.class_core.specs.declared.message.CoreMessage.TheVariants.{SwitchBinaryGet, SwitchMultilevelGet, DoorLockOperationGet, ThermostatModeGet}
 use Rattle.class_info.specs.declared.message.InfoMessage.{InfoMessage}
 use Rattle.class_info.specs.declared.message.InfoMessage.TheVariants.{Core, NonceGet, NonceReport, WakeUpNoMoreInformation, SensorMultilevelGet}
