@@ -20,9 +20,10 @@ use Rattle.host_node.specs.declared.attempt.AttemptEnd.{AttemptEnd}
 use Rattle.host_node.specs.declared.attempt.AttemptEnd.TheVariants.{NoneRan, Again, Unanswered}
 use Rattle.host_node.specs.declared.attempt.Moment.{Moment}
 use Rattle.host_node.specs.declared.attempt.Moment.TheVariants.{BetweenTicks, BeforeItsTick}
+use Rattle.host_node.specs.declared.attempt.Plan.{Plan}
 use Rattle.host_node.specs.declared.attempt.Plan.TheVariants.{Whole, Segments, Sealed}
 use Rattle.host_node.specs.State.{NodeState, unknown, is_open, is_up, is_idle, is_running, has_waiting}
-use Rattle.host_node.specs.Steps.{with_again, with_wait, new_series, after_occasion, without_attempt, after_sign, asleep, after_sleep, next_due, series_over, after_attempts, after_attempt_end, after_told, after_no_more_end, after_hold_tick, after_again, after_again_tick, after_attempt_tick, after_tick, as_recorded, tick_end}
+use Rattle.host_node.specs.Steps.{with_again, with_wait, new_series, after_occasion, without_attempt, after_sign, asleep, after_sleep, next_due, series_over, after_attempts, after_attempt_end, after_told, after_no_more_end, after_hold_tick, after_again, after_again_tick, after_attempt_tick, after_tick, as_recorded, tick_end, after_start, after_nonce, after_text}
 use Rattle.host_node.specs.Events.{NodeEvent, after as after_node}
 use Rattle.host_node.specs.Events.NodeEvent.{Accepts as node_accepts, Begins as node_begins, Blocks as node_blocks, Cancels as node_cancels, Drops_no_more as node_drops_no_more, Ends_attempt as node_ends_attempt, Ends_no_more as node_ends_no_more, Gives_segment as node_gives_segment, Gives_text as node_gives_text, Holds as node_holds, Interviews as node_interviews, Joins as node_joins, Notifies as node_notifies, Puts as node_puts, Queues_no_more as node_queues_no_more, Reports as node_reports, Restarts as node_restarts, Restores_seen as node_restores_seen, Sleeps as node_sleeps, Starts as node_starts, Succeeds as node_succeeds, Takes_back as node_takes_back, Takes_nonce as node_takes_nonce, Ticks as node_ticks}
 use Rattle.host_nodes.specs.State.{node_of as node_among}
@@ -274,3 +275,16 @@ gives_own node h drawn within =
 
 pub spends_own : (node : ℕ) (h : HostState) → node < length h.nonces → account_of (after h (Spends node)).nonces node ≡ record (account_of h.nonces node) { live = None }
 spends_own node h within = get_or-set_same h.nonces node (record (account_of h.nonces node) { live = None }) unused within
+
+pub starts_own : (node : ℕ) (h : HostState) (plan : Plan) (more : Bool) (payload : List ℕ) → node < length h.nodes → node_of (after h (Starts node plan more payload)) node ≡ after_start (node_of h node) plan
+starts_own node h plan more payload within = get_or-set_same h.nodes node (after_start (node_of h node) plan) (unknown 0) within
+
+pub seals_own : (node seen : ℕ) (h : HostState) (text : List ℕ) → node < length h.nodes → node_of (after h (Takes_nonce node seen text)) node ≡ after_nonce (node_of h node) seen text
+seals_own node seen h text within = get_or-set_same h.nodes node (after_nonce (node_of h node) seen text) (unknown 0) within
+
+pub sends_own : (node : ℕ) (h : HostState) (payload : List ℕ) → node < length h.nodes → node_of (after h (Gives_text node payload)) node ≡ after_text (node_of h node)
+sends_own node h payload within = get_or-set_same h.nodes node (after_text (node_of h node)) (unknown 0) within
+
+pub accounts_kept : (node n seen : ℕ) (h : HostState) (plan : Plan) (more : Bool) (payload text : List ℕ) → (account_of (after h (Starts n plan more payload)).nonces node ≡ account_of h.nonces node)
+    × ((account_of (after h (Takes_nonce n seen text)).nonces node ≡ account_of h.nonces node) × (account_of (after h (Gives_text n payload)).nonces node ≡ account_of h.nonces node))
+accounts_kept node n seen h plan more payload text = (refl, (refl, refl))

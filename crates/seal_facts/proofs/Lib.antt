@@ -5,3 +5,4 @@ mod Hosting
 mod Unsealing
 mod Showing
 mod Answering
+mod Unnumbered

@@ -1,5 +1,5 @@
 -- Nonces by their numbers: which one has which number, and what an account has of them (this project's own rule over the Security 0 Command Class).
-use Rattle.std.specs.Prelude.{◌≡◌, ℕ, ◌%◌, Bool, List, [], ◌∷◌, ◌++◌, length, slice_index, Option, Some, None, is_some, true}
+use Rattle.std.specs.Prelude.{◌≡◌, ℕ, ◌%◌, Bool, List, [], ◌∷◌, ◌++◌, length, slice_index, Option, Some, None, is_some}
 use Rattle.std.specs.Option.{ForSome}
 use Rattle.courses.specs.Parts.{numbered}
 use Rattle.s0_session.specs.declared.account.Account.{Account}
@@ -25,8 +25,3 @@ brought_by (Some nonce) given drawn = []
 
 abbrev pub with_given : List (List ℕ) → Account → List ℕ → List (List ℕ)
 with_given nonces account drawn = nonces ++ brought_by account.live account.given drawn
-
--- an end that seals saw so many nonces, and a text waits for one only where the course has it so
-pub record HasSeen (seen : ℕ) (waits : Bool) (seen_now : ℕ) (pending : Option (List ℕ)) : Type 0 where
-  pub count : seen_now ≡ seen
-  pub waiting : is_some pending ≡ true → waits ≡ true

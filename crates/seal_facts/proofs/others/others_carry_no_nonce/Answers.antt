@@ -1,0 +1,15 @@
+-- Each clause is a lemma on texts.
+use Rattle.seal_facts.proofs.Unnumbered.{nonce_get_unnumbered, no_more_unnumbered, wrapped_unnumbered, get_unnumbered}
+use Rattle.seal_facts.proofs.others.others_carry_no_nonce.Goals as goal
+
+pub returns-clause-nonce_get : goal.returns-clause-nonce_get
+returns-clause-nonce_get c = nonce_get_unnumbered
+
+pub returns-clause-no_more : goal.returns-clause-no_more
+returns-clause-no_more c = no_more_unnumbered
+
+pub returns-clause-wrapped : goal.returns-clause-wrapped
+returns-clause-wrapped c = wrapped_unnumbered
+
+pub returns-clause-get : goal.returns-clause-get
+returns-clause-get c = get_unnumbered
