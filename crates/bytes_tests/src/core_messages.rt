@@ -35,7 +35,7 @@ fn rows_both_ways(rt: HostRuntime) -> Result<(), Fail> {
             break;
         };
         let form = again(rt.alloc(), row)?;
-        assert_eq!(rt; form.as_slice(), row);
+        assert!(rt; form.as_slice() == row, "{row:?}");
         table = rest;
     }
     assert!(rt; table.is_empty());
@@ -50,7 +50,7 @@ fn what_is_ignored(rt: HostRuntime) -> Result<(), Fail> {
             break;
         };
         let written = again(rt.alloc(), row)?;
-        assert_eq!(rt; written.as_slice(), form);
+        assert!(rt; written.as_slice() == form, "{row:?}");
         table = rest;
     }
     assert!(rt; table.is_empty());
@@ -66,7 +66,7 @@ fn first_fault(rt: HostRuntime) {
         };
         let found = read(rt.alloc(), row).err();
         assert!(rt; found.is_some());
-        assert_eq!(rt; found, fault(told));
+        assert!(rt; found == fault(told), "{row:?}");
         table = rest;
     }
     assert!(rt; table.is_empty());

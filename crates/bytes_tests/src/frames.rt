@@ -25,7 +25,7 @@ struct Row {
     rest: u16,
 }
 
-const ROWS: [Row; 10] = [
+const ROWS: &[Row] = &[
     Row {
         stream: &[0x01, 0x03, 0x00, 0x15, 0xe8],
         items: &[Want::Refused(Refusal::BadSum {
@@ -143,6 +143,10 @@ fn are_wanted(items: &[Item], wants: &[Want]) -> bool {
             .all(|(item, want)| is_wanted(item, want))
 }
 
+fn feed(decoder: &mut Decoder, piece: &[u8], items: &mut List<Item>) -> Result<(), NoMemory> {
+    decoder.feed(piece, items)
+}
+
 /// Feeds the stream of a row in three pieces.
 fn check(
     rt: &impl Abort,
@@ -155,9 +159,9 @@ fn check(
     let mut items = List::new(alloc);
     let stream = row.stream;
     if from <= to && to <= stream.len() {
-        decoder.feed(&stream[..from], &mut items)?;
-        decoder.feed(&stream[from..to], &mut items)?;
-        decoder.feed(&stream[to..], &mut items)?;
+        feed(&mut decoder, &stream[..from], &mut items)?;
+        feed(&mut decoder, &stream[from..to], &mut items)?;
+        feed(&mut decoder, &stream[to..], &mut items)?;
         let same = are_wanted(items.as_slice(), row.items) && decoder.rest() == row.rest;
         assert!(rt; same, "cut at {from} and {to}");
     }
@@ -187,9 +191,9 @@ fn largest(alloc: Global) -> Result<Bytes, NoMemory> {
 fn largest_frame(rt: HostRuntime) -> Result<(), Fail> {
     let mut decoder = Decoder::new(rt.alloc());
     let mut items = List::new(rt.alloc());
-    decoder.feed(largest(rt.alloc())?.as_slice(), &mut items)?;
+    feed(&mut decoder, largest(rt.alloc())?.as_slice(), &mut items)?;
     assert!(rt; items.is_empty() && decoder.rest() == 256);
-    decoder.feed(&[0x13], &mut items)?;
+    feed(&mut decoder, &[0x13], &mut items)?;
     let is_whole =
         matches!(items.as_slice(), [Item::Good(Unit::Framed(frame))] if is_frame(frame, Kind::Request, 0x13, &[0; MAX_BODY]));
     assert!(rt; is_whole);
@@ -200,12 +204,12 @@ fn largest_frame(rt: HostRuntime) -> Result<(), Fail> {
 fn an_unfinished_frame_is_forgotten(rt: HostRuntime) -> Result<(), Fail> {
     let mut decoder = Decoder::new(rt.alloc());
     let mut items = List::new(rt.alloc());
-    decoder.feed(largest(rt.alloc())?.as_slice(), &mut items)?;
+    feed(&mut decoder, largest(rt.alloc())?.as_slice(), &mut items)?;
     for tick in 1..=15 {
         let aborts = decoder.tick();
         assert!(rt; aborts == (tick == 15), "at tick {tick}");
     }
-    decoder.feed(&[ACK], &mut items)?;
+    feed(&mut decoder, &[ACK], &mut items)?;
     let is_answer = matches!(items.as_slice(), [Item::Good(Unit::Ack)]);
     assert!(rt; is_answer && decoder.rest() == 0 && !decoder.tick());
     Ok(())
@@ -228,7 +232,7 @@ fn units_are_written(rt: HostRuntime) -> Result<(), Fail> {
             [0x01, 0x04, 0x01, 0x13, 0x01, 0xe8].as_slice(),
         ),
     ] {
-        assert_eq!(rt; encode(rt.alloc(), &unit)?.as_slice(), text);
+        assert!(rt; encode(rt.alloc(), &unit)?.as_slice() == text);
     }
     Ok(())
 }

@@ -138,7 +138,7 @@ fn first_fault(rt: HostRuntime) {
         };
         let fault = fault(told);
         assert!(rt; fault.is_some());
-        assert_eq!(rt; found(rt.alloc(), row), fault, "{row:?}");
+        assert!(rt; found(rt.alloc(), row) == fault, "{row:?}");
         table = rest;
     }
     assert!(rt; table.is_empty());
@@ -150,13 +150,13 @@ fn full_frames(rt: HostRuntime) -> Result<(), Fail> {
     let mut request = [1; MAX_BODY];
     request[1] = 248;
     let frame = request_again(rt.alloc(), SEND_DATA, &request)?;
-    assert_eq!(rt; frame.body.as_slice(), request.as_slice());
+    assert!(rt; frame.body.as_slice() == request.as_slice());
     let mut handler = [1; MAX_BODY];
     handler[2] = 249;
     let frame = notice_again(rt.alloc(), APPLICATION_COMMAND_HANDLER, &handler)?;
-    assert_eq!(rt; frame.body.as_slice(), handler.as_slice());
+    assert!(rt; frame.body.as_slice() == handler.as_slice());
     handler[0] = UPDATE_RECEIVED;
     let frame = notice_again(rt.alloc(), APPLICATION_UPDATE, &handler)?;
-    assert_eq!(rt; frame.body.as_slice(), handler.as_slice());
+    assert!(rt; frame.body.as_slice() == handler.as_slice());
     Ok(())
 }

@@ -65,7 +65,7 @@ struct Row {
     busy: bool,
 }
 
-const ROWS: [Row; 27] = [
+const ROWS: &[Row] = &[
     // answers
     Row {
         act: Act::Feed(&[0x01, 0x03, 0x00, 0x15, 0xe9]),
@@ -222,6 +222,24 @@ const ROWS: [Row; 27] = [
     },
 ];
 
+fn submit(alloc: Global, link: &mut Link, out: &mut List<LinkOut>) -> Result<(), NoMemory> {
+    match link.submit(request(alloc), out) {
+        Err(SubmitFault::NoMemory) => Err(NoMemory),
+        _ => Ok(()),
+    }
+}
+
+fn feed(link: &mut Link, out: &mut List<LinkOut>, piece: &[u8]) -> Result<(), NoMemory> {
+    link.feed(piece, out)
+}
+
+fn tick(link: &mut Link, out: &mut List<LinkOut>, ticks: u8) -> Result<(), NoMemory> {
+    for _ in 0..ticks {
+        link.tick(out)?;
+    }
+    Ok(())
+}
+
 fn perform(
     alloc: Global,
     link: &mut Link,
@@ -229,19 +247,10 @@ fn perform(
     act: &Act,
 ) -> Result<(), NoMemory> {
     match act {
-        Act::Submit => {
-            if link.submit(request(alloc), out) == Err(SubmitFault::NoMemory) {
-                return Err(NoMemory);
-            }
-        }
-        Act::Feed(piece) => link.feed(piece, out)?,
-        Act::Tick(ticks) => {
-            for _ in 0..*ticks {
-                link.tick(out)?;
-            }
-        }
+        Act::Submit => submit(alloc, link, out),
+        Act::Feed(piece) => feed(link, out, piece),
+        Act::Tick(ticks) => tick(link, out, *ticks),
     }
-    Ok(())
 }
 
 #[test]
@@ -261,10 +270,10 @@ fn collision(rt: HostRuntime) -> Result<(), Fail> {
     let mut out = List::new(rt.alloc());
     let mut link = Link::new(rt.alloc())?;
     link.collide();
-    link.feed(&REQUEST, &mut out)?;
+    feed(&mut link, &mut out, &REQUEST)?;
     let cancels = was_put_out(rt.alloc(), &mut out, &[Want::Write(&[0x18])])?;
     assert!(rt; cancels);
-    link.feed(&REQUEST, &mut out)?;
+    feed(&mut link, &mut out, &REQUEST)?;
     let answers = was_put_out(
         rt.alloc(),
         &mut out,

@@ -12,29 +12,44 @@ fn bulk_set() -> [u8; 210] {
     datagram
 }
 
+/// How each segment of it begins, and its check.
+const PARTS: &[(&[u8], u16)] = &[
+    (
+        &[
+            0x55, 0xC0, 0xD2, 0x10, 0x6C, 0x01, 0x01, 0xCE, 0x70, 0x07, 0x00, 0x00, 0xC8, 0x01,
+        ],
+        0xD0BB,
+    ),
+    (&[0x55, 0xE0, 0xD2, 0x10, 0x27, 0x01], 0x49BB),
+    (&[0x55, 0xE0, 0xD2, 0x10, 0x4E, 0x01], 0x9BFC),
+    (&[0x55, 0xE0, 0xD2, 0x10, 0x75, 0x01], 0xA164),
+    (&[0x55, 0xE0, 0xD2, 0x10, 0x9C, 0x01], 0x2F53),
+    (&[0x55, 0xE0, 0xD2, 0x10, 0xC3, 0x01], 0x48A8),
+];
+
+/// The segments of a datagram.
+fn segments(alloc: Global, id: u8, datagram: &[u8]) -> Result<List<Bytes>, Fail> {
+    if id > 15 || datagram.is_empty() || datagram.len() > 512 {
+        return Err("no datagram".into());
+    }
+    Ok(cut(alloc, id, datagram)?)
+}
+
+/// Whether a segment of session 1 is so. That with the last check ends the datagram.
+fn is_part(text: &[u8], front: &[u8], check: u16) -> bool {
+    text.starts_with(front)
+        && text.ends_with(&check.to_be_bytes())
+        && segment_id(text) == Some(1)
+        && ends_datagram(text) == Some(check == 0x48A8)
+}
+
 #[test]
 fn cuts_a_bulk_set(rt: HostRuntime) -> Result<(), Fail> {
-    let segments = cut(rt.alloc(), 1, &bulk_set())?;
-    assert_eq!(rt; segments.len(), 6);
-    let table: [(&[u8], u16); 6] = [
-        (
-            &[
-                0x55, 0xC0, 0xD2, 0x10, 0x6C, 0x01, 0x01, 0xCE, 0x70, 0x07, 0x00, 0x00, 0xC8, 0x01,
-            ],
-            0xD0BB,
-        ),
-        (&[0x55, 0xE0, 0xD2, 0x10, 0x27, 0x01], 0x49BB),
-        (&[0x55, 0xE0, 0xD2, 0x10, 0x4E, 0x01], 0x9BFC),
-        (&[0x55, 0xE0, 0xD2, 0x10, 0x75, 0x01], 0xA164),
-        (&[0x55, 0xE0, 0xD2, 0x10, 0x9C, 0x01], 0x2F53),
-        (&[0x55, 0xE0, 0xD2, 0x10, 0xC3, 0x01], 0x48A8),
-    ];
-    for (segment, (front, check)) in segments.as_slice().iter().zip(table) {
-        let text = segment.as_slice();
-        assert!(rt; text.starts_with(front), "{text:?}");
-        assert!(rt; text.ends_with(&check.to_be_bytes()), "{text:?}");
-        assert_eq!(rt; segment_id(text), Some(1));
-        assert_eq!(rt; ends_datagram(text), Some(check == 0x48A8));
+    let segments = segments(rt.alloc(), 1, &bulk_set())?;
+    assert!(rt; segments.len() == 6);
+    for (segment, (front, check)) in segments.as_slice().iter().zip(PARTS) {
+        let same = is_part(segment.as_slice(), front, *check);
+        assert!(rt; same, "with check {check}");
     }
     Ok(())
 }
@@ -72,18 +87,18 @@ const ORDERS: &str = "\
 2023011 kept kept kept 39 39 whole kept\n\
 ";
 
+/// Whether the bytes are 0 to 129.
+fn counts(bytes: &[u8]) -> bool {
+    bytes.len() == 130 && bytes.iter().zip(0..130u8).all(|(byte, i)| *byte == i)
+}
+
 /// What a segment is answered by, in a word. A datagram is whole where it counts from 0.
 fn word_of(alloc: Global, taken: Taken) -> Result<String, Fail> {
     match taken {
         Taken::Kept => Ok(String::from_str(alloc, " kept")?),
         Taken::Need(at) => Ok(format!(in alloc; " {at}")?),
         Taken::Whole(whole) => {
-            let counts = whole
-                .as_slice()
-                .iter()
-                .zip(0..130u8)
-                .all(|(byte, i)| *byte == i);
-            let word = if counts && whole.len() == 130 {
+            let word = if counts(whole.as_slice()) {
                 " whole"
             } else {
                 " other"
@@ -93,82 +108,101 @@ fn word_of(alloc: Global, taken: Taken) -> Result<String, Fail> {
     }
 }
 
+fn take(alloc: Global, assembler: &mut Assembler, segment: &[u8]) -> Result<String, Fail> {
+    word_of(alloc, assembler.take(segment)?)
+}
+
 /// The segments in this order, and behind it what they are answered by.
-fn joined(alloc: Global, segments: &List<Bytes>, order: &str) -> Result<String, Fail> {
+fn joined(alloc: Global, segments: &[Bytes], order: &str) -> Result<String, Fail> {
     let mut assembler = Assembler::new(alloc)?;
     let mut text = String::from_str(alloc, order)?;
     for digit in order.bytes() {
         let at = usize::from(digit.saturating_sub(b'0'));
-        let segment = segments.as_slice().get(at).ok_or("no such segment")?;
-        let word = word_of(alloc, assembler.take(segment.as_slice())?)?;
+        let segment = segments.get(at).ok_or("no such segment")?;
+        let word = take(alloc, &mut assembler, segment.as_slice())?;
         text.push_str(word.as_str())?;
     }
     Ok(text)
 }
 
-#[test]
-fn joins_four_segments_in_any_order(rt: HostRuntime) -> Result<(), Fail> {
+/// Whether a line is so.
+fn is_so(alloc: Global, segments: &[Bytes], line: &str) -> Result<bool, Fail> {
+    let (order, _) = line.split_once(' ').unwrap_or((line, ""));
+    Ok(joined(alloc, segments, order)?.as_str() == line)
+}
+
+/// The bytes 0 to 129.
+fn counted() -> [u8; 130] {
     let mut datagram = [0; 130];
     for i in 0..130u8 {
         datagram[usize::from(i)] = i;
     }
-    let segments = cut(rt.alloc(), 9, &datagram)?;
-    assert_eq!(rt; segments.len(), 4);
+    datagram
+}
+
+#[test]
+fn joins_four_segments_in_any_order(rt: HostRuntime) -> Result<(), Fail> {
+    let segments = segments(rt.alloc(), 9, &counted())?;
+    assert!(rt; segments.len() == 4);
     for line in ORDERS.lines() {
-        let order = line.split_once(' ').map_or(line, |(order, _)| order);
-        let text = joined(rt.alloc(), &segments, order)?;
-        assert_eq!(rt; text.as_str(), line);
+        let same = is_so(rt.alloc(), segments.as_slice(), line)?;
+        assert!(rt; same, "{line}");
     }
     Ok(())
 }
 
+/// Segments at fault, and the fault.
+const FAULTS: &[(&[u8], SegmentFault)] = &[
+    (&[], SegmentFault::Short),
+    (
+        &[0x55, 0xC8, 0x01, 0x00, 0x00, 0x00, 0x00, 0x00, 0x00],
+        SegmentFault::Short,
+    ),
+    (&[0x55, 0xC0, 0x01, 0x10, 0xC0, 0x99], SegmentFault::Short),
+    (
+        &[0x55, 0xE0, 0x28, 0x00, 0x27, 0xAA, 0xBB],
+        SegmentFault::Short,
+    ),
+    (
+        &[0x55, 0xE0, 0x28, 0x10, 0x27, 0x06, 0x27, 0xDF],
+        SegmentFault::BadCrc {
+            want: 0x37FE,
+            got: 0x27DF,
+        },
+    ),
+    (
+        &[0x55, 0xE0, 0x28, 0x18, 0x27, 0x07, 0x8E, 0x7E],
+        SegmentFault::Extension,
+    ),
+    (
+        &[0x55, 0xC0, 0x00, 0x10, 0x07, 0x07, 0x9B],
+        SegmentFault::BadSize(0),
+    ),
+    (
+        &[0x55, 0xC2, 0x01, 0x10, 0x07, 0xDD, 0xC3],
+        SegmentFault::BadSize(513),
+    ),
+    (
+        &[0x55, 0xE0, 0x28, 0x10, 0x27, 0x07, 0x08, 0x0A, 0x8D],
+        SegmentFault::BadOffset(39),
+    ),
+    (
+        &[0x55, 0xE0, 0x28, 0x10, 0x29, 0x07, 0x04, 0xD0],
+        SegmentFault::BadOffset(41),
+    ),
+];
+
+/// The fault of a segment.
+fn refused(assembler: &mut Assembler, segment: &[u8]) -> Option<SegmentFault> {
+    assembler.take(segment).err()
+}
+
 #[test]
 fn refuses_segments_at_fault(rt: HostRuntime) -> Result<(), Fail> {
-    let table: [(&[u8], SegmentFault); 10] = [
-        (&[], SegmentFault::Short),
-        (
-            &[0x55, 0xC8, 0x01, 0x00, 0x00, 0x00, 0x00, 0x00, 0x00],
-            SegmentFault::Short,
-        ),
-        (&[0x55, 0xC0, 0x01, 0x10, 0xC0, 0x99], SegmentFault::Short),
-        (
-            &[0x55, 0xE0, 0x28, 0x00, 0x27, 0xAA, 0xBB],
-            SegmentFault::Short,
-        ),
-        (
-            &[0x55, 0xE0, 0x28, 0x10, 0x27, 0x06, 0x27, 0xDF],
-            SegmentFault::BadCrc {
-                want: 0x37FE,
-                got: 0x27DF,
-            },
-        ),
-        (
-            &[0x55, 0xE0, 0x28, 0x18, 0x27, 0x07, 0x8E, 0x7E],
-            SegmentFault::Extension,
-        ),
-        (
-            &[0x55, 0xC0, 0x00, 0x10, 0x07, 0x07, 0x9B],
-            SegmentFault::BadSize(0),
-        ),
-        (
-            &[0x55, 0xC2, 0x01, 0x10, 0x07, 0xDD, 0xC3],
-            SegmentFault::BadSize(513),
-        ),
-        (
-            &[0x55, 0xE0, 0x28, 0x10, 0x27, 0x07, 0x08, 0x0A, 0x8D],
-            SegmentFault::BadOffset(39),
-        ),
-        (
-            &[0x55, 0xE0, 0x28, 0x10, 0x29, 0x07, 0x04, 0xD0],
-            SegmentFault::BadOffset(41),
-        ),
-    ];
     let mut assembler = Assembler::new(rt.alloc())?;
-    for (bytes, want) in table {
-        match assembler.take(bytes) {
-            Ok(_) => return Err("taken".into()),
-            Err(fault) => assert_eq!(rt; fault, want, "{bytes:?}"),
-        }
+    for (bytes, want) in FAULTS {
+        let fault = refused(&mut assembler, bytes);
+        assert!(rt; fault == Some(*want), "{bytes:?}");
     }
     assembler.clear();
     Ok(())
@@ -186,7 +220,7 @@ fn faults_have_names(rt: HostRuntime) -> Result<(), Fail> {
     ];
     for (fault, want) in table {
         let text = format!(in rt.alloc(); "{fault}")?;
-        assert_eq!(rt; text.as_str(), want);
+        assert!(rt; text.as_str() == want);
     }
     Ok(())
 }

@@ -1,6 +1,6 @@
 //! Wrapped messages, against bytes that were made outside this project.
 
-use encap::{Ends, Outer, Plan, Supervised, WrapFault, is_wrappable, unpack, wrap};
+use encap::{Ends, Opened, Outer, Plan, Supervised, WrapFault, is_wrappable, unpack, wrap};
 use std::alloc::Global;
 use std::process::Abort;
 use std::test::Fail;
@@ -152,19 +152,44 @@ static IN_ORDER: [Row; 12] = [
     ),
 ];
 
+/// What is opened.
+fn open(rt: &impl Abort, alloc: Global, bytes: &[u8]) -> Result<Opened, WrapFault> {
+    assert!(rt; bytes.len() <= 65534);
+    unpack(alloc, bytes)
+}
+
+/// Why bytes are not opened.
+fn refused(rt: &impl Abort, alloc: Global, bytes: &[u8]) -> Option<WrapFault> {
+    open(rt, alloc, bytes).err()
+}
+
+fn are(commands: &[Bytes], texts: &[&[u8]]) -> bool {
+    commands.len() == texts.len()
+        && commands
+            .iter()
+            .zip(texts)
+            .all(|(command, text)| command.as_slice() == *text)
+}
+
+/// Whether the plan and the commands are written as the bytes, and these opened as them.
+fn go_both_ways(
+    rt: &impl Abort,
+    alloc: Global,
+    plan: &Plan,
+    texts: &[&[u8]],
+    bytes: &[u8],
+) -> Result<bool, WrapFault> {
+    let is_written = wrapped(rt, alloc, plan, texts)?.as_slice() == bytes;
+    let opened = open(rt, alloc, bytes)?;
+    Ok(is_written && opened.plan == *plan && are(opened.commands.as_slice(), texts))
+}
+
 #[test]
 fn writes_and_opens_what_is_in_order(rt: HostRuntime) -> Result<(), Fail> {
     for (batch, session, channel, outer, texts, bytes) in &IN_ORDER {
         let plan = plan(*batch, *session, *channel, *outer);
-        let got = wrapped(&rt, rt.alloc(), &plan, texts)?;
-        assert_eq!(rt; got.as_slice(), *bytes);
-        assert!(rt; bytes.len() <= 65534);
-        let opened = unpack(rt.alloc(), bytes)?;
-        assert_eq!(rt; opened.plan, plan, "{bytes:?}");
-        assert_eq!(rt; opened.commands.len(), texts.len());
-        for (command, text) in opened.commands.as_slice().iter().zip(*texts) {
-            assert_eq!(rt; command.as_slice(), *text);
-        }
+        let same = go_both_ways(&rt, rt.alloc(), &plan, texts, bytes)?;
+        assert!(rt; same, "{bytes:?}");
     }
     Ok(())
 }
@@ -176,7 +201,7 @@ fn supervises_206_bytes(rt: HostRuntime) -> Result<(), Fail> {
     command[..6].copy_from_slice(b"\x70\x07\x00\x00\xC8\x01");
     let supervised = plan(false, Some((false, 1)), None, Outer::Transport);
     let got = wrapped(&rt, rt.alloc(), &supervised, &[&command])?;
-    assert_eq!(rt; got.len(), 210);
+    assert!(rt; got.len() == 210);
     assert!(rt;
         got.as_slice()
             .starts_with(b"\x6C\x01\x01\xCE\x70\x07\x00\x00\xC8\x01")
@@ -199,15 +224,12 @@ static TOO_LONG: [(bool, Option<(bool, u8)>, &[&[u8]], u16); 4] = [
 ];
 
 #[test]
-fn says_what_is_too_long(rt: HostRuntime) -> Result<(), Fail> {
+fn says_what_is_too_long(rt: HostRuntime) {
     for (batch, session, texts, want) in &TOO_LONG {
         let plan = plan(*batch, *session, None, Outer::None);
-        match wrapped(&rt, rt.alloc(), &plan, texts) {
-            Ok(_) => return Err("wrapped".into()),
-            Err(fault) => assert_eq!(rt; fault, WrapFault::TooLong(*want)),
-        }
+        let fault = wrapped(&rt, rt.alloc(), &plan, texts).err();
+        assert!(rt; fault == Some(WrapFault::TooLong(*want)), "{want}");
     }
-    Ok(())
 }
 
 /// Bytes that are opened, but written otherwise: bits that are not looked at, and a batch without commands.
@@ -222,10 +244,9 @@ fn opens_what_is_written_otherwise(rt: HostRuntime) -> Result<(), Fail> {
         (b"\x8F\x01\x00", plan(true, None, None, Outer::None), 0),
     ];
     for (bytes, want, count) in table {
-        assert!(rt; bytes.len() <= 65534);
-        let opened = unpack(rt.alloc(), bytes)?;
-        assert_eq!(rt; opened.plan, want);
-        assert_eq!(rt; opened.commands.len(), count);
+        let opened = open(&rt, rt.alloc(), bytes)?;
+        assert!(rt; opened.plan == want);
+        assert!(rt; opened.commands.len() == count);
     }
     Ok(())
 }
@@ -277,15 +298,11 @@ static OUT_OF_ORDER: [(&[u8], u8); 27] = [
 ];
 
 #[test]
-fn refuses_what_is_out_of_order(rt: HostRuntime) -> Result<(), Fail> {
+fn refuses_what_is_out_of_order(rt: HostRuntime) {
     for (bytes, class) in &OUT_OF_ORDER {
-        assert!(rt; bytes.len() <= 65534);
-        match unpack(rt.alloc(), bytes) {
-            Ok(_) => return Err("opened".into()),
-            Err(fault) => assert_eq!(rt; fault, WrapFault::OutOfOrder(*class), "{bytes:?}"),
-        }
+        let fault = refused(&rt, rt.alloc(), bytes);
+        assert!(rt; fault == Some(WrapFault::OutOfOrder(*class)), "{bytes:?}");
     }
-    Ok(())
 }
 
 /// Bytes with a length that is wrong, what it says, and what is there.
@@ -308,23 +325,19 @@ static WRONG_LENGTHS: [(&[u8], u16, u16); 15] = [
 ];
 
 #[test]
-fn refuses_wrong_lengths(rt: HostRuntime) -> Result<(), Fail> {
+fn refuses_wrong_lengths(rt: HostRuntime) {
     for (bytes, said, got) in &WRONG_LENGTHS {
-        assert!(rt; bytes.len() <= 65534);
         let want = WrapFault::Length {
             said: *said,
             got: *got,
         };
-        match unpack(rt.alloc(), bytes) {
-            Ok(_) => return Err("opened".into()),
-            Err(fault) => assert_eq!(rt; fault, want, "{bytes:?}"),
-        }
+        let fault = refused(&rt, rt.alloc(), bytes);
+        assert!(rt; fault == Some(want), "{bytes:?}");
     }
-    Ok(())
 }
 
 #[test]
-fn refuses_another_check_and_a_set_of_ends(rt: HostRuntime) -> Result<(), Fail> {
+fn refuses_another_check_and_a_set_of_ends(rt: HostRuntime) {
     let table: [(&[u8], WrapFault); 2] = [
         (b"\x60\x0D\x00\x81\x25\x01\xFF", WrapFault::BitAddress),
         (
@@ -336,13 +349,9 @@ fn refuses_another_check_and_a_set_of_ends(rt: HostRuntime) -> Result<(), Fail> 
         ),
     ];
     for (bytes, want) in table {
-        assert!(rt; bytes.len() <= 65534);
-        match unpack(rt.alloc(), bytes) {
-            Ok(_) => return Err("opened".into()),
-            Err(fault) => assert_eq!(rt; fault, want, "{bytes:?}"),
-        }
+        let fault = refused(&rt, rt.alloc(), bytes);
+        assert!(rt; fault == Some(want), "{bytes:?}");
     }
-    Ok(())
 }
 
 #[test]
@@ -357,7 +366,7 @@ fn names_of_faults(rt: HostRuntime) -> Result<(), Fail> {
     ];
     for (fault, want) in table {
         let text = format!(in rt.alloc(); "{fault}")?;
-        assert_eq!(rt; text.as_str(), want);
+        assert!(rt; text.as_str() == want);
     }
     Ok(())
 }

@@ -45,10 +45,10 @@ fn nodes_as_bits(rt: HostRuntime) -> Result<(), Fail> {
 fn nodes_in_order(rt: HostRuntime) -> Result<(), Fail> {
     let mask = mask(&[232, 1, 10]);
     let listed = mask.nodes(rt.alloc())?;
-    assert_eq!(rt; listed.len(), 3);
+    assert!(rt; listed.len() == 3);
     for (node, number) in listed.as_slice().iter().zip(&[1, 10, 232]) {
-        assert_eq!(rt; node.number(), *number);
-        assert!(rt; mask.contains(*node));
+        let same = node.number() == *number && mask.contains(*node);
+        assert!(rt; same, "{number}");
     }
     Ok(())
 }

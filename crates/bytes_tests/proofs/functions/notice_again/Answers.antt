@@ -1,4 +1,4 @@
-use Rattle.std.proofs.Common.{ℕ, List, ◌≤◌, length, ap, subst, arith, length-append}
+use Rattle.std.proofs.Common.{length, ap, arith, length-append}
 use Rattle.chip_functions.specs.Notice.{notice_body}
 use Rattle.chip_functions.proofs.NoticeLaws.{row_of_notice}
 use Rattle.bytes_tests.proofs.functions.notice_again.Goals as goal

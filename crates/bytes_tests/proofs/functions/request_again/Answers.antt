@@ -1,5 +1,4 @@
-use Rattle.std.proofs.Common.{ℕ, List, ◌≤◌, length, ap, subst, arith, length-append}
-use Rattle.chip_functions.specs.Request.{request_body}
+use Rattle.std.proofs.Common.{ℕ, List, ◌≤◌, length, subst}
 use Rattle.chip_functions.proofs.RequestLaws.{row_of_request}
 use Rattle.bytes_tests.proofs.functions.request_again.Goals as goal
 
