@@ -293,7 +293,7 @@ fn text_of(alloc: Global, pieces: &[&str]) -> Result<Vec<u8>, Fail> {
     Ok(text)
 }
 
-fn expect(
+pub(crate) fn expect(
     rt: &impl Abort,
     alloc: Global,
     pieces: &[&str],

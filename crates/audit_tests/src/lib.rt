@@ -6,3 +6,5 @@
 
 #[cfg(test)]
 mod broken;
+#[cfg(test)]
+mod evening;

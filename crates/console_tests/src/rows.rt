@@ -1,9 +1,8 @@
 //! Lines of `replay`, `events` and `include`, and of a host on a port, with what they come to.
 
-use crate::worked::ended;
+use crate::worked::{comes_to, outcome};
 use scenario_run::Status;
 use std::test::Fail;
-use zw_base::{MemorySink, MemorySource};
 
 /// A command is carried by a chip's bytes that are typed in.
 const CARRIED: &str = "\
@@ -91,82 +90,70 @@ const SENT: &[u8] = b"\x01\x0E\x00\x13\x02\x07\x6C\x01\x01\x03\x25\x01\xFF\x25\x
 const SENT_TWICE: &[u8] =
     b"\x01\x0E\x00\x13\x02\x07\x6C\x01\x01\x03\x25\x01\xFF\x25\x01\x77\x01\x0E\x00\x13\x02\x07\x6C\x01\x01\x03\x25\x01\xFF\x25\x01\x77";
 
+/// Words, what is read, and what is written.
+const WHOLE: &[(&str, &str, &str)] = &[
+    ("replay", CARRIED, CARRIED_SO),
+    ("replay", OLD, OLD_SO),
+    ("replay", GIVEN_UP, GIVEN_UP_SO),
+    ("events", EVENTS, EVENTS_SO),
+];
+
 #[test]
 fn lines_come_to_this(rt: HostRuntime) -> Result<(), Fail> {
-    for (words, input, status, written) in [
-        (
-            "replay",
-            CARRIED.as_bytes(),
-            Status::Ok,
-            CARRIED_SO.as_bytes(),
-        ),
-        ("replay", OLD.as_bytes(), Status::Ok, OLD_SO.as_bytes()),
-        (
-            "replay",
-            GIVEN_UP.as_bytes(),
-            Status::Ok,
-            GIVEN_UP_SO.as_bytes(),
-        ),
-        (
-            "events",
-            EVENTS.as_bytes(),
-            Status::Ok,
-            EVENTS_SO.as_bytes(),
-        ),
-        ("host|set 2 on|wait 2", ANSWERS, Status::Ok, SENT),
-        (
-            "host|set 2 on|wait 20",
-            b"".as_slice(),
-            Status::Undone(1),
-            SENT_TWICE,
-        ),
-    ] {
-        let mut source = MemorySource::new(rt.alloc(), input, &[])?;
-        let mut sink = MemorySink::new(rt.alloc(), &[])?;
-        assert_eq!(rt;
-            ended(rt.alloc(), words, &mut source, &mut sink)?,
-            status,
-            "at {words:?}"
-        );
-        assert_eq!(rt; sink.bytes(), written, "at {words:?}");
+    for (words, input, text) in WHOLE {
+        let alloc = rt.alloc();
+        let same = comes_to(alloc, words, input.as_bytes(), Status::Ok, text.as_bytes())?;
+        assert!(rt; same, "{words} of {input}");
+    }
+    Ok(())
+}
+
+/// Words, what the port gives, how it ends, and what the port is given.
+const PORTS: &[(&str, &[u8], Status, &[u8])] = &[
+    ("host|set 2 on|wait 2", ANSWERS, Status::Ok, SENT),
+    ("host|set 2 on|wait 20", b"", Status::Undone(1), SENT_TWICE),
+];
+
+#[test]
+fn a_port_comes_to_this(rt: HostRuntime) -> Result<(), Fail> {
+    for (words, input, status, written) in PORTS {
+        let same = comes_to(rt.alloc(), words, input, *status, written)?;
+        assert!(rt; same, "at {words}");
     }
     Ok(())
 }
 
 /// What is written ends so: a seventeenth event that no device knows of yet is refused; a lock has the key at both ends, or its last
 /// message was lost, or it was reset.
+const ENDS: &[(&str, &str, &str)] = &[
+    (
+        "events",
+        "event 101 1 1\nevent 101 1 1\nevent 101 1 1\nevent 101 1 1\nevent 101 1 1\nevent 101 1 1\nevent 101 1 1\nevent 101 1 1\nevent 101 1 1\nevent 101 1 1\nevent 101 1 1\nevent 101 1 1\nevent 101 1 1\nevent 101 1 1\nevent 101 1 1\nevent 101 1 1\nevent 101 1 1\n",
+        "> event 101 1 1\nrefused full 16\nnode 101 queued 16 taken 0 known 0\n",
+    ),
+    (
+        "include",
+        "add 20\ntick 8\n",
+        "heard 8\nsecure 20\nnode 20 host secure device key\n",
+    ),
+    (
+        "include",
+        "add 20\ntick 6\nlose 1\ntick 94\n",
+        "lost 8\nt 100\nfailed 20\nnode 20 host - device key\n",
+    ),
+    (
+        "include",
+        "add 20\ntick 7\nreset 20\ntick 93\nrepeat 8\n",
+        "failed 20\n> repeat 8\nrefused forgotten\nnode 20 host - device -\n",
+    ),
+];
+
 #[test]
 fn lines_end_in_this(rt: HostRuntime) -> Result<(), Fail> {
-    for (words, input, last) in [
-        (
-            "events",
-            "event 101 1 1\nevent 101 1 1\nevent 101 1 1\nevent 101 1 1\nevent 101 1 1\nevent 101 1 1\nevent 101 1 1\nevent 101 1 1\nevent 101 1 1\nevent 101 1 1\nevent 101 1 1\nevent 101 1 1\nevent 101 1 1\nevent 101 1 1\nevent 101 1 1\nevent 101 1 1\nevent 101 1 1\n",
-            "> event 101 1 1\nrefused full 16\nnode 101 queued 16 taken 0 known 0\n",
-        ),
-        (
-            "include",
-            "add 20\ntick 8\n",
-            "heard 8\nsecure 20\nnode 20 host secure device key\n",
-        ),
-        (
-            "include",
-            "add 20\ntick 6\nlose 1\ntick 94\n",
-            "lost 8\nt 100\nfailed 20\nnode 20 host - device key\n",
-        ),
-        (
-            "include",
-            "add 20\ntick 7\nreset 20\ntick 93\nrepeat 8\n",
-            "failed 20\n> repeat 8\nrefused forgotten\nnode 20 host - device -\n",
-        ),
-    ] {
-        let mut source = MemorySource::new(rt.alloc(), input.as_bytes(), &[])?;
-        let mut sink = MemorySink::new(rt.alloc(), &[])?;
-        assert_eq!(rt;
-            ended(rt.alloc(), words, &mut source, &mut sink)?,
-            Status::Ok,
-            "at {words:?}"
-        );
-        assert!(rt; sink.bytes().ends_with(last.as_bytes()), "at {input:?}");
+    for (words, input, last) in ENDS {
+        let (status, written) = outcome(rt.alloc(), words, input.as_bytes(), 0, 0)?;
+        let ends = written.as_slice().ends_with(last.as_bytes());
+        assert!(rt; status == Status::Ok && ends, "at {input:?}");
     }
     Ok(())
 }

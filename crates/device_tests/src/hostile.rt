@@ -122,14 +122,14 @@ fn survives<D: Device>(
 ) -> Result<(), Fail> {
     let mut out = Replies::new(alloc)?;
     let taken = takes(alloc, &mut device, &mut out)?;
-    assert_eq!(rt; taken, None, "at first");
+    assert!(rt; taken.is_none(), "{taken:?} at first");
     takes_five(alloc, &mut device, rest, &mut out)?;
     let taken = takes(alloc, &mut device, &mut out)?;
-    assert_eq!(rt; taken, None, "after five");
+    assert!(rt; taken.is_none(), "{taken:?} after five");
     let wrong = wrong_id(alloc, &mut device, rest, &mut out)?;
-    assert_eq!(rt; wrong, None, "with {rest}");
+    assert!(rt; wrong.is_none(), "{wrong:?} with {rest}");
     gets(alloc, &mut device, 6, rest, &mut out)?;
-    assert_eq!(rt; device.changes(), changes, "with {rest}");
+    assert!(rt; device.changes() == changes, "with {rest}");
     Ok(())
 }
 

@@ -26,21 +26,29 @@ struct Seen {
     settings: usize,
 }
 
-/// Whether this is seen of it.
-fn is_seen<D: Device>(alloc: Global, device: &D, want: &Seen) -> Result<bool, Fail> {
+/// Whether its number, its listening and its classes are these.
+fn has_profile<D: Device>(alloc: Global, device: &D, want: &Seen) -> Result<bool, Fail> {
     let profile = device.profile(alloc)?;
+    let classes = bytes(alloc, want.classes)?;
+    Ok(
+        device.node().number() == want.number
+            && profile.listening == want.listens
+            && profile.classes.as_slice() == classes.as_slice(),
+    )
+}
+
+/// Whether it shows so many values, of which the last is this.
+fn shows<D: Device>(alloc: Global, device: &D, want: &Seen) -> Result<bool, Fail> {
     let shown = device.show(alloc)?;
     let last = shown.as_slice().last().ok_or("nothing shown")?.value;
+    Ok(shown.len() == want.shown && last == want.last)
+}
+
+/// Whether its first change was made by this, with so many settings, and there is none behind the last.
+fn has_changed<D: Device>(alloc: Global, device: &D, want: &Seen) -> Result<bool, Fail> {
     let change = device.change(alloc, 0)?.ok_or("no change")?;
-    let classes = bytes(alloc, want.classes)?;
     let none = device.change(alloc, device.changes())?.is_none();
-    Ok(
-        none && device.node().number() == want.number
-            && profile.listening == want.listens
-            && profile.classes.as_slice() == classes.as_slice()
-            && (shown.len(), last) == (want.shown, want.last)
-            && (change.by, change.settings.len()) == (want.by, want.settings),
-    )
+    Ok(none && change.by == want.by && change.settings.len() == want.settings)
 }
 
 /// Plays these steps; then this is seen.
@@ -52,8 +60,10 @@ fn ends_as<D: Device>(
     want: &Seen,
 ) -> Result<(), Fail> {
     let wrong = plays(alloc, &mut device, steps)?;
-    assert_eq!(rt; wrong, None);
-    let seen = is_seen(alloc, &device, want)?;
+    assert!(rt; wrong.is_none(), "{wrong:?}");
+    let seen = has_profile(alloc, &device, want)?
+        && shows(alloc, &device, want)?
+        && has_changed(alloc, &device, want)?;
     assert!(rt; seen, "at node {}", want.number);
     Ok(())
 }

@@ -3,7 +3,8 @@
 use crate::words::{byte, bytes, counted, first_word, node, number, repeaters, two_nodes};
 use chip_functions::TransmitStatus;
 use chip_sim::{Chip, ChipOut};
-use serial_frame::encode;
+use route_table::Route;
+use serial_frame::{Unit, encode};
 use std::alloc::Global;
 use std::test::Fail;
 use zw_base::{Bytes, List, NodeId, Profile};
@@ -207,29 +208,44 @@ fn network(alloc: Global) -> Result<Chip, Fail> {
     Ok(chip)
 }
 
+/// A unit in words.
+fn unit_text(alloc: Global, unit: &Unit) -> Result<String, Fail> {
+    let unit = hex::encode_upper(alloc, encode(alloc, unit)?.as_slice())?;
+    Ok(format!(in alloc; "write {unit}")?)
+}
+
+/// A frame in words.
+fn air_text(alloc: Global, to: NodeId, route: &Route, payload: &[u8]) -> Result<String, Fail> {
+    let to = to.number();
+    let via = repeaters(alloc, route)?;
+    let payload = hex::encode_upper(alloc, payload)?;
+    Ok(format!(in alloc; "air {to} via [{via}] {payload}")?)
+}
+
 /// An output in words.
 fn text_of(alloc: Global, out: &ChipOut) -> Result<String, Fail> {
     match out {
-        ChipOut::Write(unit) => {
-            let unit = hex::encode_upper(alloc, encode(alloc, unit)?.as_slice())?;
-            Ok(format!(in alloc; "write {unit}")?)
-        }
-        ChipOut::OnAir { to, route, payload } => {
-            let to = to.number();
-            let via = repeaters(alloc, route)?;
-            let payload = hex::encode_upper(alloc, payload.as_slice())?;
-            Ok(format!(in alloc; "air {to} via [{via}] {payload}")?)
-        }
-        ChipOut::NoRoute => Ok(format!(in alloc; "no route")?),
+        ChipOut::Write(unit) => unit_text(alloc, unit),
+        ChipOut::OnAir { to, route, payload } => air_text(alloc, *to, route, payload.as_slice()),
+        ChipOut::NoRoute => Ok(String::from_str(alloc, "no route")?),
         ChipOut::AskInfo(node) => {
             let node = node.number();
             Ok(format!(in alloc; "asks {node}")?)
         }
-        ChipOut::Full => Ok(format!(in alloc; "full")?),
+        ChipOut::Full => Ok(String::from_str(alloc, "full")?),
     }
 }
 
 impl Desk {
+    fn new(alloc: Global) -> Result<Desk, Fail> {
+        Ok(Desk {
+            alloc,
+            chip: network(alloc)?,
+            out: List::new(alloc),
+            seen: 0,
+        })
+    }
+
     /// Does what a line says, or compares the next outputs with it. The answer is whether all is as the line says: before
     /// something is done, all outputs were compared.
     fn take(&mut self, line: &str) -> Result<bool, Fail> {
@@ -266,16 +282,11 @@ impl Desk {
         match word {
             "chip" => self.chip = network(self.alloc)?,
             "bytes" => self.feed_singly(rest)?,
-            "feed" => self
-                .chip
-                .feed(bytes(self.alloc, rest)?.as_slice(), &mut self.out)?,
+            "feed" => self.feed(bytes(self.alloc, rest)?.as_slice())?,
             "tick" => self.tick(number(rest)?)?,
             "done" => self.end(byte(rest)?)?,
-            "silent" => self.chip.info(node(rest)?, None, &mut self.out)?,
-            "forget" => {
-                let (a, b) = two_nodes(rest)?;
-                self.chip.forget_hop(a, b);
-            }
+            "silent" => self.be_silent(node(rest)?)?,
+            "forget" => self.forget(rest)?,
             "collide" => self.collide()?,
             _ => self.tell(word, rest)?,
         }
@@ -293,9 +304,14 @@ impl Desk {
         }
     }
 
+    fn feed(&mut self, piece: &[u8]) -> Result<(), Fail> {
+        self.chip.feed(piece, &mut self.out)?;
+        Ok(())
+    }
+
     fn feed_singly(&mut self, text: &str) -> Result<(), Fail> {
         for byte in bytes(self.alloc, text)?.as_slice() {
-            self.chip.feed(&[*byte], &mut self.out)?;
+            self.feed(&[*byte])?;
         }
         Ok(())
     }
@@ -313,6 +329,17 @@ impl Desk {
             return Err("no call is to come".into());
         }
         self.chip.done(status, &mut self.out)?;
+        Ok(())
+    }
+
+    fn be_silent(&mut self, of: NodeId) -> Result<(), Fail> {
+        self.chip.info(of, None, &mut self.out)?;
+        Ok(())
+    }
+
+    fn forget(&mut self, words: &str) -> Result<(), Fail> {
+        let (a, b) = two_nodes(words)?;
+        self.chip.forget_hop(a, b);
         Ok(())
     }
 
@@ -347,15 +374,10 @@ impl Desk {
 
 #[test]
 fn lines(rt: HostRuntime) -> Result<(), Fail> {
-    let mut desk = Desk {
-        alloc: rt.alloc(),
-        chip: network(rt.alloc())?,
-        out: List::new(rt.alloc()),
-        seen: 0,
-    };
+    let mut desk = Desk::new(rt.alloc())?;
     for line in LINES.lines() {
         let same = desk.take(line)?;
-        assert!(rt; same, "{line}: {:?}", desk.out.as_slice());
+        assert!(rt; same, "{line}");
     }
     Ok(())
 }

@@ -200,6 +200,13 @@ fn sent_text(
     Ok(format!(in alloc; "sent {frame} {from}>{to} via [{via}] {payload}")?)
 }
 
+/// A frame that the chip hears, in words.
+fn heard_text(alloc: Global, frame: u64, from: NodeId, payload: &[u8]) -> Result<String, Fail> {
+    let from = from.number();
+    let payload = hex::encode_upper(alloc, payload)?;
+    Ok(format!(in alloc; "to chip {frame} {from} {payload}")?)
+}
+
 /// An event in words.
 fn text_of(alloc: Global, event: &AirEvent) -> Result<String, Fail> {
     match event {
@@ -214,11 +221,7 @@ fn text_of(alloc: Global, event: &AirEvent) -> Result<String, Fail> {
             frame,
             from,
             payload,
-        } => {
-            let from = from.number();
-            let payload = hex::encode_upper(alloc, payload.bytes())?;
-            Ok(format!(in alloc; "to chip {frame} {from} {payload}")?)
-        }
+        } => heard_text(alloc, *frame, *from, payload.bytes()),
         AirEvent::Sent {
             frame,
             from,
@@ -237,8 +240,8 @@ fn text_of(alloc: Global, event: &AirEvent) -> Result<String, Fail> {
 /// Why a frame is not repeated, in words.
 fn fault_text(alloc: Global, fault: RepeatFault) -> Result<String, Fail> {
     match fault {
-        RepeatFault::NeverSent => Ok(format!(in alloc; "never sent")?),
-        RepeatFault::Forgotten => Ok(format!(in alloc; "forgotten")?),
+        RepeatFault::NeverSent => Ok(String::from_str(alloc, "never sent")?),
+        RepeatFault::Forgotten => Ok(String::from_str(alloc, "forgotten")?),
         RepeatFault::Stale(count) => Ok(format!(in alloc; "stale {count}")?),
         RepeatFault::NoMemory => Err("no memory".into()),
     }
@@ -294,7 +297,7 @@ impl Field {
         let (word, rest) = first_word(action);
         match word {
             "air" => *self = Field::new(self.alloc)?,
-            "join" => self.air.join(node(rest)?, true),
+            "join" => self.join(node(rest)?),
             "deliver" => self.deliver(devices)?,
             "flush" => self.flush(number(rest)?, devices)?,
             "lose" => self.lose(rest)?,
@@ -325,6 +328,10 @@ impl Field {
                 self.put_on_air(word, node(first)?, payload.as_slice())
             }
         }
+    }
+
+    fn join(&mut self, of: NodeId) {
+        self.air.join(of, true);
     }
 
     fn link(&mut self, words: &str, live: bool) -> Result<(), Fail> {
@@ -443,18 +450,23 @@ impl Field {
     }
 }
 
-#[test]
-fn lines(rt: HostRuntime) -> Result<(), Fail> {
-    let alloc = rt.alloc();
+/// A sensor, a switch, a dimmer of the same node, and a switch.
+fn four_devices(alloc: Global) -> Result<Vec<Box<dyn Device>>, Fail> {
     let mut devices: Vec<Box<dyn Device>> = Vec::new(alloc);
     devices.push(Box::new(alloc, make_sensor(alloc, node("3")?, KEY)?)?)?;
     devices.push(Box::new(alloc, make_switch(alloc, node("2")?, KEY)?)?)?;
     devices.push(Box::new(alloc, make_dimmer(alloc, node("2")?, KEY)?)?)?;
     devices.push(Box::new(alloc, make_switch(alloc, node("4")?, KEY)?)?)?;
-    let mut field = Field::new(alloc)?;
+    Ok(devices)
+}
+
+#[test]
+fn lines(rt: HostRuntime) -> Result<(), Fail> {
+    let mut devices = four_devices(rt.alloc())?;
+    let mut field = Field::new(rt.alloc())?;
     for line in LINES.lines() {
         let same = field.take(line, &mut devices)?;
-        assert!(rt; same, "{line}: {:?}", field.out.as_slice());
+        assert!(rt; same, "{line}");
     }
     Ok(())
 }

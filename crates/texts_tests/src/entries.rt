@@ -1,13 +1,15 @@
 //! Values from outside: entries as docs/TRANSCRIPT.md describes them, one of each kind.
 
 use std::alloc::Global;
+use std::process::Abort;
 use std::test::Fail;
 use zw_base::Bytes;
 use zw_entries::read_entry;
 use zw_print::print_entry;
+use zw_text::Entry;
 
 /// Texts of entries, each of which is read and printed again.
-const TEXTS: [&str; 66] = [
+const TEXTS: &[&str] = &[
     "> set  2   on",
     "accepted 4294967295 node 232",
     "refused notjoined",
@@ -76,7 +78,7 @@ const TEXTS: [&str; 66] = [
     "end 0",
 ];
 
-const TABLE: [&str; 7] = [
+const TABLE: &[&str] = &[
     "node 2 sessions -",
     "node 2 sessions 1 15 16",
     "value 2 0/lock confirmed 255 heard -",
@@ -87,7 +89,7 @@ const TABLE: [&str; 7] = [
 ];
 
 /// Texts of no entry.
-const OTHERS: [&str; 24] = [
+const OTHERS: &[&str] = &[
     "",
     " ",
     "heard",
@@ -114,19 +116,29 @@ const OTHERS: [&str; 24] = [
     "json",
 ];
 
-/// What is printed of the entry that is read, if there is one.
-fn printed_again(alloc: Global, text: &str) -> Result<Option<Bytes>, Fail> {
-    let Ok(entry) = read_entry(alloc, text.as_bytes()) else {
-        return Ok(None);
-    };
-    Ok(Some(print_entry(alloc, &entry).ok().ok_or("no memory")?))
+fn read(alloc: Global, text: &str) -> Option<Entry> {
+    read_entry(alloc, text.as_bytes()).ok()
+}
+
+fn print(alloc: Global, entry: &Entry) -> Option<Bytes> {
+    print_entry(alloc, entry).ok()
+}
+
+/// What is printed of the entry that is read is the text.
+fn is_printed_again(rt: &impl Abort, alloc: Global, text: &str) -> Result<(), Fail> {
+    let entry = read(alloc, text).ok_or(text)?;
+    let printed = print(alloc, &entry).ok_or("no memory")?;
+    assert!(rt; printed.as_slice() == text.as_bytes(), "{text}");
+    Ok(())
 }
 
 #[test]
 fn what_is_printed_is_read(rt: HostRuntime) -> Result<(), Fail> {
-    for text in TEXTS.iter().chain(TABLE.iter()) {
-        let printed = printed_again(rt.alloc(), text)?.ok_or(*text)?;
-        assert_eq!(rt; printed.as_slice(), text.as_bytes());
+    for text in TEXTS {
+        is_printed_again(&rt, rt.alloc(), text)?;
+    }
+    for text in TABLE {
+        is_printed_again(&rt, rt.alloc(), text)?;
     }
     Ok(())
 }
@@ -134,7 +146,7 @@ fn what_is_printed_is_read(rt: HostRuntime) -> Result<(), Fail> {
 #[test]
 fn other_texts_are_none(rt: HostRuntime) -> Result<(), Fail> {
     for text in OTHERS {
-        assert!(rt; read_entry(rt.alloc(), text.as_bytes()).is_err(), "{text}");
+        assert!(rt; read(rt.alloc(), text).is_none(), "{text}");
     }
     Ok(())
 }

@@ -7,7 +7,7 @@ use zw_order::{What, Word};
 use zw_text::{Line, ReadLineFault, ReplayLine, read_line, read_replay};
 
 /// A line of each kind, its numbers at their greatest. Each begins with all words of its kind but the last in turn.
-const LINES: [&str; 34] = [
+const LINES: &[&str] = &[
     "set 232.127 99",
     "mode 232 255",
     "setpoint 232 15 65535",
@@ -45,7 +45,7 @@ const LINES: [&str; 34] = [
 ];
 
 /// Texts with a number or a word that is out of its form or range.
-const OUTSIDE: [&str; 47] = [
+const OUTSIDE: &[&str] = &[
     "set 1 on",
     "set 233 on",
     "set 02 on",
@@ -96,7 +96,7 @@ const OUTSIDE: [&str; 47] = [
 ];
 
 /// Blanks, remarks and the words that begin a line.
-const PLAIN: [(&str, &str); 9] = [
+const PLAIN: &[(&str, &str)] = &[
     ("", "none"),
     ("\r", "none"),
     (" \t ", "none"),
@@ -109,7 +109,7 @@ const PLAIN: [(&str, &str); 9] = [
 ];
 
 /// Lines of the host alone.
-const REPLAYED: [(&str, &str); 12] = [
+const REPLAYED: &[(&str, &str)] = &[
     ("set 2 on", "line"),
     ("tick 5", "line"),
     ("store 2", "line"),
@@ -154,7 +154,7 @@ fn replayed(alloc: Global, text: &[u8]) -> Result<String, Fail> {
 
 fn expect(rt: &impl Abort, alloc: Global, text: &[u8], want: &str) -> Result<(), Fail> {
     let word = heard(alloc, text)?;
-    assert_eq!(rt; word.as_str(), want, "{text:?}");
+    assert!(rt; word.as_str() == want, "{text:?}");
     Ok(())
 }
 
@@ -219,7 +219,7 @@ fn longest_remark(rt: HostRuntime) -> Result<(), Fail> {
 fn lines_of_replay(rt: HostRuntime) -> Result<(), Fail> {
     for (text, want) in REPLAYED {
         let word = replayed(rt.alloc(), text.as_bytes())?;
-        assert_eq!(rt; word.as_str(), want, "{text}");
+        assert!(rt; word.as_str() == *want, "{text}");
     }
     Ok(())
 }

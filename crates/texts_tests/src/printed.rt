@@ -13,7 +13,7 @@ fn node(n: u8) -> Result<NodeId, Fail> {
 
 fn expect(rt: &impl Abort, alloc: Global, entry: &Entry, want: &str) -> Result<(), Fail> {
     let text = print_entry(alloc, entry).ok().ok_or("no memory")?;
-    assert_eq!(rt; text.as_slice(), want.as_bytes());
+    assert!(rt; text.as_slice() == want.as_bytes(), "{want}");
     Ok(())
 }
 

@@ -1,11 +1,13 @@
 //! What `check` writes of texts, with ample memory.
 
+use std::alloc::Global;
 use std::test::Fail;
 use unit_report::{CheckFault, check};
+use zw_base::Bytes;
 use zw_words::Side;
 
 /// Every word of a line, at least once.
-const CASES: [(&str, Side, &str); 9] = [
+const CASES: &[(&str, Side, &str)] = &[
     ("", Side::Chip, ""),
     (
         "06 15\r\n\t18 01",
@@ -33,17 +35,27 @@ const CASES: [(&str, Side, &str); 9] = [
     ),
 ];
 
+/// Texts that are no hex, and the first place where they are not.
+const REFUSED: &[(&str, u64)] = &[("0103001", 7), ("01 0g", 4), ("0 1 0", 5), ("0x", 1)];
+
+fn said(alloc: Global, text: &str, from: Side) -> Result<Bytes, CheckFault> {
+    check(alloc, text.as_bytes(), from)
+}
+
 #[test]
 fn texts_are_named(rt: HostRuntime) -> Result<(), Fail> {
     for (text, from, lines) in CASES {
-        let written = check(rt.alloc(), text.as_bytes(), from)
-            .ok()
-            .ok_or("no lines")?;
-        assert_eq!(rt; written.as_slice(), lines.as_bytes(), "at {text:?}");
+        let written = said(rt.alloc(), text, *from).ok().ok_or("no lines")?;
+        assert!(rt; written.as_slice() == lines.as_bytes(), "at {text:?}");
     }
-    for (text, place) in [("0103001", 7), ("01 0g", 4), ("0 1 0", 5), ("0x", 1)] {
-        let refused = check(rt.alloc(), text.as_bytes(), Side::Chip).err();
-        assert_eq!(rt; refused, Some(CheckFault::BadHex(place)), "at {text:?}");
+    Ok(())
+}
+
+#[test]
+fn other_texts_are_refused(rt: HostRuntime) -> Result<(), Fail> {
+    for (text, place) in REFUSED {
+        let refused = said(rt.alloc(), text, Side::Chip).err();
+        assert!(rt; refused == Some(CheckFault::BadHex(*place)), "at {text:?}");
     }
     Ok(())
 }
