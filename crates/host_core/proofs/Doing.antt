@@ -13,7 +13,7 @@ use Rattle.host_events.specs.May.{May}
 use Rattle.host_events.specs.Did.{after_all, is_unkept, RoseIf, texts_of}
 use Rattle.host_events.specs.declared.out.HostOut.{HostOut}
 use Rattle.host_events.proofs.Doing.{none_added, did_nothing, did_one, did_both}
-use Rattle.host_state.specs.Choices.{chosen}
+use Rattle.host_recorded.specs.Choices.{chosen}
 use Rattle.host_core.specs.Calls.{Scene, beside, Does, Stops, DoesAlone, StopsAlone}
 
 -- ---- nothing

@@ -27,7 +27,7 @@ use Rattle.host_keep.specs.Keeping.{Kept}
 use Rattle.host_keep.specs.RecordText.{record_text}
 use Rattle.host_keep.specs.declared.record.Record.TheVariants.{Classes}
 use Rattle.host_core.proofs.OneNonce.{may_chosen}
-use Rattle.host_state.specs.Choices.{chosen}
+use Rattle.host_recorded.specs.Choices.{chosen}
 use Rattle.host_core.proofs.OneMessage.{kept_or}
 use Rattle.host_events.specs.After.{after}
 use Rattle.host_events.specs.Outs.{outs}

@@ -9,7 +9,7 @@ use Rattle.host_heard.specs.declared.told.Told.TheVariants.{Report}
 use Rattle.host_events.specs.State.{HostState, node_of}
 use Rattle.host_events.specs.Events.{HostEvent, Unreads}
 use Rattle.host_events.specs.Taking.{IsTaken, is_secure, IsKeptOr}
-use Rattle.host_state.specs.Choices.{chosen}
+use Rattle.host_recorded.specs.Choices.{chosen}
 use Rattle.host_core.specs.Calls.{Scene, Does}
 use Rattle.host_core.proofs.Doing.{does_as}
 

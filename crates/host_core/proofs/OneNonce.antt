@@ -15,7 +15,7 @@ use Rattle.host_events.specs.Records.{records_at}
 use Rattle.host_events.specs.Did.{texts_of, is_unkept, RoseIf}
 use Rattle.host_events.specs.May.{May}
 use Rattle.host_events.specs.Taking.{NonceGetEvents, NonceReportEvents}
-use Rattle.host_state.specs.Choices.{chosen}
+use Rattle.host_recorded.specs.Choices.{chosen}
 use Rattle.host_core.specs.Calls.{Scene, Does}
 use Rattle.host_node.specs.State.{NodeState}
 use Rattle.host_events.proofs.Doing.{none_added}

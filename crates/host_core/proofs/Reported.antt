@@ -19,7 +19,7 @@ use Rattle.host_events.specs.After.{after}
 use Rattle.host_events.specs.Outs.{outs}
 use Rattle.host_events.specs.May.{May}
 use Rattle.host_events.specs.Taking.{ReportEvents, FinalEvents}
-use Rattle.host_state.specs.Choices.{chosen}
+use Rattle.host_recorded.specs.Choices.{chosen}
 use Rattle.host_core.specs.Calls.{Scene, Does}
 use Rattle.host_core.proofs.Doing.{does_one, does_kept}
 use Rattle.host_core.proofs.OneMessage.{kept_or}

@@ -12,7 +12,7 @@ use Rattle.host_events.specs.Outs.{outs}
 use Rattle.host_keep.specs.Keeping.{OptAdds, Kept}
 use Rattle.host_keep.specs.RecordText.{record_text}
 use Rattle.host_keep.specs.declared.record.Record.TheVariants.{Begun}
-use Rattle.host_state.specs.Choices.{chosen}
+use Rattle.host_recorded.specs.Choices.{chosen}
 use Rattle.host_events.specs.After.{after}
 use Rattle.host_events.specs.Facts.{HostFacts}
 use Rattle.host_events.specs.May.{May, IsFree, IsServed}

@@ -16,9 +16,9 @@ use Rattle.host_events.specs.After.{after}
 use Rattle.host_events.specs.Outs.{outs}
 use Rattle.host_events.specs.Did.{after_all}
 use Rattle.host_events.specs.Taking.{IsOpened, OpensTo, SealedEvents, PayloadEvents, AreTaken, named_by}
-use Rattle.host_state.specs.declared.opening.Opened.{Opened}
-use Rattle.host_state.specs.declared.opening.Opened.TheVariants.{Unkept, InVain, Opens}
-use Rattle.host_state.specs.Opening.{opening, is_kept, OpensBy}
+use Rattle.host_recorded.specs.declared.opening.Opened.{Opened}
+use Rattle.host_recorded.specs.declared.opening.Opened.TheVariants.{Unkept, InVain, Opens}
+use Rattle.host_recorded.specs.Opening.{opening, is_kept, OpensBy}
 use Rattle.host_core.specs.Calls.{Scene, Does, Are}
 use Rattle.host_core.proofs.Doing.{does_one, does_as, then_does}
 

@@ -317,7 +317,7 @@ fn take_update<P: Keeper>(
         return Ok(());
     };
     let listens = capability >= LISTENS;
-    let _ = core.interviewed(found.0, listens, found.1, update, out, keeper)?;
+    let _ = host_recorded::interviewed(core, found.0, listens, found.1, update, out, keeper)?;
     Ok(())
 }
 

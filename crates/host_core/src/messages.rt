@@ -14,7 +14,8 @@ use host_events::{HostOut, messages_go_on};
 use host_heard::{Heard, Told, read_payload};
 use host_keep::Keeper;
 use host_node::Node;
-use host_state::{Core, Opened};
+use host_recorded::Opened;
+use host_state::Core;
 use zw_base::{Draw, List, NoMemory, NodeId};
 
 /// Security 0.
@@ -166,7 +167,7 @@ fn take_sealed<D: Draw, P: Keeper>(
         core.unread(node, payload, out)?;
         return Ok(());
     };
-    match core.open(node, nonce, payload, out, keeper)? {
+    match host_recorded::open(core, node, nonce, payload, out, keeper)? {
         Opened::Unkept => Ok(()),
         Opened::InVain => Ok(()),
         Opened::Opens(messages) => {

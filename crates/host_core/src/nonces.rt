@@ -30,7 +30,7 @@ pub(crate) fn take_nonce_get<D: Draw, P: Keeper>(
             Ok(())
         }
         None => {
-            let _ = core.give(node, draw.next(), out, keeper)?;
+            let _ = host_recorded::give(core, node, draw.next(), out, keeper)?;
             Ok(())
         }
     }
@@ -53,6 +53,6 @@ pub(crate) fn take_nonce<D: Draw, P: Keeper>(
         return Ok(());
     };
     let text = core.seal_text(node, nonce, draw.next())?;
-    let _ = core.take_nonce(node, seen, text, out, keeper)?;
+    let _ = host_recorded::take_nonce(core, node, seen, text, out, keeper)?;
     Ok(())
 }

@@ -87,7 +87,7 @@ fn take_up<P: Keeper>(
         Ok(next) => next,
         Err(fault) => return Err(fault),
     };
-    if core.restore(next)? {
+    if host_recorded::restore(core, next)? {
         Ok(())
     } else {
         Err(OpenFault::BadRecord(at))

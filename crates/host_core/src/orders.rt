@@ -79,7 +79,7 @@ impl Host {
         if self.core.node(node).is_joined() || node.number() == CONTROLLER {
             return Err(Refused::AlreadyJoined);
         }
-        if self.core.join(node, keeper)? {
+        if host_recorded::join(&mut self.core, node, keeper)? {
             Ok(())
         } else {
             Err(Refused::KeeperFault)
@@ -118,7 +118,7 @@ impl Host {
         if !self.core.node(node).waits(command) {
             return Err(CancelFault::NotWaiting);
         }
-        if self.core.cancel(node, command, keeper)? {
+        if host_recorded::cancel(&mut self.core, node, command, keeper)? {
             Ok(())
         } else {
             Err(CancelFault::KeeperFault)

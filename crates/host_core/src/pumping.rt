@@ -188,7 +188,7 @@ fn begin<P: Keeper>(
     if before == u64::MAX {
         return Err(NoMemory);
     }
-    let _ = core.begin(node, before + 1, command, out, keeper)?;
+    let _ = host_recorded::begin(core, node, before + 1, command, out, keeper)?;
     Ok(())
 }
 

@@ -83,6 +83,16 @@ fn end_session<P: Keeper>(
     let Some(ended) = FinalStatus::of(status.byte()) else {
         return Ok(());
     };
-    let _ = core.finish(node, session, id, command, ended, wake_request, out, keeper)?;
+    let _ = host_recorded::finish(
+        core,
+        node,
+        session,
+        id,
+        command,
+        ended,
+        wake_request,
+        out,
+        keeper,
+    )?;
     Ok(())
 }

@@ -23,8 +23,8 @@ use Rattle.host_requests.specs.declared.end.End.{End}
 use Rattle.host_requests.specs.declared.under_way.UnderWay.{UnderWay}
 use Rattle.host_events.specs.State.{HostState, Command, node_of}
 use Rattle.host_events.specs.Sessions.{open_command}
-use Rattle.host_events.specs.Events.{Requests_do, Node_ticks, Line_ticks, Finishes}
-use Rattle.host_events.specs.After.{after, requests_do, is_busy, is_held, holding, finishing, gives_up, line_ticked, failing_if}
+use Rattle.host_events.specs.Events.{Requests_do, Node_ticks, Line_ticks}
+use Rattle.host_events.specs.After.{after, requests_do, is_busy, holding, finishing, gives_up, line_ticked, failing_if}
 use Rattle.host_events.specs.Ends.{after_end_if, end_entries_if, end_entries, task_entries, attempt_ended}
 use Rattle.host_events.specs.Outs.{noted, request_entries, failing_entries, copy_out, outs}
 use Rattle.host_events.specs.declared.out.HostOut.{HostOut}
@@ -127,10 +127,9 @@ line_outs h end before mid all gave is same out =
 
 -- ---- a final report
 
-pub finished_state : (h : HostState) (n session id command : ℕ) (status : FinalStatus) (wake held : Bool) (reported nodes : List NodeState) → reported ≡ nodes_after h.nodes n (node_reports id (status_byte status)) → held ≡ is_held h n wake
+pub finished_state : (h : HostState) (n id command : ℕ) (status : FinalStatus) (held : Bool) (reported nodes : List NodeState) → reported ≡ nodes_after h.nodes n (node_reports id (status_byte status))
     → ((k : HostState) → let s : HostState = record k { nodes = nodes } in s ≡ holding (record k { nodes = reported }) n held)
-    → after h (Finishes n session id command status wake) ≡ record (finishing h n id command status) { nodes = nodes }
-finished_state h n session id command status wake held reported nodes done is state =
+    → holding (finishing h n id command status) n held ≡ record (finishing h n id command status) { nodes = nodes }
+finished_state h n id command status held reported nodes done state =
     let k = finishing h n id command status in
-    let s1 = subst (λ (ns : List NodeState). let s : HostState = record k { nodes = nodes } in s ≡ holding (record k { nodes = ns }) n held) done (state k) in
-    sym (subst (λ (b : Bool). let s : HostState = record k { nodes = nodes } in s ≡ holding k n b) is s1)
+    sym (subst (λ (ns : List NodeState). let s : HostState = record k { nodes = nodes } in s ≡ holding (record k { nodes = ns }) n held) done (state k))

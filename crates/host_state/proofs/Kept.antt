@@ -42,3 +42,14 @@ pub whole_is : (mine was : HostParts) (new : HostState) (e : HostEvent) → mine
 whole_is mine was new e view is =
     subst (λ (s : HostParts). let p : HostParts = record mine { state = new } in p ≡ record s { state = after s.state e }) view
     (ap (λ (h : HostState). let p : HostParts = record mine { state = h } in p) is)
+
+-- it holds of what has these five as a host of which it holds
+pub kept_by : (change : HostState → HostState) (mine was : HostParts) (new : HostState) → mine ≡ was → HostFacts (change was.state)
+    → (change mine.state).nodes ≡ new.nodes → (change mine.state).commands ≡ new.commands → (change mine.state).nonces ≡ new.nonces → (change mine.state).store ≡ new.store → (change mine.state).served ≡ new.served → HostFacts new
+kept_by change mine was new view f = same_facts (change mine.state) new (subst (λ (s : HostParts). HostFacts (change s.state)) (sym view) f)
+
+-- the same where that host is first said otherwise
+pub kept_as_by : (change : HostState → HostState) (mine was : HostParts) (same new : HostState) → mine ≡ was → HostFacts (change was.state) → change mine.state ≡ same
+    → same.nodes ≡ new.nodes → same.commands ≡ new.commands → same.nonces ≡ new.nonces → same.store ≡ new.store → same.served ≡ new.served → HostFacts new
+kept_as_by change mine was same new view f is =
+    same_facts same new (subst (λ (h : HostState). HostFacts h) is (subst (λ (s : HostParts). HostFacts (change s.state)) (sym view) f))

@@ -4,12 +4,9 @@ pub mod Outcomes
 pub mod Found
 pub mod Answered
 pub mod Starting
-pub mod Lengths
 pub mod Cut
 pub mod Heard
 pub mod First
 pub mod Front
 pub mod Judged
-pub mod Sealed
-pub mod Restored
-pub mod Waiting
+pub mod Restarted

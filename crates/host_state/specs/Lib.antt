@@ -1,7 +1,6 @@
 pub mod Inside
+pub mod Changes
 pub mod Choices
 pub mod Ending
-pub mod Opening
 pub mod Sessions
 pub mod Parts
-pub mod Restoring

@@ -42,20 +42,51 @@ impl Core {
         ensures no_record { OnErr result (OptAdds (P.records keeper.old) (P.records keeper.new) []) }
         ensures never_falls { P.faults keeper.old ≤ P.faults keeper.new }
     {
-        facts_are_kept();
-        what_is_taken_back_is_undone();
-        what_is_released_is_undone();
         let carriage = self.judged(order)?;
+        let number = self.next_number()?;
         let properties = self.properties_set(carriage, order)?;
         let missing = self
             .store
             .missing(self.alloc, order.node, properties.as_slice())?;
-        let number = self.next_number()?;
+        self.accept_judged(
+            order,
+            carriage,
+            number,
+            properties.as_slice(),
+            missing.as_slice(),
+            keeper,
+        )
+    }
+
+    // An order that no rule on its node refuses becomes the command of this number. The properties that it sets, and those of them
+    // that are not kept, are lent.
+    fn accept_judged<P: Keeper>(
+        &mut self,
+        order: &Order,
+        carriage: Carriage,
+        number: u32,
+        properties: &[Property],
+        missing: &[Property],
+        keeper: &mut P,
+    ) -> Result<u32, Refused>
+        requires unrefused { first_refusal (known_of (node_of self.old.state order.now.node)) order.now ≡ None }
+        requires carried { carriage ≡ carriage_for self.old.state order.now }
+        requires number { number ≡ length self.old.state.commands + 1 }
+        requires properties { properties.now ≡ properties_in (settings_by carriage.actuator order.now) }
+        requires missing { missing.now ≡ missing_of self.old.state.store order.now.node properties.now }
+        ensures number { IfOk result (λ accepted. accepted ≡ number) }
+        ensures judges { Judges result (refusal_for self.old.state order.now) }
+        ensures kept { OnOk result (OptAdds (P.records keeper.old) (P.records keeper.new) (record_text (the_accepted number order.now) ∷ [])) }
+        ensures state { OnOk result (self.new ≡ record self.old { state = after self.old.state (Accepts order.now (carriage_for self.old.state order.now)) }) }
+        ensures failed { result ≡ Err Refused.KeeperFault → Rose (P.faults keeper.old) (P.faults keeper.new) }
+        ensures err { OnErr result (self.new ≡ self.old) }
+        ensures no_record { OnErr result (OptAdds (P.records keeper.old) (P.records keeper.new) []) }
+        ensures never_falls { P.faults keeper.old ≤ P.faults keeper.new }
+    {
+        facts_are_kept();
+        what_is_taken_back_is_undone();
+        what_is_released_is_undone();
         let copy = order.copy(self.alloc)?;
-        let fact = Record::Accepted {
-            command: number,
-            order: order.copy(self.alloc)?,
-        };
         if self.commands.reserve(1).is_err() {
             return Err(Refused::NoMemory);
         }
@@ -64,16 +95,11 @@ impl Core {
             &mut self.store,
             order.node,
             number,
-            properties.as_slice(),
-            missing.as_slice(),
+            properties,
+            missing,
         )?;
-        if let Err(fault) = keep_accepted(self.alloc, &fact, keeper) {
-            take_back(
-                &mut self.nodes,
-                &mut self.store,
-                order.node,
-                missing.as_slice(),
-            );
+        if let Err(fault) = keep_accepted(self.alloc, number, order, keeper) {
+            take_back(&mut self.nodes, &mut self.store, order.node, missing);
             return Err(fault);
         }
         self.commands.push_reserved(Command::new(copy, carriage));
@@ -159,14 +185,23 @@ fn take_back(nodes: &mut Nodes, store: &mut Store, node: NodeId, missing: &[Prop
 }
 
 // Has the record of an order kept.
-fn keep_accepted<P: Keeper>(alloc: Global, fact: &Record, keeper: &mut P) -> Result<(), Refused>
-    ensures kept { OnOk result (OptAdds (P.records keeper.old) (P.records keeper.new) (record_text fact.now ∷ [])) }
+fn keep_accepted<P: Keeper>(
+    alloc: Global,
+    number: u32,
+    order: &Order,
+    keeper: &mut P,
+) -> Result<(), Refused>
+    ensures kept { OnOk result (OptAdds (P.records keeper.old) (P.records keeper.new) (record_text (the_accepted number order.now) ∷ [])) }
     ensures faults { IfErr result (λ refused. (refused ≡ Refused.KeeperFault) ⊎ (refused ≡ Refused.NoMemory)) }
     ensures failed { result ≡ Err Refused.KeeperFault → Rose (P.faults keeper.old) (P.faults keeper.new) }
     ensures no_record { OnErr result (OptAdds (P.records keeper.old) (P.records keeper.new) []) }
     ensures never_falls { P.faults keeper.old ≤ P.faults keeper.new }
 {
-    if !keep_record(alloc, fact, keeper)? {
+    let fact = Record::Accepted {
+        command: number,
+        order: order.copy(alloc)?,
+    };
+    if !keep_record(alloc, &fact, keeper)? {
         return Err(Refused::KeeperFault);
     }
     Ok(())

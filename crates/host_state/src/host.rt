@@ -94,6 +94,13 @@ impl Core {
         self.alloc
     }
 
+    /// The keys of the network.
+    pub fn keys(&self) -> &Keys
+        ensures { result.now ≡ self.now.state.keys }
+    {
+        &self.keys
+    }
+
     /// What is kept of a node.
     pub fn node(&self, node: NodeId) -> &Node
         ensures value { result.now ≡ node_of self.now.state node }

@@ -9,7 +9,7 @@ use std::alloc::Global;
 use zw_base::NoMemory;
 
 /// Has a record kept, and answers whether it was.
-pub(crate) fn keep_record<P: Keeper>(
+pub fn keep_record<P: Keeper>(
     alloc: Global,
     kept: &Record,
     keeper: &mut P,

@@ -1,21 +1,22 @@
 //! The host of a Z-Wave controller chip, one event at a time: its state, and a call for each thing that may happen to it.
 //!
-//! It promises that each call does its event whole, with all that it puts out and the record that it has kept, or does
-//! nothing for want of memory. What the events are and what each changes is defined in `host_events`; here `specs/` has only
-//! what the calls add: `Choices` for the event that an answer names, `Ending` for lists that are made beforehand, `Inside`.
+//! It promises that each call does its event whole, with all that it puts out, or does nothing for want of memory. Of an event
+//! that has a record here is what it changes (`changes`), and `host_recorded` keeps it first; `accept` alone does both. What the
+//! events are and what each changes is defined in `host_events`; here `specs/` has only what the calls add: `Changes` for words
+//! that are missing there, `Choices` for the answer to an order, `Ending` for lists that are made beforehand, `Inside`.
 #![tactic(auto)]
 
 mod accepting;
+mod changes;
 mod command;
 mod ends;
 mod host;
 mod keeping;
 mod line;
 mod nonces;
-mod opening;
 mod orders;
 mod reports;
-mod restoring;
+mod restarting;
 mod sessions;
 mod submitting;
 mod ticks;
@@ -23,5 +24,5 @@ mod values;
 
 pub use command::Command;
 pub use host::Core;
-pub use opening::Opened;
+pub use keeping::keep_record;
 pub use sessions::Start;

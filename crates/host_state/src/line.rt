@@ -1,27 +1,19 @@
 //! What the line brings: an item that is judged, and what the request under way makes of it.
 
-ghost use Rattle.std.specs.Prelude.{◌≡◌, ◌++◌, ◌≤◌, [], IfOk, OnOk, OnErr};
-ghost use Rattle.host_keep.specs.Keeping.{OptAdds, Kept};
-ghost use Rattle.host_keep.specs.RecordText.{record_text};
-ghost use Rattle.host_keep.specs.declared.record.Record.TheVariants.{Classes as the_classes};
+ghost use Rattle.std.specs.Prelude.{◌≡◌, ◌++◌, ◌≤◌, OnOk, OnErr};
 ghost use Rattle.host_requests.specs.Events.RequestsEvent.{IsSent, Fails, Responds, CallsBack, Updates, Ticks};
 ghost use Rattle.host_node.specs.declared.attempt.Moment.TheVariants.{BetweenTicks, BeforeItsTick};
-ghost use Rattle.host_events.specs.Events.{Hears, Requests_do, Interviews, Interview_unkept};
+ghost use Rattle.host_events.specs.Events.{Hears, Requests_do};
 ghost use Rattle.host_events.specs.After.{after};
 ghost use Rattle.host_events.specs.Outs.{outs, answer_to};
-ghost use Rattle.host_events.specs.May.{May};
-ghost use Rattle.host_state.specs.Choices.{chosen};
 
 use crate::Core;
 use crate::ends::{MOST_ENTRIES, end_request, nodes_in};
-use crate::keeping::keep_record;
 use chip_functions::{Response, TransmitStatus, Update};
 use host_events::{HostOut, facts_are_kept};
-use host_keep::{Keeper, Record};
 use host_node::Moment;
 use serial_frame::{Item, Refusal, Unit};
-use zw_base::{Bytes, List, NoMemory, NodeId, Sequence};
-use zw_text::Entry;
+use zw_base::{List, NoMemory, Sequence};
 
 impl Core {
     /// An item of the chip is judged: a unit answers it where one is due.
@@ -165,44 +157,6 @@ impl Core {
             out,
         );
         Ok(())
-    }
-
-    /// An interview of a node ends well at an ApplicationUpdate, which tells its classes. True where its record was kept;
-    /// else what was known of the node stays.
-    pub fn interviewed<P: Keeper>(
-        &mut self,
-        node: NodeId,
-        listens: bool,
-        classes: Bytes,
-        update: Update,
-        out: &mut List<HostOut>,
-        keeper: &mut P,
-    ) -> Result<bool, NoMemory>
-        requires { May self.old.state (Interviews node listens classes update) }
-        ensures kept { IfOk result (λ is_kept. Kept is_kept (record_text (the_classes node listens classes)) (P.records keeper.old) (P.records keeper.new) (P.faults keeper.old) (P.faults keeper.new)) }
-        ensures state { IfOk result (λ is_kept. self.new ≡ record self.old { state = after self.old.state (chosen is_kept (Interviews node listens classes update) (Interview_unkept node update)) }) }
-        ensures outs { IfOk result (λ is_kept. out.new.items ≡ out.old.items ++ outs self.old.state (chosen is_kept (Interviews node listens classes update) (Interview_unkept node update))) }
-        ensures err { OnErr result ((self.new ≡ self.old) × (out.new.items ≡ out.old.items)) }
-        ensures no_record { OnErr result (OptAdds (P.records keeper.old) (P.records keeper.new) []) }
-        ensures never_falls { P.faults keeper.old ≤ P.faults keeper.new }
-    {
-        facts_are_kept();
-        out.reserve(1)?;
-        let copy = Bytes::from_slice(self.alloc, classes.as_slice())?;
-        let fact = Record::Classes {
-            node,
-            listens,
-            classes: copy,
-        };
-        if !keep_record(self.alloc, &fact, keeper)? {
-            let _ = self.requests.update(update);
-            out.put(HostOut::Note(Entry::Unkept { node }));
-            return Ok(false);
-        }
-        let _ = self.requests.update(update);
-        self.nodes.interviewed(node, listens, classes);
-        out.put(HostOut::Note(Entry::Interviewed { node }));
-        Ok(true)
     }
 }
 

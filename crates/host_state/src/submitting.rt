@@ -1,30 +1,25 @@
-//! What the host does of itself: it lets nodes sleep, submits a request, and begins a session.
+//! What the host does of itself: it lets nodes sleep, and submits a request.
 
-ghost use Rattle.std.specs.Prelude.{◌≡◌, ◌≢◌, ◌++◌, ◌+◌, ◌≤◌, [], length, slice_index, IfOk, OnOk, OnErr};
-ghost use Rattle.supervision.specs.Host.{begun_of};
+ghost use Rattle.std.specs.Prelude.{◌≡◌, ◌≢◌, ◌++◌, ◌≤◌, ◌∷◌, [], length, IfOk, OnOk, OnErr};
 ghost use Rattle.host_requests.specs.Frames.{frame_of};
 ghost use Rattle.host_requests.specs.State.{next_id};
-ghost use Rattle.host_keep.specs.Keeping.{OptAdds, Kept};
-ghost use Rattle.host_keep.specs.RecordText.{record_text};
-ghost use Rattle.host_keep.specs.declared.record.Record.TheVariants.{Begun as the_begun};
-ghost use Rattle.host_events.specs.Events.{Queues_no_more, Drops_no_more, Submits_abort, Submits_front, Starts, Gives_text, Gives_segment, Begins, Begin_unkept};
-ghost use Rattle.host_events.specs.State.{node_of};
+ghost use Rattle.host_events.specs.Events.{Queues_no_more, Drops_no_more, Submits_abort, Submits_front, Starts, Gives_text, Gives_segment};
 ghost use Rattle.host_events.specs.After.{after, front_purpose};
 ghost use Rattle.host_events.specs.Outs.{outs};
+ghost use Rattle.host_events.specs.declared.out.HostOut.TheVariants.{Write};
+ghost use Rattle.serial_link.specs.State.{IsBusy, submitted_link};
+ghost use Rattle.serial_frame.specs.declared.unit.Unit.TheVariants.{Framed};
 ghost use Rattle.host_events.specs.May.{May};
-ghost use Rattle.host_state.specs.Choices.{chosen};
 
-use crate::command::set_outcome;
-use crate::keeping::keep_record;
 use crate::{Core, Start};
 use host_events::{HostOut, facts_are_kept};
-use host_keep::{Keeper, Record};
 use host_nodes::the_least_is_found;
 use host_requests::{Requests, Task};
 use serial_frame::{Frame, Unit};
+use serial_link::Link;
 use std::alloc::Global;
 use zw_base::{List, NoMemory, NodeId, Payload};
-use zw_text::{Entry, Outcome};
+use zw_text::Entry;
 
 impl Core {
     /// No More Information waits to be sent to a node.
@@ -60,12 +55,9 @@ impl Core {
         ensures outs { OnOk result (out.new.items ≡ out.old.items ++ outs self.old.state Submits_abort) }
         ensures err { OnErr result ((self.new ≡ self.old) × (out.new.items ≡ out.old.items)) }
     {
-        out.reserve(1)?;
         let frame = self.requests.abort_frame(self.alloc)?;
-        let copy = frame.copy(self.alloc)?;
-        self.link.begin(frame);
+        put_on_line(self.alloc, &mut self.link, frame, out)?;
         self.requests.begin_abort();
-        out.put(HostOut::Write(Unit::Framed(copy)));
         Ok(())
     }
 
@@ -76,12 +68,9 @@ impl Core {
         ensures outs { OnOk result (out.new.items ≡ out.old.items ++ outs self.old.state Submits_front) }
         ensures err { OnErr result ((self.new ≡ self.old) × (out.new.items ≡ out.old.items)) }
     {
-        out.reserve(1)?;
         let frame = front_frame(&self.requests, self.alloc)?;
-        let copy = frame.copy(self.alloc)?;
-        self.link.begin(frame);
+        put_on_line(self.alloc, &mut self.link, frame, out)?;
         self.requests.begin_front();
-        out.put(HostOut::Write(Unit::Framed(copy)));
         Ok(())
     }
 
@@ -104,14 +93,11 @@ impl Core {
             payload,
             more,
         } = start;
-        out.reserve(1)?;
         let frame = self.requests.attempt_frame(self.alloc, node, &payload)?;
-        let copy = frame.copy(self.alloc)?;
-        self.link.begin(frame);
+        put_on_line(self.alloc, &mut self.link, frame, out)?;
         self.requests.begin_attempt(node, more, payload);
         self.served = node.number();
         self.nodes.start_attempt(node, plan);
-        out.put(HostOut::Write(Unit::Framed(copy)));
         Ok(())
     }
 
@@ -129,14 +115,11 @@ impl Core {
         ensures err { OnErr result ((self.new ≡ self.old) × (out.new.items ≡ out.old.items)) }
     {
         facts_are_kept();
-        out.reserve(1)?;
         let frame = self.requests.attempt_frame(self.alloc, node, &payload)?;
-        let copy = frame.copy(self.alloc)?;
-        self.link.begin(frame);
+        put_on_line(self.alloc, &mut self.link, frame, out)?;
         self.requests.begin_attempt(node, false, payload);
         self.served = node.number();
         let _ = self.nodes.give_text(node);
-        out.put(HostOut::Write(Unit::Framed(copy)));
         Ok(())
     }
 
@@ -155,55 +138,12 @@ impl Core {
         ensures err { OnErr result ((self.new ≡ self.old) × (out.new.items ≡ out.old.items)) }
     {
         facts_are_kept();
-        out.reserve(1)?;
         let frame = self.requests.attempt_frame(self.alloc, node, &payload)?;
-        let copy = frame.copy(self.alloc)?;
-        self.link.begin(frame);
+        put_on_line(self.alloc, &mut self.link, frame, out)?;
         self.requests.begin_attempt(node, more, payload);
         self.served = node.number();
         let _ = self.nodes.give_segment(node);
-        out.put(HostOut::Write(Unit::Framed(copy)));
         Ok(())
-    }
-
-    /// A session of a node begins for the command that waited longest, once that is kept. True where it was; else the node
-    /// is passed over until its next tick.
-    pub fn begin<P: Keeper>(
-        &mut self,
-        node: NodeId,
-        session: u64,
-        command: u32,
-        out: &mut List<HostOut>,
-        keeper: &mut P,
-    ) -> Result<bool, NoMemory>
-        requires { May self.old.state (Begins node session command) }
-        ensures kept { IfOk result (λ is_kept. Kept is_kept (record_text (the_begun node session command)) (P.records keeper.old) (P.records keeper.new) (P.faults keeper.old) (P.faults keeper.new)) }
-        ensures state { IfOk result (λ is_kept. self.new ≡ record self.old { state = after self.old.state (chosen is_kept (Begins node session command) (Begin_unkept node)) }) }
-        ensures outs { IfOk result (λ is_kept. out.new.items ≡ out.old.items ++ outs self.old.state (chosen is_kept (Begins node session command) (Begin_unkept node))) }
-        ensures err { OnErr result ((self.new ≡ self.old) × (out.new.items ≡ out.old.items)) }
-        ensures no_record { OnErr result (OptAdds (P.records keeper.old) (P.records keeper.new) []) }
-        ensures never_falls { P.faults keeper.old ≤ P.faults keeper.new }
-    {
-        facts_are_kept();
-        out.reserve(1)?;
-        let fact = Record::Begun {
-            node,
-            session,
-            command,
-        };
-        if !keep_record(self.alloc, &fact, keeper)? {
-            self.nodes.block(node);
-            out.put(HostOut::Note(Entry::Unkept { node }));
-            return Ok(false);
-        }
-        let _ = self.nodes.begin(node);
-        set_outcome(&mut self.commands, command, Outcome::Begun);
-        out.put(HostOut::Note(Entry::Begin {
-            node,
-            session,
-            command,
-        }));
-        Ok(true)
     }
 }
 
@@ -214,4 +154,23 @@ fn front_frame(requests: &Requests, alloc: Global) -> Result<Frame, NoMemory>
 {
     let found = requests.front_frame(alloc)?;
     Ok(found.unwrap())
+}
+
+// A frame goes to the line, and its first copy is put out.
+fn put_on_line(
+    alloc: Global,
+    link: &mut Link,
+    frame: Frame,
+    out: &mut List<HostOut>,
+) -> Result<(), NoMemory>
+    requires { ¬ IsBusy link.old.side.turn }
+    ensures link { OnOk result (link.new ≡ submitted_link link.old frame) }
+    ensures outs { OnOk result (out.new.items ≡ out.old.items ++ Write (Framed frame) ∷ []) }
+    ensures err { OnErr result ((link.new ≡ link.old) × (out.new.items ≡ out.old.items)) }
+{
+    out.reserve(1)?;
+    let copy = frame.copy(alloc)?;
+    link.begin(frame);
+    out.put(HostOut::Write(Unit::Framed(copy)));
+    Ok(())
 }

@@ -25,7 +25,7 @@ returns-in_default-clause-ok g c =
 pub returns-clause-ok : goal.returns-clause-ok
 returns-clause-ok g c =
     let a : Scene = scene c.args.core.now.state c.args.out.now.items (g.P.Keeper.records c.args.keeper.now) (g.P.Keeper.faults c.args.keeper.now) in
-    let b : Scene = scene c.interviewed.new.self.state c.interviewed.new.out.items (g.P.Keeper.records c.interviewed.new.keeper) (g.P.Keeper.faults c.interviewed.new.keeper) in
+    let b : Scene = scene c.interviewed.new.core.state c.interviewed.new.out.items (g.P.Keeper.records c.interviewed.new.keeper) (g.P.Keeper.faults c.interviewed.new.keeper) in
     let told = rw c.in-Some-2.is at c.in_ok-found.ensures in
     interviewed_as c.args.update _ told.0 _ c.interviewed_by.result c.in-Some.capability _ c.in_ok-interviewed.field-0 a b told.1
     (c.interviewed_by.ensures ∙ ap (λ (r : RequestsState). interviewed_by r c.args.update) c.requests.ensures) c.in-Some.is (grind (arith, nat_tests))

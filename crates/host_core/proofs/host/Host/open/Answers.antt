@@ -1,5 +1,5 @@
 -- Each record is read and taken up, and then the host restarts.
-use Rattle.std.proofs.Common.{◌≡◌, ℕ, List, Option, Some, Err, Result, refl, sym, ap, ◌∙◌, subst, arith}
+use Rattle.std.proofs.Common.{◌≡◌, ℕ, List, Option, Err, Result, refl, sym, ap, ◌∙◌, subst, arith}
 use Rattle.s0_crypto.specs.declared.key_pair.Keys.{Keys}
 use Rattle.host_keep.specs.Legal.{IsFirstBad}
 use Rattle.host_events.specs.State.{first_host}

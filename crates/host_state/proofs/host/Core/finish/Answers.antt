@@ -6,38 +6,32 @@ use Rattle.supervision.specs.Session.{IsStatus}
 use Rattle.value_store.specs.Values.{IsReserved}
 use Rattle.host_node.specs.Events.NodeEvent.{Reports as node_reports}
 use Rattle.host_nodes.specs.State.{nodes_after}
-use Rattle.host_events.specs.State.{HostParts, command_at, with_outcome}
-use Rattle.host_events.specs.After.{confirming, outcome_of}
-use Rattle.host_events.specs.Facts.{HostFacts}
+use Rattle.host_events.specs.State.{HostState, HostParts, command_at, with_outcome}
+use Rattle.host_events.specs.After.{confirming, finishing, holding, outcome_of}
 use Rattle.host_keep.specs.Status.{status_byte}
 use Rattle.host_events.specs.Sessions.{settings_with}
-use Rattle.host_events.specs.Events.{Finishes}
 use Rattle.host_state.specs.Inside.{state_of, parts_of}
 use Rattle.host_state.proofs.Ending.{finished_state}
-use Rattle.host_state.proofs.Found.{status_is_one, settings_are_kept}
-use Rattle.host_state.proofs.Kept.{kept_as}
+use Rattle.host_state.proofs.Found.{status_is_one}
+use Rattle.host_state.proofs.Kept.{kept_as_by}
 use Rattle.host_state.proofs.host.Core.finish.Goals as goal
 
 pub report-requires-clause-known : goal.report-requires-clause-known
-report-requires-clause-known g c = subst (λ (b : ℕ). IsStatus b) (sym c.byte.ensures) (status_is_one c.args.status)
+report-requires-clause-known c = subst (λ (b : ℕ). IsStatus b) (sym c.byte.ensures) (status_is_one c.args.status)
 
-pub confirm-requires-clause-reserved : goal.confirm-requires-clause-reserved
-confirm-requires-clause-reserved g c =
-    let h = c.args.self.now.state in
-    let facts : HostFacts h = subst (λ (s : HostParts). HostFacts s.state) c.self.view_is c.self.invariant in
-    let all = settings_are_kept h c.args.node c.args.session c.args.command c.args.status facts c.requires.may.carried in
-    let mine = subst (λ (s : HostParts). AllByRecursion (λ (one : Setting). IsReserved s.state.store c.args.node one.property) (settings_with c.args.status (command_at h.commands c.args.command))) (sym c.self.view_is) all in
-    subst (λ (made : List Setting). AllByRecursion (λ (one : Setting). IsReserved c.self.inside.store c.args.node one.property) made) (sym (c.as_slice.ensures ∙ c.in_ok-confirmed.ensures)) mine
+pub confirm-requires : goal.confirm-requires
+confirm-requires c =
+    subst (λ (s : HostParts). AllByRecursion (λ (one : Setting). IsReserved s.state.store c.args.node one.property) c.args.confirmed.now) (sym c.self.view_is) c.requires.reserved
 
 pub invariant_of-self : goal.invariant_of-self
-invariant_of-self g c =
+invariant_of-self c =
     let reported : c.report.new.self ≡ nodes_after c.self.inside.nodes c.args.node (node_reports c.args.id (status_byte c.args.status))
     = c.report.ensures.state ∙ ap (λ (b : ℕ). nodes_after c.self.inside.nodes c.args.node (node_reports c.args.id b)) c.byte.ensures in
-    let state = finished_state (state_of c.self.inside) c.args.node c.args.session c.args.id c.args.command c.args.status c.args.wake_request c.asks_for_hold-is_held.result c.report.new.self c.hold.new.nodes reported (cc) c.hold.ensures.state in
+    let state = finished_state (state_of c.self.inside) c.args.node c.args.id c.args.command c.args.status c.args.is_held c.report.new.self c.hold.new.nodes reported c.hold.ensures in
     let commands : c.set_outcome.new.commands.items ≡ with_outcome c.self.inside.commands.items c.args.command (outcome_of c.args.status)
     = c.set_outcome.ensures ∙ ap (λ (o : Outcome). with_outcome c.self.inside.commands.items c.args.command o) c.outcome_of.ensures in
-    let made : c.as_slice.result.now ≡ settings_with c.args.status (command_at c.self.inside.commands.items c.args.command)
-    = c.as_slice.ensures ∙ c.in_ok-confirmed.ensures ∙ sym (ap (λ (s : HostParts). settings_with c.args.status (command_at s.state.commands c.args.command)) c.self.view_is) in
+    let made : c.args.confirmed.now ≡ settings_with c.args.status (command_at c.self.inside.commands.items c.args.command)
+    = c.requires.confirms ∙ sym (ap (λ (s : HostParts). settings_with c.args.status (command_at s.state.commands c.args.command)) c.self.view_is) in
     let store : c.confirm.new.store ≡ confirming c.self.inside.store c.args.node (settings_with c.args.status (command_at c.self.inside.commands.items c.args.command))
-    = c.confirm.ensures.store ∙ ap (λ (ss : List Setting). confirming c.self.inside.store c.args.node ss) made in
-    kept_as c.facts_are_kept.ensures.each (parts_of c.self.inside) c.args.self.now _ _ (Finishes c.args.node c.args.session c.args.id c.args.command c.args.status c.args.wake_request) c.self.view_is c.self.invariant c.requires.may state refl (sym commands) refl (sym store) refl
+    = c.confirm.ensures ∙ ap (λ (ss : List Setting). confirming c.self.inside.store c.args.node ss) made in
+    kept_as_by (λ (h : HostState). holding (finishing h c.args.node c.args.id c.args.command c.args.status) c.args.node c.args.is_held) (parts_of c.self.inside) c.args.self.now _ _ c.self.view_is c.requires.facts state refl (sym commands) refl (sym store) refl

@@ -1,10 +1,11 @@
-use Rattle.std.proofs.Common.{refl, sym, ◌∙◌}
-use Rattle.host_keep.specs.declared.record.Record.TheVariants.{Seen}
+use Rattle.std.proofs.Common.{refl, sym}
+use Rattle.host_events.specs.State.{HostState}
+use Rattle.host_events.specs.After.{node_does}
+use Rattle.host_node.specs.Events.NodeEvent.{Restores_seen}
 use Rattle.host_state.specs.Inside.{parts_of}
-use Rattle.host_state.proofs.Restored.{restored_kept}
+use Rattle.host_state.proofs.Kept.{kept_by}
 use Rattle.host_state.proofs.host.Core.restore_seen.Goals as goal
 
 pub invariant_of-self : goal.invariant_of-self
 invariant_of-self c =
-    restored_kept c.a_record_restores_what_it_says.ensures.facts (parts_of c.self.inside) c.args.self.now _ (Seen c.args.node c.args.seen) c.self.view_is c.self.invariant (sym c.may_see-may.ensures ∙ c.if-may.true)
-    (sym c.restore_seen.ensures) refl refl refl refl
+    kept_by (λ (h : HostState). node_does h c.args.node (Restores_seen c.args.seen)) (parts_of c.self.inside) c.args.self.now _ c.self.view_is c.requires (sym c.restore_seen.ensures) refl refl refl refl

@@ -1,0 +1,4 @@
+pub mod Lengths
+pub mod Sealed
+pub mod Waiting
+pub mod Restored
