@@ -12,9 +12,10 @@ use Rattle.chip_functions.specs.Request.{send_data_at, get_routing_info_at, add_
 use Rattle.chip_functions.specs.Notice.{received_at, request_failed_at, handler_at, callback_at, add_notice_at, update_at, notice_at, notice_of}
 use Rattle.class_fields.specs.Reading.{byte_at, limited_at, bits_at, switch_at, lock_at, word_at, three_at, flag_at, in_class}
 use Rattle.class_core.specs.MessageReading.{interval_set_at, message_at}
-use Rattle.class_info.specs.InfoReading.{status_at, supervision_report_at, transport_request_at, own_at, shared_at, info_at}
+use Rattle.class_info.specs.InfoReading.{nonce_at, status_at, supervision_report_at, transport_request_at, own_at, shared_at, info_at}
 use Rattle.encap.specs.Opening.{opened_at}
 use Rattle.host_heard.specs.Telling.{heard_at}
+use Rattle.device_stack.specs.Judging.{judged_message}
 use Rattle.chip_functions.specs.Mask.{nodes_of}
 use Rattle.chip_functions.specs.Response.{init_data_at, capabilities_at, version_at, memory_id_at, protocol_info_at, response_at, response_of}
 
@@ -29,7 +30,7 @@ computing_lines = tt
 unfoldable pub computing : ⊤
 unfolding computing_lines send_data_at get_routing_info_at add_request_at request_at request_of received_at request_failed_at
     handler_at callback_at add_notice_at update_at notice_at notice_of heard_at byte_at limited_at bits_at switch_at lock_at word_at
-    three_at flag_at in_class interval_set_at message_at status_at supervision_report_at transport_request_at own_at shared_at info_at
+    three_at flag_at in_class interval_set_at message_at nonce_at status_at supervision_report_at transport_request_at own_at shared_at info_at
     opened_at times_generator dividend left_after crc init_data_at
-    capabilities_at version_at memory_id_at protocol_info_at response_at response_of nodes_of
+    capabilities_at version_at memory_id_at protocol_info_at response_at response_of nodes_of judged_message
 computing = tt

@@ -22,7 +22,7 @@ use Rattle.time_laws.specs.Judged.{is_data, acknowledgements_come, last_of}
 use Rattle.time_laws.specs.Requests.{are_none}
 use Rattle.time_laws.specs.Interviews.{listens}
 use Rattle.time_laws.specs.Waking.{is_awake_sleeper}
-use Rattle.time_laws.specs.Unanswered.{session_of, attempts}
+use Rattle.time_laws.specs.Sessions.{runs}
 use Rattle.time_laws.specs.Rests.{is_rest, all_final}
 
 -- ---- nothing is still to be lost
@@ -118,12 +118,9 @@ chip_is_idle past now =
     (are_none (shown chip_frame_at past) || nat_lt 0 (acknowledgements_come Host (folded behind_frame [] past)))
     && list_all (λ tick. nat_lt tick now) (shown_after starts_at [] past)
 
--- no attempt has begun in a series of a node that has no outcome yet
-abbrev pub is_idle_at : (ℕ → List ℕ) → ℕ → List Entry → ℕ → Bool
-is_idle_at listing node past command = attempts (session_of listing past node command) command past == 0
-
-abbrev pub is_idle : (ℕ → List ℕ) → List Entry → ℕ → Bool
-is_idle listing past node = all_final node past || list_all (is_idle_at listing node past) (last_of (sessions node past))
+-- no series of a node runs
+abbrev pub is_idle : List Entry → ℕ → ℕ → Bool
+is_idle past now node = not (runs node past now)
 
 -- no interviewed node that does not listen counts as awake
 abbrev pub is_asleep_if_known : (ℕ → List ℕ) → List Entry → ℕ → Bool
@@ -157,7 +154,7 @@ pub record IsStill (listing : ℕ → List ℕ) (devices : List State) (past : L
   pub host : is_rest past now ≡ true
   pub chip : chip_is_idle past now ≡ true
   pub air : air_is_empty past ≡ true
-  pub idle : list_all (is_idle listing past) (joined past) ≡ true
+  pub idle : list_all (is_idle past now) (joined past) ≡ true
   pub asleep : list_all (is_asleep_if_known listing past) (joined past) ≡ true
   pub working : list_all is_not_working devices ≡ true
 

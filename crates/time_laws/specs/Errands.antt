@@ -8,7 +8,8 @@ use Rattle.zw_laws.specs.Payloads.{asked_by}
 use Rattle.zw_laws.specs.Units.{Carried, sending_in}
 use Rattle.time_laws.specs.Moments.{Keeps}
 use Rattle.time_laws.specs.Judged.{is_directly_behind, is_mark}
-use Rattle.time_laws.specs.Requests.{asked, ends_here, is_ended_by_frame}
+use Rattle.time_laws.specs.Requests.{asked}
+use Rattle.time_laws.specs.Ends.{ends_here, is_ended_by_frame}
 
 -- whether two payloads are the same, and to or from the same node
 abbrev pub same_carried : Carried → Carried → Bool
@@ -30,10 +31,10 @@ abbrev pub says_done : List ℕ → Entry → Bool
 says_done nodes (Done node how) = list_any (λ one. one == node) nodes
 says_done nodes entry = false
 
--- whether a frame of the chip ends here what a line asked for, and nothing has said so
+-- whether a frame of the chip ends here what a line asked for
 abbrev pub owes_done : (ℕ → List ℕ) → List Entry → Bool
 owes_done listing past =
-    is_directly_behind past && not (asked past).told && list_any (λ node. true) (errand listing past) && is_ended_by_frame past
+    is_directly_behind past && list_any (λ node. true) (errand listing past) && is_ended_by_frame past
 
 -- how it ended is said where it ends so, and is said where a frame ends it
 abbrev pub may_say_done : (ℕ → List ℕ) → List Entry → Entry → Bool

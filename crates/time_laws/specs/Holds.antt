@@ -1,6 +1,6 @@
 -- When the host keeps a node awake (Supervision Command Class, version 2: Wake Up Request; that the hold follows the stored values
 -- is this project's own rule).
-use Rattle.std.specs.Prelude.{ℕ, ◌%◌, ◌==◌, ◌&&◌, ◌||◌, not, Bool, true, false, List, [], ◌∷◌, length}
+use Rattle.std.specs.Prelude.{ℕ, ◌+◌, ◌%◌, ◌==◌, ◌&&◌, ◌||◌, not, Bool, true, false, List, [], ◌∷◌, length}
 use Rattle.std.specs.List.{list_any}
 use Rattle.host_heard.specs.declared.told.Told.{Told}
 use Rattle.host_heard.specs.declared.told.Told.TheVariants.{Report as Reports}
@@ -9,9 +9,10 @@ use Rattle.host_heard.specs.declared.payload.Heard.TheVariants.{Messages}
 use Rattle.host_heard.specs.Telling.{heard_at}
 use Rattle.zw_text.specs.declared.entry.Ended.TheVariants.{Success, Fail, NoSupport}
 use Rattle.zw_text.specs.declared.entry.Entry.{Entry}
-use Rattle.zw_text.specs.declared.entry.Entry.TheVariants.{Out, Store, Held}
-use Rattle.zw_text.specs.Transcript.{folded, sessions}
-use Rattle.time_laws.specs.Moments.{Keeps}
+use Rattle.zw_text.specs.declared.entry.Entry.TheVariants.{Out, Store, Held, Asleep}
+use Rattle.zw_text.specs.Transcript.{folded, sessions, where_same}
+use Rattle.zw_laws.specs.Lists.{shown_after, last_or}
+use Rattle.time_laws.specs.Moments.{Keeps, clock}
 use Rattle.time_laws.specs.Judged.{last_of, brought_here, payloads_here}
 use Rattle.time_laws.specs.Interviews.{listens}
 
@@ -60,3 +61,14 @@ may_hold past entry = is_store entry || not (owes_hold past)
 
 abbrev pub HoldsAsAsked : List Entry → Type 0
 HoldsAsAsked transcript = Keeps may_hold transcript
+
+-- ---- how long
+
+-- until when a node is held: 100 ticks, and no longer than it counts as awake
+abbrev pub hold_at : ℕ → List Entry → Entry → List ℕ
+hold_at node past (Held of) = where_same of node (clock past + 100)
+hold_at node past (Asleep of) = where_same of node 0
+hold_at node past _ = []
+
+abbrev pub held_until : ℕ → List Entry → ℕ
+held_until node past = last_or 0 (shown_after (hold_at node) [] past)

@@ -15,7 +15,8 @@ use Rattle.zw_laws.specs.Nodes.{first_node}
 use Rattle.zw_laws.specs.Units.{body_in, request_in}
 use Rattle.time_laws.specs.Moments.{Keeps}
 use Rattle.time_laws.specs.Judged.{is_directly_behind, is_mark, notices_here}
-use Rattle.time_laws.specs.Requests.{asked, request_last, is_refused_here, is_silent, has_four_copies}
+use Rattle.time_laws.specs.Requests.{asked_before, request_last, are_none}
+use Rattle.time_laws.specs.Ends.{ending, is_ending_here, is_refused_here, is_silent, is_given_up}
 
 -- whether the request asks for the node's information, or for what the chip knows of it
 abbrev pub asks_information : ℕ → List Request → Bool
@@ -37,27 +38,27 @@ says_none _ = false
 
 -- whether the first request of the interview was answered
 abbrev pub is_known : ℕ → List Entry → Bool
-is_known node past = asks_protocol node (request_in (asked past).frame_before) && list_any (λ answer. true) (asked past).answer_before
+is_known node past = asks_protocol node (request_in (asked_before past).frame) && not (are_none (ending (asked_before past)))
 
 -- the interview succeeds here: the information comes, and the first request was answered
 abbrev pub succeeds : ℕ → List Entry → Bool
-succeeds node past = asks_information node (request_last past) && informs node (notices_here past) && is_known node past
+succeeds node past = asks_information node (request_last past) && informs node (notices_here past) && is_ending_here past && is_known node past
 
 -- it fails here: the second request ends without information, or the first one was not answered
 abbrev pub fails : ℕ → List Entry → Bool
 fails node past =
-    asks_information node (request_last past) && (says_none (notices_here past) || is_refused_here past || is_silent past || has_four_copies past
-    || (informs node (notices_here past) && not (is_known node past)))
+    asks_information node (request_last past) && ((says_none (notices_here past) && is_ending_here past) || is_refused_here past || is_silent past
+    || is_given_up past || (informs node (notices_here past) && is_ending_here past && not (is_known node past)))
 
 -- the nodes whose information the last request asks for
 abbrev pub node_interviewed : List Request → List ℕ
 node_interviewed (RequestNodeInfo node ∷ more) = node ∷ []
 node_interviewed _ = []
 
--- whether an interview ends here by a notice, and no entry has said so
+-- whether an interview ends here by a notice
 abbrev pub owes_end : List Entry → Bool
 owes_end past =
-    is_directly_behind past && not (asked past).told && list_any (λ node. informs node (notices_here past) || says_none (notices_here past)) (node_interviewed (request_last past))
+    is_directly_behind past && is_ending_here past && list_any (λ node. informs node (notices_here past) || says_none (notices_here past)) (node_interviewed (request_last past))
 
 -- an interview is said to succeed or fail where it does, and its end by a notice is said, where the keeper does not fail
 abbrev pub may_end : List Entry → Entry → Bool
@@ -77,7 +78,7 @@ says_listening unit = nat_le 128 (slice_index (body_in unit) 0)
 
 -- what an interview of a node that succeeds says of it
 abbrev pub listening_at : ℕ → List Entry → Entry → List Bool
-listening_at node past (Interviewed interviewed) = where_same interviewed node (list_any says_listening (asked past).answer_before)
+listening_at node past (Interviewed interviewed) = where_same interviewed node (list_any (λ one. says_listening one.unit) (ending (asked_before past)))
 listening_at node past _ = []
 
 -- whether the host takes a node to listen: by its last interview, and the first node before one

@@ -1,9 +1,9 @@
 -- Laws that judge each entry by those before it, the clock, and how long ago something was (ticks of 100 ms; this project's own
 -- rule).
-use Rattle.std.specs.Prelude.{◌≡◌, ℕ, ◌+◌, nat_lt, Bool, true, if◌then◌else◌, List, []}
+use Rattle.std.specs.Prelude.{◌≡◌, ℕ, ◌+◌, ◌-◌, nat_lt, Bool, true, if◌then◌else◌, List, []}
 use Rattle.zw_text.specs.declared.entry.Entry.{Entry}
-use Rattle.zw_text.specs.declared.entry.Entry.TheVariants.{Said}
-use Rattle.zw_text.specs.Transcript.{folded, line_of, time_of}
+use Rattle.zw_text.specs.declared.entry.Entry.TheVariants.{Said, Time}
+use Rattle.zw_text.specs.Transcript.{folded, line_of, lines_run, time_of}
 use Rattle.zw_laws.specs.Lists.{EachAfter}
 use Rattle.zw_laws.specs.Restarts.{ticks_asked}
 
@@ -31,3 +31,9 @@ later_of first second = if nat_lt first second then second else first
 -- the clock behind the last of these entries
 abbrev pub clock : List Entry → ℕ
 clock past = later_of (folded passing_step (record { before = 0; asked = 0 }) past).before (time_of past)
+
+-- the clock at the end of what stands before an entry: a line begins behind all ticks that were asked for, and a tick behind the one before
+abbrev pub now_at : List Entry → Entry → ℕ
+now_at past (Said words) = ticks_asked (lines_run past)
+now_at past (Time tick) = tick - 1
+now_at past entry = clock past

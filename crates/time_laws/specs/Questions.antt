@@ -8,7 +8,8 @@ use Rattle.zw_text.specs.declared.entry.Entry.{Entry}
 use Rattle.zw_text.specs.declared.entry.Entry.TheVariants.{Neighbours, Failed}
 use Rattle.time_laws.specs.Moments.{Keeps}
 use Rattle.time_laws.specs.Judged.{is_directly_behind, is_mark, responses_here}
-use Rattle.time_laws.specs.Requests.{asked, request_last, is_answered_here}
+use Rattle.time_laws.specs.Requests.{request_last}
+use Rattle.time_laws.specs.Ends.{is_answered_here}
 
 -- whether two truth values are the same
 abbrev pub same_bool : Bool → Bool → Bool
@@ -27,9 +28,9 @@ is_question (requests.GetRoutingInfo node bad others id ∷ more) = true
 is_question (requests.IsFailedNode node ∷ more) = true
 is_question _ = false
 
--- whether the answer to a question is judged here, and no entry has given it
+-- whether the answer to a question is judged here
 abbrev pub owes_answer : List Entry → Bool
-owes_answer past = is_directly_behind past && is_question (request_last past) && is_answered_here past && not (asked past).told
+owes_answer past = is_directly_behind past && is_question (request_last past) && is_answered_here past
 
 -- what the last request asked is answered by the first response to it, and is answered where that response is judged in time
 abbrev pub may_answer : List Entry → Entry → Bool

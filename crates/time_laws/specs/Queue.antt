@@ -1,117 +1,234 @@
--- When the queue of requests is full (this project's own rule: it holds 64). How many wait is not shown; the transcript bounds it from
--- both sides.
-use Rattle.std.specs.Prelude.{ℕ, ◌+◌, ◌-◌, ◌==◌, ◌&&◌, ◌||◌, not, bytes_eq, nat_le, nat_lt, Bool, true, false, if◌then◌else◌, List, [], ◌∷◌, length, filter}
+-- Which requests wait, and in which order they are sent (this project's own rule: 64 may wait; what nodes ask for, Security 0, Transport
+-- Service and Wake Up Command Classes).
+use Rattle.std.specs.Prelude.{ℕ, ◌+◌, ◌-◌, ◌==◌, ◌&&◌, ◌||◌, not, bytes_eq, is_some, nat_le, nat_lt, Bool, true, false, if◌then◌else◌, List, [], ◌∷◌, ◌++◌, length, filter, map, take, drop}
 use Rattle.std.specs.List.{flat_map, list_any}
-use Rattle.chip_functions.specs.declared.request.Request.{Request}
-use Rattle.chip_functions.specs.declared.request.Request.TheVariants.{SendData}
-use Rattle.encap.specs.Opening.{begins_with}
-use Rattle.host_heard.specs.Telling.{heard_at}
-use Rattle.host_heard.specs.declared.told.Told.{Told}
-use Rattle.host_heard.specs.declared.told.Told.TheVariants.{NonceGet, SegmentRequest}
-use Rattle.zw_words.specs.declared.side.Side.TheVariants.{Host}
-use Rattle.zw_text.specs.declared.line.Line.{Line}
-use Rattle.zw_text.specs.declared.line.Line.TheVariants as lines
+use Rattle.zw_words.specs.declared.side.Side.TheVariants.{Host, Chip}
 use Rattle.zw_text.specs.declared.entry.Refusal.TheVariants as refusals
 use Rattle.zw_text.specs.declared.entry.Entry.{Entry}
-use Rattle.zw_text.specs.declared.entry.Entry.TheVariants.{Refused, QueueFull, Awake}
-use Rattle.zw_text.specs.Transcript.{shown, written, line_last, lines_done}
+use Rattle.zw_text.specs.declared.entry.Entry.TheVariants.{Said, Refused, Begin, Written, QueueFull, Awake, Asleep, Unkept, Time}
+use Rattle.zw_text.specs.Transcript.{shown, joined, line_last, line_of}
 use Rattle.zw_laws.specs.Answers.{before_last}
-use Rattle.zw_laws.specs.Payloads.{no_more_information}
-use Rattle.zw_laws.specs.Restarts.{since_restart}
-use Rattle.zw_laws.specs.Units.{Carried, sending_of, request_in, bringing_in}
-use Rattle.time_laws.specs.Moments.{Keeps}
-use Rattle.time_laws.specs.Judged.{is_data, judged, may_tell}
-use Rattle.time_laws.specs.Requests.{is_abort}
-use Rattle.time_laws.specs.Errands.{is_asked_for}
+use Rattle.zw_laws.specs.Commands.{waiting}
+use Rattle.zw_laws.specs.Nodes.{known_classes}
+use Rattle.zw_laws.specs.Restarts.{begins_refused}
+use Rattle.zw_laws.specs.Units.{Carried, request_in, sending_in}
+use Rattle.time_laws.specs.Moments.{Keeps, clock, later_of, now_at}
+use Rattle.time_laws.specs.Judged.{is_acknowledgement, is_mark, brought_here}
+use Rattle.time_laws.specs.Requests.{Asked, are_none, asked, asked_after, asked_nothing, is_new, starts_anew}
+use Rattle.time_laws.specs.Ends.{has_ended, is_abort_frame, owes_abort}
+use Rattle.time_laws.specs.Sessions.{runs}
+use Rattle.time_laws.specs.Waking.{is_awake_sleeper}
+use Rattle.time_laws.specs.Holds.{held_until}
+use Rattle.time_laws.specs.Wants.{want_of, no_more, nonce_report, wants_of, wants_brought}
 
--- the places of the queue, and how many a line asks for
+-- what the requests that wait want, in order; the nodes whose No More Information found the queue full since they woke; and those of
+-- which it is to be told that a message was dropped
+pub record Queue : Type 0 where
+  pub wants : List (List ℕ)
+  pub dropped : List ℕ
+  pub owed : List ℕ
+
+abbrev pub no_queue : Queue
+no_queue = record { wants = []; dropped = []; owed = [] }
+
 abbrev pub queue_places : ℕ
 queue_places = 64
 
-abbrev pub places_of : Line → ℕ
-places_of (lines.Send node word) = 1
-places_of (lines.Get node end) = 1
-places_of (lines.Interview node) = 2
-places_of lines.Discover = 1
-places_of (lines.Neighbours node) = 1
-places_of (lines.Failed node) = 1
-places_of lines.Probe = 3
-places_of _ = 0
+abbrev pub is_full : Queue → Bool
+is_full queue = nat_le queue_places (length queue.wants)
 
-abbrev pub places : List Line → ℕ
-places [] = 0
-places (line ∷ more) = places_of line + places more
+-- ---- what is put into it
 
--- ---- what was sent of it
+-- a message that a node asked for, or No More Information, waits; where 64 do it is dropped
+abbrev pub with_asked : ℕ → Queue → List ℕ → Queue
+with_asked node queue want =
+    if is_full queue then record queue { owed = queue.owed ++ node ∷ [] } else record queue { wants = queue.wants ++ want ∷ [] }
 
--- the data frames of the host since it started, and each of them once: a copy stands behind its like
-abbrev pub frames_written : List Entry → List (List ℕ)
-frames_written past = filter is_data (written Host (since_restart past))
+abbrev pub with_no_more : Queue → ℕ → Queue
+with_no_more queue node =
+    if is_full queue then record queue { dropped = queue.dropped ++ node ∷ []; owed = queue.owed ++ node ∷ [] }
+    else record queue { wants = queue.wants ++ no_more node ∷ [] }
 
-abbrev pub without_copies : List ℕ → List (List ℕ) → List (List ℕ)
-without_copies before [] = []
-without_copies before (frame ∷ frames) = if bytes_eq frame before then without_copies before frames else frame ∷ without_copies frame frames
+-- one after another
+abbrev pub each_with : {A : Type 0} → (Queue → A → Queue) → Queue → List A → Queue
+each_with put queue [] = queue
+each_with put queue (item ∷ items) = each_with put (put queue item) items
 
--- whether a request is one that a line asked for
-abbrev pub is_of_line : (ℕ → List ℕ) → List Entry → Request → Bool
-is_of_line listing past (SendData node payload options id) = is_asked_for listing past (record { node = node; payload = payload })
-is_of_line listing past request = not (is_abort request)
+-- what a node wants by a payload that is judged here
+abbrev pub with_brought : (ℕ → List ℕ) → List Entry → Queue → Carried → Queue
+with_brought listing past queue carried =
+    each_with (with_asked carried.node) queue (wants_brought listing past carried.node carried.payload)
 
--- whether a payload tells a node that there is no more, or gives it a nonce
-abbrev pub is_answer_to_node : List ℕ → Bool
-is_answer_to_node payload = bytes_eq payload no_more_information || begins_with payload 0x98 0x80
+-- a nonce whose record is not kept is not given: the last that was asked for does not wait
+abbrev pub asks_nonce : (ℕ → List ℕ) → List Entry → ℕ → Carried → Bool
+asks_nonce listing past node carried =
+    (carried.node == node) && list_any (bytes_eq (nonce_report node)) (wants_brought listing past node carried.payload)
 
--- whether a request is surely from the queue; a segment may be of an attempt
-abbrev pub is_from_queue : (ℕ → List ℕ) → List Entry → Request → Bool
-is_from_queue listing past request =
-    is_of_line listing past request || list_any (λ carried. is_answer_to_node carried.payload) (sending_of request)
+abbrev pub without_last : Queue → Queue
+without_last queue =
+    if are_none queue.owed then record queue { wants = take (length queue.wants - 1) queue.wants } else record queue { owed = [] }
 
--- at least so many were sent of it, and at most so many
-abbrev pub sent_surely : (ℕ → List ℕ) → List Entry → ℕ
-sent_surely listing past = length (filter (is_from_queue listing past) (flat_map request_in (without_copies [] (frames_written past))))
+abbrev pub with_unkept : (ℕ → List ℕ) → List Entry → Queue → ℕ → Queue
+with_unkept listing past queue node = if list_any (asks_nonce listing past node) (brought_here past) then without_last queue else queue
 
-abbrev pub sent_perhaps : List Entry → ℕ
-sent_perhaps past = length (frames_written past)
+-- ---- No More Information
 
--- ---- what was put into it
+-- whether it waits for a node, is under way, or was dropped since the node woke
+abbrev pub is_told : Asked → ℕ → Queue → ℕ → Bool
+is_told asked now queue node =
+    list_any (bytes_eq (no_more node)) queue.wants || list_any (λ one. one == node) queue.dropped
+    || (list_any (λ request. bytes_eq (no_more node) (want_of request)) (request_in asked.frame) && not (has_ended asked now))
 
--- whether a message asks the host for a nonce or a segment
-abbrev pub asks_back : Told → Bool
-asks_back NonceGet = true
-asks_back (SegmentRequest id offset) = true
-asks_back _ = false
+-- there is nothing for a node: it counts as awake, does not listen, its classes are known, no command waits and no series runs
+abbrev pub has_nothing : (ℕ → List ℕ) → List Entry → ℕ → ℕ → Bool
+has_nothing listing past now node =
+    is_awake_sleeper node past && is_some (known_classes listing past node) && are_none (waiting node past) && not (runs node past now)
 
-abbrev pub may_ask_back : Carried → Bool
-may_ask_back carried = may_tell asks_back (heard_at carried.payload)
+-- a node to be told that there is no more for it, and since when: where it was held, since the end of that
+pub record Due : Type 0 where
+  pub node : ℕ
+  pub tick : ℕ
 
--- each time that a node woke it may be told that there is no more
+abbrev pub due_of : (ℕ → List ℕ) → List Entry → ℕ → ℕ → List Due
+due_of listing past now node =
+    let tick : ℕ = later_of (clock past) (held_until node past) in
+    if has_nothing listing past now node && nat_le tick now then record { node = node; tick = tick } ∷ [] else []
+
+-- in the order of ticks, and in a tick in that of their numbers
+abbrev pub is_earlier : Due → Due → Bool
+is_earlier first second = nat_lt first.tick second.tick || ((first.tick == second.tick) && nat_lt first.node second.node)
+
+abbrev pub put_in_order : Due → List Due → List Due
+put_in_order due [] = due ∷ []
+put_in_order due (first ∷ rest) = if is_earlier due first then due ∷ first ∷ rest else first ∷ put_in_order due rest
+
+abbrev pub in_order : List Due → List Due
+in_order [] = []
+in_order (due ∷ rest) = put_in_order due (in_order rest)
+
+-- the nodes that have counted as awake
 abbrev pub woke_at : Entry → List ℕ
 woke_at (Awake node) = node ∷ []
 woke_at _ = []
 
--- at most so many wait, and at least so many
-abbrev pub most_waiting : (ℕ → List ℕ) → List Entry → ℕ
-most_waiting listing past =
-    (places (lines_done (since_restart past)) + length (filter may_ask_back (flat_map bringing_in (judged past))) + length (shown woke_at (since_restart past)))
-    - sent_surely listing past
+abbrev pub have_woken : List Entry → List ℕ
+have_woken past = if are_none (shown woke_at past) then [] else joined past
 
-abbrev pub least_waiting : List Entry → ℕ
-least_waiting past = places (lines_done (since_restart past)) - sent_perhaps past
+-- it is put into the queue for each that is to be told
+abbrev pub with_due : (ℕ → List ℕ) → List Entry → ℕ → Asked → Queue → Queue
+with_due listing past now asked queue =
+    each_with with_no_more queue
+    (map (λ due. due.node) (in_order (filter (λ due. not (is_told asked now queue due.node)) (flat_map (due_of listing past now) (have_woken past)))))
 
--- ---- the law
+-- whether the host has looked what is next before an entry: it does behind each line and tick, and when it has judged what came
+abbrev pub has_looked : Asked → Queue → Entry → Bool
+has_looked asked queue (Said words) = true
+has_looked asked queue (Time tick) = true
+has_looked asked queue (Begin node session command) = true
+has_looked asked queue (Written Chip unit) = true
+has_looked asked queue (Written Host unit) = is_new asked unit
+has_looked asked queue (QueueFull node) = are_none queue.owed
+has_looked asked queue _ = false
 
--- a line that asks for places of the queue is refused only where they may be taken, and let in only where they may be free
-abbrev pub may_be_refused : (ℕ → List ℕ) → List Entry → List Line → Bool
-may_be_refused listing past asked = nat_lt queue_places (most_waiting listing past + places asked)
+-- the queue as it is before an entry
+abbrev pub looked : (ℕ → List ℕ) → List Entry → Asked → Queue → Entry → Queue
+looked listing past asked queue entry = if has_looked asked queue entry then with_due listing past (now_at past entry) asked queue else queue
 
-abbrev pub may_be_let_in : List Entry → List Line → Bool
-may_be_let_in past asked = (places asked == 0) || nat_le (least_waiting past + places asked) queue_places
+-- ---- what waits
 
+-- a frame of the chip is judged, or a request is sent: the one that waited longest, unless it is an abort
+abbrev pub queue_by_unit : (ℕ → List ℕ) → List Entry → Asked → Queue → List ℕ → Queue
+queue_by_unit listing past asked queue unit =
+    if is_acknowledgement unit then each_with (with_brought listing (past ++ Written Host unit ∷ [])) queue (brought_here (past ++ Written Host unit ∷ []))
+    else (if is_new asked unit && not (is_abort_frame unit) then record queue { wants = drop 1 queue.wants } else queue)
+
+-- the nodes without this one
+abbrev pub without : ℕ → List ℕ → List ℕ
+without node nodes = filter (λ one. not (one == node)) nodes
+
+-- one entry, with those behind it
+abbrev pub queue_step : (ℕ → List ℕ) → List Entry → Asked → Queue → Entry → List Entry → Queue
+queue_step listing past asked queue (Said words) rest =
+    if begins_refused rest then queue
+    else (if starts_anew (Said words) rest then no_queue else record queue { wants = queue.wants ++ flat_map (wants_of listing past) (line_of (Said words)) })
+queue_step listing past asked queue (Written Host unit) rest = queue_by_unit listing past asked queue unit
+queue_step listing past asked queue (QueueFull node) rest = record queue { owed = drop 1 queue.owed }
+queue_step listing past asked queue (Unkept node) rest = with_unkept listing past queue node
+queue_step listing past asked queue (Awake node) rest = record queue { dropped = without node queue.dropped }
+queue_step listing past asked queue (Asleep node) rest = record queue { dropped = without node queue.dropped }
+queue_step listing past asked queue entry rest = queue
+
+-- the last request of the host, and what waits
+pub record Requests : Type 0 where
+  pub last : Asked
+  pub queue : Queue
+
+abbrev pub no_requests : Requests
+no_requests = record { last = asked_nothing; queue = no_queue }
+
+abbrev pub requests_after : (ℕ → List ℕ) → List Entry → Requests → Entry → List Entry → Requests
+requests_after listing past requests entry rest = record {
+  last = asked_after past requests.last entry rest;
+  queue = queue_step listing past requests.last (looked listing past requests.last requests.queue entry) entry rest;
+}
+
+abbrev pub requests_from : (ℕ → List ℕ) → List Entry → Requests → List Entry → Requests
+requests_from listing past requests [] = requests
+requests_from listing past requests (entry ∷ rest) = requests_from listing (past ++ entry ∷ []) (requests_after listing past requests entry rest) rest
+
+abbrev pub requests : (ℕ → List ℕ) → List Entry → Requests
+requests listing past = requests_from listing [] no_requests past
+
+-- what waits before an entry
+abbrev pub waits_before : (ℕ → List ℕ) → List Entry → Requests → Entry → Queue
+waits_before listing past requests entry = looked listing past requests.last requests.queue entry
+
+abbrev pub queue_before : (ℕ → List ℕ) → List Entry → Entry → Queue
+queue_before listing past entry = waits_before listing past (requests listing past) entry
+
+-- ---- the laws
+
+-- how many places the last line asks for
+abbrev pub places : (ℕ → List ℕ) → List Entry → ℕ
+places listing past = length (flat_map (wants_of listing (before_last past)) (line_last past))
+
+abbrev pub waits_before_line : (ℕ → List ℕ) → List Entry → ℕ
+waits_before_line listing past = length (queue_before listing (before_last past) (Said [])).wants
+
+-- the next that is to be told of a dropped message, if any, is of this node
+abbrev pub is_first : ℕ → List ℕ → Bool
+is_first node [] = false
+is_first node (first ∷ rest) = first == node
+
+-- a line is refused for the queue exactly where it asks for more places than are free, and a message is dropped exactly where 64 wait
 abbrev pub may_queue : (ℕ → List ℕ) → List Entry → Entry → Bool
-may_queue listing past (Refused (refusals.QueueFull waiting)) = (waiting == queue_places) && may_be_refused listing (before_last past) (line_last past)
+may_queue listing past (Refused (refusals.QueueFull waiting)) =
+    (waiting == queue_places) && nat_lt queue_places (waits_before_line listing past + places listing past)
 may_queue listing past (Refused refusal) = true
-may_queue listing past (QueueFull node) = nat_le queue_places (most_waiting listing past)
-may_queue listing past entry = may_be_let_in (before_last past) (line_last past)
+may_queue listing past (QueueFull node) = is_first node (queue_before listing past (QueueFull node)).owed
+may_queue listing past (Unkept node) = true
+may_queue listing past entry =
+    is_mark entry
+    || (are_none (queue_before listing past entry).owed
+    && ((places listing past == 0) || nat_le (waits_before_line listing past + places listing past) queue_places))
 
 abbrev pub FitsQueue : (ℕ → List ℕ) → List Entry → Type 0
 FitsQueue listing transcript = Keeps (may_queue listing) transcript
+
+-- a request that is no abort is the one that waited longest; where none waits it is of the session of a node whose series runs
+abbrev pub is_next : List Entry → List ℕ → List (List ℕ) → Bool
+is_next past unit [] = list_any (λ carried. runs carried.node past (clock past)) (sending_in unit)
+is_next past unit (want ∷ wants) = list_any (λ request. bytes_eq want (want_of request)) (request_in unit)
+
+-- an abort goes before all others, where one is owed
+abbrev pub is_in_turn : (ℕ → List ℕ) → List Entry → List ℕ → Bool
+is_in_turn listing past unit =
+    if owes_abort (asked past) (clock past) then is_abort_frame unit
+    else not (is_abort_frame unit) && is_next past unit (queue_before listing past (Written Host unit)).wants
+
+abbrev pub may_send : (ℕ → List ℕ) → List Entry → Entry → Bool
+may_send listing past (Written Host unit) = not (is_new (asked past) unit) || is_in_turn listing past unit
+may_send listing past entry = true
+
+abbrev pub SendsInTurn : (ℕ → List ℕ) → List Entry → Type 0
+SendsInTurn listing transcript = Keeps (may_send listing) transcript

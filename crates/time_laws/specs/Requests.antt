@@ -1,206 +1,170 @@
--- The request of the host that is under way, and how it ends (Serial API: a request, its response and its callback; the waits
--- of 15 and 65 ticks and the four copies are this project's own rule).
-use Rattle.std.specs.Prelude.{ℕ, ◌+◌, ◌==◌, ◌&&◌, ◌||◌, not, bytes_eq, nat_le, Bool, true, false, if◌then◌else◌, List, [], ◌∷◌, ◌++◌, slice_index}
-use Rattle.std.specs.List.{list_any}
+-- The last request of the host and its copies: when the chip took it, when the line gives it up, and what was judged since (Serial API: a
+-- request, its acknowledgement and its response; the four copies and their waits are this project's own rule).
+use Rattle.std.specs.Prelude.{ℕ, ◌+◌, ◌==◌, ◌&&◌, not, bytes_eq, nat_lt, Bool, true, false, if◌then◌else◌, List, [], ◌∷◌, ◌++◌, map, filter, take, length}
 use Rattle.chip_functions.specs.declared.request.Request.{Request}
-use Rattle.chip_functions.specs.declared.request.Request.TheVariants.{SendData, SendDataAbort, RequestNodeInfo}
-use Rattle.chip_functions.specs.declared.notice.Notice.{Notice}
-use Rattle.chip_functions.specs.declared.notice.Notice.TheVariants.{SendData as CalledBack, ApplicationUpdate}
-use Rattle.chip_functions.specs.declared.notice.Update.TheVariants.{Received, RequestFailed}
-use Rattle.chip_functions.specs.Notice.{status_code}
 use Rattle.zw_words.specs.declared.side.Side.TheVariants.{Host, Chip}
-use Rattle.zw_text.specs.declared.entry.Done.{Done as HowDone}
-use Rattle.zw_text.specs.declared.entry.Done.TheVariants as done
 use Rattle.zw_text.specs.declared.entry.Entry.{Entry}
-use Rattle.zw_text.specs.declared.entry.Entry.TheVariants.{Said, Written, Done, Neighbours, Failed, Interviewed, InterviewFailed, Asleep, Unkept}
-use Rattle.zw_text.specs.Transcript.{line_of}
+use Rattle.zw_text.specs.declared.entry.Entry.TheVariants.{Said, Written, Dropped, Overrun}
+use Rattle.zw_text.specs.Transcript.{line_of, written}
+use Rattle.zw_laws.specs.Lists.{shown_after}
 use Rattle.zw_laws.specs.Restarts.{is_restart, begins_refused}
-use Rattle.zw_laws.specs.Units.{is_frame, function_in, body_in, request_in, notice_in}
+use Rattle.zw_laws.specs.Units.{is_frame, function_in, request_in}
 use Rattle.time_laws.specs.Moments.{clock}
-use Rattle.time_laws.specs.Judged.{is_data, is_acknowledgement, acknowledgements_come, last_of, acknowledged, judged, is_behind, notices_here}
-
--- the last data frame of the host since it started: how often it was written, when first, and how many acknowledgements of the chip
--- had come then; the first response to it, when that was judged, and how many frames were judged then; whether a frame has ended
--- it, and whether an entry has said how it ended; and the frame before it with its response
-pub record Asked : Type 0 where
-  pub frame : List ℕ
-  pub copies : ℕ
-  pub written : ℕ
-  pub acknowledgements : ℕ
-  pub answer : List (List ℕ)
-  pub answered : ℕ
-  pub place : ℕ
-  pub ended : Bool
-  pub told : Bool
-  pub frame_before : List ℕ
-  pub answer_before : List (List ℕ)
-
-abbrev pub asked_nothing : Asked
-asked_nothing = record {
-  frame = [];
-  copies = 0;
-  written = 0;
-  acknowledgements = 0;
-  answer = [];
-  answered = 0;
-  place = 0;
-  ended = true;
-  told = false;
-  frame_before = [];
-  answer_before = [];
-}
-
--- whether a frame of the chip is a response to a frame of the host
-abbrev pub is_response_to : List ℕ → List ℕ → Bool
-is_response_to frame unit = is_frame unit 1 && (function_in unit == function_in frame)
-
--- whether a response refuses
-abbrev pub refuses : List ℕ → Bool
-refuses unit = slice_index (body_in unit) 0 == 0
-
--- whether a notice is the callback with that id, or the end of a question for a node's information
-abbrev pub is_callback : ℕ → Notice → Bool
-is_callback id (CalledBack callback status) = callback == id
-is_callback id _ = false
-
-abbrev pub is_information : ℕ → Notice → Bool
-is_information node (ApplicationUpdate (Received from basic generic specific classes)) = from == node
-is_information node (ApplicationUpdate RequestFailed) = true
-is_information node _ = false
-
--- whether a judged frame ends a request: its callback, its node's information, a refusal, or the response of a function that has
--- nothing else; a response counts where it is the first
-abbrev pub ends_by : Bool → Request → List ℕ → Bool
-ends_by is_first (SendData node payload options id) unit = list_any (is_callback id) (notice_in unit) || (is_first && refuses unit)
-ends_by is_first (RequestNodeInfo node) unit = list_any (is_information node) (notice_in unit) || (is_first && refuses unit)
-ends_by is_first request unit = is_first
+use Rattle.time_laws.specs.Judged.{is_data, is_acknowledgement, last_of, acknowledged, frames_come, judged}
 
 -- whether nothing is among these
 abbrev pub are_none : {A : Type 0} → List A → Bool
 are_none [] = true
 are_none (item ∷ items) = false
 
--- a frame of the chip is judged at this time and place: it is the first response, or none
-abbrev pub with_answer : ℕ → ℕ → Asked → List ℕ → Bool → Asked
-with_answer now place asked unit true = record asked { answer = unit ∷ []; answered = now; place = place }
-with_answer now place asked unit false = asked
-
--- it ends the request, or does not
-abbrev pub with_end : Asked → Bool → Asked
-with_end asked ends = record asked { ended = asked.ended || ends }
-
-abbrev pub judges : ℕ → ℕ → Asked → Bool → List ℕ → Asked
-judges now place asked is_first unit =
-    with_end (with_answer now place asked unit is_first) (list_any (λ request. ends_by is_first request unit) (request_in asked.frame))
-
-abbrev pub judged_by : ℕ → ℕ → Asked → List (List ℕ) → Asked
-judged_by now place asked [] = asked
-judged_by now place asked (unit ∷ more) = judges now place asked (is_response_to asked.frame unit && are_none asked.answer) unit
-
--- a SendDataAbort has no answer
-abbrev pub is_abort : Request → Bool
-is_abort SendDataAbort = true
-is_abort _ = false
-
--- a frame is written anew, or is a copy of the last one
-abbrev pub asked_again : List Entry → Asked → List ℕ → Asked
-asked_again past asked unit =
-    if bytes_eq unit asked.frame then record asked { copies = asked.copies + 1 }
-    else record {
-      frame = unit;
-      copies = 1;
-      written = clock past;
-      acknowledgements = acknowledgements_come Chip past;
-      answer = [];
-      answered = 0;
-      place = 0;
-      ended = list_any is_abort (request_in unit);
-      told = false;
-      frame_before = asked.frame;
-      answer_before = asked.answer;
-    }
-
--- a unit of the host, after this past
-abbrev pub asked_by_unit : List Entry → Asked → List ℕ → Asked
-asked_by_unit past asked unit =
-    if is_acknowledgement unit then judged_by (clock past) (acknowledged past + 1) asked (last_of (judged (past ++ Written Host unit ∷ [])))
-    else (if is_data unit then asked_again past asked unit else asked)
-
 -- whether a line starts the host anew
 abbrev pub starts_anew : Entry → List Entry → Bool
 starts_anew entry rest = is_restart (line_of entry) && not (begins_refused rest)
 
--- the last frame of the host that runs, after these entries and the rest
+-- ---- its copies
+
+-- a frame of the host: what stands before its first copy, and what stands behind that
+pub record Asked : Type 0 where
+  pub frame : List ℕ
+  pub before : List Entry
+  pub behind : List Entry
+
+abbrev pub asked_nothing : Asked
+asked_nothing = record { frame = []; before = []; behind = [] }
+
+-- what stands up to its first copy
+abbrev pub up_to_first : Asked → List Entry
+up_to_first asked = asked.before ++ Written Host asked.frame ∷ []
+
+-- how many copies were written
+abbrev pub copies : Asked → ℕ
+copies asked = 1 + length (filter (bytes_eq asked.frame) (written Host asked.behind))
+
+-- what stands up to its last copy, and behind that
+pub record Since : Type 0 where
+  pub past : List Entry
+  pub behind : List Entry
+
+abbrev pub since_last : List ℕ → Since → List Entry → List Entry → Since
+since_last frame found past [] = found
+since_last frame found past (entry ∷ rest) = since_last frame (found_at entry) (past ++ entry ∷ []) rest
+  where
+    found_at : Entry → Since
+    found_at (Written Host unit) = if bytes_eq unit frame then record { past = past ++ Written Host unit ∷ []; behind = rest } else found
+    found_at _ = found
+
+abbrev pub last_copy : Asked → Since
+last_copy asked = since_last asked.frame (record { past = up_to_first asked; behind = asked.behind }) (up_to_first asked) asked.behind
+
+-- ---- whether the chip took it
+
+-- an answer of the chip to a frame, a unit of one byte: when it came, and how many frames of the chip had come before it
+pub record Answer : Type 0 where
+  pub unit : List ℕ
+  pub tick : ℕ
+  pub frames : ℕ
+
+-- whether the last unit of the chip was lost
+abbrev pub is_missed : List Entry → Bool
+is_missed (Dropped Chip ∷ rest) = true
+is_missed (Overrun Chip ∷ rest) = true
+is_missed _ = false
+
+-- the answers that came behind this past
+abbrev pub answers_from : List Entry → List Entry → List Answer
+answers_from past [] = []
+answers_from past (entry ∷ rest) = answer_at entry ++ answers_from (past ++ entry ∷ []) rest
+  where
+    answer_at : Entry → List Answer
+    answer_at (Written Chip unit) =
+        if (length unit == 1) && not (is_missed rest) then record { unit = unit; tick = clock past; frames = length (frames_come past) } ∷ [] else []
+    answer_at _ = []
+
+-- the answers behind the last copy; of the fourth one only the first counts, and in the 15 ticks behind it
+abbrev pub answers : Asked → List Answer
+answers asked =
+    let since : Since = last_copy asked in
+    let all : List Answer = answers_from since.past since.behind in
+    if copies asked == 4 then take 1 (filter (λ answer. nat_lt answer.tick (clock since.past + 15)) all) else all
+
+-- when the chip acknowledged it
+abbrev pub sent_at : Asked → List ℕ
+sent_at asked = take 1 (map (λ answer. answer.tick) (filter (λ answer. is_acknowledgement answer.unit) (answers asked)))
+
+-- the line gives it up: when, and whether at an answer, before which so many frames of the chip had come
+pub record Failing : Type 0 where
+  pub tick : ℕ
+  pub at_answer : Bool
+  pub frames : ℕ
+
+abbrev pub failing_by : List Answer → ℕ → Failing
+failing_by [] last = record { tick = last + 15; at_answer = false; frames = 0 }
+failing_by (answer ∷ more) last = record { tick = answer.tick; at_answer = true; frames = answer.frames }
+
+-- where the fourth copy ends without an acknowledgement: at another answer, or 15 ticks later
+abbrev pub failing : Asked → List Failing
+failing asked =
+    if (copies asked == 4) && are_none (sent_at asked) then failing_by (answers asked) (clock (last_copy asked).past) ∷ [] else []
+
+-- ---- the last request
+
+-- a frame is a copy of the one before where it is the same, and that was neither acknowledged nor written four times
+abbrev pub is_copy : Asked → List ℕ → Bool
+is_copy asked unit = bytes_eq unit asked.frame && are_none (sent_at asked) && nat_lt (copies asked) 4
+
+-- a unit is a new request
+abbrev pub is_new : Asked → List ℕ → Bool
+is_new asked unit = is_data unit && not (is_copy asked unit)
+
+-- one entry more, with those before and behind it
+abbrev pub asked_after : List Entry → Asked → Entry → List Entry → Asked
+asked_after past asked entry rest = asked_step entry
+  where
+    with_entry : Asked
+    with_entry = record asked { behind = asked.behind ++ entry ∷ [] }
+
+    asked_step : Entry → Asked
+    asked_step (Written Host unit) = if is_new asked unit then record { frame = unit; before = past; behind = [] } else with_entry
+    asked_step (Said words) = if starts_anew (Said words) rest then asked_nothing else with_entry
+    asked_step _ = with_entry
+
 abbrev pub asked_from : List Entry → Asked → List Entry → Asked
 asked_from past asked [] = asked
-asked_from past asked (entry ∷ rest) = asked_from (past ++ entry ∷ []) (asked_step entry) rest
-  where
-    asked_step : Entry → Asked
-    asked_step (Written Host unit) = asked_by_unit past asked unit
-    asked_step (Said words) = if starts_anew (Said words) rest then asked_nothing else asked
-    asked_step (Done node how) = record asked { told = true }
-    asked_step (Neighbours node nodes) = record asked { told = true }
-    asked_step (Failed node failed) = record asked { told = true }
-    asked_step (Interviewed node) = record asked { told = true }
-    asked_step (InterviewFailed node) = record asked { told = true }
-    asked_step (Asleep node) = record asked { told = true }
-    asked_step (Unkept node) = record asked { told = true }
-    asked_step _ = asked
+asked_from past asked (entry ∷ rest) = asked_from (past ++ entry ∷ []) (asked_after past asked entry rest) rest
 
 abbrev pub asked : List Entry → Asked
 asked past = asked_from [] asked_nothing past
+
+-- the one before it
+abbrev pub asked_before : List Entry → Asked
+asked_before past = asked (asked past).before
 
 -- the request that it is
 abbrev pub request_last : List Entry → List Request
 request_last past = request_in (asked past).frame
 
--- ---- how it ends
+-- ---- what was judged since
 
--- the callback with the request's id and this status
-abbrev pub calls_back : ℕ → List Request → List Notice → Bool
-calls_back status (SendData node payload options id ∷ more) (CalledBack callback result ∷ others) = (callback == id) && (status_code result == status)
-calls_back status _ _ = false
+-- a frame of the chip that the host judged: when, and how many it had judged then
+pub record Judging : Type 0 where
+  pub unit : List ℕ
+  pub tick : ℕ
+  pub place : ℕ
 
-abbrev pub is_called_back : ℕ → List Entry → Bool
-is_called_back status past = calls_back status (request_last past) (notices_here past)
+abbrev pub judging_at : List Entry → Entry → List Judging
+judging_at past (Written Host unit) =
+    if is_acknowledgement unit
+    then map (λ frame. record { unit = frame; tick = clock past; place = acknowledged past + 1 }) (last_of (judged (past ++ Written Host unit ∷ [])))
+    else []
+judging_at past _ = []
 
--- the first response to it is judged here, and may refuse it
-abbrev pub is_answered_here : List Entry → Bool
-is_answered_here past = is_behind past && ((asked past).place == acknowledged past)
+abbrev pub judged_since : Asked → List Judging
+judged_since asked = shown_after judging_at (up_to_first asked) asked.behind
 
-abbrev pub is_refused_here : List Entry → Bool
-is_refused_here past = is_answered_here past && list_any refuses (asked past).answer
+-- whether a frame of the chip is a response to a frame of the host
+abbrev pub is_response_to : List ℕ → List ℕ → Bool
+is_response_to frame unit = is_frame unit 1 && (function_in unit == function_in frame)
 
--- no response for 15 ticks, or no callback in the 65 ticks after the response
-abbrev pub silent_since : List (List ℕ) → Asked → ℕ → Bool
-silent_since [] asked now = nat_le (asked.written + 15) now
-silent_since (answer ∷ more) asked now = asked.answered + 65 == now
-
-abbrev pub is_silent : List Entry → Bool
-is_silent past = silent_since (asked past).answer (asked past) (clock past)
-
--- all four copies were written
-abbrev pub has_four_copies : List Entry → Bool
-has_four_copies past = (asked past).copies == 4
-
--- it ends here in this way
-abbrev pub ends_here : List Entry → HowDone → Bool
-ends_here past done.Delivered = is_called_back 0 past
-ends_here past done.NoAck = is_called_back 1 past
-ends_here past done.Fail = is_called_back 2 past
-ends_here past done.NotIdle = is_called_back 3 past
-ends_here past done.NoRoute = is_called_back 4 past
-ends_here past done.Refused = is_refused_here past
-ends_here past done.Silent = is_silent past
-ends_here past done.LinkFailed = has_four_copies past
-
--- a callback other than OK ends it here, or some frame of the chip does
-abbrev pub is_called_back_badly : List Entry → Bool
-is_called_back_badly past = is_called_back 1 past || is_called_back 2 past || is_called_back 3 past || is_called_back 4 past
-
-abbrev pub is_ended_by_frame : List Entry → Bool
-is_ended_by_frame past = is_called_back 0 past || is_called_back_badly past || is_refused_here past
-
--- it ends here in some way
-abbrev pub is_ended_here : List Entry → Bool
-is_ended_here past = is_ended_by_frame past || is_silent past || has_four_copies past
+-- the responses to it that were judged
+abbrev pub responses : Asked → List Judging
+responses asked = filter (λ one. is_response_to asked.frame one.unit) (judged_since asked)

@@ -1,7 +1,7 @@
 -- Stretches that begin in a calm moment, and that each command in one is answered in time (this project's own rule; ticks are of
 -- 100 ms).
 use Rattle.std.specs.Prelude.{◌≡◌, ℕ, ◌+◌, ◌*◌, ◌==◌, ◌&&◌, ◌||◌, not, bytes_eq, nat_le, Bool, true, false, if◌then◌else◌, List, [], ◌∷◌, ◌++◌, length, filter, Option, Some, None}
-use Rattle.std.specs.List.{flat_map, list_any, list_all}
+use Rattle.std.specs.List.{flat_map, list_any, list_all, AllByRecursion}
 use Rattle.device_stack.specs.Kind.{listens as kind_listens}
 use Rattle.device_stack.specs.State.{State}
 use Rattle.zw_text.specs.declared.line.Line.{Line}
@@ -9,53 +9,18 @@ use Rattle.zw_text.specs.declared.line.Line.TheVariants as lines
 use Rattle.zw_text.specs.declared.entry.Outcome.{Outcome}
 use Rattle.zw_text.specs.declared.entry.Outcome.TheVariants.{Cancelled}
 use Rattle.zw_text.specs.declared.entry.Entry.{Entry}
-use Rattle.zw_text.specs.declared.entry.Entry.TheVariants.{Accepted, Forget}
-use Rattle.zw_text.specs.Transcript.{outcome, joined, shown, lines_run, lines_done}
+use Rattle.zw_text.specs.declared.entry.Entry.TheVariants.{Accepted}
+use Rattle.zw_text.specs.Transcript.{outcome, joined, shown, lines_run}
 use Rattle.zw_laws.specs.Commands.{waiting, classes_for}
-use Rattle.zw_laws.specs.Nodes.{controller, device_of, listing_of, is_joined, known_classes, first_node}
+use Rattle.zw_laws.specs.Nodes.{device_of, listing_of, is_joined, known_classes}
 use Rattle.zw_laws.specs.Restarts.{ticks_asked}
+use Rattle.wire_laws.specs.Reach.{CanBeReached}
 use Rattle.time_laws.specs.Requests.{are_none}
 use Rattle.time_laws.specs.Interviews.{listens}
 use Rattle.time_laws.specs.Questions.{same_bool}
-use Rattle.time_laws.specs.Unanswered.{is_final}
+use Rattle.time_laws.specs.Sessions.{is_final}
+use Rattle.time_laws.specs.Verdicts.{is_answered}
 use Rattle.time_laws.specs.Calm.{IsCalm}
-
--- ---- a node in direct reach
-
--- whether a link between the controller and a node is live in the air, and stands in the chip's table
-pub record Reach : Type 0 where
-  pub live : Bool
-  pub known : Bool
-
--- whether these are the two ends of that link
-abbrev pub are_ends : ℕ → ℕ → ℕ → Bool
-are_ends node first second = ((first == controller) && (second == node)) || ((first == node) && (second == controller))
-
--- a line makes or breaks the link, or tells the chip of it
-abbrev pub reach_by : ℕ → Reach → Line → Reach
-reach_by node reach (lines.Link first second) = if are_ends node first second then record reach { live = true } else reach
-reach_by node reach (lines.Unlink first second) = if are_ends node first second then record reach { live = false } else reach
-reach_by node reach (lines.Join joined) = if joined == node then record reach { known = reach.live } else reach
-reach_by node reach lines.Discover = record reach { known = reach.live }
-reach_by node reach _ = reach
-
-abbrev pub reach_after : ℕ → Reach → List Line → Reach
-reach_after node reach [] = reach
-reach_after node reach (line ∷ more) = reach_after node (reach_by node reach line) more
-
--- whether the chip has forgotten the link
-abbrev pub forgotten_at : ℕ → Entry → List ℕ
-forgotten_at node (Forget first second) = if are_ends node first second then node ∷ [] else []
-forgotten_at node _ = []
-
-abbrev pub is_live_and_known : Reach → Bool
-is_live_and_known reach = reach.live && reach.known
-
--- the controller and the node hear each other, the chip knows it, and has never forgotten it
-abbrev pub is_in_reach : ℕ → List Entry → Bool
-is_in_reach node past =
-    is_live_and_known (reach_after node (record { live = node == first_node; known = node == first_node }) (lines_done past))
-    && are_none (shown (forgotten_at node) past)
 
 -- ---- ready nodes
 
@@ -90,11 +55,11 @@ accepted_for node _ = []
 abbrev pub open_commands : ℕ → List Entry → List ℕ
 open_commands node past = filter (is_open past) (shown (accepted_for node) past)
 
--- a node is ready: it is joined and in reach, its device is there with the key, and the host knows it as it is, and did when it
--- accepted the commands that are open
-abbrev pub is_ready : List ℕ → List State → List Entry → ℕ → Bool
-is_ready key devices past node =
-    is_joined past node && is_in_reach node past && has_key key (device_of node devices) && knows_device devices node past (device_of node devices)
+-- a node is known: it is joined, its device is there with the key, and the host knows it as it is, and did when it accepted the commands that
+-- are open
+abbrev pub knows_node : List ℕ → List State → List Entry → ℕ → Bool
+knows_node key devices past node =
+    is_joined past node && has_key key (device_of node devices) && knows_device devices node past (device_of node devices)
     && are_listed devices node (known_classes (listing_of devices) past node)
     && list_all (λ number. are_listed devices node (Some (classes_for (listing_of devices) past node number))) (open_commands node past)
 
@@ -154,12 +119,16 @@ abbrev pub woken_by : Line → List ℕ
 woken_by (lines.Wake node) = node ∷ []
 woken_by _ = []
 
--- the entries are a stretch for the nodes at work: quiet lines alone, each such node is ready, at most 16 of them, and woken as it
--- must be
-abbrev pub is_stretch : List ℕ → List State → List Entry → List Entry → Bool
-is_stretch key devices before stretch =
-    list_all is_quiet_line (lines_run stretch) && nat_le (length (workers before stretch)) 16 && list_all (is_ready key devices before) (workers before stretch)
+-- quiet lines alone, at most 16 nodes at work, each known, and woken as it must be
+abbrev pub is_quiet : List ℕ → List State → List Entry → List Entry → Bool
+is_quiet key devices before stretch =
+    list_all is_quiet_line (lines_run stretch) && nat_le (length (workers before stretch)) 16 && list_all (knows_node key devices before) (workers before stretch)
     && list_all (is_woken_so before stretch) (joined before ++ flat_map woken_by (lines_run stretch))
+
+-- the entries are a stretch: so, and each node at work is ready, since it can be reached besides
+pub record IsStretch (key : List ℕ) (devices : List State) (before stretch : List Entry) : Type 0 where
+  pub quiet : is_quiet key devices before stretch ≡ true
+  pub reached : AllByRecursion (CanBeReached devices before) (workers before stretch)
 
 -- ---- in time
 
@@ -186,10 +155,10 @@ waited stretch = waited_by 0 (lines_run stretch)
 abbrev pub is_time : List Entry → List Entry → Bool
 is_time before stretch = nat_le (500 * work_of before stretch (workers before stretch)) (waited stretch)
 
--- each command of the nodes at work has a final outcome
-abbrev pub answers_all : List Entry → List Entry → Bool
-answers_all before stretch =
-    list_all (λ node. list_all (λ number. is_final (outcome number (before ++ stretch))) (commands_in before stretch node)) (workers before stretch)
+-- each command of the nodes at work has the final outcome that its device's kind says
+abbrev pub answers_all : List State → List Entry → List Entry → Bool
+answers_all devices before stretch =
+    list_all (λ node. list_all (is_answered devices before stretch node) (commands_in before stretch node)) (workers before stretch)
 
 -- a stretch with one node at work, of any kind
 abbrev pub is_alone : List Entry → List Entry → Bool
@@ -205,7 +174,7 @@ are_plain_listeners devices before stretch = list_all (is_plain_listener devices
 
 -- what is asked of a stretch that begins behind a transcript, with the devices as they are then
 pub record AnswersInTime (key : List ℕ) (devices : List State) (before stretch : List Entry) : Type 0 where
-  pub alone : IsCalm (listing_of devices) devices before (ticks_asked (lines_run before)) → is_stretch key devices before stretch ≡ true
-      → is_alone before stretch ≡ true → is_time before stretch ≡ true → answers_all before stretch ≡ true
-  pub together : IsCalm (listing_of devices) devices before (ticks_asked (lines_run before)) → is_stretch key devices before stretch ≡ true
-      → are_plain_listeners devices before stretch ≡ true → is_time before stretch ≡ true → answers_all before stretch ≡ true
+  pub alone : IsCalm (listing_of devices) devices before (ticks_asked (lines_run before)) → IsStretch key devices before stretch
+      → is_alone before stretch ≡ true → is_time before stretch ≡ true → answers_all devices before stretch ≡ true
+  pub together : IsCalm (listing_of devices) devices before (ticks_asked (lines_run before)) → IsStretch key devices before stretch
+      → are_plain_listeners devices before stretch ≡ true → is_time before stretch ≡ true → answers_all devices before stretch ≡ true

@@ -1,175 +1,157 @@
 -- When a command counts as unanswered (Supervision Command Class; that a series has three attempts of 100 ticks is this project's own
 -- rule).
-use Rattle.std.specs.Prelude.{ℕ, ◌+◌, ◌-◌, ◌*◌, ◌/◌, ◌%◌, ◌==◌, ◌&&◌, ◌||◌, not, bytes_eq, nat_le, Bool, true, false, if◌then◌else◌, List, [], ◌∷◌, ◌++◌, length, filter}
+use Rattle.std.specs.Prelude.{◌≡◌, ℕ, ◌+◌, ◌%◌, ◌==◌, ◌&&◌, ◌||◌, not, bytes_eq, nat_le, nat_lt, Bool, true, false, if◌then◌else◌, List, [], ◌∷◌, ◌++◌, length, slice_index}
 use Rattle.std.specs.List.{flat_map, list_any}
+use Rattle.chip_functions.specs.declared.notice.Notice.{Notice}
+use Rattle.chip_functions.specs.declared.notice.Notice.TheVariants.{SendData as CalledBack}
+use Rattle.chip_functions.specs.Notice.{status_code}
 use Rattle.class_info.specs.declared.report_status.ReportStatus.TheVariants.{Working}
+use Rattle.encap.specs.Opening.{begins_with}
+use Rattle.host_heard.specs.Telling.{heard_at}
+use Rattle.host_heard.specs.declared.payload.Heard.{Heard}
+use Rattle.host_heard.specs.declared.payload.Heard.TheVariants.{Messages}
 use Rattle.host_heard.specs.declared.told.Told.{Told}
 use Rattle.host_heard.specs.declared.told.Told.TheVariants.{Report as Reports}
 use Rattle.host_orders.specs.declared.carriage.Form.{Form}
-use Rattle.host_orders.specs.declared.carriage.Form.TheVariants.{Plain, Cut, Sealed}
-use Rattle.transport_segments.specs.Segment.{segment_text}
-use Rattle.transport_segments.specs.Parts.{slice_at}
+use Rattle.host_orders.specs.declared.carriage.Form.TheVariants.{Cut}
 use Rattle.zw_words.specs.declared.side.Side.TheVariants.{Host}
 use Rattle.zw_text.specs.declared.entry.Ended.TheVariants.{Unanswered}
 use Rattle.zw_text.specs.declared.entry.Entry.{Entry}
-use Rattle.zw_text.specs.declared.entry.Entry.TheVariants.{Said, Written, Begin, Out}
-use Rattle.zw_text.specs.declared.entry.Outcome.{Outcome}
-use Rattle.zw_text.specs.declared.entry.Outcome.TheVariants as outcomes
-use Rattle.zw_text.specs.Transcript.{accepted, sessions, outcome, shown}
-use Rattle.zw_laws.specs.Commands.{order_of, classes_for, message_for}
-use Rattle.zw_laws.specs.Lists.{shown_after}
-use Rattle.zw_laws.specs.Payloads.{nonce_get, form_by}
+use Rattle.zw_text.specs.declared.entry.Entry.TheVariants.{Said, Written, Begin, Out, Time}
+use Rattle.zw_text.specs.Transcript.{joined, lines_run, sessions, shown}
+use Rattle.zw_laws.specs.Restarts.{ticks_asked}
 use Rattle.zw_laws.specs.Stores.{node_at}
-use Rattle.zw_laws.specs.Units.{Carried, sending_in}
-use Rattle.time_laws.specs.Moments.{Keeps, clock}
-use Rattle.time_laws.specs.Judged.{is_data, is_acknowledgement, is_directly_behind, is_mark, last_of, may_be_told}
-use Rattle.time_laws.specs.Requests.{asked, are_none, starts_anew, is_called_back, is_called_back_badly, is_refused_here, is_silent, has_four_copies}
+use Rattle.zw_laws.specs.Units.{is_frame, notice_in, sending_in}
+use Rattle.time_laws.specs.Moments.{Keeps, clock, now_at}
+use Rattle.time_laws.specs.Judged.{is_acknowledgement, is_directly_behind, is_mark, payloads_here}
+use Rattle.time_laws.specs.Requests.{Asked, asked, are_none, is_new, starts_anew}
+use Rattle.time_laws.specs.Ends.{ending, giving_up, is_called_back, silence}
+use Rattle.time_laws.specs.Sessions.{Session, is_open, last_command, last_place, segment_at, session_of}
+use Rattle.time_laws.specs.Queue.{Requests, no_requests, requests_after, waits_before}
 
--- the last session of a node: its number, its message, and how that is carried
-pub record Session : Type 0 where
-  pub node : ℕ
-  pub number : ℕ
-  pub message : List ℕ
-  pub form : Form
+-- ---- attempts
 
-abbrev pub session_of : (ℕ → List ℕ) → List Entry → ℕ → ℕ → Session
-session_of listing past node command = record {
-  node = node;
-  number = length (sessions node past);
-  message = message_for listing past node (length (sessions node past)) command;
-  form = form_by (classes_for listing past node command) (order_of command (accepted node past));
-}
-
--- the segment of its message at a place, and the place of the last one
-abbrev pub segment_at : Session → ℕ → List ℕ
-segment_at session place = segment_text (session.number % 16) (length session.message) (39 * place) (slice_at session.message place)
-
-abbrev pub last_place : Session → ℕ
-last_place session = (length session.message - 1) / 39
-
--- ---- three attempts
-
--- the payload that an attempt begins with: the message, its first segment, or a Nonce Get
-abbrev pub first_payload : Session → Form → List ℕ
-first_payload session Plain = session.message
-first_payload session Cut = segment_at session 0
-first_payload session Sealed = nonce_get
-
-abbrev pub begins_attempt : Session → Carried → Bool
-begins_attempt session carried = (carried.node == session.node) && bytes_eq carried.payload (first_payload session session.form)
-
--- the attempts that have begun in a series, and the last data frame of the host
-pub record Series : Type 0 where
-  pub begun : ℕ
-  pub frame : List ℕ
-
--- a frame that is no copy may begin an attempt
-abbrev pub series_with : Session → Series → List ℕ → Series
-series_with session series unit =
-    if bytes_eq unit series.frame || not (is_data unit) then series
-    else record { begun = series.begun + (if list_any (begins_attempt session) (sending_in unit) then 1 else 0); frame = unit }
-
--- a series begins anew with the session, behind an outcome, and where the host starts
-abbrev pub series_from : Session → ℕ → Series → List Entry → Series
-series_from session command series [] = series
-series_from session command series (entry ∷ rest) = series_from session command (series_step entry) rest
-  where
-    series_step : Entry → Series
-    series_step (Written Host unit) = series_with session series unit
-    series_step (Begin node number begun) = if begun == command then record series { begun = 0 } else series
-    series_step (Out number Unanswered) = if number == command then record series { begun = 0 } else series
-    series_step (Said words) = if starts_anew (Said words) rest then record { begun = 0; frame = [] } else series
-    series_step _ = series
-
-abbrev pub attempts : Session → ℕ → List Entry → ℕ
-attempts session command past = (series_from session command (record { begun = 0; frame = [] }) past).begun
-
--- whether a message goes in segments
-abbrev pub is_cut : Form → Bool
-is_cut Cut = true
-is_cut _ = false
-
--- three attempts have begun; a first segment that the node asked for again counts as well, so there may be more of a message in
--- segments
-abbrev pub are_three : Form → ℕ → Bool
-are_three Cut begun = nat_le 3 begun
-are_three _ begun = begun == 3
-
--- ---- how an attempt ends
-
--- whether a request carries something of the session's node
+-- whether a request sends something to a node
 abbrev pub goes_to : ℕ → List ℕ → Bool
 goes_to node unit = list_any (λ carried. carried.node == node) (sending_in unit)
+
+-- whether a payload goes on with an attempt: a Security message, or a segment behind the first
+abbrev pub goes_on : List ℕ → Bool
+goes_on payload =
+    begins_with payload 0x98 0x81
+    || ((slice_index payload 0 == 0x55) && nat_le 0xE0 (slice_index payload 1) && nat_lt (slice_index payload 1) 0xE8)
+
+-- the attempts of a series: how many have begun, whether the last request is of them, and when the node last gave a sign since the last
+-- one began
+pub record Attempts : Type 0 where
+  pub begun : ℕ
+  pub own : Bool
+  pub sign : List ℕ
+
+abbrev pub no_attempts : Attempts
+no_attempts = record { begun = 0; own = false; sign = [] }
+
+-- a request to the node for which none waits is of an attempt, and begins one where it does not go on with it
+abbrev pub attempts_by_request : Bool → List ℕ → Attempts → Attempts
+attempts_by_request own unit attempts =
+    if own && not (list_any (λ carried. goes_on carried.payload) (sending_in unit)) then record { begun = attempts.begun + 1; own = true; sign = [] }
+    else record attempts { own = own }
+
+-- whether a report says that the session is at work; what is sealed never does, since a lock is not at work
+abbrev pub is_at_work : ℕ → Told → Bool
+is_at_work id (Reports session Working wake_request) = session == id
+is_at_work id _ = false
+
+abbrev pub tells_work : ℕ → Heard → Bool
+tells_work id (Messages messages) = list_any (is_at_work id) messages
+tells_work id _ = false
+
+-- the node gives a sign here: a callback OK of a request of the attempt, or a report that it is at work
+abbrev pub is_sign : ℕ → Bool → List Entry → Bool
+is_sign node own past =
+    (own && is_called_back 0 past) || list_any (λ payload. tells_work (length (sessions node past) % 64) (heard_at payload)) (payloads_here node past)
+
+abbrev pub attempts_by_unit : (ℕ → List ℕ) → ℕ → List Entry → Requests → Attempts → List ℕ → Attempts
+attempts_by_unit listing node past requests attempts unit =
+    if is_acknowledgement unit
+    then (if is_sign node attempts.own (past ++ Written Host unit ∷ []) then record attempts { sign = clock past ∷ [] } else attempts)
+    else (if is_new requests.last unit
+    then attempts_by_request (goes_to node unit && are_none (waits_before listing past requests (Written Host unit)).wants) unit attempts
+    else attempts)
+
+-- a series begins anew with a session, behind an outcome, and where the host starts
+abbrev pub attempts_step : (ℕ → List ℕ) → ℕ → ℕ → List Entry → Requests → Attempts → Entry → List Entry → Attempts
+attempts_step listing node command past requests attempts (Written Host unit) rest = attempts_by_unit listing node past requests attempts unit
+attempts_step listing node command past requests attempts (Begin of number begun) rest = if of == node then no_attempts else attempts
+attempts_step listing node command past requests attempts (Out number Unanswered) rest = if number == command then no_attempts else attempts
+attempts_step listing node command past requests attempts (Said words) rest = if starts_anew (Said words) rest then no_attempts else attempts
+attempts_step listing node command past requests attempts entry rest = attempts
+
+abbrev pub attempts_from : (ℕ → List ℕ) → ℕ → ℕ → List Entry → Requests → Attempts → List Entry → Attempts
+attempts_from listing node command past requests attempts [] = attempts
+attempts_from listing node command past requests attempts (entry ∷ rest) =
+    attempts_from listing node command (past ++ entry ∷ []) (requests_after listing past requests entry rest)
+    (attempts_step listing node command past requests attempts entry rest) rest
+
+-- the attempts of the last session of a node, which carries this command
+abbrev pub attempts_of : (ℕ → List ℕ) → ℕ → ℕ → List Entry → Attempts
+attempts_of listing node command past = attempts_from listing node command [] no_requests no_attempts past
+
+-- ---- how an attempt ends
 
 -- whether a request carries a segment that others follow
 abbrev pub is_inner : Session → Form → List ℕ → Bool
 is_inner session Cut unit = not (list_any (λ carried. bytes_eq carried.payload (segment_at session (last_place session))) (sending_in unit))
 is_inner session _ unit = false
 
--- its last request ends here otherwise than by a callback OK; NO_ACK of a segment that others follow ends nothing
-abbrev pub ends_badly : Session → List Entry → Bool
-ends_badly session past =
-    goes_to session.node (asked past).frame
-    && ((is_called_back 1 past && not (is_inner session session.form (asked past).frame)) || is_called_back 2 past || is_called_back 3 past
-    || is_called_back 4 past || is_refused_here past || is_silent past || has_four_copies past)
+abbrev pub is_of_inner : (ℕ → List ℕ) → List Entry → ℕ → ℕ → List ℕ → Bool
+is_of_inner listing past node command unit =
+    let session : Session = session_of listing past node command in is_inner session session.form unit
 
--- whether a report says that the session is at work
-abbrev pub is_at_work : ℕ → Told → Bool
-is_at_work id (Reports session Working wake_request) = session == id
-is_at_work id _ = false
+-- whether a callback is bad: not OK, nor NO_ACK of such a segment
+abbrev pub is_bad : Bool → Notice → Bool
+is_bad inner (CalledBack id status) = not (status_code status == 0) && not (inner && (status_code status == 1))
+is_bad inner _ = false
 
--- the node gives a sign of life: a callback OK of a request to it, or a report that it is at work
-abbrev pub is_sign : Session → List Entry → Bool
-is_sign session past =
-    (goes_to session.node (asked past).frame && is_called_back 0 past) || may_be_told (is_at_work (session.number % 64)) session.node past
+-- a request ends badly by a time: by such a callback, a refusal, in silence, or since the line gives it up
+abbrev pub ends_badly : Asked → Bool → ℕ → Bool
+ends_badly asked inner now =
+    list_any (λ one. is_frame one.unit 1 || list_any (is_bad inner) (notice_in one.unit)) (ending asked)
+    || list_any (λ tick. nat_le tick now) (silence asked) || list_any (λ tick. nat_le tick now) (giving_up asked)
 
--- when it did, by the acknowledgements of the host
-abbrev pub sign_at : Session → List Entry → Entry → List ℕ
-sign_at session past (Written Host unit) =
-    if is_acknowledgement unit && is_sign session (past ++ Written Host unit ∷ []) then clock past ∷ [] else []
-sign_at session past _ = []
-
--- 100 ticks have passed since the last sign
-abbrev pub is_waited_for : Session → List Entry → Bool
-is_waited_for session past = list_any (λ tick. tick + 100 == clock past) (last_of (shown_after (sign_at session) [] past))
+-- the third attempt is over by a time: its request has ended badly, or the last sign is 100 ticks ago
+abbrev pub third_is_over : (ℕ → List ℕ) → ℕ → ℕ → List Entry → ℕ → Attempts → Bool
+third_is_over listing node command past now attempts =
+    (attempts.begun == 3)
+    && ((attempts.own && ends_badly (asked past) (is_of_inner listing past node command (asked past).frame) now)
+    || list_any (λ tick. nat_le (tick + 100) now) attempts.sign)
 
 -- ---- the law
 
--- whether an outcome is final
-abbrev pub is_final : Outcome → Bool
-is_final outcomes.Success = true
-is_final outcomes.Fail = true
-is_final outcomes.NoSupport = true
-is_final _ = false
+-- the command that is to be given up for a node: that of its last session, where that is open and its third attempt is over
+abbrev pub to_give_up_of : (ℕ → List ℕ) → ℕ → List Entry → ℕ → ℕ → List ℕ
+to_give_up_of listing node past now command =
+    if third_is_over listing node command past now (attempts_of listing node command past) then command ∷ [] else []
 
--- the third attempt of the session has ended
-abbrev pub attempt_is_over : Session → ℕ → List Entry → Bool
-attempt_is_over session command past = are_three session.form (attempts session command past) && (ends_badly session past || is_waited_for session past)
+abbrev pub to_give_up : (ℕ → List ℕ) → List Entry → ℕ → ℕ → List ℕ
+to_give_up listing past now node =
+    if is_open node past then flat_map (to_give_up_of listing node past now) (last_command node past) else []
 
--- a command is given up as that of the last session of its node
-abbrev pub may_give_up_at : (ℕ → List ℕ) → ℕ → List Entry → ℕ → Bool
-may_give_up_at listing command past node =
-    list_any (λ carried. carried == command) (last_of (sessions node past)) && attempt_is_over (session_of listing past node command) command past
+-- none is at a time
+abbrev pub none_to_give_up : (ℕ → List ℕ) → List Entry → ℕ → Bool
+none_to_give_up listing past now = are_none (flat_map (to_give_up listing past now) (joined past))
 
--- whether the last request is the attempt of a session that has no final outcome, its third, and a frame of the chip has just ended it
--- badly; of a message in segments this is left open
-abbrev pub is_just_over : Session → ℕ → List Entry → Bool
-is_just_over session command past =
-    not (is_cut session.form) && (attempts session command past == 3) && list_any (begins_attempt session) (sending_in (asked past).frame)
-    && not (is_final (outcome command past)) && (is_called_back_badly past || is_refused_here past)
-
-abbrev pub owes_giving_up_of : (ℕ → List ℕ) → List Entry → ℕ → List ℕ
-owes_giving_up_of listing past node = filter (λ command. is_just_over (session_of listing past node command) command past) (last_of (sessions node past))
-
--- the commands that have to be given up here
-abbrev pub owes_giving_up : (ℕ → List ℕ) → List Entry → List ℕ
-owes_giving_up listing past =
-    if is_directly_behind past then flat_map (λ carried. owes_giving_up_of listing past carried.node) (sending_in (asked past).frame) else []
-
--- a command counts as unanswered only where the third attempt of its series has ended, and directly behind the frame that ends it
+-- a command counts as unanswered only where it is to be given up: then directly behind the frame that ends the attempt, and else in the
+-- same line or tick
 abbrev pub may_give_up : (ℕ → List ℕ) → List Entry → Entry → Bool
-may_give_up listing past (Out command Unanswered) = list_any (may_give_up_at listing command past) (shown (node_at command) past)
-may_give_up listing past entry = is_mark entry || are_none (owes_giving_up listing past)
+may_give_up listing past (Out command Unanswered) =
+    list_any (λ node. list_any (λ number. number == command) (to_give_up listing past (clock past) node)) (shown (node_at command) past)
+may_give_up listing past (Said words) = none_to_give_up listing past (now_at past (Said words))
+may_give_up listing past (Time tick) = none_to_give_up listing past (now_at past (Time tick))
+may_give_up listing past entry =
+    is_mark entry || not (is_directly_behind past)
+    || are_none (flat_map (λ carried. to_give_up listing past (clock past) carried.node) (sending_in (asked past).frame))
 
-abbrev pub GivesUpAfterThree : (ℕ → List ℕ) → List Entry → Type 0
-GivesUpAfterThree listing transcript = Keeps (may_give_up listing) transcript
+pub record GivesUpAfterThree (whole : Bool) (listing : ℕ → List ℕ) (transcript : List Entry) : Type 0 where
+  pub between : Keeps (may_give_up listing) transcript
+  pub in_the_end : whole ≡ true → none_to_give_up listing transcript (ticks_asked (lines_run transcript)) ≡ true

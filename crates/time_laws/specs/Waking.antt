@@ -1,29 +1,24 @@
--- When the host takes a node to be awake or asleep, and when it tells a node that there is no more (Wake Up Command Class; that a
--- node counts as asleep after the third attempt is this project's own rule).
-use Rattle.std.specs.Prelude.{ℕ, ◌==◌, ◌&&◌, ◌||◌, not, bytes_eq, is_some, Bool, true, false, if◌then◌else◌, List, [], ◌∷◌, ◌++◌}
-use Rattle.std.specs.List.{flat_map, list_any, list_all}
+-- When the host takes a node to be awake or asleep (Wake Up Command Class; that a node counts as asleep after the third attempt is this project's own rule).
+use Rattle.std.specs.Prelude.{ℕ, ◌==◌, ◌&&◌, ◌||◌, not, bytes_eq, Bool, true, false, if◌then◌else◌, List, [], ◌∷◌}
+use Rattle.std.specs.List.{flat_map, list_any}
 use Rattle.host_heard.specs.Telling.{heard_at}
 use Rattle.host_heard.specs.declared.payload.Heard.{Heard}
 use Rattle.host_heard.specs.declared.payload.Heard.TheVariants.{Messages}
 use Rattle.host_heard.specs.declared.told.Told.{Told}
 use Rattle.host_heard.specs.declared.told.Told.TheVariants.{Notification}
-use Rattle.zw_words.specs.declared.side.Side.TheVariants.{Host}
 use Rattle.zw_text.specs.declared.entry.Ended.TheVariants.{Unanswered}
-use Rattle.zw_text.specs.declared.entry.Outcome.{Outcome}
-use Rattle.zw_text.specs.declared.entry.Outcome.TheVariants.{Begun}
 use Rattle.zw_text.specs.declared.entry.Entry.{Entry}
-use Rattle.zw_text.specs.declared.entry.Entry.TheVariants.{Written, Out, Awake, Asleep}
-use Rattle.zw_text.specs.Transcript.{sessions, outcome, shown, wakings}
-use Rattle.zw_laws.specs.Commands.{waiting}
+use Rattle.zw_text.specs.declared.entry.Entry.TheVariants.{Out, Awake, Asleep}
+use Rattle.zw_text.specs.Transcript.{sessions, shown, wakings}
 use Rattle.zw_laws.specs.Lists.{last_or}
-use Rattle.zw_laws.specs.Nodes.{known_classes}
 use Rattle.zw_laws.specs.Payloads.{no_more_information}
 use Rattle.zw_laws.specs.Restarts.{since_restart}
 use Rattle.zw_laws.specs.Stores.{node_at}
 use Rattle.zw_laws.specs.Units.{Carried, sending_in}
 use Rattle.time_laws.specs.Moments.{Keeps}
 use Rattle.time_laws.specs.Judged.{last_of, is_directly_behind, is_mark, brought_here, may_be_told}
-use Rattle.time_laws.specs.Requests.{asked, starts_anew, is_ended_by_frame, is_ended_here}
+use Rattle.time_laws.specs.Requests.{asked}
+use Rattle.time_laws.specs.Ends.{is_ended_by_frame, is_ended_here}
 use Rattle.time_laws.specs.Interviews.{listens}
 
 -- whether the last that was said of a node since the host started is that it is awake
@@ -92,10 +87,10 @@ abbrev pub says_asleep : ℕ → Entry → Bool
 says_asleep node (Asleep other) = other == node
 says_asleep node _ = false
 
--- whether a frame ends the No More Information of a node here that counts as awake, and nothing has said so
+-- whether a frame ends the No More Information of a node here that counts as awake
 abbrev pub owes_sleep_to_told : List Entry → Bool
 owes_sleep_to_told past =
-    is_directly_behind past && not (asked past).told && is_ended_by_frame past
+    is_directly_behind past && is_ended_by_frame past
     && list_any (λ node. is_awake_sleeper node past) (nodes_told (asked past).frame)
 
 -- whether the third attempt of a node that counts as awake has just ended
@@ -115,35 +110,3 @@ may_sleep past entry = is_mark entry || not (owes_sleep past)
 
 abbrev pub FallsAsleep : List Entry → Type 0
 FallsAsleep transcript = Keeps may_sleep transcript
-
--- ---- no more information
-
--- whether an outcome says that a series has ended
-abbrev pub is_settled : Outcome → Bool
-is_settled Begun = false
-is_settled _ = true
-
--- whether there is nothing for a node: it counts as awake, does not listen, its classes are known, no command waits, and its
--- last session is settled
-abbrev pub has_nothing : (ℕ → List ℕ) → ℕ → List Entry → Bool
-has_nothing listing node past =
-    is_awake_sleeper node past && is_some (known_classes listing past node) && list_all (λ number. false) (waiting node past)
-    && list_all (λ number. is_settled (outcome number past)) (last_of (sessions node past))
-
--- whether there was a moment since the node last fell asleep at which there was nothing for it
-abbrev pub had_nothing_from : (ℕ → List ℕ) → ℕ → Bool → List Entry → List Entry → Bool
-had_nothing_from listing node found past [] = found || has_nothing listing node past
-had_nothing_from listing node found past (entry ∷ rest) =
-    had_nothing_from listing node (not (says_asleep node entry || starts_anew entry rest) && (found || has_nothing listing node past)) (past ++ entry ∷ []) rest
-
-abbrev pub had_nothing : (ℕ → List ℕ) → ℕ → List Entry → Bool
-had_nothing listing node past = had_nothing_from listing node false [] past
-
--- a node is told that there is no more where there was a moment with nothing for it; a copy is written again
-abbrev pub may_tell_no_more : (ℕ → List ℕ) → List Entry → Entry → Bool
-may_tell_no_more listing past (Written Host unit) =
-    bytes_eq unit (asked past).frame || list_all (λ node. had_nothing listing node past) (nodes_told unit)
-may_tell_no_more listing past entry = true
-
-abbrev pub TellsNoMore : (ℕ → List ℕ) → List Entry → Type 0
-TellsNoMore listing transcript = Keeps (may_tell_no_more listing) transcript

@@ -5,9 +5,8 @@ use Rattle.zw_base.specs.declared.property.By.TheVariants.{Session}
 use Rattle.zw_words.specs.declared.side.Side.TheVariants.{Host, Chip}
 use Rattle.host_orders.specs.Settings.{setting}
 use Rattle.zw_text.specs.declared.entry.Done.TheVariants as done
-use Rattle.zw_text.specs.declared.entry.Refusal.TheVariants as refusals
 use Rattle.zw_text.specs.declared.entry.Entry.{Entry}
-use Rattle.zw_text.specs.declared.entry.Entry.TheVariants.{Said, Accepted, Refused, Begin, Written, Dropped, Air, Heard, Lost, Dev, Awake, Interviewed, InterviewFailed, Done, Neighbours, Failed, Time}
+use Rattle.zw_text.specs.declared.entry.Entry.TheVariants.{Said, Accepted, Begin, Written, Dropped, Air, Heard, Lost, Dev, Awake, Interviewed, InterviewFailed, Done, Neighbours, Failed, Time}
 use Rattle.zw_laws.specs.Worked.{bytes}
 
 -- it is said how a Set ended before that is judged
@@ -136,21 +135,6 @@ left_unended =
     Written Chip (bytes (codes "01040160019B")) ∷ Written Host (bytes (codes "06")) ∷ Said (codes "tick 4") ∷ Time 1 ∷ Heard 1 ∷
     Written Chip (bytes (codes "01080004000502840777")) ∷ Written Host (bytes (codes "06")) ∷ Awake 5 ∷
     Written Chip (bytes (codes "010D00498405070400003180846C60")) ∷ Written Host (bytes (codes "06")) ∷ Said (codes "tick 1") ∷ []
-
--- a line is refused for a full queue that has room
-abbrev pub refused_with_room : List Entry
-refused_with_room =
-    Said (codes "probe") ∷ Refused (refusals.QueueFull 64) ∷ []
-
--- a line is let in though the queue is full
-abbrev pub let_in_though_full : List Entry
-let_in_though_full =
-    Said (codes "stall 1") ∷ Said (codes "probe") ∷ Written Host (bytes (codes "01030015E9")) ∷ Said (codes "probe") ∷ Said (codes "probe") ∷
-    Said (codes "probe") ∷ Said (codes "probe") ∷ Said (codes "probe") ∷ Said (codes "probe") ∷ Said (codes "probe") ∷ Said (codes "probe") ∷
-    Said (codes "probe") ∷ Said (codes "probe") ∷ Said (codes "probe") ∷ Said (codes "probe") ∷ Said (codes "probe") ∷ Said (codes "probe") ∷
-    Said (codes "probe") ∷ Said (codes "probe") ∷ Said (codes "probe") ∷ Said (codes "probe") ∷ Said (codes "probe") ∷ Said (codes "probe") ∷
-    Said (codes "probe") ∷ Said (codes "neighbours 2") ∷ Said (codes "neighbours 2") ∷ Said (codes "neighbours 2") ∷
-    Refused (refusals.QueueFull 64) ∷ []
 
 -- a later question is sent before an earlier one
 abbrev pub sent_out_of_turn : List Entry

@@ -5,7 +5,8 @@ ghost use Rattle.device_stack.specs.State.{fresh};
 ghost use Rattle.device_stack.specs.declared.kind.Kind.TheVariants as kinds;
 ghost use Rattle.std.specs.List.{list_all};
 ghost use Rattle.time_laws.specs.Calm.{IsCalm, IsStill, is_not_stuck};
-ghost use Rattle.time_laws.specs.Stretches.{are_plain_listeners, is_stretch, is_time, is_alone, answers_all, AnswersInTime};
+ghost use Rattle.time_laws.specs.Stretches.{are_plain_listeners, IsStretch, is_quiet, is_time, is_alone, answers_all, AnswersInTime};
+ghost use Rattle.time_laws.specs.WorkedStretches.{before_failing, before_repeated, failing_as_success, stretch_of_failing, stretch_over_two, success_as_failing, the_thermostat};
 ghost use Rattle.time_laws.specs.WorkedWaits.{before_two, before_waking, calm_exchange, stretch_of_sleeper, stretch_of_two, stuck_node, the_other_switch};
 ghost use Rattle.time_laws.specs.WrongWaits.{asleep_not_yet, left_in_time, reported_next, stretch_unwoken, unheard_acknowledgement};
 ghost use Rattle.zw_laws.specs.Nodes.{listing_of};
@@ -41,33 +42,43 @@ pub fn rejected_calm()
     ensures working { IsCalm (listing_of (the_switch ∷ [])) (record the_switch { work_left = 3 } ∷ []) [] 0 → ⊥ }
 {}
 
-/// Stretches that answer in time: of one node, of two that listen, and of one that sleeps.
+/// Stretches that answer in time: of one node, of two that listen, and of one that sleeps; of one that is
+/// reached over another node; and of one whose device does not take the value of its first command, so that this fails.
 pub fn worked_stretches()
-    ensures one { is_stretch [] (the_switch ∷ []) [] calm_exchange ≡ true }
+    ensures one { IsStretch [] (the_switch ∷ []) [] calm_exchange }
     ensures one_in_time { is_time [] calm_exchange ≡ true }
     ensures one_answered { AnswersInTime [] (the_switch ∷ []) [] calm_exchange }
-    ensures two { is_stretch [] (the_switch ∷ the_other_switch ∷ []) before_two stretch_of_two ≡ true }
+    ensures two { IsStretch [] (the_switch ∷ the_other_switch ∷ []) before_two stretch_of_two }
     ensures two_plain { are_plain_listeners (the_switch ∷ the_other_switch ∷ []) before_two stretch_of_two ≡ true }
     ensures two_in_time { is_time before_two stretch_of_two ≡ true }
     ensures two_answered { AnswersInTime [] (the_switch ∷ the_other_switch ∷ []) before_two stretch_of_two }
-    ensures sleeper { is_stretch [] (the_sensor ∷ []) before_waking stretch_of_sleeper ≡ true }
+    ensures sleeper { IsStretch [] (the_sensor ∷ []) before_waking stretch_of_sleeper }
     ensures sleeper_alone { is_alone before_waking stretch_of_sleeper ≡ true }
     ensures sleeper_in_time { is_time before_waking stretch_of_sleeper ≡ true }
     ensures sleeper_answered { AnswersInTime [] (the_sensor ∷ []) before_waking stretch_of_sleeper }
+    ensures repeated { IsStretch [] (the_switch ∷ the_other_switch ∷ []) before_repeated stretch_over_two }
+    ensures repeated_in_time { is_time before_repeated stretch_over_two ≡ true }
+    ensures repeated_answered { AnswersInTime [] (the_switch ∷ the_other_switch ∷ []) before_repeated stretch_over_two }
+    ensures failing { IsStretch [] (the_thermostat ∷ []) before_failing stretch_of_failing }
+    ensures failing_in_time { is_time before_failing stretch_of_failing ≡ true }
+    ensures failing_answered { AnswersInTime [] (the_thermostat ∷ []) before_failing stretch_of_failing }
 {}
 
 /// These are none: with a line that loses frames, of a device with another key, of one that the host takes for another, of a node out of
 /// reach, with a node that sleeps and is not woken, and with one woken that has nothing to do. Two ticks are not time enough. And where the
-/// outcome is missing in time, the promise is broken, of one node and of nodes that listen.
+/// outcome is missing in time, the promise is broken, of one node and of nodes that listen; and where a command succeeds that its device does not
+/// take, or fails though it does.
 pub fn rejected_stretches()
-    ensures lossy { is_stretch [] (the_switch ∷ []) [] (Said (codes "lose 1") ∷ []) ≡ false }
-    ensures other_key { is_stretch (1 ∷ []) (the_switch ∷ []) [] calm_exchange ≡ false }
-    ensures other_device { is_stretch [] (fresh 2 kinds.Sensor [] ∷ []) [] calm_exchange ≡ false }
-    ensures out_of_reach { is_stretch [] (the_switch ∷ []) (Said (codes "unlink 1 2") ∷ []) calm_exchange ≡ false }
-    ensures unwoken { is_stretch [] (the_sensor ∷ []) before_waking stretch_unwoken ≡ false }
-    ensures idly_woken { is_stretch [] (the_switch ∷ []) [] (Said (codes "wake 2") ∷ []) ≡ false }
+    ensures lossy { is_quiet [] (the_switch ∷ []) [] (Said (codes "lose 1") ∷ []) ≡ false }
+    ensures other_key { is_quiet (1 ∷ []) (the_switch ∷ []) [] calm_exchange ≡ false }
+    ensures other_device { is_quiet [] (fresh 2 kinds.Sensor [] ∷ []) [] calm_exchange ≡ false }
+    ensures out_of_reach { IsStretch [] (the_switch ∷ []) (Said (codes "unlink 1 2") ∷ []) calm_exchange → ⊥ }
+    ensures unwoken { is_quiet [] (the_sensor ∷ []) before_waking stretch_unwoken ≡ false }
+    ensures idly_woken { is_quiet [] (the_switch ∷ []) [] (Said (codes "wake 2") ∷ []) ≡ false }
     ensures too_soon { is_time [] plain_exchange ≡ false }
     ensures missing { AnswersInTime [] (the_switch ∷ []) [] left_in_time → ⊥ }
+    ensures succeeded { AnswersInTime [] (the_thermostat ∷ []) before_failing failing_as_success → ⊥ }
+    ensures failed { AnswersInTime [] (the_thermostat ∷ []) before_failing success_as_failing → ⊥ }
     ensures missing_together { AnswersInTime [] (the_switch ∷ []) [] left_in_time → ⊥ }
 {}
 
@@ -76,8 +87,8 @@ pub fn rejected_stretches()
 pub fn stuck_stretches()
     ensures still { IsStill (listing_of (the_switch ∷ the_sensor ∷ the_other_switch ∷ [])) (the_switch ∷ the_sensor ∷ the_other_switch ∷ []) stuck_node 104 }
     ensures stuck { list_all (is_not_stuck stuck_node 104) (joined stuck_node) ≡ false }
-    ensures ready { is_stretch [] (the_switch ∷ the_sensor ∷ the_other_switch ∷ []) stuck_node (Said (codes "tick 500") ∷ []) ≡ true }
+    ensures ready { IsStretch [] (the_switch ∷ the_sensor ∷ the_other_switch ∷ []) stuck_node (Said (codes "tick 500") ∷ []) }
     ensures one { is_alone stuck_node (Said (codes "tick 500") ∷ []) ≡ true }
     ensures in_time { is_time stuck_node (Said (codes "tick 500") ∷ []) ≡ true }
-    ensures unanswered { answers_all stuck_node (Said (codes "tick 500") ∷ []) ≡ false }
+    ensures unanswered { answers_all (the_switch ∷ the_sensor ∷ the_other_switch ∷ []) stuck_node (Said (codes "tick 500") ∷ []) ≡ false }
 {}

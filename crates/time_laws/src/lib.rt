@@ -4,20 +4,21 @@
 //! It promises nothing of a program. Each law reads a transcript by the views of `zw_text` and the words of `zw_laws`, and, for calm
 //! moments, the devices as they are then. Worked transcripts, and others with one thing wrong, show what each law means.
 //! The definitions stand in `specs/`, one file a law: `Moments` (the clock, and laws that judge each entry by those before it),
-//! `Judged` and `Requests` (what the host has judged, and its request under way); `Errands`, `Questions` and `Interviews` (how
-//! requests end); `Queue` (how many may wait) and `Turns` (in which order they go); `Waking` and `Holds`; `Unanswered`; `Rests`
+//! `Judged`, `Requests` and `Ends` (what the host has judged, its last request, and how that ends); `Errands`, `Questions` and `Interviews`
+//! (what is said of ends); `Waking` and `Holds`; `Sessions` (whether attempts of a session run), `Wants` and `Queue` (which requests wait, and in which
+//! order they go); `Unanswered`; `Rests`
 //! (what is owed when the host rests); `Calm` and `Stretches`.
 //! `Worked..` and `Wrong..` are the transcripts that the functions here speak of.
 #![tactic(auto)]
 
 mod calm;
+mod queue;
 mod requests;
 mod waits;
 mod waking;
 
 pub use calm::{rejected_calm, rejected_stretches, stuck_stretches, worked_calm, worked_stretches};
-pub use requests::{
-    rejected_requests, worked_errands, worked_interviews, worked_questions, worked_queue,
-};
-pub use waits::{rejected_waits, worked_attempts, worked_rests};
+pub use queue::{rejected_queue, worked_queue, worked_turns};
+pub use requests::{rejected_requests, worked_errands, worked_interviews, worked_questions};
+pub use waits::{rejected_rests, rejected_waits, worked_attempts, worked_rests};
 pub use waking::{rejected_waking, worked_holds, worked_waking};

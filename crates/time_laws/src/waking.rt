@@ -2,9 +2,9 @@
 
 ghost use Rattle.std.specs.Prelude.{[], ◌∷◌};
 ghost use Rattle.time_laws.specs.Holds.{HoldsAsAsked};
-ghost use Rattle.time_laws.specs.Waking.{WakesAsTold, FallsAsleep, TellsNoMore};
-ghost use Rattle.time_laws.specs.WorkedWaits.{given_up_asleep, held_node, the_keeper};
-ghost use Rattle.time_laws.specs.WrongWaits.{asleep_untold, asleep_unwoken, awake_untold, given_up_awake, held_unasked, not_held, sleep_passed_over, told_while_waiting, waking_passed_over};
+ghost use Rattle.time_laws.specs.Waking.{WakesAsTold, FallsAsleep};
+ghost use Rattle.time_laws.specs.WorkedWaits.{given_up_asleep, held_node};
+ghost use Rattle.time_laws.specs.WrongWaits.{asleep_untold, asleep_unwoken, awake_untold, given_up_awake, held_unasked, not_held, sleep_passed_over, waking_passed_over};
 ghost use Rattle.zw_laws.specs.Nodes.{listing_of};
 ghost use Rattle.zw_laws.specs.Worked.{sleeping_node, the_sensor};
 
@@ -12,7 +12,6 @@ ghost use Rattle.zw_laws.specs.Worked.{sleeping_node, the_sensor};
 pub fn worked_waking()
     ensures wakes { WakesAsTold sleeping_node }
     ensures sleeps { FallsAsleep sleeping_node }
-    ensures told { TellsNoMore (listing_of (the_sensor ∷ [])) sleeping_node }
     ensures given_up { FallsAsleep given_up_asleep }
 {}
 
@@ -20,12 +19,11 @@ pub fn worked_waking()
 pub fn worked_holds()
     ensures held { HoldsAsAsked held_node }
     ensures sleeping { HoldsAsAsked sleeping_node }
-    ensures told { TellsNoMore (listing_of (the_keeper ∷ [])) held_node }
 {}
 
 /// Each of these breaks one part of the laws: a node that counts as awake though it has not told so, or does not though it has;
 /// one that counts as asleep though it did not count as awake, or was told nothing, or does not though it was told or
-/// given up; one that is told so while a command waits; and one that is held unasked, or asks and is not.
+/// given up; and one that is held unasked, or asks and is not.
 pub fn rejected_waking()
     ensures untold { WakesAsTold awake_untold → ⊥ }
     ensures passed { WakesAsTold waking_passed_over → ⊥ }
@@ -33,7 +31,6 @@ pub fn rejected_waking()
     ensures sleeps_untold { FallsAsleep asleep_untold → ⊥ }
     ensures sleep_passed { FallsAsleep sleep_passed_over → ⊥ }
     ensures given_up { FallsAsleep given_up_awake → ⊥ }
-    ensures waiting { TellsNoMore (listing_of (the_sensor ∷ [])) told_while_waiting → ⊥ }
     ensures unasked { HoldsAsAsked held_unasked → ⊥ }
     ensures not_held { HoldsAsAsked not_held → ⊥ }
 {}

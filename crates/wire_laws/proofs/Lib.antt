@@ -1,4 +1,4 @@
 mod Computing
 mod Plain
 mod Silence
-mod Walks
+pub mod Walks

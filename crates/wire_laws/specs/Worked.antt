@@ -149,3 +149,7 @@ aborted =
 -- the devices of these runs, as their makers leave them
 abbrev pub the_switches : List State
 the_switches = fresh 2 kinds.Switch [] ∷ fresh 10 kinds.Switch [] ∷ fresh 18 kinds.Switch [] ∷ []
+
+-- lines by which a node joins that hears another one alone
+abbrev pub over_two : List Entry
+over_two = Said (codes "link 2 10") ∷ Said (codes "join 10") ∷ []

@@ -2,24 +2,28 @@
 //!
 //! It promises nothing of a program: each law reads a transcript, the devices' states at entry and, where it says so, a course of the
 //! chip's link. Worked transcripts, and others with one thing wrong, show what each law means.
-//! The definitions stand in `specs/`: `Networks` (the links of the air and of the chip's table), `Routes`, `Arriving` (fates, repeats
+//! The definitions stand in `specs/`: `Networks` (the links of the air and of the chip's table), `Routes` and `Reach` (whether a node can be reached), `Arriving` (fates, repeats
 //! and what the chip forgets); `Asked`, `Taking` (which SendData the chip takes and which frames it puts on the air), `Results`, `Given`
 //! and `Answering` (what it has for the host and what it writes); `Marks` (which units are
-//! lost, changed or answered CAN because a line asks for it). `Worked..` are the transcripts that the functions here speak of.
+//! lost, changed or answered CAN because a line asks for it) and `Pipes` (which find no room); `Halted` (what a device did where want of memory ended the run). `Worked..` are the transcripts that the functions here speak of.
 #![tactic(auto)]
 
 mod arriving;
 mod chip;
 mod full;
+mod halted;
 mod links;
 mod marks;
+mod pipes;
 mod records;
 mod routes;
 
 pub use arriving::{rejected_arrivals, worked_arrivals, worked_forgetting, worked_repeats};
 pub use chip::{rejected_chip, worked_answers, worked_drops, worked_taking};
 pub use full::worked_full;
+pub use halted::worked_halted;
 pub use links::{rejected_links, worked_links};
 pub use marks::{rejected_marks, worked_collisions, worked_marks};
+pub use pipes::{rejected_pipes, worked_pipes};
 pub use records::worked_records;
-pub use routes::{rejected_routes, worked_routes};
+pub use routes::{rejected_routes, worked_reach, worked_routes};

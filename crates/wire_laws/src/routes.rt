@@ -1,9 +1,11 @@
 //! What the law of routes says of worked transcripts, and of others with one thing wrong.
 
-ghost use Rattle.std.specs.Prelude.{[], ◌∷◌};
+ghost use Rattle.std.specs.Prelude.{[], ◌∷◌, codes};
 ghost use Rattle.zw_laws.specs.Worked.{plain_exchange, the_switch};
+ghost use Rattle.zw_text.specs.declared.entry.Entry.TheVariants.{Said};
+ghost use Rattle.wire_laws.specs.Reach.{CanBeReached};
 ghost use Rattle.wire_laws.specs.Routes.{GoesByRoute};
-ghost use Rattle.wire_laws.specs.Worked.{rerouted, the_switches};
+ghost use Rattle.wire_laws.specs.Worked.{over_two, rerouted, the_switches};
 ghost use Rattle.wire_laws.specs.WorkedWrong.{detoured, second_choice, straight_home, from_a_stranger};
 
 /// In worked transcripts each frame goes over the route of its moment: a direct one, and one of two over a repeater, before and
@@ -20,4 +22,13 @@ pub fn rejected_routes()
     ensures second { GoesByRoute the_switches second_choice → ⊥ }
     ensures straight { GoesByRoute the_switches straight_home → ⊥ }
     ensures stranger { GoesByRoute (the_switch ∷ []) from_a_stranger → ⊥ }
+{}
+
+/// A node can be reached directly, and over a repeater. It cannot where no link leads to it, nor where the chip's route to it has a link that is
+/// not live.
+pub fn worked_reach()
+    ensures plain { CanBeReached (the_switch ∷ []) [] 2 }
+    ensures over_one { CanBeReached the_switches over_two 10 }
+    ensures apart { CanBeReached (the_switch ∷ []) [] 5 → ⊥ }
+    ensures dead { CanBeReached (the_switch ∷ []) (Said (codes "unlink 1 2") ∷ []) 2 → ⊥ }
 {}

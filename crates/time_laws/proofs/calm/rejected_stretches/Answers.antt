@@ -1,4 +1,5 @@
-use Rattle.std.proofs.Common.{refl}
+use Rattle.std.proofs.Common.{[], refl, ◌∙◌}
+use Rattle.wire_laws.proofs.Walks.{apart, direct, is_linked}
 use Rattle.time_laws.proofs.Computing.{computing}
 use Rattle.time_laws.proofs.Keeping.{not_true}
 use Rattle.time_laws.proofs.calm.rejected_stretches.Goals as goal
@@ -17,7 +18,7 @@ returns-clause-other_device c = refl
 
 pub returns-clause-out_of_reach : goal.returns-clause-out_of_reach
 unfolding computing
-returns-clause-out_of_reach c = refl
+returns-clause-out_of_reach c = λ law. apart _ _ _ law.reached.0.way
 
 pub returns-clause-unwoken : goal.returns-clause-unwoken
 unfolding computing
@@ -33,8 +34,64 @@ returns-clause-too_soon c = refl
 
 pub returns-clause-missing : goal.returns-clause-missing
 unfolding computing
-returns-clause-missing c = λ law. not_true (law.alone (record { still = record { marks = refl; host = refl; chip = refl; air = refl; idle = refl; asleep = refl; working = refl }; to_come = refl }) refl refl refl)
+returns-clause-missing c = λ law. not_true (law.alone
+    (record {
+      still = record { marks = refl; host = refl; chip = refl; air = refl; idle = refl; asleep = refl; working = refl };
+      to_come = refl;
+    })
+    (record {
+      quiet = refl;
+      reached = (
+        record { repeaters = []; route = direct _ _ _ refl; live = is_linked _ _ 1 2 ∙ refl; back = []; way = (direct _ _ _ refl).walk },
+        tt,
+      );
+    })
+    refl refl)
 
 pub returns-clause-missing_together : goal.returns-clause-missing_together
 unfolding computing
-returns-clause-missing_together c = λ law. not_true (law.together (record { still = record { marks = refl; host = refl; chip = refl; air = refl; idle = refl; asleep = refl; working = refl }; to_come = refl }) refl refl refl)
+returns-clause-missing_together c = λ law. not_true (law.together
+    (record {
+      still = record { marks = refl; host = refl; chip = refl; air = refl; idle = refl; asleep = refl; working = refl };
+      to_come = refl;
+    })
+    (record {
+      quiet = refl;
+      reached = (
+        record { repeaters = []; route = direct _ _ _ refl; live = is_linked _ _ 1 2 ∙ refl; back = []; way = (direct _ _ _ refl).walk },
+        tt,
+      );
+    })
+    refl refl)
+
+pub returns-clause-succeeded : goal.returns-clause-succeeded
+unfolding computing
+returns-clause-succeeded c = λ law. not_true (law.alone
+    (record {
+      still = record { marks = refl; host = refl; chip = refl; air = refl; idle = refl; asleep = refl; working = refl };
+      to_come = refl;
+    })
+    (record {
+      quiet = refl;
+      reached = (
+        record { repeaters = []; route = direct _ _ _ refl; live = is_linked _ _ 1 6 ∙ refl; back = []; way = (direct _ _ _ refl).walk },
+        tt,
+      );
+    })
+    refl refl)
+
+pub returns-clause-failed : goal.returns-clause-failed
+unfolding computing
+returns-clause-failed c = λ law. not_true (law.alone
+    (record {
+      still = record { marks = refl; host = refl; chip = refl; air = refl; idle = refl; asleep = refl; working = refl };
+      to_come = refl;
+    })
+    (record {
+      quiet = refl;
+      reached = (
+        record { repeaters = []; route = direct _ _ _ refl; live = is_linked _ _ 1 6 ∙ refl; back = []; way = (direct _ _ _ refl).walk },
+        tt,
+      );
+    })
+    refl refl)

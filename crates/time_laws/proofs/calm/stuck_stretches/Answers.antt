@@ -1,4 +1,5 @@
-use Rattle.std.proofs.Common.{refl}
+use Rattle.std.proofs.Common.{[], refl, ◌∙◌}
+use Rattle.wire_laws.proofs.Walks.{direct, is_linked}
 use Rattle.time_laws.proofs.Computing.{computing}
 use Rattle.time_laws.proofs.calm.stuck_stretches.Goals as goal
 
@@ -12,7 +13,7 @@ returns-clause-stuck c = refl
 
 pub returns-clause-ready : goal.returns-clause-ready
 unfolding computing
-returns-clause-ready c = refl
+returns-clause-ready c = record { quiet = refl; reached = (record { repeaters = []; route = direct _ _ _ refl; live = is_linked _ _ 1 10 ∙ refl; back = []; way = (direct _ _ _ refl).walk }, tt) }
 
 pub returns-clause-one : goal.returns-clause-one
 unfolding computing

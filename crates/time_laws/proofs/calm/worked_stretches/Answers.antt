@@ -1,10 +1,11 @@
-use Rattle.std.proofs.Common.{refl}
+use Rattle.std.proofs.Common.{◌≡◌, ℕ, [], ◌∷◌, refl, ◌∙◌, arith}
+use Rattle.wire_laws.proofs.Walks.{direct, is_linked, one_route, over_one}
 use Rattle.time_laws.proofs.Computing.{computing}
 use Rattle.time_laws.proofs.calm.worked_stretches.Goals as goal
 
 pub returns-clause-one : goal.returns-clause-one
 unfolding computing
-returns-clause-one c = refl
+returns-clause-one c = record { quiet = refl; reached = (record { repeaters = []; route = direct _ _ _ refl; live = is_linked _ _ 1 2 ∙ refl; back = []; way = (direct _ _ _ refl).walk }, tt) }
 
 pub returns-clause-one_in_time : goal.returns-clause-one_in_time
 unfolding computing
@@ -16,7 +17,10 @@ returns-clause-one_answered c = record { alone = λ calm stretch one time. refl;
 
 pub returns-clause-two : goal.returns-clause-two
 unfolding computing
-returns-clause-two c = refl
+returns-clause-two c = record {
+  quiet = refl;
+  reached = (record { repeaters = []; route = direct _ _ _ refl; live = is_linked _ _ 1 2 ∙ refl; back = []; way = (direct _ _ _ refl).walk }, (record { repeaters = []; route = direct _ _ _ refl; live = is_linked _ _ 1 10 ∙ refl; back = []; way = (direct _ _ _ refl).walk }, tt));
+}
 
 pub returns-clause-two_plain : goal.returns-clause-two_plain
 unfolding computing
@@ -32,7 +36,7 @@ returns-clause-two_answered c = record { alone = λ calm stretch one time. refl;
 
 pub returns-clause-sleeper : goal.returns-clause-sleeper
 unfolding computing
-returns-clause-sleeper c = refl
+returns-clause-sleeper c = record { quiet = refl; reached = (record { repeaters = []; route = direct _ _ _ refl; live = is_linked _ _ 1 5 ∙ refl; back = []; way = (direct _ _ _ refl).walk }, tt) }
 
 pub returns-clause-sleeper_alone : goal.returns-clause-sleeper_alone
 unfolding computing
@@ -45,3 +49,45 @@ returns-clause-sleeper_in_time c = refl
 pub returns-clause-sleeper_answered : goal.returns-clause-sleeper_answered
 unfolding computing
 returns-clause-sleeper_answered c = record { alone = λ calm stretch one time. refl; together = λ calm stretch plain time. refl }
+
+pub returns-clause-failing : goal.returns-clause-failing
+unfolding computing
+returns-clause-failing c = record { quiet = refl; reached = (record { repeaters = []; route = direct _ _ _ refl; live = is_linked _ _ 1 6 ∙ refl; back = []; way = (direct _ _ _ refl).walk }, tt) }
+
+pub returns-clause-failing_in_time : goal.returns-clause-failing_in_time
+unfolding computing
+returns-clause-failing_in_time c = refl
+
+pub returns-clause-failing_answered : goal.returns-clause-failing_answered
+unfolding computing
+returns-clause-failing_answered c = record { alone = λ calm stretch one time. refl; together = λ calm stretch plain time. refl }
+
+one_two : ◌≡◌ {A = ℕ} 2 1 → ⊥
+one_two e = omega (arith, e)
+
+ten_two : ◌≡◌ {A = ℕ} 2 10 → ⊥
+ten_two e = omega (arith, e)
+
+pub returns-clause-repeated : goal.returns-clause-repeated
+unfolding computing
+returns-clause-repeated c = record {
+  quiet = refl;
+  reached = (
+    record {
+      repeaters = 2 ∷ [];
+      route = one_route _ _ 10 2 (over_one _ _ 10 2 one_two ten_two refl refl refl) refl ((λ a b. refl), ((λ a b. refl), tt));
+      live = (is_linked _ _ 1 2 ∙ refl, is_linked _ _ 2 10 ∙ refl);
+      back = 2 ∷ [];
+      way = over_one _ _ 10 2 one_two ten_two refl refl refl;
+    },
+    tt,
+  );
+}
+
+pub returns-clause-repeated_in_time : goal.returns-clause-repeated_in_time
+unfolding computing
+returns-clause-repeated_in_time c = refl
+
+pub returns-clause-repeated_answered : goal.returns-clause-repeated_answered
+unfolding computing
+returns-clause-repeated_answered c = record { alone = λ calm stretch one time. refl; together = λ calm stretch plain time. refl }

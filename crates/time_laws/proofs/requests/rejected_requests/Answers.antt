@@ -2,9 +2,7 @@ use Rattle.std.proofs.Common.{[], ◌∷◌, refl}
 use Rattle.time_laws.specs.Errands.{may_say_done}
 use Rattle.time_laws.specs.Interviews.{may_end}
 use Rattle.time_laws.specs.Questions.{may_answer}
-use Rattle.time_laws.specs.Queue.{may_queue}
-use Rattle.time_laws.specs.Turns.{may_send}
-use Rattle.time_laws.specs.WrongRequests.{answered_of_another, answered_otherwise, failed_though_informed, interviewed_early, left_unanswered, left_unended, left_unsaid, let_in_though_full, refused_with_room, said_early, said_given_up, said_otherwise, said_refused, said_unasked, sent_out_of_turn, sent_unasked, silent_early, silent_too_soon}
+use Rattle.time_laws.specs.WrongRequests.{answered_of_another, answered_otherwise, failed_though_informed, interviewed_early, left_unanswered, left_unended, left_unsaid, said_early, said_given_up, said_otherwise, said_refused, said_unasked, silent_early, silent_too_soon}
 use Rattle.zw_laws.specs.Nodes.{listing_of}
 use Rattle.zw_laws.specs.Worked.{the_switch}
 use Rattle.time_laws.proofs.Computing.{computing}
@@ -66,19 +64,3 @@ returns-clause-informed c = broken may_end failed_though_informed refl
 pub returns-clause-unended : goal.returns-clause-unended
 unfolding computing
 returns-clause-unended c = broken may_end left_unended refl
-
-pub returns-clause-room : goal.returns-clause-room
-unfolding computing
-returns-clause-room c = broken (may_queue (listing_of (the_switch ∷ []))) refused_with_room refl
-
-pub returns-clause-full : goal.returns-clause-full
-unfolding computing
-returns-clause-full c = broken (may_queue (listing_of (the_switch ∷ []))) let_in_though_full refl
-
-pub returns-clause-out_of_turn : goal.returns-clause-out_of_turn
-unfolding computing
-returns-clause-out_of_turn c = broken (may_send (listing_of (the_switch ∷ []))) sent_out_of_turn refl
-
-pub returns-clause-sent_unasked : goal.returns-clause-sent_unasked
-unfolding computing
-returns-clause-sent_unasked c = broken (may_send (listing_of (the_switch ∷ []))) sent_unasked refl

@@ -1,49 +1,57 @@
 use Rattle.std.proofs.Common.{[], ◌∷◌, refl}
-use Rattle.time_laws.specs.Rests.{may_rest}
 use Rattle.time_laws.specs.Unanswered.{may_give_up}
-use Rattle.time_laws.specs.WrongWaits.{given_up_after_two, given_up_before_time, given_up_inside, given_up_under_way, gone_on_after_three, left_awake, left_overdue, left_unbegun, left_unsent, left_waiting}
+use Rattle.time_laws.specs.WrongQueue.{given_up_before_failing, given_up_before_silence, given_up_by_resend, gone_on_after_failing, gone_on_after_silence, gone_on_after_waiting, gone_on_behind_segments}
+use Rattle.time_laws.specs.WrongWaits.{given_up_after_two, given_up_before_time, given_up_inside, given_up_under_way, gone_on_after_three}
 use Rattle.zw_laws.specs.Nodes.{listing_of}
-use Rattle.zw_laws.specs.Worked.{the_plug, the_sensor, the_switch}
+use Rattle.zw_laws.specs.Worked.{the_plug, the_switch}
 use Rattle.time_laws.proofs.Computing.{computing}
 use Rattle.time_laws.proofs.Keeping.{broken}
 use Rattle.time_laws.proofs.waits.rejected_waits.Goals as goal
 
 pub returns-clause-two : goal.returns-clause-two
 unfolding computing
-returns-clause-two c = broken (may_give_up (listing_of (the_switch ∷ []))) given_up_after_two refl
+returns-clause-two c = λ law. broken (may_give_up (listing_of (the_switch ∷ []))) given_up_after_two refl law.between
 
 pub returns-clause-under_way : goal.returns-clause-under_way
 unfolding computing
-returns-clause-under_way c = broken (may_give_up (listing_of (the_switch ∷ []))) given_up_under_way refl
+returns-clause-under_way c = λ law. broken (may_give_up (listing_of (the_switch ∷ []))) given_up_under_way refl law.between
 
 pub returns-clause-before : goal.returns-clause-before
 unfolding computing
-returns-clause-before c = broken (may_give_up (listing_of (the_switch ∷ []))) given_up_before_time refl
+returns-clause-before c = λ law. broken (may_give_up (listing_of (the_switch ∷ []))) given_up_before_time refl law.between
 
 pub returns-clause-gone_on : goal.returns-clause-gone_on
 unfolding computing
-returns-clause-gone_on c = broken (may_give_up (listing_of (the_switch ∷ []))) gone_on_after_three refl
+returns-clause-gone_on c = λ law. broken (may_give_up (listing_of (the_switch ∷ []))) gone_on_after_three refl law.between
 
 pub returns-clause-inside : goal.returns-clause-inside
 unfolding computing
-returns-clause-inside c = broken (may_give_up (listing_of (the_plug ∷ []))) given_up_inside refl
+returns-clause-inside c = λ law. broken (may_give_up (listing_of (the_plug ∷ []))) given_up_inside refl law.between
 
-pub returns-clause-waiting : goal.returns-clause-waiting
+pub returns-clause-resent : goal.returns-clause-resent
 unfolding computing
-returns-clause-waiting c = λ law. broken (may_rest (listing_of (the_switch ∷ []))) left_waiting refl law.between
+returns-clause-resent c = λ law. broken (may_give_up (listing_of (the_plug ∷ []))) given_up_by_resend refl law.between
 
-pub returns-clause-unsent : goal.returns-clause-unsent
+pub returns-clause-segments : goal.returns-clause-segments
 unfolding computing
-returns-clause-unsent c = λ law. broken (may_rest (listing_of (the_switch ∷ []))) left_unsent refl law.between
+returns-clause-segments c = λ law. broken (may_give_up (listing_of (the_plug ∷ []))) gone_on_behind_segments refl law.between
 
-pub returns-clause-unbegun : goal.returns-clause-unbegun
+pub returns-clause-failed : goal.returns-clause-failed
 unfolding computing
-returns-clause-unbegun c = λ law. broken (may_rest (listing_of (the_sensor ∷ []))) left_unbegun refl law.between
+returns-clause-failed c = λ law. broken (may_give_up (listing_of (the_switch ∷ []))) gone_on_after_failing refl law.between
 
-pub returns-clause-overdue : goal.returns-clause-overdue
+pub returns-clause-waited : goal.returns-clause-waited
 unfolding computing
-returns-clause-overdue c = λ law. broken (may_rest (listing_of (the_switch ∷ []))) left_overdue refl law.between
+returns-clause-waited c = λ law. broken (may_give_up (listing_of (the_switch ∷ []))) gone_on_after_waiting refl law.between
 
-pub returns-clause-awake : goal.returns-clause-awake
+pub returns-clause-silent : goal.returns-clause-silent
 unfolding computing
-returns-clause-awake c = λ law. broken (may_rest (listing_of (the_sensor ∷ []))) left_awake refl law.between
+returns-clause-silent c = λ law. broken (may_give_up (listing_of (the_switch ∷ []))) gone_on_after_silence refl law.between
+
+pub returns-clause-before_failing : goal.returns-clause-before_failing
+unfolding computing
+returns-clause-before_failing c = λ law. broken (may_give_up (listing_of (the_switch ∷ []))) given_up_before_failing refl law.between
+
+pub returns-clause-before_silence : goal.returns-clause-before_silence
+unfolding computing
+returns-clause-before_silence c = λ law. broken (may_give_up (listing_of (the_switch ∷ []))) given_up_before_silence refl law.between

@@ -1,5 +1,6 @@
 use Rattle.std.proofs.Common.{[], ◌∷◌, refl}
 use Rattle.time_laws.specs.Unanswered.{may_give_up}
+use Rattle.time_laws.specs.WorkedQueue.{failed_attempts, resent_segments, silent_attempt}
 use Rattle.time_laws.specs.WorkedWaits.{given_up_asleep, given_up_lock, given_up_segments, waited_attempts}
 use Rattle.zw_laws.specs.Nodes.{listing_of}
 use Rattle.zw_laws.specs.Worked.{lossy_exchange, the_lock, the_plug, the_sensor, the_switch}
@@ -9,20 +10,32 @@ use Rattle.time_laws.proofs.waits.worked_attempts.Goals as goal
 
 pub returns-clause-lossy : goal.returns-clause-lossy
 unfolding computing
-returns-clause-lossy c = kept (may_give_up (listing_of (the_switch ∷ []))) lossy_exchange refl
+returns-clause-lossy c = record { between = kept (may_give_up (listing_of (the_switch ∷ []))) lossy_exchange refl; in_the_end = λ whole. refl }
 
 pub returns-clause-waited : goal.returns-clause-waited
 unfolding computing
-returns-clause-waited c = kept (may_give_up (listing_of (the_switch ∷ []))) waited_attempts refl
+returns-clause-waited c = record { between = kept (may_give_up (listing_of (the_switch ∷ []))) waited_attempts refl; in_the_end = λ whole. refl }
 
 pub returns-clause-sleeping : goal.returns-clause-sleeping
 unfolding computing
-returns-clause-sleeping c = kept (may_give_up (listing_of (the_sensor ∷ []))) given_up_asleep refl
+returns-clause-sleeping c = record { between = kept (may_give_up (listing_of (the_sensor ∷ []))) given_up_asleep refl; in_the_end = λ whole. refl }
 
 pub returns-clause-lock : goal.returns-clause-lock
 unfolding computing
-returns-clause-lock c = kept (may_give_up (listing_of (the_lock ∷ []))) given_up_lock refl
+returns-clause-lock c = record { between = kept (may_give_up (listing_of (the_lock ∷ []))) given_up_lock refl; in_the_end = λ whole. refl }
 
 pub returns-clause-segments : goal.returns-clause-segments
 unfolding computing
-returns-clause-segments c = kept (may_give_up (listing_of (the_plug ∷ []))) given_up_segments refl
+returns-clause-segments c = record { between = kept (may_give_up (listing_of (the_plug ∷ []))) given_up_segments refl; in_the_end = λ whole. refl }
+
+pub returns-clause-resent : goal.returns-clause-resent
+unfolding computing
+returns-clause-resent c = record { between = kept (may_give_up (listing_of (the_plug ∷ []))) resent_segments refl; in_the_end = λ whole. refl }
+
+pub returns-clause-failed : goal.returns-clause-failed
+unfolding computing
+returns-clause-failed c = record { between = kept (may_give_up (listing_of (the_switch ∷ []))) failed_attempts refl; in_the_end = λ whole. refl }
+
+pub returns-clause-silent : goal.returns-clause-silent
+unfolding computing
+returns-clause-silent c = record { between = kept (may_give_up (listing_of (the_switch ∷ []))) silent_attempt refl; in_the_end = λ whole. refl }

@@ -1,8 +1,9 @@
 use Rattle.std.proofs.Common.{[], ◌∷◌, refl}
 use Rattle.time_laws.specs.Rests.{may_rest}
+use Rattle.time_laws.specs.WorkedQueue.{resent_segments}
 use Rattle.time_laws.specs.WorkedWaits.{answered_errands, the_other_switch, waited_attempts, woken_before_restart}
 use Rattle.zw_laws.specs.Nodes.{listing_of}
-use Rattle.zw_laws.specs.Worked.{plain_exchange, sleeping_node, the_sensor, the_switch}
+use Rattle.zw_laws.specs.Worked.{plain_exchange, sealed_exchange, sleeping_node, the_lock, the_plug, the_sensor, the_switch}
 use Rattle.time_laws.proofs.Computing.{computing}
 use Rattle.time_laws.proofs.Keeping.{kept}
 use Rattle.time_laws.proofs.waits.worked_rests.Goals as goal
@@ -22,6 +23,14 @@ returns-clause-waited c = record { between = kept (may_rest (listing_of (the_swi
 pub returns-clause-sleeping : goal.returns-clause-sleeping
 unfolding computing
 returns-clause-sleeping c = record { between = kept (may_rest (listing_of (the_sensor ∷ []))) sleeping_node refl; in_the_end = λ whole. refl }
+
+pub returns-clause-sealed : goal.returns-clause-sealed
+unfolding computing
+returns-clause-sealed c = record { between = kept (may_rest (listing_of (the_lock ∷ []))) sealed_exchange refl; in_the_end = λ whole. refl }
+
+pub returns-clause-resent : goal.returns-clause-resent
+unfolding computing
+returns-clause-resent c = record { between = kept (may_rest (listing_of (the_plug ∷ []))) resent_segments refl; in_the_end = λ whole. refl }
 
 pub returns-clause-restarted : goal.returns-clause-restarted
 unfolding computing

@@ -1,9 +1,7 @@
-use Rattle.std.proofs.Common.{[], ◌∷◌, refl}
+use Rattle.std.proofs.Common.{refl}
 use Rattle.time_laws.specs.Holds.{may_hold}
-use Rattle.time_laws.specs.Waking.{may_wake, may_sleep, may_tell_no_more}
-use Rattle.time_laws.specs.WrongWaits.{asleep_untold, asleep_unwoken, awake_untold, given_up_awake, held_unasked, not_held, sleep_passed_over, told_while_waiting, waking_passed_over}
-use Rattle.zw_laws.specs.Nodes.{listing_of}
-use Rattle.zw_laws.specs.Worked.{the_sensor}
+use Rattle.time_laws.specs.Waking.{may_sleep, may_wake}
+use Rattle.time_laws.specs.WrongWaits.{asleep_untold, asleep_unwoken, awake_untold, given_up_awake, held_unasked, not_held, sleep_passed_over, waking_passed_over}
 use Rattle.time_laws.proofs.Computing.{computing}
 use Rattle.time_laws.proofs.Keeping.{broken}
 use Rattle.time_laws.proofs.waking.rejected_waking.Goals as goal
@@ -31,10 +29,6 @@ returns-clause-sleep_passed c = broken may_sleep sleep_passed_over refl
 pub returns-clause-given_up : goal.returns-clause-given_up
 unfolding computing
 returns-clause-given_up c = broken may_sleep given_up_awake refl
-
-pub returns-clause-waiting : goal.returns-clause-waiting
-unfolding computing
-returns-clause-waiting c = broken (may_tell_no_more (listing_of (the_sensor ∷ []))) told_while_waiting refl
 
 pub returns-clause-unasked : goal.returns-clause-unasked
 unfolding computing

@@ -1,8 +1,6 @@
-use Rattle.std.proofs.Common.{[], ◌∷◌, refl}
+use Rattle.std.proofs.Common.{refl}
 use Rattle.time_laws.specs.Holds.{may_hold}
-use Rattle.time_laws.specs.Waking.{may_tell_no_more}
-use Rattle.time_laws.specs.WorkedWaits.{held_node, the_keeper}
-use Rattle.zw_laws.specs.Nodes.{listing_of}
+use Rattle.time_laws.specs.WorkedWaits.{held_node}
 use Rattle.zw_laws.specs.Worked.{sleeping_node}
 use Rattle.time_laws.proofs.Computing.{computing}
 use Rattle.time_laws.proofs.Keeping.{kept}
@@ -15,7 +13,3 @@ returns-clause-held c = kept may_hold held_node refl
 pub returns-clause-sleeping : goal.returns-clause-sleeping
 unfolding computing
 returns-clause-sleeping c = kept may_hold sleeping_node refl
-
-pub returns-clause-told : goal.returns-clause-told
-unfolding computing
-returns-clause-told c = kept (may_tell_no_more (listing_of (the_keeper ∷ []))) held_node refl

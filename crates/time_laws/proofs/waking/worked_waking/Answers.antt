@@ -1,8 +1,7 @@
-use Rattle.std.proofs.Common.{[], ◌∷◌, refl}
-use Rattle.time_laws.specs.Waking.{may_wake, may_sleep, may_tell_no_more}
+use Rattle.std.proofs.Common.{refl}
+use Rattle.time_laws.specs.Waking.{may_sleep, may_wake}
 use Rattle.time_laws.specs.WorkedWaits.{given_up_asleep}
-use Rattle.zw_laws.specs.Nodes.{listing_of}
-use Rattle.zw_laws.specs.Worked.{sleeping_node, the_sensor}
+use Rattle.zw_laws.specs.Worked.{sleeping_node}
 use Rattle.time_laws.proofs.Computing.{computing}
 use Rattle.time_laws.proofs.Keeping.{kept}
 use Rattle.time_laws.proofs.waking.worked_waking.Goals as goal
@@ -14,10 +13,6 @@ returns-clause-wakes c = kept may_wake sleeping_node refl
 pub returns-clause-sleeps : goal.returns-clause-sleeps
 unfolding computing
 returns-clause-sleeps c = kept may_sleep sleeping_node refl
-
-pub returns-clause-told : goal.returns-clause-told
-unfolding computing
-returns-clause-told c = kept (may_tell_no_more (listing_of (the_sensor ∷ []))) sleeping_node refl
 
 pub returns-clause-given_up : goal.returns-clause-given_up
 unfolding computing
