@@ -41,7 +41,7 @@ use Rattle.node_course.proofs.Replies.{Flying, Airs, KeepsWays, Stands, stands_o
 
 -- ---- what brings nothing to the chip
 
-brought-append : (a b : List AirEvent) → brought (a ++ b) ≡ brought a ++ brought b
+pub brought-append : (a b : List AirEvent) → brought (a ++ b) ≡ brought a ++ brought b
 brought-append [] b = refl
 brought-append (Heard frame ∷ a) b = brought-append a b
 brought-append (Lost frame ∷ a) b = brought-append a b
@@ -63,15 +63,30 @@ answers_if_bring : (joined : Bool) (air : AirState) (node : ℕ) (way : Option R
 answers_if_bring true air node way replies = answers_bring air node way replies
 answers_if_bring false air node way replies = refl
 
-hearing_brings : (air : AirState) (number node : ℕ) (route : Option Route) (device : State) (event : DeviceEvent) → brought (outs_hearing air number node route device event) ≡ []
+pub hearing_brings : (air : AirState) (number node : ℕ) (route : Option Route) (device : State) (event : DeviceEvent) → brought (outs_hearing air number node route device event) ≡ []
 hearing_brings air number node route device event =
     brought-append (changed node (length device.journal) (length (device_after device event).journal - length device.journal)) (answers_if (is_joined air node) air node (option_map backwards route) (device_replies device event))
     ∙ (ap (λ l. l ++ brought (answers_if (is_joined air node) air node (option_map backwards route) (device_replies device event))) (changed_brings node (length device.journal) (length (device_after device event).journal - length device.journal))
     ∙ answers_if_bring (is_joined air node) air node (option_map backwards route) (device_replies device event))
 
-done_brings : (heading : Heading) (number status : ℕ) (dead : Option (ℕ × ℕ)) → brought (done_of heading number status dead) ≡ []
+pub done_brings : (heading : Heading) (number status : ℕ) (dead : Option (ℕ × ℕ)) → brought (done_of heading number status dead) ≡ []
 done_brings Outward number status dead = refl
 done_brings Homeward number status dead = refl
+
+-- ---- what becomes of a frame tells whose it is
+
+pub home_by : (lost : Bool) (dead : Option (ℕ × ℕ)) (heading : Heading) (listener : Option ℕ) → (if lost then fate.Lost else fate_by dead heading listener) ≡ fate.AtChip → heading ≡ Homeward
+home_by true dead heading listener e = absurd (grind (arith, e))
+home_by false (Some hop) heading listener e = absurd (grind (arith, e))
+home_by false None Homeward listener e = refl
+home_by false None Outward (Some place) e = absurd (grind (arith, e))
+home_by false None Outward None e = absurd (grind (arith, e))
+
+pub out_by : (lost : Bool) (dead : Option (ℕ × ℕ)) (heading : Heading) (listener : Option ℕ) (place : ℕ) → (if lost then fate.Lost else fate_by dead heading listener) ≡ fate.AtDevice place → heading ≡ Outward
+out_by true dead heading listener place e = absurd (grind (arith, e))
+out_by false (Some hop) heading listener place e = absurd (grind (arith, e))
+out_by false None Homeward listener place e = absurd (grind (arith, e))
+out_by false None Outward listener place e = refl
 
 -- ---- what a frame that is heard leaves
 
@@ -264,20 +279,6 @@ module _ (laws : Laws) (node : ℕ) (orders : List Asked) where
   }
 
   -- ---- the next frame arrives
-
-  -- what becomes of a frame tells whose it is
-  home_by : (lost : Bool) (dead : Option (ℕ × ℕ)) (heading : Heading) (listener : Option ℕ) → (if lost then fate.Lost else fate_by dead heading listener) ≡ fate.AtChip → heading ≡ Homeward
-  home_by true dead heading listener e = absurd (grind (arith, e))
-  home_by false (Some hop) heading listener e = absurd (grind (arith, e))
-  home_by false None Homeward listener e = refl
-  home_by false None Outward (Some place) e = absurd (grind (arith, e))
-  home_by false None Outward None e = absurd (grind (arith, e))
-
-  out_by : (lost : Bool) (dead : Option (ℕ × ℕ)) (heading : Heading) (listener : Option ℕ) (place : ℕ) → (if lost then fate.Lost else fate_by dead heading listener) ≡ fate.AtDevice place → heading ≡ Outward
-  out_by true dead heading listener place e = absurd (grind (arith, e))
-  out_by false (Some hop) heading listener place e = absurd (grind (arith, e))
-  out_by false None Homeward listener place e = absurd (grind (arith, e))
-  out_by false None Outward listener place e = refl
 
   module _ (c : Course) (mesh : Mesh) (frame : Flown) (later : List Flown) (log : List Mark) (on_air : OnAir node orders c.host c.air c.old log (frame ∷ later) mesh.air.frames) (h : Stands node orders c mesh.devices) (course : CourseFacts c)
       (drawn : List ℕ) (route : Option Route) where

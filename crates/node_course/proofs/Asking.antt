@@ -9,9 +9,14 @@ use Rattle.zw_text.specs.Line.{EndStands, LineWords, line_at}
 use Rattle.zw_text.proofs.TextLaws.{line_takes}
 use Rattle.host_events.specs.Events.{HostEvent, Accepts, Queues, Requests_do, Finishes}
 use Rattle.zw_machine.specs.Events.{Event, Host_does}
-use Rattle.node_course.specs.Host.{AsksPlainly}
+use Rattle.host_requests.specs.declared.task.Task.{Task}
+use Rattle.host_requests.specs.declared.task.Task.TheVariants as task
+use Rattle.host_requests.specs.Events.{RequestsEvent}
+use Rattle.host_requests.specs.Events.RequestsEvent.{Pushes}
+use Rattle.message_facts.specs.Others.{IsOther}
+use Rattle.node_course.specs.Host.{IsOtherTask, PushesOther, AsksPlainly}
 use Rattle.node_course.specs.HostGoing.{EndsNone}
-use Rattle.node_course.specs.World.{IsPlainly, EndsByHearing, OrderPlain, OrdersPlain, NamesEnd, IsOfLine, ComesOfLine}
+use Rattle.node_course.specs.World.{IsPlainly, EndsByHearing, OrderPlain, OrdersPlain, NamesEnd, IsAskedTask, PushesNone, IsOfLine, ComesOfLine}
 
 -- ---- a line that is read
 
@@ -36,28 +41,37 @@ text_names text line is = let read = line_takes text (Some line) is in line_name
 
 -- ---- what the host does of itself or for a line
 
-ends_none : (Near : Type 0) (node : ℕ) (event : HostEvent) → IsOfLine Near node event → EndsNone node event
-ends_none Near node (Finishes n session id command status wake_request) is = is
-ends_none Near node event is = tt
+ends_none : (Near : Type 0) (Is : List ℕ → Type 0) (node : ℕ) (event : HostEvent) → IsOfLine Near Is node event → EndsNone node event
+ends_none Near Is node (Finishes n session id command status wake_request) is = is
+ends_none Near Is node event is = tt
 
-asks_plainly : (node : ℕ) (event : HostEvent) → IsOfLine (Unit {0}) node event → OrderPlain node event → AsksPlainly node event
+other_task : (node : ℕ) (asked : Task) → IsAskedTask IsOther node asked → IsOtherTask node asked
+other_task node (task.Plain n payload) is = is
+other_task node (task.Segment n payload) is = is
+other_task node asked is = tt
+
+pushes_other : (node : ℕ) (event : RequestsEvent) → PushesNone event → PushesOther node event
+pushes_other node (Pushes pushed) none = absurd none
+pushes_other node event none = tt
+
+asks_plainly : (node : ℕ) (event : HostEvent) → IsOfLine (Unit {0}) IsOther node event → OrderPlain node event → AsksPlainly node event
 asks_plainly node (Accepts order carriage) near plain = λ own. (plain own, near tt)
-asks_plainly node (Queues queued) near plain = near tt
-asks_plainly node (Requests_do event moment) is plain = is
+asks_plainly node (Queues queued) near plain = other_task node queued (near tt)
+asks_plainly node (Requests_do event moment) is plain = pushes_other node event is
 asks_plainly node event is plain = tt
 
-event_ends : (Near : Type 0) (node : ℕ) (event : Event) → ComesOfLine Near node event → EndsByHearing node event
-event_ends Near node (Host_does event) is = ends_none Near node event is
-event_ends Near node event is = tt
+event_ends : (Near : Type 0) (Is : List ℕ → Type 0) (node : ℕ) (event : Event) → ComesOfLine Near Is node event → EndsByHearing node event
+event_ends Near Is node (Host_does event) is = ends_none Near Is node event is
+event_ends Near Is node event is = tt
 
-event_plain : (node : ℕ) (event : Event) → ComesOfLine (Unit {0}) node event → OrdersPlain node event → IsPlainly node event
+event_plain : (node : ℕ) (event : Event) → ComesOfLine (Unit {0}) IsOther node event → OrdersPlain node event → IsPlainly node event
 event_plain node (Host_does event) is plain = asks_plainly node event is plain
 event_plain node event is plain = tt
 
-pub events_end : (Near : Type 0) (node : ℕ) (events : List Event) → AllByRecursion (ComesOfLine Near node) events → AllByRecursion (EndsByHearing node) events
-events_end Near node [] all = tt
-events_end Near node (event ∷ events) all = (event_ends Near node event all.0, events_end Near node events all.1)
+pub events_end : (Near : Type 0) (Is : List ℕ → Type 0) (node : ℕ) (events : List Event) → AllByRecursion (ComesOfLine Near Is node) events → AllByRecursion (EndsByHearing node) events
+events_end Near Is node [] all = tt
+events_end Near Is node (event ∷ events) all = (event_ends Near Is node event all.0, events_end Near Is node events all.1)
 
-pub events_plain : (node : ℕ) (events : List Event) → AllByRecursion (ComesOfLine (Unit {0}) node) events → AllByRecursion (OrdersPlain node) events → AllByRecursion (IsPlainly node) events
+pub events_plain : (node : ℕ) (events : List Event) → AllByRecursion (ComesOfLine (Unit {0}) IsOther node) events → AllByRecursion (OrdersPlain node) events → AllByRecursion (IsPlainly node) events
 events_plain node [] all plain = tt
 events_plain node (event ∷ events) all plain = (event_plain node event all.0 plain.0, events_plain node events all.1 plain.1)

@@ -4,7 +4,6 @@ use Rattle.std.specs.Prelude.{Option, Some, None, IsSome, drop}
 use Rattle.std.specs.List.{AllByRecursion, flat_map, range_with_len}
 use Rattle.std.specs.Option.{unwrap_or, is_some, option_to_list}
 use Rattle.std.proofs.lemmas.Bool.{ltb-true, leb-true, and_parts}
-use Rattle.supervision.specs.Ends.{Report}
 use Rattle.serial_frame.specs.Frame.{FrameParts}
 use Rattle.serial_link.specs.State.{copy_due}
 use Rattle.serial_link.specs.declared.turn.Turn.{Turn}
@@ -42,7 +41,7 @@ use Rattle.line_facts.specs.Way.{written_all}
 use Rattle.line_facts.specs.Chip.{ChipDoes}
 use Rattle.line_facts.proofs.ChipWays.{does_both, does_one, IsStill, still_does}
 use Rattle.node_course.specs.Ways.{Beside, Thinned}
-use Rattle.node_course.specs.Mesh.{labels, brought, Brings}
+use Rattle.node_course.specs.Mesh.{labels, brought, BringsAs}
 use Rattle.node_course.specs.Chip.{GivesAs}
 use Rattle.node_course.proofs.Moving.{beside-both, labels-append, thinned_same, thinned_both}
 
@@ -118,32 +117,32 @@ calm_mild s Collides calm = tt
 
 -- ---- what the chip did, and was given
 
-pub record ChipTells (node : ℕ) (given : List Report) (old new : OuterState) : Type 0 where
+pub record ChipTells {L : Type 0} (Holds : List ℕ → Option L → Type 0) (node : ℕ) (given : List L) (old new : OuterState) : Type 0 where
   pub events : List ChipEvent
   pub does : ChipDoes events old new
-  pub marks : List (Option Report)
-  pub gives : Beside (GivesAs node) events marks
+  pub marks : List (Option L)
+  pub gives : Beside (GivesAs Holds node) events marks
   pub are : Thinned given (labels marks)
   pub air : new.air ≡ old.air
 
-module _ (node : ℕ) where
-  pub tells_still : (o n : OuterState) (given : List Report) → IsStill o n → n.air ≡ o.air → ChipTells node given o n
+module _ {L : Type 0} (Holds : List ℕ → Option L → Type 0) (node : ℕ) where
+  pub tells_still : (o n : OuterState) (given : List L) → IsStill o n → n.air ≡ o.air → ChipTells Holds node given o n
   tells_still o n given still air = record { events = []; does = still_does o n still; marks = []; gives = tt; are = tt; air = air }
 
-  pub tells_both : (a b : List Report) (o p q : OuterState) → ChipTells node a o p → ChipTells node b p q → ChipTells node (a ++ b) o q
+  pub tells_both : (a b : List L) (o p q : OuterState) → ChipTells Holds node a o p → ChipTells Holds node b p q → ChipTells Holds node (a ++ b) o q
   tells_both a b o p q first later = record {
     events = first.events ++ later.events;
     does = does_both first.events later.events o p q first.does later.does;
     marks = first.marks ++ later.marks;
-    gives = beside-both (GivesAs node) first.events later.events first.marks later.marks first.gives later.gives;
+    gives = beside-both (GivesAs Holds node) first.events later.events first.marks later.marks first.gives later.gives;
     are = subst (λ l. Thinned (a ++ b) l) (sym (labels-append first.marks later.marks)) (thinned_both a (labels first.marks) b (labels later.marks) first.are later.are);
     air = later.air ∙ first.air;
   }
 
-  here : (o n : OuterState) → n.chip ≡ o.chip → n.to_host ≡ o.to_host → n.to_chip ≡ o.to_chip → n.air ≡ o.air → ChipTells node [] o n
+  here : (o n : OuterState) → n.chip ≡ o.chip → n.to_host ≡ o.to_host → n.to_chip ≡ o.to_chip → n.air ≡ o.air → ChipTells Holds node [] o n
   here o n chip to_host to_chip air = tells_still o n [] (record { chip = chip; to_host = to_host; to_chip = to_chip }) air
 
-  pub tells_one : (o : OuterState) (e : ChipEvent) (mark : Option Report) → May o.chip.state e → IsCalm e → GivesAs node e mark → ChipTells node (option_to_list mark) o (chip_does o e).outer
+  pub tells_one : (o : OuterState) (e : ChipEvent) (mark : Option L) → May o.chip.state e → IsCalm e → GivesAs Holds node e mark → ChipTells Holds node (option_to_list mark) o (chip_does o e).outer
   unfolding chip_does
   tells_one o e mark may calm is = record {
     events = e ∷ [];
@@ -154,7 +153,7 @@ module _ (node : ℕ) where
     air = each_mild (with_chip o (after o.chip.state e)) (outs o.chip.state e) (calm_mild o.chip.state e calm);
   }
 
-  tells_from : (o p q : OuterState) (given : List Report) → p.chip ≡ o.chip → p.to_host ≡ o.to_host → p.to_chip ≡ o.to_chip → p.air ≡ o.air → ChipTells node given p q → ChipTells node given o q
+  tells_from : (o p q : OuterState) (given : List L) → p.chip ≡ o.chip → p.to_host ≡ o.to_host → p.to_chip ≡ o.to_chip → p.air ≡ o.air → ChipTells Holds node given p q → ChipTells Holds node given o q
   tells_from o p q given chip to_host to_chip air later = tells_both [] given o p q (here o p chip to_host to_chip air) later
 
   -- ---- results
@@ -170,25 +169,25 @@ module _ (node : ℕ) where
       by true some all = inl (ltb-true 0 s.aborted some)
       by false none all = inr (sends s.sending all)
 
-  call_tells : (o : OuterState) (status : TransmitStatus) → ChipTells node [] o (call_back o status).outer
+  call_tells : (o : OuterState) (status : TransmitStatus) → ChipTells Holds node [] o (call_back o status).outer
   call_tells o status = by (owes_call o.chip.state) refl
     where
-      by : (b : Bool) → owes_call o.chip.state ≡ b → ChipTells node [] o (if b then chip_does (record o { calls = drop 1 o.calls }) (Done status) else silent (record o { calls = drop 1 o.calls })).outer
+      by : (b : Bool) → owes_call o.chip.state ≡ b → ChipTells Holds node [] o (if b then chip_does (record o { calls = drop 1 o.calls }) (Done status) else silent (record o { calls = drop 1 o.calls })).outer
       by true e =
           tells_from o (record o { calls = drop 1 o.calls }) (chip_does (record o { calls = drop 1 o.calls }) (Done status)).outer [] refl refl refl refl
           (tells_one (record o { calls = drop 1 o.calls }) (Done status) None (owes o.chip.state e) tt refl)
       by false e = here o (record o { calls = drop 1 o.calls }) refl refl refl refl
 
-  no_route_tells : (o : OuterState) → ChipTells node [] o (no_route o).outer
+  no_route_tells : (o : OuterState) → ChipTells Holds node [] o (no_route o).outer
   no_route_tells o =
       tells_from o (record o { due = without_no_route o.due }) (no_route o).outer [] refl refl refl refl (call_tells (record o { due = without_no_route o.due }) no_route_status)
 
-  no_routes_tell : (count : ℕ) (o : OuterState) → ChipTells node [] o (no_routes count o).outer
+  no_routes_tell : (count : ℕ) (o : OuterState) → ChipTells Holds node [] o (no_routes count o).outer
   no_routes_tell zero o = here o o refl refl refl refl
   no_routes_tell (suc count) o = tells_both [] [] o (no_route o).outer (no_routes count (no_route o).outer).outer (no_route_tells o) (no_routes_tell count (no_route o).outer)
 
   -- an event at which nothing is put out
-  quiet_one : (o : OuterState) (e : ChipEvent) → May o.chip.state e → outs o.chip.state e ≡ [] → GivesAs node e None → ChipTells node [] o (with_chip o (after o.chip.state e))
+  quiet_one : (o : OuterState) (e : ChipEvent) → May o.chip.state e → outs o.chip.state e ≡ [] → GivesAs Holds node e None → ChipTells Holds node [] o (with_chip o (after o.chip.state e))
   quiet_one o e may none is = record {
     events = e ∷ [];
     does = record {
@@ -204,15 +203,15 @@ module _ (node : ℕ) where
     air = refl;
   }
 
-  forgets_tells : (o : OuterState) (dead : Option (ℕ × ℕ)) → ChipTells node [] o (forgets o dead).outer
+  forgets_tells : (o : OuterState) (dead : Option (ℕ × ℕ)) → ChipTells Holds node [] o (forgets o dead).outer
   forgets_tells o None = here o o refl refl refl refl
   forgets_tells o (Some hop) = by (linked o.chip.state.table hop.0 hop.1)
     where
-      by : (b : Bool) → ChipTells node [] o (if b then tells (with_chip o (after o.chip.state (Forgets hop.0 hop.1))) (Forget hop.0 hop.1 ∷ []) else silent o).outer
+      by : (b : Bool) → ChipTells Holds node [] o (if b then tells (with_chip o (after o.chip.state (Forgets hop.0 hop.1))) (Forget hop.0 hop.1 ∷ []) else silent o).outer
       by true = quiet_one o (Forgets hop.0 hop.1) tt refl refl
       by false = here o o refl refl refl refl
 
-  ends_tells : (o : OuterState) (status : ℕ) (dead : Option (ℕ × ℕ)) → ChipTells node [] o (frame_ends o status dead).outer
+  ends_tells : (o : OuterState) (status : ℕ) (dead : Option (ℕ × ℕ)) → ChipTells Holds node [] o (frame_ends o status dead).outer
   ends_tells o status dead =
       let forgot : OuterState = (forgets o dead).outer in
       let later : OuterState = (no_routes (leading forgot.calls) forgot).outer in
@@ -243,7 +242,7 @@ module _ (node : ℕ) where
   fits_for true device = told_fits device
   fits_for false device = tt
 
-  pub gives_tells : (o : OuterState) (devices : List State) (due : List Due) (route : Option Route) → ChipTells node [] o (gives o devices due route).outer
+  pub gives_tells : (o : OuterState) (devices : List State) (due : List Due) (route : Option Route) → ChipTells Holds node [] o (gives o devices due route).outer
   gives_tells o devices [] route = here o o refl refl refl refl
   gives_tells o devices (no_route_due ∷ due) route = no_route_tells o
   gives_tells o devices (Info n ∷ due) route =
@@ -257,14 +256,14 @@ module _ (node : ℕ) where
       let both = and_parts (nat_le 1 (length payload)) (nat_le (length payload) 46) e in
       (leb-true 1 (length payload) both.0, leb-true (length payload) 46 both.1)
 
-  to_chip_tells : (o : OuterState) (from : ℕ) (payload : List ℕ) (mark : Option Report) → Brings node (from, payload) mark → ChipTells node (option_to_list mark) o (to_chip o from payload).outer
+  to_chip_tells : (o : OuterState) (from : ℕ) (payload : List ℕ) (mark : Option L) → BringsAs Holds node (from, payload) mark → ChipTells Holds node (option_to_list mark) o (to_chip o from payload).outer
   to_chip_tells o from payload mark is = by (nat_le 1 (length payload) && nat_le (length payload) 46) refl
     where
-      by : (b : Bool) → (nat_le 1 (length payload) && nat_le (length payload) 46) ≡ b → ChipTells node (option_to_list mark) o (if b then chip_does o (chip_hears from payload) else silent o).outer
+      by : (b : Bool) → (nat_le 1 (length payload) && nat_le (length payload) 46) ≡ b → ChipTells Holds node (option_to_list mark) o (if b then chip_does o (chip_hears from payload) else silent o).outer
       by true e = tells_one o (chip_hears from payload) mark (short_payload payload e) tt is
       by false e = tells_still o o (option_to_list mark) (record { chip = refl; to_host = refl; to_chip = refl }) refl
 
-  pub deals_tell : (devices : List State) (o : OuterState) (events : List AirEvent) (marks : List (Option Report)) → Beside (Brings node) (brought events) marks → ChipTells node (labels marks) o (each (deals devices) o events).outer
+  pub deals_tell : (devices : List State) (o : OuterState) (events : List AirEvent) (marks : List (Option L)) → Beside (BringsAs Holds node) (brought events) marks → ChipTells Holds node (labels marks) o (each (deals devices) o events).outer
   deals_tell devices o [] [] are = here o o refl refl refl refl
   deals_tell devices o [] (mark ∷ marks) are = absurd are
   deals_tell devices o (air_event.Heard frame ∷ events) marks are = deals_tell devices o events marks are
@@ -288,7 +287,7 @@ module _ (node : ℕ) where
   SetsTable (Linked a b live) = Unit {0}
   SetsTable event = ⊥
 
-  sets_tells : (o : OuterState) (events : List ChipEvent) → AllByRecursion SetsTable events → ChipTells node [] o (with_chip o (after_all o.chip.state events))
+  sets_tells : (o : OuterState) (events : List ChipEvent) → AllByRecursion SetsTable events → ChipTells Holds node [] o (with_chip o (after_all o.chip.state events))
   sets_tells o [] all = here o (with_chip o o.chip.state) refl refl refl refl
   sets_tells o (Joined n listening ∷ events) all =
       let mid : OuterState = with_chip o (after o.chip.state (Joined n listening)) in
@@ -311,7 +310,7 @@ module _ (node : ℕ) where
   sets_flat f sets (x ∷ xs) = sets_append (f x) (flat_map f xs) (sets x) (sets_flat f sets xs)
 
   -- the table is set, and the air is then this
-  pub joins_tell : (o : OuterState) (n : ℕ) (listening : Bool) → ChipTells node [] o (with_chip o (after_all o.chip.state (Joined n listening ∷ links_of (joining o.air n listening) n)))
+  pub joins_tell : (o : OuterState) (n : ℕ) (listening : Bool) → ChipTells Holds node [] o (with_chip o (after_all o.chip.state (Joined n listening ∷ links_of (joining o.air n listening) n)))
   joins_tell o n listening =
       let air = joining o.air n listening in
       let known = filter (λ (other : ℕ). is_known air other && linked air.network n other) (range_with_len 1 232) in
@@ -324,8 +323,8 @@ module _ (node : ℕ) where
       (λ (n : ℕ). sets_map (λ (other : ℕ). Linked n other (linked air.network n other)) (λ (other : ℕ). tt) (filter (λ (other : ℕ). is_known air other) (range_with_len 1 (n - 1))))
       (filter (λ (n : ℕ). is_known air n) (range_with_len 1 232))
 
-  pub discovers_tell : (o : OuterState) → ChipTells node [] o (discovers o)
+  pub discovers_tell : (o : OuterState) → ChipTells Holds node [] o (discovers o)
   discovers_tell o = sets_tells o (all_pairs o.air) (all_pairs_set o.air)
 
-  pub collides_tell : (o : OuterState) → ChipTells node [] o (with_chip o (after o.chip.state Collides))
+  pub collides_tell : (o : OuterState) → ChipTells Holds node [] o (with_chip o (after o.chip.state Collides))
   collides_tell o = quiet_one o Collides tt refl refl

@@ -42,7 +42,7 @@ use Rattle.node_course.proofs.Saying.{IsBare, AllOwnTaken, in_segments_bare, non
 
 -- ---- statuses that are added
 
-no_more : (ends more : List ℕ) → length (ends ++ more) ≡ length ends → more ≡ []
+pub no_more : (ends more : List ℕ) → length (ends ++ more) ≡ length ends → more ≡ []
 no_more ends [] e = refl
 no_more ends (x ∷ more) e = let long = length-append ends (x ∷ more) in absurd (omega (arith, e, long))
 
@@ -79,19 +79,19 @@ at_rest device ends is free = by device.work_left refl
 -- ---- what an event makes of the sessions, and what the course makes of them
 
 -- a message takes no session, or the next one
-abbrev Took : Taken → Taken → Type 0
+abbrev pub Took : Taken → Taken → Type 0
 Took old new = (new ≡ old) ⊎ ((old.status ≢ WORKING) × (new ≡ record { taken = old.taken + 1; status = WORKING }))
 
 -- the commands of the last session may have come to their end
-abbrev Ended : Taken → Taken → Type 0
+abbrev pub Ended : Taken → Taken → Type 0
 Ended old new = (new ≡ old) ⊎ ((status : ℕ) × ((old.status ≡ WORKING) × ((status ≢ WORKING) × (new ≡ finished old status))))
 
 -- the statuses that are added are those of the end, where there is one
-record Adds (between : Taken) (ends : List ℕ) (new : State) : Type 0 where
-  final : Option ℕ
-  may : (c : Course) → c.device ≡ between → MayAll c (finishes final)
-  device : (c : Course) → c.device ≡ between → new.sessions ≡ (after_all c (finishes final)).device
-  ended : (c : Course) → c.ends ≡ ends → HasEnded new (after_all c (finishes final)).ends
+pub record Adds (between : Taken) (ends : List ℕ) (new : State) : Type 0 where
+  pub final : Option ℕ
+  pub may : (c : Course) → c.device ≡ between → MayAll c (finishes final)
+  pub device : (c : Course) → c.device ≡ between → new.sessions ≡ (after_all c (finishes final)).device
+  pub ended : (c : Course) → c.ends ≡ ends → HasEnded new (after_all c (finishes final)).ends
 
 length_taken : (old between : Taken) (ends : List ℕ) → Took old between → (old.status ≡ WORKING → length ends + 1 ≡ old.taken) → (old.status ≢ WORKING → length ends ≡ old.taken)
     → between.status ≡ WORKING → length ends + 1 ≡ between.taken
@@ -102,7 +102,7 @@ length_same : (old between : Taken) (ends : List ℕ) → Took old between → (
 length_same old between ends (inl same) free is = subst (λ (t : Taken). length ends ≡ t.taken) (sym same) (free (λ e. is (ap (λ (t : Taken). t.status) same ∙ e)))
 length_same old between ends (inr (idle, next)) free is = absurd (is (ap (λ (t : Taken). t.status) next))
 
-adds : (old new : State) (between : Taken) (ends more : List ℕ) → HasEnded old ends → HasEnded new (ends ++ more) → Took old.sessions between → Ended between new.sessions → Adds between ends new
+pub adds : (old new : State) (between : Taken) (ends more : List ℕ) → HasEnded old ends → HasEnded new (ends ++ more) → Took old.sessions between → Ended between new.sessions → Adds between ends new
 adds old new between ends more was is took (inl same) =
     let none : more ≡ [] = no_more ends more (by (new.sessions.status == WORKING) refl) in
     record {
@@ -228,7 +228,7 @@ awake_device : (device : State) (payload drawn : List ℕ) → device.awake ≡ 
 awake_device device payload drawn awake plain whole = awake_after device payload drawn awake ∙ ap (λ (o : Outcome). o.device) (openly_by device.kind (active device) payload drawn plain whole)
 
 -- a message is new, or takes nothing
-took_get : (t : Taken) (id : ℕ) → Took t (after_get t id)
+pub took_get : (t : Taken) (id : ℕ) → Took t (after_get t id)
 took_get t id = by (is_new t id) refl
   where
     idle : (b : Bool) → t.status == WORKING ≡ b → ((id == wire_id (t.taken + 1)) && not b) ≡ true → t.status ≢ WORKING

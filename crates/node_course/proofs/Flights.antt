@@ -202,7 +202,7 @@ order_accepted node orders more host air old log flights frames a = record {
 -- ---- a frame that is heard again
 
 -- a frame that is not stale went on the air at most 61 sessions ago
-not_stale : (payload : List ℕ) (later nonces : ℕ) → stale_by payload later nonces ≡ None → later ≤ 61
+pub not_stale : (payload : List ℕ) (later nonces : ℕ) → stale_by payload later nonces ≡ None → later ≤ 61
 not_stale payload later nonces e = by (nat_le 62 later) refl e
   where
     by : (b : Bool) → nat_le 62 later ≡ b
@@ -255,7 +255,7 @@ fresh_cargo Outward false orders host frame flight is age segment_age = rw is tt
 fresh_cargo Homeward false orders host frame flight is age segment_age = rw is tt
 
 -- the frame is remembered, and is not stale
-remembered_fresh : (frames : FramesState) (number : ℕ) (frame : Flown) → refusal_of frames number ≡ None → remembered frames number ≡ Some frame
+pub remembered_fresh : (frames : FramesState) (number : ℕ) (frame : Flown) → refusal_of frames number ≡ None → remembered frames number ≡ Some frame
     → (0 < number) × (stale_of frame (peer_of frames frame.node) ≡ None)
 remembered_fresh frames number frame none is = by (nat_lt 0 number) (nat_le number frames.sent) refl refl none
   where

@@ -1,4 +1,4 @@
--- In a line the host ends no session but by what it has taken out of its pipe, and what it is asked to send beside orders is no message of a session.
+-- In a line the host makes something of a payload only where it has taken it out of its pipe, and what it is asked to send beside orders is what Sets and Gets are.
 use Rattle.std.proofs.Common.{◌≡◌, ℕ, zero, suc, Bool, true, false, List, [], ◌∷◌, ◌++◌, length, map, refl, sym, subst, inl, inr, ◌+◌, ◌-◌, ◌≤◌}
 use Rattle.std.specs.Prelude.{if◌then◌else◌, Option, Some, None}
 use Rattle.std.specs.List.{AllByRecursion}
@@ -32,12 +32,11 @@ use Rattle.host_node.specs.declared.series.Series.{Series}
 use Rattle.host_node.specs.declared.series.Series.TheVariants.{Idle, Due, Running}
 use Rattle.host_requests.specs.declared.task.Task.{Task}
 use Rattle.line_facts.specs.Line.{AreLines}
-use Rattle.message_facts.specs.Others.{IsOther}
 use Rattle.node_course.specs.World.{NamesEnd, IsOfLine, ComesOfLine}
 
-module _ (Near : Type 0) (sends : (classes : List ℕ) (word : Word) → IsOther (send_text classes word)) (gets : (classes : List ℕ) (end : ℕ) → end ≤ 127 → IsOther (get_text classes end)) (node : ℕ) where
+module _ (Near : Type 0) (Is : List ℕ → Type 0) (sends : (classes : List ℕ) (word : Word) → Is (send_text classes word)) (gets : (classes : List ℕ) (end : ℕ) → end ≤ 127 → Is (get_text classes end)) (node : ℕ) where
   abbrev pub AllEnd : Machine → List Event → Type 0
-  AllEnd m events = AllByRecursion (ComesOfLine Near node) events
+  AllEnd m events = AllByRecursion (ComesOfLine Near Is node) events
 
   -- ---- schedules
 
@@ -67,60 +66,60 @@ module _ (Near : Type 0) (sends : (classes : List ℕ) (word : Word) → IsOther
   outer_take_none m [] all = tt
   outer_take_none m (event ∷ inner) all = (one_takes_none m event all.0, outer_take_none (happens m (Outside_does event)) inner all.1)
 
-  host_takes_none : (m : Machine) (inner : List HostEvent) → AllByRecursion (IsOfLine Near node) inner → AllEnd m (map Host_does inner)
+  host_takes_none : (m : Machine) (inner : List HostEvent) → AllByRecursion (IsOfLine Near Is node) inner → AllEnd m (map Host_does inner)
   host_takes_none m [] all = tt
   host_takes_none m (event ∷ inner) all = (all.0, host_takes_none (happens m (Host_does event)) inner all.1)
 
   -- ---- what the host does of itself
 
-  none_append : (a b : List HostEvent) → AllByRecursion (IsOfLine Near node) a → AllByRecursion (IsOfLine Near node) b → AllByRecursion (IsOfLine Near node) (a ++ b)
+  none_append : (a b : List HostEvent) → AllByRecursion (IsOfLine Near Is node) a → AllByRecursion (IsOfLine Near Is node) b → AllByRecursion (IsOfLine Near Is node) (a ++ b)
   none_append [] b first later = later
   none_append (event ∷ a) b first later = (first.0, none_append a b first.1 later)
 
-  no_more_none : (full : Bool) (n : ℕ) → IsOfLine Near node (if full then Drops_no_more n else Queues_no_more n)
+  no_more_none : (full : Bool) (n : ℕ) → IsOfLine Near Is node (if full then Drops_no_more n else Queues_no_more n)
   no_more_none true n = tt
   no_more_none false n = tt
 
-  sleep_none : (h : HostState) (inner : List HostEvent) → LetsSleep h inner → AllByRecursion (IsOfLine Near node) inner
+  sleep_none : (h : HostState) (inner : List HostEvent) → LetsSleep h inner → AllByRecursion (IsOfLine Near Is node) inner
   sleep_none h [] is = tt
   sleep_none h (event ∷ inner) (n, first, are, more) =
-      (subst (λ (e : HostEvent). IsOfLine Near node e) (sym are) (no_more_none (is_full h) n), sleep_none (after_host h event) inner more)
+      (subst (λ (e : HostEvent). IsOfLine Near Is node e) (sym are) (no_more_none (is_full h) n), sleep_none (after_host h event) inner more)
 
-  as_none : (event these : HostEvent) → IsOfLine Near node these → event ≡ these → IsOfLine Near node event
-  as_none event these none is = subst (λ (e : HostEvent). IsOfLine Near node e) (sym is) none
+  as_none : (event these : HostEvent) → IsOfLine Near Is node these → event ≡ these → IsOfLine Near Is node event
+  as_none event these none is = subst (λ (e : HostEvent). IsOfLine Near Is node e) (sym is) none
 
-  gives_none : (h : HostState) (n : ℕ) (text : Option (List ℕ)) (event : HostEvent) → GivesNext h n text event → IsOfLine Near node event
+  gives_none : (h : HostState) (n : ℕ) (text : Option (List ℕ)) (event : HostEvent) → GivesNext h n text event → IsOfLine Near Is node event
   gives_none h n (Some text) event is = as_none event _ tt is
   gives_none h n None event (payload, there, is) = as_none event _ tt is
 
-  served_none : (h : HostState) (n : ℕ) (series : Series) (event : HostEvent) → IsServedBy h n series event → IsOfLine Near node event
+  served_none : (h : HostState) (n : ℕ) (series : Series) (event : HostEvent) → IsServedBy h n series event → IsOfLine Near Is node event
   served_none h n Running event is = gives_none h n (node_of h n).text event is
   served_none h n Due event (plan, more, payload, start, is) = as_none event _ tt is
   served_none h n Idle event (inl is) = as_none event _ tt is
   served_none h n Idle event (inr is) = as_none event _ tt is
 
-  nodes_none : (h : HostState) (found : Option ℕ) (event : HostEvent) → IsNextOfNodes h found event → IsOfLine Near node event
+  nodes_none : (h : HostState) (found : Option ℕ) (event : HostEvent) → IsNextOfNodes h found event → IsOfLine Near Is node event
   nodes_none h None event is = absurd is
   nodes_none h (Some n) event is = served_none h n (node_of h n).series event is
 
-  next_none : (h : HostState) (owes : Bool) (queue : List Task) (event : HostEvent) → IsNextOf h owes queue event → IsOfLine Near node event
+  next_none : (h : HostState) (owes : Bool) (queue : List Task) (event : HostEvent) → IsNextOf h owes queue event → IsOfLine Near Is node event
   next_none h true queue event is = as_none event _ tt is
   next_none h false (first ∷ more) event is = as_none event _ tt is
   next_none h false [] event is = nodes_none h (next_of h.nodes h.served) event is
 
-  submits_none : (h : HostState) (inner : List HostEvent) → Submits h inner → AllByRecursion (IsOfLine Near node) inner
+  submits_none : (h : HostState) (inner : List HostEvent) → Submits h inner → AllByRecursion (IsOfLine Near Is node) inner
   submits_none h [] is = tt
   submits_none h (event ∷ inner) is = (next_none h h.requests.owes h.requests.queue event is.0.1, submits_none (after_host h event) inner is.1)
 
-  pumps_none : (h : HostState) (inner : List HostEvent) → Pumps h inner → AllByRecursion (IsOfLine Near node) inner
+  pumps_none : (h : HostState) (inner : List HostEvent) → Pumps h inner → AllByRecursion (IsOfLine Near Is node) inner
   pumps_none h inner (first, rest, are, sleep, submits) =
-      subst (λ (es : List HostEvent). AllByRecursion (IsOfLine Near node) es) (sym are) (none_append first rest (sleep_none h first sleep) (submits_none (after_host_all h first) rest submits))
+      subst (λ (es : List HostEvent). AllByRecursion (IsOfLine Near Is node) es) (sym are) (none_append first rest (sleep_none h first sleep) (submits_none (after_host_all h first) rest submits))
 
-  nodes_tick : (numbers : List ℕ) → AllByRecursion (IsOfLine Near node) (map Node_ticks numbers)
+  nodes_tick : (numbers : List ℕ) → AllByRecursion (IsOfLine Near Is node) (map Node_ticks numbers)
   nodes_tick [] = tt
   nodes_tick (n ∷ numbers) = (tt, nodes_tick numbers)
 
-  tick_none : (h : HostState) → AllByRecursion (IsOfLine Near node) (tick_events h)
+  tick_none : (h : HostState) → AllByRecursion (IsOfLine Near Is node) (tick_events h)
   tick_none h = (tt, (tt, nodes_tick (ticking_nodes (after_host_all h first_ticks))))
 
   outside_none : (Kind : List OuterEvent → Type 0) → ((inner : List OuterEvent) → Kind inner → AllByRecursion TakesNone inner) → (m : Machine) (events : List Event) → Outside Kind events → AllEnd m events
@@ -221,7 +220,7 @@ module _ (Near : Type 0) (sends : (classes : List ℕ) (word : Word) → IsOther
   refusal_takes : (line : Line) (m : Machine) (events : List Event) → IsRefusal line events → AllEnd m events
   refusal_takes line m events (refusal, are) = subst (λ (l : List Event). AllEnd m l) (sym are) (tt, tt)
 
-  asks_takes : (rule : Option Refused) (line : Line) (event : HostEvent) → IsOfLine Near node event → (m : Machine) (events : List Event) → Asks rule line event events → AllEnd m events
+  asks_takes : (rule : Option Refused) (line : Line) (event : HostEvent) → IsOfLine Near Is node event → (m : Machine) (events : List Event) → Asks rule line event events → AllEnd m events
   asks_takes None line event none m events are = subst (λ (l : List Event). AllEnd m l) (sym are) (none, tt)
   asks_takes (Some refused) line event none m events (refusal, shown, are) = subst (λ (l : List Event). AllEnd m l) (sym are) (tt, tt)
 

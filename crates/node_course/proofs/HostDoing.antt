@@ -79,7 +79,7 @@ asks_longer : (node : ℕ) (orders : List Asked) (commands more : List ℕ) (f :
 asks_longer node orders commands more f mark is payload options id e =
     subst (λ (os : List Asked). HostMeans os (commands ++ more) payload (asked_as mark)) (append-nil orders) (meaning_stays orders [] commands more payload (asked_as mark) (is payload options id e))
 
-way_weaker : {L : Type 0} (R S : FrameParts → Option L → Type 0) → ((f : FrameParts) (mark : Option L) → R f mark → S f mark) → (carried : List L) (items : List Item) (turn : Turn) (waiting : List FrameParts) → OnWay R carried items turn waiting
+pub way_weaker : {L : Type 0} (R S : FrameParts → Option L → Type 0) → ((f : FrameParts) (mark : Option L) → R f mark → S f mark) → (carried : List L) (items : List Item) (turn : Turn) (waiting : List FrameParts) → OnWay R carried items turn waiting
     → OnWay S carried items turn waiting
 way_weaker R S weaker carried items turn waiting on = record {
   on_line = on.on_line;
@@ -177,6 +177,14 @@ writes_go node orders c rest up yet down h g w outs f keeps wrote none units =
       };
     }
 
+-- ---- a free line
+
+-- no frame of the host's own is on it
+pub none_own : (turn : Turn) → is_busy turn ≡ false → own_frames turn ≡ []
+none_own Idle e = refl
+none_own (Copied f copies ticks) e = absurd (grind (arith, e))
+none_own (Paused f copies ticks) e = absurd (grind (arith, e))
+
 -- ---- the same to the course
 
 same_at : (node : ℕ) (orders : List Asked) (book : HostBook) (h g : HostState) → SameHost node h g → AtHost node orders book h → AtHost node (orders ++ []) book g
@@ -231,11 +239,6 @@ module _ (node : ℕ) (orders : List Asked) (c : Course) (h : HostState) (at : A
     moves = subst (λ (t : Turn). Moves (Asks node (orders ++ []) c.host.commands) h.side.turn [] (Framed f ∷ []) t [] []) (sym turn)
         (move_submit (Asks node (orders ++ []) c.host.commands) f None h.side.turn (Copied f 1 0) (asks_more node orders [] c.host.commands f None is) (none_own h.side.turn free) refl);
   }
-    where
-      none_own : (t : Turn) → is_busy t ≡ false → own_frames t ≡ []
-      none_own Idle e = refl
-      none_own (Copied g copies ticks) e = absurd (grind (arith, e))
-      none_own (Paused g copies ticks) e = absurd (grind (arith, e))
 
   -- a message of the last session is submitted, whole or one segment
   pub submits_message : (g : HostState) (f : FrameParts) (is_segment : Bool) → SameHost node h (record g { side = h.side }) → g.side.turn ≡ Copied f 1 0 → is_busy h.side.turn ≡ false → 0 < begun_of c.host
@@ -250,11 +253,6 @@ module _ (node : ℕ) (orders : List Asked) (c : Course) (h : HostState) (at : A
         moves = subst (λ (t : Turn). Moves (Asks node (orders ++ []) c.host.commands) h.side.turn [] (Framed f ∷ []) t [] (message ∷ [])) (sym turn)
             (move_submit (Asks node (orders ++ []) c.host.commands) f (Some message) h.side.turn (Copied f 1 0) (asks_more node orders [] c.host.commands f (Some message) is) (none_own h.side.turn free) refl);
       }
-    where
-      none_own : (t : Turn) → is_busy t ≡ false → own_frames t ≡ []
-      none_own Idle e = refl
-      none_own (Copied g copies ticks) e = absurd (grind (arith, e))
-      none_own (Paused g copies ticks) e = absurd (grind (arith, e))
 
 -- ---- a session begins
 
@@ -298,6 +296,17 @@ module _ (laws : AirLaws) (node : ℕ) (orders : List Asked) (host : HostBook) (
                 (laws.begins log flights a.frames n sessions within (grind (arith, e)) on.fly),
           )
       by false e = (log, on)
+
+-- a command waits only at a node that has a place
+pub waits_somewhere : (h : HostState) (n : ℕ) → HostFacts h → 0 < length (node_of h n).waiting → n < 233
+waits_somewhere h n facts some = by (nat_lt n 233) refl
+  where
+    by : (b : Bool) → nat_lt n 233 ≡ b → n < 233
+    by true e = grind (arith, e)
+    by false e =
+        let far : length h.nodes ≤ n = let places = facts.nodes.places in let out : 233 ≤ n = grind (arith, e) in omega (arith, places, out) in
+        let none : node_of h n ≡ unknown 0 = get_or_past h.nodes n (unknown 0) far in
+        absurd (let bad : 0 < length (unknown 0).waiting = subst (λ (s : NodeState). 0 < length s.waiting) none some in omega (arith, bad))
 
 -- an open session is told by commands and outcome alone
 pub open_same : (a b : HostBook) → a.commands ≡ b.commands → a.outcome ≡ b.outcome → open_session a ≡ open_session b
@@ -354,17 +363,6 @@ module _ (laws : AirLaws) (node : ℕ) (orders : List Asked) (c : Course) (rest 
     };
   }
 
-  waits_somewhere : n < 233
-  waits_somewhere = by (nat_lt n 233) refl
-    where
-      by : (b : Bool) → nat_lt n 233 ≡ b → n < 233
-      by true e = grind (arith, e)
-      by false e =
-          let far : length h.nodes ≤ n = let places = facts.nodes.places in let out : 233 ≤ n = grind (arith, e) in omega (arith, places, out) in
-          let none : node_of h n ≡ unknown 0 = get_or_past h.nodes n (unknown 0) far in
-          let some : 0 < length (node_of h n).waiting = may.1.0 in
-          absurd (let bad : 0 < length (unknown 0).waiting = subst (λ (s : NodeState). 0 < length s.waiting) none some in omega (arith, bad))
-
   still_told : AreOutcomes g.commands c.host.commands c.told
   still_told = outcomes_stay h.commands g.commands c.host.commands c.told keeps f.outcomes
 
@@ -373,14 +371,14 @@ module _ (laws : AirLaws) (node : ℕ) (orders : List Asked) (c : Course) (rest 
     where
       by : (b : Bool) → (n == node) ≡ b → HostGoes node c rest yet down g w'
       by false apart =
-          let air = other_begins laws node orders c.host c.air c.old f.mesh.log f.mesh.flights w.outer.air f.mesh.on_air n session waits_somewhere apart in
+          let air = other_begins laws node orders c.host c.air c.old f.mesh.log f.mesh.flights w.outer.air f.mesh.on_air n session (waits_somewhere h n facts may.1.0) apart in
           let done : HostState = node_does h n node_begins in
           let same : SameHost node h g = same_then node h done g (other_same node h n (after_node (node_of h n) node_begins) (λ e. absurd (grind (arith, apart, e)))) (same_host node done g refl (outcome_orders h.commands command _) refl refl) in
           let there : AtHost node orders c.host g = subst (λ (os : List Asked). AtHost node os c.host g) (append-nil orders) (same_at node orders c.host h g same f.host) in
           begun_with c air.0 (goes_nowhere c) refl refl (record { device = refl; kept = refl; ends = refl }) air.1 there still_told f.mesh.made (λ fr mark is. is)
       by true mine =
           let own : n ≡ node = eqb-true n node mine in
-          let within : node < 233 = subst (λ (k : ℕ). k < 233) own waits_somewhere in
+          let within : node < 233 = subst (λ (k : ℕ). k < 233) own (waits_somewhere h n facts may.1.0) in
           let later : Course = after c (begins_step command) in
           let old : NodeAs c.host.commands c.host.outcome (node_of h node) = f.host.node_as in
           let count : session ≡ begun_of c.host + 1 = may.2 ∙ (ap (λ (k : ℕ). begun_of (node_of h k).book + 1) own ∙ ap (λ (cs : List ℕ). length cs + 1) old.0) in

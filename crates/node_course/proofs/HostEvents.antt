@@ -14,6 +14,7 @@ use Rattle.serial_frame.specs.declared.item.Item.{Item}
 use Rattle.serial_frame.specs.declared.item.Item.TheVariants.{Good, Refused}
 use Rattle.serial_frame.specs.declared.item.Refusal.TheVariants.{Stray, BadLength, BadSum, BadKind, Aborted}
 use Rattle.serial_link.specs.State.{Side, turn_heard, tick_side, copy_due}
+use Rattle.serial_link.specs.declared.turn.Turn.{Turn}
 use Rattle.zw_text.specs.declared.entry.Entry.{Entry}
 use Rattle.zw_text.specs.declared.entry.Outcome.TheVariants.{Waiting}
 use Rattle.zw_order.specs.declared.order.Order.{Order}
@@ -67,16 +68,16 @@ pub session_numbered : (commands : List ℕ) (session number : ℕ) → command_
 session_numbered commands zero number e = absurd (grind (arith, e))
 session_numbered commands (suc before) number e = numbered_of commands before number e
 
-get_map : (commands : List Command) (at : ℕ) (command : Command) → slice_get commands at ≡ Some command → slice_get (map asked_of commands) at ≡ Some (asked_of command)
+pub get_map : (commands : List Command) (at : ℕ) (command : Command) → slice_get commands at ≡ Some command → slice_get (map asked_of commands) at ≡ Some (asked_of command)
 get_map [] at command e = absurd (grind (arith, e))
 get_map (x ∷ commands) zero command e = let same : x ≡ command = cc in ap (λ (y : Command). Some (asked_of y)) same
 get_map (x ∷ commands) (suc at) command e = get_map commands at command e
 
-command_numbered : (commands : List Command) (number : ℕ) (command : Command) → command_at commands number ≡ Some command → numbered (map asked_of commands) number ≡ asked_of command ∷ []
+pub command_numbered : (commands : List Command) (number : ℕ) (command : Command) → command_at commands number ≡ Some command → numbered (map asked_of commands) number ≡ asked_of command ∷ []
 command_numbered commands zero command e = absurd (grind (arith, e))
 command_numbered commands (suc before) command e = numbered_of (map asked_of commands) before (asked_of command) (get_map commands before command e)
 
-all_get : {A : Type 0} (P : A → Type 0) (xs : List A) (at : ℕ) (x : A) → AllByRecursion P xs → slice_get xs at ≡ Some x → P x
+pub all_get : {A : Type 0} (P : A → Type 0) (xs : List A) (at : ℕ) (x : A) → AllByRecursion P xs → slice_get xs at ≡ Some x → P x
 all_get P [] at x all e = absurd (grind arith)
 all_get {A} P (y ∷ ys) zero x all e = let same : y ≡ x = cc in subst P same all.0
 all_get P (y ∷ ys) (suc at) x all e = all_get P ys at x all.1 e
@@ -99,11 +100,11 @@ open_is book session e = by book.outcome book.commands refl refl e
         let last : suc (length more) ≡ session = cc in
         let long : begun_of book ≡ suc (length more) = ap length are in (sym last ∙ sym long, omega (arith, long))
 
-all-append : {A : Type 0} (P : A → Type 0) (xs ys : List A) → AllByRecursion P xs → AllByRecursion P ys → AllByRecursion P (xs ++ ys)
+pub all-append : {A : Type 0} (P : A → Type 0) (xs ys : List A) → AllByRecursion P xs → AllByRecursion P ys → AllByRecursion P (xs ++ ys)
 all-append P [] ys first later = later
 all-append P (x ∷ xs) ys first later = (first.0, all-append P xs ys first.1 later)
 
-map_more : (commands : List Command) (command : Command) → map asked_of (commands ++ command ∷ []) ≡ map asked_of commands ++ asked_of command ∷ []
+pub map_more : (commands : List Command) (command : Command) → map asked_of (commands ++ command ∷ []) ≡ map asked_of commands ++ asked_of command ∷ []
 map_more [] command = refl
 map_more (x ∷ commands) command = ap (λ l. asked_of x ∷ l) (map_more commands command)
 
@@ -111,9 +112,21 @@ pub noted_none : (entries : List Entry) → host_units (noted entries) ≡ []
 noted_none [] = refl
 noted_none (e ∷ entries) = noted_none entries
 
-copy_units : (copy : Option FrameParts) (entries : List Entry) → host_units (copy_out copy ++ noted entries) ≡ copies_of copy
+pub copy_units : (copy : Option FrameParts) (entries : List Entry) → host_units (copy_out copy ++ noted entries) ≡ copies_of copy
 copy_units None entries = noted_none entries
 copy_units (Some f) entries = ap (λ (l : List LineUnit). Framed f ∷ l) (noted_none entries)
+
+-- an item is answered
+pub answered : {L : Type 0} (Is : FrameParts → Option L → Type 0) (turn : Turn) (item : Item) → Moves Is turn [] (host_units (answer_to item)) (turn_heard turn item) [] []
+answered Is turn (Good Ack) = move_heard Is turn (Good Ack) []
+answered Is turn (Good Nak) = move_heard Is turn (Good Nak) []
+answered Is turn (Good Can) = move_heard Is turn (Good Can) []
+answered Is turn (Good (Framed f)) = move_sign Is Ack turn [] tt
+answered Is turn (Refused (Stray x)) = move_heard Is turn (Refused (Stray x)) []
+answered Is turn (Refused (BadLength n)) = move_heard Is turn (Refused (BadLength n)) []
+answered Is turn (Refused (BadSum want got)) = move_sign Is Nak turn [] tt
+answered Is turn (Refused (BadKind x)) = move_sign Is Nak turn [] tt
+answered Is turn (Refused Aborted) = move_heard Is turn (Refused Aborted) []
 
 -- what waits stays so, where more orders are accepted
 task_more : (node : ℕ) (orders more : List Asked) (commands : List ℕ) (queued : Task) → IsTaskFor node orders commands queued → IsTaskFor node (orders ++ more) commands queued
@@ -245,17 +258,6 @@ module _ (nonces : (nonce : List ℕ) → IsOther (nonce_report nonce)) (no_more
         plain = all-append (IsPlainFor node) orders (record { order = order; carriage = carriage } ∷ []) at.plain (plain, tt);
         queue = tasks_more node orders (record { order = order; carriage = carriage } ∷ []) c.host.commands h.requests.queue at.queue;
       }) refl
-
-  answered : (item : Item) (Is : FrameParts → Option Message → Type 0) → Moves Is h.side.turn [] (host_units (answer_to item)) (turn_heard h.side.turn item) [] []
-  answered (Good Ack) Is = move_heard Is h.side.turn (Good Ack) []
-  answered (Good Nak) Is = move_heard Is h.side.turn (Good Nak) []
-  answered (Good Can) Is = move_heard Is h.side.turn (Good Can) []
-  answered (Good (Framed f)) Is = move_sign Is Ack h.side.turn [] tt
-  answered (Refused (Stray x)) Is = move_heard Is h.side.turn (Refused (Stray x)) []
-  answered (Refused (BadLength n)) Is = move_heard Is h.side.turn (Refused (BadLength n)) []
-  answered (Refused (BadSum want got)) Is = move_sign Is Nak h.side.turn [] tt
-  answered (Refused (BadKind x)) Is = move_sign Is Nak h.side.turn [] tt
-  answered (Refused Aborted) Is = move_heard Is h.side.turn (Refused Aborted) []
 
   -- a part of an attempt of another node
   part_same : (n : ℕ) (more : Bool) (payload : List ℕ) (gives : NodeEvent) → (n ≡ node → IsQuiet gives) → SameHost node h (record (submits_part h n more payload gives) { side = h.side })
@@ -444,7 +446,7 @@ module _ (nonces : (nonce : List ℕ) → IsOther (nonce_report nonce)) (no_more
   event_wrote (Queues_interview n) may asks aside = quiet (after_host h (Queues_interview n)) (Queues_interview n) (requests_same node h (PushesInterview n) tt) refl
   event_wrote Queues_probe may asks aside = quiet (after_host h Queues_probe) Queues_probe (requests_same node h PushesProbe tt) refl
   event_wrote (Hears item) may asks aside =
-      turns node orders c h at (after_host h (Hears item)) (host_units (answer_to item)) (record { node_as = at.node_as; orders_are = at.orders_are; plain = at.plain; queue = at.queue }) (answered item)
+      turns node orders c h at (after_host h (Hears item)) (host_units (answer_to item)) (record { node_as = at.node_as; orders_are = at.orders_are; plain = at.plain; queue = at.queue }) (λ Is. answered Is h.side.turn item)
   event_wrote (Requests_do event moment) may asks aside = quiet (after_host h (Requests_do event moment)) (Requests_do event moment) (request_same node h event moment asks) (noted_none (request_entries h event))
   event_wrote (Interviews n listens classes update) may asks aside =
       quiet (after_host h (Interviews n listens classes update)) (Interviews n listens classes update)

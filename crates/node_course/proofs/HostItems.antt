@@ -8,13 +8,11 @@ use Rattle.supervision.specs.Ends.{Report}
 use Rattle.supervision.specs.declared.host_node.Told.TheVariants.{Final}
 use Rattle.courses.specs.Sessions.{Course, Step, Judges, judges, after_all as after_all_steps, MayAll as MayAllSteps}
 use Rattle.courses.specs.SessionFacts.{CourseFacts}
-use Rattle.serial_frame.specs.Frame.{FrameParts}
 use Rattle.serial_frame.specs.Items.{IsUnit}
 use Rattle.serial_frame.specs.Stream.{Rest}
 use Rattle.serial_frame.specs.declared.unit.Unit.{Unit as LineUnit}
 use Rattle.serial_frame.specs.declared.item.Item.{Item}
 use Rattle.serial_link.specs.State.{Side}
-use Rattle.serial_link.specs.declared.turn.Turn.{Turn}
 use Rattle.serial_pipes.specs.State.{WayState}
 use Rattle.chip_sim.specs.State.{ChipParts}
 use Rattle.chip_sim.specs.Rules.{WaitsWell}
@@ -50,18 +48,18 @@ use Rattle.line_facts.specs.Line.{host_units}
 use Rattle.line_facts.specs.Chip.{HasFrames}
 use Rattle.line_facts.proofs.Outer.{Written, routed_all}
 use Rattle.message_facts.specs.Others.{IsOther}
-use Rattle.node_course.specs.Ways.{Beside, Thinned, Goes}
+use Rattle.node_course.specs.Ways.{Thinned, Goes}
 use Rattle.node_course.specs.Meaning.{Asked}
 use Rattle.node_course.specs.Air.{OnAir}
 use Rattle.node_course.specs.Making.{AllMake}
-use Rattle.node_course.specs.Mesh.{HasDevice, labels}
-use Rattle.node_course.specs.Lines.{Tells, Asks, ItemIs, OnWay}
+use Rattle.node_course.specs.Mesh.{HasDevice}
+use Rattle.node_course.specs.Lines.{Tells, Asks, OnWay}
 use Rattle.node_course.specs.Host.{NodeAs, AsksPlainly}
 use Rattle.once_facts.specs.Tied.{AreOutcomes}
 use Rattle.node_course.specs.Told.{HasPast}
 use Rattle.node_course.specs.HostGoing.{HostFollows, HostGoes, IsAside, IsNoBegin, IsAnswer, EndsNone, AllWell}
 use Rattle.node_course.proofs.Thinning.{goes_nowhere, goes_on, goes_once, down_thins}
-use Rattle.node_course.proofs.Moving.{thinned_same, thinned_behind}
+use Rattle.node_course.proofs.Moving.{thinned_same, thinned_behind, first_label}
 use Rattle.node_course.proofs.Outer.{has_same, mesh_down}
 use Rattle.node_course.proofs.NodeKeeping.{SameHost, holding_same, outcome_orders}
 use Rattle.node_course.proofs.HostDoing.{AirLaws, SameAir, routed_air, writes_go, begin_goes, set_here}
@@ -80,14 +78,14 @@ pub happens_then : (w : Outside) (a b : List OuterEvent) → happens_all_outside
 happens_then w [] b = refl
 happens_then w (event ∷ a) b = happens_then (happens_outside w event) a b
 
-routed_then : (w : Outside) (a b : List HostOut) → happens_all_outside w (routed (a ++ b)) ≡ happens_all_outside (happens_all_outside w (routed a)) (routed b)
+pub routed_then : (w : Outside) (a b : List HostOut) → happens_all_outside w (routed (a ++ b)) ≡ happens_all_outside (happens_all_outside w (routed a)) (routed b)
 routed_then w a b = ap (happens_all_outside w) (routed-append a b) ∙ happens_then w (routed a) (routed b)
 
-after_then : (h : HostState) (a b : List HostEvent) → after_all h (a ++ b) ≡ after_all (after_all h a) b
+pub after_then : (h : HostState) (a b : List HostEvent) → after_all h (a ++ b) ≡ after_all (after_all h a) b
 after_then h [] b = refl
 after_then h (event ∷ a) b = after_then (after_host h event) a b
 
-outs_then : (h : HostState) (a b : List HostEvent) → outs_all h (a ++ b) ≡ outs_all h a ++ outs_all (after_all h a) b
+pub outs_then : (h : HostState) (a b : List HostEvent) → outs_all h (a ++ b) ≡ outs_all h a ++ outs_all (after_all h a) b
 outs_then h [] b = refl
 outs_then h (event ∷ a) b = ap (λ l. outs h event ++ l) (outs_then (after_host h event) a b) ∙ sym (append_assoc (outs h event) (outs_all (after_host h event) a) (outs_all (after_all (after_host h event) a) b))
 
@@ -101,11 +99,11 @@ pub told_same : (a b : HostBook) (id status : ℕ) → a.commands ≡ b.commands
 told_same a b id status commands outcomes =
     ap (λ (cs : List ℕ). told_of (record { commands = cs; outcome = a.outcome; attempts = 0 }) id status) commands ∙ ap (λ (o : Option ℕ). told_of (record { commands = b.commands; outcome = o; attempts = 0 }) id status) outcomes
 
-judged_final : (c : Course) (report : Report) (now : List Report) (session : ℕ) → told_of c.host (wire_id report.session) report.status ≡ Final session
+pub judged_final : (c : Course) (report : Report) (now : List Report) (session : ℕ) → told_of c.host (wire_id report.session) report.status ≡ Final session
     → judges c (report ∷ now) ≡ record c { host = record c.host { outcome = Some report.status }; down = now; told = c.told ++ report.status ∷ [] }
 judged_final c report now session e = rw e refl
 
-final_node : (n : NodeState) (id status session : ℕ) → told_of n.book id status ≡ Final session → after_node n (node_reports id status) ≡ with_final n status
+pub final_node : (n : NodeState) (id status session : ℕ) → told_of n.book id status ≡ Final session → after_node n (node_reports id status) ≡ with_final n status
 final_node n id status session e = ap (after_told n status) e
 
 written_wholes : (bytes : List ℕ) → cells_written (wholes bytes) ≡ bytes
@@ -157,15 +155,6 @@ module _ (laws : Laws) (node : ℕ) (rest : Rest) (down : List Item) where
       (asides_go one.orders one.later one.up yet (after_host h event) v events one.follows (past_kept laws.past h event facts well.may.0) (record { may = well.may.1; units = well.units.1 }) aside.1))
 
   -- ---- a report ends the last session
-
-  pub first_label : (c : Course) (item : Item) (items : List Item) (turn : Turn) (waiting : List FrameParts) → OnWay (Tells node) c.down (item ∷ items) turn waiting
-      → (mark : Option Report) × (ItemIs (Tells node) item mark × ((now : List Report) × ((c.down ≡ option_to_list mark ++ now) × OnWay (Tells node) now items turn waiting)))
-  first_label c item items turn waiting on = by on.on_line on.line on.are
-    where
-      by : (on_line : List (Option Report)) → Beside (ItemIs (Tells node)) (item ∷ items) on_line → c.down ≡ labels (on_line ++ (on.on_link ++ on.waits))
-          → (mark : Option Report) × (ItemIs (Tells node) item mark × ((now : List Report) × ((c.down ≡ option_to_list mark ++ now) × OnWay (Tells node) now items turn waiting)))
-      by [] none are = absurd none
-      by (mark ∷ marks) (first, more) are = (mark, (first, (labels (marks ++ (on.on_link ++ on.waits)), (are, record { on_line = marks; on_link = on.on_link; waits = on.waits; line = more; link = on.link; behind = on.behind; are = refl }))))
 
   module _ (orders : List Asked) (c : Course) (up yet : List Item) (h : HostState) (w : Outside) (item : Item) (f : HostFollows node orders c rest up (item ∷ yet) down h w) (facts : HasPast h) (course : CourseFacts c) (within : node < 233)
       (report : Report) (now : List Report) (are : c.down ≡ report ∷ now) (on : OnWay (Tells node) now (yet ++ down) w.outer.chip.state.port.side.turn w.outer.chip.state.port.waiting)
@@ -303,7 +292,7 @@ module _ (laws : Laws) (node : ℕ) (rest : Rest) (down : List Item) where
           let k : HostState = after_host h (Hears item) in
           let v : Outside = happens_all_outside w (routed (outs h (Hears item))) in
           let one : HostGoes node c rest (item ∷ yet) down k v = aside_goes orders c up (item ∷ yet) h w (Hears item) f facts these.may.0 tt tt tt these.units.0 in
-          let label = first_label one.later item (yet ++ down) v.outer.chip.state.port.side.turn v.outer.chip.state.port.waiting one.follows.reports in
+          let label = first_label (Tells node) one.later.down item (yet ++ down) v.outer.chip.state.port.side.turn v.outer.chip.state.port.waiting one.follows.reports in
           let more : AllWell k later = record { may = these.may.1; units = these.units.1 } in
           let facts' : HasPast k = past_kept laws.past h (Hears item) facts these.may.0 in
           subst (λ (u : Outside). HostGoes node c rest yet down (after_all k later) u) (sym (routed_then w (outs h (Hears item)) (outs_all k later)))

@@ -175,7 +175,7 @@ module _ (node : ℕ) where
   abbrev pub Bytes : Type 0
   Bytes = (status : ℕ) → IsStatus status → byte_of (report_status status) ≡ status
 
-  final_byte : (byte : ℕ) (status : FinalStatus) → status_of byte ≡ Some status → byte ≡ status_byte status
+  pub final_byte : (byte : ℕ) (status : FinalStatus) → status_of byte ≡ Some status → byte ≡ status_byte status
   final_byte byte status e = none (byte == 0) refl e
     where
       same : (a b : FinalStatus) → Some a ≡ Some b → a ≡ b

@@ -95,7 +95,7 @@ still_makes orders commands old new same keeps m = record {
       (subst (λ (t : Taken). IsAskedFor orders commands t.taken old.work.settings) (sym same.sessions) (m.work (subst (λ (k : ℕ). 0 < k) same.work_left some)));
 }
 
-untouched : (orders : List Asked) (commands : List ℕ) (old new : State) → IsLeft old new → Makes orders commands old → Makes orders commands new
+pub untouched : (orders : List Asked) (commands : List ℕ) (old new : State) → IsLeft old new → Makes orders commands old → Makes orders commands new
 untouched orders commands old new (same, kept) m =
     still_makes orders commands old new same
     (subst (λ (r : Reassembly). KeepsNext orders commands (new.sessions.taken + 1) r) (sym kept) (subst (λ (t : Taken). KeepsNext orders commands (t.taken + 1) old.reassembly) (sym same.sessions) m.keeps)) m
@@ -108,11 +108,10 @@ pub record Laws : Type 0 where
   pub left : (device : State) (payload drawn : List ℕ) → IsOther payload → lists device.kind 0x6C ≡ true → IsLeft device (device_after device (Hears payload drawn))
   pub segments : SegmentLaws
 
-module _ (laws : Laws) (orders : List Asked) (commands : List ℕ) (c : Course) (device : State) (session : ℕ) (payload drawn : List ℕ) (at : AtDevice c device) (awake : device.awake ≡ true) (is : IsMessageOf orders commands session payload)
-    (segment : Bool) (names : NamesOne c.device (record { session = session; is_segment = segment })) (m : Makes orders commands device) where
-  abbrev new : State
-  new = device_after device (Hears (message_of is.asked.carriage is.asked.order session) drawn)
-
+-- a device that follows the message of a session
+module _ (orders : List Asked) (commands ends : List ℕ) (device new : State) (session : ℕ) (payload : List ℕ) (ended : HasEnded device ends) (is : IsMessageOf orders commands session payload)
+    (makes_only : MakesOnly (settings is.asked.carriage.actuator is.asked.order) (verdict_on device is.asked.carriage is.asked.order))
+    (segment : Bool) (names : NamesOne device.sessions (record { session = session; is_segment = segment })) (m : Makes orders commands device) where
   module _ (number : ℕ) (own : number ≡ session) (sessions : new.sessions.taken ≡ number) (none : device.work_left ≡ 0) (empty : new.reassembly ≡ Empty) where
     keeps_none : KeepsNext orders commands (new.sessions.taken + 1) new.reassembly
     keeps_none = none_kept orders commands (new.sessions.taken + 1) new.reassembly empty
@@ -145,16 +144,20 @@ module _ (laws : Laws) (orders : List Asked) (commands : List ℕ) (c : Course) 
 
   heard_by : (heard : Heard) → heard_of device.sessions (wire_id session) ≡ heard → Follows device new (verdict_on device is.asked.carriage is.asked.order) heard → Makes orders commands new
   heard_by (New number) e t =
-      let one = names.is_new number (subst (λ (s : Taken). heard_of s (wire_id session) ≡ New number) at.sessions e) in
-      taken_by number one.0 (ap (λ (s : Taken). s.taken) t.sessions) (at_rest device c.ends at.ended t.free).0 t.empty (verdict_on device is.asked.carriage is.asked.order)
-      (laws.asked device is.asked.carriage is.asked.order is.fit.good) t.made t.work
+      taken_by number (names.is_new number e).0 (ap (λ (s : Taken). s.taken) t.sessions) (at_rest device ends ended t.free).0 t.empty (verdict_on device is.asked.carriage is.asked.order) makes_only t.made t.work
   heard_by (Again status) e same = untouched orders commands device new same m
   heard_by Old e same = untouched orders commands device new same m
 
-  message_makes : Makes orders commands (device_after device (Hears payload drawn))
-  message_makes =
-      subst (λ (p : List ℕ). Makes orders commands (device_after device (Hears p drawn))) (sym is.text)
-      (heard_by (heard_of device.sessions (wire_id session)) refl (laws.follows device drawn is.asked.carriage is.asked.order session is.fit is.end awake at.is_open))
+  pub follows_makes : Follows device new (verdict_on device is.asked.carriage is.asked.order) (heard_of device.sessions (wire_id session)) → Makes orders commands new
+  follows_makes follows = heard_by (heard_of device.sessions (wire_id session)) refl follows
+
+message_makes : Laws → (orders : List Asked) (commands : List ℕ) (c : Course) (device : State) (session : ℕ) (payload drawn : List ℕ) → AtDevice c device → device.awake ≡ true → IsMessageOf orders commands session payload
+    → (segment : Bool) → NamesOne c.device (record { session = session; is_segment = segment }) → Makes orders commands device → Makes orders commands (device_after device (Hears payload drawn))
+message_makes laws orders commands c device session payload drawn at awake is segment names m =
+    subst (λ (p : List ℕ). Makes orders commands (device_after device (Hears p drawn))) (sym is.text)
+    (follows_makes orders commands c.ends device (device_after device (Hears (message_of is.asked.carriage is.asked.order session) drawn)) session payload at.ended is
+    (laws.asked device is.asked.carriage is.asked.order is.fit.good) segment (subst (λ (t : Taken). NamesOne t (record { session = session; is_segment = segment })) (sym at.sessions) names) m
+    (laws.follows device drawn is.asked.carriage is.asked.order session is.fit is.end awake at.is_open))
 
 -- a segment is heard
 segment_makes : Laws → (orders : List Asked) (commands : List ℕ) (c : Course) (device : State) (session : ℕ) (payload drawn : List ℕ) → AtDevice c device → device.awake ≡ true → IsSegmentOf orders commands session payload

@@ -376,3 +376,15 @@ module _ {L : Type 0} (Is : FrameParts → Option L → Type 0) where
       by : (b : Bool) → Moves Is (Paused f copies ticks) waiting (copies_of (if b then Some f else None)) (if b then Copied f (copies + 1) 0 else Paused f copies (ticks + 1)) waiting []
       by true = move_copy f (Paused f copies ticks) (Copied f (copies + 1) 0) waiting refl refl
       by false = move_same (Paused f copies ticks) (Paused f copies (ticks + 1)) waiting refl
+
+  -- ---- the first item
+
+  -- it has a label, and the other labels are on their way without it
+  pub first_label : (carried : List L) (item : Item) (items : List Item) (turn : Turn) (waiting : List FrameParts) → OnWay Is carried (item ∷ items) turn waiting
+      → (mark : Option L) × (ItemIs Is item mark × ((now : List L) × ((carried ≡ option_to_list mark ++ now) × OnWay Is now items turn waiting)))
+  first_label carried item items turn waiting on = by on.on_line on.line on.are
+    where
+      by : (on_line : List (Option L)) → Beside (ItemIs Is) (item ∷ items) on_line → carried ≡ labels (on_line ++ (on.on_link ++ on.waits))
+          → (mark : Option L) × (ItemIs Is item mark × ((now : List L) × ((carried ≡ option_to_list mark ++ now) × OnWay Is now items turn waiting)))
+      by [] none are = absurd none
+      by (mark ∷ marks) (first, more) are = (mark, (first, (labels (marks ++ (on.on_link ++ on.waits)), (are, record { on_line = marks; on_link = on.on_link; waits = on.waits; line = more; link = on.link; behind = on.behind; are = refl }))))

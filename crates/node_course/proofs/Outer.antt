@@ -67,11 +67,11 @@ use Rattle.node_course.specs.Air.{BearsBy, Bears, OnAir}
 use Rattle.node_course.specs.Device.{AtDevice}
 use Rattle.node_course.specs.Chip.{GivesAs}
 use Rattle.node_course.specs.Making.{AllMake}
-use Rattle.node_course.specs.Mesh.{HasDevice, InMesh, labels, Adds}
-use Rattle.node_course.specs.Lines.{Tells, Asks, asked_as, ItemIs, OnWay, Later}
+use Rattle.node_course.specs.Mesh.{HasDevice, InMesh, IsTold, labels, Adds}
+use Rattle.node_course.specs.Lines.{TellsAs, Tells, Asks, asked_as, ItemIs, OnWay, Later}
 use Rattle.node_course.specs.Outside.{Follows, OuterGoes}
 use Rattle.node_course.proofs.Thinning.{goes_nowhere, goes_on, goes_once, up_thins, down_thins}
-use Rattle.node_course.proofs.Moving.{thinned_same, thinned_behind, thinned_both, thinned_then}
+use Rattle.node_course.proofs.Moving.{thinned_same, thinned_behind, thinned_both, thinned_then, first_label}
 use Rattle.node_course.proofs.Chipping.{chips_move}
 use Rattle.node_course.proofs.Replies.{Flying}
 use Rattle.node_course.proofs.ChipTelling.{AreMild, each_mild, queued_mild, served_mild, ChipTells}
@@ -118,28 +118,28 @@ mesh_up node orders c mesh now is = record {
 -- ---- the chip's side of the line
 
 -- what is on its way to the host, and what the chip has
-pub record Way (node : ℕ) (carried : List Report) (rest : Rest) (down : List Item) (o : OuterState) : Type 0 where
+pub record Way {L : Type 0} (Holds : List ℕ → Option L → Type 0) (node : ℕ) (carried : List L) (rest : Rest) (down : List Item) (o : OuterState) : Type 0 where
   pub to_host : Carries rest o.to_host down
   pub frames : HasFrames o.chip.state.port
   pub waits : WaitsWell o.chip.state.port
-  pub reports : OnWay (Tells node) carried down o.chip.state.port.side.turn o.chip.state.port.waiting
+  pub reports : OnWay (TellsAs Holds node) carried down o.chip.state.port.side.turn o.chip.state.port.waiting
 
-pub record WayGoes (node : ℕ) (carried : List Report) (rest : Rest) (o p : OuterState) : Type 0 where
+pub record WayGoes {L : Type 0} (Holds : List ℕ → Option L → Type 0) (node : ℕ) (carried : List L) (rest : Rest) (o p : OuterState) : Type 0 where
   pub down : List Item
-  pub now : List Report
+  pub now : List L
   pub thin : Thinned carried now
-  pub way : Way node now rest down p
+  pub way : Way Holds node now rest down p
 
-thinned_given : {X : Type 0} (a b c : List X) → Thinned b c → Thinned (a ++ b) (a ++ c)
+pub thinned_given : {X : Type 0} (a b c : List X) → Thinned b c → Thinned (a ++ b) (a ++ c)
 thinned_given a b c is = thinned_both a a b c (thinned_same a) is
 
 -- the chip did these events, and was given these
-way_goes : (node : ℕ) (carried : List Report) (rest : Rest) (down : List Item) (o p : OuterState) (events : List ChipEvent) (marks : List (Option Report)) → Way node carried rest down o → ChipDoes events o p
-    → Beside (GivesAs node) events marks → WayGoes node (carried ++ labels marks) rest o p
-way_goes node carried rest down o p events marks w does gives =
+pub way_goes : {L : Type 0} (Holds : List ℕ → Option L → Type 0) (node : ℕ) (carried : List L) (rest : Rest) (down : List Item) (o p : OuterState) (events : List ChipEvent) (marks : List (Option L)) → Way Holds node carried rest down o → ChipDoes events o p
+    → Beside (GivesAs Holds node) events marks → WayGoes Holds node (carried ++ labels marks) rest o p
+way_goes Holds node carried rest down o p events marks w does gives =
     let s : ChipState = o.chip.state in
-    let later : Later (Tells node) (carried ++ labels marks) (down ++ items_all o.to_host (chip_units (outs_all s events))) (after_all s events).port.side.turn (after_all s events).port.waiting =
-    chips_move node s events marks does.may w.waits gives carried down o.to_host w.reports in
+    let later : Later (TellsAs Holds node) (carried ++ labels marks) (down ++ items_all o.to_host (chip_units (outs_all s events))) (after_all s events).port.side.turn (after_all s events).port.waiting =
+    chips_move Holds node s events marks does.may w.waits gives carried down o.to_host w.reports in
     record {
       down = down ++ items_all o.to_host (chip_units (outs_all s events));
       now = later.now;
@@ -149,7 +149,7 @@ way_goes node carried rest down o p events marks w does gives =
             (carries_all rest o.to_host (chip_units (outs_all s events)) down w.to_host (events_fit s events w.frames does.may));
         frames = subst (λ (t : ChipState). HasFrames t.port) (sym does.state) (events_have s events w.frames does.may);
         waits = subst (λ (t : ChipState). WaitsWell t.port) (sym does.state) (well_all s events w.waits);
-        reports = subst (λ (t : ChipState). OnWay (Tells node) later.now (down ++ items_all o.to_host (chip_units (outs_all s events))) t.port.side.turn t.port.waiting) (sym does.state) later.on_way;
+        reports = subst (λ (t : ChipState). OnWay (TellsAs Holds node) later.now (down ++ items_all o.to_host (chip_units (outs_all s events))) t.port.side.turn t.port.waiting) (sym does.state) later.on_way;
       };
     }
 
@@ -157,16 +157,16 @@ way_goes node carried rest down o p events marks w does gives =
 
 module _ (node : ℕ) (orders : List Asked) where
   pub outer_goes : (c : Course) (rest : Rest) (turn : Turn) (up down : List Item) (w : Outside) (later : Course) (given : List Report) (o p : OuterState) (devices : List State) → Follows node orders c rest turn up down w
-      → o.chip ≡ w.outer.chip → o.to_host ≡ w.outer.to_host → o.to_chip ≡ w.outer.to_chip → Goes c later → Adds c later given → InMesh node orders later (record { air = o.air; devices = devices }) → ChipTells node given o p
+      → o.chip ≡ w.outer.chip → o.to_host ≡ w.outer.to_host → o.to_chip ≡ w.outer.to_chip → Goes c later → Adds c later given → InMesh node orders later (record { air = o.air; devices = devices }) → ChipTells IsTold node given o p
       → OuterGoes node orders c rest turn (outside p devices)
   outer_goes c rest turn up down w later given o p devices f chip to_host to_chip goes adds mesh tells =
-      let before : Way node c.down rest down o = record {
+      let before : Way IsTold node c.down rest down o = record {
         to_host = subst (λ (y : WayState). Carries rest y down) (sym to_host) f.to_host;
         frames = subst (λ (x : ChipParts). HasFrames x.state.port) (sym chip) f.frames;
         waits = subst (λ (x : ChipParts). WaitsWell x.state.port) (sym chip) f.waits;
         reports = subst (λ (x : ChipParts). OnWay (Tells node) c.down down x.state.port.side.turn x.state.port.waiting) (sym chip) f.reports;
       } in
-      let g : WayGoes node (c.down ++ labels tells.marks) rest o p = way_goes node c.down rest down o p tells.events tells.marks before tells.does tells.gives in
+      let g : WayGoes IsTold node (c.down ++ labels tells.marks) rest o p = way_goes IsTold node c.down rest down o p tells.events tells.marks before tells.does tells.gives in
       let thin : Thinned later.down g.now =
       subst (λ (ds : List Report). Thinned ds g.now) (sym adds.down) (thinned_then (c.down ++ given) (c.down ++ labels tells.marks) g.now (thinned_given c.down given (labels tells.marks) tells.are) g.thin) in
       record {
@@ -253,7 +253,7 @@ pub record Departs (o : OuterState) (item : Item) (air : AirState) : Type 0 wher
   pub asks : asked frame ≡ Some (SendData to payload options id)
   pub air_is : air ≡ departing o.air to Outward (Some route) payload
 
-abbrev OnAirBy : OuterState → Item → AirState → Type 0
+abbrev pub OnAirBy : OuterState → Item → AirState → Type 0
 OnAirBy o item air = (air ≡ o.air) ⊎ Departs o item air
 
 performed_air : (o p : OuterState) (item : Item) (f : FrameParts) (s : ChipState) (request : Request) (found : Option Route) → item ≡ Good (Framed f) → asked f ≡ Some request → p.air ≡ o.air
@@ -286,7 +286,7 @@ judged_air : (o p : OuterState) (item : Item) (b : Bool) (s : ChipState) (found 
 judged_air o p item b s None route e same = inl (each_mild p (judged_outs None s route) (served_mild s.port) ∙ same)
 judged_air o p item b s (Some f) route e same = requested_air o p item f s (asked f) route (passed_item b item f e) refl same
 
-item_air : (o : OuterState) (item : Item) (route : Option Route) → OnAirBy o item (chip_does o (Judged item route)).outer.air
+pub item_air : (o : OuterState) (item : Item) (route : Option Route) → OnAirBy o item (chip_does o (Judged item route)).outer.air
 unfolding chip_does
 item_air o item route =
     let s : ChipState = o.chip.state in
@@ -349,7 +349,7 @@ read_named func body v e =
     let g = ended_ok a.0.0 v a.0.1.before a.0.1.rest a.2 in
     subst (λ (w : Request). NamesNode w) g.1 (row_named func (start_of body) a.0.1 a.0.0 a.1)
 
-asked_node : (f : FrameParts) (n : ℕ) (payload : List ℕ) (options id : ℕ) → asked f ≡ Some (SendData n payload options id) → n < 233
+pub asked_node : (f : FrameParts) (n : ℕ) (payload : List ℕ) (options id : ℕ) → asked f ≡ Some (SendData n payload options id) → n < 233
 asked_node f n payload options id e = by f.kind e
   where
     read : (r : Result Request BodyFault) → request_of f.func f.body ≡ r → read_of r ≡ Some (SendData n payload options id) → n < 233
@@ -365,7 +365,7 @@ asked_node f n payload options id e = by f.kind e
 -- what is outside but for the bytes to the chip
 pub record Half (node : ℕ) (orders : List Asked) (c : Course) (rest : Rest) (turn : Turn) (up down : List Item) (o : OuterState) (devices : List State) : Type 0 where
   pub mesh : InMesh node orders c (record { air = o.air; devices = devices })
-  pub way : Way node c.down rest down o
+  pub way : Way IsTold node c.down rest down o
   pub messages : OnWay (Asks node orders c.host.commands) c.up up turn []
 
 pub record HalfGoes (node : ℕ) (orders : List Asked) (c : Course) (rest : Rest) (turn : Turn) (up : List Item) (o : OuterState) (devices : List State) : Type 0 where
@@ -407,17 +407,6 @@ hosts_are node orders commands (frame ∷ frames) (flight ∷ flights) is =
 
 module _ (flying : Flying) (room : (log : List Mark) (before : List Flown) (flight : Flown) (o : OuterState) → Fly log (before ++ flight ∷ []) o.air.frames → flight.heading ≡ Outward → IsFew o → outward before ≤ 1)
     (node : ℕ) (orders : List Asked) where
-  -- the course without the label of the first item
-  without_first : (c : Course) (turn : Turn) (item : Item) (up : List Item) → OnWay (Asks node orders c.host.commands) c.up (item ∷ up) turn []
-      → (mark : Option Message) × (ItemIs (Asks node orders c.host.commands) item mark × ((now : List Message) × ((c.up ≡ option_to_list mark ++ now) × OnWay (Asks node orders c.host.commands) now up turn [])))
-  without_first c turn item up on = by on.on_line on.line on.are
-    where
-      by : (on_line : List (Option Message)) → Beside (ItemIs (Asks node orders c.host.commands)) (item ∷ up) on_line → c.up ≡ labels (on_line ++ (on.on_link ++ on.waits))
-          → (mark : Option Message) × (ItemIs (Asks node orders c.host.commands) item mark × ((now : List Message) × ((c.up ≡ option_to_list mark ++ now) × OnWay (Asks node orders c.host.commands) now up turn [])))
-      by [] none are = absurd none
-      by (mark ∷ marks) (first, more) are =
-          (mark, (first, (labels (marks ++ (on.on_link ++ on.waits)), (are, record { on_line = marks; on_link = on.on_link; waits = on.waits; line = more; link = on.link; behind = on.behind; are = refl }))))
-
   -- a frame of the host goes on the air with this cargo, by this step
   sends_with : (c mid : Course) (air : AirState) (o : OuterState) (devices : List State) (to : ℕ) (route : Route) (payload : List ℕ) (cargo : Cargo) (step : Step) → Goes c mid → InMesh node orders mid (record { air = air; devices = devices })
       → to < 233 → o.air ≡ departing air to Outward (Some route) payload → IsFew o → (hosts is_of_host mid.air ≤ 1 → May mid step) → (later : Course) → after mid step ≡ later → later.host ≡ mid.host
@@ -457,8 +446,8 @@ module _ (flying : Flying) (room : (log : List Mark) (before : List Flown) (flig
     abbrev p : OuterState
     p = (chip_does o (Judged item route)).outer
 
-    told_on : WayGoes node (c.down ++ labels (None ∷ [])) rest o p
-    told_on = way_goes node c.down rest down o p (Judged item route ∷ []) (None ∷ []) h.way (does_one o (Judged item route) may) (refl, tt)
+    told_on : WayGoes IsTold node (c.down ++ labels (None ∷ [])) rest o p
+    told_on = way_goes IsTold node c.down rest down o p (Judged item route ∷ []) (None ∷ []) h.way (does_one o (Judged item route) may) (refl, tt)
 
     ends_with : (later : Course) → Goes c later → later.host ≡ c.host → later.told ≡ c.told → later.down ≡ c.down → InMesh node orders later (record { air = p.air; devices = devices })
         → OnWay (Asks node orders c.host.commands) later.up up turn [] → HalfGoes node orders c rest turn up p devices
@@ -518,7 +507,7 @@ module _ (flying : Flying) (room : (log : List Mark) (before : List Flown) (flig
 
     pub judge_one : HalfGoes node orders c rest turn up p devices
     judge_one =
-        let w = without_first c turn item up h.messages in
+        let w = first_label (Asks node orders c.host.commands) c.up item up turn [] h.messages in
         judge_by w.0 w.1.1.0 w.1.0 w.1.1.1.0 w.1.1.1.1 (item_air o item route)
 
   -- ---- items one after another

@@ -50,7 +50,7 @@ use Rattle.node_course.specs.Meaning.{Asked}
 use Rattle.node_course.specs.Air.{OnAir}
 use Rattle.node_course.specs.Making.{Makes, AllMake, HearsNone}
 use Rattle.node_course.specs.Device.{AtDevice, GoesAs}
-use Rattle.node_course.specs.Mesh.{HasDevice, InMesh, labels, brought, Adds, MeshGoes}
+use Rattle.node_course.specs.Mesh.{HasDevice, InMesh, IsTold, labels, brought, Adds, MeshGoes}
 use Rattle.node_course.specs.Outside.{Follows, OuterGoes, SideRests, Rests}
 use Rattle.node_course.proofs.Thinning.{goes_nowhere, up_thins, down_thins}
 use Rattle.node_course.proofs.Moving.{thinned_same, thinned_behind, labels-append}
@@ -89,10 +89,10 @@ module _ (laws : Laws) (node : ℕ) (orders : List Asked) (c : Course) (rest : R
       → OuterGoes node orders c rest turn (outside n w.devices)
   still w n f chip to_host to_chip frames =
       outer_goes node orders c rest turn up down w c [] n n w.devices f chip to_host to_chip (goes_nowhere c) nothing_adds (same_mesh w n.air frames f.mesh)
-      (tells_still node n n [] (record { chip = refl; to_host = refl; to_chip = refl }) refl)
+      (tells_still IsTold node n n [] (record { chip = refl; to_host = refl; to_chip = refl }) refl)
 
   -- the chip does something, and the air is as it was
-  chip_goes : (w : Outside) (n : OuterState) → Follows node orders c rest turn up down w → ChipTells node [] w.outer n → OuterGoes node orders c rest turn (outside n w.devices)
+  chip_goes : (w : Outside) (n : OuterState) → Follows node orders c rest turn up down w → ChipTells IsTold node [] w.outer n → OuterGoes node orders c rest turn (outside n w.devices)
   chip_goes w n f tells = outer_goes node orders c rest turn up down w c [] w.outer n w.devices f refl refl refl (goes_nowhere c) nothing_adds f.mesh tells
 
   -- what happens on the air is dealt with
@@ -100,7 +100,7 @@ module _ (laws : Laws) (node : ℕ) (orders : List Asked) (c : Course) (rest : R
       → OuterGoes node orders c rest turn (outside (each (deals m.devices) (record w.outer { air = m.air }) outs).outer m.devices)
   mesh_goes w m outs f g =
       outer_goes node orders c rest turn up down w g.later (labels g.marks) (record w.outer { air = m.air }) (each (deals m.devices) (record w.outer { air = m.air }) outs).outer m.devices f refl refl refl g.goes g.adds g.in_mesh
-      (deals_tell node m.devices (record w.outer { air = m.air }) outs g.marks g.brings)
+      (deals_tell IsTold node m.devices (record w.outer { air = m.air }) outs g.marks g.brings)
 
   repeats_go : (w : Outside) (refused : Option RepeatRefusal) (number : ℕ) (drawn : List ℕ) (route : Option Route) → node < 233 → CourseFacts c → Follows node orders c rest turn up down w → refusal_of w.outer.air.frames number ≡ refused
       → MayRepeat w refused (mesh.Repeats number drawn route) → OuterGoes node orders c rest turn (outside (repeats w refused (mesh.Repeats number drawn route)).outer (devices_repeated w refused (mesh.Repeats number drawn route)))
@@ -130,7 +130,7 @@ module _ (laws : Laws) (node : ℕ) (orders : List Asked) (c : Course) (rest : R
   joins_go w n listening f =
       let air : AirState = joining w.outer.air n listening in
       let mid : OuterState = with_chip w.outer (after_all w.outer.chip.state (Joined n listening ∷ links_of air n)) in
-      let g : OuterGoes node orders c rest turn (outside mid w.devices) = chip_goes w mid f (joins_tell node w.outer n listening) in
+      let g : OuterGoes node orders c rest turn (outside mid w.devices) = chip_goes w mid f (joins_tell IsTold node w.outer n listening) in
       record {
         later = g.later;
         goes = g.goes;
@@ -243,7 +243,7 @@ module _ (laws : Laws) (node : ℕ) (orders : List Asked) (c : Course) (rest : R
       let ticked : OuterState = record o { chip = record { decoder = after_tick o.chip.decoder; state = o.chip.state } } in
       let same : after_tick o.chip.decoder ≡ o.chip.decoder = ap after_tick rests ∙ sym rests in
       outer_goes node orders c rest turn up down w c [] ticked (chip_does ticked Ticked).outer w.devices f (ap (λ (r : Rest). record { decoder = r; state = o.chip.state }) same) refl refl (goes_nowhere c) nothing_adds f.mesh
-      (tells_one node ticked Ticked None tt tt refl)
+      (tells_one IsTold node ticked Ticked None tt tt refl)
 
   -- ---- any event
 
@@ -262,7 +262,7 @@ module _ (laws : Laws) (node : ℕ) (orders : List Asked) (c : Course) (rest : R
   goes_by w (Chip_takes count after_rest ways) within course f own may rests few = takes_go laws.flying laws.room node orders c rest turn up down w count after_rest ways f may few
   goes_by w (Arrives drawn route) within course f own may rests few =
       mesh_goes w (mesh_after (mesh_of w) (mesh.Arrives drawn route)) (mesh_outs (mesh_of w) (mesh.Arrives drawn route)) f (laws.arrives node orders c (mesh_of w) drawn route within course f.mesh may)
-  goes_by w (Gives route) within course f own may rests few = chip_goes w (gives w.outer w.devices w.outer.due route).outer f (gives_tells node w.outer w.devices w.outer.due route)
+  goes_by w (Gives route) within course f own may rests few = chip_goes w (gives w.outer w.devices w.outer.due route).outer f (gives_tells IsTold node w.outer w.devices w.outer.due route)
   goes_by w (Device_ticks place drawn route) within course f own may rests few = acts_go w place (slice_get w.devices place) (Ticks drawn) route tt f refl (λ device at. laws.ticks c device drawn at)
   goes_by w Chip_ticks within course f own may rests few = tick_goes w f rests
   goes_by w (Repeats number drawn route) within course f own may rests few = repeats_go w (refusal_of w.outer.air.frames number) number drawn route within course f refl may
@@ -270,14 +270,14 @@ module _ (laws : Laws) (node : ℕ) (orders : List Asked) (c : Course) (rest : R
   goes_by w (Sets_device n value route) within course f own may rests few = hand_go w (place_of n w.devices) (Sets value) route tt f (λ device at. laws.sets c device value at)
   goes_by w (Shows n) within course f own may rests few = still w _ f refl refl refl refl
   goes_by w (Joins n) within course f own may rests few = joins_go w n (listens_at (device_at w.devices (place_of n w.devices))) f
-  goes_by w Discovers within course f own may rests few = chip_goes w (discovers w.outer) f (discovers_tell node w.outer)
+  goes_by w Discovers within course f own may rests few = chip_goes w (discovers w.outer) f (discovers_tell IsTold node w.outer)
   goes_by w (Links a b live) within course f own may rests few = still w _ f refl refl refl refl
   goes_by w (Loses count) within course f own may rests few = still w _ f refl refl refl refl
   goes_by w (Loses_acks count) within course f own may rests few = still w _ f refl refl refl refl
   goes_by w (Marks_loss side) within course f own may rests few = loses_go w side f
   goes_by w (Marks_change side garble) within course f own may rests few = changes_go w side garble f
   goes_by w (Clears_pipe side) within course f own may rests few = clears_go w side f rests
-  goes_by w Collides_next within course f own may rests few = chip_goes w (with_chip w.outer (after w.outer.chip.state Collides)) f (collides_tell node w.outer)
+  goes_by w Collides_next within course f own may rests few = chip_goes w (with_chip w.outer (after w.outer.chip.state Collides)) f (collides_tell IsTold node w.outer)
   goes_by w (Stalls ticks) within course f own may rests few = still w _ f refl refl refl refl
   goes_by w (Cuts size) within course f own may rests few = still w _ f refl refl refl refl
 

@@ -171,7 +171,7 @@ finished_ways c (Some status) = record { host = refl; sent = refl; up = refl; do
 
 -- ---- the devices
 
-place_set : (node : ℕ) (devices : List State) (place : ℕ) (device other : State) → slice_get devices place ≡ Some device → other.node ≡ device.node → place_of node (slice_set devices place other) ≡ place_of node devices
+pub place_set : (node : ℕ) (devices : List State) (place : ℕ) (device other : State) → slice_get devices place ≡ Some device → other.node ≡ device.node → place_of node (slice_set devices place other) ≡ place_of node devices
 place_set node [] place device other at same = refl
 place_set node (first ∷ devices) zero device other at same =
     let is : first ≡ device = cc in ap (λ (m : ℕ). if m == node then Some 0 else option_map suc (place_of node devices)) (same ∙ ap (λ (d : State). d.node) (sym is))
@@ -179,7 +179,7 @@ place_set node (first ∷ devices) (suc place) device other at same =
     ap (λ (o : Option ℕ). if first.node == node then Some 0 else option_map suc o) (place_set node devices place device other at same)
 
 -- who stands at a place once one was set there
-was_there : (devices : List State) (place : ℕ) (device new : State) (at : ℕ) (one : State) → slice_get devices place ≡ Some device → new.node ≡ device.node → slice_get (slice_set devices place new) at ≡ Some one
+pub was_there : (devices : List State) (place : ℕ) (device new : State) (at : ℕ) (one : State) → slice_get devices place ≡ Some device → new.node ≡ device.node → slice_get (slice_set devices place new) at ≡ Some one
     → (old : State) × ((slice_get devices at ≡ Some old) × (old.node ≡ one.node))
 was_there devices place device new at one stood same found = by (at == place) refl
   where

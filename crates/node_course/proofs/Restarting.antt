@@ -8,6 +8,8 @@ use Rattle.supervision.specs.Session.{wire_id}
 use Rattle.supervision.specs.declared.host_node.Told.{Told}
 use Rattle.supervision.specs.declared.host_node.Told.TheVariants.{Final, Working, Old}
 use Rattle.courses.specs.Sessions.{Course, Message}
+use Rattle.s0_session.specs.declared.account.Account.{Account}
+use Rattle.s0_session.specs.Nonces.{account_of}
 use Rattle.serial_frame.specs.Stream.{Rest, no_rest}
 use Rattle.serial_frame.specs.declared.item.Item.{Item}
 use Rattle.serial_link.specs.State.{Side}
@@ -72,7 +74,7 @@ first_as keys node =
 
 -- ---- nothing of an attempt
 
-abbrev IsBare : NodeState → Type 0
+abbrev pub IsBare : NodeState → Type 0
 IsBare n = (n.text ≡ None) × (n.pending ≡ None)
 
 -- what a record may do to a node
@@ -109,10 +111,10 @@ record_bare n _ is bare = absurd is
 -- ---- a host that takes up its records
 
 -- nothing of its own is on the line, nothing waits to be sent, and nothing is left of an attempt at the node
-record IsFresh (node : ℕ) (h : HostState) : Type 0 where
-  turn : h.side.turn ≡ Idle
-  queue : h.requests.queue ≡ []
-  bare : IsBare (node_of h node)
+pub record IsFresh (node : ℕ) (h : HostState) : Type 0 where
+  pub turn : h.side.turn ≡ Idle
+  pub queue : h.requests.queue ≡ []
+  pub bare : IsBare (node_of h node)
 
 module _ (node : ℕ) where
   does_fresh : (h : HostState) (n : ℕ) (event : NodeEvent) → IsOfRecord event → IsFresh node h → IsFresh node (node_does h n event)
@@ -181,17 +183,22 @@ opened_fresh keys records node =
     let all : (n : ℕ) → IsFresh n taken = all_fresh (first_host keys) records (first_fresh keys) in
     record { turn = (all node).turn; queue = (all node).queue; bare = restarting_bare taken.nodes (λ n. (all n).bare) node }
 
-opens_fresh : (keys : Keys) (records : Option (List (List ℕ))) (state : HostState) (node : ℕ) → OpensFrom keys records state → IsSome records → IsFresh node state
+pub opens_fresh : (keys : Keys) (records : Option (List (List ℕ))) (state : HostState) (node : ℕ) → OpensFrom keys records state → IsSome records → IsFresh node state
 opens_fresh keys None state node opens some = let bad : false ≡ true = some in absurd cc
 opens_fresh keys (Some texts) state node (records, are, legal, is) some = subst (λ (h : HostState). IsFresh node h) (sym is) (opened_fresh keys records node)
 
 -- ---- what was recorded
 
--- a host has the orders of another, and the sessions of the node with the outcome of the last
-record GoesOnAt (node : ℕ) (old new : HostState) : Type 0 where
-  orders : map asked_of new.commands ≡ map asked_of old.commands
-  sessions : (node_of new node).book.commands ≡ (node_of old node).book.commands
-  ended : (node_of new node).book.outcome ≡ (node_of old node).book.outcome
+-- a host has the orders of another, and the sessions of the node with the outcome of the last; the nonces that it gave the node, and how many of the node's it saw
+pub record GoesOnAt (node : ℕ) (old new : HostState) : Type 0 where
+  pub orders : map asked_of new.commands ≡ map asked_of old.commands
+  pub sessions : (node_of new node).book.commands ≡ (node_of old node).book.commands
+  pub ended : (node_of new node).book.outcome ≡ (node_of old node).book.outcome
+  pub account : account_of new.nonces node ≡ account_of old.nonces node
+  pub seen : (node_of new node).seen ≡ (node_of old node).seen
+
+same_account : (a b : Account) → a.given ≡ b.given → a.live ≡ b.live → a ≡ b
+same_account a b given live = ap (λ (g : ℕ). record { given = g; live = a.live }) given ∙ ap (λ (l : Option (List ℕ)). record { given = b.given; live = l }) live
 
 as_taken : (commands : List Command) → map asked_of commands ≡ map (λ (t : Taken). record { order = t.order; carriage = t.carriage }) (map taken_as commands)
 as_taken [] = refl
@@ -209,9 +216,11 @@ held_on one node old new texts was is =
       orders = as_taken new.commands ∙ ap (λ (l : List Taken). map (λ (t : Taken). record { order = t.order; carriage = t.carriage }) l) (now.commands ∙ sym was.holds.commands) ∙ sym (as_taken old.commands);
       sessions = (now.nodes node).sessions ∙ sym (was.holds.nodes node).sessions;
       ended = (now.nodes node).ended ∙ sym (was.holds.nodes node).ended;
+      account = same_account (account_of new.nonces node) (account_of old.nonces node) ((now.nodes node).given ∙ sym (was.holds.nodes node).given) ((now.nodes node).live ∙ sym (was.holds.nodes node).live);
+      seen = (now.nodes node).seen ∙ sym (was.holds.nodes node).seen;
     }
 
-told_on : OneThing → (node : ℕ) (old new : HostState) (records : Option (List (List ℕ))) → IsSome records → IsHeld old records → IsHeld new records → GoesOnAt node old new
+pub told_on : OneThing → (node : ℕ) (old new : HostState) (records : Option (List (List ℕ))) → IsSome records → IsHeld old records → IsHeld new records → GoesOnAt node old new
 told_on one node old new None some was is = let bad : false ≡ true = some in absurd cc
 told_on one node old new (Some texts) some was is = held_on one node old new texts was is
 

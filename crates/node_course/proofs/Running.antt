@@ -33,7 +33,7 @@ use Rattle.node_course.proofs.Taken.{changes_taken}
 
 -- ---- at first
 
-none_told : (session status : ℕ) → session_at [] session ≡ Some status → ⊥
+pub none_told : (session status : ℕ) → session_at [] session ≡ Some status → ⊥
 none_told zero status e = absurd (grind (arith, e))
 none_told (suc before) status e = absurd (grind (arith, e))
 

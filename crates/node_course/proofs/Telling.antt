@@ -33,13 +33,16 @@ use Rattle.host_events.specs.Outs.{outs}
 use Rattle.host_events.specs.Taking.{IsJudged, AreJudged}
 use Rattle.host_events.specs.Events.{HostEvent, Begins, Finishes, Hears}
 use Rattle.node_course.specs.Meaning.{Asked}
+use Rattle.node_course.specs.Lines.{Tells}
 use Rattle.node_course.specs.Making.{MakesAsked}
 use Rattle.node_course.specs.Told.{HasPast}
 use Rattle.node_course.specs.HostGoing.{HostFollows, HostGoes, IsAside, EndsNone, AllWell}
 use Rattle.once_facts.specs.Tied.{MakesWhatIsTaken}
 use Rattle.once_facts.specs.Truly.{IsDoneBy, TellsTruly, TellTruly}
 use Rattle.node_course.proofs.HostJudging.{AllAside, IsFinish, item_told}
-use Rattle.node_course.proofs.HostItems.{Laws, happens_then, well_front, told_same, course_goes, aside_goes, first_label, judge_item, facts_then}
+use Rattle.node_course.specs.Lines.{Tells}
+use Rattle.node_course.proofs.Moving.{first_label}
+use Rattle.node_course.proofs.HostItems.{Laws, happens_then, well_front, told_same, course_goes, aside_goes, judge_item, facts_then}
 use Rattle.node_course.proofs.Taken.{changes_taken}
 
 -- ---- devices
@@ -55,12 +58,12 @@ out_devices w (Write unit) = refl
 out_devices w (Note e) = noted_devices w (begun_in e) e
 
 -- what the host puts out leaves devices as they are
-routed_devices : (w : Outside) (outs : List HostOut) → (happens_all_outside w (routed outs)).devices ≡ w.devices
+pub routed_devices : (w : Outside) (outs : List HostOut) → (happens_all_outside w (routed outs)).devices ≡ w.devices
 routed_devices w [] = refl
 routed_devices w (out ∷ outs) =
     ap (λ (u : Outside). u.devices) (happens_then w (routed_one out) (routed outs)) ∙ (routed_devices (happens_all_outside w (routed_one out)) outs ∙ out_devices w out)
 
-got_has : (devices : List State) (place : ℕ) (device : State) → slice_get devices place ≡ Some device → Has devices device
+pub got_has : (devices : List State) (place : ℕ) (device : State) → slice_get devices place ≡ Some device → Has devices device
 got_has [] place device e = absurd cc
 got_has (first ∷ rest) zero device e = let same : first ≡ device = cc in inl same
 got_has (first ∷ rest) (suc before) device e = inr (got_has rest before device e)
@@ -78,7 +81,7 @@ placed_by false node first rest (Some later) place device is more here stands =
     let next : suc later ≡ place = cc in
     more later refl (subst (λ (p : ℕ). slice_get (first ∷ rest) p ≡ Some device) (sym next) stands)
 
-placed : (node : ℕ) (devices : List State) (place : ℕ) (device : State) → place_of node devices ≡ Some place → slice_get devices place ≡ Some device → device.node ≡ node
+pub placed : (node : ℕ) (devices : List State) (place : ℕ) (device : State) → place_of node devices ≡ Some place → slice_get devices place ≡ Some device → device.node ≡ node
 placed node [] place device here stands = absurd cc
 placed node (first ∷ rest) place device here stands =
     placed_by (first.node == node) node first rest (place_of node rest) place device refl (λ later at found. placed node rest later device at found) here stands
@@ -98,7 +101,7 @@ asides_true : (node : ℕ) (h : HostState) (devices : List State) (events : List
 asides_true node h devices [] all = tt
 asides_true node h devices (event ∷ events) all = (none_true node h devices event (aside_ends node event all.0.0), asides_true node (after_host h event) devices events all.1)
 
-true-append : (node : ℕ) (h : HostState) (devices : List State) (a b : List HostEvent) → TellTruly node h devices a → TellTruly node (after_all h a) devices b → TellTruly node h devices (a ++ b)
+pub true-append : (node : ℕ) (h : HostState) (devices : List State) (a b : List HostEvent) → TellTruly node h devices a → TellTruly node (after_all h a) devices b → TellTruly node h devices (a ++ b)
 true-append node h devices [] b first later = later
 true-append node h devices (event ∷ a) b first later = (first.0, true-append node (after_host h event) devices a b first.1 later)
 
@@ -154,7 +157,7 @@ module _ (laws : Laws) (judged : Judged) (node : ℕ) (rest : Rest) (down : List
           let k : HostState = after_host h (Hears item) in
           let v : Outside = happens_all_outside w (routed (outs h (Hears item))) in
           let one : HostGoes node c rest (item ∷ yet) down k v = aside_goes laws node rest down orders c up (item ∷ yet) h w (Hears item) f facts these.may.0 tt tt tt these.units.0 in
-          let label = first_label laws node rest down one.later item (yet ++ down) v.outer.chip.state.port.side.turn v.outer.chip.state.port.waiting one.follows.reports in
+          let label = first_label (Tells node) one.later.down item (yet ++ down) v.outer.chip.state.port.side.turn v.outer.chip.state.port.waiting one.follows.reports in
           let more : AllWell k later = record { may = these.may.1; units = these.units.1 } in (
             tt,
             subst (λ (ds : List State). TellTruly node k ds later) (routed_devices w (outs h (Hears item)))

@@ -58,7 +58,7 @@ use Rattle.node_course.proofs.Restarting.{Laws as RestartLaws, restart_goes}
 
 -- ---- entries alone
 
-note_written : (w : Outside) (e : Entry) → Written [] w.outer (happens_outside w (Host_notes e)).outer
+pub note_written : (w : Outside) (e : Entry) → Written [] w.outer (happens_outside w (Host_notes e)).outer
 unfolding outcome devices_after
 note_written w e = record { chip = refl; to_host = refl; to_chip = refl }
 

@@ -17,23 +17,35 @@ use Rattle.chip_functions.specs.declared.request.Request.TheVariants.{SendData}
 use Rattle.chip_sim.specs.Requests.{asked}
 use Rattle.line_facts.specs.Way.{items_all}
 use Rattle.node_course.specs.Ways.{Beside, Thinned}
-use Rattle.node_course.specs.Meaning.{Asked, HostMeans, NodeMeans}
-use Rattle.node_course.specs.Mesh.{labels, told_as}
+use Rattle.node_course.specs.Meaning.{Asked, HostMeans}
+use Rattle.node_course.specs.Mesh.{labels, IsTold}
 
 -- ---- frames with labels
 
--- a frame of the chip: where it brings a payload of the node, that is what the label says
+-- a frame of the chip: where it brings a payload of the node, this holds of it and of the label
+abbrev pub TellsAs : {L : Type 0} → (List ℕ → Option L → Type 0) → ℕ → FrameParts → Option L → Type 0
+TellsAs Holds node f mark = (status : ℕ) (payload : List ℕ) → f.kind ≡ kind.Request → notice_of f.func f.body ≡ Ok (ApplicationCommandHandler status node payload) → Holds payload mark
+
+-- so that it is what the label says
 abbrev pub Tells : ℕ → FrameParts → Option Report → Type 0
-Tells node f mark = (status : ℕ) (payload : List ℕ) → f.kind ≡ kind.Request → notice_of f.func f.body ≡ Ok (ApplicationCommandHandler status node payload) → NodeMeans payload (told_as mark)
+Tells node f mark = TellsAs IsTold node f mark
 
 -- what a payload for the node holds that has this label
 abbrev pub asked_as : Option Message → Cargo
 asked_as None = Of_host
 asked_as (Some message) = Command message
 
--- a frame of the host: where it asks to send the node a payload, that is what the label says
+-- a payload for the node is what this label says
+abbrev pub IsAsked : List Asked → List ℕ → List ℕ → Option Message → Type 0
+IsAsked orders commands payload mark = HostMeans orders commands payload (asked_as mark)
+
+-- a frame of the host: where it asks to send the node a payload, this holds of it and of the label
+abbrev pub AsksAs : {L : Type 0} → (List ℕ → Option L → Type 0) → ℕ → FrameParts → Option L → Type 0
+AsksAs Holds node f mark = (payload : List ℕ) (options id : ℕ) → asked f ≡ Some (SendData node payload options id) → Holds payload mark
+
+-- so that it is what the label says
 abbrev pub Asks : ℕ → List Asked → List ℕ → FrameParts → Option Message → Type 0
-Asks node orders commands f mark = (payload : List ℕ) (options id : ℕ) → asked f ≡ Some (SendData node payload options id) → HostMeans orders commands payload (asked_as mark)
+Asks node orders commands f mark = AsksAs (IsAsked orders commands) node f mark
 
 -- ---- one direction
 

@@ -45,6 +45,10 @@ abbrev pub told_as : Option Report → Cargo
 told_as None = Of_node
 told_as (Some report) = Answer report.session report.status
 
+-- a payload of the node is what this label says
+abbrev pub IsTold : List ℕ → Option Report → Type 0
+IsTold payload mark = NodeMeans payload (told_as mark)
+
 -- ---- what the chip is given
 
 abbrev pub brought_by : AirEvent → List (ℕ × List ℕ)
@@ -59,9 +63,13 @@ brought_by (Done frame status dead) = []
 abbrev pub brought : List AirEvent → List (ℕ × List ℕ)
 brought events = flat_map brought_by events
 
--- a payload of the node has this label; those of other nodes may have any
+-- of a payload of the node this holds, and of its label; those of other nodes may have any
+abbrev pub BringsAs : {L : Type 0} → (List ℕ → Option L → Type 0) → ℕ → ℕ × List ℕ → Option L → Type 0
+BringsAs Holds node given mark = given.0 ≡ node → Holds given.1 mark
+
+-- so that it is what the label says
 abbrev pub Brings : ℕ → ℕ × List ℕ → Option Report → Type 0
-Brings node given mark = given.0 ≡ node → NodeMeans given.1 (told_as mark)
+Brings node given mark = BringsAs IsTold node given mark
 
 -- ---- steps that leave the rest
 

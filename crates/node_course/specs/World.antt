@@ -10,14 +10,18 @@ use Rattle.zw_text.specs.declared.line.Line.{Line}
 use Rattle.zw_text.specs.declared.line.Line.TheVariants.{Command, Get}
 use Rattle.host_orders.specs.Wrapping.{form_of}
 use Rattle.host_orders.specs.declared.carriage.Form.TheVariants.{Sealed}
-use Rattle.host_events.specs.Events.{HostEvent, Accepts, Queues, Requests_do, Finishes}
+use Rattle.host_requests.specs.declared.task.Task.{Task}
+use Rattle.host_requests.specs.declared.task.Task.TheVariants as task
+use Rattle.host_requests.specs.Events.{RequestsEvent}
+use Rattle.host_requests.specs.Events.RequestsEvent.{Pushes}
+use Rattle.host_events.specs.Events.{HostEvent, Accepts, Queues, Requests_do, Finishes, Offers, Gives, Spends, Spends_unread, Takes_nonce, Resends}
 use Rattle.host_events.specs.Facts.{HostFacts}
 use Rattle.zw_machine.specs.State.{Machine}
 use Rattle.zw_machine.specs.Events.{Event, Host_does}
 use Rattle.node_course.specs.Ways.{Goes}
 use Rattle.node_course.specs.Meaning.{Asked}
 use Rattle.node_course.specs.Outside.{Follows}
-use Rattle.node_course.specs.Host.{IsOtherTask, AtHost, PushesOther, AsksPlainly}
+use Rattle.node_course.specs.Host.{AtHost, AsksPlainly}
 use Rattle.node_course.specs.HostGoing.{EndsNone}
 use Rattle.once_facts.specs.Tied.{AreOutcomes, MakesWhatIsTaken}
 use Rattle.node_course.specs.Told.{HasPast}
@@ -78,17 +82,35 @@ NamesEnd (Command order) = order.end ≤ 127
 NamesEnd (Get n end) = end ≤ 127
 NamesEnd line = Unit {0}
 
--- what the host does of itself or for a line, where lines name such end points: it ends no session of the node, and what it is asked to send to it is no message of a session
-abbrev pub IsOfLine : Type 0 → ℕ → HostEvent → Type 0
-IsOfLine Near node (Accepts order carriage) = Near → order.end ≤ 127
-IsOfLine Near node (Queues queued) = Near → IsOtherTask node queued
-IsOfLine Near node (Requests_do event moment) = PushesOther node event
-IsOfLine Near node (Finishes n session id command status wake_request) = n ≢ node
-IsOfLine Near node event = Unit {0}
+-- what a line asks to send a node without a session is such a payload; no line asks for a nonce or a segment of the node
+abbrev pub IsAskedTask : (List ℕ → Type 0) → ℕ → Task → Type 0
+IsAskedTask Is node (task.Plain n payload) = n ≡ node → Is payload
+IsAskedTask Is node (task.Offer n nonce) = n ≢ node
+IsAskedTask Is node (task.Segment n payload) = n ≢ node
+IsAskedTask Is node other = Unit {0}
 
-abbrev pub ComesOfLine : Type 0 → ℕ → Event → Type 0
-ComesOfLine Near node (Host_does event) = IsOfLine Near node event
-ComesOfLine Near node event = Unit {0}
+-- nothing is pushed
+abbrev pub PushesNone : RequestsEvent → Type 0
+PushesNone (Pushes pushed) = ⊥
+PushesNone event = Unit {0}
+
+-- What the host does of itself or for a line, where lines name such end points: it makes nothing of a payload of the node, so it ends no session of it, does nothing with nonces and sends no segment again; and what it is asked to send to it is such
+abbrev pub IsOfLine : Type 0 → (List ℕ → Type 0) → ℕ → HostEvent → Type 0
+IsOfLine Near Is node (Accepts order carriage) = Near → order.end ≤ 127
+IsOfLine Near Is node (Queues queued) = Near → IsAskedTask Is node queued
+IsOfLine Near Is node (Requests_do event moment) = PushesNone event
+IsOfLine Near Is node (Finishes n session id command status wake_request) = n ≢ node
+IsOfLine Near Is node (Offers n) = n ≢ node
+IsOfLine Near Is node (Gives n drawn) = n ≢ node
+IsOfLine Near Is node (Spends n) = n ≢ node
+IsOfLine Near Is node (Spends_unread n payload) = n ≢ node
+IsOfLine Near Is node (Takes_nonce n seen text) = n ≢ node
+IsOfLine Near Is node (Resends n payload) = n ≢ node
+IsOfLine Near Is node event = Unit {0}
+
+abbrev pub ComesOfLine : Type 0 → (List ℕ → Type 0) → ℕ → Event → Type 0
+ComesOfLine Near Is node (Host_does event) = IsOfLine Near Is node event
+ComesOfLine Near Is node event = Unit {0}
 
 -- the host ends a session of the node only by what it has taken out of its pipe
 abbrev pub EndsByHearing : ℕ → Event → Type 0

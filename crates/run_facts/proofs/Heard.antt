@@ -64,9 +64,9 @@ IsOfPayload n (Unreads other payload) = Unit {0}
 IsOfPayload n (Is_unkept other) = Unit {0}
 IsOfPayload n (Reports_old other id) = Unit {0}
 IsOfPayload n (Works other id) = Unit {0}
-IsOfPayload n (Offers other) = Unit {0}
+IsOfPayload n (Offers other) = other ≡ n
 IsOfPayload n (Notifies other) = Unit {0}
-IsOfPayload n (Resends other payload) = Unit {0}
+IsOfPayload n (Resends other payload) = other ≡ n
 IsOfPayload n (Hears_value other setting) = Unit {0}
 IsOfPayload n (Has_no_room other property) = Unit {0}
 IsOfPayload n event = ⊥
@@ -87,7 +87,7 @@ module _ (n : ℕ) where
   reported h id status wake (told.Final session) events is = final session id _ _ wake events is
 
   asked : (live : Option (List ℕ)) (events : List HostEvent) → NonceGetEvents n live events → Of events
-  asked (Some nonce) events is = one (IsOfPayload n) (Offers n) events tt is
+  asked (Some nonce) events is = one (IsOfPayload n) (Offers n) events refl is
   asked None events is = either (IsOfPayload n) (Gives n is.0) (Is_unkept n) events refl tt is.2
 
   given : (h : HostState) (nonce : List ℕ) (count : Option ℕ) (events : List HostEvent) → NonceReportEvents h n nonce count events → Of events
@@ -96,7 +96,7 @@ module _ (n : ℕ) where
 
   resends : (payload : Option (List ℕ)) (events : List HostEvent) → events ≡ resent n payload → Of events
   resends None events is = none (IsOfPayload n) events is
-  resends (Some payload) events is = one (IsOfPayload n) (Resends n payload) events tt is
+  resends (Some payload) events is = one (IsOfPayload n) (Resends n payload) events refl is
 
   value : (b : Bool) (s : Setting) → IsOfPayload n (if b then Has_no_room n s.property else Hears_value n s)
   value true s = tt
@@ -167,7 +167,7 @@ all_in_order n (event ∷ events) is all = (payload_in_order n event is all.0, a
 -- ---- notices that are read
 
 -- the node that a notice names is one
-abbrev NamesNode : Notice → Type 0
+abbrev pub NamesNode : Notice → Type 0
 NamesNode (ApplicationCommandHandler status source payload) = IsNode source
 NamesNode (ApplicationUpdate update) = IsUpdate update
 NamesNode notice = Unit {0}
@@ -224,7 +224,7 @@ at_fits function p q v e =
     row_cases function APPLICATION_UPDATE _ _ _ e (λ f h. row_fits update _ update_fits _ NamesNode (λ x fits. fits) p q v h) (λ e.
     absurd (no_row (UnknownFunction function) v q e)))))
 
-notice_names : (function : ℕ) (body : List ℕ) (v : Notice) → notice_of function body ≡ Ok v → NamesNode v
+pub notice_names : (function : ℕ) (body : List ℕ) (v : Notice) → notice_of function body ≡ Ok v → NamesNode v
 unfolding notice_of
 notice_names function body v is =
     let a = bind_ok (notice_at function (start_of body)) (λ x. Ok x.0) v is in

@@ -7,8 +7,9 @@ use Rattle.host_node.specs.State.{SealsText}
 use Rattle.host_events.specs.State.{HostState, node_of}
 use Rattle.host_events.specs.Events.{HostEvent, Interviews, Gives, Takes_nonce}
 use Rattle.host_events.specs.After.{after}
+use Rattle.outer_events.specs.Events.{OuterEvent, Arrives, Repeats}
 use Rattle.zw_machine.specs.State.{Machine}
-use Rattle.zw_machine.specs.Events.{Event, Host_takes, happens}
+use Rattle.zw_machine.specs.Events.{Event, Outside_does, Host_takes, happens}
 
 -- ---- what is drawn
 
@@ -23,8 +24,15 @@ abbrev pub HostsDrawBytes : HostState → List HostEvent → Type 0
 HostsDrawBytes h [] = Unit {0}
 HostsDrawBytes h (event ∷ events) = DrawsBytes h event × HostsDrawBytes (after h event) events
 
--- so where the host takes bytes: elsewhere it draws nothing
+-- a device that hears something draws eight bytes
+abbrev pub DrawsEight : OuterEvent → Type 0
+DrawsEight (Arrives drawn route) = length drawn ≡ 8
+DrawsEight (Repeats number drawn route) = length drawn ≡ 8
+DrawsEight event = Unit {0}
+
+-- so where the host takes bytes, and where something is heard on the air: elsewhere nothing is drawn that is kept
 abbrev pub DrawBytes : Machine → Event → Type 0
+DrawBytes m (Outside_does event) = DrawsEight event
 DrawBytes m (Host_takes count rest items events) = HostsDrawBytes m.host.state events
 DrawBytes m event = Unit {0}
 

@@ -1,5 +1,5 @@
-mod Numbering
-mod Texts
+pub mod Numbering
+pub mod Texts
 mod Locking
 mod Hosting
 mod Unsealing

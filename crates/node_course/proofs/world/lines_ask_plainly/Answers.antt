@@ -1,4 +1,5 @@
 -- Each clause is a lemma, over what the host sends beside orders.
+use Rattle.message_facts.specs.Others.{IsOther}
 use Rattle.node_course.proofs.Hearing.{lines_end}
 use Rattle.node_course.proofs.Asking.{text_names, events_end, events_plain}
 use Rattle.node_course.proofs.world.lines_ask_plainly.Goals as goal
@@ -8,8 +9,8 @@ returns-clause-text c = text_names
 
 pub returns-clause-ends : goal.returns-clause-ends
 returns-clause-ends c node lines m events are =
-    events_end ⊥ node events (lines_end ⊥ c.others_are_no_messages.ensures.send c.others_are_no_messages.ensures.get node lines (λ none. absurd none) m events are)
+    events_end ⊥ IsOther node events (lines_end ⊥ IsOther c.others_are_no_messages.ensures.send c.others_are_no_messages.ensures.get node lines (λ none. absurd none) m events are)
 
 pub returns-clause-plain : goal.returns-clause-plain
 returns-clause-plain c node lines m events names are =
-    events_plain node events (lines_end (Unit {0}) c.others_are_no_messages.ensures.send c.others_are_no_messages.ensures.get node lines (λ near. names) m events are)
+    events_plain node events (lines_end (Unit {0}) IsOther c.others_are_no_messages.ensures.send c.others_are_no_messages.ensures.get node lines (λ near. names) m events are)

@@ -1,0 +1,12 @@
+pub mod Labels
+pub mod Courses
+pub mod Meaning
+pub mod Lock
+pub mod Device
+pub mod Air
+pub mod Mesh
+pub mod Lines
+pub mod Outside
+pub mod Host
+pub mod HostGoing
+pub mod World
