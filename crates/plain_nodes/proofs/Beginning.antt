@@ -17,7 +17,7 @@ use Rattle.plain_nodes.specs.Plain.{IsPlainKind}
 
 -- ---- kinds
 
-pub opens : (kind : Kind) → IsPlainKind kind → takes_openly kind ≡ true
+opens : (kind : Kind) → IsPlainKind kind → takes_openly kind ≡ true
 opens Relay plain = let none = plain.supervised in absurd cc
 opens Switch plain = refl
 opens Dimmer plain = refl
@@ -99,21 +99,44 @@ made_at key (device ∷ devices) (suc at) one all is = made_at key devices at on
 within : (key : List ℕ) (one : State) → IsAsMade key one → one.node < 233
 within key one made = let most = made.to_max in omega (arith, most)
 
+-- the device of a node as its maker left it: it stands at a place, and is the only one of the node
+pub record StandsAsMade (key : List ℕ) (node : ℕ) (devices : List State) (device : State) : Type 0 where
+  pub within : node < 233
+  pub place : ℕ
+  pub first : place_of node devices ≡ Some place
+  pub stands : slice_get devices place ≡ Some device
+  pub made : device ≡ fresh device.node device.kind key
+  pub alone : (other : ℕ) (one : State) → slice_get devices other ≡ Some one → one.node ≡ node → other ≡ place
+  pub nodes : (other : ℕ) (one : State) → slice_get devices other ≡ Some one → one.node < 233
+
+pub stand_as_made : (key : List ℕ) (devices : List State) (node : ℕ) (device : State) → AllByRecursion (IsAsMade key) devices → AreApart devices → device_of node devices ≡ Some device → StandsAsMade key node devices device
+stand_as_made key devices node device all apart found =
+    let at = finds node devices device apart found in
+    let made = made_at key devices at.place device all at.stands in
+    record {
+      within = subst (λ (n : ℕ). n < 233) at.of_node (within key device made);
+      place = at.place;
+      first = at.first;
+      stands = at.stands;
+      made = made.made;
+      alone = at.alone;
+      nodes = λ other one is. within key one (made_at key devices other one all is);
+    }
+
 module _ (begins : (node : ℕ) (kind : Kind) (key : List ℕ) → takes_openly kind ≡ true → AtDevice first_course (fresh node kind key)) where
   pub begins_course : (key : List ℕ) (devices : List State) (node : ℕ) (device : State) → AllByRecursion (IsAsMade key) devices → AreApart devices → device_of node devices ≡ Some device → IsPlainKind device.kind
       → (node < 233) × HasDevice node first_course devices
   begins_course key devices node device all apart found plain =
-      let at = finds node devices device apart found in
-      let made = made_at key devices at.place device all at.stands in (
-        subst (λ (n : ℕ). n < 233) at.of_node (within key device made),
+      let at = stand_as_made key devices node device all apart found in (
+        at.within,
         record {
           device = device;
           place = at.place;
           first = at.first;
           stands = at.stands;
-          at = subst (AtDevice first_course) (sym made.made) (begins device.node device.kind key (opens device.kind plain));
+          at = subst (AtDevice first_course) (sym at.made) (begins device.node device.kind key (opens device.kind plain));
           alone = at.alone;
-          nodes = λ other one is. within key one (made_at key devices other one all is);
+          nodes = at.nodes;
         },
       )
 

@@ -1,4 +1,5 @@
 pub mod Tying
-mod Beginning
+pub mod Beginning
 mod Carrying
-mod Knowing
+pub mod Knowing
+mod Opening

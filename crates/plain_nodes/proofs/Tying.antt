@@ -121,20 +121,49 @@ retied commands was now device finals told same ended tied =
 
 -- ---- both
 
-module _ (ties : (c : Course) (commands : List Command) (device : State) → CourseFacts c → HasEnded device c.ends → AreOutcomes commands c.host.commands c.told
-    → AllByRecursion (MakesWhatIsTaken commands c.host.commands) device.journal → IsTied commands c.host device c.ends c.told) where
-  pub course_ties : (node : ℕ) (m : Machine) (device : State) → HasCourse node m → device_of node m.outside.devices ≡ Some device → AreTied m.host.state node device
-  course_ties node m device has found =
-      let there = has.follows.outside.mesh.device in
-      let is = finds node m.outside.devices there.place there.device device there.first there.stands found in
-      let kept = has.follows.host.node_as in
-      let c = has.course in
-      let ended : HasEnded device c.ends = subst (λ (d : State). HasEnded d c.ends) is.same there.at.ended in
-      let made : AllByRecursion (MakesWhatIsTaken m.host.state.commands c.host.commands) device.journal =
-      subst (λ (d : State). AllByRecursion (MakesWhatIsTaken m.host.state.commands c.host.commands) d.journal) is.same (has.made there.place there.device there.stands is.of_node) in
-      record {
-        finals = c.ends;
-        told = c.told;
-        tied = retied m.host.state.commands c.host (node_of m.host.state.nodes node).book device c.ends c.told kept.0 kept.1.0
-            (ties c m.host.state.commands device has.facts ended has.outcomes made);
-      }
+-- the sessions of a node are where the machine is: this is the first device of it, which ended its sessions as the course has it; the host's book is the course's; and what it was told and what the device made stand in the table of commands
+pub record IsAt (node : ℕ) (m : Machine) (c : Course) : Type 0 where
+  pub facts : CourseFacts c
+  pub device : State
+  pub place : ℕ
+  pub first : place_of node m.outside.devices ≡ Some place
+  pub stands : slice_get m.outside.devices place ≡ Some device
+  pub ended : HasEnded device c.ends
+  pub commands : (node_of m.host.state.nodes node).book.commands ≡ c.host.commands
+  pub outcome : (node_of m.host.state.nodes node).book.outcome ≡ c.host.outcome
+  pub outcomes : AreOutcomes m.host.state.commands c.host.commands c.told
+  pub made : (place : ℕ) (device : State) → slice_get m.outside.devices place ≡ Some device → device.node ≡ node → AllByRecursion (MakesWhatIsTaken m.host.state.commands c.host.commands) device.journal
+
+-- the law of ties, which is used
+abbrev pub Ties : Type 0
+Ties = (c : Course) (commands : List Command) (device : State) → CourseFacts c → HasEnded device c.ends → AreOutcomes commands c.host.commands c.told
+    → AllByRecursion (MakesWhatIsTaken commands c.host.commands) device.journal → IsTied commands c.host device c.ends c.told
+
+pub course_ties : Ties → (node : ℕ) (m : Machine) (device : State) (c : Course) → IsAt node m c → device_of node m.outside.devices ≡ Some device → AreTied m.host.state node device
+course_ties ties node m device c at found =
+    let is = finds node m.outside.devices at.place at.device device at.first at.stands found in
+    let ended : HasEnded device c.ends = subst (λ (d : State). HasEnded d c.ends) is.same at.ended in
+    let made : AllByRecursion (MakesWhatIsTaken m.host.state.commands c.host.commands) device.journal =
+    subst (λ (d : State). AllByRecursion (MakesWhatIsTaken m.host.state.commands c.host.commands) d.journal) is.same (at.made at.place at.device at.stands is.of_node) in
+    record {
+      finals = c.ends;
+      told = c.told;
+      tied = retied m.host.state.commands c.host (node_of m.host.state.nodes node).book device c.ends c.told at.commands at.outcome (ties c m.host.state.commands device at.facts ended at.outcomes made);
+    }
+
+-- so is the course of a plain node
+pub plain_at : (node : ℕ) (m : Machine) (has : HasCourse node m) → IsAt node m has.course
+plain_at node m has =
+    let there = has.follows.outside.mesh.device in
+    record {
+      facts = has.facts;
+      device = there.device;
+      place = there.place;
+      first = there.first;
+      stands = there.stands;
+      ended = there.at.ended;
+      commands = has.follows.host.node_as.0;
+      outcome = has.follows.host.node_as.1.0;
+      outcomes = has.outcomes;
+      made = has.made;
+    }

@@ -1,6 +1,6 @@
 -- What a run of `sim` keeps true (this project's own): its story is the lines that were run, each with the events of the machine that it was,
 -- and the laws are of this story.
-use Rattle.std.specs.Prelude.{◌≡◌, ℕ, Bool, ◌⊎◌, List, [], ◌∷◌, ◌++◌, map, Some}
+use Rattle.std.specs.Prelude.{◌≡◌, ℕ, Bool, true, ◌⊎◌, List, [], ◌∷◌, ◌++◌, map, Some}
 use Rattle.std.specs.List.{AllByRecursion}
 use Rattle.zw_text.specs.Line.{line_at}
 use Rattle.zw_text.specs.declared.line.Line.{Line}
@@ -24,12 +24,12 @@ use Rattle.device_sim.specs.State.{State}
 use Rattle.device_facts.specs.GoingOn.{AreInOrder, AreSame, TakeOnce}
 use Rattle.device_facts.specs.Showing.{AreApart, IsShown}
 use Rattle.zw_laws.specs.Headline.{Headline, HeadlineOf, IsAsMade}
-use Rattle.zw_laws.specs.Nodes.{device_of, listing_of}
+use Rattle.zw_laws.specs.Nodes.{device_of, first_node, is_supervised, listing_of}
 use Rattle.world_facts.specs.Devices.{GroupsSessions}
 use Rattle.world_facts.specs.Restarts.{AllKeepWell, BeginsEmpty}
 use Rattle.run_facts.specs.Premises.{AllDrawBytes, AreFew}
-use Rattle.headline_facts.specs.Truly.{IsAskable, SucceedsAfterChangeOf}
-use Rattle.plain_nodes.specs.Plain.{IsPlainKind, IsPlainNode}
+use Rattle.headline_facts.specs.Truly.{SucceedsAfterChangeOf}
+use Rattle.supervised_nodes.specs.Supervised.{IsSupervisedNode}
 use Rattle.sim_laws.specs.Around.{Around}
 
 -- `sim` ran so, with what it was given and what it leaves
@@ -111,8 +111,8 @@ pub record KeepsRecords (key : List ℕ) (old : Around) (story : List Ran) : Typ
   pub empty : BeginsEmpty old.records
   pub well : AllKeepWell (first key old) (events_of story)
 
--- All lines were run whole, over a keeper that tells its records, had none at first and has fewer than 2 ^ 32 in the end; and what was
--- drawn is bytes.
+-- All lines were run whole, over a keeper that tells its records, had none at first and has fewer than 2 ^ 32 in the end; what was
+-- drawn is bytes, and of each device that hears something eight of them.
 pub record IsWholeRun (key : List ℕ) (old : Around) (story : List Ran) : Type 0 where
   pub whole : AreSchedules (first key old) story
   pub empty : old.records ≡ Some []
@@ -175,20 +175,19 @@ pub record IsFairRun (key : List ℕ) (old : Around) (story : List Ran) : Type 0
 abbrev pub InFairRuns : Status → List ℕ → Around → Around → (List Ran → Type 0) → Type 0
 InFairRuns ended key old new Law = Always ended key old new (λ story. IsFairRun key old story → Law story)
 
--- The headline: each device of a plain kind has applied a part of the commands accepted for its node, in order, each at most once; every command that is reported
+-- The headline: each device whose kind lists Supervision has applied a part of the commands accepted for its node, in order, each at most once; every command that is reported
 -- successful is in it; and where the last change of a property came from a command reported successful, the confirmed value is the device's.
 abbrev pub HasHeadline : Status → List ℕ → Around → Around → Type 0
 HasHeadline ended key old new = InFairRuns ended key old new
-    (λ story. (node : ℕ) (device : State) → device_of node new.devices ≡ Some device → IsPlainKind device.kind → HeadlineOf (listing_of old.devices) node (transcript key old story) device)
+    (λ story. (node : ℕ) (device : State) → device_of node new.devices ≡ Some device → is_supervised device ≡ true → HeadlineOf (listing_of old.devices) node (transcript key old story) device)
 
 -- success of a command of such a node is reported after its change
 abbrev pub ReportsAfterChange : Status → List ℕ → Around → Around → Type 0
-ReportsAfterChange ended key old new = InFairRuns ended key old new (λ story. (node : ℕ) → IsPlainNode old.devices node → SucceedsAfterChangeOf node (transcript key old story))
+ReportsAfterChange ended key old new = InFairRuns ended key old new (λ story. (node : ℕ) → IsSupervisedNode old.devices node → SucceedsAfterChangeOf node (transcript key old story))
 
--- The whole headline, where each node that may be asked is such: node 2, and those with a device that takes commands in sessions.
+-- The whole headline, where node 2 has a device whose kind lists Supervision. The host takes node 2 for a switch from the start, so it may be asked whatever its device is; of all other nodes no more is premised.
 abbrev pub HasWholeHeadline : Status → List ℕ → Around → Around → Type 0
-HasWholeHeadline ended key old new = InFairRuns ended key old new
-    (λ story. ((node : ℕ) → IsAskable old.devices node → IsPlainNode old.devices node) → Headline old.devices new.devices (transcript key old story))
+HasWholeHeadline ended key old new = InFairRuns ended key old new (λ story. IsSupervisedNode old.devices first_node → Headline old.devices new.devices (transcript key old story))
 
 -- ---- all of them
 

@@ -6,7 +6,7 @@ use Rattle.said_facts.specs.Spoken.{after_all}
 use Rattle.listing_facts.specs.Lines.{events_of}
 use Rattle.listing_facts.proofs.Speaking.{lines_of, all_read, all_lines, all_may, all_after}
 use Rattle.node_course.specs.World.{HasCourse}
-use Rattle.plain_nodes.proofs.Tying.{all_name, course_ties, lines_true}
+use Rattle.plain_nodes.proofs.Tying.{all_name, course_ties, lines_true, plain_at}
 use Rattle.plain_nodes.proofs.laws.plain_nodes_are_tied.Goals as goal
 
 pub returns-clause-tied : goal.returns-clause-tied
@@ -19,7 +19,7 @@ returns-clause-tied c = λ keys devices lines node device plain done drawn few f
     let well = c.lines_keep_and_ask_well.ensures.all keys devices (lines_of lines) events read are may drawn (subst (λ (x : Machine). AreFew x.records) (all_after m lines) few) in
     let course = c.lines_have_a_course.ensures.plain node keys (Some []) devices (lines_of lines) events plain.within plain.device refl (all_name c.lines_ask_plainly.ensures.text (lines_of lines) read) are may well.1 well.0 plain.orders in
     let at_end : HasCourse node (after_all m lines) = subst (λ (x : Machine). HasCourse node x) (sym (all_after m lines)) course in
-    course_ties c.courses_tie_their_ends.ensures node (after_all m lines) device at_end found
+    course_ties c.courses_tie_their_ends.ensures node (after_all m lines) device at_end.course (plain_at node (after_all m lines) at_end) found
 
 pub returns-clause-truth : goal.returns-clause-truth
 returns-clause-truth c = λ keys devices lines node plain done drawn few.

@@ -1,4 +1,4 @@
--- Each node that may be asked is plain, so each supervised device is tied and each success of its node is true.
+-- Each node that may be asked is such, so each supervised device is tied and each success of its node is true.
 use Rattle.std.proofs.Common.{[], Some, inr, ap, sym, subst, ◌∙◌}
 use Rattle.device_stack.specs.Kind.{lists}
 use Rattle.device_stack.specs.declared.kind.Kind.{Kind}
@@ -8,15 +8,15 @@ use Rattle.said_facts.specs.Spoken.{after_all}
 use Rattle.listing_facts.specs.Lines.{events_of}
 use Rattle.listing_facts.proofs.Speaking.{all_after}
 use Rattle.plain_nodes.proofs.Tying.{was_there}
-use Rattle.plain_nodes.proofs.laws.plain_runs_have_the_headline.Goals as goal
+use Rattle.supervised_nodes.proofs.laws.runs_have_the_headline.Goals as goal
 
 pub returns : goal.returns
-returns c = λ keys devices lines plain unchanged apart done drawn few.
+returns c = λ keys devices lines is unchanged apart done drawn few.
     let m = first_machine keys (Some []) devices in
     let goes : GoOn devices (after_all m lines).outside.devices = subst (λ (x : Machine). GoOn devices x.outside.devices) (sym (all_after m lines)) (c.devices_go_on.ensures.all m (events_of lines)) in
     c.lines_have_the_headline.ensures.whole keys devices lines unchanged apart done drawn few
-    (λ node askable. c.plain_nodes_are_tied.ensures.truth keys devices lines node (plain node askable) done drawn few)
+    (λ node askable. c.nodes_are_tied.ensures.truth keys devices lines node (is node askable) done drawn few)
     (λ node device found knows.
     let was = was_there node devices (after_all m lines).outside.devices device (c.devices_stay_the_same.ensures.all devices (after_all m lines).outside.devices goes) found in
-    c.plain_nodes_are_tied.ensures.tied keys devices lines node device
-    (plain node (inr (was.before, was.found, ap (λ (k : Kind). lists k 0x6C) (sym was.kind) ∙ knows))) done drawn few found)
+    c.nodes_are_tied.ensures.tied keys devices lines node device
+    (is node (inr (was.before, was.found, ap (λ (k : Kind). lists k 0x6C) (sym was.kind) ∙ knows))) done drawn few found)
