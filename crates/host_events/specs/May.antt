@@ -14,6 +14,7 @@ use Rattle.host_node.specs.Events.NodeEvent.{Begins as node_begins, Gives_segmen
 use Rattle.host_node.specs.Events.{May as node_may}
 use Rattle.host_node.specs.declared.attempt.Plan.{Plan}
 use Rattle.host_keep.specs.declared.final_status.FinalStatus.{FinalStatus}
+use Rattle.host_keep.specs.Rows.{AreBytes}
 use Rattle.host_keep.specs.Status.{status_byte}
 use Rattle.host_orders.specs.Refusals.{Known, first_refusal}
 use Rattle.host_orders.specs.Settings.{settings, properties_of}
@@ -92,11 +93,12 @@ May h (Reports_old n id) = (status : ℕ) × (told_of (node_of h n).book id stat
 May h (Works n id) = told_of (node_of h n).book id 1 ≡ Working
 May h (Finishes n session id command status wake_request) = IsFinal h n session id command status
 May h (Offers n) = IsSome (live_of h.nonces n)
-May h (Gives n drawn) = (live_of h.nonces n ≡ None) × (length drawn ≡ 8)
+May h (Gives n drawn) = (live_of h.nonces n ≡ None) × (length drawn ≡ 8) × AreBytes drawn
 May h (Spends n) = IsSome (live_of h.nonces n)
 May h (Spends_unread n payload) = IsSome (live_of h.nonces n)
 May h (Takes_nonce n seen text) =
     (nonce : List ℕ) × (own_nonce : List ℕ) × (count_at (node_of h n) (slice_index nonce 0) ≡ Some seen) × SealsText (node_of h n) h.keys own_nonce nonce text
+    × (length own_nonce ≡ 8)
 May h (Notifies n) = Unit {0}
 May h (Resends n payload) = (k : ℕ) × (open_segment h (node_of h n) (open_session (node_of h n).book) k ≡ Some payload)
 May h (Hears_value n setting) = count_with h.store n (setting.property ∷ []) ≤ 512

@@ -213,8 +213,9 @@ MayHappen mesh (Loses count) = Unit {0}
 MayHappen mesh (Loses_acks count) = Unit {0}
 MayHappen mesh (Sends node route payload) = (node ≢ 1) × IsSound route × IsPayload payload
 MayHappen mesh (Sends_from node route payload) = (is_joined mesh.air node ≡ true) × IsRoute mesh.air.network node route × IsPayload payload
-MayHappen mesh (Arrives drawn route) = MayArriveIf mesh (next_of mesh.air.frames) route
-MayHappen mesh (Repeats number drawn route) = (refusal_of mesh.air.frames number ≡ None) × MayRepeat mesh (remembered mesh.air.frames number) route
+MayHappen mesh (Arrives drawn route) = MayArriveIf mesh (next_of mesh.air.frames) route × (length drawn ≡ 8)
+MayHappen mesh (Repeats number drawn route) =
+    (refusal_of mesh.air.frames number ≡ None) × MayRepeat mesh (remembered mesh.air.frames number) route × (length drawn ≡ 8)
 
 -- one step after another
 abbrev pub mesh_after_all : Mesh → List AirStep → Mesh
