@@ -2,6 +2,7 @@
 
 ghost use Rattle.std.specs.Prelude.{◌≡◌, length, slice_index, OnOk, OnErr};
 ghost use Rattle.s0_session.specs.Nonces.{live_of};
+ghost use Rattle.host_keep.specs.Rows.{AreBytes};
 ghost use Rattle.host_node.specs.State.{count_at};
 ghost use Rattle.host_events.specs.State.{node_of};
 ghost use Rattle.host_events.specs.Taking.{NonceGetEvents, NonceReportEvents};
@@ -30,10 +31,22 @@ pub(crate) fn take_nonce_get<D: Draw, P: Keeper>(
             Ok(())
         }
         None => {
-            let _ = host_recorded::give(core, node, draw.next(), out, keeper)?;
+            let drawn = draw_bytes(draw);
+            let _ = host_recorded::give(core, node, drawn, out, keeper)?;
             Ok(())
         }
     }
+}
+
+// Eight bytes are drawn, each of which is read, so that callers know that it is a byte.
+fn draw_bytes<D: Draw>(draw: &mut D) -> [u8; 8]
+    ensures { AreBytes result }
+{
+    let drawn = draw.next();
+    for byte in &drawn {
+        let _byte = *byte;
+    }
+    drawn
 }
 
 /// A node gives a nonce: a plain text that waits for one is sealed to it.

@@ -83,13 +83,13 @@ stop_then xs a b c d e f before mid all arrive first more = record {
 
 -- the next frame arrives
 module _ (old new : AirState) (ds later : States) (frame : Flown) (fate : Fate) (drawn : List ℕ) (route : Option Route) (before all : List AirEvent)
-    (next : next_of old.frames ≡ Some frame) (is : fate ≡ fate_of old.network ds frame) where
+    (next : next_of old.frames ≡ Some frame) (is : fate ≡ fate_of old.network ds frame) (eight : length drawn ≡ 8) where
   pub arrive_did : MayArrive (mesh old ds) frame fate route → mesh new later ≡ arriving_as (mesh old ds) frame fate drawn route
       → all ≡ before ++ arrival_outs_as (mesh old ds) (old.frames.landed + 1) frame fate drawn route
       → Did (Arrives drawn route ∷ []) old ds new later before all
   unfolding mesh_after mesh_outs MayHappen
   arrive_did may moves tells = record {
-    may = (subst (λ (o : Option Flown). MayArriveIf (mesh old ds) o route) (sym next) (subst (λ (f : Fate). MayArrive (mesh old ds) frame f route) is may), tt);
+    may = ((subst (λ (o : Option Flown). MayArriveIf (mesh old ds) o route) (sym next) (subst (λ (f : Fate). MayArrive (mesh old ds) frame f route) is may), eight), tt);
     mesh = moves ∙ (ap (λ (f : Fate). arriving_as (mesh old ds) frame f drawn route) is ∙ ap (λ (o : Option Flown). arriving (mesh old ds) o drawn route) (sym next));
     outs = tells ∙ ap (λ l. before ++ l) (ap (λ (f : Fate). arrival_outs_as (mesh old ds) (old.frames.landed + 1) frame f drawn route) is
         ∙ (ap (λ (o : Option Flown). arrival_outs (mesh old ds) o drawn route) (sym next) ∙ sym (append-nil (arrival_outs (mesh old ds) (next_of old.frames) drawn route))));
@@ -99,7 +99,7 @@ module _ (old new : AirState) (ds later : States) (frame : Flown) (fate : Fate) 
   unfolding mesh_after MayHappen
   arrive_cut may moves = inr (
     Arrives drawn route,
-    subst (λ (o : Option Flown). MayArriveIf (mesh old ds) o route) (sym next) (subst (λ (f : Fate). MayArrive (mesh old ds) frame f route) is may),
+    (subst (λ (o : Option Flown). MayArriveIf (mesh old ds) o route) (sym next) (subst (λ (f : Fate). MayArrive (mesh old ds) frame f route) is may), eight),
     moves ∙ (ap (λ (f : Fate). (arriving_as (mesh old ds) frame f drawn route).devices) is ∙ ap (λ (o : Option Flown). (arriving (mesh old ds) o drawn route).devices) (sym next)),
   )
 
@@ -172,7 +172,7 @@ moves_if air ds (Some frame) drawn route may = moves_as air ds frame (fate_of ai
 arrived : (old new : AirState) (ds later : States) (drawn : List ℕ) (route : Option Route) (before all : List AirEvent) → Did (Arrives drawn route ∷ []) old ds new later before all → Moves old new
 unfolding mesh_after MayHappen
 arrived old new ds later drawn route before all did =
-    subst (λ (a : AirState). Moves old a) (sym (ap (λ (m : Mesh). m.air) did.mesh)) (moves_if old ds (next_of old.frames) drawn route did.may.0)
+    subst (λ (a : AirState). Moves old a) (sym (ap (λ (m : Mesh). m.air) did.mesh)) (moves_if old ds (next_of old.frames) drawn route did.may.0.0)
 
 -- so many frames arrived
 pub record Arrived (count : ℕ) (old : AirState) (ds : States) (new : AirState) (later : States) (before all : List AirEvent) : Type 0 where
@@ -201,21 +201,25 @@ one_arrived count a b c d e f before mid all first more =
 pub all_arrived : (count : ℕ) (a b : AirState) (d e : States) (before all : List AirEvent) → count ≡ a.frames.sent - a.frames.landed → Arrived count a d b e before all → Delivers a d b e before all
 all_arrived count a b d e before all whole first = record { steps = first.steps; arrivals = first.arrivals; each = first.each ∙ whole; did = first.did }
 
+-- what may stand for what is drawn where nobody draws
+abbrev pub blank : List ℕ
+blank = 0 ∷ 0 ∷ 0 ∷ 0 ∷ 0 ∷ 0 ∷ 0 ∷ 0 ∷ []
+
 -- a frame that nobody hears, or node 1 alone
 module _ {V E : Type 0} (r : Result V E) (old new : AirState) (ds : States) (heading : Heading) (fate : Fate) (number node : ℕ) (payload : List ℕ) (before all : List AirEvent)
     (comes : Comes old ds heading fate number node payload) where
   abbrev Goal : Type 0
   Goal = OnOk r ((drawn : List ℕ) × (route : Option Route) × Did (Arrives drawn route ∷ []) old ds new ds before all)
 
-  did_as : (other : Fate) (told : List AirEvent) → fate ≡ other → MayArrive (mesh old ds) comes.frame other None → mesh (landed old) ds ≡ arriving_as (mesh old ds) comes.frame other [] None
-      → told ≡ arrival_outs_as (mesh old ds) (old.frames.landed + 1) comes.frame other [] None → OnOk r (new ≡ landed old) → OnOk r (all ≡ before ++ told) → Goal
+  did_as : (other : Fate) (told : List AirEvent) → fate ≡ other → MayArrive (mesh old ds) comes.frame other None → mesh (landed old) ds ≡ arriving_as (mesh old ds) comes.frame other blank None
+      → told ≡ arrival_outs_as (mesh old ds) (old.frames.landed + 1) comes.frame other blank None → OnOk r (new ≡ landed old) → OnOk r (all ≡ before ++ told) → Goal
   did_as other told is may moves tells = go r
     where
       go : (s : Result V E) → OnOk s (new ≡ landed old) → OnOk s (all ≡ before ++ told) → OnOk s ((drawn : List ℕ) × (route : Option Route) × Did (Arrives drawn route ∷ []) old ds new ds before all)
       go (Ok v) lands outs = (
-        [],
+        blank,
         None,
-        arrive_did old new ds ds comes.frame other [] None before all comes.next (sym is ∙ comes.becomes) may
+        arrive_did old new ds ds comes.frame other blank None before all comes.next (sym is ∙ comes.becomes) refl may
             (ap (λ (a : AirState). mesh a ds) lands ∙ moves) (outs ∙ ap (λ l. before ++ l) tells),
       )
       go (Err e) lands outs = tt
@@ -247,12 +251,12 @@ module _ {V E : Type 0} (r : Result V E) (old new : AirState) (ds : States) (hea
 
 -- a frame that a device hears
 module _ {V E : Type 0} (r : Result V E) (old new : AirState) (ds later : States) (place : ℕ) (d d' : State) (heading : Heading) (fate : Fate) (number node : ℕ) (payload drawn : List ℕ) (before all : List AirEvent)
-    (comes : Comes old ds heading fate number node payload) (is : fate ≡ AtDevice place) (at : slice_get ds place ≡ Some d) (set_is : later ≡ set ds place d') where
+    (comes : Comes old ds heading fate number node payload) (is : fate ≡ AtDevice place) (at : slice_get ds place ≡ Some d) (set_is : later ≡ set ds place d') (eight : length drawn ≡ 8) where
   device_ok : (route : Option Route) → HasHeard (landed (acknowledged old)) node payload drawn route d d' new number (tells.Done number (status_of old) None ∷ []) before all
       → Did (Arrives drawn route ∷ []) old ds new later before all
   device_ok route heard =
       let moves = hears_at (landed (acknowledged old)) new ds later place node number d d' payload drawn route (tells.Done number (status_of old) None ∷ []) before all at set_is heard in
-      arrive_did old new ds later comes.frame (AtDevice place) drawn route before all comes.next (sym is ∙ comes.becomes)
+      arrive_did old new ds later comes.frame (AtDevice place) drawn route before all comes.next (sym is ∙ comes.becomes) eight
       (subst (λ n. IsRoute old.network n route) comes.ends heard.way)
       (moves ∙ (ap (λ n. heard_at (mesh (landed (acknowledged old)) ds) place (slice_get ds place) n route (Hears payload drawn)) comes.ends
       ∙ ap (λ p. heard_at (mesh (landed (acknowledged old)) ds) place (slice_get ds place) comes.frame.node route (Hears p drawn)) comes.carries))
@@ -274,7 +278,7 @@ module _ {V E : Type 0} (r : Result V E) (old new : AirState) (ds later : States
   device_cut : HasPerhaps old node d d' (Hears payload drawn) → IsCut (mesh old ds) later
   device_cut (inl same) = inl (set_is ∙ (ap (λ (x : State). set ds place x) same ∙ set_same ds place d at))
   device_cut (inr (route, way, after)) =
-      arrive_cut old old ds later comes.frame (AtDevice place) drawn route [] [] comes.next (sym is ∙ comes.becomes)
+      arrive_cut old old ds later comes.frame (AtDevice place) drawn route [] [] comes.next (sym is ∙ comes.becomes) eight
       (subst (λ n. IsRoute old.network n route) comes.ends way)
       (set_is ∙ (ap (λ (x : State). set ds place x) (after ∙ ap (λ p. device_after d (Hears p drawn)) comes.carries)
       ∙ ap (λ (o : Option State). (heard_at (mesh (landed (acknowledged old)) ds) place o comes.frame.node route (Hears comes.frame.payload drawn)).devices) (sym at)))
@@ -310,25 +314,25 @@ heard_within fate place count is within = subst (λ (f : Fate). HearsWithin f co
 -- a frame is heard again
 module _ (old new : AirState) (ds later : States) (frame_number : ℕ) (heading : Heading) (number node : ℕ) (payload drawn : List ℕ) (route : Option Route) (before all : List AirEvent)
     (comes : ComesAgain old frame_number heading number node payload) where
-  again_did : (other : Heading) → heading ≡ other → MayRepeatBy other (mesh old ds) comes.frame route → mesh new later ≡ repeating_by other (mesh old ds) comes.frame drawn route
+  again_did : (other : Heading) → heading ≡ other → length drawn ≡ 8 → MayRepeatBy other (mesh old ds) comes.frame route → mesh new later ≡ repeating_by other (mesh old ds) comes.frame drawn route
       → all ≡ before ++ repeat_outs_by other (mesh old ds) frame_number comes.frame drawn route → Did (Repeats frame_number drawn route ∷ []) old ds new later before all
   unfolding mesh_after mesh_outs MayHappen
-  again_did other is may moves told =
+  again_did other is eight may moves told =
       let same : other ≡ comes.frame.heading = sym is ∙ comes.heads in record {
-        may = ((comes.allowed, subst (λ (o : Option Flown). MayRepeat (mesh old ds) o route) (sym comes.kept) (subst (λ (h : Heading). MayRepeatBy h (mesh old ds) comes.frame route) same may)), tt);
+        may = ((comes.allowed, subst (λ (o : Option Flown). MayRepeat (mesh old ds) o route) (sym comes.kept) (subst (λ (h : Heading). MayRepeatBy h (mesh old ds) comes.frame route) same may), eight), tt);
         mesh = moves ∙ (ap (λ (h : Heading). repeating_by h (mesh old ds) comes.frame drawn route) same ∙ ap (λ (o : Option Flown). repeating (mesh old ds) o drawn route) (sym comes.kept));
         outs = told ∙ ap (λ l. before ++ l) (ap (λ (h : Heading). repeat_outs_by h (mesh old ds) frame_number comes.frame drawn route) same
             ∙ (ap (λ (o : Option Flown). repeat_outs (mesh old ds) frame_number o drawn route) (sym comes.kept) ∙ sym (append-nil (repeat_outs (mesh old ds) frame_number (remembered old.frames frame_number) drawn route))));
       }
 
-  pub chip_again : heading ≡ Homeward → mesh new later ≡ mesh old ds → all ≡ before ++ tells.Heard number ∷ tells.ToChip number node payload ∷ [] → Did (Repeats frame_number drawn route ∷ []) old ds new later before all
-  chip_again is same told = again_did Homeward is tt same
+  pub chip_again : heading ≡ Homeward → length drawn ≡ 8 → mesh new later ≡ mesh old ds → all ≡ before ++ tells.Heard number ∷ tells.ToChip number node payload ∷ [] → Did (Repeats frame_number drawn route ∷ []) old ds new later before all
+  chip_again is eight same told = again_did Homeward is eight tt same
       (told ∙ ap (λ l. before ++ l) (ap (λ n. tells.Heard n ∷ tells.ToChip n node payload ∷ []) comes.numbered
       ∙ (ap (λ n. tells.Heard frame_number ∷ tells.ToChip frame_number n payload ∷ []) comes.ends
       ∙ ap (λ p. tells.Heard frame_number ∷ tells.ToChip frame_number comes.frame.node p ∷ []) comes.carries)))
 
   pub device_again : heading ≡ Outward → IsHeardAgain old ds new later number node payload drawn route before all → Did (Repeats frame_number drawn route ∷ []) old ds new later before all
-  device_again is heard = again_did Outward is
+  device_again is heard = again_did Outward is heard.eight
       (subst (λ n. MayHearAgain old n (listener_of n ds) route) comes.ends heard.may)
       (heard.moves ∙ (ap (λ n. heard_again (mesh old ds) (listener_of n ds) n route (Hears payload drawn)) comes.ends
       ∙ ap (λ p. heard_again (mesh old ds) (listener_of comes.frame.node ds) comes.frame.node route (Hears p drawn)) comes.carries))
@@ -339,7 +343,7 @@ module _ (old new : AirState) (ds later : States) (frame_number : ℕ) (heading 
   pub device_again_cut : heading ≡ Outward → IsHeardPerhaps old ds later node payload → IsCut (mesh old ds) later
   unfolding mesh_after MayHappen
   device_again_cut is (inl same) = inl same
-  device_again_cut is (inr (drawn', route', may, moves)) =
+  device_again_cut is (inr (drawn', route', may, moves, eight)) =
       let same : Outward ≡ comes.frame.heading = sym is ∙ comes.heads in
       inr (
         Repeats frame_number drawn' route',
@@ -347,6 +351,7 @@ module _ (old new : AirState) (ds later : States) (frame_number : ℕ) (heading 
           comes.allowed,
           subst (λ (o : Option Flown). MayRepeat (mesh old ds) o route') (sym comes.kept) (subst (λ (h : Heading). MayRepeatBy h (mesh old ds) comes.frame route') same
               (subst (λ n. MayHearAgain old n (listener_of n ds) route') comes.ends may)),
+          eight,
         ),
         moves ∙ (ap (λ n. (heard_again (mesh old ds) (listener_of n ds) n route' (Hears payload drawn')).devices) comes.ends
             ∙ (ap (λ p. (heard_again (mesh old ds) (listener_of comes.frame.node ds) comes.frame.node route' (Hears p drawn')).devices) comes.carries
@@ -354,15 +359,16 @@ module _ (old new : AirState) (ds later : States) (frame_number : ℕ) (heading 
       )
 
 -- the device that hears it again, or none
-pub none_again : (air : AirState) (ds : States) (number node : ℕ) (payload : List ℕ) (all : List AirEvent) → None ≡ listener_of node ds → IsHeardAgain air ds air ds number node payload [] None all all
+pub none_again : (air : AirState) (ds : States) (number node : ℕ) (payload : List ℕ) (all : List AirEvent) → None ≡ listener_of node ds → IsHeardAgain air ds air ds number node payload blank None all all
 none_again air ds number node payload all is = record {
   may = subst (λ (o : Option ℕ). MayHearAgain air node o None) is tt;
-  moves = ap (λ (o : Option ℕ). heard_again (mesh air ds) o node None (Hears payload [])) is;
-  told = sym (append-nil all) ∙ ap (λ (o : Option ℕ). all ++ outs_again (mesh air ds) o number node None (Hears payload [])) is;
+  moves = ap (λ (o : Option ℕ). heard_again (mesh air ds) o node None (Hears payload blank)) is;
+  told = sym (append-nil all) ∙ ap (λ (o : Option ℕ). all ++ outs_again (mesh air ds) o number node None (Hears payload blank)) is;
+  eight = refl;
 }
 
 module _ {V E : Type 0} (r : Result V E) (old new : AirState) (ds later : States) (place : ℕ) (d d' : State) (number node : ℕ) (payload drawn : List ℕ) (before all : List AirEvent)
-    (is : Some place ≡ listener_of node ds) (at : slice_get ds place ≡ Some d) (set_is : later ≡ set ds place d') where
+    (is : Some place ≡ listener_of node ds) (at : slice_get ds place ≡ Some d) (set_is : later ≡ set ds place d') (eight : length drawn ≡ 8) where
   pub one_again : OnOk r ((route : Option Route) × HasHeard old node payload drawn route d d' new number [] before all)
       → OnOk r ((drawn : List ℕ) × (route : Option Route) × IsHeardAgain old ds new later number node payload drawn route before all)
   one_again = go r
@@ -380,6 +386,7 @@ module _ {V E : Type 0} (r : Result V E) (old new : AirState) (ds later : States
           told = heard.outs ∙ ap (λ l. before ++ l) (append-nil (outs_hearing old number node route d (Hears payload drawn))
               ∙ (ap (λ (o : Option State). outs_at (mesh old ds) o number node route (Hears payload drawn)) (sym at)
               ∙ ap (λ (o : Option ℕ). outs_again (mesh old ds) o number node route (Hears payload drawn)) is));
+          eight = eight;
         },
       )
 
@@ -395,6 +402,7 @@ module _ {V E : Type 0} (r : Result V E) (old new : AirState) (ds later : States
         set_is ∙ (ap (λ (x : State). set ds place x) after
             ∙ (ap (λ (o : Option State). (heard_at (mesh old ds) place o node route (Hears payload drawn)).devices) (sym at)
             ∙ ap (λ (o : Option ℕ). (heard_again (mesh old ds) o node route (Hears payload drawn)).devices) is)),
+        eight,
       )
 
       go : (s : Result V E) → OnErr s (HasPerhaps old node d d' (Hears payload drawn)) → OnErr s (IsHeardPerhaps old ds later node payload)

@@ -304,8 +304,9 @@ pub record IsHeardAgain (old : AirState) (devices : List State) (new : AirState)
   pub may : MayHearAgain old node (listener_of node devices) route
   pub moves : record { air = new; devices = later } ≡ heard_again (record { air = old; devices = devices }) (listener_of node devices) node route (Hears payload drawn)
   pub told : all ≡ before ++ outs_again (record { air = old; devices = devices }) (listener_of node devices) number node route (Hears payload drawn)
+  pub eight : length drawn ≡ 8
 
 -- the devices are as they were, or that device has heard
 abbrev pub IsHeardPerhaps : AirState → List State → List State → ℕ → List ℕ → Type 0
 IsHeardPerhaps air devices later node payload = (later ≡ devices) ⊎ ((drawn : List ℕ) × (route : Option Route) × MayHearAgain air node (listener_of node devices) route
-    × (later ≡ (heard_again (record { air = air; devices = devices }) (listener_of node devices) node route (Hears payload drawn)).devices))
+    × (later ≡ (heard_again (record { air = air; devices = devices }) (listener_of node devices) node route (Hears payload drawn)).devices) × (length drawn ≡ 8))

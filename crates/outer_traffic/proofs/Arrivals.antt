@@ -298,6 +298,6 @@ module _ (flying : Flying) (lands : Landing) (t : Traffic) (log : List Mark) (fl
 pub arrives_go : Flying → Landing → Nexting → NoNexting → (t : Traffic) (log : List Mark) (flights : List Flown) (o : OuterState) (devices : List State) (drawn : List ℕ) (route : Option Route)
     → Follows t log flights o → MayHappen (mesh_of (outside o devices)) (Arrives drawn route) → Goes t log flights (steps (outside o devices) (Arrives drawn route)).outer t.up
 unfolding MayHappen mesh_after mesh_outs
-arrives_go flying lands next none t log [] o devices drawn route f may = absurd (rw (none log o.air.frames f.fly) at may)
+arrives_go flying lands next none t log [] o devices drawn route f may = absurd (rw (none log o.air.frames f.fly) at may.0)
 arrives_go flying lands next none t log (flight ∷ later) o devices drawn route f may =
     rw (next log flight later o.air.frames f.fly) (by_fate flying lands t log flight later o devices f (o.air.frames.landed + 1) (fate_of o.air.network devices flight) drawn route refl)

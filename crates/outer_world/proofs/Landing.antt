@@ -116,7 +116,7 @@ arrival_moves o ds drawn route may =
     let w : Outside = outside o ds in
     let air : AirState = (mesh_after (mesh_of w) (mesh.Arrives drawn route)).air in
     let later : List State = (mesh_after (mesh_of w) (mesh.Arrives drawn route)).devices in
-    let first : Moves o.air air = moves_if o.air ds (next_of o.air.frames) drawn route may in
+    let first : Moves o.air air = moves_if o.air ds (next_of o.air.frames) drawn route may.0 in
     let more : Keeps air (steps w (mesh.Arrives drawn route)).outer.air = each_keeps (deals later) (deals_keep later) (mesh_outs (mesh_of w) (mesh.Arrives drawn route)) (record o { air = air }) in
     record { landed = more.landed ∙ first.landed; sent = let x = first.sent in let y = more.sent in omega arith }
 

@@ -1,4 +1,4 @@
-use Rattle.std.proofs.Common.{◌≡◌, ◌<◌, length, inl, refl}
+use Rattle.std.proofs.Common.{◌≡◌, ◌<◌, length, inl, refl, rules}
 use Rattle.mesh_sim.proofs.Lists.{seen_at, seen_set}
 use Rattle.mesh_sim.proofs.Doing.{lost_did, dead_did, missed_did, chip_did, pass_stops, device_did, device_stops, device_is_cut, heard_within, on_err}
 use Rattle.mesh_sim.proofs.air.Air.arrive.Goals as goal
@@ -22,19 +22,19 @@ returns-in-AtChip-clause-ok g c =
 pub returns-in-AtDevice-clause-ok : goal.returns-in-AtDevice-clause-ok
 returns-in-AtDevice-clause-ok g c =
     let within : c.in-AtDevice.place < length c.args.devices.now.items = heard_within _ _ _ c.in-AtDevice.is c.coming-coming.ensures.within in
-    device_did c.arrive_at_device.result c.args.self.now.state c.arrive_at_device.new.self.state _ _ c.in-AtDevice.place _ _ _ _ _ _ _ _ c.args.out.now.items c.arrive_at_device.new.out.items
+    device_did c.arrive_at_device.result c.args.self.now.state c.arrive_at_device.new.self.state _ _ c.in-AtDevice.place _ _ _ _ _ _ _ c.next.result c.args.out.now.items c.arrive_at_device.new.out.items
     c.coming-coming.ensures.comes c.in-AtDevice.is
     (seen_at _ c.args.devices.now.items c.in-AtDevice.place c.index_mut.result.now within c.index_mut.ensures.value)
-    (seen_set _ c.args.devices.now.items c.in-AtDevice.place c.arrive_at_device.new.device)
+    (seen_set _ c.args.devices.now.items c.in-AtDevice.place c.arrive_at_device.new.device) (search rules)
     c.arrive_at_device.ensures.ok
 
 pub returns-in-AtDevice-clause-err : goal.returns-in-AtDevice-clause-err
 returns-in-AtDevice-clause-err g c =
     let within : c.in-AtDevice.place < length c.args.devices.now.items = heard_within _ _ _ c.in-AtDevice.is c.coming-coming.ensures.within in
-    device_stops c.arrive_at_device.result c.args.self.now.state c.arrive_at_device.new.self.state _ _ c.in-AtDevice.place _ _ _ _ _ _ _ _ c.args.out.now.items c.arrive_at_device.new.out.items
+    device_stops c.arrive_at_device.result c.args.self.now.state c.arrive_at_device.new.self.state _ _ c.in-AtDevice.place _ _ _ _ _ _ _ c.next.result c.args.out.now.items c.arrive_at_device.new.out.items
     c.coming-coming.ensures.comes c.in-AtDevice.is
     (seen_at _ c.args.devices.now.items c.in-AtDevice.place c.index_mut.result.now within c.index_mut.ensures.value)
-    (seen_set _ c.args.devices.now.items c.in-AtDevice.place c.arrive_at_device.new.device)
+    (seen_set _ c.args.devices.now.items c.in-AtDevice.place c.arrive_at_device.new.device) (search rules)
     c.arrive_at_device.ensures.err c.arrive_at_device.ensures.no_outs c.arrive_at_device.ensures.cut
 
 pub returns-in-Lost-clause-cut : goal.returns-in-Lost-clause-cut
@@ -52,8 +52,8 @@ returns-in-AtChip-clause-cut g c = on_err c.arrive_at_chip.result _ (inl refl)
 pub returns-in-AtDevice-clause-cut : goal.returns-in-AtDevice-clause-cut
 returns-in-AtDevice-clause-cut g c =
     let within : c.in-AtDevice.place < length c.args.devices.now.items = heard_within _ _ _ c.in-AtDevice.is c.coming-coming.ensures.within in
-    device_is_cut c.arrive_at_device.result c.args.self.now.state c.arrive_at_device.new.self.state _ _ c.in-AtDevice.place _ _ _ _ _ _ _ _ c.args.out.now.items c.arrive_at_device.new.out.items
+    device_is_cut c.arrive_at_device.result c.args.self.now.state c.arrive_at_device.new.self.state _ _ c.in-AtDevice.place _ _ _ _ _ _ _ c.next.result c.args.out.now.items c.arrive_at_device.new.out.items
     c.coming-coming.ensures.comes c.in-AtDevice.is
     (seen_at _ c.args.devices.now.items c.in-AtDevice.place c.index_mut.result.now within c.index_mut.ensures.value)
-    (seen_set _ c.args.devices.now.items c.in-AtDevice.place c.arrive_at_device.new.device)
+    (seen_set _ c.args.devices.now.items c.in-AtDevice.place c.arrive_at_device.new.device) (search rules)
     c.arrive_at_device.ensures.cut

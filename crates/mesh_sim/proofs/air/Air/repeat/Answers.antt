@@ -1,10 +1,10 @@
 use Rattle.std.proofs.Common.{[], None, refl}
-use Rattle.mesh_sim.proofs.Doing.{chip_again, device_again, device_again_cut, on_err, not_refused}
+use Rattle.mesh_sim.proofs.Doing.{blank, chip_again, device_again, device_again_cut, on_err, not_refused}
 use Rattle.mesh_sim.proofs.air.Air.repeat.Goals as goal
 
 pub returns-in_ok-enter_at_chip-in-Homeward-clause-ok : goal.returns-in_ok-enter_at_chip-in-Homeward-clause-ok
 returns-in_ok-enter_at_chip-in-Homeward-clause-ok g c =
-    ([], None, chip_again c.args.self.now.state c.args.self.now.state _ _ c.args.frame _ _ _ _ [] None c.args.out.now.items c.enter_at_chip.new.out.items c.in_ok-heading.ensures c.in-Homeward.is refl c.in_ok-enter_at_chip-in-Homeward.ensures.outs)
+    (blank, None, chip_again c.args.self.now.state c.args.self.now.state _ _ c.args.frame _ _ _ _ blank None c.args.out.now.items c.enter_at_chip.new.out.items c.in_ok-heading.ensures c.in-Homeward.is refl refl c.in_ok-enter_at_chip-in-Homeward.ensures.outs)
 
 pub returns-in_ok-repeat_outward-in-Outward-clause-ok : goal.returns-in_ok-repeat_outward-in-Outward-clause-ok
 returns-in_ok-repeat_outward-in-Outward-clause-ok g c =
