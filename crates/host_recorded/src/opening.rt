@@ -23,7 +23,7 @@ use zw_text::Entry;
 const CONTROLLER: u8 = 1;
 
 /// What became of a Security message.
-#[derive(Debug, Drop)]
+#[derive(Drop)]
 pub enum Opened {
     /// The nonce that it names was not spent, since that was not kept.
     Unkept,

@@ -5,7 +5,6 @@ pub mod Found
 pub mod Answered
 pub mod Starting
 pub mod Cut
-pub mod Heard
 pub mod First
 pub mod Front
 pub mod Judged

@@ -94,7 +94,7 @@ fn end_part(
 }
 
 /// What the end of a part of an attempt is: a good callback begins its wait, a segment that is not the last may fail.
-#[derive(Clone, Copy, Debug, PartialEq, Eq)]
+#[derive(Drop)]
 enum Part {
     Good,
     PassedOver,

@@ -21,7 +21,7 @@ use zw_base::{Bytes, List, NoMemory, NodeId, Payload};
 const NONCE_GET: [u8; 2] = [0x98, 0x40];
 
 /// What an attempt gives at once, what it is to give after that, and whether more of its message follows.
-#[derive(Debug, Drop)]
+#[derive(Drop)]
 pub struct Start {
     pub plan: Plan,
     pub payload: Payload,
