@@ -415,7 +415,7 @@ module _ (laws : Laws) (past : Past) (node : ℕ) where
   arrives_by : (c : Courses) (mesh : Mesh) (drawn : List ℕ) (route : Option Route) (is : InMesh past node c mesh) (flights : List Flown) → OnAir past node c is.log flights mesh.air.frames → node < 233 → CoursesFacts c
       → MayHappen mesh (Arrives drawn route) → MeshGoes past node c (mesh_after mesh (Arrives drawn route)) (brought (mesh_outs mesh (Arrives drawn route)))
   unfolding MayHappen mesh_after mesh_outs
-  arrives_by c mesh drawn route is [] on_air within facts may = let found = may.0 in absurd (rw (laws.none is.log mesh.air.frames on_air.fly) at found)
+  arrives_by c mesh drawn route is [] on_air within facts may = absurd (rw (laws.none is.log mesh.air.frames on_air.fly) at may.0)
   arrives_by c mesh drawn route is (frame ∷ later) on_air within facts may =
       rw (laws.next is.log frame later mesh.air.frames on_air.fly) (by_fate c mesh frame later is on_air facts within drawn may.1 route (mesh.air.frames.landed + 1) (fate_of mesh.air.network mesh.devices frame) refl)
 
