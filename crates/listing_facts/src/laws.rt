@@ -11,10 +11,10 @@ ghost use Rattle.zw_machine.specs.Events.{Event};
 ghost use Rattle.zw_machine.specs.Did.{happens_all, MayAll};
 ghost use Rattle.line_facts.specs.Line.{AreLines};
 ghost use Rattle.run_facts.specs.Lines.{IsRead};
-ghost use Rattle.run_facts.specs.Premises.{AllDrawBytes, AreFew};
+ghost use Rattle.run_facts.specs.Premises.{AreFew};
 ghost use Rattle.said_facts.specs.Spoken.{Spoken, AreSpoken, after_all};
 ghost use Rattle.said_facts.specs.Said.{AllTell, LinesTell};
-ghost use Rattle.listing_facts.specs.Lines.{HearLists, AreDone, events_of};
+ghost use Rattle.listing_facts.specs.Lines.{HearLists, AreDone};
 
 use device_facts::{devices_go_on, devices_stay_the_same};
 use line_facts::{hosts_write_well, units_are_judged_whole};
@@ -24,14 +24,14 @@ use world_facts::{restarts_go_on, the_machine_keeps_facts};
 
 /// In every run of lines that were read, over a keeper that tells its records and has none at first: an interview that ends well hears what the first
 /// device of its node lists. It is of a node that is joined, and a host that starts again knows what the one before knew, where the keeper holds
-/// fewer than 2 ^ 32 records in the end. Premised is too that what is drawn is bytes.
+/// fewer than 2 ^ 32 records in the end.
 pub fn interviews_tell_what_nodes_list()
     ensures heard { (keys : Keys) (devices : List State) (lines : List Line) (events : List Event) → AllByRecursion IsRead lines →
         AreLines lines (first_machine keys (Some []) devices) events → MayAll (first_machine keys (Some []) devices) events →
-        AllDrawBytes (first_machine keys (Some []) devices) events → AllByRecursion (HearLists (listing_of devices)) events }
+        AllByRecursion (HearLists (listing_of devices)) events }
     ensures tell { (keys : Keys) (devices : List State) (lines : List Line) (events : List Event) → AllByRecursion IsRead lines →
         AreLines lines (first_machine keys (Some []) devices) events → MayAll (first_machine keys (Some []) devices) events →
-        AllDrawBytes (first_machine keys (Some []) devices) events → AreFew (happens_all (first_machine keys (Some []) devices) events).records →
+        AreFew (happens_all (first_machine keys (Some []) devices) events).records →
         AllTell (listing_of devices) (first_machine keys (Some []) devices) events }
 {
     devices_go_on();
@@ -50,10 +50,10 @@ pub fn interviews_tell_what_nodes_list()
 /// headline of runs premises of interviews holds of the lists of the devices.
 pub fn lines_tell_what_nodes_list()
     ensures spoken { (keys : Keys) (devices : List State) (lines : List Spoken) → AreDone (first_machine keys (Some []) devices) lines →
-        AllDrawBytes (first_machine keys (Some []) devices) (events_of lines) → AreFew (after_all (first_machine keys (Some []) devices) lines).records →
+        AreFew (after_all (first_machine keys (Some []) devices) lines).records →
         AreSpoken (first_machine keys (Some []) devices) lines }
     ensures tell { (keys : Keys) (devices : List State) (lines : List Spoken) → AreDone (first_machine keys (Some []) devices) lines →
-        AllDrawBytes (first_machine keys (Some []) devices) (events_of lines) → AreFew (after_all (first_machine keys (Some []) devices) lines).records →
+        AreFew (after_all (first_machine keys (Some []) devices) lines).records →
         LinesTell (listing_of devices) (first_machine keys (Some []) devices) lines }
 {
     the_machine_keeps_facts();

@@ -347,7 +347,7 @@ module _ (laws : Laws) (node : ℕ) (orders : List Asked) where
   arrives_by : (c : Course) (mesh : Mesh) (drawn : List ℕ) (route : Option Route) (log : List Mark) (flights : List Flown) → OnAir node orders c.host c.air c.old log flights mesh.air.frames → Stands node orders c mesh.devices → CourseFacts c
       → MayHappen mesh (Arrives drawn route) → MeshGoes node orders c (mesh_after mesh (Arrives drawn route)) (brought (mesh_outs mesh (Arrives drawn route)))
   unfolding MayHappen mesh_after mesh_outs
-  arrives_by c mesh drawn route log [] on_air h course may = absurd (rw (laws.none log mesh.air.frames on_air.fly) at may)
+  arrives_by c mesh drawn route log [] on_air h course may = absurd (rw (laws.none log mesh.air.frames on_air.fly) at may.0)
   arrives_by c mesh drawn route log (frame ∷ later) on_air h course may =
       rw (laws.next log frame later mesh.air.frames on_air.fly) (by_fate c mesh frame later log on_air h course drawn route (mesh.air.frames.landed + 1) (fate_of mesh.air.network mesh.devices frame) refl)
 

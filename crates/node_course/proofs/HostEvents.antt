@@ -404,7 +404,7 @@ module _ (nonces : (nonce : List ℕ) → IsOther (nonce_report nonce)) (no_more
   text_given n payload is own = let bad : None ≡ Some payload = sym at.node_as.1.1.0 ∙ (ap (λ (k : ℕ). (node_of h k).text) (sym own) ∙ is) in absurd cc
 
   nonce_taken : (n seen : ℕ) (text : List ℕ) → May h (Takes_nonce n seen text) → SameHost node h (node_does h n (node_takes_nonce seen text))
-  nonce_taken n seen text (nonce, own, count, sealed) = by (n == node) refl
+  nonce_taken n seen text (nonce, own, count, sealed, eight) = by (n == node) refl
     where
       by : (b : Bool) → (n == node) ≡ b → SameHost node h (node_does h n (node_takes_nonce seen text))
       by true mine =

@@ -8,7 +8,7 @@ ghost use Rattle.zw_machine.specs.State.{first_machine};
 ghost use Rattle.once_facts.specs.Tied.{AreTied};
 ghost use Rattle.said_facts.specs.Spoken.{Spoken, after_all};
 ghost use Rattle.listing_facts.specs.Lines.{AreDone, events_of};
-ghost use Rattle.run_facts.specs.Premises.{AllDrawBytes, AreFew};
+ghost use Rattle.run_facts.specs.Premises.{AreFew};
 ghost use Rattle.headline_facts.specs.Truly.{LinesAreTrue};
 ghost use Rattle.plain_nodes.specs.Plain.{IsPlain};
 
@@ -20,12 +20,12 @@ use run_facts::lines_keep_and_ask_well;
 /// is told.
 pub fn plain_nodes_are_tied()
     ensures tied { (keys : Keys) (devices : List State) (lines : List Spoken) (node : ℕ) (device : State) → IsPlain devices (events_of lines) node →
-        AreDone (first_machine keys (Some []) devices) lines → AllDrawBytes (first_machine keys (Some []) devices) (events_of lines) →
+        AreDone (first_machine keys (Some []) devices) lines →
         AreFew (after_all (first_machine keys (Some []) devices) lines).records →
         device_of node (after_all (first_machine keys (Some []) devices) lines).outside.devices ≡ Some device →
         AreTied (after_all (first_machine keys (Some []) devices) lines).host.state node device }
     ensures truth { (keys : Keys) (devices : List State) (lines : List Spoken) (node : ℕ) → IsPlain devices (events_of lines) node →
-        AreDone (first_machine keys (Some []) devices) lines → AllDrawBytes (first_machine keys (Some []) devices) (events_of lines) →
+        AreDone (first_machine keys (Some []) devices) lines →
         AreFew (after_all (first_machine keys (Some []) devices) lines).records → LinesAreTrue node (first_machine keys (Some []) devices) lines }
 {
     lines_ask_plainly();

@@ -11,7 +11,7 @@ ghost use Rattle.zw_machine.specs.Events.{Event};
 ghost use Rattle.zw_machine.specs.Did.{happens_all, MayAll};
 ghost use Rattle.line_facts.specs.Line.{AreLines};
 ghost use Rattle.run_facts.specs.Lines.{IsRead};
-ghost use Rattle.run_facts.specs.Premises.{AllDrawBytes, AreFew};
+ghost use Rattle.run_facts.specs.Premises.{AreFew};
 ghost use Rattle.node_course.specs.World.{OrdersPlain};
 ghost use Rattle.plain_nodes.specs.Plain.{IsPlainKind};
 
@@ -24,7 +24,7 @@ use said_facts::interviews_give_what_is_known;
 pub fn orders_go_plain()
     ensures { (keys : Keys) (devices : List State) (lines : List Line) (events : List Event) (node : ℕ) (device : State) → AllByRecursion IsRead lines →
         AreLines lines (first_machine keys (Some []) devices) events → MayAll (first_machine keys (Some []) devices) events →
-        AllDrawBytes (first_machine keys (Some []) devices) events → AreFew (happens_all (first_machine keys (Some []) devices) events).records →
+        AreFew (happens_all (first_machine keys (Some []) devices) events).records →
         device_of node devices ≡ Some device → IsPlainKind device.kind → AllByRecursion (OrdersPlain node) events }
 {
     a_restart_needs_the_records_alone();

@@ -6,7 +6,7 @@ use Rattle.host_events.specs.State.{HostState}
 use Rattle.host_events.specs.Events.{HostEvent, Accepts, Joins, Queues, Queues_interview, Requests_do, Interviews, Finishes, Gives, Spends, Spends_unread, Takes_nonce}
 use Rattle.host_events.specs.Taking.{IsKeptOr}
 use Rattle.run_facts.specs.Lines.{IsAsked}
-use Rattle.run_facts.specs.Premises.{DrawsBytes, HearsBytes}
+use Rattle.run_facts.specs.Premises.{HearsBytes}
 
 -- what it is asked is in range, and so is the node that the chip's bytes name
 abbrev pub IsInOrder : HostState → HostEvent → Type 0
@@ -32,12 +32,7 @@ asked_in_order h (Queues_interview n) asked = asked
 asked_in_order h (Requests_do event moment) asked = asked
 asked_in_order h _ asked = tt
 
--- it draws nothing, and hears nothing of a node
-pub asked_draws : (h : HostState) (event : HostEvent) → IsAsked h event → DrawsBytes h event
-asked_draws h (Gives n drawn) asked = absurd asked
-asked_draws h (Takes_nonce n seen text) asked = absurd asked
-asked_draws h _ asked = tt
-
+-- it hears nothing of a node
 pub asked_hears : (h : HostState) (event : HostEvent) → IsAsked h event → HearsBytes event
 asked_hears h (Interviews n listens classes update) asked = absurd asked
 asked_hears h _ asked = tt

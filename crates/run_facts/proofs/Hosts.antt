@@ -45,7 +45,7 @@ use Rattle.world_facts.specs.Restarts.{HostKeepsWell}
 use Rattle.line_facts.specs.Host.{FitsTask, FitsIn, FitsRequest, FitsEvent}
 use Rattle.run_facts.specs.Lines.{IsErrand, AsksNothing}
 use Rattle.run_facts.specs.Asking.{IsTaskOf, IsPurposeOf, IsUnderWayOf, IsJoined, HostAsks}
-use Rattle.run_facts.specs.Premises.{DrawsBytes, HearsBytes}
+use Rattle.run_facts.specs.Premises.{HearsBytes}
 use Rattle.run_facts.proofs.Always.{IsInOrder}
 use Rattle.run_facts.proofs.Kept.{IsCounted}
 use Rattle.run_facts.proofs.Nodes.{BringsPlain, StartsShort, nodes_stay}
@@ -128,9 +128,9 @@ take_short zero xs = omega arith
 take_short (suc count) [] = omega arith
 take_short (suc count) (x ∷ xs) = omega (arith, take_short count xs)
 
-text_short : (h : HostState) (n seen : ℕ) (text : List ℕ) → HostAsks h → DrawsBytes h (Takes_nonce n seen text) → length text ≤ 46
+text_short : (h : HostState) (n seen : ℕ) (text : List ℕ) → HostAsks h → May h (Takes_nonce n seen text) → length text ≤ 46
 unfolding code_of
-text_short h n seen text asks (own, nonce, eight, seals) =
+text_short h n seen text asks (nonce, own, counts, seals, eight) =
     let s = seals.seals in
     let short : length seals.plain ≤ 26 = subst (λ (l : Option (List ℕ)). FitsIn 26 l) seals.is_pending (asks.plains n) in
     let long : length s.cipher_text ≡ suc (length seals.plain) = ap (λ (l : List ℕ). length l) s.enciphers ∙ length-ofb_from _ _ 0 (0 ∷ seals.plain) in
@@ -167,30 +167,30 @@ seen_in h n seen most counted is more few = by ((node_of h n).seen == seen)
     by true = tt
     by false = ((is, omega (arith, counted.seen n)), tt)
 
-in_range : (h : HostState) (event : HostEvent) (most : ℕ) → HostFacts h → IsCounted most h → May h event → IsInOrder h event → DrawsBytes h event → HearsBytes event → most + length (records_at h event) < 2 ^ 32
+in_range : (h : HostState) (event : HostEvent) (most : ℕ) → HostFacts h → IsCounted most h → May h event → IsInOrder h event → HearsBytes event → most + length (records_at h event) < 2 ^ 32
     → AllByRecursion IsRecord (records_at h event)
-in_range h (Accepts order carriage) most facts counted may asked bytes hears few = ((omega (arith, counted.commands), asked), tt)
-in_range h (Cancels command) most facts counted may asked bytes hears few = (omega (arith, waiting_in h (node_for h command) command facts may, counted.commands), tt)
-in_range h (Joins n) most facts counted may asked bytes hears few = (asked, tt)
-in_range h (Interviews n listens classes update) most facts counted may asked bytes hears few = ((asked, hears), tt)
-in_range h (Finishes n session id command status wake_request) most facts counted may asked bytes hears few =
+in_range h (Accepts order carriage) most facts counted may asked hears few = ((omega (arith, counted.commands), asked), tt)
+in_range h (Cancels command) most facts counted may asked hears few = (omega (arith, waiting_in h (node_for h command) command facts may, counted.commands), tt)
+in_range h (Joins n) most facts counted may asked hears few = (asked, tt)
+in_range h (Interviews n listens classes update) most facts counted may asked hears few = ((asked, hears), tt)
+in_range h (Finishes n session id command status wake_request) most facts counted may asked hears few =
     let book = (node_of h n).book in
     ((asked, omega (arith, final_in book.commands book.outcome book.attempts id (status_byte status) session may.told, counted.begun n)), tt)
-in_range h (Gives n drawn) most facts counted may asked bytes hears few =
-    ((asked, omega (arith, counted.given n), nonce_long (given_of h.nonces n) drawn may.1, nonce_bytes (given_of h.nonces n) drawn bytes), tt)
-in_range h (Spends n) most facts counted may asked bytes hears few = (asked, tt)
-in_range h (Spends_unread n payload) most facts counted may asked bytes hears few = (asked, tt)
-in_range h (Takes_nonce n seen text) most facts counted may asked bytes hears few =
-    let (nonce, own, count, seals) = may in
+in_range h (Gives n drawn) most facts counted may asked hears few =
+    ((asked, omega (arith, counted.given n), nonce_long (given_of h.nonces n) drawn may.1, nonce_bytes (given_of h.nonces n) drawn may.2), tt)
+in_range h (Spends n) most facts counted may asked hears few = (asked, tt)
+in_range h (Spends_unread n payload) most facts counted may asked hears few = (asked, tt)
+in_range h (Takes_nonce n seen text) most facts counted may asked hears few =
+    let (nonce, own, count, seals, eight) = may in
     seen_in h n seen most counted asked (seen_more (node_of h n).pending (node_of h n).seen (slice_index nonce 0) seen count) (omega arith)
-in_range h (Begins n session command) most facts counted may asked bytes hears few =
+in_range h (Begins n session command) most facts counted may asked hears few =
     let oldest = oldest_in h n facts may.1.0 in
     ((next_node h.nodes h.served n may.0.next, omega (arith, counted.begun n, may.2), omega (arith, counted.commands, oldest, may.3)), tt)
-in_range h _ most facts counted may asked bytes hears few = tt
+in_range h _ most facts counted may asked hears few = tt
 
-pub event_kept : (h : HostState) (event : HostEvent) (most : ℕ) → HostFacts h → HostAsks h → IsCounted most h → May h event → IsInOrder h event → DrawsBytes h event → HearsBytes event
+pub event_kept : (h : HostState) (event : HostEvent) (most : ℕ) → HostFacts h → HostAsks h → IsCounted most h → May h event → IsInOrder h event → HearsBytes event
     → most + length (records_at h event) < 2 ^ 32 → HostKeepsWell h event
-event_kept h event most facts asks counted may asked bytes hears few = record { in_range = in_range h event most facts counted may asked bytes hears few; of_joined = of_joined h event asks may }
+event_kept h event most facts asks counted may asked hears few = record { in_range = in_range h event most facts counted may asked hears few; of_joined = of_joined h event asks may }
 
 -- ---- what is asked for
 
@@ -204,11 +204,11 @@ request_fits : (event : RequestsEvent) → AsksNothing event → FitsRequest eve
 request_fits (Pushes task) is = absurd is
 request_fits _ is = tt
 
-pub event_fits : (h : HostState) (event : HostEvent) → HostAsks h → IsInOrder h event → DrawsBytes h event → FitsEvent event
-event_fits h (Queues task) asks asked bytes = errand_fits task asked
-event_fits h (Requests_do event moment) asks asked bytes = request_fits event asked
-event_fits h (Takes_nonce n seen text) asks asked bytes = text_short h n seen text asks bytes
-event_fits h _ asks asked bytes = tt
+pub event_fits : (h : HostState) (event : HostEvent) → HostAsks h → May h event → IsInOrder h event → FitsEvent event
+event_fits h (Queues task) asks may asked = errand_fits task asked
+event_fits h (Requests_do event moment) asks may asked = request_fits event asked
+event_fits h (Takes_nonce n seen text) asks may asked = text_short h n seen text asks may
+event_fits h _ asks may asked = tt
 
 -- ---- what is known of what was asked
 

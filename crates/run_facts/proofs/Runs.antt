@@ -21,8 +21,8 @@ use Rattle.world_facts.specs.Restarts.{StartsWell, HostKeepsWell, HostsKeepWell,
 use Rattle.line_facts.specs.Host.{FitsEvent, AsksWell as LineAsksWell, AllAskWell}
 use Rattle.run_facts.specs.Lines.{AsksWell, AllAsked}
 use Rattle.run_facts.specs.Asking.{HostAsks}
-use Rattle.run_facts.specs.Premises.{HostsDrawBytes, DrawBytes, AllDrawBytes, HearsBytes, HearBytes, AreFew}
-use Rattle.run_facts.proofs.Always.{IsInOrder, AlwaysInOrder, asked_in_order, asked_draws, asked_hears}
+use Rattle.run_facts.specs.Premises.{HearsBytes, HearBytes, AreFew}
+use Rattle.run_facts.proofs.Always.{IsInOrder, AlwaysInOrder, asked_in_order, asked_hears}
 use Rattle.run_facts.proofs.Heard.{all_judged_in_order}
 use Rattle.run_facts.proofs.Kept.{counted_by_texts}
 use Rattle.run_facts.proofs.Hosts.{event_kept, event_fits, event_asks}
@@ -43,11 +43,11 @@ record HostsFit (h : HostState) (events : List HostEvent) : Type 0 where
   fits : AllByRecursion FitsEvent events
   asks : HostAsks (after_all h events)
 
-hosts_fit : (h : HostState) (events : List HostEvent) → HostAsks h → MayAllHost h events → HostsInOrder h events → HostsDrawBytes h events → HostsFit h events
-hosts_fit h [] asks may order draws = record { fits = tt; asks = asks }
-hosts_fit h (event ∷ events) asks may order draws =
-    let more = hosts_fit (after h event) events (event_asks h event asks may.0 order.0) may.1 order.1 draws.1 in
-    record { fits = (event_fits h event asks order.0 draws.0, more.fits); asks = more.asks }
+hosts_fit : (h : HostState) (events : List HostEvent) → HostAsks h → MayAllHost h events → HostsInOrder h events → HostsFit h events
+hosts_fit h [] asks may order = record { fits = tt; asks = asks }
+hosts_fit h (event ∷ events) asks may order =
+    let more = hosts_fit (after h event) events (event_asks h event asks may.0 order.0) may.1 order.1 in
+    record { fits = (event_fits h event asks may.0 order.0, more.fits); asks = more.asks }
 
 -- what is proved of hosts
 abbrev FactsKept : Type 0
@@ -70,23 +70,23 @@ module _ (facts_kept : FactsKept) (host_held : HostHeld) where
       (host_held h (event ∷ []) (Some texts) facts (may, tt) (well, tt) held)
 
   hosts_keep : (h : HostState) (events : List HostEvent) (texts : List (List ℕ)) → HostFacts h → HostAsks h → AreHeld h texts → MayAllHost h events → HostsInOrder h events
-      → HostsDrawBytes h events → AllByRecursion HearsBytes events → length texts + length (records_all h events) < 2 ^ 32 → HostsKeep h events
-  hosts_keep h [] texts facts asks held may order draws hears few = record { keeps = tt; facts = facts }
-  hosts_keep h (event ∷ events) texts facts asks held may order draws hears few =
+      → AllByRecursion HearsBytes events → length texts + length (records_all h events) < 2 ^ 32 → HostsKeep h events
+  hosts_keep h [] texts facts asks held may order hears few = record { keeps = tt; facts = facts }
+  hosts_keep h (event ∷ events) texts facts asks held may order hears few =
       let both = length-append (records_at h event) (records_all (after h event) events) in
-      let kept = event_kept h event (length texts) facts asks (counted_by_texts h texts held) may.0 order.0 draws.0 hears.0 (omega arith) in
+      let kept = event_kept h event (length texts) facts asks (counted_by_texts h texts held) may.0 order.0 hears.0 (omega arith) in
       let long : length (texts ++ texts_of (records_at h event)) ≡ length texts + length (records_at h event) =
       length-append texts (texts_of (records_at h event)) ∙ ap (λ (k : ℕ). length texts + k) (length-map (records_at h event) record_text) in
       let more = hosts_keep (after h event) events (texts ++ texts_of (records_at h event)) (facts_kept h event facts may.0) (event_asks h event asks may.0 order.0)
-      (one_held h event texts facts may.0 kept held) may.1 order.1 draws.1 hears.1 (omega arith) in
+      (one_held h event texts facts may.0 kept held) may.1 order.1 hears.1 (omega arith) in
       record { keeps = (kept, more.keeps); facts = more.facts }
 
   -- the keeper tells its records, and there are few of them in the end
   told_keep : (h : HostState) (events : List HostEvent) (records : Option (List (List ℕ))) → HostFacts h → HostAsks h → IsSome records → IsHeld h records → MayAllHost h events → HostsInOrder h events
-      → HostsDrawBytes h events → AllByRecursion HearsBytes events → AreFew (with_texts records (texts_of (records_all h events))) → HostsKeep h events
-  told_keep h events None facts asks told held may order draws hears few = let bad : false ≡ true = told in absurd cc
-  told_keep h events (Some texts) facts asks told held may order draws hears few =
-      hosts_keep h events texts facts asks held may order draws hears
+      → AllByRecursion HearsBytes events → AreFew (with_texts records (texts_of (records_all h events))) → HostsKeep h events
+  told_keep h events None facts asks told held may order hears few = let bad : false ≡ true = told in absurd cc
+  told_keep h events (Some texts) facts asks told held may order hears few =
+      hosts_keep h events texts facts asks held may order hears
       (omega (arith, few, length-append texts (texts_of (records_all h events)), length-map (records_all h events) record_text))
 
 -- ---- what is asked of the machine
@@ -108,26 +108,26 @@ opens_asks : (keys : Keys) (records : Option (List (List ℕ))) (state : HostSta
 opens_asks keys None state told opens = let bad : false ≡ true = told in absurd cc
 opens_asks keys (Some texts) state told (records, are, legal, is) = subst HostAsks (sym is) (opened_asks keys records)
 
-asks_on : (m : Machine) (event : Event) → Asks m → May m event → AsksWell m event → DrawBytes m event → AsksOn m event
+asks_on : (m : Machine) (event : Event) → Asks m → May m event → AsksWell m event → AsksOn m event
 unfolding happens May
-asks_on m (Outside_does event) asks may asked draws = record { well = tt; asks = record { host = asks.host; told = asks.told } }
-asks_on m (Host_does event) asks may asked draws =
+asks_on m (Outside_does event) asks may asked = record { well = tt; asks = record { host = asks.host; told = asks.told } }
+asks_on m (Host_does event) asks may asked =
     let h = m.host.state in
-    let fit = hosts_fit h (event ∷ []) asks.host (may, tt) (asked_in_order h event asked, tt) (asked_draws h event asked, tt) in
+    let fit = hosts_fit h (event ∷ []) asks.host (may, tt) (asked_in_order h event asked, tt) in
     record { well = fit.fits.0; asks = record { host = fit.asks; told = still_told m.records (texts_of (records_all h (event ∷ []))) asks.told } }
-asks_on m (Host_takes count rest items events) asks may asked draws =
+asks_on m (Host_takes count rest items events) asks may asked =
     let h = m.host.state in
-    let fit = hosts_fit h events asks.host may.may (always_in_order h events (all_judged_in_order h items events may.judged)) draws in
+    let fit = hosts_fit h events asks.host may.may (always_in_order h events (all_judged_in_order h items events may.judged)) in
     record { well = fit.fits; asks = record { host = fit.asks; told = still_told m.records (texts_of (records_all h events)) asks.told } }
-asks_on m Decoder_ticks asks may asked draws = record { well = tt; asks = record { host = asks.host; told = asks.told } }
-asks_on m (Refuses line refusal) asks may asked draws = record { well = tt; asks = record { host = asks.host; told = asks.told } }
-asks_on m (Shows_values node) asks may asked draws = record { well = tt; asks = record { host = asks.host; told = asks.told } }
-asks_on m (Restarts state) asks may asked draws = record { well = asks.told; asks = record { host = opens_asks m.keys m.records state asks.told may; told = asks.told } }
+asks_on m Decoder_ticks asks may asked = record { well = tt; asks = record { host = asks.host; told = asks.told } }
+asks_on m (Refuses line refusal) asks may asked = record { well = tt; asks = record { host = asks.host; told = asks.told } }
+asks_on m (Shows_values node) asks may asked = record { well = tt; asks = record { host = asks.host; told = asks.told } }
+asks_on m (Restarts state) asks may asked = record { well = asks.told; asks = record { host = opens_asks m.keys m.records state asks.told may; told = asks.told } }
 
-pub all_ask : (m : Machine) (events : List Event) → Asks m → MayAll m events → AllAsked m events → AllDrawBytes m events → AllAskWell m events
-all_ask m [] asks may asked draws = tt
-all_ask m (event ∷ events) asks may asked draws =
-    let one = asks_on m event asks may.0 asked.0 draws.0 in (one.well, all_ask (happens m event) events one.asks may.1 asked.1 draws.1)
+pub all_ask : (m : Machine) (events : List Event) → Asks m → MayAll m events → AllAsked m events → AllAskWell m events
+all_ask m [] asks may asked = tt
+all_ask m (event ∷ events) asks may asked =
+    let one = asks_on m event asks may.0 asked.0 in (one.well, all_ask (happens m event) events one.asks may.1 asked.1)
 
 -- ---- what the machine keeps
 
@@ -145,23 +145,23 @@ EventHeld = (m : Machine) (event : Event) → HostFacts m.host.state → IsHeld 
     → StartsWell m event × IsHeld (happens m event).host.state (happens m event).records
 
 module _ (facts_kept : FactsKept) (host_held : HostHeld) (event_held : EventHeld) where
-  keeps_on : (m : Machine) (event : Event) → Asks m → Holds m → May m event → AsksWell m event → DrawBytes m event → HearBytes event → AreFew (happens m event).records → KeepsOn m event
+  keeps_on : (m : Machine) (event : Event) → Asks m → Holds m → May m event → AsksWell m event → HearBytes event → AreFew (happens m event).records → KeepsOn m event
   unfolding happens May
-  keeps_on m (Outside_does event) asks holds may asked draws hears few = record { well = tt; holds = record { facts = holds.facts; held = holds.held } }
-  keeps_on m (Host_does event) asks holds may asked draws hears few =
+  keeps_on m (Outside_does event) asks holds may asked hears few = record { well = tt; holds = record { facts = holds.facts; held = holds.held } }
+  keeps_on m (Host_does event) asks holds may asked hears few =
       let h = m.host.state in
       let keep = told_keep facts_kept host_held h (event ∷ []) m.records holds.facts asks.host asks.told holds.held (may, tt) (asked_in_order h event asked, tt)
-      (asked_draws h event asked, tt) (asked_hears h event asked, tt) few in
+      (asked_hears h event asked, tt) few in
       record { well = keep.keeps.0; holds = record { facts = keep.facts; held = host_held h (event ∷ []) m.records holds.facts (may, tt) keep.keeps holds.held } }
-  keeps_on m (Host_takes count rest items events) asks holds may asked draws hears few =
+  keeps_on m (Host_takes count rest items events) asks holds may asked hears few =
       let h = m.host.state in
       let keep = told_keep facts_kept host_held h events m.records holds.facts asks.host asks.told holds.held may.may
-      (always_in_order h events (all_judged_in_order h items events may.judged)) draws hears few in
+      (always_in_order h events (all_judged_in_order h items events may.judged)) hears few in
       record { well = keep.keeps; holds = record { facts = keep.facts; held = host_held h events m.records holds.facts may.may keep.keeps holds.held } }
-  keeps_on m Decoder_ticks asks holds may asked draws hears few = record { well = tt; holds = record { facts = holds.facts; held = holds.held } }
-  keeps_on m (Refuses line refusal) asks holds may asked draws hears few = record { well = tt; holds = record { facts = holds.facts; held = holds.held } }
-  keeps_on m (Shows_values node) asks holds may asked draws hears few = record { well = tt; holds = record { facts = holds.facts; held = holds.held } }
-  keeps_on m (Restarts state) asks holds may asked draws hears few =
+  keeps_on m Decoder_ticks asks holds may asked hears few = record { well = tt; holds = record { facts = holds.facts; held = holds.held } }
+  keeps_on m (Refuses line refusal) asks holds may asked hears few = record { well = tt; holds = record { facts = holds.facts; held = holds.held } }
+  keeps_on m (Shows_values node) asks holds may asked hears few = record { well = tt; holds = record { facts = holds.facts; held = holds.held } }
+  keeps_on m (Restarts state) asks holds may asked hears few =
       let goes = event_held m (Restarts state) holds.facts holds.held may asks.told in
       record { well = asks.told; holds = record { facts = goes.0.host; held = goes.1 } }
 
@@ -183,12 +183,12 @@ module _ (facts_kept : FactsKept) (host_held : HostHeld) (event_held : EventHeld
   few_all m [] few = few
   few_all m (event ∷ events) few = few_before m event (few_all (happens m event) events few)
 
-  pub all_keep : (m : Machine) (events : List Event) → Asks m → Holds m → MayAll m events → AllAsked m events → AllDrawBytes m events → AllByRecursion HearBytes events
+  pub all_keep : (m : Machine) (events : List Event) → Asks m → Holds m → MayAll m events → AllAsked m events → AllByRecursion HearBytes events
       → AreFew (happens_all m events).records → AllKeepWell m events
-  all_keep m [] asks holds may asked draws hears few = tt
-  all_keep m (event ∷ events) asks holds may asked draws hears few =
-      let one = keeps_on m event asks holds may.0 asked.0 draws.0 hears.0 (few_all (happens m event) events few) in
-      (one.well, all_keep (happens m event) events (asks_on m event asks may.0 asked.0 draws.0).asks one.holds may.1 asked.1 draws.1 hears.1 few)
+  all_keep m [] asks holds may asked hears few = tt
+  all_keep m (event ∷ events) asks holds may asked hears few =
+      let one = keeps_on m event asks holds may.0 asked.0 hears.0 (few_all (happens m event) events few) in
+      (one.well, all_keep (happens m event) events (asks_on m event asks may.0 asked.0).asks one.holds may.1 asked.1 hears.1 few)
 
 -- ---- at first
 

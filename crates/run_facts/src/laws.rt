@@ -14,7 +14,7 @@ ghost use Rattle.world_facts.specs.Restarts.{AllKeepWell};
 ghost use Rattle.line_facts.specs.Host.{AllAskWell};
 ghost use Rattle.line_facts.specs.Line.{AreLines};
 ghost use Rattle.run_facts.specs.Lines.{IsRead, IsInRange, AllAsked};
-ghost use Rattle.run_facts.specs.Premises.{AllDrawBytes, HearBytes, AreFew};
+ghost use Rattle.run_facts.specs.Premises.{HearBytes, AreFew};
 
 use host_events::facts_are_kept;
 use host_facts::what_is_kept_starts_a_host;
@@ -40,10 +40,10 @@ pub fn lines_ask_well()
 pub fn runs_keep_and_ask_well()
     ensures asks { (keys : Keys) (devices : List State) (events : List Event) →
         MayAll (first_machine keys (Some []) devices) events → AllAsked (first_machine keys (Some []) devices) events →
-        AllDrawBytes (first_machine keys (Some []) devices) events → AllAskWell (first_machine keys (Some []) devices) events }
+        AllAskWell (first_machine keys (Some []) devices) events }
     ensures keeps { (keys : Keys) (devices : List State) (events : List Event) →
         MayAll (first_machine keys (Some []) devices) events → AllAsked (first_machine keys (Some []) devices) events →
-        AllDrawBytes (first_machine keys (Some []) devices) events → AllByRecursion HearBytes events →
+        AllByRecursion HearBytes events →
         AreFew (happens_all (first_machine keys (Some []) devices) events).records → AllKeepWell (first_machine keys (Some []) devices) events }
 {
     facts_are_kept();
@@ -58,14 +58,14 @@ pub fn runs_keep_and_ask_well()
 
 /// So in every run of lines that were read, over a keeper that tells its records and has none at first: what the laws of whole runs premise of records,
 /// interviews, payloads and restarts holds. The class lists that interviews hear are of bytes, since the chip tells those of kinds of devices and each
-/// side judges whole units of the other. Premised are that what is drawn is bytes, and that the keeper holds fewer than 2 ^ 32 records in the end.
+/// side judges whole units of the other. Premised is that the keeper holds fewer than 2 ^ 32 records in the end.
 pub fn lines_keep_and_ask_well()
     ensures heard { (keys : Keys) (devices : List State) (lines : List Line) (events : List Event) → AllByRecursion IsRead lines →
         AreLines lines (first_machine keys (Some []) devices) events → MayAll (first_machine keys (Some []) devices) events →
-        AllDrawBytes (first_machine keys (Some []) devices) events → AllByRecursion HearBytes events }
+        AllByRecursion HearBytes events }
     ensures all { (keys : Keys) (devices : List State) (lines : List Line) (events : List Event) → AllByRecursion IsRead lines →
         AreLines lines (first_machine keys (Some []) devices) events → MayAll (first_machine keys (Some []) devices) events →
-        AllDrawBytes (first_machine keys (Some []) devices) events → AreFew (happens_all (first_machine keys (Some []) devices) events).records →
+        AreFew (happens_all (first_machine keys (Some []) devices) events).records →
         AllKeepWell (first_machine keys (Some []) devices) events × AllAskWell (first_machine keys (Some []) devices) events }
 {
     hosts_write_well();

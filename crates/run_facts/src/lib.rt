@@ -2,8 +2,8 @@
 //! are joined, and that what is sent is short, and lines that were read give that.
 //!
 //! Each law is the contract of a function that does nothing, over the definitions of `zw_machine`, `world_facts` and `line_facts`. The definitions stand
-//! in `specs/`: `Lines` (what lines ask of the host), `Asking` (what the host keeps of what it was asked) and `Premises` (what is still premised: that
-//! what is drawn is bytes, and how many records there are).
+//! in `specs/`: `Lines` (what lines ask of the host), `Asking` (what the host keeps of what it was asked) and `Premises` (what is still premised: how
+//! many records there are).
 #![tactic(auto)]
 
 mod laws;

@@ -412,16 +412,16 @@ module _ (laws : Laws) (past : Past) (node : ℕ) where
         (subst (λ (heading : Heading). MeansBy heading (frame.node == node) past node frame.payload l.aloft.held) home l.bears.1)
     by_fate number (fate.AtDevice place) is = at_device number place (slice_get mesh.devices place) refl is
 
-  arrives_by : (c : Courses) (mesh : Mesh) (drawn : List ℕ) (route : Option Route) (is : InMesh past node c mesh) (flights : List Flown) → OnAir past node c is.log flights mesh.air.frames → node < 233 → length drawn ≡ 8 → CoursesFacts c
+  arrives_by : (c : Courses) (mesh : Mesh) (drawn : List ℕ) (route : Option Route) (is : InMesh past node c mesh) (flights : List Flown) → OnAir past node c is.log flights mesh.air.frames → node < 233 → CoursesFacts c
       → MayHappen mesh (Arrives drawn route) → MeshGoes past node c (mesh_after mesh (Arrives drawn route)) (brought (mesh_outs mesh (Arrives drawn route)))
   unfolding MayHappen mesh_after mesh_outs
-  arrives_by c mesh drawn route is [] on_air within eight facts may = absurd (rw (laws.none is.log mesh.air.frames on_air.fly) at may)
-  arrives_by c mesh drawn route is (frame ∷ later) on_air within eight facts may =
-      rw (laws.next is.log frame later mesh.air.frames on_air.fly) (by_fate c mesh frame later is on_air facts within drawn eight route (mesh.air.frames.landed + 1) (fate_of mesh.air.network mesh.devices frame) refl)
+  arrives_by c mesh drawn route is [] on_air within facts may = absurd (rw (laws.none is.log mesh.air.frames on_air.fly) at may.0)
+  arrives_by c mesh drawn route is (frame ∷ later) on_air within facts may =
+      rw (laws.next is.log frame later mesh.air.frames on_air.fly) (by_fate c mesh frame later is on_air facts within drawn may.1 route (mesh.air.frames.landed + 1) (fate_of mesh.air.network mesh.devices frame) refl)
 
-  pub arrives_go : (c : Courses) (mesh : Mesh) (drawn : List ℕ) (route : Option Route) → node < 233 → length drawn ≡ 8 → CoursesFacts c → InMesh past node c mesh → MayHappen mesh (Arrives drawn route)
+  pub arrives_go : (c : Courses) (mesh : Mesh) (drawn : List ℕ) (route : Option Route) → node < 233 → CoursesFacts c → InMesh past node c mesh → MayHappen mesh (Arrives drawn route)
       → MeshGoes past node c (mesh_after mesh (Arrives drawn route)) (brought (mesh_outs mesh (Arrives drawn route)))
-  arrives_go c mesh drawn route within eight facts is may = arrives_by c mesh drawn route is is.flights is.on_air within eight facts may
+  arrives_go c mesh drawn route within facts is may = arrives_by c mesh drawn route is is.flights is.on_air within facts may
 
   -- ---- a frame is heard again
 
@@ -506,7 +506,7 @@ module _ (laws : Laws) (past : Past) (node : ℕ) where
   repeats_by c mesh number drawn route (Some frame) e within eight facts is fresh =
       again_by c mesh number frame facts is (laws.repeated past node c is.log is.flights mesh.air.frames number frame within is.on_air fresh e) within drawn eight route frame.heading refl
 
-  pub repeats_go : (c : Courses) (mesh : Mesh) (number : ℕ) (drawn : List ℕ) (route : Option Route) → node < 233 → length drawn ≡ 8 → CoursesFacts c → InMesh past node c mesh → refusal_of mesh.air.frames number ≡ None
+  pub repeats_go : (c : Courses) (mesh : Mesh) (number : ℕ) (drawn : List ℕ) (route : Option Route) → node < 233 → CoursesFacts c → InMesh past node c mesh → refusal_of mesh.air.frames number ≡ None
       → MayHappen mesh (Repeats number drawn route) → MeshGoes past node c (mesh_after mesh (Repeats number drawn route)) (brought (mesh_outs mesh (Repeats number drawn route)))
-  unfolding mesh_after mesh_outs
-  repeats_go c mesh number drawn route within eight facts is fresh may = repeats_by c mesh number drawn route (remembered mesh.air.frames number) refl within eight facts is fresh
+  unfolding MayHappen mesh_after mesh_outs
+  repeats_go c mesh number drawn route within facts is fresh may = repeats_by c mesh number drawn route (remembered mesh.air.frames number) refl within may.2 facts is fresh

@@ -35,7 +35,6 @@ use Rattle.host_events.specs.May.{May}
 use Rattle.host_events.specs.Taking.{IsFollowed, IsJudged, AreJudged}
 use Rattle.host_events.specs.Events.{HostEvent, Hears, Finishes, Offers, Gives, Spends, Takes_nonce}
 use Rattle.host_facts.specs.Tables.{outcome_in}
-use Rattle.run_facts.specs.Premises.{DrawsBytes, HostsDrawBytes}
 use Rattle.once_facts.specs.Tied.{AreOutcomes}
 use Rattle.node_course.specs.Ways.{Thinned, Goes}
 use Rattle.node_course.specs.Lines.{OnWay}
@@ -314,12 +313,12 @@ module _ (laws : Laws) (node : ℕ) (rest : Rest) (yet down : List Item) (within
 
   -- what a label lets the host make of its item
   said_gone : (past : Past) (c : Courses) (up : List Item) (item : Item) (h : HostState) (w : Outside) (f : HostFollows past node c rest up (item ∷ yet) down h w) → HasPast h → CoursesFacts c → (said : Said) (begun : ℕ) (now : List Late)
-      → f.late ≡ record { said = said; begun = begun } ∷ now → OnWay (Tells past node) now (yet ++ down) w.outer.chip.state.port.side.turn w.outer.chip.state.port.waiting → (events : List HostEvent) → AllWell h events → HostsDrawBytes h events
+      → f.late ≡ record { said = said; begun = begun } ∷ now → OnWay (Tells past node) now (yet ++ down) w.outer.chip.state.port.side.turn w.outer.chip.state.port.waiting → (events : List HostEvent) → AllWell h events
       → SaidDoes past node c.host h said events → Gone past c h w events
-  said_gone past c up item h w f facts course (Shows number) begun now are on events well drawn is =
-      let draws : DrawsBytes h (Takes_nonce node is.seen is.text) = (subst (λ (es : List HostEvent). HostsDrawBytes h es) is.are drawn).0 in
-      one_gone past c h w (Takes_nonce node is.seen is.text) events is.are (takes laws.nonces past node c rest up (item ∷ yet) yet down h w f facts course within now on number begun are events is draws)
-  said_gone past c up item h w f facts course (Reports session status number) begun now are on events well drawn is =
+  said_gone past c up item h w f facts course (Shows number) begun now are on events well is =
+      let may : May h (Takes_nonce node is.seen is.text) = (subst (λ (es : List HostEvent). AllWell h es) is.are well).may.0 in
+      one_gone past c h w (Takes_nonce node is.seen is.text) events is.are (takes laws.nonces past node c rest up (item ∷ yet) yet down h w f facts course within now on number begun are events is may)
+  said_gone past c up item h w f facts course (Reports session status number) begun now are on events well is =
       subst (λ (es : List HostEvent). Gone past c h w es) (sym is.are)
       (spends_gone past c up item h w f facts course now on session status number begun are is.named is.rest (subst (λ (es : List HostEvent). AllWell h es) is.are well) is.then)
 
@@ -330,16 +329,16 @@ module _ (laws : Laws) (node : ℕ) (rest : Rest) (yet down : List Item) (within
       drops laws.nonces past node c rest up (item ∷ yet) yet down h w f now (subst (λ (l : List Late). Thinned l now) (sym are) (thinned_behind (option_to_list mark) now now (thinned_same now))) on
 
   mark_gone : (past : Past) (c : Courses) (up : List Item) (item : Item) (h : HostState) (w : Outside) (f : HostFollows past node c rest up (item ∷ yet) down h w) → HasPast h → CoursesFacts c → (mark : Option Late) (now : List Late)
-      → f.late ≡ option_to_list mark ++ now → OnWay (Tells past node) now (yet ++ down) w.outer.chip.state.port.side.turn w.outer.chip.state.port.waiting → (events : List HostEvent) → AllWell h events → HostsDrawBytes h events
+      → f.late ≡ option_to_list mark ++ now → OnWay (Tells past node) now (yet ++ down) w.outer.chip.state.port.side.turn w.outer.chip.state.port.waiting → (events : List HostEvent) → AllWell h events
       → AreAside node events ⊎ MarkDoes past node c.host h mark events → Gone past c h w events
-  mark_gone past c up item h w f facts course mark now are on events well drawn (inl aside) =
+  mark_gone past c up item h w f facts course mark now are on events well (inl aside) =
       let lost : HostGoes past node c rest yet down h w = item_lost past c up item h w f mark now are on in
       goes_then past node c rest yet yet down h (after_all h events) w (happens_all_outside w (routed (outs_all h events))) lost
       (asides_gone lost.later_past lost.later lost.up h w events lost.follows facts (facts_go laws.facts c lost.later course lost.goes) well aside)
-  mark_gone past c up item h w f facts course None now are on events well drawn (inr is) =
+  mark_gone past c up item h w f facts course None now are on events well (inr is) =
       let lost : HostGoes past node c rest yet down h w = item_lost past c up item h w f None now are on in
       goes_then past node c rest yet yet down h (after_all h events) w (happens_all_outside w (routed (outs_all h events))) lost (gives_gone lost.later_past lost.later lost.up h w events lost.follows facts well is)
-  mark_gone past c up item h w f facts course (Some late) now are on events well drawn (inr is) = said_gone past c up item h w f facts course late.said late.begun now are on events well drawn is
+  mark_gone past c up item h w f facts course (Some late) now are on events well (inr is) = said_gone past c up item h w f facts course late.said late.begun now are on events well is
 
 -- ---- an item
 
@@ -376,26 +375,22 @@ module _ (laws : Laws) (node : ℕ) (within : node < 233) (rest : Rest) (down : 
       }
 
   pub judge_item : (past : Past) (c : Courses) (up yet : List Item) (h : HostState) (w : Outside) (item : Item) (events : List HostEvent) → HostFollows past node c rest up (item ∷ yet) down h w → HasPast h → CoursesFacts c → AllWell h events
-      → HostsDrawBytes h events → IsJudged h item events → HostGoes past node c rest yet down (after_all h events) (happens_all_outside w (routed (outs_all h events)))
-  judge_item past c up yet h w item events f facts course well drawn (later, are, followed) =
+      → IsJudged h item events → HostGoes past node c rest yet down (after_all h events) (happens_all_outside w (routed (outs_all h events)))
+  judge_item past c up yet h w item events f facts course well (later, are, followed) =
       subst (λ (es : List HostEvent). HostGoes past node c rest yet down (after_all h es) (happens_all_outside w (routed (outs_all h es)))) (sym are)
-      (by (subst (λ (es : List HostEvent). AllWell h es) are well) (subst (λ (es : List HostEvent). HostsDrawBytes h es) are drawn))
+      (by (subst (λ (es : List HostEvent). AllWell h es) are well))
     where
-      by : AllWell h (Hears item ∷ later) → HostsDrawBytes h (Hears item ∷ later)
+      by : AllWell h (Hears item ∷ later)
           → HostGoes past node c rest yet down (after_all (after_host h (Hears item)) later) (happens_all_outside w (routed (outs h (Hears item) ++ outs_all (after_host h (Hears item)) later)))
-      by these draws =
+      by these =
           let k : HostState = after_host h (Hears item) in
           let v : Outside = happens_all_outside w (routed (outs h (Hears item))) in
           let is : IsHeard past node c rest yet down item k v later = hears past c up yet h w item later f facts course these followed in
           subst (λ (u : Outside). HostGoes past node c rest yet down (after_all k later) u) (sym (routed_then w (outs h (Hears item)) (outs_all k later)))
           (goes_then past node c rest (item ∷ yet) yet down k (after_all k later) v (happens_all_outside v (routed (outs_all k later))) is.goes
-          (mark_gone laws node rest yet down within is.goes.later_past is.goes.later is.goes.up item k v is.goes.follows is.facts is.course is.mark is.now is.are is.on later (record { may = these.may.1; units = these.units.1 }) draws.1 is.does))
+          (mark_gone laws node rest yet down within is.goes.later_past is.goes.later is.goes.up item k v is.goes.follows is.facts is.course is.mark is.now is.are is.on later (record { may = these.may.1; units = these.units.1 }) is.does))
 
 -- ---- items one after another
-
-pub draws_front : (h : HostState) (a b : List HostEvent) → HostsDrawBytes h (a ++ b) → HostsDrawBytes h a × HostsDrawBytes (after_all h a) b
-draws_front h [] b is = (tt, is)
-draws_front h (event ∷ a) b is = let later = draws_front (after_host h event) a b is.1 in ((is.0, later.0), later.1)
 
 pub facts_then : PastLaws → (h : HostState) (events : List HostEvent) → HasPast h → MayAll h events → HasPast (after_all h events)
 facts_then laws h [] facts may = facts
@@ -403,17 +398,16 @@ facts_then laws h (event ∷ events) facts may = facts_then laws (after_host h e
 
 module _ (laws : Laws) (node : ℕ) (within : node < 233) (rest : Rest) (down : List Item) where
   pub judge_items : (past : Past) (c : Courses) (up : List Item) (h : HostState) (w : Outside) (items : List Item) (events : List HostEvent) → HostFollows past node c rest up items down h w → HasPast h → CoursesFacts c → AllWell h events
-      → AreJudged h items events → HostsDrawBytes h events → HostGoes past node c rest [] down (after_all h events) (happens_all_outside w (routed (outs_all h events)))
-  judge_items past c up h w [] events f facts course well none drawn =
+      → AreJudged h items events → HostGoes past node c rest [] down (after_all h events) (happens_all_outside w (routed (outs_all h events)))
+  judge_items past c up h w [] events f facts course well none =
       subst (λ (es : List HostEvent). HostGoes past node c rest [] down (after_all h es) (happens_all_outside w (routed (outs_all h es)))) (sym none) (record { later_past = past; later = c; grows = grows_none past; goes = goes_nowhere c; up = up; follows = f })
-  judge_items past c up h w (item ∷ items) events f facts course well (first, later, are, one, more) drawn =
+  judge_items past c up h w (item ∷ items) events f facts course well (first, later, are, one, more) =
       let both = well_front h first later (subst (λ (es : List HostEvent). AllWell h es) are well) in
-      let draws = draws_front h first later (subst (λ (es : List HostEvent). HostsDrawBytes h es) are drawn) in
       let k : HostState = after_all h first in
       let v : Outside = happens_all_outside w (routed (outs_all h first)) in
-      let g : HostGoes past node c rest items down k v = judge_item laws node within rest down past c up items h w item first f facts course both.0 draws.0 one in
+      let g : HostGoes past node c rest items down k v = judge_item laws node within rest down past c up items h w item first f facts course both.0 one in
       let rest_goes : HostGoes g.later_past node g.later rest [] down (after_all k later) (happens_all_outside v (routed (outs_all k later))) =
-      judge_items g.later_past g.later g.up k v items later g.follows (facts_then laws.past h first facts both.0.may) (facts_go laws.facts c g.later course g.goes) both.1 more draws.1 in
+      judge_items g.later_past g.later g.up k v items later g.follows (facts_then laws.past h first facts both.0.may) (facts_go laws.facts c g.later course g.goes) both.1 more in
       let all : HostGoes past node c rest [] down (after_all k later) (happens_all_outside v (routed (outs_all k later))) =
       goes_then past node c rest items [] down k (after_all k later) v (happens_all_outside v (routed (outs_all k later))) g rest_goes in
       subst (λ (es : List HostEvent). HostGoes past node c rest [] down (after_all h es) (happens_all_outside w (routed (outs_all h es)))) (sym are)

@@ -36,12 +36,12 @@ use Rattle.host_events.specs.State.{HostState, node_of}
 use Rattle.host_events.specs.declared.out.HostOut.{HostOut}
 use Rattle.host_events.specs.After.{after as after_host, is_full, requests_do, giving, offering}
 use Rattle.host_events.specs.Outs.{noted, dropped_if}
+use Rattle.host_events.specs.May.{May}
 use Rattle.host_events.specs.Events.{HostEvent, Spends, Takes_nonce}
 use Rattle.line_facts.specs.Way.{Carries}
 use Rattle.line_facts.specs.Line.{host_units}
 use Rattle.line_facts.specs.Chip.{HasFrames}
 use Rattle.line_facts.proofs.Outer.{Written, routed_all}
-use Rattle.run_facts.specs.Premises.{DrawsBytes}
 use Rattle.once_facts.specs.Tied.{AreOutcomes}
 use Rattle.seal_facts.specs.Numbers.{IsNonce, HasGiven, with_given, brought_by}
 use Rattle.seal_facts.specs.Payloads.{IsSealed}
@@ -260,7 +260,7 @@ module _ (laws : Laws) (past : Past) (node : ℕ) (c : Courses) (rest : Rest) (u
   abbrev n : NodeState
   n = node_of h node
 
-  module _ (number begun : ℕ) (are : f.late ≡ record { said = Shows number; begun = begun } ∷ now) (events : List HostEvent) (is : IsTaking past node number h events) (drawn : DrawsBytes h (Takes_nonce node is.seen is.text)) where
+  module _ (number begun : ℕ) (are : f.late ≡ record { said = Shows number; begun = begun } ∷ now) (events : List HostEvent) (is : IsTaking past node number h events) (may : May h (Takes_nonce node is.seen is.text)) where
     some : is_some n.pending ≡ true
     some = ap (λ (p : Option (List ℕ)). is_some p) is.seals.is_pending
 
@@ -295,7 +295,7 @@ module _ (laws : Laws) (past : Past) (node : ℕ) (c : Courses) (rest : Rest) (u
     g = after_host h (Takes_nonce node is.seen is.text)
 
     sealed_as : (plain : List ℕ) × ((n.pending ≡ Some plain) × IsSealed h.keys (ends_to n.node) past.given number plain is.text)
-    sealed_as = laws.seals n h.keys is.own drawn.0 is.nonce drawn.1 is.text past.given number is.seals drawn.3 drawn.2 is.is
+    sealed_as = laws.seals n h.keys is.own may.1 is.nonce may.0 is.text past.given number is.seals may.3 may.4 is.is
 
     node_at : NodeAt past node (judged c taking) (Some number) (after_nonce n is.seen is.text)
     node_at = record {

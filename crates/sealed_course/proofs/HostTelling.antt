@@ -24,7 +24,6 @@ use Rattle.host_events.specs.Outs.{outs}
 use Rattle.host_events.specs.May.{May}
 use Rattle.host_events.specs.Taking.{IsJudged, AreJudged}
 use Rattle.host_events.specs.Events.{HostEvent, Hears, Finishes, Spends}
-use Rattle.run_facts.specs.Premises.{HostsDrawBytes}
 use Rattle.once_facts.specs.Tied.{MakesWhatIsTaken}
 use Rattle.once_facts.specs.Truly.{IsDoneBy, TellsTruly, TellTruly}
 use Rattle.node_course.specs.Meaning.{Asked}
@@ -41,7 +40,7 @@ use Rattle.sealed_course.specs.HostGoing.{HostFollows, HostGoes, IsUnheard}
 use Rattle.sealed_course.proofs.Going.{facts_go}
 use Rattle.sealed_course.proofs.HostGoing.{AreAside}
 use Rattle.sealed_course.proofs.HostJudging.{SaidDoes, MarkDoes, IsEnding}
-use Rattle.sealed_course.proofs.HostItems.{Laws, IsHeard, hears, judge_item, draws_front, facts_then}
+use Rattle.sealed_course.proofs.HostItems.{Laws, IsHeard, hears, judge_item, facts_then}
 
 -- ---- events at which no session of the node ends
 
@@ -132,14 +131,13 @@ module _ (laws : Laws) (judged : Judged) (node : ℕ) (within : node < 233) (res
 
   -- items one after another
   pub items_true : (past : Past) (c : Courses) (up : List Item) (h : HostState) (w : Outside) (items : List Item) (events : List HostEvent) → HostFollows past node c rest up items down h w → HasPast h → CoursesFacts c → AllWell h events
-      → AreJudged h items events → HostsDrawBytes h events → TellTruly node h w.devices events
-  items_true past c up h w [] events f facts course well none drawn = subst (λ (es : List HostEvent). TellTruly node h w.devices es) (sym none) tt
-  items_true past c up h w (item ∷ items) events f facts course well (first, later, are, one, more) drawn =
+      → AreJudged h items events → TellTruly node h w.devices events
+  items_true past c up h w [] events f facts course well none = subst (λ (es : List HostEvent). TellTruly node h w.devices es) (sym none) tt
+  items_true past c up h w (item ∷ items) events f facts course well (first, later, are, one, more) =
       let both = well_front h first later (subst (λ (es : List HostEvent). AllWell h es) are well) in
-      let draws = draws_front h first later (subst (λ (es : List HostEvent). HostsDrawBytes h es) are drawn) in
       let v : Outside = happens_all_outside w (routed (outs_all h first)) in
-      let g : HostGoes past node c rest items down (after_all h first) v = judge_item laws node within rest down past c up items h w item first f facts course both.0 draws.0 one in
+      let g : HostGoes past node c rest items down (after_all h first) v = judge_item laws node within rest down past c up items h w item first f facts course both.0 one in
       subst (λ (es : List HostEvent). TellTruly node h w.devices es) (sym are)
       (true-append node h w.devices first later (item_true past c up items h w item first f facts course both.0 one)
       (subst (λ (ds : List State). TellTruly node (after_all h first) ds later) (routed_devices w (outs_all h first))
-      (items_true g.later_past g.later g.up (after_all h first) v items later g.follows (facts_then laws.past h first facts both.0.may) (facts_go laws.facts c g.later course g.goes) both.1 more draws.1)))
+      (items_true g.later_past g.later g.up (after_all h first) v items later g.follows (facts_then laws.past h first facts both.0.may) (facts_go laws.facts c g.later course g.goes) both.1 more)))

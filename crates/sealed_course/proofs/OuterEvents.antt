@@ -35,7 +35,6 @@ use Rattle.outer_events.specs.Events.{OuterEvent, Begins_line, Begins_tick, Host
 use Rattle.world_traffic.specs.OnAir.{OuterStaysFew}
 use Rattle.line_facts.specs.Way.{Carries}
 use Rattle.line_facts.proofs.Ways.{carries_none}
-use Rattle.run_facts.specs.Premises.{DrawsEight}
 use Rattle.node_course.specs.Ways.{Thinned}
 use Rattle.node_course.specs.Making.{Makes, AllMake, HearsNone}
 use Rattle.node_course.specs.Mesh.{labels, brought}
@@ -59,9 +58,9 @@ use Rattle.sealed_course.proofs.Outer.{AirLaws, same_books, books_up, books_down
 -- the laws that are used
 pub record Laws : Type 0 where
   pub air : AirLaws
-  pub arrives : (past : Past) (node : ℕ) (c : Courses) (m : Mesh) (drawn : List ℕ) (route : Option Route) → node < 233 → length drawn ≡ 8 → CoursesFacts c → InMesh past node c m → MayHappen m (mesh.Arrives drawn route)
+  pub arrives : (past : Past) (node : ℕ) (c : Courses) (m : Mesh) (drawn : List ℕ) (route : Option Route) → node < 233 → CoursesFacts c → InMesh past node c m → MayHappen m (mesh.Arrives drawn route)
       → MeshGoes past node c (mesh_after m (mesh.Arrives drawn route)) (brought (mesh_outs m (mesh.Arrives drawn route)))
-  pub repeats : (past : Past) (node : ℕ) (c : Courses) (m : Mesh) (number : ℕ) (drawn : List ℕ) (route : Option Route) → node < 233 → length drawn ≡ 8 → CoursesFacts c → InMesh past node c m → refusal_of m.air.frames number ≡ None
+  pub repeats : (past : Past) (node : ℕ) (c : Courses) (m : Mesh) (number : ℕ) (drawn : List ℕ) (route : Option Route) → node < 233 → CoursesFacts c → InMesh past node c m → refusal_of m.air.frames number ≡ None
       → MayHappen m (mesh.Repeats number drawn route) → MeshGoes past node c (mesh_after m (mesh.Repeats number drawn route)) (brought (mesh_outs m (mesh.Repeats number drawn route)))
   pub own : (past : Past) (node : ℕ) (c : Courses) (m : Mesh) (place : ℕ) (device : State) (event : DeviceEvent) (found : Option Route) → InMesh past node c m → slice_get m.devices place ≡ Some device → HearsNone event
       → MeshGoes past node c (record { air = answered_if (is_joined m.air device.node) m.air device.node found (device_replies device event); devices = slice_set m.devices place (device_after device event) }) []
@@ -114,11 +113,11 @@ module _ (laws : Laws) (past : Past) (node : ℕ) (c : Courses) (text : Option �
       outer_goes laws.air.stays past node c text tasks rest turn up down w g.later_past g.later (labels g.marks) (record w.outer { air = m.air }) (each (deals m.devices) (record w.outer { air = m.air }) outs).outer m.devices f refl refl refl
       g.gives g.goes g.books g.up g.down g.in_mesh (deals_tell (IsTold g.later_past node) node m.devices (record w.outer { air = m.air }) outs g.marks g.brings)
 
-  repeats_go : (w : Outside) (refused : Option RepeatRefusal) (number : ℕ) (drawn : List ℕ) (route : Option Route) → node < 233 → length drawn ≡ 8 → CoursesFacts c → Follows past node c text tasks rest turn up down w → refusal_of w.outer.air.frames number ≡ refused
+  repeats_go : (w : Outside) (refused : Option RepeatRefusal) (number : ℕ) (drawn : List ℕ) (route : Option Route) → node < 233 → CoursesFacts c → Follows past node c text tasks rest turn up down w → refusal_of w.outer.air.frames number ≡ refused
       → MayRepeat w refused (mesh.Repeats number drawn route) → OuterGoes past node c text tasks rest turn (outside (repeats w refused (mesh.Repeats number drawn route)).outer (devices_repeated w refused (mesh.Repeats number drawn route)))
-  repeats_go w None number drawn route within eight course f is may =
-      mesh_goes w (mesh_after (mesh_of w) (mesh.Repeats number drawn route)) (mesh_outs (mesh_of w) (mesh.Repeats number drawn route)) f (laws.repeats past node c (mesh_of w) number drawn route within eight course f.mesh is may)
-  repeats_go w (Some refused) number drawn route within eight course f is may = still w w.outer f refl refl refl refl refl
+  repeats_go w None number drawn route within course f is may =
+      mesh_goes w (mesh_after (mesh_of w) (mesh.Repeats number drawn route)) (mesh_outs (mesh_of w) (mesh.Repeats number drawn route)) f (laws.repeats past node c (mesh_of w) number drawn route within course f.mesh is may)
+  repeats_go w (Some refused) number drawn route within course f is may = still w w.outer f refl refl refl refl refl
 
   -- an event of a device
   acts_go : (w : Outside) (place : ℕ) (found : Option State) (event : DeviceEvent) (route : Option Route) → HearsNone event → Follows past node c text tasks rest turn up down w → slice_get w.devices place ≡ found
@@ -293,40 +292,40 @@ module _ (laws : Laws) (past : Past) (node : ℕ) (c : Courses) (text : Option �
   wrong : {X : Type 0} → false ≡ true → X
   wrong bad = absurd cc
 
-  goes_by : (w : Outside) (event : OuterEvent) → node < 233 → CoursesFacts c → Follows past node c text tasks rest turn up down w → is_own event ≡ true → May w event → Rests rest w event → OuterStaysFew w.outer event → DrawsEight event
+  goes_by : (w : Outside) (event : OuterEvent) → node < 233 → CoursesFacts c → Follows past node c text tasks rest turn up down w → is_own event ≡ true → May w event → Rests rest w event → OuterStaysFew w.outer event
       → OuterGoes past node c text tasks rest turn (outside (outcome w event).outer (devices_after w event))
   unfolding outcome devices_after May
-  goes_by w Begins_line within course f own may rests few eight = still w _ f refl refl refl refl refl
-  goes_by w Begins_tick within course f own may rests few eight = still w _ f refl refl refl refl refl
-  goes_by w (Host_writes unit) within course f own may rests few eight = wrong own
-  goes_by w (host_takes count) within course f own may rests few eight = wrong own
-  goes_by w (Host_notes entry) within course f own may rests few eight = wrong own
-  goes_by w (Host_begins n sessions) within course f own may rests few eight = wrong own
-  goes_by w (Chip_takes count after_rest ways) within course f own may rests few eight = takes_go laws.air past node text tasks c rest turn up down w count after_rest ways course.host f may few
-  goes_by w (Arrives drawn route) within course f own may rests few eight =
-      mesh_goes w (mesh_after (mesh_of w) (mesh.Arrives drawn route)) (mesh_outs (mesh_of w) (mesh.Arrives drawn route)) f (laws.arrives past node c (mesh_of w) drawn route within eight course f.mesh may)
-  goes_by w (Gives route) within course f own may rests few eight = chip_goes w (gives w.outer w.devices w.outer.due route).outer f (gives_tells (IsTold past node) node w.outer w.devices w.outer.due route)
-  goes_by w (Device_ticks place drawn route) within course f own may rests few eight = acts_go w place (slice_get w.devices place) (Ticks drawn) route tt f refl
-  goes_by w Chip_ticks within course f own may rests few eight = tick_goes w f rests
-  goes_by w (Repeats number drawn route) within course f own may rests few eight = repeats_go w (refusal_of w.outer.air.frames number) number drawn route within eight course f refl may
-  goes_by w (Wakes_device n route) within course f own may rests few eight = hand_go w (place_of n w.devices) Wakes route tt f
-  goes_by w (Sets_device n value route) within course f own may rests few eight = hand_go w (place_of n w.devices) (Sets value) route tt f
-  goes_by w (Shows n) within course f own may rests few eight = still w _ f refl refl refl refl refl
-  goes_by w (Joins n) within course f own may rests few eight = joins_go w n (listens_at (device_at w.devices (place_of n w.devices))) f
-  goes_by w Discovers within course f own may rests few eight = chip_goes w (discovers w.outer) f (discovers_tell (IsTold past node) node w.outer)
-  goes_by w (Links a b live) within course f own may rests few eight = still w _ f refl refl refl refl refl
-  goes_by w (Loses count) within course f own may rests few eight = still w _ f refl refl refl refl refl
-  goes_by w (Loses_acks count) within course f own may rests few eight = still w _ f refl refl refl refl refl
-  goes_by w (Marks_loss side) within course f own may rests few eight = loses_go w side f
-  goes_by w (Marks_change side garble) within course f own may rests few eight = changes_go w side garble f
-  goes_by w (Clears_pipe side) within course f own may rests few eight = clears_go w side f rests
-  goes_by w Collides_next within course f own may rests few eight = chip_goes w (with_chip w.outer (after w.outer.chip.state Collides)) f (collides_tell (IsTold past node) node w.outer)
-  goes_by w (Stalls ticks) within course f own may rests few eight = still w _ f refl refl refl refl refl
-  goes_by w (Cuts size) within course f own may rests few eight = still w _ f refl refl refl refl refl
+  goes_by w Begins_line within course f own may rests few = still w _ f refl refl refl refl refl
+  goes_by w Begins_tick within course f own may rests few = still w _ f refl refl refl refl refl
+  goes_by w (Host_writes unit) within course f own may rests few = wrong own
+  goes_by w (host_takes count) within course f own may rests few = wrong own
+  goes_by w (Host_notes entry) within course f own may rests few = wrong own
+  goes_by w (Host_begins n sessions) within course f own may rests few = wrong own
+  goes_by w (Chip_takes count after_rest ways) within course f own may rests few = takes_go laws.air past node text tasks c rest turn up down w count after_rest ways course.host f may few
+  goes_by w (Arrives drawn route) within course f own may rests few =
+      mesh_goes w (mesh_after (mesh_of w) (mesh.Arrives drawn route)) (mesh_outs (mesh_of w) (mesh.Arrives drawn route)) f (laws.arrives past node c (mesh_of w) drawn route within course f.mesh may)
+  goes_by w (Gives route) within course f own may rests few = chip_goes w (gives w.outer w.devices w.outer.due route).outer f (gives_tells (IsTold past node) node w.outer w.devices w.outer.due route)
+  goes_by w (Device_ticks place drawn route) within course f own may rests few = acts_go w place (slice_get w.devices place) (Ticks drawn) route tt f refl
+  goes_by w Chip_ticks within course f own may rests few = tick_goes w f rests
+  goes_by w (Repeats number drawn route) within course f own may rests few = repeats_go w (refusal_of w.outer.air.frames number) number drawn route within course f refl may
+  goes_by w (Wakes_device n route) within course f own may rests few = hand_go w (place_of n w.devices) Wakes route tt f
+  goes_by w (Sets_device n value route) within course f own may rests few = hand_go w (place_of n w.devices) (Sets value) route tt f
+  goes_by w (Shows n) within course f own may rests few = still w _ f refl refl refl refl refl
+  goes_by w (Joins n) within course f own may rests few = joins_go w n (listens_at (device_at w.devices (place_of n w.devices))) f
+  goes_by w Discovers within course f own may rests few = chip_goes w (discovers w.outer) f (discovers_tell (IsTold past node) node w.outer)
+  goes_by w (Links a b live) within course f own may rests few = still w _ f refl refl refl refl refl
+  goes_by w (Loses count) within course f own may rests few = still w _ f refl refl refl refl refl
+  goes_by w (Loses_acks count) within course f own may rests few = still w _ f refl refl refl refl refl
+  goes_by w (Marks_loss side) within course f own may rests few = loses_go w side f
+  goes_by w (Marks_change side garble) within course f own may rests few = changes_go w side garble f
+  goes_by w (Clears_pipe side) within course f own may rests few = clears_go w side f rests
+  goes_by w Collides_next within course f own may rests few = chip_goes w (with_chip w.outer (after w.outer.chip.state Collides)) f (collides_tell (IsTold past node) node w.outer)
+  goes_by w (Stalls ticks) within course f own may rests few = still w _ f refl refl refl refl refl
+  goes_by w (Cuts size) within course f own may rests few = still w _ f refl refl refl refl refl
 
-  pub event_goes : (w : Outside) (event : OuterEvent) → node < 233 → CoursesFacts c → Follows past node c text tasks rest turn up down w → is_own event ≡ true → May w event → Rests rest w event → OuterStaysFew w.outer event → DrawsEight event
+  pub event_goes : (w : Outside) (event : OuterEvent) → node < 233 → CoursesFacts c → Follows past node c text tasks rest turn up down w → is_own event ≡ true → May w event → Rests rest w event → OuterStaysFew w.outer event
       → OuterGoes past node c text tasks rest turn (happens w event)
-  event_goes w event within course f own may rests few eight = entered past node c text tasks rest turn (outcome w event).outer (devices_after w event) (outcome w event).entries (goes_by w event within course f own may rests few eight)
+  event_goes w event within course f own may rests few = entered past node c text tasks rest turn (outcome w event).outer (devices_after w event) (outcome w event).entries (goes_by w event within course f own may rests few)
 
 -- ---- at first
 

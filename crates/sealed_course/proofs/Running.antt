@@ -27,7 +27,6 @@ use Rattle.line_facts.specs.Line.{AllWriteWell, AllAtRest, AreLines, Stays}
 use Rattle.line_facts.specs.Host.{AllAskWell}
 use Rattle.world_facts.specs.Restarts.{AllKeepWell, BeginsEmpty, IsHeld}
 use Rattle.world_traffic.specs.OnAir.{AlwaysFew}
-use Rattle.run_facts.specs.Premises.{AllDrawBytes}
 use Rattle.once_facts.specs.Truly.{AreTrue}
 use Rattle.node_course.specs.Meaning.{Asked}
 use Rattle.node_course.specs.Making.{MakesAsked}
@@ -52,9 +51,9 @@ pub record Laws : Type 0 where
   pub given_first : HasGiven [] 0 false unused
   pub course_first : CoursesFacts first_courses
   pub events : (past : Past) (node : ℕ) (c : Courses) (up down : List Item) (m : Machine) (events : List Event) → node < 233 → WorldFollows past node c up down m → IsHeld m.host.state m.records → MayAll m events → AllAtRest m events →
-      AllWriteWell m events → AlwaysFew m events → AllKeepWell m events → AllByRecursion (IsFitly node) events → AllByRecursion (HearsInPipe node) events → AllDrawBytes m events → WorldGoes past node c (happens_all m events)
+      AllWriteWell m events → AlwaysFew m events → AllKeepWell m events → AllByRecursion (IsFitly node) events → AllByRecursion (HearsInPipe node) events → WorldGoes past node c (happens_all m events)
   pub truths : (past : Past) (node : ℕ) (c : Courses) (up down : List Item) (m : Machine) (events : List Event) → node < 233 → WorldFollows past node c up down m → IsHeld m.host.state m.records → MayAll m events → AllAtRest m events →
-      AllWriteWell m events → AlwaysFew m events → AllKeepWell m events → AllByRecursion (IsFitly node) events → AllByRecursion (HearsInPipe node) events → AllDrawBytes m events → AreTrue node m events
+      AllWriteWell m events → AlwaysFew m events → AllKeepWell m events → AllByRecursion (IsFitly node) events → AllByRecursion (HearsInPipe node) events → AreTrue node m events
   pub stays : (keys : Keys) (records : Option (List (List ℕ))) (devices : List State) (lines : List Line) (events : List Event) → AreLines lines (first_machine keys records devices) events → MayAll (first_machine keys records devices) events →
       AllWriteWell (first_machine keys records devices) events → Stays (first_machine keys records devices) events
   pub writes : (keys : Keys) (records : Option (List (List ℕ))) (devices : List State) (events : List Event) → MayAll (first_machine keys records devices) events → AllAskWell (first_machine keys records devices) events →
@@ -137,12 +136,12 @@ module _ (laws : Laws) (node : ℕ) (within : node < 233) (keys : Keys) (records
       let well : AllWriteWell first events = laws.writes keys records devices events may asks in
       record { well = well; rests = laws.stays keys records devices lines events are may well; few = laws.few keys records devices lines events (nodes_of devices has.nodes) are may asks }
 
-  pub lines_have : (lines : List Line) (events : List Event) → BeginsEmpty records → AreLines lines first events → MayAll first events → AllAskWell first events → AllKeepWell first events → AllDrawBytes first events → AllByRecursion (IsFitly node) events
+  pub lines_have : (lines : List Line) (events : List Event) → BeginsEmpty records → AreLines lines first events → MayAll first events → AllAskWell first events → AllKeepWell first events → AllByRecursion (IsFitly node) events
       → HasCourses node (happens_all first events)
-  lines_have lines events empty are may asks keeps draws fit =
+  lines_have lines events empty are may asks keeps fit =
       let r : Runs events = runs lines events are may asks in
       let g : WorldGoes (first_past keys) node first_courses (happens_all first events) =
-      laws.events (first_past keys) node first_courses [] [] first events within first_follows (laws.held_first keys records empty) may r.rests.at_rest r.well r.few keeps fit (laws.hears node lines first events are) draws in
+      laws.events (first_past keys) node first_courses [] [] first events within first_follows (laws.held_first keys records empty) may r.rests.at_rest r.well r.few keeps fit (laws.hears node lines first events are) in
       record {
         past = g.later_past;
         courses = g.later;
@@ -157,8 +156,8 @@ module _ (laws : Laws) (node : ℕ) (within : node < 233) (keys : Keys) (records
             (subst (λ (cs : List ℕ). AllByRecursion (MakesAsked g.later_past.orders cs) device.journal) g.follows.host.commands makes));
       }
 
-  pub lines_true : (lines : List Line) (events : List Event) → BeginsEmpty records → AreLines lines first events → MayAll first events → AllAskWell first events → AllKeepWell first events → AllDrawBytes first events → AllByRecursion (IsFitly node) events
+  pub lines_true : (lines : List Line) (events : List Event) → BeginsEmpty records → AreLines lines first events → MayAll first events → AllAskWell first events → AllKeepWell first events → AllByRecursion (IsFitly node) events
       → AreTrue node first events
-  lines_true lines events empty are may asks keeps draws fit =
+  lines_true lines events empty are may asks keeps fit =
       let r : Runs events = runs lines events are may asks in
-      laws.truths (first_past keys) node first_courses [] [] first events within first_follows (laws.held_first keys records empty) may r.rests.at_rest r.well r.few keeps fit (laws.hears node lines first events are) draws
+      laws.truths (first_past keys) node first_courses [] [] first events within first_follows (laws.held_first keys records empty) may r.rests.at_rest r.well r.few keeps fit (laws.hears node lines first events are)

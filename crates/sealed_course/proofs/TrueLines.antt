@@ -18,7 +18,6 @@ use Rattle.line_facts.specs.Line.{host_units, WritesWell, AllWriteWell, AllAtRes
 use Rattle.line_facts.proofs.Ways.{carries_left}
 use Rattle.world_facts.specs.Restarts.{AllKeepWell, IsHeld}
 use Rattle.world_traffic.specs.OnAir.{AlwaysFew}
-use Rattle.run_facts.specs.Premises.{HostsDrawBytes, DrawBytes, AllDrawBytes}
 use Rattle.once_facts.specs.Truly.{TellTruly, IsTrue, AreTrue}
 use Rattle.node_course.specs.Told.{HasPast}
 use Rattle.node_course.specs.HostGoing.{EndsNone, AllWell}
@@ -33,7 +32,7 @@ use Rattle.sealed_course.proofs.Whole.{Laws, fed_follows, event_goes}
 -- the law of items
 abbrev pub Judges : Type 0
 Judges = (past : Past) (node : ℕ) (c : Courses) (rest : Rest) (up down items : List Item) (h : HostState) (w : Outside) (events : List HostEvent) → node < 233 → HostFollows past node c rest up items down h w → HasPast h → CoursesFacts c → AllWell h events
-    → AreJudged h items events → HostsDrawBytes h events → TellTruly node h w.devices events
+    → AreJudged h items events → TellTruly node h w.devices events
 
 unheard_ends : (node : ℕ) (event : HostEvent) → IsUnheard node event → EndsNone node event
 unheard_ends node (Finishes n session id command status wake_request) is = is
@@ -41,28 +40,28 @@ unheard_ends node event is = tt
 
 module _ (judges : Judges) (node : ℕ) (within : node < 233) where
   takes_true : (past : Past) (c : Courses) (up down : List Item) (m : Machine) (count : ℕ) (rest : Rest) (items : List Item) (events : List HostEvent) → WorldFollows past node c up down m → MayTake m count rest items events
-      → AllByRecursion IsUnit (host_units (outs_all m.host.state events)) → HostsDrawBytes m.host.state events → TellTruly node m.host.state m.outside.devices events
-  takes_true past c up down m count rest items events f may units draws =
+      → AllByRecursion IsUnit (host_units (outs_all m.host.state events)) → TellTruly node m.host.state m.outside.devices events
+  takes_true past c up down m count rest items events f may units =
       let h : HostState = m.host.state in
       let left = carries_left m.host.decoder rest count m.outside.outer.to_host down items may.feeds f.outside.to_host in
       subst (λ (ds : List State). TellTruly node h ds events) (ap (λ (w : Outside). w.devices) (fed_outside m.outside count))
       (judges past node c rest up left.left items h (happens_outside m.outside (host_takes count)) events within (fed_follows node past c up down m count rest items left f) f.recorded f.course
-      (record { may = may.may; units = units_each h events units }) may.judged draws)
+      (record { may = may.may; units = units_each h events units }) may.judged)
 
-  pub event_true : (past : Past) (c : Courses) (up down : List Item) (m : Machine) (event : Event) → WorldFollows past node c up down m → May m event → WritesWell m event → HearsInPipe node event → DrawBytes m event → IsTrue node m event
+  pub event_true : (past : Past) (c : Courses) (up down : List Item) (m : Machine) (event : Event) → WorldFollows past node c up down m → May m event → WritesWell m event → HearsInPipe node event → IsTrue node m event
   unfolding May
-  event_true past c up down m (Host_does event) f may well unheard draws = none_true node m.host.state m.outside.devices event (unheard_ends node event unheard)
-  event_true past c up down m (Host_takes count rest items events) f may well unheard draws = takes_true past c up down m count rest items events f may well draws
-  event_true past c up down m event f may well unheard draws = tt
+  event_true past c up down m (Host_does event) f may well unheard = none_true node m.host.state m.outside.devices event (unheard_ends node event unheard)
+  event_true past c up down m (Host_takes count rest items events) f may well unheard = takes_true past c up down m count rest items events f may well
+  event_true past c up down m event f may well unheard = tt
 
   -- events one after another
   module _ (laws : Laws) where
     pub events_true : (past : Past) (c : Courses) (up down : List Item) (m : Machine) (events : List Event) → WorldFollows past node c up down m → IsHeld m.host.state m.records → MayAll m events → AllAtRest m events → AllWriteWell m events
-        → AlwaysFew m events → AllKeepWell m events → AllByRecursion (IsFitly node) events → AllByRecursion (HearsInPipe node) events → AllDrawBytes m events → AreTrue node m events
-    events_true past c up down m [] f held may rests well few keeps sealed unheard draws = tt
-    events_true past c up down m (event ∷ events) f held may rests well few keeps sealed unheard draws =
-        let one : WorldGoes past node c (happens m event) = event_goes laws node within past c up down m event f held may.0 rests.0 well.0 few.1 keeps.0 sealed.0 unheard.0 draws.0 in
+        → AlwaysFew m events → AllKeepWell m events → AllByRecursion (IsFitly node) events → AllByRecursion (HearsInPipe node) events → AreTrue node m events
+    events_true past c up down m [] f held may rests well few keeps sealed unheard = tt
+    events_true past c up down m (event ∷ events) f held may rests well few keeps sealed unheard =
+        let one : WorldGoes past node c (happens m event) = event_goes laws node within past c up down m event f held may.0 rests.0 well.0 few.1 keeps.0 sealed.0 unheard.0 in
         let next = laws.held m event f.facts held may.0 keeps.0 in (
-          event_true past c up down m event f may.0 well.0 unheard.0 draws.0,
-          events_true one.later_past one.later one.up one.down (happens m event) events one.follows next.1 may.1 rests.1 well.1 few.2 keeps.1 sealed.1 unheard.1 draws.1,
+          event_true past c up down m event f may.0 well.0 unheard.0,
+          events_true one.later_past one.later one.up one.down (happens m event) events one.follows next.1 may.1 rests.1 well.1 few.2 keeps.1 sealed.1 unheard.1,
         )

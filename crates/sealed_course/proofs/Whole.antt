@@ -36,7 +36,6 @@ use Rattle.line_facts.proofs.Reading.{LeftOf}
 use Rattle.line_facts.proofs.Ways.{carries_left}
 use Rattle.world_facts.specs.Restarts.{StartsWell, KeepsWell, AllKeepWell, IsHeld}
 use Rattle.world_traffic.specs.OnAir.{OuterStaysFew, EventStaysFew, AlwaysFew}
-use Rattle.run_facts.specs.Premises.{DrawsEight, HostsDrawBytes, DrawBytes, AllDrawBytes}
 use Rattle.once_facts.specs.Tied.{AreOutcomes}
 use Rattle.node_course.specs.Lines.{OnWay}
 use Rattle.node_course.specs.Outside.{Rests}
@@ -189,11 +188,11 @@ rests_of m event e = tt
 -- the laws that are used
 pub record Laws : Type 0 where
   pub outside : (past : Past) (node : ℕ) (c : Courses) (text : Option ℕ) (tasks : List ℕ) (rest : Rest) (turn : Turn) (up down : List Item) (w : Outside) (event : OuterEvent) → node < 233 → CoursesFacts c → Follows past node c text tasks rest turn up down w →
-      is_own event ≡ true → MayOutside w event → Rests rest w event → OuterStaysFew w.outer event → DrawsEight event → OuterGoes past node c text tasks rest turn (happens_outside w event)
+      is_own event ≡ true → MayOutside w event → Rests rest w event → OuterStaysFew w.outer event → OuterGoes past node c text tasks rest turn (happens_outside w event)
   pub does : (past : Past) (node : ℕ) (c : Courses) (rest : Rest) (up yet down : List Item) (h : HostState) (w : Outside) (event : HostEvent) → node < 233 → HostFollows past node c rest up yet down h w → HasPast h → CoursesFacts c → MayHost h event →
       AsksFitly node event → IsUnheard node event → AllByRecursion IsUnit (host_units (outs h event)) → HostGoes past node c rest yet down (after_host h event) (happens_all_outside w (routed (outs h event)))
   pub judges : (past : Past) (node : ℕ) (c : Courses) (rest : Rest) (up down items : List Item) (h : HostState) (w : Outside) (events : List HostEvent) → node < 233 → HostFollows past node c rest up items down h w → HasPast h → CoursesFacts c →
-      AllWell h events → AreJudged h items events → HostsDrawBytes h events → HostGoes past node c rest [] down (after_all h events) (happens_all_outside w (routed (outs_all h events)))
+      AllWell h events → AreJudged h items events → HostGoes past node c rest [] down (after_all h events) (happens_all_outside w (routed (outs_all h events)))
   pub recorded : PastLaws
   pub facts : FactLaws
   pub restart : RestartLaws
@@ -204,11 +203,11 @@ module _ (laws : Laws) (node : ℕ) (within : node < 233) where
   past_all h [] recorded may = recorded
   past_all h (event ∷ events) recorded may = past_all (after_host h event) events (past_kept laws.recorded h event recorded may.0) may.1
 
-  outside_goes : (past : Past) (c : Courses) (up down : List Item) (m : Machine) (event : OuterEvent) → WorldFollows past node c up down m → is_own event ≡ true → MayOutside m.outside event → OuterAtRest m event → OuterStaysFew m.outside.outer event → DrawsEight event
+  outside_goes : (past : Past) (c : Courses) (up down : List Item) (m : Machine) (event : OuterEvent) → WorldFollows past node c up down m → is_own event ≡ true → MayOutside m.outside event → OuterAtRest m event → OuterStaysFew m.outside.outer event
       → WorldGoes past node c (with_outside m (happens_outside m.outside event))
-  outside_goes past c up down m event f own may rests few draws =
+  outside_goes past c up down m event f own may rests few =
       let g : OuterGoes past node c f.text f.tasks m.host.decoder m.host.state.side.turn (happens_outside m.outside event) =
-      laws.outside past node c f.text f.tasks m.host.decoder m.host.state.side.turn up down m.outside event within f.course f.outside own may (rests_of m event rests) few draws in
+      laws.outside past node c f.text f.tasks m.host.decoder m.host.state.side.turn up down m.outside event within f.course f.outside own may (rests_of m event rests) few in
       record {
         later_past = g.later_past;
         later = g.later;
@@ -244,14 +243,14 @@ module _ (laws : Laws) (node : ℕ) (within : node < 233) where
       (notes_go node past c m.host.decoder down (after_host h event) (happens_all_outside m.outside (routed (outs_all h (event ∷ [])))) (answers h event) same)
 
   takes_goes : (past : Past) (c : Courses) (up down : List Item) (m : Machine) (count : ℕ) (rest : Rest) (items : List Item) (events : List HostEvent) → WorldFollows past node c up down m → MayTake m count rest items events
-      → AllByRecursion IsUnit (host_units (outs_all m.host.state events)) → HostsDrawBytes m.host.state events → WorldGoes past node c (happens m (Host_takes count rest items events))
+      → AllByRecursion IsUnit (host_units (outs_all m.host.state events)) → WorldGoes past node c (happens m (Host_takes count rest items events))
   unfolding happens
-  takes_goes past c up down m count rest items events f may units draws =
+  takes_goes past c up down m count rest items events f may units =
       let h : HostState = m.host.state in
       let left = carries_left m.host.decoder rest count m.outside.outer.to_host down items may.feeds f.outside.to_host in
       in_world node laws.facts past c left.left (happens m (Host_takes count rest items events)) f.keys f.course (past_all h events f.recorded may.may)
       (laws.judges past node c rest up left.left items h (happens_outside m.outside (host_takes count)) events within (fed_follows node past c up down m count rest items left f) f.recorded f.course
-      (record { may = may.may; units = units_each h events units }) may.judged draws)
+      (record { may = may.may; units = units_each h events units }) may.judged)
 
   ticks_goes : (past : Past) (c : Courses) (up down : List Item) (m : Machine) → WorldFollows past node c up down m → m.host.decoder ≡ no_rest → WorldGoes past node c (happens m Decoder_ticks)
   unfolding happens
@@ -282,26 +281,26 @@ module _ (laws : Laws) (node : ℕ) (within : node < 233) where
       in_world node laws.facts past c down (with_outside m (happens_outside m.outside (Host_notes e))) f.keys f.course f.recorded (note_goes node past c m.host.decoder down m.host.state m.outside e (still node past c up down m f))
 
   pub event_goes : (past : Past) (c : Courses) (up down : List Item) (m : Machine) (event : Event) → WorldFollows past node c up down m → IsHeld m.host.state m.records → May m event → IsAtRest m event → WritesWell m event
-      → EventStaysFew m event → KeepsWell m event → IsFitly node event → HearsInPipe node event → DrawBytes m event → WorldGoes past node c (happens m event)
+      → EventStaysFew m event → KeepsWell m event → IsFitly node event → HearsInPipe node event → WorldGoes past node c (happens m event)
   unfolding happens May
-  event_goes past c up down m (Outside_does event) f held may rests well few keeps sealed unheard draws = outside_goes past c up down m event f may.0 may.1 rests few draws
-  event_goes past c up down m (Host_does event) f held may rests well few keeps sealed unheard draws = host_goes past c up down m event f may sealed unheard well
-  event_goes past c up down m (Host_takes count rest items events) f held may rests well few keeps sealed unheard draws = takes_goes past c up down m count rest items events f may well draws
-  event_goes past c up down m Decoder_ticks f held may rests well few keeps sealed unheard draws = ticks_goes past c up down m f rests
-  event_goes past c up down m (Refuses line refusal) f held may rests well few keeps sealed unheard draws = enters_goes past c up down m (Refused refusal) f
-  event_goes past c up down m (Shows_values n) f held may rests well few keeps sealed unheard draws = enters_goes past c up down m (shown_values m.host.state n) f
-  event_goes past c up down m (Restarts state) f held may rests well few keeps sealed unheard draws =
+  event_goes past c up down m (Outside_does event) f held may rests well few keeps sealed unheard = outside_goes past c up down m event f may.0 may.1 rests few
+  event_goes past c up down m (Host_does event) f held may rests well few keeps sealed unheard = host_goes past c up down m event f may sealed unheard well
+  event_goes past c up down m (Host_takes count rest items events) f held may rests well few keeps sealed unheard = takes_goes past c up down m count rest items events f may well
+  event_goes past c up down m Decoder_ticks f held may rests well few keeps sealed unheard = ticks_goes past c up down m f rests
+  event_goes past c up down m (Refuses line refusal) f held may rests well few keeps sealed unheard = enters_goes past c up down m (Refused refusal) f
+  event_goes past c up down m (Shows_values n) f held may rests well few keeps sealed unheard = enters_goes past c up down m (shown_values m.host.state n) f
+  event_goes past c up down m (Restarts state) f held may rests well few keeps sealed unheard =
       let next : StartsWell m (Restarts state) × IsHeld (happens m (Restarts state)).host.state (happens m (Restarts state)).records = laws.held m (Restarts state) f.facts held may keeps in
       restart_goes laws.restart node past c up down m state f rests may keeps held next.1 next.0
 
   pub events_go : (past : Past) (c : Courses) (up down : List Item) (m : Machine) (events : List Event) → WorldFollows past node c up down m → IsHeld m.host.state m.records → MayAll m events → AllAtRest m events → AllWriteWell m events
-      → AlwaysFew m events → AllKeepWell m events → AllByRecursion (IsFitly node) events → AllByRecursion (HearsInPipe node) events → AllDrawBytes m events → WorldGoes past node c (happens_all m events)
-  events_go past c up down m [] f held may rests well few keeps sealed unheard draws = record { later_past = past; later = c; grows = grows_none past; goes = goes_nowhere c; up = up; down = down; follows = f }
-  events_go past c up down m (event ∷ events) f held may rests well few keeps sealed unheard draws =
-      let one : WorldGoes past node c (happens m event) = event_goes past c up down m event f held may.0 rests.0 well.0 few.1 keeps.0 sealed.0 unheard.0 draws.0 in
+      → AlwaysFew m events → AllKeepWell m events → AllByRecursion (IsFitly node) events → AllByRecursion (HearsInPipe node) events → WorldGoes past node c (happens_all m events)
+  events_go past c up down m [] f held may rests well few keeps sealed unheard = record { later_past = past; later = c; grows = grows_none past; goes = goes_nowhere c; up = up; down = down; follows = f }
+  events_go past c up down m (event ∷ events) f held may rests well few keeps sealed unheard =
+      let one : WorldGoes past node c (happens m event) = event_goes past c up down m event f held may.0 rests.0 well.0 few.1 keeps.0 sealed.0 unheard.0 in
       let next : StartsWell m event × IsHeld (happens m event).host.state (happens m event).records = laws.held m event f.facts held may.0 keeps.0 in
       let more : WorldGoes one.later_past node one.later (happens_all (happens m event) events) =
-      events_go one.later_past one.later one.up one.down (happens m event) events one.follows next.1 may.1 rests.1 well.1 few.2 keeps.1 sealed.1 unheard.1 draws.1 in
+      events_go one.later_past one.later one.up one.down (happens m event) events one.follows next.1 may.1 rests.1 well.1 few.2 keeps.1 sealed.1 unheard.1 in
       record {
         later_past = more.later_past;
         later = more.later;

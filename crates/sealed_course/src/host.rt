@@ -16,7 +16,6 @@ ghost use Rattle.host_events.specs.May.{May};
 ghost use Rattle.host_events.specs.Taking.{AreJudged};
 ghost use Rattle.host_events.specs.Events.{HostEvent};
 ghost use Rattle.line_facts.specs.Line.{host_units};
-ghost use Rattle.run_facts.specs.Premises.{HostsDrawBytes};
 ghost use Rattle.once_facts.specs.Truly.{TellTruly};
 ghost use Rattle.node_course.specs.Told.{HasPast};
 ghost use Rattle.node_course.specs.HostGoing.{AllWell};
@@ -64,12 +63,12 @@ pub fn hosts_do_as_the_courses_have_it()
 }
 
 /// What the host judges makes steps of them: a nonce of the node is taken for the text that waits, which is sealed for it; a Nonce Get has a nonce given, or the live one offered again; a report that was sealed for the live nonce spends it, and ends the last session where it
-/// is of that one's end, which gives its command the outcome of that status. Each success is true as it is told. Bytes are drawn as bytes.
+/// is of that one's end, which gives its command the outcome of that status. Each success is true as it is told.
 pub fn hosts_judge_as_the_courses_have_it()
     ensures judges { (past : Past) (node : ℕ) (c : Courses) (rest : Rest) (up down items : List Item) (h : HostState) (w : Outside) (events : List HostEvent) → node < 233 → HostFollows past node c rest up items down h w → HasPast h → CoursesFacts c →
-        AllWell h events → AreJudged h items events → HostsDrawBytes h events → HostGoes past node c rest [] down (after_all h events) (happens_all w (routed (outs_all h events))) }
+        AllWell h events → AreJudged h items events → HostGoes past node c rest [] down (after_all h events) (happens_all w (routed (outs_all h events))) }
     ensures truth { (past : Past) (node : ℕ) (c : Courses) (rest : Rest) (up down items : List Item) (h : HostState) (w : Outside) (events : List HostEvent) → node < 233 → HostFollows past node c rest up items down h w → HasPast h → CoursesFacts c →
-        AllWell h events → AreJudged h items events → HostsDrawBytes h events → TellTruly node h w.devices events }
+        AllWell h events → AreJudged h items events → TellTruly node h w.devices events }
 {
     hosts_do_as_the_courses_have_it();
     frames_follow_the_courses();

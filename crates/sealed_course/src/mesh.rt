@@ -1,6 +1,6 @@
 //! What arrives on the air, in the courses of a lock.
 
-ghost use Rattle.std.specs.Prelude.{◌≡◌, ℕ, ◌<◌, List, [], Some, None, Option, slice_get, slice_set, length};
+ghost use Rattle.std.specs.Prelude.{◌≡◌, ℕ, ◌<◌, List, [], Some, None, Option, slice_get, slice_set};
 ghost use Rattle.route_table.specs.declared.route.Route.{Route as TheRoute};
 ghost use Rattle.air_frames.specs.Ages.{refusal_of};
 ghost use Rattle.device_sim.specs.State.{State};
@@ -25,11 +25,10 @@ use device_facts::devices_stay_the_same;
 use node_course::devices_follow_the_course;
 
 /// The next frame arrives, or one is heard again that may be: by the lock of the node, by another device, by the chip or by nobody. What a device answers goes on the air where it is joined; so does what it says at an event of its own, at which a lock says nothing.
-/// The bytes that are drawn for the device that hears are eight.
 pub fn arrivals_follow_the_courses()
-    ensures arrives { (past : Past) (node : ℕ) (c : Courses) (mesh : Mesh) (drawn : List ℕ) (route : Option TheRoute) → node < 233 → length drawn ≡ 8 → CoursesFacts c → InMesh past node c mesh → MayHappen mesh (Arrives drawn route) →
+    ensures arrives { (past : Past) (node : ℕ) (c : Courses) (mesh : Mesh) (drawn : List ℕ) (route : Option TheRoute) → node < 233 → CoursesFacts c → InMesh past node c mesh → MayHappen mesh (Arrives drawn route) →
         MeshGoes past node c (mesh_after mesh (Arrives drawn route)) (brought (mesh_outs mesh (Arrives drawn route))) }
-    ensures repeats { (past : Past) (node : ℕ) (c : Courses) (mesh : Mesh) (number : ℕ) (drawn : List ℕ) (route : Option TheRoute) → node < 233 → length drawn ≡ 8 → CoursesFacts c → InMesh past node c mesh → refusal_of mesh.air.frames number ≡ None →
+    ensures repeats { (past : Past) (node : ℕ) (c : Courses) (mesh : Mesh) (number : ℕ) (drawn : List ℕ) (route : Option TheRoute) → node < 233 → CoursesFacts c → InMesh past node c mesh → refusal_of mesh.air.frames number ≡ None →
         MayHappen mesh (Repeats number drawn route) → MeshGoes past node c (mesh_after mesh (Repeats number drawn route)) (brought (mesh_outs mesh (Repeats number drawn route))) }
     ensures own { (past : Past) (node : ℕ) (c : Courses) (mesh : Mesh) (place : ℕ) (device : State) (event : DeviceEvent) (way : Option TheRoute) → InMesh past node c mesh → slice_get mesh.devices place ≡ Some device → HearsNone event →
         MeshGoes past node c (record { air = answered_if (is_joined mesh.air device.node) mesh.air device.node way (device_replies device event); devices = slice_set mesh.devices place (device_after device event) }) [] }

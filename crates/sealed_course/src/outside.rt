@@ -10,7 +10,6 @@ ghost use Rattle.device_sim.specs.State.{State};
 ghost use Rattle.outer_events.specs.State.{Outside, outside, first_outer};
 ghost use Rattle.outer_events.specs.Events.{OuterEvent, is_own, happens, May};
 ghost use Rattle.world_traffic.specs.OnAir.{OuterStaysFew};
-ghost use Rattle.run_facts.specs.Premises.{DrawsEight};
 ghost use Rattle.node_course.specs.Outside.{Rests};
 ghost use Rattle.sealed_course.specs.Courses.{Courses, CoursesFacts, first_courses};
 ghost use Rattle.sealed_course.specs.Meaning.{Past, first_past};
@@ -23,12 +22,11 @@ use courses::nonces_of_the_host_keep_facts;
 use world_traffic::at_most_two_are_on_the_air;
 
 /// At first the courses of a lock are where the outside is, and every event outside the host makes steps of them: the chip judges the host's items and puts messages and nonces on the air; frames arrive, are lost or are heard again; the lock answers; what the
-/// chip hears of it goes to the host; copies are written, pipes are cleared and units are lost. No more is asked than that at most two frames of the host are on the air while the chip judges items, that who ticks or loses bytes has nothing unfinished, and
-/// that a device that hears draws eight bytes.
+/// chip hears of it goes to the host; copies are written, pipes are cleared and units are lost. No more is asked than that at most two frames of the host are on the air while the chip judges items, and that who ticks or loses bytes has nothing unfinished.
 pub fn outsides_follow_the_courses()
     ensures first { (keys : Keys) (node : ℕ) (devices : List State) → HasLock (first_past keys) node first_courses devices → Follows (first_past keys) node first_courses None [] no_rest turns.Idle [] [] (outside first_outer devices) }
     ensures events { (past : Past) (node : ℕ) (c : Courses) (text : Option ℕ) (tasks : List ℕ) (rest : Rest) (turn : TheTurn) (up down : List Item) (w : Outside) (event : OuterEvent) → node < 233 → CoursesFacts c → Follows past node c text tasks rest turn up down w →
-        is_own event ≡ true → May w event → Rests rest w event → OuterStaysFew w.outer event → DrawsEight event → OuterGoes past node c text tasks rest turn (happens w event) }
+        is_own event ≡ true → May w event → Rests rest w event → OuterStaysFew w.outer event → OuterGoes past node c text tasks rest turn (happens w event) }
 {
     frames_follow_the_courses();
     arrivals_follow_the_courses();

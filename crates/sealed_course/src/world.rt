@@ -13,7 +13,6 @@ ghost use Rattle.line_facts.specs.Line.{WritesWell, AllWriteWell, IsAtRest, AllA
 ghost use Rattle.line_facts.specs.Host.{AllAskWell};
 ghost use Rattle.world_facts.specs.Restarts.{KeepsWell, AllKeepWell, BeginsEmpty, IsHeld};
 ghost use Rattle.world_traffic.specs.OnAir.{EventStaysFew, AlwaysFew};
-ghost use Rattle.run_facts.specs.Premises.{DrawBytes, AllDrawBytes};
 ghost use Rattle.once_facts.specs.Truly.{IsTrue, AreTrue};
 ghost use Rattle.node_course.specs.World.{NamesEnd};
 ghost use Rattle.sealed_course.specs.Courses.{Courses, first_courses};
@@ -44,12 +43,12 @@ use world_traffic::at_most_two_are_on_the_air;
 /// of the host before.
 pub fn worlds_follow_the_courses()
     ensures event { (past : Past) (node : ℕ) (c : Courses) (up down : List Item) (m : Machine) (event : Event) → node < 233 → WorldFollows past node c up down m → IsHeld m.host.state m.records → May m event → IsAtRest m event → WritesWell m event →
-        EventStaysFew m event → KeepsWell m event → IsFitly node event → HearsInPipe node event → DrawBytes m event → WorldGoes past node c (happens m event) }
-    ensures truth { (past : Past) (node : ℕ) (c : Courses) (up down : List Item) (m : Machine) (event : Event) → node < 233 → WorldFollows past node c up down m → May m event → WritesWell m event → HearsInPipe node event → DrawBytes m event → IsTrue node m event }
+        EventStaysFew m event → KeepsWell m event → IsFitly node event → HearsInPipe node event → WorldGoes past node c (happens m event) }
+    ensures truth { (past : Past) (node : ℕ) (c : Courses) (up down : List Item) (m : Machine) (event : Event) → node < 233 → WorldFollows past node c up down m → May m event → WritesWell m event → HearsInPipe node event → IsTrue node m event }
     ensures events { (past : Past) (node : ℕ) (c : Courses) (up down : List Item) (m : Machine) (events : List Event) → node < 233 → WorldFollows past node c up down m → IsHeld m.host.state m.records → MayAll m events → AllAtRest m events → AllWriteWell m events →
-        AlwaysFew m events → AllKeepWell m events → AllByRecursion (IsFitly node) events → AllByRecursion (HearsInPipe node) events → AllDrawBytes m events → WorldGoes past node c (happens_all m events) }
+        AlwaysFew m events → AllKeepWell m events → AllByRecursion (IsFitly node) events → AllByRecursion (HearsInPipe node) events → WorldGoes past node c (happens_all m events) }
     ensures truths { (past : Past) (node : ℕ) (c : Courses) (up down : List Item) (m : Machine) (events : List Event) → node < 233 → WorldFollows past node c up down m → IsHeld m.host.state m.records → MayAll m events → AllAtRest m events → AllWriteWell m events →
-        AlwaysFew m events → AllKeepWell m events → AllByRecursion (IsFitly node) events → AllByRecursion (HearsInPipe node) events → AllDrawBytes m events → AreTrue node m events }
+        AlwaysFew m events → AllKeepWell m events → AllByRecursion (IsFitly node) events → AllByRecursion (HearsInPipe node) events → AreTrue node m events }
 {
     outsides_follow_the_courses();
     frames_follow_the_courses();
@@ -78,16 +77,16 @@ pub fn lines_ask_fitly()
 
 /// So over any lines from the first on, however often the host starts again: for a node whose device is the only one of it and a lock with the network's key, there are courses of its sessions and of the nonces of both ends, from the first. What the host was told is what
 /// the lock did; the command of each session of which it was told has the outcome of the status that was told; each change of the lock by a session has exactly the settings that the host's table of commands says the session's command asks for; and each success is true as
-/// it is told. Premised is of the keeper that it has no records at first, and that it tells them, as they were recorded, where the host starts again; and that what is drawn is bytes.
+/// it is told. Premised is of the keeper that it has no records at first, and that it tells them, as they were recorded, where the host starts again.
 pub fn lines_have_courses()
     ensures first { (node : ℕ) (keys : Keys) (records : Option (List (List ℕ))) (devices : List State) → node < 233 → HasLock (first_past keys) node first_courses devices →
         WorldFollows (first_past keys) node first_courses [] [] (first_machine keys records devices) }
     ensures lines { (node : ℕ) (keys : Keys) (records : Option (List (List ℕ))) (devices : List State) (lines : List Line) (events : List Event) → node < 233 → HasLock (first_past keys) node first_courses devices → BeginsEmpty records →
         AllByRecursion NamesEnd lines → AreLines lines (first_machine keys records devices) events → MayAll (first_machine keys records devices) events → AllAskWell (first_machine keys records devices) events →
-        AllKeepWell (first_machine keys records devices) events → AllDrawBytes (first_machine keys records devices) events → HasCourses node (happens_all (first_machine keys records devices) events) }
+        AllKeepWell (first_machine keys records devices) events → HasCourses node (happens_all (first_machine keys records devices) events) }
     ensures truth { (node : ℕ) (keys : Keys) (records : Option (List (List ℕ))) (devices : List State) (lines : List Line) (events : List Event) → node < 233 → HasLock (first_past keys) node first_courses devices → BeginsEmpty records →
         AllByRecursion NamesEnd lines → AreLines lines (first_machine keys records devices) events → MayAll (first_machine keys records devices) events → AllAskWell (first_machine keys records devices) events →
-        AllKeepWell (first_machine keys records devices) events → AllDrawBytes (first_machine keys records devices) events → AreTrue node (first_machine keys records devices) events }
+        AllKeepWell (first_machine keys records devices) events → AreTrue node (first_machine keys records devices) events }
 {
     lines_ask_fitly();
     lines_ask_plainly();

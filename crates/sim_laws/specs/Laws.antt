@@ -27,7 +27,7 @@ use Rattle.zw_laws.specs.Headline.{Headline, HeadlineOf, IsAsMade}
 use Rattle.zw_laws.specs.Nodes.{device_of, first_node, is_supervised, listing_of}
 use Rattle.world_facts.specs.Devices.{GroupsSessions}
 use Rattle.world_facts.specs.Restarts.{AllKeepWell, BeginsEmpty}
-use Rattle.run_facts.specs.Premises.{AllDrawBytes, AreFew}
+use Rattle.run_facts.specs.Premises.{AreFew}
 use Rattle.headline_facts.specs.Truly.{SucceedsAfterChangeOf}
 use Rattle.supervised_nodes.specs.Supervised.{IsSupervisedNode}
 use Rattle.sim_laws.specs.Around.{Around}
@@ -111,13 +111,11 @@ pub record KeepsRecords (key : List ℕ) (old : Around) (story : List Ran) : Typ
   pub empty : BeginsEmpty old.records
   pub well : AllKeepWell (first key old) (events_of story)
 
--- All lines were run whole, over a keeper that tells its records, had none at first and has fewer than 2 ^ 32 in the end; what was
--- drawn is bytes, and of each device that hears something eight of them.
+-- All lines were run whole, over a keeper that tells its records, had none at first and has fewer than 2 ^ 32 in the end.
 pub record IsWholeRun (key : List ℕ) (old : Around) (story : List Ran) : Type 0 where
   pub whole : AreSchedules (first key old) story
   pub empty : old.records ≡ Some []
   pub few : AreFew (last key old story).records
-  pub drawn : AllDrawBytes (first key old) (events_of story)
 
 -- ---- what every story of a run keeps
 

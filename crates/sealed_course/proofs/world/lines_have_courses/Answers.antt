@@ -20,7 +20,7 @@ returns-clause-first c node keys records devices within has = first_follows (rec
 }) node within keys records devices has
 
 pub returns-clause-lines : goal.returns-clause-lines
-returns-clause-lines c node keys records devices lines events within has empty names are may asks keeps draws =
+returns-clause-lines c node keys records devices lines events within has empty names are may asks keeps =
     lines_have (record {
       outside_first = c.outsides_follow_the_courses.ensures.first;
       facts_first = c.first_facts_hold.ensures;
@@ -34,10 +34,10 @@ returns-clause-lines c node keys records devices lines events within has empty n
       few = c.at_most_two_are_on_the_air.ensures.always;
       done = c.what_is_told_was_done.ensures.done;
       hears = c.lines_ask_fitly.ensures.hears;
-    }) node within keys records devices has lines events empty are may asks keeps draws (c.lines_ask_fitly.ensures.fit node lines (first_machine keys records devices) events names are)
+    }) node within keys records devices has lines events empty are may asks keeps (c.lines_ask_fitly.ensures.fit node lines (first_machine keys records devices) events names are)
 
 pub returns-clause-truth : goal.returns-clause-truth
-returns-clause-truth c node keys records devices lines events within has empty names are may asks keeps draws =
+returns-clause-truth c node keys records devices lines events within has empty names are may asks keeps =
     lines_true (record {
       outside_first = c.outsides_follow_the_courses.ensures.first;
       facts_first = c.first_facts_hold.ensures;
@@ -51,4 +51,4 @@ returns-clause-truth c node keys records devices lines events within has empty n
       few = c.at_most_two_are_on_the_air.ensures.always;
       done = c.what_is_told_was_done.ensures.done;
       hears = c.lines_ask_fitly.ensures.hears;
-    }) node within keys records devices has lines events empty are may asks keeps draws (c.lines_ask_fitly.ensures.fit node lines (first_machine keys records devices) events names are)
+    }) node within keys records devices has lines events empty are may asks keeps (c.lines_ask_fitly.ensures.fit node lines (first_machine keys records devices) events names are)
