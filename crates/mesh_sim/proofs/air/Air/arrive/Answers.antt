@@ -22,7 +22,7 @@ returns-in-AtChip-clause-ok g c =
 pub returns-in-AtDevice-clause-ok : goal.returns-in-AtDevice-clause-ok
 returns-in-AtDevice-clause-ok g c =
     let within : c.in-AtDevice.place < length c.args.devices.now.items = heard_within _ _ _ c.in-AtDevice.is c.coming-coming.ensures.within in
-    device_did c.arrive_at_device.result c.args.self.now.state c.arrive_at_device.new.self.state _ _ c.in-AtDevice.place _ _ _ _ _ _ _ c.next.result c.args.out.now.items c.arrive_at_device.new.out.items
+    device_did c.arrive_at_device.result c.args.self.now.state c.arrive_at_device.new.self.state _ _ c.in-AtDevice.place _ _ _ _ _ _ _ c.next-drawn.result c.args.out.now.items c.arrive_at_device.new.out.items
     c.coming-coming.ensures.comes c.in-AtDevice.is
     (seen_at _ c.args.devices.now.items c.in-AtDevice.place c.index_mut.result.now within c.index_mut.ensures.value)
     (seen_set _ c.args.devices.now.items c.in-AtDevice.place c.arrive_at_device.new.device) (search rules)
@@ -31,7 +31,7 @@ returns-in-AtDevice-clause-ok g c =
 pub returns-in-AtDevice-clause-err : goal.returns-in-AtDevice-clause-err
 returns-in-AtDevice-clause-err g c =
     let within : c.in-AtDevice.place < length c.args.devices.now.items = heard_within _ _ _ c.in-AtDevice.is c.coming-coming.ensures.within in
-    device_stops c.arrive_at_device.result c.args.self.now.state c.arrive_at_device.new.self.state _ _ c.in-AtDevice.place _ _ _ _ _ _ _ c.next.result c.args.out.now.items c.arrive_at_device.new.out.items
+    device_stops c.arrive_at_device.result c.args.self.now.state c.arrive_at_device.new.self.state _ _ c.in-AtDevice.place _ _ _ _ _ _ _ c.next-drawn.result c.args.out.now.items c.arrive_at_device.new.out.items
     c.coming-coming.ensures.comes c.in-AtDevice.is
     (seen_at _ c.args.devices.now.items c.in-AtDevice.place c.index_mut.result.now within c.index_mut.ensures.value)
     (seen_set _ c.args.devices.now.items c.in-AtDevice.place c.arrive_at_device.new.device) (search rules)
@@ -52,7 +52,7 @@ returns-in-AtChip-clause-cut g c = on_err c.arrive_at_chip.result _ (inl refl)
 pub returns-in-AtDevice-clause-cut : goal.returns-in-AtDevice-clause-cut
 returns-in-AtDevice-clause-cut g c =
     let within : c.in-AtDevice.place < length c.args.devices.now.items = heard_within _ _ _ c.in-AtDevice.is c.coming-coming.ensures.within in
-    device_is_cut c.arrive_at_device.result c.args.self.now.state c.arrive_at_device.new.self.state _ _ c.in-AtDevice.place _ _ _ _ _ _ _ c.next.result c.args.out.now.items c.arrive_at_device.new.out.items
+    device_is_cut c.arrive_at_device.result c.args.self.now.state c.arrive_at_device.new.self.state _ _ c.in-AtDevice.place _ _ _ _ _ _ _ c.next-drawn.result c.args.out.now.items c.arrive_at_device.new.out.items
     c.coming-coming.ensures.comes c.in-AtDevice.is
     (seen_at _ c.args.devices.now.items c.in-AtDevice.place c.index_mut.result.now within c.index_mut.ensures.value)
     (seen_set _ c.args.devices.now.items c.in-AtDevice.place c.arrive_at_device.new.device) (search rules)
