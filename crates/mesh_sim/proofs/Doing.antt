@@ -1,6 +1,6 @@
 -- Steps that are done: one, one after another, and a front of them.
-use Rattle.std.proofs.Common.{◌≡◌, ℕ, zero, suc, ◌+◌, ◌-◌, ◌<◌, ◌≤◌, ◌⊎◌, inl, inr, if◌then◌else◌, Bool, true, false, All, Option, Some, None, Result, Ok, Err, OnOk, OnErr, List, [], ◌∷◌, ◌++◌, length, map, get_or, set, slice_get, option_map, refl, ap, sym, subst, ◌∙◌, append_assoc, length-append, arith}
-use Rattle.std.proofs.lemmas.List.{append-nil, map-set}
+use Rattle.std.proofs.Common.{◌≡◌, ℕ, zero, suc, ◌+◌, ◌-◌, ◌<◌, ◌≤◌, inl, inr, Bool, true, false, All, Option, Some, None, Result, Ok, Err, OnOk, OnErr, List, [], ◌∷◌, ◌++◌, length, set, slice_get, option_map, refl, ap, sym, subst, ◌∙◌, append_assoc, length-append, arith}
+use Rattle.std.proofs.lemmas.List.{append-nil}
 use Rattle.std.proofs.lemmas.List.Elements.{All-append, All-nil, All-cons}
 use Rattle.route_table.specs.declared.route.Route.{Route}
 use Rattle.device_sim.specs.State.{State}
@@ -8,8 +8,7 @@ use Rattle.device_sim.specs.Event.{DeviceEvent, Hears, device_after, device_repl
 use Rattle.air_frames.specs.declared.frame.Heading.{Heading}
 use Rattle.air_frames.specs.declared.frame.Heading.TheVariants.{Outward, Homeward}
 use Rattle.air_frames.specs.Flown.{Flown}
-use Rattle.air_frames.specs.Frames.{FramesState, putting, landing, next_of, remembered}
-use Rattle.air_frames.specs.Ages.{refusal_of}
+use Rattle.air_frames.specs.Frames.{putting, landing, next_of, remembered}
 use Rattle.mesh_sim.specs.declared.event.AirEvent.{AirEvent}
 use Rattle.mesh_sim.specs.declared.event.AirEvent.TheVariants as tells
 use Rattle.mesh_sim.specs.declared.fate.Fate.{Fate}

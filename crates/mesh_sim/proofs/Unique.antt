@@ -1,5 +1,5 @@
 -- There is one route to a node.
-use Rattle.std.proofs.Common.{◌≡◌, ◌≢◌, ℕ, zero, suc, ◌+◌, ◌-◌, ◌<◌, ◌≤◌, ◌⊎◌, inl, inr, IsTrue, All, Option, Some, None, List, [], ◌∷◌, ◌++◌, length, take, drop, option_map, refl, ap, sym, subst, ◌∙◌, length-drop, arith}
+use Rattle.std.proofs.Common.{◌≡◌, ℕ, ◌-◌, inl, inr, IsTrue, All, Option, Some, None, List, [], ◌∷◌, ◌++◌, length, drop, option_map, refl, ap, sym, subst, ◌∙◌, length-drop, arith}
 use Rattle.std.specs.Ordering.{nat_cmp, is_le, ordering_reverse}
 use Rattle.std.specs.declared.cmp.Ordering.{Ordering}
 use Rattle.std.specs.declared.cmp.Ordering.TheVariants.{Less, Equal, Greater}
@@ -11,7 +11,7 @@ use Rattle.std.proofs.lemmas.List.Elements.{All-head, All-tail}
 use Rattle.route_table.specs.declared.route.Route.{Route}
 use Rattle.route_table.specs.Route.{via}
 use Rattle.route_table.specs.Network.{Network}
-use Rattle.route_table.specs.Walk.{Walk, ComesFirst}
+use Rattle.route_table.specs.Walk.{ComesFirst}
 use Rattle.air_frames.specs.declared.frame.Heading.TheVariants.{Homeward}
 use Rattle.mesh_sim.specs.Routes.{IsRoute, IsLeast, backwards}
 use Rattle.mesh_sim.specs.Air.{AirState, departing, going_home}

@@ -1,14 +1,13 @@
 -- What the air is, and frames that go on it (this project's own rule, docs/AIR.md).
-use Rattle.std.specs.Prelude.{ℕ, ◌+◌, ◌-◌, ◌<◌, ◌≤◌, ◌==◌, ◌||◌, nat_lt, if◌then◌else◌, Bool, true, false, Option, Some, None, List, [], ◌∷◌, replicate, slice_set, slice_index_or, option_map, refl}
+use Rattle.std.specs.Prelude.{ℕ, ◌-◌, ◌<◌, ◌≤◌, ◌==◌, ◌||◌, nat_lt, if◌then◌else◌, Bool, true, false, Option, List, [], ◌∷◌, replicate, slice_set, slice_index_or, option_map}
 use Rattle.std.specs.Option.{is_none, unwrap_or}
 use Rattle.std.specs.FinSet as set
-use Rattle.std.specs.Coded.{Coded, code_by, coded×, coded_list, coded_ℕ}
 use Rattle.route_table.specs.declared.route.Route.{Route}
-use Rattle.route_table.specs.Network.{Network, no_network, link_of, network_code}
+use Rattle.route_table.specs.Network.{Network, no_network, link_of}
 use Rattle.air_frames.specs.declared.frame.Heading.{Heading}
-use Rattle.air_frames.specs.declared.frame.Heading.TheVariants.{Outward, Homeward}
+use Rattle.air_frames.specs.declared.frame.Heading.TheVariants.{Homeward}
 use Rattle.air_frames.specs.Flown.{Flown}
-use Rattle.air_frames.specs.Frames.{FramesState, no_frames, peer_of, putting, landing}
+use Rattle.air_frames.specs.Frames.{FramesState, no_frames, peer_of, putting}
 use Rattle.mesh_sim.specs.Routes.{backwards}
 
 -- its links and repeaters, which nodes are joined (by number), the frames, and how many of the next frames, and of the

@@ -1,6 +1,6 @@
 -- What may happen on the air, what the air and the devices are then, and what it tells (this project's own rule,
 -- docs/AIR.md).
-use Rattle.std.specs.Prelude.{◌≡◌, ◌≢◌, ℕ, zero, suc, ◌+◌, ◌-◌, ◌<◌, ◌≤◌, ◌⊎◌, nat_lt, if◌then◌else◌, Bool, true, false, Option, Some, None, List, [], ◌∷◌, ◌++◌, length, slice_get, slice_set, option_map, All}
+use Rattle.std.specs.Prelude.{◌≡◌, ◌≢◌, ℕ, zero, suc, ◌+◌, ◌-◌, ◌≤◌, ◌⊎◌, nat_lt, if◌then◌else◌, Bool, true, false, Option, Some, None, List, [], ◌∷◌, ◌++◌, length, slice_get, slice_set, option_map, All}
 use Rattle.std.specs.Option.{unwrap_or}
 use Rattle.route_table.specs.declared.route.Route.{Route}
 use Rattle.device_sim.specs.State.{State}
@@ -8,7 +8,7 @@ use Rattle.device_sim.specs.Event.{DeviceEvent, Hears, device_after, device_repl
 use Rattle.air_frames.specs.declared.frame.Heading.{Heading}
 use Rattle.air_frames.specs.declared.frame.Heading.TheVariants.{Outward, Homeward}
 use Rattle.air_frames.specs.Flown.{Flown, IsSound}
-use Rattle.air_frames.specs.Frames.{FramesState, peer_of, landing, next_of, remembered}
+use Rattle.air_frames.specs.Frames.{peer_of, landing, next_of, remembered}
 use Rattle.air_frames.specs.Ages.{refusal_of}
 use Rattle.mesh_sim.specs.declared.event.AirEvent.{AirEvent}
 use Rattle.mesh_sim.specs.declared.event.AirEvent.TheVariants as tells

@@ -1,5 +1,5 @@
 use Rattle.std.proofs.Common.{◌≡◌, suc, ◌+◌, ◌-◌, refl, arith}
-use Rattle.mesh_sim.proofs.Lists.{change_more, changes_all}
+use Rattle.mesh_sim.proofs.Lists.{change_more}
 use Rattle.mesh_sim.proofs.arrivals.enter_changes.Goals as goal
 
 pub loop-change-preserved : goal.loop-change-preserved
