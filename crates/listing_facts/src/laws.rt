@@ -50,11 +50,9 @@ pub fn interviews_tell_what_nodes_list()
 /// headline of runs premises of interviews holds of the lists of the devices.
 pub fn lines_tell_what_nodes_list()
     ensures spoken { (keys : Keys) (devices : List State) (lines : List Spoken) → AreDone (first_machine keys (Some []) devices) lines →
-        AreFew (after_all (first_machine keys (Some []) devices) lines).records →
-        AreSpoken (first_machine keys (Some []) devices) lines }
+        AreFew (after_all (first_machine keys (Some []) devices) lines).records → AreSpoken (first_machine keys (Some []) devices) lines }
     ensures tell { (keys : Keys) (devices : List State) (lines : List Spoken) → AreDone (first_machine keys (Some []) devices) lines →
-        AreFew (after_all (first_machine keys (Some []) devices) lines).records →
-        LinesTell (listing_of devices) (first_machine keys (Some []) devices) lines }
+        AreFew (after_all (first_machine keys (Some []) devices) lines).records → LinesTell (listing_of devices) (first_machine keys (Some []) devices) lines }
 {
     the_machine_keeps_facts();
     restarts_go_on();

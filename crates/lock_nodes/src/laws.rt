@@ -20,13 +20,11 @@ use sealed_course::lines_have_courses;
 /// Over any lines that were read, a lock is tied to the host in the end, and each success that the host is told of it is true at the moment it is told.
 pub fn locks_are_tied()
     ensures tied { (keys : Keys) (devices : List State) (lines : List Spoken) (node : ℕ) (device : State) → IsLockNode keys devices node →
-        AreDone (first_machine keys (Some []) devices) lines →
-        AreFew (after_all (first_machine keys (Some []) devices) lines).records →
+        AreDone (first_machine keys (Some []) devices) lines → AreFew (after_all (first_machine keys (Some []) devices) lines).records →
         device_of node (after_all (first_machine keys (Some []) devices) lines).outside.devices ≡ Some device →
         AreTied (after_all (first_machine keys (Some []) devices) lines).host.state node device }
     ensures truth { (keys : Keys) (devices : List State) (lines : List Spoken) (node : ℕ) → IsLockNode keys devices node →
-        AreDone (first_machine keys (Some []) devices) lines →
-        AreFew (after_all (first_machine keys (Some []) devices) lines).records → LinesAreTrue node (first_machine keys (Some []) devices) lines }
+        AreDone (first_machine keys (Some []) devices) lines → AreFew (after_all (first_machine keys (Some []) devices) lines).records → LinesAreTrue node (first_machine keys (Some []) devices) lines }
 {
     lines_ask_plainly();
     lines_have_courses();

@@ -20,13 +20,11 @@ use run_facts::lines_keep_and_ask_well;
 /// is told.
 pub fn plain_nodes_are_tied()
     ensures tied { (keys : Keys) (devices : List State) (lines : List Spoken) (node : ℕ) (device : State) → IsPlain devices (events_of lines) node →
-        AreDone (first_machine keys (Some []) devices) lines →
-        AreFew (after_all (first_machine keys (Some []) devices) lines).records →
+        AreDone (first_machine keys (Some []) devices) lines → AreFew (after_all (first_machine keys (Some []) devices) lines).records →
         device_of node (after_all (first_machine keys (Some []) devices) lines).outside.devices ≡ Some device →
         AreTied (after_all (first_machine keys (Some []) devices) lines).host.state node device }
     ensures truth { (keys : Keys) (devices : List State) (lines : List Spoken) (node : ℕ) → IsPlain devices (events_of lines) node →
-        AreDone (first_machine keys (Some []) devices) lines →
-        AreFew (after_all (first_machine keys (Some []) devices) lines).records → LinesAreTrue node (first_machine keys (Some []) devices) lines }
+        AreDone (first_machine keys (Some []) devices) lines → AreFew (after_all (first_machine keys (Some []) devices) lines).records → LinesAreTrue node (first_machine keys (Some []) devices) lines }
 {
     lines_ask_plainly();
     lines_have_a_course();

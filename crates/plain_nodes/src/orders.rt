@@ -5,7 +5,7 @@ ghost use Rattle.std.specs.List.{AllByRecursion};
 ghost use Rattle.s0_crypto.specs.declared.key_pair.Keys.{Keys};
 ghost use Rattle.device_sim.specs.State.{State};
 ghost use Rattle.zw_text.specs.declared.line.Line.{Line};
-ghost use Rattle.zw_laws.specs.Nodes.{device_of, listing_of};
+ghost use Rattle.zw_laws.specs.Nodes.{device_of};
 ghost use Rattle.zw_machine.specs.State.{first_machine};
 ghost use Rattle.zw_machine.specs.Events.{Event};
 ghost use Rattle.zw_machine.specs.Did.{happens_all, MayAll};

@@ -43,8 +43,7 @@ pub fn runs_keep_and_ask_well()
         AllAskWell (first_machine keys (Some []) devices) events }
     ensures keeps { (keys : Keys) (devices : List State) (events : List Event) →
         MayAll (first_machine keys (Some []) devices) events → AllAsked (first_machine keys (Some []) devices) events →
-        AllByRecursion HearBytes events →
-        AreFew (happens_all (first_machine keys (Some []) devices) events).records → AllKeepWell (first_machine keys (Some []) devices) events }
+        AllByRecursion HearBytes events → AreFew (happens_all (first_machine keys (Some []) devices) events).records → AllKeepWell (first_machine keys (Some []) devices) events }
 {
     facts_are_kept();
     what_is_kept_starts_a_host();
@@ -65,8 +64,8 @@ pub fn lines_keep_and_ask_well()
         AllByRecursion HearBytes events }
     ensures all { (keys : Keys) (devices : List State) (lines : List Line) (events : List Event) → AllByRecursion IsRead lines →
         AreLines lines (first_machine keys (Some []) devices) events → MayAll (first_machine keys (Some []) devices) events →
-        AreFew (happens_all (first_machine keys (Some []) devices) events).records →
-        AllKeepWell (first_machine keys (Some []) devices) events × AllAskWell (first_machine keys (Some []) devices) events }
+        AreFew (happens_all (first_machine keys (Some []) devices) events).records → AllKeepWell (first_machine keys (Some []) devices) events ×
+        AllAskWell (first_machine keys (Some []) devices) events }
 {
     hosts_write_well();
     units_are_judged_whole();

@@ -23,13 +23,11 @@ use plain_nodes::plain_nodes_are_tied;
 /// Over any lines that were read, the device of a node that is plain or of a lock is tied to the host in the end, and each success that the host is told of the node is true at the moment it is told.
 pub fn nodes_are_tied()
     ensures tied { (keys : Keys) (devices : List State) (lines : List Spoken) (node : ℕ) (device : State) → IsPlainOrLock keys devices (events_of lines) node →
-        AreDone (first_machine keys (Some []) devices) lines →
-        AreFew (after_all (first_machine keys (Some []) devices) lines).records →
+        AreDone (first_machine keys (Some []) devices) lines → AreFew (after_all (first_machine keys (Some []) devices) lines).records →
         device_of node (after_all (first_machine keys (Some []) devices) lines).outside.devices ≡ Some device →
         AreTied (after_all (first_machine keys (Some []) devices) lines).host.state node device }
     ensures truth { (keys : Keys) (devices : List State) (lines : List Spoken) (node : ℕ) → IsPlainOrLock keys devices (events_of lines) node →
-        AreDone (first_machine keys (Some []) devices) lines →
-        AreFew (after_all (first_machine keys (Some []) devices) lines).records → LinesAreTrue node (first_machine keys (Some []) devices) lines }
+        AreDone (first_machine keys (Some []) devices) lines → AreFew (after_all (first_machine keys (Some []) devices) lines).records → LinesAreTrue node (first_machine keys (Some []) devices) lines }
 {
     plain_nodes_are_tied();
     locks_are_tied();
@@ -40,8 +38,7 @@ pub fn nodes_are_tied()
 /// waits; and where the last change of a property is of a command reported successful, its confirmed value is the device's.
 pub fn nodes_have_the_headline()
     ensures { (keys : Keys) (devices : List State) (lines : List Spoken) (node : ℕ) (device : State) → IsPlainOrLock keys devices (events_of lines) node → AreUnchanged devices →
-        AreDone (first_machine keys (Some []) devices) lines →
-        AreFew (after_all (first_machine keys (Some []) devices) lines).records →
+        AreDone (first_machine keys (Some []) devices) lines → AreFew (after_all (first_machine keys (Some []) devices) lines).records →
         device_of node (after_all (first_machine keys (Some []) devices) lines).outside.devices ≡ Some device → is_supervised device ≡ true →
         HeadlineOf (listing_of devices) node (transcript_of (first_machine keys (Some []) devices) lines) device }
 {
@@ -52,8 +49,7 @@ pub fn nodes_have_the_headline()
 /// And each success of a command of such a node is reported after the change, where no two devices are of one node.
 pub fn nodes_report_after_the_change()
     ensures { (keys : Keys) (devices : List State) (lines : List Spoken) (node : ℕ) → IsPlainOrLock keys devices (events_of lines) node → AreUnchanged devices → AreApart devices →
-        AreDone (first_machine keys (Some []) devices) lines →
-        AreFew (after_all (first_machine keys (Some []) devices) lines).records → SucceedsAfterChangeOf node (transcript_of (first_machine keys (Some []) devices) lines) }
+        AreDone (first_machine keys (Some []) devices) lines → AreFew (after_all (first_machine keys (Some []) devices) lines).records → SucceedsAfterChangeOf node (transcript_of (first_machine keys (Some []) devices) lines) }
 {
     nodes_are_tied();
     lines_tell_what_nodes_list();
@@ -63,8 +59,7 @@ pub fn nodes_report_after_the_change()
 /// So where the first node and each that has a device which knows Supervision are such, the whole headline holds.
 pub fn runs_have_the_headline()
     ensures { (keys : Keys) (devices : List State) (lines : List Spoken) → ((node : ℕ) → IsAskable devices node → IsPlainOrLock keys devices (events_of lines) node) → AreUnchanged devices → AreApart devices →
-        AreDone (first_machine keys (Some []) devices) lines →
-        AreFew (after_all (first_machine keys (Some []) devices) lines).records →
+        AreDone (first_machine keys (Some []) devices) lines → AreFew (after_all (first_machine keys (Some []) devices) lines).records →
         Headline devices (after_all (first_machine keys (Some []) devices) lines).outside.devices (transcript_of (first_machine keys (Some []) devices) lines) }
 {
     nodes_are_tied();
