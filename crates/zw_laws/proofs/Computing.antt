@@ -22,7 +22,7 @@ use Rattle.device_stack.specs.Hearing.{answers, answers_bytes, hears_openly, hea
 use Rattle.device_stack.specs.Judging.{judged_message}
 use Rattle.device_stack.specs.Showing.{shown_of}
 use Rattle.device_stack.specs.Telling.{told}
-use Rattle.device_stack.specs.Ticking.{ticked, woken}
+use Rattle.device_stack.specs.Ticking.{ticked, woken, set_by_hand}
 
 -- what an answer unfolds to compute what a transcript shows of lines and orders
 unfoldable pub computing_lines : ⊤
@@ -42,5 +42,5 @@ computing = tt
 -- and of devices and records
 unfoldable pub computing_devices : ⊤
 unfolding computing outcome_of device_after device_replies effect_of answers answers_bytes hears_openly hears judged_message shown_of
-    told ticked woken first_nodes after_all
+    told ticked woken set_by_hand first_nodes after_all
 computing_devices = tt

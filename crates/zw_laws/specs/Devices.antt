@@ -1,5 +1,5 @@
 -- What a device did, by the transcript (this project's own model of devices).
-use Rattle.std.specs.Prelude.{◌≡◌, ℕ, ◌+◌, ◌-◌, ◌==◌, true, if◌then◌else◌, List, [], ◌∷◌, ◌++◌, map, Option, Some, None}
+use Rattle.std.specs.Prelude.{◌≡◌, ℕ, ◌+◌, ◌-◌, ◌==◌, if◌then◌else◌, List, [], ◌∷◌, ◌++◌, map, Option, Some, None}
 use Rattle.std.specs.List.{flat_map}
 use Rattle.device_stack.specs.declared.change.Change.{Change}
 use Rattle.device_sim.specs.State.{State}
@@ -85,6 +85,14 @@ brought_at node past _ = []
 abbrev pub brought : ℕ → List Entry → List ComingAt
 brought node transcript = shown_after (brought_at node) [] transcript
 
+-- what comes to a node while it is not joined; what it answers then is on no air
+abbrev pub brought_unjoined_at : ℕ → List Entry → Entry → List ComingAt
+brought_unjoined_at node past entry = if is_joined past node then [] else brought_at node past entry
+
+-- all that came to it came when it was joined
+abbrev pub CameJoined : ℕ → List Entry → Type 0
+CameJoined node transcript = shown_after (brought_unjoined_at node) [] transcript ≡ []
+
 -- the payloads of the frames that a node sent
 abbrev pub sent_by : ℕ → AirFrame → List (List ℕ)
 sent_by node frame = if frame.sender == node then frame.payload ∷ [] else []
@@ -97,7 +105,7 @@ abbrev pub made_by : Change → List Made
 made_by change = map (λ setting. record { by = change.by; setting = setting }) change.settings
 
 -- the device of a node went from its state at entry to that at exit by what the transcript shows and the ticks that the
--- lines ask for, in order; its changes are the `dev` entries, and its answers the frames that it sent
+-- lines ask for, in order; its changes are the `dev` entries, and its answers the frames that it sent, where all came to it when it was joined
 pub record RanAsShown (node : ℕ) (transcript : List Entry) (old new : State) : Type 0 where
   pub events : List DeviceEvent
   pub changes : List Change
@@ -106,4 +114,4 @@ pub record RanAsShown (node : ℕ) (transcript : List Entry) (old new : State) :
   pub ticked : ticks_lived events ≡ ticks_asked (lines_run transcript)
   pub changed : new.journal ≡ old.journal ++ changes
   pub entered : made node transcript ≡ flat_map made_by changes
-  pub answered : is_joined transcript node ≡ true → sent_from node transcript ≡ replies_in old events
+  pub answered : CameJoined node transcript → sent_from node transcript ≡ replies_in old events

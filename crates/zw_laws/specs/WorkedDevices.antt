@@ -1,14 +1,20 @@
--- What happened to the devices of worked transcripts, the records of a plain exchange, and a transcript that hides a change.
-use Rattle.std.specs.Prelude.{ℕ, List, [], ◌∷◌, ◌++◌, codes, take, drop}
+-- What happened to the devices of worked transcripts, the records of a plain exchange, small transcripts of devices, and others with one thing wrong.
+use Rattle.std.specs.Prelude.{ℕ, false, List, [], ◌∷◌, ◌++◌, codes, take, drop}
+use Rattle.zw_base.specs.declared.property.Name.TheVariants as names
+use Rattle.zw_base.specs.declared.property.By.TheVariants.{Local}
 use Rattle.zw_order.specs.declared.order.Word.TheVariants.{On}
 use Rattle.zw_order.specs.declared.order.What.TheVariants.{Value}
+use Rattle.host_orders.specs.Settings.{setting}
+use Rattle.device_sim.specs.State.{State}
 use Rattle.device_sim.specs.Event.{DeviceEvent}
-use Rattle.device_sim.specs.Event.DeviceEvent.{Hears, Ticks, Wakes}
+use Rattle.device_sim.specs.Event.DeviceEvent.{Hears, Ticks, Wakes, Sets}
 use Rattle.host_keep.specs.declared.final_status.FinalStatus.TheVariants.{Success}
 use Rattle.host_keep.specs.declared.record.Record.{Record}
 use Rattle.host_keep.specs.declared.record.Record.TheVariants as records
 use Rattle.zw_text.specs.declared.entry.Entry.{Entry}
-use Rattle.zw_laws.specs.Worked.{bytes, plain_exchange}
+use Rattle.zw_text.specs.declared.entry.Entry.TheVariants.{Said, Air, Dev}
+use Rattle.zw_laws.specs.Devices.{after_events}
+use Rattle.zw_laws.specs.Worked.{bytes, plain_exchange, the_switch}
 
 -- a tick, and a payload that is heard; nothing is drawn
 abbrev pub tick : DeviceEvent
@@ -32,6 +38,37 @@ abbrev pub plain_records : List Record
 plain_records =
     records.Accepted 1 (record { node = 2; end = 0; what = Value On }) ∷ records.Begun 2 1 1 ∷ records.Final 2 1 Success ∷ []
 
+-- ---- by lines alone
+
+-- `local 2 1`: a switch is turned on by hand, and tells it
+abbrev pub by_hand : List Entry
+by_hand = Said (codes "local 2 1") ∷ Dev 2 Local (setting 0 names.Switch 255) ∷ Air 1 2 1 [] (bytes (codes "2503FF")) ∷ []
+
+abbrev pub hand_events : List DeviceEvent
+hand_events = Sets 1 ∷ []
+
+-- `tick 1`: a tick passes
+abbrev pub one_tick : List Entry
+one_tick = Said (codes "tick 1") ∷ []
+
+-- `wake 5`, `join 5`: a sensor that has not joined is woken, and says so on no air
+abbrev pub woken_apart : List Entry
+woken_apart = Said (codes "wake 5") ∷ Said (codes "join 5") ∷ []
+
+-- ---- with one thing wrong
+
+-- the switch that was turned on by hand has fallen asleep
+abbrev pub gone_asleep : State
+gone_asleep = record (after_events the_switch hand_events) { awake = false }
+
+-- no line turns the switch on
+abbrev pub not_by_hand : List Entry
+not_by_hand = drop 1 by_hand
+
 -- the plain exchange without the entry of the change
 abbrev pub unshown : List Entry
 unshown = take 11 plain_exchange ++ drop 12 plain_exchange
+
+-- the switch does not tell that it was turned on
+abbrev pub kept_silent : List Entry
+kept_silent = take 2 by_hand

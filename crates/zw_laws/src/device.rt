@@ -4,22 +4,35 @@ ghost use Rattle.std.specs.Prelude.{◌≡◌, true, [], ◌∷◌, Some, None};
 ghost use Rattle.zw_base.specs.declared.property.Name.TheVariants as names;
 ghost use Rattle.host_orders.specs.Settings.{setting};
 ghost use Rattle.host_keep.specs.Kept.{kept_of, node_of};
+ghost use Rattle.device_sim.specs.Event.DeviceEvent.{Wakes};
 ghost use Rattle.zw_text.specs.declared.entry.Entry.TheVariants.{TableEnd, TableNode, TableValue, Device};
 ghost use Rattle.zw_laws.specs.Nodes.{listing_of};
 ghost use Rattle.zw_laws.specs.Devices.{RanAsShown, after_events};
 ghost use Rattle.zw_laws.specs.Records.{ShowsNode};
 ghost use Rattle.zw_laws.specs.Table.{table_of};
 ghost use Rattle.zw_laws.specs.Worked.{plain_exchange, sleeping_node, the_switch, the_sensor, with_journal, turned_on, set_apart};
-ghost use Rattle.zw_laws.specs.WorkedDevices.{switch_events, sensor_events, plain_records, unshown};
+ghost use Rattle.zw_laws.specs.WorkedDevices.{tick, switch_events, sensor_events, hand_events, plain_records, by_hand, one_tick, woken_apart, gone_asleep, not_by_hand, unshown, kept_silent};
 
-/// The devices of worked transcripts did what these show, and changed as the once-only law was shown them. A change that is
-/// not shown breaks the law.
+/// The devices of worked transcripts did what these show, and changed as the once-only law was shown them. A device that was woken before it
+/// joined did what is shown too, though what it said then is on no air.
 pub fn worked_devices()
     ensures plain { RanAsShown 2 plain_exchange the_switch (after_events the_switch switch_events) }
     ensures turned_on { (after_events the_switch switch_events).journal ≡ turned_on }
     ensures sleeping { RanAsShown 5 sleeping_node the_sensor (after_events the_sensor sensor_events) }
     ensures set_apart { (after_events the_sensor sensor_events).journal ≡ set_apart }
-    ensures unshown { RanAsShown 2 unshown the_switch (with_journal the_switch turned_on) → ⊥ }
+    ensures by_hand { RanAsShown 2 by_hand the_switch (after_events the_switch hand_events) }
+    ensures ticked { RanAsShown 2 one_tick the_switch (after_events the_switch (tick ∷ [])) }
+    ensures apart { RanAsShown 5 woken_apart the_sensor (after_events the_sensor (Wakes ∷ [])) }
+{}
+
+/// Each of these breaks one part of the law of devices: a device is other than what came makes it, came to it what no line brings, did not live a
+/// tick, changed and that is not shown, or did not tell what it had to.
+pub fn rejected_devices()
+    ensures asleep { RanAsShown 2 by_hand the_switch gone_asleep → ⊥ }
+    ensures unasked { RanAsShown 2 not_by_hand the_switch (after_events the_switch hand_events) → ⊥ }
+    ensures unticked { RanAsShown 2 one_tick the_switch the_switch → ⊥ }
+    ensures unshown { RanAsShown 2 unshown the_switch (after_events the_switch switch_events) → ⊥ }
+    ensures silent { RanAsShown 2 kept_silent the_switch (after_events the_switch hand_events) → ⊥ }
 {}
 
 /// The table of a plain exchange, and what its records give of the node.

@@ -1,9 +1,10 @@
-use Rattle.std.proofs.Common.{◌≡◌, ℕ, List, length, refl, ap, arith}
-use Rattle.std.specs.List.{flat_map}
-use Rattle.device_stack.specs.declared.change.Change.{Change}
-use Rattle.zw_laws.specs.Devices.{made_by}
+use Rattle.std.proofs.Common.{◌≡◌, [], ◌∷◌, length, refl, ap, arith}
+use Rattle.zw_base.specs.declared.property.Name.TheVariants as names
+use Rattle.zw_base.specs.declared.property.By.TheVariants.{Local}
+use Rattle.host_orders.specs.Settings.{setting}
+use Rattle.device_sim.specs.Event.DeviceEvent.{Wakes}
 use Rattle.zw_laws.specs.Worked.{turned_on, set_apart}
-use Rattle.zw_laws.specs.WorkedDevices.{switch_events, sensor_events}
+use Rattle.zw_laws.specs.WorkedDevices.{tick, switch_events, sensor_events, hand_events}
 use Rattle.zw_laws.proofs.Computing.{computing_devices}
 use Rattle.zw_laws.proofs.device.worked_devices.Goals as goal
 
@@ -17,7 +18,7 @@ returns-clause-plain c = record {
   ticked = refl;
   changed = refl;
   entered = refl;
-  answered = λ joined. refl;
+  answered = λ came. refl;
 }
 
 pub returns-clause-turned_on : goal.returns-clause-turned_on
@@ -34,19 +35,52 @@ returns-clause-sleeping c = record {
   ticked = refl;
   changed = refl;
   entered = refl;
-  answered = λ joined. refl;
+  answered = λ came. refl;
 }
 
 pub returns-clause-set_apart : goal.returns-clause-set_apart
 unfolding computing_devices
 returns-clause-set_apart c = refl
 
--- no setting is shown, and one was made
-none_and_one : (shown made : ℕ) → 0 ≡ made → 1 ≡ made → ⊥
-none_and_one shown made none one = omega (arith, none, one)
-
-pub returns-clause-unshown : goal.returns-clause-unshown
+pub returns-clause-by_hand : goal.returns-clause-by_hand
 unfolding computing_devices
-returns-clause-unshown c = λ law.
-    none_and_one 0 (length (flat_map made_by law.changes)) (ap length law.entered)
-    (ap (λ (changes : List Change). length (flat_map made_by changes)) law.changed)
+returns-clause-by_hand c = record {
+  events = hand_events;
+  changes = record { by = Local; settings = setting 0 names.Switch 255 ∷ [] } ∷ [];
+  runs = refl;
+  came = refl;
+  ticked = refl;
+  changed = refl;
+  entered = refl;
+  answered = λ came. refl;
+}
+
+pub returns-clause-ticked : goal.returns-clause-ticked
+unfolding computing_devices
+returns-clause-ticked c = record {
+  events = tick ∷ [];
+  changes = [];
+  runs = refl;
+  came = refl;
+  ticked = refl;
+  changed = refl;
+  entered = refl;
+  answered = λ came. refl;
+}
+
+-- a list of one is not empty
+one_none : {A : Type 0} (item : A) → item ∷ [] ≡ [] → ⊥
+one_none item same = omega (arith, ap length same)
+
+pub returns-clause-apart : goal.returns-clause-apart
+unfolding computing_devices
+returns-clause-apart c = record {
+  events = Wakes ∷ [];
+  changes = [];
+  runs = refl;
+  came = refl;
+  ticked = refl;
+  changed = refl;
+  entered = refl;
+  answered = λ came. absurd (one_none _ came);
+}

@@ -1,0 +1,59 @@
+-- Which events a device had, by what came in them and how many ticks they are.
+use Rattle.std.proofs.Common.{◌≡◌, ℕ, suc, ◌+◌, List, [], ◌∷◌, length, refl, ap, subst, arith}
+use Rattle.std.specs.Prelude.{◌≤◌}
+use Rattle.device_sim.specs.Event.{DeviceEvent}
+use Rattle.device_sim.specs.Event.DeviceEvent.{Hears, Ticks, Wakes, Sets}
+use Rattle.zw_laws.specs.Devices.{Coming, ComingAt, coming_of, comings, ticks_lived}
+use Rattle.zw_laws.specs.Devices.Coming.{Payload, Woken, SetTo}
+use Rattle.zw_laws.specs.Lists.{shown_after}
+
+-- what comes in events behind others
+abbrev pub came_behind : List DeviceEvent → List DeviceEvent → List ComingAt
+came_behind past events = shown_after (λ past event. coming_of (ticks_lived past) event) past events
+
+-- numbers that tell apart what comes first, and how many ticks come before it
+abbrev pub coming_tag : Coming → ℕ
+coming_tag (Payload bytes) = 1
+coming_tag Woken = 2
+coming_tag (SetTo value) = 3 + value
+
+abbrev pub first_tag : List ComingAt → ℕ
+first_tag [] = 0
+first_tag (one ∷ more) = coming_tag one.coming
+
+-- no tick passed and nothing came
+pub nothing_behind : (past events : List DeviceEvent) → ticks_lived events ≤ 0 → length (came_behind past events) ≤ 0 → events ≡ []
+nothing_behind past [] ticked few = refl
+nothing_behind past (Hears payload drawn ∷ events) ticked few = absurd (omega (arith, few))
+nothing_behind past (Ticks drawn ∷ events) ticked few = absurd (omega (arith, ticked))
+nothing_behind past (Wakes ∷ events) ticked few = absurd (omega (arith, few))
+nothing_behind past (Sets value ∷ events) ticked few = absurd (omega (arith, few))
+
+pub nothing_came : (events : List DeviceEvent) → comings events ≡ [] → ticks_lived events ≡ 0 → events ≡ []
+nothing_came events came ticked = nothing_behind [] events (omega (arith, ticked)) (omega (arith, ap length came))
+
+-- one tick passed and nothing came
+pub only_ticked : (events : List DeviceEvent) → comings events ≡ [] → ticks_lived events ≡ 1 → (drawn : List ℕ) × (events ≡ Ticks drawn ∷ [])
+only_ticked [] came ticked = absurd (omega (arith, ticked))
+only_ticked (Hears payload drawn ∷ events) came ticked = absurd (omega (arith, ap length came))
+only_ticked (Ticks drawn ∷ events) came ticked =
+    (drawn, ap (λ (rest : List DeviceEvent). Ticks drawn ∷ rest) (nothing_behind (Ticks drawn ∷ []) events (omega (arith, ticked)) (omega (arith, ap length came))))
+only_ticked (Wakes ∷ events) came ticked = absurd (omega (arith, ap length came))
+only_ticked (Sets value ∷ events) came ticked = absurd (omega (arith, ap length came))
+
+-- the first event, where no tick passed, is that which brings what came first
+set_first : (events : List DeviceEvent) (value : ℕ) → first_tag (comings events) ≡ 3 + value → ticks_lived events ≤ 0
+    → length (comings events) ≤ 1 → events ≡ Sets value ∷ []
+set_first [] value came ticked few = absurd (omega (arith, came))
+set_first (Hears payload drawn ∷ events) value came ticked few = absurd (omega (arith, came))
+set_first (Ticks drawn ∷ events) value came ticked few = absurd (omega (arith, ticked))
+set_first (Wakes ∷ events) value came ticked few = absurd (omega (arith, came))
+set_first (Sets other ∷ events) value came ticked few =
+    let same : other ≡ value = omega (arith, came) in
+    subst (λ (number : ℕ). Sets other ∷ events ≡ Sets number ∷ []) same
+    (ap (λ (rest : List DeviceEvent). Sets other ∷ rest) (nothing_behind (Sets other ∷ []) events (omega (arith, ticked)) (omega (arith, few))))
+
+-- no tick passed and a line alone set it
+pub only_set : (events : List DeviceEvent) (value : ℕ) → comings events ≡ record { ticks = 0; coming = SetTo value } ∷ [] → ticks_lived events ≡ 0
+    → events ≡ Sets value ∷ []
+only_set events value came ticked = set_first events value (ap first_tag came) (omega (arith, ticked)) (omega (arith, ap length came))
