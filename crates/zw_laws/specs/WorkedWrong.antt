@@ -22,6 +22,11 @@ begun_twice =
     Written Chip (bytes (codes "010B00040002056C0201FF0067")) ∷ Written Host (bytes (codes "06")) ∷
     Out 1 endings.Success ∷ Store 2 (setting 0 names.Switch 255) ∷ []
 
+-- the first session that begins has the second number
+abbrev pub begun_ahead : List Entry
+begun_ahead =
+    Said (codes "set 2 on") ∷ Accepted 1 2 ∷ Begin 2 2 1 ∷ []
+
 -- a second session begins before the first has come to its end
 abbrev pub begun_early : List Entry
 begun_early =

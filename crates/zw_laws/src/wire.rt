@@ -6,7 +6,7 @@ ghost use Rattle.zw_laws.specs.Carrying.{CarriesUnits, BringsWhatWasHeard};
 ghost use Rattle.zw_laws.specs.Payloads.{SendsWhatIsDue, BeginsWithUnit};
 ghost use Rattle.zw_laws.specs.Causes.{EachHasCause};
 ghost use Rattle.zw_laws.specs.Worked.{plain_exchange, repeated_exchange, lossy_exchange, cancelled_order, restarted_host, sleeping_node, sealed_exchange, long_message, the_switch, the_sensor, the_plug};
-ghost use Rattle.zw_laws.specs.WorkedWrongWire.{aired_unasked, aired_twice, brought_unheard, begun_silently, told_by_none, woken_by_none, old_from_none, interviewed_by_none, reported_by_none};
+ghost use Rattle.zw_laws.specs.WorkedWrongWire.{aired_unasked, aired_twice, brought_unheard, sent_otherwise, begun_silently, told_by_none, woken_by_none, old_from_none, interviewed_by_none, reported_by_none};
 
 /// In worked transcripts the controller's frames are those that units asked for.
 pub fn worked_units()
@@ -50,6 +50,7 @@ pub fn rejected_wire()
     ensures aired { CarriesUnits aired_unasked → ⊥ }
     ensures twice { CarriesUnits aired_twice → ⊥ }
     ensures brought { BringsWhatWasHeard brought_unheard → ⊥ }
+    ensures otherwise { SendsWhatIsDue (listing_of (the_switch ∷ [])) [] sent_otherwise → ⊥ }
     ensures silently { BeginsWithUnit begun_silently → ⊥ }
     ensures told { EachHasCause (listing_of (the_switch ∷ [])) [] told_by_none → ⊥ }
     ensures woken { EachHasCause (listing_of (the_sensor ∷ [])) [] woken_by_none → ⊥ }

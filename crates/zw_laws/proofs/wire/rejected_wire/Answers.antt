@@ -11,6 +11,34 @@ last_byte before (byte ∷ bytes) = last_byte byte bytes
 off_on : ◌≡◌ {A = ℕ} 0 255 → ⊥
 off_on e = omega (arith, e)
 
+-- the first and the third byte of a payload
+abbrev first_byte : List ℕ → ℕ
+first_byte [] = 0
+first_byte (byte ∷ bytes) = byte
+
+abbrev third_byte : List ℕ → ℕ
+third_byte (one ∷ two ∷ three ∷ bytes) = three
+third_byte _ = 0
+
+two_one : ◌≡◌ {A = ℕ} 2 1 → ⊥
+two_one e = omega (arith, e)
+
+no_nonce : ◌≡◌ {A = ℕ} 0x6C 0x98 → ⊥
+no_nonce e = omega (arith, e)
+
+no_wake : ◌≡◌ {A = ℕ} 0x6C 0x84 → ⊥
+no_wake e = omega (arith, e)
+
+pub returns-clause-otherwise : goal.returns-clause-otherwise
+unfolding computing
+returns-clause-otherwise c = λ law. elim law.1.1.1.0.0 [
+  | inl said ↦ two_one (ap third_byte said)
+  | inr (inl nonce) ↦ no_nonce (ap first_byte nonce)
+  | inr (inr (inl report)) ↦ report.asked
+  | inr (inr (inr (inl more))) ↦ no_wake (ap first_byte more)
+  | inr (inr (inr (inr asked))) ↦ asked
+]
+
 pub returns-clause-aired : goal.returns-clause-aired
 unfolding computing
 returns-clause-aired c = λ law. elim law.1.1.1.1.1.1.0 [ inl picked ↦ off_on (ap (λ (carried : Carried). last_byte 0 carried.payload) picked.0) | inr never ↦ never ]
