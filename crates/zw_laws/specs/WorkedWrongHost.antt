@@ -72,6 +72,11 @@ abbrev pub passed_over : List Entry
 passed_over =
     Said (codes "set 2 on") ∷ Accepted 1 2 ∷ Said (codes "cancel 1") ∷ Time 1 ∷ []
 
+-- a line takes one command back, and another is
+abbrev pub cancelled_another : List Entry
+cancelled_another =
+    Said (codes "set 2 on") ∷ Accepted 1 2 ∷ Said (codes "set 2 off") ∷ Accepted 2 2 ∷ Said (codes "cancel 1") ∷ Out 2 endings.Cancelled ∷ []
+
 -- a success confirms nothing
 abbrev pub not_stored : List Entry
 not_stored =
@@ -160,6 +165,11 @@ left_flying =
     Written Chip (bytes (codes "010500130100E8")) ∷ Written Host (bytes (codes "06")) ∷ Time 2 ∷
     Written Chip (bytes (codes "010B00040002056C0201FF0067")) ∷ Written Host (bytes (codes "06")) ∷
     Out 1 endings.Success ∷ Store 2 (setting 0 names.Switch 255) ∷ Time 3 ∷ []
+
+-- a frame has no fate before the next line
+abbrev pub left_by_line : List Entry
+left_by_line =
+    Air 1 2 1 [] (bytes (codes "2503FF")) ∷ Time 1 ∷ Said (codes "tick 1") ∷ []
 
 -- a frame is repeated that was never sent
 abbrev pub repeated_unsent : List Entry

@@ -5,7 +5,7 @@ ghost use Rattle.zw_laws.specs.Nodes.{listing_of};
 ghost use Rattle.zw_laws.specs.Answers.{AnswersLines, CancelsWhenAsked};
 ghost use Rattle.zw_laws.specs.Stores.{StoresConfirmed};
 ghost use Rattle.zw_laws.specs.Worked.{plain_exchange, repeated_exchange, lossy_exchange, cancelled_order, restarted_host, sleeping_node, sealed_exchange, refused_lines, long_message, the_switch, the_sensor, the_lock, the_plug};
-ghost use Rattle.zw_laws.specs.WorkedWrongHost.{unanswered, unanswered_at_last, failed_for_nothing, line_refused, line_numbered, refused_freely, numbered_wrongly, answered_unasked, joined_again, cancelled_unasked, cancelled_late, passed_over, not_stored, stored_otherwise, stored_before};
+ghost use Rattle.zw_laws.specs.WorkedWrongHost.{unanswered, unanswered_at_last, failed_for_nothing, line_refused, line_numbered, refused_freely, numbered_wrongly, answered_unasked, joined_again, cancelled_unasked, cancelled_late, cancelled_another, passed_over, not_stored, stored_otherwise, stored_before};
 
 /// In worked transcripts each line has the answer that is due.
 pub fn worked_answers()
@@ -29,7 +29,7 @@ pub fn worked_stores()
 
 /// Each of these breaks one part of the laws: an order without its answer, also as the last line, refused for nothing, with a wrong number, or failed
 /// by the keeper though it is refused anyway; an answer to no line; another line refused for nothing, or with a number, or let pass though it should
-/// have been refused; a command taken back unasked, or after it began, or not though a line asks for it; and a success that confirms nothing, or
+/// have been refused; a command taken back unasked, after it began, for another one, or not though a line asks for it; and a success that confirms nothing, or
 /// another value, which no run may, or too late.
 pub fn rejected_answers()
     ensures unanswered { AnswersLines true (the_switch ∷ []) unanswered → ⊥ }
@@ -43,6 +43,7 @@ pub fn rejected_answers()
     ensures again { AnswersLines true (the_switch ∷ []) joined_again → ⊥ }
     ensures cancelled { CancelsWhenAsked cancelled_unasked → ⊥ }
     ensures late { CancelsWhenAsked cancelled_late → ⊥ }
+    ensures another { AnswersLines true (the_switch ∷ []) cancelled_another → ⊥ }
     ensures passed { AnswersLines true (the_switch ∷ []) passed_over → ⊥ }
     ensures not_stored { StoresConfirmed true (listing_of (the_switch ∷ [])) not_stored → ⊥ }
     ensures otherwise { StoresConfirmed false (listing_of (the_switch ∷ [])) stored_otherwise → ⊥ }

@@ -6,7 +6,7 @@ ghost use Rattle.zw_laws.specs.Sessions.{KeepsSessions};
 ghost use Rattle.zw_laws.specs.Once.{Once, SucceedsAfterChange};
 ghost use Rattle.zw_laws.specs.Values.{ConfirmsLast};
 ghost use Rattle.zw_laws.specs.Worked.{plain_exchange, repeated_exchange, lossy_exchange, cancelled_order, restarted_host, sleeping_node, sealed_exchange, long_message, the_switch, the_sensor, the_lock, the_plug, with_journal, turned_on, turned_on_and_off, set_apart, secured, configured};
-ghost use Rattle.zw_laws.specs.WorkedWrong.{begun_twice, begun_ahead, begun_early, told_early, begun_backwards, begun_unasked, told_otherwise, not_begun, turned_twice, turned_later, turned_off, turned_plainly};
+ghost use Rattle.zw_laws.specs.WorkedWrong.{begun_twice, begun_ahead, begun_early, told_early, begun_backwards, begun_unasked, told_otherwise, not_begun, turned_twice, turned_later, turned_before, turned_off, turned_plainly};
 
 /// In worked transcripts sessions begin one after another, over a restart too.
 pub fn worked_sessions()
@@ -48,7 +48,7 @@ pub fn worked_values()
 {}
 
 /// Each of these breaks one part of the law: a session that begins twice, before one that comes first, or before the last has ended; success before the
-/// change; a journal with the change twice, or by a session that never began; commands out of order, or never accepted; a
+/// change; a journal with the change twice, or by a session that never began or a session 0; commands out of order, or never accepted; a
 /// change that is not what was asked; success without a change; a change of a command that failed, or still waits; a change
 /// without a session; and a confirmed value that is not the device's.
 pub fn rejected_once()
@@ -58,6 +58,7 @@ pub fn rejected_once()
     ensures told_early { SucceedsAfterChange told_early → ⊥ }
     ensures twice { Once (listing_of (the_switch ∷ [])) 2 plain_exchange turned_twice → ⊥ }
     ensures later { Once (listing_of (the_switch ∷ [])) 2 plain_exchange turned_later → ⊥ }
+    ensures none { Once (listing_of (the_switch ∷ [])) 2 plain_exchange turned_before → ⊥ }
     ensures backwards { Once (listing_of (the_switch ∷ [])) 2 begun_backwards turned_off → ⊥ }
     ensures unasked { Once (listing_of (the_switch ∷ [])) 2 begun_unasked turned_on → ⊥ }
     ensures off { Once (listing_of (the_switch ∷ [])) 2 plain_exchange turned_off → ⊥ }

@@ -67,3 +67,10 @@ returns-clause-otherwise c = λ law. one_two (ap repeated_by law.1.1.1.1.1.1.1.1
 pub returns-clause-marked_unheard : goal.returns-clause-marked_unheard
 unfolding computing
 returns-clause-marked_unheard c = λ law. law.1.1.1.1.0 (inl refl)
+
+none_one : ◌≡◌ {A = ℕ} 0 1 → ⊥
+none_one e = omega (arith, e)
+
+pub returns-clause-left_by_line : goal.returns-clause-left_by_line
+unfolding computing
+returns-clause-left_by_line c = λ law. none_one law.1.1.0

@@ -115,3 +115,7 @@ returns-clause-line_refused c = λ law. law.between.1.0
 pub returns-clause-line_numbered : goal.returns-clause-line_numbered
 unfolding computing
 returns-clause-line_numbered c = λ law. law.between.1.0
+
+pub returns-clause-another : goal.returns-clause-another
+unfolding computing
+returns-clause-another c = λ law. two_one law.between.1.1.1.1.1.0

@@ -67,3 +67,7 @@ returns-clause-value c = λ law. apart (sym (ap (λ (value : Option ℕ). unwrap
 pub returns-clause-begun_ahead : goal.returns-clause-begun_ahead
 unfolding computing
 returns-clause-begun_ahead c = λ law. omega (arith, law.1.1.0.0)
+
+pub returns-clause-none : goal.returns-clause-none
+unfolding computing
+returns-clause-none c = λ law. omega (arith, law.sessions_begun.0.0)

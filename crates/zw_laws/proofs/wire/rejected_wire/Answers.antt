@@ -1,4 +1,9 @@
-use Rattle.std.proofs.Common.{◌≡◌, ℕ, List, [], ◌∷◌, ap, inl, inr, arith}
+use Rattle.std.proofs.Common.{◌≡◌, ℕ, Bool, true, false, List, [], ◌∷◌, ◌++◌, Option, Some, length, unwrap_or, ap, inl, inr, arith}
+use Rattle.std.specs.Prelude.{◌==◌, if◌then◌else◌}
+use Rattle.supervision.specs.Host.{command_at}
+use Rattle.chip_functions.specs.declared.notice.Notice.{Notice}
+use Rattle.chip_functions.specs.declared.notice.Notice.TheVariants.{ApplicationUpdate}
+use Rattle.chip_functions.specs.declared.notice.Update.TheVariants.{Received}
 use Rattle.zw_laws.specs.Units.{Carried}
 use Rattle.zw_laws.proofs.Computing.{computing}
 use Rattle.zw_laws.proofs.wire.rejected_wire.Goals as goal
@@ -54,6 +59,43 @@ returns-clause-brought c = λ law. law.1.1.1.1.1.1.1.1.1.1.1.1.1.0.0
 pub returns-clause-silently : goal.returns-clause-silently
 unfolding computing
 returns-clause-silently c = λ law. law.1.1.1.0
+
+three_two : ◌≡◌ {A = ℕ} 3 2 → ⊥
+three_two e = omega (arith, e)
+
+four_none : ◌≡◌ {A = ℕ} 4 0 → ⊥
+four_none e = omega (arith, e)
+
+one_two : ◌≡◌ {A = ℕ} 1 2 → ⊥
+one_two e = omega (arith, e)
+
+none_two : ◌≡◌ {A = ℕ} 0 2 → ⊥
+none_two e = omega (arith, e)
+
+pub returns-clause-elsewhere : goal.returns-clause-elsewhere
+unfolding computing
+returns-clause-elsewhere c = λ law. three_two law.1.1.1.0
+
+-- the session of the one command carries no other, of whichever node
+abbrev begun_if : Bool → List ℕ
+begun_if is = (if is then 1 ∷ [] else []) ++ []
+
+carries_one : (is : Bool) → command_at (begun_if is) (length (begun_if is)) ≡ Some 2 → ⊥
+carries_one true carries = one_two (ap (λ (number : Option ℕ). unwrap_or number 0) carries)
+carries_one false carries = none_two (ap (λ (number : Option ℕ). unwrap_or number 0) carries)
+
+pub returns-clause-another : goal.returns-clause-another
+unfolding computing
+returns-clause-another c = λ law. carries_one (2 == law.1.1.1.1.0.node) law.1.1.1.1.0.carries
+
+-- how many classes an information tells
+abbrev classes_in : Notice → ℕ
+classes_in (ApplicationUpdate (Received node basic generic specific classes)) = length classes
+classes_in _ = 0
+
+pub returns-clause-other_classes : goal.returns-clause-other_classes
+unfolding computing
+returns-clause-other_classes c = λ law. elim law.1.0.came [ inl same ↦ four_none (ap classes_in same) | inr never ↦ never ]
 
 pub returns-clause-told : goal.returns-clause-told
 unfolding computing
