@@ -67,6 +67,18 @@ told_by_none =
     Written Chip (bytes (codes "010500130100E8")) ∷ Written Host (bytes (codes "06")) ∷ Time 2 ∷ Heard 2 ∷
     Out 1 endings.Success ∷ []
 
+-- failure is reported though the report tells of success
+abbrev pub told_of_failure : List Entry
+told_of_failure =
+    Said (codes "set 2 on") ∷ Accepted 1 2 ∷ Begin 2 1 1 ∷ Written Chip (bytes (codes "010B00040002056C0201FF0067")) ∷
+    Out 1 endings.Fail ∷ []
+
+-- success is reported of a lock whose report is not sealed
+abbrev pub told_openly : List Entry
+told_openly =
+    Written Chip (bytes (codes "010C004984040604000062986CAE")) ∷ Interviewed 4 ∷ Said (codes "set 4 on") ∷ Accepted 1 4 ∷ Begin 4 1 1 ∷
+    Written Chip (bytes (codes "010B00040004056C0201FF0061")) ∷ Out 1 endings.Success ∷ []
+
 -- a node counts as awake though it has not told so
 abbrev pub woken_by_none : List Entry
 woken_by_none =
