@@ -23,7 +23,7 @@ use Rattle.device_stack.specs.Hearing.{answers, answers_bytes, hears_openly, hea
 use Rattle.device_stack.specs.Judging.{judged_message}
 use Rattle.device_stack.specs.Showing.{shown_of}
 use Rattle.device_stack.specs.Telling.{told}
-use Rattle.device_stack.specs.Ticking.{ticked, woken}
+use Rattle.device_stack.specs.Ticking.{ticked, woken, set_by_hand}
 
 -- what an answer unfolds to compute what a transcript shows
 unfoldable pub reckoning : ⊤
@@ -33,6 +33,6 @@ unfolding mask_of next ends last digits_in number_in between_in target_in value_
     request_failed_at handler_at callback_at add_notice_at update_at notice_at notice_of heard_at byte_at limited_at bits_at
     switch_at lock_at word_at three_at flag_at in_class interval_set_at message_at status_at supervision_report_at
     transport_request_at own_at shared_at info_at opened_at times_generator dividend left_after crc outcome_of device_after
-    device_replies effect_of answers answers_bytes hears_openly hears judged_message shown_of told ticked woken first_nodes
+    device_replies effect_of answers answers_bytes hears_openly hears judged_message shown_of told ticked woken set_by_hand first_nodes
     after_all
 reckoning = tt

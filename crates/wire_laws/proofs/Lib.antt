@@ -1,4 +1,5 @@
 mod Computing
+mod Halting
 mod Plain
 mod Silence
 pub mod Walks

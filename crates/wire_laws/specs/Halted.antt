@@ -1,6 +1,6 @@
 -- What a device did in a run that want of memory ended in its last line (this project's own model of devices): as the transcript shows up to that
 -- line; of the last line something may not have come to it, or not have been entered.
-use Rattle.std.specs.Prelude.{◌≡◌, ◌≤◌, ℕ, suc, if◌then◌else◌, List, [], ◌∷◌, ◌++◌, length}
+use Rattle.std.specs.Prelude.{◌≡◌, ◌≤◌, ℕ, suc, List, [], ◌∷◌, ◌++◌, length}
 use Rattle.std.specs.List.{flat_map}
 use Rattle.device_stack.specs.declared.change.Change.{Change}
 use Rattle.device_sim.specs.State.{State}
@@ -8,9 +8,8 @@ use Rattle.device_sim.specs.Event.{DeviceEvent}
 use Rattle.zw_text.specs.declared.entry.Entry.{Entry}
 use Rattle.zw_text.specs.declared.entry.Entry.TheVariants.{Said}
 use Rattle.zw_text.specs.Transcript.{made, lines_run}
-use Rattle.zw_laws.specs.Devices.{ComingAt, after_events, brought, brought_at, comings, made_by, replies_in, sent_from, ticks_lived}
-use Rattle.zw_laws.specs.Lists.{IsFrontOf, shown_after}
-use Rattle.zw_laws.specs.Nodes.{is_joined}
+use Rattle.zw_laws.specs.Devices.{CameJoined, after_events, brought, comings, made_by, replies_in, sent_from, ticks_lived}
+use Rattle.zw_laws.specs.Lists.{IsFrontOf}
 use Rattle.zw_laws.specs.Restarts.{ticks_asked}
 
 -- the entries before the last line
@@ -21,14 +20,6 @@ before_line_from found past (entry ∷ rest) = before_line_from found (past ++ e
 
 abbrev pub before_line : List Entry → List Entry
 before_line transcript = before_line_from [] [] transcript
-
--- what comes to a node while it is not joined; it sends nothing then
-abbrev pub brought_unjoined_at : ℕ → List Entry → Entry → List ComingAt
-brought_unjoined_at node past entry = if is_joined past node then [] else brought_at node past entry
-
--- all that came to it came when it was joined
-abbrev pub CameJoined : ℕ → List Entry → Type 0
-CameJoined node transcript = shown_after (brought_unjoined_at node) [] transcript ≡ []
 
 -- the device of a node went from its state at entry to that at exit by what the transcript shows before the last line, and then by a front of
 -- what it shows of the last line with what was not entered: at most one payload more and its changes. Its answers before the last line are

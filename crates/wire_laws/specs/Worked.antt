@@ -153,3 +153,10 @@ the_switches = fresh 2 kinds.Switch [] ∷ fresh 10 kinds.Switch [] ∷ fresh 18
 -- lines by which a node joins that hears another one alone
 abbrev pub over_two : List Entry
 over_two = Said (codes "link 2 10") ∷ Said (codes "join 10") ∷ []
+
+-- lines by which a node joins before it has a link, and by which one comes to be heard over another one alone: the chip has not learned these links
+abbrev pub not_learned : List Entry
+not_learned = Said (codes "join 5") ∷ Said (codes "link 1 5") ∷ []
+
+abbrev pub moved_away : List Entry
+moved_away = over_two ++ Said (codes "link 1 10") ∷ Said (codes "unlink 1 2") ∷ []

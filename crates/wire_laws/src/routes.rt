@@ -1,11 +1,13 @@
 //! What the law of routes says of worked transcripts, and of others with one thing wrong.
 
 ghost use Rattle.std.specs.Prelude.{[], ◌∷◌, codes};
-ghost use Rattle.zw_laws.specs.Worked.{plain_exchange, the_switch};
+ghost use Rattle.zw_laws.specs.Worked.{plain_exchange, the_sensor, the_switch};
 ghost use Rattle.zw_text.specs.declared.entry.Entry.TheVariants.{Said};
+ghost use Rattle.route_table.specs.Walk.{Walk};
+ghost use Rattle.wire_laws.specs.Networks.{air_network};
 ghost use Rattle.wire_laws.specs.Reach.{CanBeReached};
 ghost use Rattle.wire_laws.specs.Routes.{GoesByRoute};
-ghost use Rattle.wire_laws.specs.Worked.{over_two, rerouted, the_switches};
+ghost use Rattle.wire_laws.specs.Worked.{moved_away, not_learned, over_two, rerouted, the_switches};
 ghost use Rattle.wire_laws.specs.WorkedWrong.{detoured, second_choice, straight_home, from_a_stranger};
 
 /// In worked transcripts each frame goes over the route of its moment: a direct one, and one of two over a repeater, before and
@@ -24,11 +26,18 @@ pub fn rejected_routes()
     ensures stranger { GoesByRoute (the_switch ∷ []) from_a_stranger → ⊥ }
 {}
 
-/// A node can be reached directly, and over a repeater. It cannot where no link leads to it, nor where the chip's route to it has a link that is
-/// not live.
+/// A node can be reached directly, and over a repeater. The one that moved away, which cannot, has a way over another node.
 pub fn worked_reach()
     ensures plain { CanBeReached (the_switch ∷ []) [] 2 }
     ensures over_one { CanBeReached the_switches over_two 10 }
+    ensures other_way { Walk (air_network the_switches moved_away) 2 (10 ∷ []) }
+{}
+
+/// A node cannot be reached where no link leads to it, where the one that did is dead, where the chip has not learned the link by which it could be,
+/// nor where the chip's route to it has a link that is not live, though it could be reached over another node.
+pub fn rejected_reach()
     ensures apart { CanBeReached (the_switch ∷ []) [] 5 → ⊥ }
     ensures dead { CanBeReached (the_switch ∷ []) (Said (codes "unlink 1 2") ∷ []) 2 → ⊥ }
+    ensures not_learned { CanBeReached (the_switch ∷ the_sensor ∷ []) not_learned 5 → ⊥ }
+    ensures moved_away { CanBeReached the_switches moved_away 2 → ⊥ }
 {}

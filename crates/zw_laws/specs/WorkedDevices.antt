@@ -1,5 +1,5 @@
 -- What happened to the devices of worked transcripts, the records of a plain exchange, small transcripts of devices, and others with one thing wrong.
-use Rattle.std.specs.Prelude.{ℕ, false, List, [], ◌∷◌, ◌++◌, codes, take, drop}
+use Rattle.std.specs.Prelude.{ℕ, false, List, [], ◌∷◌, ◌++◌, codes, take, drop, Some, None}
 use Rattle.zw_base.specs.declared.property.Name.TheVariants as names
 use Rattle.zw_base.specs.declared.property.By.TheVariants.{Local}
 use Rattle.zw_order.specs.declared.order.Word.TheVariants.{On}
@@ -8,9 +8,10 @@ use Rattle.host_orders.specs.Settings.{setting}
 use Rattle.device_sim.specs.State.{State}
 use Rattle.device_sim.specs.Event.{DeviceEvent}
 use Rattle.device_sim.specs.Event.DeviceEvent.{Hears, Ticks, Wakes, Sets}
-use Rattle.host_keep.specs.declared.final_status.FinalStatus.TheVariants.{Success}
+use Rattle.host_keep.specs.declared.final_status.FinalStatus.TheVariants.{Fail, Success}
 use Rattle.host_keep.specs.declared.record.Record.{Record}
 use Rattle.host_keep.specs.declared.record.Record.TheVariants as records
+use Rattle.host_keep.specs.Kept.{KeptNode, kept_of, node_of}
 use Rattle.zw_text.specs.declared.entry.Entry.{Entry}
 use Rattle.zw_text.specs.declared.entry.Entry.TheVariants.{Said, Air, Dev}
 use Rattle.zw_laws.specs.Devices.{after_events}
@@ -37,6 +38,10 @@ sensor_events =
 abbrev pub plain_records : List Record
 plain_records =
     records.Accepted 1 (record { node = 2; end = 0; what = Value On }) ∷ records.Begun 2 1 1 ∷ records.Final 2 1 Success ∷ []
+
+-- what is kept of the switch by these records
+abbrev pub plain_kept : KeptNode
+plain_kept = node_of (kept_of plain_records) 2
 
 -- ---- by lines alone
 
@@ -68,6 +73,22 @@ not_by_hand = drop 1 by_hand
 -- the plain exchange without the entry of the change
 abbrev pub unshown : List Entry
 unshown = take 11 plain_exchange ++ drop 12 plain_exchange
+
+-- what is kept says that the switch has not joined, was not interviewed, waits for its command, carries another one, and that it failed
+abbrev pub kept_apart : KeptNode
+kept_apart = record plain_kept { joined = false }
+
+abbrev pub kept_unknown : KeptNode
+kept_unknown = record plain_kept { interview = None }
+
+abbrev pub kept_waiting : KeptNode
+kept_waiting = record plain_kept { waiting = 1 ∷ [] }
+
+abbrev pub kept_otherwise : KeptNode
+kept_otherwise = record plain_kept { sessions = record { command = 2; ended = Some Success } ∷ [] }
+
+abbrev pub kept_failed : KeptNode
+kept_failed = record plain_kept { sessions = record { command = 1; ended = Some Fail } ∷ [] }
 
 -- the switch does not tell that it was turned on
 abbrev pub kept_silent : List Entry

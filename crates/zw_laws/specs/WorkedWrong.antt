@@ -22,6 +22,11 @@ begun_twice =
     Written Chip (bytes (codes "010B00040002056C0201FF0067")) ∷ Written Host (bytes (codes "06")) ∷
     Out 1 endings.Success ∷ Store 2 (setting 0 names.Switch 255) ∷ []
 
+-- the first session that begins has the second number
+abbrev pub begun_ahead : List Entry
+begun_ahead =
+    Said (codes "set 2 on") ∷ Accepted 1 2 ∷ Begin 2 2 1 ∷ []
+
 -- a second session begins before the first has come to its end
 abbrev pub begun_early : List Entry
 begun_early =
@@ -73,13 +78,16 @@ abbrev pub not_begun : List Entry
 not_begun =
     Said (codes "set 2 on") ∷ Accepted 1 2 ∷ []
 
--- journals that are not those of the plain exchange: the change twice, by a session that never began, of another value, and
+-- journals that are not those of the plain exchange: the change twice, by a session that never began or a session 0, of another value, and
 -- without a session
 abbrev pub turned_twice : List Change
 turned_twice = changed 1 names.Switch 255 ∷ changed 1 names.Switch 255 ∷ []
 
 abbrev pub turned_later : List Change
 turned_later = changed 2 names.Switch 255 ∷ []
+
+abbrev pub turned_before : List Change
+turned_before = changed 0 names.Switch 255 ∷ []
 
 abbrev pub turned_off : List Change
 turned_off = changed 1 names.Switch 0 ∷ []

@@ -1,5 +1,5 @@
 -- Transcripts like the worked ones that break the laws of answers, of stored values and of frames, one thing wrong in each.
-use Rattle.std.specs.Prelude.{List, [], ◌∷◌, codes}
+use Rattle.std.specs.Prelude.{List, [], ◌∷◌, ◌++◌, codes}
 use Rattle.zw_base.specs.declared.property.Name.TheVariants as names
 use Rattle.zw_base.specs.declared.property.By.TheVariants.{Session}
 use Rattle.zw_words.specs.declared.side.Side.TheVariants.{Host, Chip}
@@ -7,13 +7,32 @@ use Rattle.host_orders.specs.Settings.{setting}
 use Rattle.zw_text.specs.declared.entry.Ended.TheVariants as endings
 use Rattle.zw_text.specs.declared.entry.Refusal.TheVariants as refusals
 use Rattle.zw_text.specs.declared.entry.Entry.{Entry}
-use Rattle.zw_text.specs.declared.entry.Entry.TheVariants.{Said, Accepted, Refused, Begin, Written, Air, Heard, Dev, Out, Store, Time}
-use Rattle.zw_laws.specs.Worked.{bytes}
+use Rattle.zw_text.specs.declared.entry.Entry.TheVariants.{Said, Accepted, Refused, Begin, Written, Air, Heard, Lost, Unheard, Dev, Out, Store, Time}
+use Rattle.zw_laws.specs.Worked.{bytes, plain_exchange}
 
 -- an order has no answer before the next line
 abbrev pub unanswered : List Entry
 unanswered =
     Said (codes "set 2 on") ∷ Said (codes "tick 2") ∷ []
+
+-- an order is the last line, and has no answer
+abbrev pub unanswered_at_last : List Entry
+unanswered_at_last =
+    Said (codes "set 2 on") ∷ []
+
+-- the keeper fails for an order that is refused anyway
+abbrev pub failed_for_nothing : List Entry
+failed_for_nothing =
+    Said (codes "set 3 on") ∷ Refused refusals.KeeperFault ∷ []
+
+-- a line that is no order is refused for nothing, or gets a number
+abbrev pub line_refused : List Entry
+line_refused =
+    Said (codes "join 5") ∷ Refused refusals.AlreadyJoined ∷ []
+
+abbrev pub line_numbered : List Entry
+line_numbered =
+    Said (codes "tick 1") ∷ Accepted 1 2 ∷ []
 
 -- an order is refused that should have been let in
 abbrev pub refused_freely : List Entry
@@ -52,6 +71,11 @@ cancelled_late =
 abbrev pub passed_over : List Entry
 passed_over =
     Said (codes "set 2 on") ∷ Accepted 1 2 ∷ Said (codes "cancel 1") ∷ Time 1 ∷ []
+
+-- a line takes one command back, and another is
+abbrev pub cancelled_another : List Entry
+cancelled_another =
+    Said (codes "set 2 on") ∷ Accepted 1 2 ∷ Said (codes "set 2 off") ∷ Accepted 2 2 ∷ Said (codes "cancel 1") ∷ Out 2 endings.Cancelled ∷ []
 
 -- a success confirms nothing
 abbrev pub not_stored : List Entry
@@ -142,10 +166,33 @@ left_flying =
     Written Chip (bytes (codes "010B00040002056C0201FF0067")) ∷ Written Host (bytes (codes "06")) ∷
     Out 1 endings.Success ∷ Store 2 (setting 0 names.Switch 255) ∷ Time 3 ∷ []
 
+-- a frame has no fate before the next line
+abbrev pub left_by_line : List Entry
+left_by_line =
+    Air 1 2 1 [] (bytes (codes "2503FF")) ∷ Time 1 ∷ Said (codes "tick 1") ∷ []
+
 -- a frame is repeated that was never sent
 abbrev pub repeated_unsent : List Entry
 repeated_unsent =
     Said (codes "repeat 1") ∷ Heard 1 ∷ []
+
+-- a frame is lost, or unheard, that was never sent
+abbrev pub lost_unsent : List Entry
+lost_unsent =
+    Lost 1 ∷ []
+
+abbrev pub unheard_unsent : List Entry
+unheard_unsent =
+    Unheard 1 ∷ []
+
+-- a line repeats one frame, and another is heard
+abbrev pub repeated_otherwise : List Entry
+repeated_otherwise = plain_exchange ++ Said (codes "repeat 1") ∷ Heard 2 ∷ []
+
+-- a marked frame is unheard
+abbrev pub unheard_though_marked : List Entry
+unheard_though_marked =
+    Said (codes "lose 3") ∷ Air 1 2 1 [] (bytes (codes "2503FF")) ∷ Said (codes "tick 1") ∷ Time 1 ∷ Unheard 1 ∷ []
 
 -- a marked frame is heard
 abbrev pub heard_though_marked : List Entry

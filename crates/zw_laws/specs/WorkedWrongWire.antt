@@ -45,6 +45,17 @@ abbrev pub begun_silently : List Entry
 begun_silently =
     Said (codes "set 2 on") ∷ Accepted 1 2 ∷ Begin 2 1 1 ∷ Said (codes "tick 2") ∷ []
 
+-- a session begins with a unit for another node
+abbrev pub begun_elsewhere : List Entry
+begun_elsewhere =
+    Said (codes "set 2 on") ∷ Accepted 1 2 ∷ Begin 2 1 1 ∷ Written Host (bytes (codes "010E001303076C0101032501FF250176")) ∷ []
+
+-- success is reported of a command that no session carries
+abbrev pub told_of_another : List Entry
+told_of_another =
+    Said (codes "set 2 on") ∷ Accepted 1 2 ∷ Begin 2 1 1 ∷ Written Chip (bytes (codes "010B00040002056C0201FF0067")) ∷
+    Out 2 endings.Success ∷ []
+
 -- success is reported though no report has come
 abbrev pub told_by_none : List Entry
 told_by_none =
@@ -55,6 +66,18 @@ told_by_none =
     Dev 2 (Session 1) (setting 0 names.Switch 255) ∷ Air 2 2 1 [] (bytes (codes "6C0201FF00")) ∷
     Written Chip (bytes (codes "010500130100E8")) ∷ Written Host (bytes (codes "06")) ∷ Time 2 ∷ Heard 2 ∷
     Out 1 endings.Success ∷ []
+
+-- failure is reported though the report tells of success
+abbrev pub told_of_failure : List Entry
+told_of_failure =
+    Said (codes "set 2 on") ∷ Accepted 1 2 ∷ Begin 2 1 1 ∷ Written Chip (bytes (codes "010B00040002056C0201FF0067")) ∷
+    Out 1 endings.Fail ∷ []
+
+-- success is reported of a lock whose report is not sealed
+abbrev pub told_openly : List Entry
+told_openly =
+    Written Chip (bytes (codes "010C004984040604000062986CAE")) ∷ Interviewed 4 ∷ Said (codes "set 4 on") ∷ Accepted 1 4 ∷ Begin 4 1 1 ∷
+    Written Chip (bytes (codes "010B00040004056C0201FF0061")) ∷ Out 1 endings.Success ∷ []
 
 -- a node counts as awake though it has not told so
 abbrev pub woken_by_none : List Entry
@@ -70,6 +93,11 @@ old_from_none =
 abbrev pub interviewed_by_none : List Entry
 interviewed_by_none =
     Interviewed 5 ∷ []
+
+-- an interview succeeds with other classes than the node has told
+abbrev pub interviewed_otherwise : List Entry
+interviewed_otherwise =
+    Written Chip (bytes (codes "010D00498405070400003180846C60")) ∷ Interviewed 5 ∷ []
 
 -- a value is entered as heard that was not told
 abbrev pub reported_by_none : List Entry

@@ -2,7 +2,7 @@
 
 ghost use Rattle.zw_laws.specs.Fates.{NumbersFrames, FaresInTurn, LosesMarked};
 ghost use Rattle.zw_laws.specs.Worked.{plain_exchange, repeated_exchange, lossy_exchange, cancelled_order, restarted_host, sleeping_node, sealed_exchange, long_message};
-ghost use Rattle.zw_laws.specs.WorkedWrongHost.{numbered_apart, between_others, heard_at_once, heard_again, left_flying, repeated_unsent, heard_though_marked};
+ghost use Rattle.zw_laws.specs.WorkedWrongHost.{numbered_apart, between_others, heard_at_once, heard_again, lost_unsent, unheard_unsent, left_flying, left_by_line, repeated_unsent, repeated_otherwise, heard_though_marked, unheard_though_marked};
 
 /// In worked transcripts frames are numbered.
 pub fn worked_frames()
@@ -26,14 +26,19 @@ pub fn worked_losses()
 {}
 
 /// Each of these breaks one part of the laws: a frame without the next number, or from no end at the controller; a frame heard
-/// in the tick in which it was sent, a second time without a repeat, or in no tick; a repeat of a frame that was never sent;
-/// and a marked frame that is heard.
+/// in the tick in which it was sent, a second time without a repeat, or in no tick, before another tick or line; a frame lost or unheard that was never sent; a repeat of a frame
+/// that was never sent, or that makes another one heard; and a marked frame that is heard, or unheard.
 pub fn rejected_fates()
     ensures apart { NumbersFrames numbered_apart → ⊥ }
     ensures others { NumbersFrames between_others → ⊥ }
     ensures at_once { FaresInTurn heard_at_once → ⊥ }
     ensures again { FaresInTurn heard_again → ⊥ }
+    ensures lost { FaresInTurn lost_unsent → ⊥ }
+    ensures unheard { FaresInTurn unheard_unsent → ⊥ }
     ensures left { FaresInTurn left_flying → ⊥ }
+    ensures left_by_line { FaresInTurn left_by_line → ⊥ }
     ensures unsent { FaresInTurn repeated_unsent → ⊥ }
+    ensures otherwise { FaresInTurn repeated_otherwise → ⊥ }
+    ensures marked_unheard { LosesMarked unheard_though_marked → ⊥ }
     ensures marked { LosesMarked heard_though_marked → ⊥ }
 {}

@@ -3,7 +3,6 @@
 ghost use Rattle.std.specs.Prelude.{◌≡◌, true, [], ◌∷◌, Some, None};
 ghost use Rattle.zw_base.specs.declared.property.Name.TheVariants as names;
 ghost use Rattle.host_orders.specs.Settings.{setting};
-ghost use Rattle.host_keep.specs.Kept.{kept_of, node_of};
 ghost use Rattle.device_sim.specs.Event.DeviceEvent.{Wakes};
 ghost use Rattle.zw_text.specs.declared.entry.Entry.TheVariants.{TableEnd, TableNode, TableValue, Device};
 ghost use Rattle.zw_laws.specs.Nodes.{listing_of};
@@ -11,7 +10,7 @@ ghost use Rattle.zw_laws.specs.Devices.{RanAsShown, after_events};
 ghost use Rattle.zw_laws.specs.Records.{ShowsNode};
 ghost use Rattle.zw_laws.specs.Table.{table_of};
 ghost use Rattle.zw_laws.specs.Worked.{plain_exchange, sleeping_node, the_switch, the_sensor, with_journal, turned_on, set_apart};
-ghost use Rattle.zw_laws.specs.WorkedDevices.{tick, switch_events, sensor_events, hand_events, plain_records, by_hand, one_tick, woken_apart, gone_asleep, not_by_hand, unshown, kept_silent};
+ghost use Rattle.zw_laws.specs.WorkedDevices.{tick, switch_events, sensor_events, hand_events, plain_kept, kept_apart, kept_unknown, kept_waiting, kept_otherwise, kept_failed, by_hand, one_tick, woken_apart, gone_asleep, not_by_hand, unshown, kept_silent};
 
 /// The devices of worked transcripts did what these show, and changed as the once-only law was shown them. A device that was woken before it
 /// joined did what is shown too, though what it said then is on no air.
@@ -40,5 +39,15 @@ pub fn worked_table()
     ensures table { table_of (listing_of (the_switch ∷ [])) 2 plain_exchange (with_journal the_switch turned_on ∷ []) ≡
         TableEnd 2 ∷ TableNode 2 (1 ∷ []) ∷ TableValue 2 (record { end = 0; name = names.Switch }) (Some 255) None
         ∷ Device 2 (setting 0 names.Switch 255) ∷ [] }
-    ensures records { ShowsNode plain_exchange 2 (node_of (kept_of plain_records) 2) }
+    ensures records { ShowsNode plain_exchange 2 plain_kept }
+{}
+
+/// Each of these breaks one part of what records give of a node: whether it is joined and interviewed, what waits, what its sessions carry, and how
+/// these ended.
+pub fn rejected_records()
+    ensures apart { ShowsNode plain_exchange 2 kept_apart → ⊥ }
+    ensures unknown { ShowsNode plain_exchange 2 kept_unknown → ⊥ }
+    ensures waiting { ShowsNode plain_exchange 2 kept_waiting → ⊥ }
+    ensures otherwise { ShowsNode plain_exchange 2 kept_otherwise → ⊥ }
+    ensures failed { ShowsNode plain_exchange 2 kept_failed → ⊥ }
 {}

@@ -1,11 +1,11 @@
 //! What the laws of answers and of stored values say of worked transcripts, and of others with one thing wrong.
 
-ghost use Rattle.std.specs.Prelude.{true, [], ◌∷◌};
+ghost use Rattle.std.specs.Prelude.{true, false, [], ◌∷◌};
 ghost use Rattle.zw_laws.specs.Nodes.{listing_of};
 ghost use Rattle.zw_laws.specs.Answers.{AnswersLines, CancelsWhenAsked};
 ghost use Rattle.zw_laws.specs.Stores.{StoresConfirmed};
 ghost use Rattle.zw_laws.specs.Worked.{plain_exchange, repeated_exchange, lossy_exchange, cancelled_order, restarted_host, sleeping_node, sealed_exchange, refused_lines, long_message, the_switch, the_sensor, the_lock, the_plug};
-ghost use Rattle.zw_laws.specs.WorkedWrongHost.{unanswered, refused_freely, numbered_wrongly, answered_unasked, joined_again, cancelled_unasked, cancelled_late, passed_over, not_stored, stored_otherwise, stored_before};
+ghost use Rattle.zw_laws.specs.WorkedWrongHost.{unanswered, unanswered_at_last, failed_for_nothing, line_refused, line_numbered, refused_freely, numbered_wrongly, answered_unasked, joined_again, cancelled_unasked, cancelled_late, cancelled_another, passed_over, not_stored, stored_otherwise, stored_before};
 
 /// In worked transcripts each line has the answer that is due.
 pub fn worked_answers()
@@ -27,20 +27,25 @@ pub fn worked_stores()
     ensures cancelled { StoresConfirmed true (listing_of (the_switch ∷ [])) cancelled_order }
 {}
 
-/// Each of these breaks one part of the laws: an order without its answer, refused for nothing, or with a wrong number; an
-/// answer to no line; a line let pass that should have been refused; a command taken back unasked, or after it began, or not though
-/// a line asks for it; and a
-/// success that confirms nothing, or another value, or too late.
+/// Each of these breaks one part of the laws: an order without its answer, also as the last line, refused for nothing, with a wrong number, or failed
+/// by the keeper though it is refused anyway; an answer to no line; another line refused for nothing, or with a number, or let pass though it should
+/// have been refused; a command taken back unasked, after it began, for another one, or not though a line asks for it; and a success that confirms nothing, or
+/// another value, which no run may, or too late.
 pub fn rejected_answers()
     ensures unanswered { AnswersLines true (the_switch ∷ []) unanswered → ⊥ }
+    ensures at_last { AnswersLines true (the_switch ∷ []) unanswered_at_last → ⊥ }
+    ensures failed { AnswersLines true (the_switch ∷ []) failed_for_nothing → ⊥ }
+    ensures line_refused { AnswersLines true (the_switch ∷ []) line_refused → ⊥ }
+    ensures line_numbered { AnswersLines true (the_switch ∷ []) line_numbered → ⊥ }
     ensures freely { AnswersLines true (the_switch ∷ []) refused_freely → ⊥ }
     ensures wrongly { AnswersLines true (the_switch ∷ []) numbered_wrongly → ⊥ }
     ensures unasked { AnswersLines true (the_switch ∷ []) answered_unasked → ⊥ }
     ensures again { AnswersLines true (the_switch ∷ []) joined_again → ⊥ }
     ensures cancelled { CancelsWhenAsked cancelled_unasked → ⊥ }
     ensures late { CancelsWhenAsked cancelled_late → ⊥ }
+    ensures another { AnswersLines true (the_switch ∷ []) cancelled_another → ⊥ }
     ensures passed { AnswersLines true (the_switch ∷ []) passed_over → ⊥ }
     ensures not_stored { StoresConfirmed true (listing_of (the_switch ∷ [])) not_stored → ⊥ }
-    ensures otherwise { StoresConfirmed true (listing_of (the_switch ∷ [])) stored_otherwise → ⊥ }
+    ensures otherwise { StoresConfirmed false (listing_of (the_switch ∷ [])) stored_otherwise → ⊥ }
     ensures before { StoresConfirmed true (listing_of (the_switch ∷ [])) stored_before → ⊥ }
 {}

@@ -6,7 +6,7 @@ ghost use Rattle.zw_laws.specs.Sessions.{KeepsSessions};
 ghost use Rattle.zw_laws.specs.Once.{Once, SucceedsAfterChange};
 ghost use Rattle.zw_laws.specs.Values.{ConfirmsLast};
 ghost use Rattle.zw_laws.specs.Worked.{plain_exchange, repeated_exchange, lossy_exchange, cancelled_order, restarted_host, sleeping_node, sealed_exchange, long_message, the_switch, the_sensor, the_lock, the_plug, with_journal, turned_on, turned_on_and_off, set_apart, secured, configured};
-ghost use Rattle.zw_laws.specs.WorkedWrong.{begun_twice, begun_early, told_early, begun_backwards, begun_unasked, told_otherwise, not_begun, turned_twice, turned_later, turned_off, turned_plainly};
+ghost use Rattle.zw_laws.specs.WorkedWrong.{begun_twice, begun_ahead, begun_early, told_early, begun_backwards, begun_unasked, told_otherwise, not_begun, turned_twice, turned_later, turned_before, turned_off, turned_plainly};
 
 /// In worked transcripts sessions begin one after another, over a restart too.
 pub fn worked_sessions()
@@ -47,16 +47,18 @@ pub fn worked_values()
     ensures cut { ConfirmsLast (listing_of (the_plug ∷ [])) 8 long_message (with_journal the_plug configured) }
 {}
 
-/// Each of these breaks one part of the law: a session that begins twice, or before the last has ended; success before the
-/// change; a journal with the change twice, or by a session that never began; commands out of order, or never accepted; a
+/// Each of these breaks one part of the law: a session that begins twice, before one that comes first, or before the last has ended; success before the
+/// change; a journal with the change twice, or by a session that never began or a session 0; commands out of order, or never accepted; a
 /// change that is not what was asked; success without a change; a change of a command that failed, or still waits; a change
 /// without a session; and a confirmed value that is not the device's.
 pub fn rejected_once()
     ensures begun_twice { KeepsSessions begun_twice → ⊥ }
+    ensures begun_ahead { KeepsSessions begun_ahead → ⊥ }
     ensures begun_early { KeepsSessions begun_early → ⊥ }
     ensures told_early { SucceedsAfterChange told_early → ⊥ }
     ensures twice { Once (listing_of (the_switch ∷ [])) 2 plain_exchange turned_twice → ⊥ }
     ensures later { Once (listing_of (the_switch ∷ [])) 2 plain_exchange turned_later → ⊥ }
+    ensures none { Once (listing_of (the_switch ∷ [])) 2 plain_exchange turned_before → ⊥ }
     ensures backwards { Once (listing_of (the_switch ∷ [])) 2 begun_backwards turned_off → ⊥ }
     ensures unasked { Once (listing_of (the_switch ∷ [])) 2 begun_unasked turned_on → ⊥ }
     ensures off { Once (listing_of (the_switch ∷ [])) 2 plain_exchange turned_off → ⊥ }

@@ -1,8 +1,5 @@
-use Rattle.std.proofs.Common.{◌≡◌, ℕ, suc, List, [], length, refl, ap, arith}
+use Rattle.std.proofs.Common.{[], refl, arith}
 use Rattle.std.specs.Prelude.{drop, take}
-use Rattle.std.specs.List.{flat_map}
-use Rattle.device_stack.specs.declared.change.Change.{Change}
-use Rattle.zw_laws.specs.Devices.{made_by}
 use Rattle.zw_laws.specs.Worked.{plain_exchange, turned_on}
 use Rattle.wire_laws.specs.WorkedHalted.{events_halted}
 use Rattle.wire_laws.proofs.Computing.{reckoning}
@@ -67,13 +64,3 @@ returns-clause-unheard c = record {
   entered = refl;
   answered_late = λ joined. (_, refl);
 }
-
--- a setting is shown at least, and none was made
-one_and_none : (shown made : ℕ) → suc shown ≡ made → 0 ≡ made → ⊥
-one_and_none shown made one none = omega (arith, one, none)
-
-pub returns-clause-unmade : goal.returns-clause-unmade
-unfolding reckoning
-returns-clause-unmade c = λ law.
-    one_and_none _ (length (flat_map made_by law.changes)) (ap length law.entered)
-    (ap (λ (changes : List Change). length (flat_map made_by changes)) law.changed)

@@ -2,9 +2,12 @@ use Rattle.std.proofs.Common.{◌≡◌, ℕ, zero, suc, ◌==◌, ◌||◌, Boo
 use Rattle.std.specs.Prelude.{replicate, slice_index_or, take, drop, filter, codes, if◌then◌else◌, Option, Some, None, is_some}
 use Rattle.std.specs.List.{flat_map}
 use Rattle.std.proofs.lemmas.Bool.Decides.{nat_tests}
-use Rattle.zw_order.specs.declared.order.Word.TheVariants.{On}
+use Rattle.zw_order.specs.declared.order.Order.{Order}
+use Rattle.zw_order.specs.declared.order.Word.{Word}
+use Rattle.zw_order.specs.declared.order.Word.TheVariants.{On, Off}
+use Rattle.zw_order.specs.declared.order.What.{What}
 use Rattle.zw_order.specs.declared.order.What.TheVariants.{Value}
-use Rattle.host_keep.specs.Kept.{Kept, KeptNode, Session, blank_node, node_of, kept_of}
+use Rattle.host_keep.specs.Kept.{Kept, KeptNode, Session, Taken, blank_node, node_of, kept_of}
 use Rattle.host_keep.specs.Legal.{Give, first_illegal}
 use Rattle.host_keep.specs.RecordText.{record_text, IsTextOf}
 use Rattle.host_keep.specs.declared.record.Record.TheVariants as records
@@ -16,6 +19,7 @@ use Rattle.zw_laws.specs.Commands.{numbers_of, is_waiting}
 use Rattle.zw_laws.specs.Records.{ShowsNode, final_of}
 use Rattle.zw_laws.specs.Worked.{plain_exchange}
 use Rattle.zw_laws.specs.WorkedDevices.{plain_records}
+use Rattle.wire_laws.specs.WorkedWrong.{ordered_otherwise}
 use Rattle.wire_laws.proofs.Computing.{reckoning}
 use Rattle.wire_laws.proofs.records.worked_records.Goals as goal
 
@@ -89,6 +93,29 @@ gives_two : Give (map record_text (take 2 plain_records)) (kept_of (take 2 plain
 unfolding reckoning first_illegal
 gives_two = record { records = take 2 plain_records; are = (accepted_well, (begun_well, tt)); legal = refl; gives = refl }
 
+off_well : IsTextOf (records.Accepted 1 (record { node = 2; end = 0; what = Value Off })) (record_text (records.Accepted 1 (record { node = 2; end = 0; what = Value Off })))
+off_well = record { in_range = (omega arith, record { node = (omega arith, omega arith); end = omega arith; what = tt }); text = refl }
+
+gives_off : Give (map record_text ordered_otherwise) (kept_of ordered_otherwise)
+unfolding reckoning first_illegal
+gives_off = record { records = ordered_otherwise; are = (off_well, (begun_well, (ended_well, tt))); legal = refl; gives = refl }
+
+-- whether the first order turns something on
+abbrev word_on : Word → ℕ
+word_on On = 1
+word_on _ = 0
+
+abbrev turns_on : What → ℕ
+turns_on (Value word) = word_on word
+turns_on _ = 0
+
+abbrev first_on : List Order → ℕ
+first_on [] = 0
+first_on (order ∷ orders) = turns_on order.what
+
+none_one : ◌≡◌ {A = ℕ} 0 1 → ⊥
+none_one e = omega (arith, e)
+
 -- how the sessions of node 2 ended
 endings : Kept → List (Option FinalStatus)
 endings kept = map (λ (session : Session). session.ended) (node_of kept 2).sessions
@@ -108,3 +135,9 @@ pub returns-clause-lacking : goal.returns-clause-lacking
 unfolding reckoning endings
 returns-clause-lacking c = λ law.
     none_success (sym (ap endings (c.texts_give_one_thing.ensures.one _ _ _ law.gives gives_two)) ∙ (law.shows.nodes 2).ended)
+
+pub returns-clause-ordered : goal.returns-clause-ordered
+unfolding reckoning
+returns-clause-ordered c = λ law.
+    none_one (sym (ap (λ (kept : Kept). first_on (map (λ (taken : Taken). taken.order) kept.commands)) (c.texts_give_one_thing.ensures.one _ _ _ law.gives gives_off))
+    ∙ ap first_on law.shows.orders)

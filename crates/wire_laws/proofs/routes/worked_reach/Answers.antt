@@ -1,6 +1,6 @@
 use Rattle.std.proofs.Common.{◌≡◌, ℕ, [], ◌∷◌, refl, ◌∙◌, arith}
 use Rattle.wire_laws.proofs.Computing.{reckoning}
-use Rattle.wire_laws.proofs.Walks.{apart, cannot_tell, direct, is_linked, one_route, over_one}
+use Rattle.wire_laws.proofs.Walks.{direct, is_linked, one_route, over_one}
 use Rattle.wire_laws.proofs.routes.worked_reach.Goals as goal
 
 one_two : ◌≡◌ {A = ℕ} 2 1 → ⊥
@@ -8,6 +8,12 @@ one_two e = omega (arith, e)
 
 ten_two : ◌≡◌ {A = ℕ} 2 10 → ⊥
 ten_two e = omega (arith, e)
+
+one_ten : ◌≡◌ {A = ℕ} 10 1 → ⊥
+one_ten e = omega (arith, e)
+
+two_ten : ◌≡◌ {A = ℕ} 10 2 → ⊥
+two_ten e = omega (arith, e)
 
 pub returns-clause-plain : goal.returns-clause-plain
 unfolding reckoning
@@ -23,10 +29,6 @@ returns-clause-over_one c = record {
   way = over_one _ _ 10 2 one_two ten_two refl refl refl;
 }
 
-pub returns-clause-apart : goal.returns-clause-apart
+pub returns-clause-other_way : goal.returns-clause-other_way
 unfolding reckoning
-returns-clause-apart c = λ law. cannot_tell _ _ law.way
-
-pub returns-clause-dead : goal.returns-clause-dead
-unfolding reckoning
-returns-clause-dead c = λ law. apart _ _ _ law.way
+returns-clause-other_way c = over_one _ _ 2 10 one_ten two_ten refl refl refl

@@ -1,4 +1,6 @@
-use Rattle.std.proofs.Common.{◌≡◌, ℕ, length, refl, ap, inl, inr, arith}
+use Rattle.std.proofs.Common.{◌≡◌, ℕ, List, ◌∷◌, length, refl, ap, inl, inr, arith}
+use Rattle.zw_text.specs.declared.line.Line.{Line}
+use Rattle.zw_text.specs.declared.line.Line.TheVariants.{Repeat}
 use Rattle.zw_laws.proofs.Computing.{computing}
 use Rattle.zw_laws.proofs.air.rejected_fates.Goals as goal
 
@@ -44,3 +46,31 @@ returns-clause-unsent c = λ law. one_none (ap length law.1.0.1)
 pub returns-clause-marked : goal.returns-clause-marked
 unfolding computing
 returns-clause-marked c = λ law. law.1.1.1.1.1.1.1.1.1.1.1.0 (inl refl) (inl refl)
+
+pub returns-clause-lost : goal.returns-clause-lost
+unfolding computing
+returns-clause-lost c = λ law. omega (arith, law.0.1)
+
+pub returns-clause-unheard : goal.returns-clause-unheard
+unfolding computing
+returns-clause-unheard c = λ law. omega (arith, law.0.1)
+
+-- the frame that a line repeats
+abbrev repeated_by : List Line → ℕ
+repeated_by (Repeat frame ∷ lines) = frame
+repeated_by _ = 0
+
+pub returns-clause-otherwise : goal.returns-clause-otherwise
+unfolding computing
+returns-clause-otherwise c = λ law. one_two (ap repeated_by law.1.1.1.1.1.1.1.1.1.1.1.1.1.1.1.1.1.1.1.1.1.1.0.0)
+
+pub returns-clause-marked_unheard : goal.returns-clause-marked_unheard
+unfolding computing
+returns-clause-marked_unheard c = λ law. law.1.1.1.1.0 (inl refl)
+
+none_one : ◌≡◌ {A = ℕ} 0 1 → ⊥
+none_one e = omega (arith, e)
+
+pub returns-clause-left_by_line : goal.returns-clause-left_by_line
+unfolding computing
+returns-clause-left_by_line c = λ law. none_one law.1.1.0

@@ -47,8 +47,11 @@ three_zero e = omega (arith, e)
 none_stored : ◌≡◌ {A = ℕ} 5 1255 → ⊥
 none_stored e = omega (arith, e)
 
-zero_stored : ◌≡◌ {A = ℕ} 1000 1255 → ⊥
-zero_stored e = omega (arith, e)
+stored_zero : ◌≡◌ {A = ℕ} 1255 1000 → ⊥
+stored_zero e = omega (arith, e)
+
+four_one : ◌≡◌ {A = ℕ} 4 1 → ⊥
+four_one e = omega (arith, e)
 
 not_true : false ≡ true → ⊥
 not_true e = cc
@@ -91,8 +94,28 @@ returns-clause-not_stored c = λ law. none_stored (ap first_tag (law.all refl))
 
 pub returns-clause-otherwise : goal.returns-clause-otherwise
 unfolding computing
-returns-clause-otherwise c = λ law. zero_stored (ap first_tag (law.all refl))
+returns-clause-otherwise c = λ law. stored_zero (ap first_tag law.asked.1)
 
 pub returns-clause-before : goal.returns-clause-before
 unfolding computing
 returns-clause-before c = λ law. law.behind.1.1.1.1.1.1.1.1.1.1.1.1.1.1.1.1.1.1.1.0
+
+pub returns-clause-at_last : goal.returns-clause-at_last
+unfolding computing
+returns-clause-at_last c = λ law. law.in_the_end refl
+
+pub returns-clause-failed : goal.returns-clause-failed
+unfolding computing
+returns-clause-failed c = λ law. elim law.between.1.0 [ inl same ↦ four_one (ap first_tag same) | inr kept ↦ kept.0 ]
+
+pub returns-clause-line_refused : goal.returns-clause-line_refused
+unfolding computing
+returns-clause-line_refused c = λ law. law.between.1.0
+
+pub returns-clause-line_numbered : goal.returns-clause-line_numbered
+unfolding computing
+returns-clause-line_numbered c = λ law. law.between.1.0
+
+pub returns-clause-another : goal.returns-clause-another
+unfolding computing
+returns-clause-another c = λ law. two_one law.between.1.1.1.1.1.0

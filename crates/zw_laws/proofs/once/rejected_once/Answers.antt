@@ -63,3 +63,11 @@ returns-clause-plainly c = λ law. law.never_plain.1.0 refl
 pub returns-clause-value : goal.returns-clause-value
 unfolding computing
 returns-clause-value c = λ law. apart (sym (ap (λ (value : Option ℕ). unwrap_or value 0) (law.0.0 refl)))
+
+pub returns-clause-begun_ahead : goal.returns-clause-begun_ahead
+unfolding computing
+returns-clause-begun_ahead c = λ law. omega (arith, law.1.1.0.0)
+
+pub returns-clause-none : goal.returns-clause-none
+unfolding computing
+returns-clause-none c = λ law. omega (arith, law.sessions_begun.0.0)

@@ -1,5 +1,22 @@
-use Rattle.std.proofs.Common.{◌≡◌, ℕ, List, [], ◌∷◌, ap, inl, inr, arith}
-use Rattle.zw_laws.specs.Units.{Carried}
+use Rattle.std.proofs.Common.{◌≡◌, ℕ, Bool, true, false, List, [], ◌∷◌, ◌++◌, Option, Some, length, unwrap_or, refl, ap, subst, inl, inr, arith}
+use Rattle.std.specs.Prelude.{◌==◌, ◌%◌, if◌then◌else◌, take}
+use Rattle.std.proofs.lemmas.Bool.Decides.{nat_tests}
+use Rattle.supervision.specs.Host.{command_at}
+use Rattle.chip_functions.specs.declared.notice.Notice.{Notice}
+use Rattle.chip_functions.specs.declared.notice.Notice.TheVariants.{ApplicationUpdate}
+use Rattle.chip_functions.specs.declared.notice.Update.TheVariants.{Received}
+use Rattle.host_orders.specs.Classes.{lists}
+use Rattle.class_info.specs.declared.report_status.ReportStatus.{ReportStatus}
+use Rattle.class_info.specs.declared.report_status.ReportStatus.TheVariants as statuses
+use Rattle.host_heard.specs.declared.told.Told.{Told}
+use Rattle.host_heard.specs.declared.told.Told.TheVariants as told
+use Rattle.device_stack.specs.Sealing.{unsealed_at}
+use Rattle.zw_text.specs.Transcript.{sessions}
+use Rattle.zw_laws.specs.Causes.{OneTells, OpensTo, TellsReport}
+use Rattle.zw_laws.specs.Nodes.{host_list, listing_of}
+use Rattle.zw_laws.specs.Units.{Carried, payloads_from}
+use Rattle.zw_laws.specs.Worked.{the_lock}
+use Rattle.zw_laws.specs.WorkedWrongWire.{told_openly}
 use Rattle.zw_laws.proofs.Computing.{computing}
 use Rattle.zw_laws.proofs.wire.rejected_wire.Goals as goal
 
@@ -10,6 +27,34 @@ last_byte before (byte ∷ bytes) = last_byte byte bytes
 
 off_on : ◌≡◌ {A = ℕ} 0 255 → ⊥
 off_on e = omega (arith, e)
+
+-- the first and the third byte of a payload
+abbrev first_byte : List ℕ → ℕ
+first_byte [] = 0
+first_byte (byte ∷ bytes) = byte
+
+abbrev third_byte : List ℕ → ℕ
+third_byte (one ∷ two ∷ three ∷ bytes) = three
+third_byte _ = 0
+
+two_one : ◌≡◌ {A = ℕ} 2 1 → ⊥
+two_one e = omega (arith, e)
+
+no_nonce : ◌≡◌ {A = ℕ} 0x6C 0x98 → ⊥
+no_nonce e = omega (arith, e)
+
+no_wake : ◌≡◌ {A = ℕ} 0x6C 0x84 → ⊥
+no_wake e = omega (arith, e)
+
+pub returns-clause-otherwise : goal.returns-clause-otherwise
+unfolding computing
+returns-clause-otherwise c = λ law. elim law.1.1.1.0.0 [
+  | inl said ↦ two_one (ap third_byte said)
+  | inr (inl nonce) ↦ no_nonce (ap first_byte nonce)
+  | inr (inr (inl report)) ↦ report.asked
+  | inr (inr (inr (inl more))) ↦ no_wake (ap first_byte more)
+  | inr (inr (inr (inr asked))) ↦ asked
+]
 
 pub returns-clause-aired : goal.returns-clause-aired
 unfolding computing
@@ -26,6 +71,107 @@ returns-clause-brought c = λ law. law.1.1.1.1.1.1.1.1.1.1.1.1.1.0.0
 pub returns-clause-silently : goal.returns-clause-silently
 unfolding computing
 returns-clause-silently c = λ law. law.1.1.1.0
+
+three_two : ◌≡◌ {A = ℕ} 3 2 → ⊥
+three_two e = omega (arith, e)
+
+four_none : ◌≡◌ {A = ℕ} 4 0 → ⊥
+four_none e = omega (arith, e)
+
+one_two : ◌≡◌ {A = ℕ} 1 2 → ⊥
+one_two e = omega (arith, e)
+
+none_two : ◌≡◌ {A = ℕ} 0 2 → ⊥
+none_two e = omega (arith, e)
+
+pub returns-clause-elsewhere : goal.returns-clause-elsewhere
+unfolding computing
+returns-clause-elsewhere c = λ law. three_two law.1.1.1.0
+
+-- the session of the one command carries no other, of whichever node
+abbrev begun_if : Bool → List ℕ
+begun_if is = (if is then 1 ∷ [] else []) ++ []
+
+carries_one : (is : Bool) → command_at (begun_if is) (length (begun_if is)) ≡ Some 2 → ⊥
+carries_one true carries = one_two (ap (λ (number : Option ℕ). unwrap_or number 0) carries)
+carries_one false carries = none_two (ap (λ (number : Option ℕ). unwrap_or number 0) carries)
+
+pub returns-clause-another : goal.returns-clause-another
+unfolding computing
+returns-clause-another c = λ law. carries_one (2 == law.1.1.1.1.0.node) law.1.1.1.1.0.carries
+
+-- the report that has come, and what tells its status apart
+abbrev report : List ℕ
+report = 0x6C ∷ 2 ∷ 1 ∷ 0xFF ∷ 0 ∷ []
+
+abbrev status_tag : ReportStatus → ℕ
+status_tag statuses.Success = 1
+status_tag _ = 0
+
+abbrev told_tag : Told → ℕ
+told_tag (told.Report id status wake_request) = status_tag status
+told_tag _ = 2
+
+abbrev opened_tag : Option (List ℕ) → ℕ
+opened_tag (Some text) = 1
+opened_tag _ = 0
+
+one_none : ◌≡◌ {A = ℕ} 1 0 → ⊥
+one_none e = omega (arith, e)
+
+none_one : ◌≡◌ {A = ℕ} 0 1 → ⊥
+none_one e = omega (arith, e)
+
+-- it is too short to be sealed, and does not tell of failure
+not_sealed : (node : ℕ) (message : Told) → OpensTo [] node report message → ⊥
+unfolding computing unsealed_at
+not_sealed node message opens = none_one (ap opened_tag opens.opens)
+
+no_failure : (sealed : Bool) (node id : ℕ) (wake_request : Bool) → TellsReport sealed [] node report (told.Report id statuses.Fail wake_request) → ⊥
+unfolding computing
+no_failure false node id wake_request (inl (inl same)) = one_none (ap told_tag same)
+no_failure false node id wake_request (inl (inr never)) = never
+no_failure false node id wake_request (inr opens) = not_sealed node _ opens
+no_failure true node id wake_request opens = not_sealed node _ opens
+
+-- nor does any other payload, of whichever node
+abbrev came_if : Bool → List (List ℕ)
+came_if is = (if is then report ∷ [] else []) ++ []
+
+nobody_tells : (Tells : List ℕ → Type 0) → (Tells report → ⊥) → (is : Bool) → OneTells Tells (came_if is) → ⊥
+nobody_tells Tells not true (inl tells) = not tells
+nobody_tells Tells not true (inr never) = never
+nobody_tells Tells not false never = never
+
+pub returns-clause-failure : goal.returns-clause-failure
+unfolding computing
+returns-clause-failure c = λ law.
+    let cause = law.1.1.1.1.0 in nobody_tells _ (no_failure _ cause.node _ cause.wake_request) (2 == cause.node) cause.reported
+
+-- the session of the one command is of the lock
+of_lock : (node : ℕ) (is : Bool) → (4 == node) ≡ is → command_at (begun_if is) (length (begun_if is)) ≡ Some 1 → 4 ≡ node
+of_lock node true is carries = grind (arith, nat_tests)
+of_lock node false is carries = absurd (none_one (ap (λ (number : Option ℕ). unwrap_or number 0) carries))
+
+pub returns-clause-openly : goal.returns-clause-openly
+unfolding computing
+returns-clause-openly c = λ law.
+    let cause = law.1.1.1.1.1.1.0 in
+    let past = take 6 told_openly in
+    subst
+    (λ (node : ℕ). OneTells (λ payload. TellsReport (lists (host_list (listing_of (the_lock ∷ [])) past node) 0x98) [] node payload
+    (told.Report (length (sessions node past) % 64) statuses.Success cause.wake_request)) (payloads_from node past) → ⊥)
+    (of_lock cause.node (4 == cause.node) refl cause.carries)
+    (λ tells. elim tells [ inl opens ↦ not_sealed 4 _ opens | inr never ↦ never ]) cause.reported
+
+-- how many classes an information tells
+abbrev classes_in : Notice → ℕ
+classes_in (ApplicationUpdate (Received node basic generic specific classes)) = length classes
+classes_in _ = 0
+
+pub returns-clause-other_classes : goal.returns-clause-other_classes
+unfolding computing
+returns-clause-other_classes c = λ law. elim law.1.0.came [ inl same ↦ four_none (ap classes_in same) | inr never ↦ never ]
 
 pub returns-clause-told : goal.returns-clause-told
 unfolding computing
