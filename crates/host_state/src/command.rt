@@ -9,7 +9,7 @@ use zw_order::Order;
 use zw_text::Outcome;
 
 /// The order, how it is carried, and what became of it. Contracts see the three.
-#[derive(Debug, Drop)]
+#[derive(Drop)]
 pub struct Command {
     pub(crate) order: Order,
     pub(crate) carriage: Carriage,
