@@ -3,7 +3,7 @@
 use zw_base::{Bytes, NodeId};
 
 /// What the host asks for.
-#[derive(Clone, Copy, Debug, PartialEq, Eq)]
+#[derive(Clone, Copy, PartialEq, Eq)]
 pub enum AddMode {
     /// 0x01: add any node.
     Any,
@@ -38,7 +38,7 @@ impl AddMode {
 }
 
 /// How far the adding has come.
-#[derive(Clone, Copy, Debug, PartialEq, Eq)]
+#[derive(Clone, Copy, PartialEq, Eq)]
 pub enum AddStatus {
     /// 0x01: the chip is ready to add.
     LearnReady,
@@ -93,7 +93,7 @@ impl AddStatus {
 }
 
 /// What a notice says of the node that is added.
-#[derive(Debug, Drop)]
+#[derive(Drop)]
 pub enum AddedNode {
     /// No node yet.
     Unnamed,

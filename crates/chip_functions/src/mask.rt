@@ -11,7 +11,7 @@ pub const MASK_BYTES: u8 = 29;
 const NODES: u8 = 232;
 
 /// A set of nodes. Contracts see their numbers in order, each once.
-#[derive(Debug, Drop)]
+#[derive(Drop)]
 pub struct NodeMask {
     bits: [u8; MASK_BYTES as usize],
 }

@@ -12,7 +12,7 @@ pub const UPDATE_FAILED: u8 = 0x81;
 pub(crate) const DEVICE_CLASSES: u8 = 3;
 
 /// What became of a SendData (Serial API: transmit status).
-#[derive(Clone, Copy, Debug, PartialEq, Eq)]
+#[derive(Clone, Copy, PartialEq, Eq)]
 pub enum TransmitStatus {
     /// 0x00: the frame was acknowledged.
     CompleteOk,
@@ -59,7 +59,7 @@ impl TransmitStatus {
 }
 
 /// What an ApplicationUpdate says of the node that was asked for its information.
-#[derive(Debug, Drop)]
+#[derive(Drop)]
 pub enum Update {
     /// Status 0x84: the node's device classes and the list of its command classes, at most 252 of them.
     Received {
@@ -74,7 +74,7 @@ pub enum Update {
 }
 
 /// A notice of the chip, by its function: a request frame from the chip.
-#[derive(Debug, Drop)]
+#[derive(Drop)]
 pub enum Notice {
     /// A frame of a node, with a payload of at least one byte.
     ApplicationCommandHandler {

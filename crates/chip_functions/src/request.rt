@@ -7,7 +7,7 @@ use zw_base::{Bytes, NodeId};
 pub const TRANSMIT_OPTIONS: u8 = 0x25;
 
 /// A request of the host, by its function.
-#[derive(Debug, Drop)]
+#[derive(Drop)]
 pub enum Request {
     GetInitData,
     GetCapabilities,

@@ -7,7 +7,7 @@ use zw_base::NodeId;
 pub const REFUSED: u8 = 0x00;
 
 /// A response of the chip, by its function.
-#[derive(Debug, Drop)]
+#[derive(Drop)]
 pub enum Response {
     GetInitData {
         version: u8,

@@ -1,5 +1,7 @@
 //! Values are written in their one written form.
 
+ghost use Rattle.std.specs.Prelude.{◌≡◌, ◌++◌, IfOk};
+
 mod notices;
 mod requests;
 mod responses;
@@ -7,3 +9,22 @@ mod responses;
 pub use notices::write_notice;
 pub use requests::write_request;
 pub use responses::write_response;
+use std::alloc::Global;
+use zw_base::{Bytes, NoMemory};
+
+/// These bytes, and more behind them.
+fn joined(alloc: Global, front: &[u8], rest: &[u8]) -> Result<Bytes, NoMemory>
+    ensures { IfOk result (λ body. body ≡ front.now ++ rest.now) }
+{
+    let mut body = Bytes::from_slice(alloc, front)?;
+    body.extend(rest)?;
+    Ok(body)
+}
+
+/// These bytes between others.
+fn between(alloc: Global, front: &[u8], middle: &[u8], last: &[u8]) -> Result<Bytes, NoMemory>
+    ensures { IfOk result (λ body. body ≡ front.now ++ (middle.now ++ last.now)) }
+{
+    let rest = joined(alloc, middle, last)?;
+    joined(alloc, front, rest.as_slice())
+}

@@ -118,3 +118,9 @@ are_short commands m is one =
     by : (k : ℕ) (command : List ℕ) → length (form m) ≤ 10 → slice_get (form m ∷ []) k ≡ Some command → length command < 65536
     by zero command ten at = let same : form m ≡ command = cc in omega (arith, ap length same)
     by (suc k) command ten at = let none : None ≡ Some command = at in absurd (cc)
+
+-- an answer without wraps
+pub short_form : (m : InfoMessage) (text : List ℕ) → IsAnswer m → text ≡ form m → IsShort text
+short_form m text is e =
+    let t = answer_text m is in
+    subst (λ (x : List ℕ). IsShort x) (sym e) (record { some = t.some; short = omega (arith, t.ten) })

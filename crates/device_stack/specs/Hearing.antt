@@ -1,6 +1,6 @@
 -- What a payload makes of a device: how it is brought down to a message, and how the answer is brought up again (Z-Wave
 -- Transport-Encapsulation Command Class Specification: Transport Service, Security 0).
-use Rattle.std.specs.Prelude.{ℕ, ◌+◌, ◌-◌, ◌%◌, false, ◌==◌, ◌&&◌, nat_lt, if◌then◌else◌, List, [], ◌∷◌, length, slice_index, Result, Ok, Err, Option, Some, None}
+use Rattle.std.specs.Prelude.{◌≡◌, ℕ, ◌+◌, ◌-◌, ◌%◌, false, ◌==◌, ◌&&◌, nat_lt, if◌then◌else◌, List, [], ◌∷◌, length, slice_index, Result, Ok, Err, Option, Some, None}
 use Rattle.std.specs.Option.{option_map, option_to_list}
 use Rattle.supervision.specs.Session.{wire_id}
 use Rattle.device_stack.specs.Sealing.{unsealed_at, sealed_text, keys_of}
@@ -20,6 +20,8 @@ use Rattle.transport_segments.specs.declared.assembler.Taken.{Taken}
 use Rattle.transport_segments.specs.declared.assembler.Taken.TheVariants.{Kept, Need, Whole}
 use Rattle.device_stack.specs.declared.kind.Kind.{Kind}
 use Rattle.device_stack.specs.declared.kind.Kind.TheVariants.{Lock, Configurable}
+use Rattle.device_stack.specs.declared.sealing.Nonces.{Nonces}
+use Rattle.device_stack.specs.declared.sealing.Nonces.TheVariants.{Asked, Told, Unsaid}
 use Rattle.device_stack.specs.State.{State, Outcome, silent}
 use Rattle.device_stack.specs.Answers.{status_report, answer_plan, worded}
 use Rattle.device_stack.specs.Effects.{effect_of, after_effect, answer_of}
@@ -117,6 +119,12 @@ hears_nonces device drawn (Ok NonceGet) = gives_nonce device drawn
 hears_nonces device drawn (Ok (NonceReport nonce)) = takes_nonce device nonce drawn
 hears_nonces device drawn (Ok _) = silent device
 hears_nonces device drawn (Err fault) = silent device
+
+-- what is said of nonces by what was read
+abbrev pub SaysOfNonces : Nonces → Result InfoMessage ClassFault → Type 0
+SaysOfNonces Asked message = message ≡ Ok NonceGet
+SaysOfNonces (Told nonce) message = message ≡ Ok (NonceReport nonce)
+SaysOfNonces Unsaid message = (device : State) (drawn : List ℕ) → hears_nonces device drawn message ≡ silent device
 
 -- a lock hears Security 0 alone
 unfoldable pub hears_securely : State → List ℕ → List ℕ → Outcome

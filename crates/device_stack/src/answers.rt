@@ -1,7 +1,9 @@
 //! How a device words its answers.
 
-ghost use Rattle.std.specs.Prelude.{◌≡◌, false, ◌<◌, ◌≤◌, length, [], ◌∷◌, IfOk};
+ghost use Rattle.std.specs.Prelude.{◌≡◌, false, ◌<◌, ◌≤◌, length, [], ◌∷◌, Some, IfOk, IfSome, All};
+ghost use Rattle.std.specs.Option.{option_to_list};
 ghost use Rattle.supervision.specs.Session.{wire_id};
+ghost use Rattle.class_info.specs.InfoSpelling.{form};
 ghost use Rattle.device_stack.specs.Answers.{report_status, asks_to_wake, status_report, final_report, swapped, answer_plan, worded};
 ghost use Rattle.device_stack.specs.Worded.{IsAnswer, IsShort, IsPayload};
 
@@ -10,7 +12,7 @@ use class_info::{InfoMessage, ReportStatus, SessionId};
 use encap::{Ends, Plan, Supervised, wrap};
 use std::alloc::Global;
 use supervision::{FAIL, NO_SUPPORT, WORKING, session_id};
-use zw_base::{Bytes, List, NoMemory, Payload};
+use zw_base::{Bytes, List, NoMemory, Payload, Replies};
 
 /// The first node whose sensors ask to be kept awake.
 const FIRST_OF_VERSION_2: u8 = 101;
@@ -66,7 +68,7 @@ fn swap(channel: Option<Ends>) -> Option<Ends>
 }
 
 /// The wraps of the answer to a message with these wraps.
-pub fn answering(plan: &Plan) -> Plan
+fn answering(plan: &Plan) -> Plan
     ensures { result ≡ answer_plan plan.now }
 {
     Plan {
@@ -77,19 +79,61 @@ pub fn answering(plan: &Plan) -> Plan
     }
 }
 
+/// The one command that a message is.
+fn only(alloc: Global, message: &InfoMessage) -> Result<List<Bytes>, NoMemory>
+    ensures { IfOk result (λ commands. commands.items ≡ form message.now ∷ []) }
+{
+    let mut commands = List::new(alloc);
+    commands.push(class_info::write(alloc, message)?)?;
+    Ok(commands)
+}
+
 /// A message in the wraps of an answer.
-pub fn word(alloc: Global, plan: &Plan, message: &InfoMessage) -> Result<Bytes, NoMemory>
+fn word(alloc: Global, plan: &Plan, message: &InfoMessage) -> Result<Bytes, NoMemory>
     requires alone { plan.now.batch ≡ false }
     requires unsupervised { plan.now.session ≡ None }
     requires answer { IsAnswer message.now }
     ensures value { IfOk result (λ text. text ≡ worded plan.now message.now) }
     ensures short { IfOk result (λ text. IsShort text) }
 {
-    let mut commands = List::new(alloc);
-    commands.push(class_info::write(alloc, message)?)?;
+    let commands = only(alloc, message)?;
     match wrap(alloc, plan, &commands) {
         Ok(text) => Ok(text),
         Err(_) => Err(NoMemory),
+    }
+}
+
+/// A message in the wraps of the answer to a message with these wraps.
+pub fn answered(
+    alloc: Global,
+    plan: &Plan,
+    message: &InfoMessage,
+) -> Result<Option<Bytes>, NoMemory>
+    requires { IsAnswer message.now }
+    ensures value { IfOk result (λ text. text ≡ Some (worded (answer_plan plan.now) message.now)) }
+    ensures short { IfOk result (λ text. IfSome text IsShort) }
+{
+    Ok(Some(word(alloc, &answering(plan), message)?))
+}
+
+/// A message without wraps.
+pub fn bare(alloc: Global, message: &InfoMessage) -> Result<Bytes, NoMemory>
+    requires { IsAnswer message.now }
+    ensures value { IfOk result (λ text. text ≡ form message.now) }
+    ensures short { IfOk result (λ text. IsShort text) }
+{
+    Ok(class_info::write(alloc, message)?)
+}
+
+/// Puts an answer out, where there is one.
+pub fn send(text: Option<Bytes>, out: &mut Replies)
+    requires empty { out.old ≡ [] }
+    requires short { IfSome text IsShort }
+    ensures replies { out.new ≡ option_to_list text }
+    ensures sizes { All IsPayload out.new }
+{
+    if let Some(text) = text {
+        out.push(payload(text.as_slice()));
     }
 }
 

@@ -3,7 +3,7 @@
 use zw_base::{By, Sequence, Setting};
 
 /// A change: what made it, and the settings that it gave, one for each property, in the order of properties.
-#[derive(Debug, Drop)]
+#[derive(Drop)]
 pub struct Change {
     pub by: By,
     pub settings: Sequence<Setting>,

@@ -5,7 +5,7 @@ use class_info::InfoMessage;
 use zw_base::{Sequence, Setting};
 
 /// What a message out of its wraps does to a device.
-#[derive(Debug, Drop)]
+#[derive(Drop)]
 pub enum Effect {
     Ignores,
     /// A device that does not listen falls asleep.

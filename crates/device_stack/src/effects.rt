@@ -14,7 +14,7 @@ ghost use Rattle.device_stack.specs.Judging.{judged_set};
 ghost use Rattle.device_stack.specs.Effects.{end_of, set_plainly, telling, effect_untold, effect_alone, effect_in_session, effect_by, effect_of, session_taken, late_answer, takes, after_effect, answer_of};
 ghost use Rattle.device_stack.specs.Worded.{IsDue, IsShort};
 
-use crate::answers::{answering, word};
+use crate::answers::answered;
 use crate::effect::Effect;
 use crate::judging::{Bench, judge_message};
 use crate::kind::{Kind, SUPERVISION};
@@ -190,7 +190,7 @@ impl Stack {
         ensures short { IfOk result (λ text. IfSome text IsShort) }
     {
         match effect {
-            Effect::Tells(report) => Ok(Some(word(self.alloc, &answering(plan), report)?)),
+            Effect::Tells(report) => answered(self.alloc, plan, report),
             Effect::Repeats(status) => match plan.session {
                 Some(asked) => self.status_text(plan, asked, *status),
                 None => unreachable!(),
@@ -214,8 +214,7 @@ impl Stack {
         ensures value { IfOk result (λ text. text ≡ Some (worded (answer_plan plan.now) (status_report self.now asked status))) }
         ensures short { IfOk result (λ text. IfSome text IsShort) }
     {
-        let report = self.status_report(asked, status);
-        Ok(Some(word(self.alloc, &answering(plan), &report)?))
+        answered(self.alloc, plan, &self.status_report(asked, status))
     }
 
     /// Makes what a message does.

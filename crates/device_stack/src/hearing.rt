@@ -6,7 +6,7 @@ ghost use Rattle.encap.specs.Opening.{Message, opened_at};
 ghost use Rattle.device_stack.specs.Hearing.{answers, answers_bytes, hears_openly, hears_by, hears};
 ghost use Rattle.device_stack.specs.Worded.{IsShort, IsPayload};
 
-use crate::answers::payload as payload_of;
+use crate::answers::send;
 use crate::sealing::MOST;
 use crate::{Kind, Stack};
 use encap::{Opened, WrapFault, unpack};
@@ -66,9 +66,8 @@ impl Stack {
         ensures err { OnErr result (self.new ≡ self.old) }
         ensures err_replies { OnErr result (out.new ≡ []) }
     {
-        if let Some(text) = self.answer_bytes(payload)? {
-            out.push(payload_of(text.as_slice()));
-        }
+        let text = self.answer_bytes(payload)?;
+        send(text, out);
         Ok(())
     }
 

@@ -45,7 +45,7 @@ const LAST_SOCKET: u8 = 4;
 pub const GROUP: u8 = 1;
 
 /// The kind of a device (this project's own choice of kinds).
-#[derive(Clone, Copy, Debug, PartialEq, Eq)]
+#[derive(Clone, Copy, PartialEq, Eq)]
 pub enum Kind {
     /// An unsupervised binary switch.
     Relay,

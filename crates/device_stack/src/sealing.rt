@@ -1,11 +1,11 @@
 //! How a lock opens and seals messages.
 
-ghost use Rattle.std.specs.Prelude.{◌≡◌, ◌-◌, ◌≤◌, [], length, slice_index, IfOk, OnOk, OnErr, All, Some};
+ghost use Rattle.std.specs.Prelude.{◌≡◌, ◌-◌, ◌≤◌, [], length, slice_index, IfOk, OnOk, OnErr, All, Some, Ok, ◌∷◌, if◌then◌else◌};
 ghost use Rattle.encap.specs.Opening.{opened_at};
 ghost use Rattle.class_info.specs.InfoReading.{info_at};
 ghost use Rattle.class_info.specs.InfoSpelling.{form};
 ghost use Rattle.device_stack.specs.Sealing.{keys_of, unsealed_at};
-ghost use Rattle.device_stack.specs.Hearing.{hears_securely, hears_sealed, hears_for, hears_plain, hears_inside, hears_nonces, gives_nonce, takes_nonce};
+ghost use Rattle.device_stack.specs.Hearing.{hears_securely, hears_sealed, hears_for, hears_plain, hears_inside, hears_nonces, gives_nonce, takes_nonce, SaysOfNonces};
 ghost use Rattle.device_stack.specs.Worded.{IsPayload};
 
 use crate::Stack;
@@ -14,7 +14,7 @@ use crate::kind::{SECURITY, node};
 use crate::stack::HOST;
 use class_core::ClassFault;
 use class_info::InfoMessage;
-use encap::{Outer, WrapFault};
+use encap::{Opened, Outer, WrapFault};
 use s0_crypto::{SealEnds, SealFault, keys, unseal};
 use std::alloc::Global;
 use zw_base::{Bytes, NoMemory, Payload, Replies};
@@ -33,6 +33,39 @@ const NAMED: usize = 9;
 
 /// The most bytes that are opened.
 pub(crate) const MOST: usize = 65_534;
+
+/// What a payload says of nonces.
+#[derive(Drop)]
+pub enum Nonces {
+    /// One is asked for.
+    Asked,
+    /// This one is given.
+    Told([u8; 8]),
+    /// Nothing.
+    Unsaid,
+}
+
+/// What a message says of nonces.
+fn nonces_of(message: &InfoMessage) -> Nonces
+    ensures { SaysOfNonces result (Ok message.now) }
+{
+    match message {
+        InfoMessage::NonceGet => Nonces::Asked,
+        InfoMessage::NonceReport { nonce } => Nonces::Told(*nonce),
+        _ => Nonces::Unsaid,
+    }
+}
+
+/// What these bytes say of nonces.
+fn nonces_in(alloc: Global, bytes: &[u8]) -> Result<Nonces, NoMemory>
+    ensures { IfOk result (λ said. SaysOfNonces said (info_at bytes.now)) }
+{
+    match class_info::read(alloc, bytes) {
+        Ok(message) => Ok(nonces_of(&message)),
+        Err(ClassFault::NoMemory) => Err(NoMemory),
+        Err(_) => Ok(Nonces::Unsaid),
+    }
+}
 
 /// The plain text of a message for a nonce of its receiver, where it opens.
 fn open(
@@ -76,11 +109,10 @@ impl Stack {
         if payload.len() >= 2 && payload[0] == SECURITY && payload[1] == MESSAGE {
             return self.hear_sealed(payload, out);
         }
-        match class_info::read(self.alloc, payload) {
-            Ok(InfoMessage::NonceGet) => self.give_nonce(drawn, out),
-            Ok(InfoMessage::NonceReport { nonce }) => self.take_nonce(nonce, drawn, out),
-            Err(ClassFault::NoMemory) => Err(NoMemory),
-            Ok(_) | Err(_) => Ok(()),
+        match nonces_in(self.alloc, payload)? {
+            Nonces::Asked => self.give_nonce(drawn, out),
+            Nonces::Told(nonce) => self.take_nonce(nonce, drawn, out),
+            Nonces::Unsaid => Ok(()),
         }
     }
 
@@ -192,14 +224,27 @@ impl Stack {
         let Some(opened) = self.unpacked(plain)? else {
             return Ok(());
         };
-        if opened.plan.outer == Outer::Crc16 {
-            return Ok(());
-        }
-        if let Some(answer) = self.answer(&opened)? {
-            self.sealing.ask(answer);
+        if self.answer_sealed(&opened)? {
             out.push(payload(&[SECURITY, NONCE_GET]));
         }
         Ok(())
+    }
+
+    /// Answers what was sealed, and says whether the answer waits for a nonce.
+    fn answer_sealed(&mut self, opened: &Opened) -> Result<bool, NoMemory>
+        ensures ok { IfOk result (λ waits. hears_inside self.old (Some (record { plan = opened.now.plan; commands = opened.now.commands.items })) ≡ record { device = self.new; replies = if waits then form InfoMessage.NonceGet ∷ [] else [] }) }
+        ensures err { OnErr result (self.new ≡ self.old) }
+    {
+        if opened.plan.outer == Outer::Crc16 {
+            return Ok(false);
+        }
+        match self.answer(opened)? {
+            Some(answer) => {
+                self.sealing.ask(answer);
+                Ok(true)
+            }
+            None => Ok(false),
+        }
     }
 }
 

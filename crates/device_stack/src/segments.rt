@@ -1,20 +1,23 @@
 //! How a device hears in segments.
 
-ghost use Rattle.std.specs.Prelude.{◌≡◌, ◌+◌, ◌<◌, ◌^◌, [], ℕ, List, IfOk, OnOk, OnErr, All, Some, IsTrue};
+ghost use Rattle.std.specs.Prelude.{◌≡◌, ◌+◌, ◌<◌, ◌^◌, false, [], ℕ, List, IfOk, IfSome, OnOk, OnErr, All, Some, IsTrue};
+ghost use Rattle.std.specs.Option.{option_map, option_to_list};
+ghost use Rattle.supervision.specs.Session.{wire_id};
 ghost use Rattle.class_info.specs.InfoSpelling.{form};
 ghost use Rattle.transport_segments.specs.Segment.{id_of, IsSegment};
 ghost use Rattle.transport_segments.specs.Taking.{taken_at};
 ghost use Rattle.device_stack.specs.Hearing.{segment_session as session_of_segments, hears_in_segments, hears_segment, assembles, acknowledged, repeats_segment, hears_openly};
-ghost use Rattle.device_stack.specs.Worded.{IsPayload};
+ghost use Rattle.device_stack.specs.Answers.{status_report};
+ghost use Rattle.device_stack.specs.Worded.{IsPayload, IsShort};
 
 use crate::Stack;
-use crate::answers::payload as payload_of;
+use crate::answers::{bare, payload as payload_of};
 use crate::kind::TRANSPORT_SERVICE;
 use class_info::InfoMessage;
 use encap::Supervised;
 use supervision::session_id;
 use transport_segments::{SegmentFault, Taken, ends_datagram, segment_id};
-use zw_base::{NoMemory, Payload, Replies};
+use zw_base::{Bytes, NoMemory, Payload, Replies};
 
 /// Segment Request.
 const REQUEST: u8 = 0xC8;
@@ -143,7 +146,6 @@ impl Stack {
     }
 
     /// Keeps a segment that completes nothing.
-    #[tactic(auto, unfolding(transport_segments::specs::Taking::kept_after))]
     fn keep(&mut self, id: u8, segment: &[u8], out: &mut Replies) -> Result<(), NoMemory>
         requires empty { out.old ≡ [] }
         requires range { id < 16 }
@@ -155,15 +157,26 @@ impl Stack {
         ensures err { OnErr result (self.new ≡ self.old) }
         ensures err_replies { OnErr result (out.new ≡ []) }
     {
+        if let Some(at) = self.keep_part(segment)? {
+            out.push(request(id, at));
+        }
+        Ok(())
+    }
+
+    /// Keeps a segment that completes nothing, and answers the place that is to be asked for, where there is one.
+    #[tactic(auto, unfolding(transport_segments::specs::Taking::kept_after))]
+    fn keep_part(&mut self, segment: &[u8]) -> Result<Option<u16>, NoMemory>
+        requires part { (datagram : List ℕ) → taken_at self.old.reassembly segment.now ≡ Some (Taken.Whole datagram) → ⊥ }
+        ensures ok { IfOk result (λ missing. assembles self.old segment.now (taken_at self.old.reassembly segment.now) ≡ record { device = self.new; replies = option_to_list (option_map (λ at. form (InfoMessage.TransportRequest (id_of segment.now) at)) missing) }) }
+        ensures range { IfOk result (λ missing. IfSome missing (λ at. at < 2048)) }
+        ensures err { OnErr result (self.new ≡ self.old) }
+    {
         match self.reassembly.take(segment) {
-            Ok(Taken::Need(at)) => {
-                out.push(request(id, at));
-                Ok(())
-            }
-            Ok(Taken::Kept) => Ok(()),
+            Ok(Taken::Need(at)) => Ok(Some(at)),
+            Ok(Taken::Kept) => Ok(None),
             Ok(Taken::Whole(_)) => unreachable!(),
             Err(SegmentFault::NoMemory) => Err(NoMemory),
-            Err(_) => Ok(()),
+            Err(_) => Ok(None),
         }
     }
 
@@ -177,14 +190,24 @@ impl Stack {
         ensures err { OnErr result (self.new ≡ self.old) }
         ensures err_replies { OnErr result (out.new ≡ []) }
     {
+        let text = self.last_status()?;
+        out.push(complete(id));
+        out.push(payload_of(text.as_slice()));
+        Ok(())
+    }
+
+    /// The text that tells the status of the last session taken.
+    fn last_status(&self) -> Result<Bytes, NoMemory>
+        ensures value { IfOk result (λ text. text ≡ form (status_report self.now (record { updates = false; id = wire_id self.now.sessions.taken }) self.now.sessions.status)) }
+        ensures short { IfOk result (λ text. IsShort text) }
+    {
         let asked = Supervised {
             updates: false,
             id: session_id(self.sessions.taken()),
         };
-        let report = self.status_report(asked, self.sessions.status());
-        let text = class_info::write(self.alloc, &report)?;
-        out.push(complete(id));
-        out.push(payload_of(text.as_slice()));
-        Ok(())
+        Ok(bare(
+            self.alloc,
+            &self.status_report(asked, self.sessions.status()),
+        )?)
     }
 }

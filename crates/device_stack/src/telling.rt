@@ -1,6 +1,8 @@
 //! What a device tells of its values.
 
-ghost use Rattle.std.specs.Prelude.{◌≡◌, ◌%◌, min, ◌≤◌, length, IfOk, IfSome, take};
+ghost use Rattle.std.specs.Prelude.{◌≡◌, ◌%◌, min, ◌≤◌, length, IfOk, IfSome, take, None, if◌then◌else◌};
+ghost use Rattle.std.specs.Option.{option_and_then};
+ghost use Rattle.device_stack.specs.Kind.{has_end};
 ghost use Rattle.device_stack.specs.Values.{value_after};
 ghost use Rattle.device_stack.specs.Telling.{report_of, asked_name_core, asked_name, members_of, value_told, told};
 ghost use Rattle.device_stack.specs.Worded.{IsAnswer};
@@ -183,6 +185,25 @@ pub fn tell_value(kind: Kind, journal: &Journal, end: EndPoint, name: &Name) -> 
     }
 }
 
+/// The report of the value that is asked for, where that end point is there.
+fn tell_asked(
+    kind: Kind,
+    journal: &Journal,
+    end: EndPoint,
+    asked: Option<Name>,
+) -> Option<InfoMessage>
+    ensures value { result ≡ (if has_end kind end then option_and_then (value_told kind (λ property. value_after journal.now property 0) end) asked else None) }
+    ensures answer { IfSome result (λ report. IsAnswer report) }
+{
+    if !kind.has_end(end) {
+        return None;
+    }
+    match asked {
+        Some(name) => tell_value(kind, journal, end, &name),
+        None => None,
+    }
+}
+
 /// The report of the members of a group, where the kind has groups.
 #[tactic(auto, unfolding(crate::specs::Telling::told))]
 fn tell_members(
@@ -218,14 +239,8 @@ pub fn tell(
     ensures value { IfOk result (λ report. report ≡ told kind (λ property. value_after journal.now property 0) end message.now) }
     ensures answer { IfOk result (λ report. IfSome report (λ report. IsAnswer report)) }
 {
-    if let InfoMessage::AssociationGet { group } = message {
-        return tell_members(alloc, kind, journal, end, *group);
-    }
-    if !kind.has_end(end) {
-        return Ok(None);
-    }
-    match asked(message) {
-        Some(name) => Ok(tell_value(kind, journal, end, &name)),
-        None => Ok(None),
+    match message {
+        InfoMessage::AssociationGet { group } => tell_members(alloc, kind, journal, end, *group),
+        _ => Ok(tell_asked(kind, journal, end, asked(message))),
     }
 }

@@ -1,15 +1,17 @@
 //! Ticks, wake-ups, values set by hand, and what is shown.
 
-ghost use Rattle.std.specs.Prelude.{◌≡◌, ◌+◌, ◌<◌, ◌^◌, [], IfOk, IfSome, OnOk, OnErr, All};
+ghost use Rattle.std.specs.Prelude.{◌≡◌, ◌+◌, ◌<◌, ◌^◌, ◌&&◌, [], ◌∷◌, IfOk, IfSome, OnOk, OnErr, All};
 ghost use Rattle.std.specs.Option.{option_map};
 ghost use Rattle.class_info.specs.InfoSpelling.{form};
-ghost use Rattle.device_stack.specs.Kind.{main_name_of};
+ghost use Rattle.device_stack.specs.Kind.{main_name_of, tells};
+ghost use Rattle.device_stack.specs.State.{with_change};
+ghost use Rattle.device_stack.specs.Judging.{setting_of};
 ghost use Rattle.device_stack.specs.Answers.{worded, answer_plan, final_report};
-ghost use Rattle.device_stack.specs.Ticking.{aged, works_out, ticked, woken, by_hand, main_told, set_by_hand};
+ghost use Rattle.device_stack.specs.Ticking.{aged, works_out, ticked, woken, by_hand, tells_by_hand, main_told, set_by_hand};
 ghost use Rattle.device_stack.specs.Showing.{shown_of, shown_at};
 ghost use Rattle.device_stack.specs.Worded.{IsShort, IsPayload};
 
-use crate::answers::{answering, payload as payload_of, word};
+use crate::answers::{answered, bare, payload as payload_of, send};
 use crate::judging::one;
 use crate::kind::{WAKE_UP, root};
 use crate::settings::is_same;
@@ -49,6 +51,22 @@ fn value_by_hand(name: Name, value: u8) -> u32
         | Name::Interval
         | Name::Sensor
         | Name::Battery => u32::from(value),
+    }
+}
+
+/// Whether a device of that kind tells of its main property unasked.
+fn tells_unasked(kind: Kind) -> bool
+    ensures { result ≡ tells_by_hand kind }
+{
+    match kind {
+        Kind::Configurable => false,
+        Kind::Relay
+        | Kind::Switch
+        | Kind::Dimmer
+        | Kind::Lock
+        | Kind::Sensor
+        | Kind::Thermostat
+        | Kind::Strip => true,
     }
 }
 
@@ -100,7 +118,7 @@ impl Stack {
         ensures short { IfOk result (λ text. IfSome text IsShort) }
     {
         match self.work.answer {
-            Some(plan) => Ok(Some(word(self.alloc, &answering(&plan), &self.final_report())?)),
+            Some(plan) => answered(self.alloc, &plan, &self.final_report()),
             None => Ok(None),
         }
     }
@@ -115,15 +133,22 @@ impl Stack {
         ensures err_replies { OnErr result (out.new ≡ []) }
     {
         let text = self.final_text()?;
+        self.end_work()?;
+        send(text, out);
+        Ok(())
+    }
+
+    /// Makes the change of the work.
+    fn end_work(&mut self) -> Result<(), NoMemory>
+        ensures ok { OnOk result (self.new ≡ (works_out self.old).device) }
+        ensures err { OnErr result (self.new ≡ self.old) }
+    {
         let settings = Sequence::from_slice(self.alloc, self.work.settings.as_slice())?;
         let by = By::Session(self.sessions.taken());
         self.journal.make(Change { by, settings })?;
         self.sessions.finish(SUCCESS);
         self.work = Work::idle(self.alloc);
         self.work_left = 0;
-        if let Some(text) = text {
-            out.push(payload_of(text.as_slice()));
-        }
         Ok(())
     }
 
@@ -156,29 +181,42 @@ impl Stack {
         ensures err_replies { OnErr result (out.new ≡ []) }
     {
         let value = value_by_hand(self.kind.main_name(), value);
-        let settings = one(self.alloc, EndPoint::root(), self.kind.main_name(), value)?;
         let text = self.main_text(value)?;
+        self.change_main(value)?;
+        send(text, out);
+        Ok(())
+    }
+
+    /// Makes the change of the main property that was made by hand.
+    fn change_main(&mut self, value: u32) -> Result<(), NoMemory>
+        ensures ok { OnOk result (self.new ≡ with_change self.old By.Local (setting_of 0 (main_name_of self.old.kind) value ∷ [])) }
+        ensures err { OnErr result (self.new ≡ self.old) }
+    {
+        let settings = one(self.alloc, EndPoint::root(), self.kind.main_name(), value)?;
         self.journal.make(Change {
             by: By::Local,
             settings,
         })?;
-        if let Some(text) = text {
-            out.push(payload_of(text.as_slice()));
-        }
         Ok(())
+    }
+
+    /// Whether it tells of its main property unasked.
+    fn tells_main(&self) -> bool
+        ensures { result ≡ (self.now.awake && tells_by_hand self.now.kind && tells self.now.kind (main_name_of self.now.kind)) }
+    {
+        self.awake && tells_unasked(self.kind) && self.kind.tells(self.kind.main_name())
     }
 
     /// The text that tells the main property with a new value, where the kind tells it.
     fn main_text(&self, value: u32) -> Result<Option<Bytes>, NoMemory>
         ensures value { IfOk result (λ text. text ≡ option_map (λ report. form report) (main_told self.now value)) }
-        ensures size { IfOk result (λ text. IfSome text IsPayload) }
+        ensures short { IfOk result (λ text. IfSome text IsShort) }
     {
-        let name = self.kind.main_name();
-        if !self.awake || self.kind == Kind::Configurable || !self.kind.tells(name) {
+        if !self.tells_main() {
             return Ok(None);
         }
-        match report(name, value) {
-            Some(report) => Ok(Some(class_info::write(self.alloc, &report)?)),
+        match report(self.kind.main_name(), value) {
+            Some(report) => Ok(Some(bare(self.alloc, &report)?)),
             None => Ok(None),
         }
     }

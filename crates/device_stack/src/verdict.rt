@@ -3,7 +3,7 @@
 use zw_base::{Sequence, Setting};
 
 /// What the commands of a session come to.
-#[derive(Debug, Drop)]
+#[derive(Drop)]
 pub enum Verdict {
     /// One of them is not supported.
     NoSupport,

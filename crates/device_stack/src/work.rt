@@ -8,7 +8,7 @@ use zw_base::{Sequence, Setting};
 
 /// What a device is at, until it is done: the settings that it makes then, and the wraps of the message where a report
 /// is asked for.
-#[derive(Debug, Drop)]
+#[derive(Drop)]
 pub struct Work {
     pub settings: Sequence<Setting>,
     pub answer: Option<Plan>,

@@ -1,7 +1,7 @@
 //! How a session ended.
 
 /// The status that ended a session (Supervision Report).
-#[derive(Clone, Copy, Debug, PartialEq, Eq)]
+#[derive(Clone, Copy, PartialEq, Eq)]
 pub enum FinalStatus {
     /// 0x00.
     NoSupport,

@@ -8,7 +8,7 @@ use std::alloc::Global;
 use zw_base::{Bytes, NoMemory};
 
 /// Why a keeper did not do what it was asked. Its records are as before.
-#[derive(Clone, Copy, Debug, PartialEq, Eq)]
+#[derive(Clone, Copy, PartialEq, Eq)]
 pub enum KeepFault {
     /// It failed, and counted that.
     Failed,

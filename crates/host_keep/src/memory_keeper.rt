@@ -10,7 +10,7 @@ use std::marker::Model;
 use zw_base::{Bytes, List, NoMemory};
 
 /// A keeper that tells its records, and fails at the calls of `append` and `read` whose numbers, from 1, it was given.
-#[derive(Debug, Drop)]
+#[derive(Drop)]
 pub struct MemoryKeeper {
     alloc: Global,
     records: List<Bytes>,

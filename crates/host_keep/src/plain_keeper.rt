@@ -11,7 +11,7 @@ use std::marker::Model;
 use zw_base::{Bytes, List};
 
 /// A keeper that tells its records and never fails.
-#[derive(Debug, Drop)]
+#[derive(Drop)]
 pub struct PlainKeeper {
     alloc: Global,
     records: List<Bytes>,

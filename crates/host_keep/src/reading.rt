@@ -14,7 +14,7 @@ use std::alloc::{AllocError, AllocFailed, Global};
 use zw_base::NoMemory;
 
 /// Why a text is not read.
-#[derive(Clone, Copy, Debug, PartialEq, Eq)]
+#[derive(Clone, Copy, PartialEq, Eq)]
 pub enum RecordFault {
     /// It is the text of no record.
     Bad,

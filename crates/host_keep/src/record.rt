@@ -5,7 +5,7 @@ use zw_base::{Bytes, NodeId};
 use zw_order::Order;
 
 /// What a host keeps of one event. Commands are numbered from 1, and so are the sessions of each node.
-#[derive(Debug, Drop)]
+#[derive(Drop)]
 pub enum Record {
     /// The order was taken as the command of that number.
     Accepted {

@@ -12,7 +12,7 @@ pub(crate) const DOOR_LOCK: u8 = 0x62;
 
 /// What a value is for a node: a switch, a level or a lock. Its class is the first of Switch Binary, Switch Multilevel and
 /// Door Lock that the node lists.
-#[derive(Clone, Copy, Debug, PartialEq, Eq)]
+#[derive(Clone, Copy, PartialEq, Eq)]
 pub enum Actuator {
     /// Switch Binary (0x25).
     Binary,

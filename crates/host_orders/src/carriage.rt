@@ -4,14 +4,14 @@ use crate::actuator::Actuator;
 use encap::Outer;
 
 /// How a command is carried: what a value is for its node, and the outermost wrap of its messages.
-#[derive(Clone, Copy, Debug, PartialEq, Eq)]
+#[derive(Clone, Copy, PartialEq, Eq)]
 pub struct Carriage {
     pub actuator: Actuator,
     pub outer: Outer,
 }
 
 /// What goes on the air for a message.
-#[derive(Clone, Copy, Debug, PartialEq, Eq)]
+#[derive(Clone, Copy, PartialEq, Eq)]
 pub enum Form {
     /// The message itself, in one frame.
     Plain,

@@ -28,7 +28,7 @@ const SENSOR_GET: u8 = 0x04;
 const MAX_QUEUED: u8 = 64;
 
 /// What a node is asked for: the value of the first of these classes that it lists.
-#[derive(Clone, Copy, Debug, PartialEq, Eq)]
+#[derive(Clone, Copy, PartialEq, Eq)]
 pub enum Gettable {
     /// Switch Binary (0x25).
     Binary,

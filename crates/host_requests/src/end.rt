@@ -4,7 +4,7 @@ use crate::Purpose;
 use chip_functions::{Response, TransmitStatus, Update};
 
 /// How a request ended.
-#[derive(Debug, Drop)]
+#[derive(Drop)]
 pub enum How {
     /// A SendData, at the callback with its id.
     AtCallback(TransmitStatus),
@@ -42,7 +42,7 @@ impl How {
 }
 
 /// A request that ended.
-#[derive(Debug, Drop)]
+#[derive(Drop)]
 pub struct End {
     pub purpose: Purpose,
     pub how: How,

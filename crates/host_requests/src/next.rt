@@ -3,7 +3,7 @@
 use crate::{How, Progress};
 
 /// What becomes of the request under way.
-#[derive(Debug, Drop)]
+#[derive(Drop)]
 pub enum Next {
     GoesOn(Progress),
     Ends(How),

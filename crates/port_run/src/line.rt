@@ -14,7 +14,7 @@ use zw_words::{LineFault, ReadLineFault, last_number, open_line};
 const MOST_TICKS: u32 = 100_000;
 
 /// A line of `host` (this project's own).
-#[derive(Debug, Drop)]
+#[derive(Drop)]
 pub enum PortLine {
     /// An order, `send`, `get`, `join`, `interview` or `probe`.
     Plain { line: Line },

@@ -13,7 +13,7 @@ use zw_print::print_entry;
 use zw_text::Entry;
 
 /// Why a text was not read as an entry.
-#[derive(Clone, Copy, Debug, PartialEq, Eq)]
+#[derive(Clone, Copy, PartialEq, Eq)]
 pub enum EntryFault {
     /// The text is not that of an entry.
     Bad,

@@ -4,7 +4,7 @@ use zw_base::{By, Bytes, NodeId, Payload, Property, Sequence, Setting};
 use zw_words::{LineFault, Side};
 
 /// How a command ended.
-#[derive(Clone, Copy, Debug, PartialEq, Eq)]
+#[derive(Clone, Copy, PartialEq, Eq)]
 pub enum Ended {
     Success,
     Fail,
@@ -26,7 +26,7 @@ pub enum Outcome {
 }
 
 /// How a request without Supervision ended.
-#[derive(Clone, Copy, Debug, PartialEq, Eq)]
+#[derive(Clone, Copy, PartialEq, Eq)]
 pub enum Done {
     /// `ok`: the callback with status 0.
     Delivered,
@@ -47,7 +47,7 @@ pub enum Done {
 }
 
 /// Why a line is refused, with the value that is printed behind the name.
-#[derive(Clone, Copy, Debug, PartialEq, Eq)]
+#[derive(Clone, Copy, PartialEq, Eq)]
 pub enum Refusal {
     /// The node is not joined.
     NotJoined,
@@ -88,7 +88,7 @@ pub enum Refusal {
 }
 
 /// An entry of a transcript, which is one line of its text (this project's own). Ticks are of 100 ms.
-#[derive(Debug, Drop)]
+#[derive(Drop)]
 pub enum Entry {
     /// `> WORDS`: the line that is run, its words as they came with one space between two.
     Said {

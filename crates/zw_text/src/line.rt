@@ -5,7 +5,7 @@ use zw_order::{Order, Word};
 use zw_words::Side;
 
 /// A line of a scenario (this project's own). Ticks are of 100 ms.
-#[derive(Debug, Drop)]
+#[derive(Drop)]
 pub enum Line {
     /// `set`, `mode`, `setpoint`, `comfort`, `config`, `bulk`, `assoc`, `unassoc` or `interval`: an order, whose node
     /// is 2 to 232, and whose end point is 0 but for `set N.E V`.
@@ -64,7 +64,7 @@ pub enum Line {
 }
 
 /// A line of `replay`, which drives the host alone (this project's own).
-#[derive(Debug, Drop)]
+#[derive(Drop)]
 pub enum ReplayLine {
     /// A line that speaks to the host, or `tick`.
     Plain { line: Line },

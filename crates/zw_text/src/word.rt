@@ -4,7 +4,7 @@ ghost use Rattle.std.specs.Prelude.{◌≡◌, bytes_eq};
 ghost use Rattle.zw_text.specs.Line.{is_replayed, line_word_in, word_text};
 
 /// The first word of a line, one for each kind of line (this project's own). Its text is the name in lower case.
-#[derive(Clone, Copy, Debug, PartialEq, Eq)]
+#[derive(Clone, Copy, PartialEq, Eq)]
 pub enum LineWord {
     Set,
     Mode,

@@ -38,6 +38,26 @@ fn callback(place: &mut Place) -> Result<Notice, BodyFault>
     })
 }
 
+/// The information of a node, so many bytes in all. Their number stands at the place before.
+fn device_classes(
+    alloc: Global,
+    before: u16,
+    len: u8,
+    place: &mut Place,
+) -> Result<(u8, u8, u8, Bytes), BodyFault>
+    requires { place.old.before ≤ 5 }
+    ensures { Gives (λ x. ((x.0, (x.1, (x.2, x.3))), place_of place.new)) result (classes_after before len (place_of place.old)) }
+{
+    if len < DEVICE_CLASSES {
+        return Err(BodyFault::BadField(before));
+    }
+    let basic = place.byte()?;
+    let generic = place.byte()?;
+    let specific = place.byte()?;
+    let classes = Bytes::from_slice(alloc, place.piece(len - DEVICE_CLASSES)?)?;
+    Ok((basic, generic, specific, classes))
+}
+
 #[tactic(auto, unfolding(crate::specs::Notice::received_at))]
 fn received(alloc: Global, place: &mut Place) -> Result<Update, BodyFault>
     requires { place.old.before ≤ 1 }
@@ -46,13 +66,7 @@ fn received(alloc: Global, place: &mut Place) -> Result<Update, BodyFault>
     let node = place.node()?;
     let before = place.before;
     let len = place.byte()?;
-    if len < DEVICE_CLASSES {
-        return Err(BodyFault::BadField(before));
-    }
-    let basic = place.byte()?;
-    let generic = place.byte()?;
-    let specific = place.byte()?;
-    let classes = Bytes::from_slice(alloc, place.piece(len - DEVICE_CLASSES)?)?;
+    let (basic, generic, specific, classes) = device_classes(alloc, before, len, place)?;
     Ok(Update::Received {
         node,
         basic,
@@ -82,13 +96,7 @@ fn named(alloc: Global, node: NodeId, place: &mut Place) -> Result<AddedNode, Bo
     if len == 0 {
         return Ok(AddedNode::Named { node });
     }
-    if len < DEVICE_CLASSES {
-        return Err(BodyFault::BadField(before));
-    }
-    let basic = place.byte()?;
-    let generic = place.byte()?;
-    let specific = place.byte()?;
-    let classes = Bytes::from_slice(alloc, place.piece(len - DEVICE_CLASSES)?)?;
+    let (basic, generic, specific, classes) = device_classes(alloc, before, len, place)?;
     Ok(AddedNode::Described {
         node,
         basic,

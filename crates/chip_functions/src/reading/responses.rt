@@ -1,8 +1,9 @@
 //! Responses, as the host reads them.
 
-ghost use Rattle.std.specs.Prelude.{◌≡◌, ℕ, IfOk, IfErr};
+ghost use Rattle.std.specs.Prelude.{◌≡◌, ◌≤◌, ℕ, IfOk, IfErr};
 ghost use Rattle.chip_functions.specs.Place.{Gives, IsBodyFault};
 ghost use Rattle.chip_functions.specs.Seen.{place_of};
+ghost use Rattle.chip_functions.specs.Field.{byte, mask, ◌then◌};
 ghost use Rattle.chip_functions.specs.Response.{init_data_at, capabilities_at, version_at, memory_id_at, protocol_info_at, IsResponseBody, response_at, response_of};
 ghost use Rattle.chip_functions.specs.declared.response.Response.{Response};
 
@@ -12,8 +13,16 @@ use crate::function::{
 };
 use crate::mask::MASK_BYTES;
 use crate::place::Place;
-use crate::{BodyFault, Response};
+use crate::{BodyFault, NodeMask, Response};
 use std::alloc::Global;
+
+/// The nodes, and the type and the version of the chip.
+fn nodes_and_chip(place: &mut Place) -> Result<(NodeMask, u8, u8), BodyFault>
+    requires { place.old.before ≤ 3 }
+    ensures { Gives (λ x. ((x.0, (x.1, x.2)), place_of place.new)) result ((mask then byte then byte).read (place_of place.old)) }
+{
+    Ok((place.mask()?, place.byte()?, place.byte()?))
+}
 
 #[tactic(auto, unfolding(crate::specs::Response::init_data_at))]
 fn init_data(place: &mut Place) -> Result<Response, BodyFault>
@@ -23,12 +32,13 @@ fn init_data(place: &mut Place) -> Result<Response, BodyFault>
     let version = place.byte()?;
     let capabilities = place.byte()?;
     place.mark(MASK_BYTES)?;
+    let (nodes, chip_type, chip_version) = nodes_and_chip(place)?;
     Ok(Response::GetInitData {
         version,
         capabilities,
-        nodes: place.mask()?,
-        chip_type: place.byte()?,
-        chip_version: place.byte()?,
+        nodes,
+        chip_type,
+        chip_version,
     })
 }
 

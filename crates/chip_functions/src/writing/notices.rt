@@ -7,6 +7,7 @@ ghost use Rattle.chip_functions.specs.Classes.{classes};
 ghost use Rattle.chip_functions.specs.AddNode.{add_notice, added, IsAdded};
 ghost use Rattle.chip_functions.specs.Field.{IsNode};
 
+use super::joined;
 use crate::function::{ADD_NODE, APPLICATION_COMMAND_HANDLER, APPLICATION_UPDATE, SEND_DATA};
 use crate::notice::{DEVICE_CLASSES, UPDATE_FAILED, UPDATE_RECEIVED};
 use crate::{AddStatus, AddedNode, Notice, Update};
@@ -30,9 +31,8 @@ fn handler(alloc: Global, rx_status: u8, source: NodeId, payload: &Bytes) -> Res
     ensures body { IfOk result (λ body. body ≡ handler.spell (rx_status, (source, payload.now))) }
     ensures node { IsNode source }
 {
-    let mut body = Bytes::from_slice(alloc, &[rx_status, source.number(), payload.len() as u8])?;
-    body.extend(payload.as_slice())?;
-    Ok(body)
+    let front = [rx_status, source.number(), payload.len() as u8];
+    joined(alloc, &front, payload.as_slice())
 }
 
 fn update(alloc: Global, value: &Update) -> Result<Bytes, NoMemory>
@@ -57,9 +57,7 @@ fn update(alloc: Global, value: &Update) -> Result<Bytes, NoMemory>
                 *generic,
                 *specific,
             ];
-            let mut body = Bytes::from_slice(alloc, &front)?;
-            body.extend(classes.as_slice())?;
-            Ok(body)
+            joined(alloc, &front, classes.as_slice())
         }
         Update::RequestFailed => Bytes::from_slice(alloc, &[UPDATE_FAILED, 0, 0]),
     }
@@ -98,9 +96,7 @@ fn add_notice(
                 *generic,
                 *specific,
             ];
-            let mut body = Bytes::from_slice(alloc, &front)?;
-            body.extend(classes.as_slice())?;
-            Ok(body)
+            joined(alloc, &front, classes.as_slice())
         }
     }
 }

@@ -5,6 +5,7 @@ ghost use Rattle.serial_frame.specs.declared.frame.Kind.TheVariants.{Request as 
 ghost use Rattle.chip_functions.specs.Request.{send_data, request_function, request_body, HasRequestRow, IsRequest, IsRequestBody};
 ghost use Rattle.chip_functions.specs.Field.{IsNode};
 
+use super::between;
 use crate::Request;
 use crate::function::{
     ADD_NODE, GET_CAPABILITIES, GET_INIT_DATA, GET_NODE_PROTOCOL_INFO, GET_ROUTING_INFO,
@@ -43,10 +44,8 @@ fn send_data(
     ensures body { IfOk result (λ body. body ≡ send_data.spell (node, (payload.now, (options, callback_id)))) }
     ensures node { IsNode node }
 {
-    let mut body = Bytes::from_slice(alloc, &[node.number(), payload.len() as u8])?;
-    body.extend(payload.as_slice())?;
-    body.extend(&[options, callback_id])?;
-    Ok(body)
+    let front = [node.number(), payload.len() as u8];
+    between(alloc, &front, payload.as_slice(), &[options, callback_id])
 }
 
 fn body(alloc: Global, value: &Request) -> Result<Bytes, NoMemory>

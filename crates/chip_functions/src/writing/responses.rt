@@ -7,6 +7,7 @@ ghost use Rattle.chip_functions.specs.Response.{init_data, capabilities, version
 ghost use Rattle.chip_functions.specs.Field.{IsNode};
 ghost use Rattle.chip_functions.specs.Mask.{AreNodes};
 
+use super::{between, joined};
 use crate::function::{
     GET_CAPABILITIES, GET_INIT_DATA, GET_NODE_PROTOCOL_INFO, GET_ROUTING_INFO, GET_VERSION,
     IS_FAILED_NODE, MEMORY_GET_ID, REQUEST_NODE_INFO, SEND_DATA,
@@ -45,10 +46,12 @@ fn init_data(
     ensures nodes { OnOk result (AreNodes nodes.now) }
     ensures fits { IfOk result (λ body. length body ≤ 252) }
 {
-    let mut body = Bytes::from_slice(alloc, &[version, capabilities, MASK_BYTES])?;
-    body.extend(nodes.as_bytes())?;
-    body.extend(&[chip_type, chip_version])?;
-    Ok(body)
+    between(
+        alloc,
+        &[version, capabilities, MASK_BYTES],
+        nodes.as_bytes(),
+        &[chip_type, chip_version],
+    )
 }
 
 fn capabilities(
@@ -63,12 +66,18 @@ fn capabilities(
     ensures row { OnOk result ((manufacturer < 2 ^ 16) × (product_type < 2 ^ 16) × (product < 2 ^ 16) × (length functions.now ≡ 32)) }
     ensures fits { IfOk result (λ body. length body ≤ 252) }
 {
-    let mut body = Bytes::from_slice(alloc, &versions)?;
-    body.extend(&manufacturer.to_be_bytes())?;
-    body.extend(&product_type.to_be_bytes())?;
-    body.extend(&product.to_be_bytes())?;
-    body.extend(functions)?;
-    Ok(body)
+    let last = between(
+        alloc,
+        &product_type.to_be_bytes(),
+        &product.to_be_bytes(),
+        functions,
+    )?;
+    between(
+        alloc,
+        &versions,
+        &manufacturer.to_be_bytes(),
+        last.as_slice(),
+    )
 }
 
 fn body(alloc: Global, value: &Response) -> Result<Bytes, NoMemory>
@@ -139,18 +148,14 @@ fn version(alloc: Global, text: &[u8; 12], library_type: u8) -> Result<Bytes, No
     ensures row { OnOk result (length text.now ≡ 12) }
     ensures fits { IfOk result (λ body. length body ≤ 252) }
 {
-    let mut body = Bytes::from_slice(alloc, text)?;
-    body.push(library_type)?;
-    Ok(body)
+    joined(alloc, text, &[library_type])
 }
 
 fn memory_id(alloc: Global, home_id: u32, node: NodeId) -> Result<Bytes, NoMemory>
     ensures body { IfOk result (λ body. body ≡ memory_id.spell (home_id, node)) }
     ensures node { IsNode node }
 {
-    let mut body = Bytes::from_slice(alloc, &home_id.to_be_bytes())?;
-    body.push(node.number())?;
-    Ok(body)
+    joined(alloc, &home_id.to_be_bytes(), &[node.number()])
 }
 
 fn failed_code(failed: bool) -> u8
