@@ -73,6 +73,12 @@ told_of_failure =
     Said (codes "set 2 on") ∷ Accepted 1 2 ∷ Begin 2 1 1 ∷ Written Chip (bytes (codes "010B00040002056C0201FF0067")) ∷
     Out 1 endings.Fail ∷ []
 
+-- success is reported where the report is of another session
+abbrev pub told_of_session : List Entry
+told_of_session =
+    Said (codes "set 2 on") ∷ Accepted 1 2 ∷ Begin 2 1 1 ∷ Written Chip (bytes (codes "010B00040002056C0202FF0064")) ∷
+    Out 1 endings.Success ∷ []
+
 -- success is reported of a lock whose report is not sealed
 abbrev pub told_openly : List Entry
 told_openly =
@@ -89,6 +95,11 @@ abbrev pub old_from_none : List Entry
 old_from_none =
     Old 2 1 ∷ []
 
+-- an old report is entered with another id
+abbrev pub old_otherwise : List Entry
+old_otherwise =
+    Written Chip (bytes (codes "010B00040002056C0201FF0067")) ∷ Old 2 2 ∷ []
+
 -- an interview succeeds though no information has come
 abbrev pub interviewed_by_none : List Entry
 interviewed_by_none =
@@ -98,6 +109,11 @@ interviewed_by_none =
 abbrev pub interviewed_otherwise : List Entry
 interviewed_otherwise =
     Written Chip (bytes (codes "010D00498405070400003180846C60")) ∷ Interviewed 5 ∷ []
+
+-- another value is entered as heard than was told
+abbrev pub reported_otherwise : List Entry
+reported_otherwise =
+    Written Chip (bytes (codes "010900040002032503FF2A")) ∷ Report 2 (setting 0 names.Switch 0) ∷ []
 
 -- a value is entered as heard that was not told
 abbrev pub reported_by_none : List Entry

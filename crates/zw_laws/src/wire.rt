@@ -6,7 +6,7 @@ ghost use Rattle.zw_laws.specs.Carrying.{CarriesUnits, BringsWhatWasHeard};
 ghost use Rattle.zw_laws.specs.Payloads.{SendsWhatIsDue, BeginsWithUnit};
 ghost use Rattle.zw_laws.specs.Causes.{EachHasCause};
 ghost use Rattle.zw_laws.specs.Worked.{plain_exchange, repeated_exchange, lossy_exchange, cancelled_order, restarted_host, sleeping_node, sealed_exchange, long_message, the_switch, the_sensor, the_lock, the_plug};
-ghost use Rattle.zw_laws.specs.WorkedWrongWire.{aired_unasked, aired_twice, brought_unheard, sent_otherwise, begun_silently, begun_elsewhere, told_by_none, told_of_another, told_of_failure, told_openly, woken_by_none, old_from_none, interviewed_by_none, interviewed_otherwise, reported_by_none};
+ghost use Rattle.zw_laws.specs.WorkedWrongWire.{aired_unasked, aired_twice, brought_unheard, sent_otherwise, begun_silently, begun_elsewhere, told_by_none, told_of_another, told_of_failure, told_of_session, told_openly, woken_by_none, old_from_none, old_otherwise, interviewed_by_none, interviewed_otherwise, reported_by_none, reported_otherwise};
 
 /// In worked transcripts the controller's frames are those that units asked for.
 pub fn worked_units()
@@ -43,10 +43,10 @@ pub fn worked_causes()
     ensures cancelled { EachHasCause (listing_of (the_switch ∷ [])) [] cancelled_order }
 {}
 
-/// Each of these breaks one part of the laws: a frame that no unit asked for, or twice for one unit; a payload brought that
-/// was not heard; the message of another session; a session that begins without its unit, or with one for another
-/// node; an outcome of a command that no session carries, of which the report tells another one, or that a lock tells unsealed; an interview with other classes; and an outcome, a waking, an old report, an interview and
-/// a heard value without a cause.
+/// Each of these breaks one part of the laws: a frame that no unit asked for, or twice for one unit; a payload brought that was not heard; the message
+/// of another session; a session that begins without its unit, or with one for another node; an outcome of a command that no session carries, of which
+/// the report is of another session or tells another status, or that a lock tells unsealed; an old report with another id; an interview with other
+/// classes; another value than was heard; and an outcome, a waking, an old report, an interview and a heard value without a cause.
 pub fn rejected_wire()
     ensures aired { CarriesUnits aired_unasked → ⊥ }
     ensures twice { CarriesUnits aired_twice → ⊥ }
@@ -56,6 +56,9 @@ pub fn rejected_wire()
     ensures elsewhere { BeginsWithUnit begun_elsewhere → ⊥ }
     ensures another { EachHasCause (listing_of (the_switch ∷ [])) [] told_of_another → ⊥ }
     ensures failure { EachHasCause (listing_of (the_switch ∷ [])) [] told_of_failure → ⊥ }
+    ensures session { EachHasCause (listing_of (the_switch ∷ [])) [] told_of_session → ⊥ }
+    ensures old_id { EachHasCause (listing_of (the_switch ∷ [])) [] old_otherwise → ⊥ }
+    ensures other_value { EachHasCause (listing_of (the_switch ∷ [])) [] reported_otherwise → ⊥ }
     ensures openly { EachHasCause (listing_of (the_lock ∷ [])) [] told_openly → ⊥ }
     ensures told { EachHasCause (listing_of (the_switch ∷ [])) [] told_by_none → ⊥ }
     ensures woken { EachHasCause (listing_of (the_sensor ∷ [])) [] woken_by_none → ⊥ }

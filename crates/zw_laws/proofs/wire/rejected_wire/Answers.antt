@@ -1,11 +1,15 @@
-use Rattle.std.proofs.Common.{◌≡◌, ℕ, Bool, true, false, List, [], ◌∷◌, ◌++◌, Option, Some, length, unwrap_or, refl, ap, subst, inl, inr, arith}
+use Rattle.std.proofs.Common.{◌≡◌, ℕ, Bool, true, false, List, [], ◌∷◌, ◌++◌, Option, Some, length, unwrap_or, refl, sym, ap, subst, inl, inr, arith}
 use Rattle.std.specs.Prelude.{◌==◌, ◌%◌, if◌then◌else◌, take}
 use Rattle.std.proofs.lemmas.Bool.Decides.{nat_tests}
 use Rattle.supervision.specs.Host.{command_at}
 use Rattle.chip_functions.specs.declared.notice.Notice.{Notice}
 use Rattle.chip_functions.specs.declared.notice.Notice.TheVariants.{ApplicationUpdate}
 use Rattle.chip_functions.specs.declared.notice.Update.TheVariants.{Received}
+use Rattle.zw_base.specs.declared.property.Name.TheVariants as names
+use Rattle.zw_base.specs.declared.property.Setting.{Setting}
 use Rattle.host_orders.specs.Classes.{lists}
+use Rattle.host_orders.specs.Settings.{setting}
+use Rattle.zw_laws.specs.Lists.{Has}
 use Rattle.class_info.specs.declared.report_status.ReportStatus.{ReportStatus}
 use Rattle.class_info.specs.declared.report_status.ReportStatus.TheVariants as statuses
 use Rattle.host_heard.specs.declared.told.Told.{Told}
@@ -24,6 +28,12 @@ use Rattle.zw_laws.proofs.wire.rejected_wire.Goals as goal
 abbrev last_byte : ℕ → List ℕ → ℕ
 last_byte before [] = before
 last_byte before (byte ∷ bytes) = last_byte byte bytes
+
+on_off : ◌≡◌ {A = ℕ} 255 0 → ⊥
+on_off e = omega (arith, e)
+
+two_none : ◌≡◌ {A = ℕ} 2 0 → ⊥
+two_none e = omega (arith, e)
 
 off_on : ◌≡◌ {A = ℕ} 0 255 → ⊥
 off_on e = omega (arith, e)
@@ -163,6 +173,71 @@ returns-clause-openly c = λ law.
     (told.Report (length (sessions node past) % 64) statuses.Success cause.wake_request)) (payloads_from node past) → ⊥)
     (of_lock cause.node (4 == cause.node) refl cause.carries)
     (λ tells. elim tells [ inl opens ↦ not_sealed 4 _ opens | inr never ↦ never ]) cause.reported
+
+-- the report of another session
+abbrev second_report : List ℕ
+second_report = 0x6C ∷ 2 ∷ 2 ∷ 0xFF ∷ 0 ∷ []
+
+abbrev id_of : Told → ℕ
+id_of (told.Report id status wake_request) = id
+id_of _ = 0
+
+two_never : (is : Bool) → 2 ≡ length (begun_if is) % 64 → ⊥
+two_never true same = two_one same
+two_never false same = two_none same
+
+other_session : (sealed is : Bool) (node : ℕ) (wake_request : Bool)
+    → TellsReport sealed [] node second_report (told.Report (length (begun_if is) % 64) statuses.Success wake_request) → ⊥
+unfolding computing unsealed_at
+other_session false is node wake_request (inl (inl same)) = two_never is (ap id_of same)
+other_session false is node wake_request (inl (inr never)) = never
+other_session false is node wake_request (inr opens) = none_one (ap opened_tag opens.opens)
+other_session true is node wake_request opens = none_one (ap opened_tag opens.opens)
+
+abbrev second_if : Bool → List (List ℕ)
+second_if is = (if is then second_report ∷ [] else []) ++ []
+
+nobody_tells_second : (Tells : List ℕ → Type 0) → (Tells second_report → ⊥) → (is : Bool) → OneTells Tells (second_if is) → ⊥
+nobody_tells_second Tells not true (inl tells) = not tells
+nobody_tells_second Tells not true (inr never) = never
+nobody_tells_second Tells not false never = never
+
+pub returns-clause-session : goal.returns-clause-session
+unfolding computing
+returns-clause-session c = λ law.
+    let cause = law.1.1.1.1.0 in
+    nobody_tells_second _ (other_session _ (2 == cause.node) cause.node cause.wake_request) (2 == cause.node) cause.reported
+
+pub returns-clause-old_id : goal.returns-clause-old_id
+unfolding computing
+returns-clause-old_id c = λ law. elim law.1.0.told_it [
+  | inl (inl (inl same)) ↦ one_two (ap id_of same)
+  | inl (inl (inr never)) ↦ never
+  | inl (inr opens) ↦ not_sealed 2 _ opens
+  | inr never ↦ never
+]
+
+-- the settings that are told
+abbrev settings_of : Told → List Setting
+settings_of (told.Values settings) = settings
+settings_of _ = []
+
+-- a value of 255 alone is no value of 0
+not_among : (settings : List Setting) → setting 0 names.Switch 255 ∷ [] ≡ settings → Has settings (setting 0 names.Switch 0) → ⊥
+not_among settings same among =
+    elim (subst (λ (list : List Setting). Has list (setting 0 names.Switch 0)) (sym same) among) [
+      | inl is ↦ on_off (ap (λ (one : Setting). one.value) is)
+      | inr never ↦ never
+    ]
+
+pub returns-clause-other_value : goal.returns-clause-other_value
+unfolding computing unsealed_at
+returns-clause-other_value c = λ law. elim law.1.0.told_them [
+  | inl (inl (inl same)) ↦ not_among law.1.0.settings (ap settings_of same) law.1.0.among
+  | inl (inl (inr never)) ↦ never
+  | inl (inr opens) ↦ none_one (ap opened_tag opens.opens)
+  | inr never ↦ never
+]
 
 -- how many classes an information tells
 abbrev classes_in : Notice → ℕ
