@@ -31,7 +31,7 @@ pub record Late (node : ℕ) (transcript more : List Entry) (old new : State) (e
   pub few : length (comings (early ++ late)) ≤ suc (length (brought node transcript))
   pub front : IsFrontOf (comings (early ++ late)) (brought node (transcript ++ more))
   pub ticked : ticks_lived (early ++ late) ≤ ticks_asked (lines_run transcript)
-  pub answered : CameJoined node transcript → IsFrontOf (sent_from node transcript) (replies_in old (early ++ late))
+  pub answered : CameJoined node transcript → old.work_left ≡ 0 → IsFrontOf (sent_from node transcript) (replies_in old (early ++ late))
 
 pub late_by : (node : ℕ) (transcript : List Entry) (old new : State) (law : RanAsFar node transcript old new) (early : List DeviceEvent)
     → law.earlier ≡ early → Late node transcript law.more old new early law.late

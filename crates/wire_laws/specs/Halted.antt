@@ -32,11 +32,11 @@ pub record RanAsFar (node : ℕ) (transcript : List Entry) (old new : State) : T
   pub runs : new ≡ after_events old (earlier ++ late)
   pub came : comings earlier ≡ brought node (before_line transcript)
   pub ticked : ticks_lived earlier ≡ ticks_asked (lines_run (before_line transcript))
-  pub answered : CameJoined node transcript → sent_from node (before_line transcript) ≡ replies_in old earlier
+  pub answered : CameJoined node transcript → old.work_left ≡ 0 → sent_from node (before_line transcript) ≡ replies_in old earlier
   pub unsaid : lines_run more ≡ []
   pub one_more : length (brought node (transcript ++ more)) ≤ suc (length (brought node transcript))
   pub came_late : IsFrontOf (comings (earlier ++ late)) (brought node (transcript ++ more))
   pub ticked_late : ticks_lived (earlier ++ late) ≤ ticks_asked (lines_run transcript)
   pub changed : new.journal ≡ old.journal ++ changes
   pub entered : made node (transcript ++ more) ≡ flat_map made_by changes
-  pub answered_late : CameJoined node transcript → IsFrontOf (sent_from node transcript) (replies_in old (earlier ++ late))
+  pub answered_late : CameJoined node transcript → old.work_left ≡ 0 → IsFrontOf (sent_from node transcript) (replies_in old (earlier ++ late))

@@ -106,6 +106,7 @@ made_by change = map (λ setting. record { by = change.by; setting = setting }) 
 
 -- the device of a node went from its state at entry to that at exit by what the transcript shows and the ticks that the
 -- lines ask for, in order; its changes are the `dev` entries, and its answers the frames that it sent, where all came to it when it was joined
+-- and it was at no work at entry
 pub record RanAsShown (node : ℕ) (transcript : List Entry) (old new : State) : Type 0 where
   pub events : List DeviceEvent
   pub changes : List Change
@@ -114,4 +115,4 @@ pub record RanAsShown (node : ℕ) (transcript : List Entry) (old new : State) :
   pub ticked : ticks_lived events ≡ ticks_asked (lines_run transcript)
   pub changed : new.journal ≡ old.journal ++ changes
   pub entered : made node transcript ≡ flat_map made_by changes
-  pub answered : CameJoined node transcript → sent_from node transcript ≡ replies_in old events
+  pub answered : CameJoined node transcript → old.work_left ≡ 0 → sent_from node transcript ≡ replies_in old events

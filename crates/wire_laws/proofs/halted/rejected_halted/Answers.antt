@@ -87,7 +87,7 @@ returns-clause-unticked c = λ law.
 pub returns-clause-silent : goal.returns-clause-silent
 unfolding reckoning
 returns-clause-silent c = λ law.
-    none_one (ap length (law.answered refl)
+    none_one (ap length (law.answered refl refl)
     ∙ ap (λ (events : List DeviceEvent). length (replies_in sleeper events)) (only_woken law.earlier law.came law.ticked))
 
 pub returns-clause-older : goal.returns-clause-older
@@ -122,7 +122,7 @@ pub returns-clause-words : goal.returns-clause-words
 unfolding reckoning
 returns-clause-words c = λ law.
     let late = late_by 5 woken_otherwise sleeper the_sensor law [] (nothing_came law.earlier law.came law.ticked) in
-    let said = late.answered refl in
+    let said = late.answered refl refl in
     elim (woken_first law.late late.front.0 (sym (ap first_tag late.front.1)) late.ticked) [
       | inl none ↦ none_some _ (ap (λ (events : List DeviceEvent). length (replies_in sleeper events)) (sym none) ∙ ap length said.1)
       | inr first ↦ seven_eight (ap (λ (events : List DeviceEvent). first_said (replies_in sleeper events)) (sym first.1) ∙ ap first_said said.1)

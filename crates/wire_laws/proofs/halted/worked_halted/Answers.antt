@@ -15,14 +15,14 @@ returns-clause-heard c = record {
   runs = refl;
   came = refl;
   ticked = refl;
-  answered = λ joined. refl;
+  answered = λ joined idle. refl;
   unsaid = refl;
   one_more = omega arith;
   came_late = ([], refl);
   ticked_late = omega arith;
   changed = refl;
   entered = refl;
-  answered_late = λ joined. (_, refl);
+  answered_late = λ joined idle. (_, refl);
 }
 
 pub returns-clause-changed : goal.returns-clause-changed
@@ -35,14 +35,14 @@ returns-clause-changed c = record {
   runs = refl;
   came = refl;
   ticked = refl;
-  answered = λ joined. refl;
+  answered = λ joined idle. refl;
   unsaid = refl;
   one_more = omega arith;
   came_late = ([], refl);
   ticked_late = omega arith;
   changed = refl;
   entered = refl;
-  answered_late = λ joined. (_, refl);
+  answered_late = λ joined idle. (_, refl);
 }
 
 pub returns-clause-unheard : goal.returns-clause-unheard
@@ -55,12 +55,12 @@ returns-clause-unheard c = record {
   runs = refl;
   came = refl;
   ticked = refl;
-  answered = λ joined. refl;
+  answered = λ joined idle. refl;
   unsaid = refl;
   one_more = omega arith;
   came_late = (_, refl);
   ticked_late = omega arith;
   changed = refl;
   entered = refl;
-  answered_late = λ joined. (_, refl);
+  answered_late = λ joined idle. (_, refl);
 }

@@ -46,5 +46,5 @@ returns-clause-unshown c = λ law.
 pub returns-clause-silent : goal.returns-clause-silent
 unfolding computing_devices
 returns-clause-silent c = λ law.
-    one_zero (sym (ap length (law.answered refl)
+    one_zero (sym (ap length (law.answered refl refl)
     ∙ ap (λ (events : List DeviceEvent). length (replies_in the_switch events)) (only_set law.events 1 law.came law.ticked)))

@@ -18,7 +18,7 @@ returns-clause-plain c = record {
   ticked = refl;
   changed = refl;
   entered = refl;
-  answered = λ came. refl;
+  answered = λ came idle. refl;
 }
 
 pub returns-clause-turned_on : goal.returns-clause-turned_on
@@ -35,7 +35,7 @@ returns-clause-sleeping c = record {
   ticked = refl;
   changed = refl;
   entered = refl;
-  answered = λ came. refl;
+  answered = λ came idle. refl;
 }
 
 pub returns-clause-set_apart : goal.returns-clause-set_apart
@@ -52,7 +52,7 @@ returns-clause-by_hand c = record {
   ticked = refl;
   changed = refl;
   entered = refl;
-  answered = λ came. refl;
+  answered = λ came idle. refl;
 }
 
 pub returns-clause-ticked : goal.returns-clause-ticked
@@ -65,7 +65,7 @@ returns-clause-ticked c = record {
   ticked = refl;
   changed = refl;
   entered = refl;
-  answered = λ came. refl;
+  answered = λ came idle. refl;
 }
 
 -- a list of one is not empty
@@ -82,5 +82,5 @@ returns-clause-apart c = record {
   ticked = refl;
   changed = refl;
   entered = refl;
-  answered = λ came. absurd (one_none _ came);
+  answered = λ came idle. absurd (one_none _ came);
 }
