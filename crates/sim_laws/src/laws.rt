@@ -20,12 +20,11 @@ ghost use Rattle.sim_laws.specs.Laws.{
 };
 
 use host_facts::{asides_keep_facts, laws_follow};
-use plain_nodes::devices_as_made_begin_courses;
 use run_facts::lines_keep_and_ask_well;
 use said_lines::lines_are_read_as_said;
 use supervised_nodes::{
-    nodes_have_the_headline, nodes_report_after_the_change, runs_have_the_headline,
-    supervised_nodes_are_plain_or_locks,
+    devices_as_made_begin_courses, nodes_have_the_headline, nodes_report_after_the_change,
+    runs_have_the_headline, supervised_nodes_are_plain_or_locks,
 };
 use world_facts::{restarts_go_on, runs_take_once, the_machine_keeps_facts};
 

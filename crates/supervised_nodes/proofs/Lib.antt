@@ -1,1 +1,8 @@
-mod Knowing
+pub mod Opening
+pub mod Knowing
+pub mod Carrying
+pub mod PlainBeginning
+pub mod PlainTying
+pub mod LockBeginning
+pub mod LockTying
+pub mod Sorting

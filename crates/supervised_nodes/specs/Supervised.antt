@@ -4,8 +4,8 @@ use Rattle.s0_crypto.specs.declared.key_pair.Keys.{Keys}
 use Rattle.device_sim.specs.State.{State}
 use Rattle.zw_laws.specs.Nodes.{device_of, is_supervised}
 use Rattle.zw_machine.specs.Events.{Event}
-use Rattle.plain_nodes.specs.Plain.{IsPlain}
-use Rattle.lock_nodes.specs.Locks.{IsLockNode}
+use Rattle.supervised_nodes.specs.Plain.{IsPlain}
+use Rattle.supervised_nodes.specs.Locks.{IsLockNode}
 
 -- a node whose device, the first of it in the list, takes commands in sessions: its kind lists Supervision
 pub record IsSupervisedNode (devices : List State) (node : ℕ) : Type 0 where

@@ -15,8 +15,8 @@ ghost use Rattle.run_facts.specs.Lines.{IsRead};
 ghost use Rattle.run_facts.specs.Premises.{AreFew};
 ghost use Rattle.supervised_nodes.specs.Supervised.{IsPlainOrLock, IsSupervisedNode};
 
-use lock_nodes::locks_as_made_begin_courses;
-use plain_nodes::{devices_as_made_begin_courses, orders_go_plain};
+use crate::lock_nodes::locks_as_made_begin_courses;
+use crate::plain_nodes::{devices_as_made_begin_courses, orders_go_plain};
 
 /// Of devices as their makers left them, no two of one node, over any lines that were read: a node whose device lists Supervision is plain, or one of a lock.
 pub fn supervised_nodes_are_plain_or_locks()

@@ -14,11 +14,11 @@ ghost use Rattle.run_facts.specs.Premises.{AreFew};
 ghost use Rattle.headline_facts.specs.Truly.{IsAskable, LinesAreTrue, SucceedsAfterChangeOf};
 ghost use Rattle.supervised_nodes.specs.Supervised.{IsPlainOrLock};
 
+use crate::lock_nodes::locks_are_tied;
+use crate::plain_nodes::plain_nodes_are_tied;
 use device_facts::{devices_go_on, devices_stay_the_same};
 use headline_facts::{lines_have_the_headline, runs_report_after_the_change};
 use listing_facts::lines_tell_what_nodes_list;
-use lock_nodes::locks_are_tied;
-use plain_nodes::plain_nodes_are_tied;
 
 /// Over any lines that were read, the device of a node that is plain or of a lock is tied to the host in the end, and each success that the host is told of the node is true at the moment it is told.
 pub fn nodes_are_tied()

@@ -22,7 +22,7 @@ use Rattle.run_facts.specs.Lines.{IsRead}
 use Rattle.run_facts.specs.Premises.{AreFew}
 use Rattle.said_facts.specs.Spoken.{Spoken, after_all, transcript_of}
 use Rattle.listing_facts.specs.Lines.{AreDone, events_of as events_said}
-use Rattle.plain_nodes.proofs.Tying.{was_there}
+use Rattle.supervised_nodes.proofs.PlainTying.{was_there}
 use Rattle.headline_facts.specs.Truly.{IsAskable, SucceedsAfterChangeOf}
 use Rattle.supervised_nodes.specs.Supervised.{IsPlainOrLock, IsSupervisedNode}
 use Rattle.sim_laws.specs.Around.{Around}

@@ -1,7 +1,7 @@
 -- A plain device and a lock begin their courses; the orders for a plain node go unsealed.
 use Rattle.std.proofs.Common.{inl, inr}
 use Rattle.device_stack.specs.Sealing.{keys_of}
-use Rattle.supervised_nodes.proofs.Knowing.{plain_or_lock}
+use Rattle.supervised_nodes.proofs.Sorting.{plain_or_lock}
 use Rattle.supervised_nodes.proofs.devices.supervised_nodes_are_plain_or_locks.Goals as goal
 
 pub returns : goal.returns

@@ -7,7 +7,7 @@ use Rattle.zw_machine.specs.State.{Machine, first_machine}
 use Rattle.said_facts.specs.Spoken.{after_all}
 use Rattle.listing_facts.specs.Lines.{events_of}
 use Rattle.listing_facts.proofs.Speaking.{all_after}
-use Rattle.plain_nodes.proofs.Tying.{was_there}
+use Rattle.supervised_nodes.proofs.PlainTying.{was_there}
 use Rattle.supervised_nodes.proofs.laws.runs_have_the_headline.Goals as goal
 
 pub returns : goal.returns

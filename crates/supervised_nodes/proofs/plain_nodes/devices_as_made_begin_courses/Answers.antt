@@ -1,5 +1,5 @@
-use Rattle.plain_nodes.proofs.Beginning.{all_unchanged, begins_course}
-use Rattle.plain_nodes.proofs.devices.devices_as_made_begin_courses.Goals as goal
+use Rattle.supervised_nodes.proofs.PlainBeginning.{all_unchanged, begins_course}
+use Rattle.supervised_nodes.proofs.plain_nodes.devices_as_made_begin_courses.Goals as goal
 
 pub returns-clause-begins : goal.returns-clause-begins
 returns-clause-begins c = begins_course c.devices_follow_the_course.ensures.fresh

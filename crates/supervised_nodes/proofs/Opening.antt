@@ -13,9 +13,9 @@ use Rattle.zw_machine.specs.State.{Machine}
 use Rattle.zw_machine.specs.Events.{Event, Host_does, May}
 use Rattle.said_facts.proofs.Classes.{classes_of}
 use Rattle.node_course.specs.World.{OrderPlain, OrdersPlain}
-use Rattle.plain_nodes.specs.Plain.{IsOpenList, IsPlainKind}
-use Rattle.plain_nodes.proofs.Knowing.{some_list}
-use Rattle.plain_nodes.proofs.Carrying.{goes_unsealed}
+use Rattle.supervised_nodes.specs.Plain.{IsOpenList, IsPlainKind}
+use Rattle.supervised_nodes.proofs.Knowing.{some_list}
+use Rattle.supervised_nodes.proofs.Carrying.{goes_unsealed}
 
 -- ---- lists
 

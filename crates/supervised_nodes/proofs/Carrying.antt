@@ -10,7 +10,7 @@ use Rattle.host_orders.specs.declared.carriage.Form.TheVariants.{Sealed}
 use Rattle.host_nodes.specs.State.{node_of}
 use Rattle.host_events.specs.State.{HostState}
 use Rattle.host_events.specs.May.{IsAccepted}
-use Rattle.plain_nodes.specs.Plain.{IsOpenList}
+use Rattle.supervised_nodes.specs.Plain.{IsOpenList}
 
 unsealed_by : (sealed long crc : Bool) → sealed ≡ false → form_of (if sealed then Security else if long then Transport else if crc then Crc16 else no_outer) ≢ Sealed
 unsealed_by true long crc unsealed = absurd cc

@@ -11,8 +11,8 @@ use Rattle.zw_laws.specs.Nodes.{device_of}
 use Rattle.sealed_course.specs.Courses.{first_courses}
 use Rattle.sealed_course.specs.Meaning.{first_past}
 use Rattle.sealed_course.specs.Lock.{AtLock}
-use Rattle.plain_nodes.proofs.Beginning.{stand_as_made}
-use Rattle.lock_nodes.specs.Locks.{IsLockKind, IsLockNode}
+use Rattle.supervised_nodes.proofs.PlainBeginning.{stand_as_made}
+use Rattle.supervised_nodes.specs.Locks.{IsLockKind, IsLockNode}
 
 -- the only kind that lists both
 is_lock : (kind : Kind) → IsLockKind kind → kind ≡ kinds.Lock

@@ -1,21 +1,33 @@
-//! The law of locks.
+//! Locks, which take their commands sealed: which they are by the kinds of their devices, and that both ends are tied.
 
-ghost use Rattle.std.specs.Prelude.{◌≡◌, ℕ, Some, List, []};
-ghost use Rattle.s0_crypto.specs.declared.key_pair.Keys.{Keys};
+ghost use Rattle.std.specs.Prelude.{◌≡◌, ℕ, List, Some, []};
+ghost use Rattle.std.specs.List.{AllByRecursion};
+ghost use Rattle.device_stack.specs.Sealing.{keys_of};
 ghost use Rattle.device_sim.specs.State.{State};
+ghost use Rattle.device_facts.specs.Showing.{AreApart};
+ghost use Rattle.zw_laws.specs.Headline.{IsAsMade};
 ghost use Rattle.zw_laws.specs.Nodes.{device_of};
+ghost use Rattle.supervised_nodes.specs.Locks.{IsLockKind, IsLockNode};
+ghost use Rattle.s0_crypto.specs.declared.key_pair.Keys.{Keys};
 ghost use Rattle.zw_machine.specs.State.{first_machine};
 ghost use Rattle.once_facts.specs.Tied.{AreTied};
 ghost use Rattle.said_facts.specs.Spoken.{Spoken, after_all};
 ghost use Rattle.listing_facts.specs.Lines.{AreDone};
 ghost use Rattle.run_facts.specs.Premises.{AreFew};
 ghost use Rattle.headline_facts.specs.Truly.{LinesAreTrue};
-ghost use Rattle.lock_nodes.specs.Locks.{IsLockNode};
 
 use node_course::lines_ask_plainly;
 use once_facts::courses_tie_their_ends;
 use run_facts::lines_keep_and_ask_well;
-use sealed_course::lines_have_courses;
+use sealed_course::{lines_have_courses, locks_follow_the_courses};
+
+/// Of devices as their makers left them, no two of one node, each that takes commands in sessions and sealed is at the beginning of the courses of its node, with the keys of the network.
+pub fn locks_as_made_begin_courses()
+    ensures { (key : List ℕ) (devices : List State) (node : ℕ) (device : State) → AllByRecursion (IsAsMade key) devices → AreApart devices → device_of node devices ≡ Some device →
+        IsLockKind device.kind → IsLockNode (keys_of key) devices node }
+{
+    locks_follow_the_courses();
+}
 
 /// Over any lines that were read, a lock is tied to the host in the end, and each success that the host is told of it is true at the moment it is told.
 pub fn locks_are_tied()

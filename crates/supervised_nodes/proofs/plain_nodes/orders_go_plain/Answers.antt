@@ -5,10 +5,10 @@ use Rattle.zw_machine.specs.State.{first_machine}
 use Rattle.host_events.specs.State.{first_host}
 use Rattle.said_facts.proofs.Classes.{classes_of}
 use Rattle.node_course.specs.World.{OrdersPlain}
-use Rattle.plain_nodes.specs.Plain.{IsOpenList}
-use Rattle.plain_nodes.proofs.Knowing.{all_hold}
-use Rattle.plain_nodes.proofs.Opening.{event_plain, first_open, listing_open}
-use Rattle.plain_nodes.proofs.orders.orders_go_plain.Goals as goal
+use Rattle.supervised_nodes.specs.Plain.{IsOpenList}
+use Rattle.supervised_nodes.proofs.Knowing.{all_hold}
+use Rattle.supervised_nodes.proofs.Opening.{event_plain, first_open, listing_open}
+use Rattle.supervised_nodes.proofs.plain_nodes.orders_go_plain.Goals as goal
 
 pub returns : goal.returns
 returns c = λ keys devices lines events node device read are may few found plain.

@@ -13,7 +13,7 @@ use Rattle.zw_laws.specs.Headline.{IsAsMade}
 use Rattle.zw_laws.specs.Nodes.{device_of}
 use Rattle.node_course.specs.Device.{AtDevice}
 use Rattle.node_course.specs.Mesh.{HasDevice}
-use Rattle.plain_nodes.specs.Plain.{IsPlainKind}
+use Rattle.supervised_nodes.specs.Plain.{IsPlainKind}
 
 -- ---- kinds
 

@@ -6,9 +6,9 @@ use Rattle.said_facts.specs.Spoken.{after_all}
 use Rattle.listing_facts.specs.Lines.{events_of}
 use Rattle.listing_facts.proofs.Speaking.{lines_of, all_read, all_lines, all_may, all_after}
 use Rattle.sealed_course.specs.World.{HasCourses}
-use Rattle.plain_nodes.proofs.Tying.{all_name, course_ties, lines_true}
-use Rattle.lock_nodes.proofs.Tying.{lock_at}
-use Rattle.lock_nodes.proofs.laws.locks_are_tied.Goals as goal
+use Rattle.supervised_nodes.proofs.PlainTying.{all_name, course_ties, lines_true}
+use Rattle.supervised_nodes.proofs.LockTying.{lock_at}
+use Rattle.supervised_nodes.proofs.lock_nodes.locks_are_tied.Goals as goal
 
 pub returns-clause-tied : goal.returns-clause-tied
 returns-clause-tied c = λ keys devices lines node device lock done few found.

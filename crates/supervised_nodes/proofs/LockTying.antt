@@ -2,7 +2,7 @@
 use Rattle.std.proofs.Common.{ℕ}
 use Rattle.zw_machine.specs.State.{Machine}
 use Rattle.sealed_course.specs.World.{HasCourses}
-use Rattle.plain_nodes.proofs.Tying.{IsAt}
+use Rattle.supervised_nodes.proofs.PlainTying.{IsAt}
 
 pub lock_at : (node : ℕ) (m : Machine) (has : HasCourses node m) → IsAt node m has.courses.sessions
 lock_at node m has =

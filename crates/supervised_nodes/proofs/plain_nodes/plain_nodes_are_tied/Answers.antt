@@ -6,8 +6,8 @@ use Rattle.said_facts.specs.Spoken.{after_all}
 use Rattle.listing_facts.specs.Lines.{events_of}
 use Rattle.listing_facts.proofs.Speaking.{lines_of, all_read, all_lines, all_may, all_after}
 use Rattle.node_course.specs.World.{HasCourse}
-use Rattle.plain_nodes.proofs.Tying.{all_name, course_ties, lines_true, plain_at}
-use Rattle.plain_nodes.proofs.laws.plain_nodes_are_tied.Goals as goal
+use Rattle.supervised_nodes.proofs.PlainTying.{all_name, course_ties, lines_true, plain_at}
+use Rattle.supervised_nodes.proofs.plain_nodes.plain_nodes_are_tied.Goals as goal
 
 pub returns-clause-tied : goal.returns-clause-tied
 returns-clause-tied c = λ keys devices lines node device plain done few found.

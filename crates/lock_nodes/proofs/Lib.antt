@@ -1,2 +1,0 @@
-mod Beginning
-mod Tying

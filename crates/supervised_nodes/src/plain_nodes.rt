@@ -1,0 +1,72 @@
+//! Nodes whose commands go unsealed, whole or in segments: which they are by the kinds of their devices, how their orders go, and that both ends are tied.
+
+ghost use Rattle.std.specs.Prelude.{◌≡◌, ℕ, ◌<◌, List, Some, []};
+ghost use Rattle.std.specs.List.{AllByRecursion};
+ghost use Rattle.courses.specs.Sessions.{first_course};
+ghost use Rattle.device_sim.specs.State.{State};
+ghost use Rattle.device_facts.specs.Showing.{AreApart, AreUnchanged};
+ghost use Rattle.zw_laws.specs.Headline.{IsAsMade};
+ghost use Rattle.zw_laws.specs.Nodes.{device_of};
+ghost use Rattle.node_course.specs.Mesh.{HasDevice};
+ghost use Rattle.supervised_nodes.specs.Plain.{IsPlainKind, IsPlain};
+ghost use Rattle.s0_crypto.specs.declared.key_pair.Keys.{Keys};
+ghost use Rattle.zw_text.specs.declared.line.Line.{Line};
+ghost use Rattle.zw_machine.specs.State.{first_machine};
+ghost use Rattle.zw_machine.specs.Events.{Event};
+ghost use Rattle.zw_machine.specs.Did.{happens_all, MayAll};
+ghost use Rattle.line_facts.specs.Line.{AreLines};
+ghost use Rattle.run_facts.specs.Lines.{IsRead};
+ghost use Rattle.run_facts.specs.Premises.{AreFew};
+ghost use Rattle.node_course.specs.World.{OrdersPlain};
+ghost use Rattle.once_facts.specs.Tied.{AreTied};
+ghost use Rattle.said_facts.specs.Spoken.{Spoken, after_all};
+ghost use Rattle.listing_facts.specs.Lines.{AreDone, events_of};
+ghost use Rattle.headline_facts.specs.Truly.{LinesAreTrue};
+
+use host_node::a_restart_needs_the_records_alone;
+use listing_facts::interviews_tell_what_nodes_list;
+use node_course::{
+    devices_follow_the_course, lines_ask_plainly, lines_have_a_course, lines_tell_the_truth,
+};
+use once_facts::courses_tie_their_ends;
+use run_facts::lines_keep_and_ask_well;
+use said_facts::interviews_give_what_is_known;
+
+/// Of devices as their makers left them, no two of one node, each of a plain kind is at the beginning of a course of its node.
+pub fn devices_as_made_begin_courses()
+    ensures begins { (key : List ℕ) (devices : List State) (node : ℕ) (device : State) → AllByRecursion (IsAsMade key) devices → AreApart devices → device_of node devices ≡ Some device →
+        IsPlainKind device.kind → (node < 233) × HasDevice node first_course devices }
+    ensures unchanged { (key : List ℕ) (devices : List State) → AllByRecursion (IsAsMade key) devices → AreUnchanged devices }
+{
+    devices_follow_the_course();
+}
+
+/// Over any lines that were read, each order that is accepted for a node whose device is of a plain kind goes unsealed: before an interview the host takes
+/// node 2 for a switch and takes no order for others, and an interview tells what the device lists.
+pub fn orders_go_plain()
+    ensures { (keys : Keys) (devices : List State) (lines : List Line) (events : List Event) (node : ℕ) (device : State) → AllByRecursion IsRead lines →
+        AreLines lines (first_machine keys (Some []) devices) events → MayAll (first_machine keys (Some []) devices) events →
+        AreFew (happens_all (first_machine keys (Some []) devices) events).records →
+        device_of node devices ≡ Some device → IsPlainKind device.kind → AllByRecursion (OrdersPlain node) events }
+{
+    a_restart_needs_the_records_alone();
+    interviews_tell_what_nodes_list();
+    interviews_give_what_is_known();
+}
+
+/// Over any lines that were read, the device of a plain node is tied to the host in the end, and each success that the host is told of the node is true at the moment it
+/// is told.
+pub fn plain_nodes_are_tied()
+    ensures tied { (keys : Keys) (devices : List State) (lines : List Spoken) (node : ℕ) (device : State) → IsPlain devices (events_of lines) node →
+        AreDone (first_machine keys (Some []) devices) lines → AreFew (after_all (first_machine keys (Some []) devices) lines).records →
+        device_of node (after_all (first_machine keys (Some []) devices) lines).outside.devices ≡ Some device →
+        AreTied (after_all (first_machine keys (Some []) devices) lines).host.state node device }
+    ensures truth { (keys : Keys) (devices : List State) (lines : List Spoken) (node : ℕ) → IsPlain devices (events_of lines) node →
+        AreDone (first_machine keys (Some []) devices) lines → AreFew (after_all (first_machine keys (Some []) devices) lines).records → LinesAreTrue node (first_machine keys (Some []) devices) lines }
+{
+    lines_ask_plainly();
+    lines_have_a_course();
+    lines_tell_the_truth();
+    courses_tie_their_ends();
+    lines_keep_and_ask_well();
+}
