@@ -7,7 +7,7 @@ use zw_base::NodeId;
 
 /// A message that sets or reports what an actuator does, with its fields. Times of a lock are in minutes and
 /// seconds as they stand in their bytes.
-#[derive(Debug, Drop)]
+#[derive(Drop)]
 pub enum CoreMessage {
     BasicSet {
         value: u8,

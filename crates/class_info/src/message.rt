@@ -8,7 +8,7 @@ use class_fields::{Decimal, NodeList, Seconds, Switch};
 use zw_base::NodeId;
 
 /// A message that asks or tells, with its fields, or one of an actuator.
-#[derive(Debug, Drop)]
+#[derive(Drop)]
 pub enum InfoMessage {
     /// A message of the actuator classes.
     Core(CoreMessage),

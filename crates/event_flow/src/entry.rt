@@ -16,7 +16,7 @@ pub enum EventRefusal {
 }
 
 /// What is entered into the transcript.
-#[derive(Debug, Drop)]
+#[derive(Drop)]
 pub enum EventEntry {
     /// The line had no effect.
     Refused {

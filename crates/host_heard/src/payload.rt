@@ -18,7 +18,7 @@ const SECURITY: u8 = 0x98;
 const MESSAGE: u8 = 0x81;
 
 /// What a payload is.
-#[derive(Debug, Drop)]
+#[derive(Drop)]
 pub enum Heard {
     /// Messages that can be read, all of them, in their order.
     Messages(Sequence<Told>),

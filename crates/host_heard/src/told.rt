@@ -9,7 +9,7 @@ use std::alloc::Global;
 use zw_base::{EndPoint, NoMemory, Sequence, Setting};
 
 /// What one message tells.
-#[derive(Debug, Drop)]
+#[derive(Drop)]
 pub enum Told {
     /// A Supervision Report: the session's id (0 to 63), its status, and whether the node asks to be kept awake.
     Report {

@@ -9,7 +9,7 @@ use chip_functions::{
 use zw_base::{NodeId, Payload};
 
 /// A request that waits its turn, beside the messages of sessions.
-#[derive(Debug, Drop)]
+#[derive(Drop)]
 pub enum Task {
     /// A message without Supervision, of at least one byte.
     Plain { node: NodeId, payload: Payload },
@@ -38,7 +38,7 @@ pub enum Task {
 }
 
 /// What a request is for.
-#[derive(Debug, Drop)]
+#[derive(Drop)]
 pub enum Purpose {
     /// A task that waited its turn.
     Housekeeping(Task),

@@ -72,7 +72,7 @@ impl Progress {
 }
 
 /// The request under way.
-#[derive(Debug, Drop)]
+#[derive(Drop)]
 pub struct UnderWay {
     pub purpose: Purpose,
     pub progress: Progress,

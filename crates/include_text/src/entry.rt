@@ -20,7 +20,7 @@ pub enum IncludeRefusal {
 }
 
 /// An entry of a transcript of `include`. Ticks are of 100 ms, and frames are numbered from 1.
-#[derive(Debug, Drop)]
+#[derive(Drop)]
 pub enum IncludeEntry {
     /// The line that is done.
     Said {

@@ -13,7 +13,7 @@ pub const TRANSMIT_OK: u8 = 0;
 pub const TRANSMIT_NO_ACK: u8 = 1;
 
 /// What happened on the air. Frames are named by their numbers, from 1.
-#[derive(Debug, Drop)]
+#[derive(Drop)]
 pub enum AirEvent {
     /// The frame was heard, by a device or by node 1.
     Heard(u64),

@@ -15,7 +15,7 @@ pub enum Word {
 }
 
 /// What is asked of an end point.
-#[derive(Debug, Drop)]
+#[derive(Drop)]
 pub enum What {
     /// Switch Binary, Switch Multilevel or Door Lock, by what the node lists.
     Value(Word),
@@ -38,7 +38,7 @@ pub enum What {
 }
 
 /// An order to an end point of a node.
-#[derive(Debug, Drop)]
+#[derive(Drop)]
 pub struct Order {
     pub node: NodeId,
     pub end: EndPoint,
