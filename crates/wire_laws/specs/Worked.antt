@@ -160,3 +160,7 @@ not_learned = Said (codes "join 5") ∷ Said (codes "link 1 5") ∷ []
 
 abbrev pub moved_away : List Entry
 moved_away = over_two ++ Said (codes "link 1 10") ∷ Said (codes "unlink 1 2") ∷ []
+
+-- `link 1 5`, `join 5`, `wake 5`: a sensor can tell its information
+abbrev pub tellable : List Entry
+tellable = Said (codes "link 1 5") ∷ Said (codes "join 5") ∷ Said (codes "wake 5") ∷ []
