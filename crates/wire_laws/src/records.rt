@@ -1,6 +1,6 @@
 //! What the law of records says of worked transcripts and records, and of others with one thing wrong.
 
-ghost use Rattle.std.specs.Prelude.{map};
+ghost use Rattle.std.specs.Prelude.{[], ◌∷◌, map};
 ghost use Rattle.host_keep.specs.RecordText.{record_text};
 ghost use Rattle.zw_laws.specs.Records.{KeepsRecords};
 ghost use Rattle.zw_laws.specs.Worked.{plain_exchange};
@@ -16,12 +16,13 @@ pub fn worked_records()
     ensures taken_back { KeepsRecords taken_back (map record_text cancelling_records) }
 {}
 
-/// Each of these breaks one part of the law: the last record is missing, another order is kept, a record may not stand where it does, a command is
-/// shown as taken back that is not kept so, and one is kept so that is not shown so.
+/// Each of these breaks one part of the law: the last record is missing, another order is kept, a record may not stand where it does, a text is of no
+/// record, a command is shown as taken back that is not kept so, and one is kept so that is not shown so.
 pub fn rejected_records()
     ensures lacking { KeepsRecords plain_exchange (map record_text begun_records) → ⊥ }
     ensures ordered { KeepsRecords plain_exchange (map record_text ordered_otherwise) → ⊥ }
     ensures illegal { KeepsRecords plain_exchange (map record_text spent_ungiven) → ⊥ }
+    ensures unread { KeepsRecords plain_exchange ([] ∷ map record_text plain_records) → ⊥ }
     ensures unkept { KeepsRecords taken_back_late (map record_text begun_records) → ⊥ }
     ensures unshown { KeepsRecords given_up (map record_text cancelling_records) → ⊥ }
 {

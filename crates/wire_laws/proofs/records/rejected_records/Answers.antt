@@ -6,11 +6,12 @@ use Rattle.zw_order.specs.declared.order.What.{What}
 use Rattle.zw_order.specs.declared.order.What.TheVariants.{Value}
 use Rattle.host_keep.specs.Kept.{Kept, Session, Taken, node_of, first_kept}
 use Rattle.host_keep.specs.Legal.{AreLegal, AreTextsOf, first_illegal}
-use Rattle.host_keep.specs.RecordText.{record_text, IsTextOf}
+use Rattle.host_keep.specs.RecordText.{row_text, record_text, IsTextOf}
 use Rattle.host_keep.specs.declared.record.Record.{Record}
 use Rattle.host_keep.specs.declared.record.Record.TheVariants as records
 use Rattle.host_keep.specs.declared.final_status.FinalStatus.{FinalStatus}
 use Rattle.host_keep.specs.declared.final_status.FinalStatus.TheVariants.{Success}
+use Rattle.zw_laws.specs.WorkedDevices.{plain_records}
 use Rattle.wire_laws.specs.WorkedRecords.{spent_ungiven}
 use Rattle.wire_laws.proofs.Computing.{reckoning}
 use Rattle.wire_laws.proofs.Keeping.{spent_well, gives_begun, gives_cancelling, gives_otherwise}
@@ -56,6 +57,19 @@ not_legal same [] are legal = are
 not_legal same (one ∷ more) are legal =
     place_none (subst (λ (first : Record). first_illegal first_kept (first ∷ more) ≡ None) (same one (records.Spent 2) _ are.0 spent_well) legal)
 
+-- the text of a record is not empty
+abbrev first_byte : List ℕ → ℕ
+first_byte [] = 0
+first_byte (byte ∷ bytes) = byte
+
+none_bracket : ◌≡◌ {A = ℕ} 0 91 → ⊥
+none_bracket e = omega (arith, e)
+
+not_text : (kept : List Record) → AreTextsOf kept ([] ∷ map record_text plain_records) → ⊥
+unfolding reckoning row_text
+not_text [] are = are
+not_text (one ∷ more) are = none_bracket (ap first_byte are.0.text)
+
 pub returns-clause-lacking : goal.returns-clause-lacking
 unfolding reckoning endings
 returns-clause-lacking c = λ law.
@@ -69,6 +83,9 @@ returns-clause-ordered c = λ law.
 
 pub returns-clause-illegal : goal.returns-clause-illegal
 returns-clause-illegal c = λ law. not_legal c.a_text_is_of_one_record.ensures law.gives.records law.gives.are law.gives.legal
+
+pub returns-clause-unread : goal.returns-clause-unread
+returns-clause-unread c = λ law. not_text law.gives.records law.gives.are
 
 pub returns-clause-unkept : goal.returns-clause-unkept
 unfolding reckoning
