@@ -1,5 +1,6 @@
 mod Computing
 mod Halting
+mod Keeping
 mod Plain
 mod Silence
 pub mod Walks

@@ -15,4 +15,5 @@ pub mod WorkedCourses
 pub mod WorkedFull
 pub mod WorkedPipes
 pub mod WorkedHalted
+pub mod WorkedRecords
 pub mod WorkedWrong

@@ -1,5 +1,5 @@
--- Worked transcripts of the chip and of the air, as the program prints them, before the table at the end; the last but
--- one is by hand.
+-- Worked transcripts of the chip and of the air, as the program prints them, before the table at the end; those by hand, and lines
+-- alone, say so.
 use Rattle.std.specs.Prelude.{false, List, [], ◌∷◌, ◌++◌, codes, take}
 use Rattle.zw_base.specs.declared.property.Name.TheVariants as names
 use Rattle.zw_base.specs.declared.property.By.TheVariants.{Session, Local}
@@ -160,3 +160,7 @@ not_learned = Said (codes "join 5") ∷ Said (codes "link 1 5") ∷ []
 
 abbrev pub moved_away : List Entry
 moved_away = over_two ++ Said (codes "link 1 10") ∷ Said (codes "unlink 1 2") ∷ []
+
+-- lines by which a sensor can tell its information: it has a link, joins and is woken
+abbrev pub tellable : List Entry
+tellable = Said (codes "link 1 5") ∷ Said (codes "join 5") ∷ Said (codes "wake 5") ∷ []

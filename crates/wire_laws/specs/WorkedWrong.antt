@@ -1,14 +1,9 @@
 -- Transcripts like the worked ones with one entry changed, left out or put in.
 use Rattle.std.specs.Prelude.{ℕ, ◌+◌, List, [], ◌∷◌, ◌++◌, codes, take, drop}
 use Rattle.zw_words.specs.declared.side.Side.TheVariants.{Host, Chip}
-use Rattle.zw_order.specs.declared.order.Word.TheVariants.{Off}
-use Rattle.zw_order.specs.declared.order.What.TheVariants.{Value}
-use Rattle.host_keep.specs.declared.record.Record.{Record}
-use Rattle.host_keep.specs.declared.record.Record.TheVariants as records
 use Rattle.zw_text.specs.declared.entry.Entry.{Entry}
 use Rattle.zw_text.specs.declared.entry.Entry.TheVariants.{Said, Written, Dropped, Garbled, Air, Heard, Lost, Unheard, Forget, ChipFull}
 use Rattle.zw_laws.specs.Worked.{bytes, plain_exchange, lossy_exchange, restarted_host}
-use Rattle.zw_laws.specs.WorkedDevices.{plain_records}
 use Rattle.wire_laws.specs.Worked.{rerouted, unroutable, untold, asleep, heard_twice, cut_off, aborted, questions, copied, garbled_frame}
 
 -- a transcript with another entry at a place, without the one there, or with one more before it; places count from 0
@@ -162,9 +157,3 @@ collided_freely = changed_at 4 (Written Chip (bytes (codes "18"))) plain_exchang
 
 abbrev pub not_collided : List Entry
 not_collided = changed_at 5 (Written Chip (bytes (codes "06"))) heard_twice
-
--- ---- records
-
--- the records of the plain exchange with another order
-abbrev pub ordered_otherwise : List Record
-ordered_otherwise = records.Accepted 1 (record { node = 2; end = 0; what = Value Off }) ∷ drop 1 plain_records

@@ -3,11 +3,13 @@
 ghost use Rattle.std.specs.Prelude.{[], ◌∷◌};
 ghost use Rattle.zw_laws.specs.Worked.{plain_exchange, restarted_host, the_switch, the_sensor};
 ghost use Rattle.wire_laws.specs.Asked.{course_of};
+ghost use Rattle.wire_laws.specs.Given.{CanTell};
 ghost use Rattle.wire_laws.specs.Taking.{AirsWhatIsTaken};
 ghost use Rattle.wire_laws.specs.Answering.{AnswersInOrder, DropsWhenFull};
-ghost use Rattle.wire_laws.specs.Worked.{unroutable, untold, asleep, aborted, questions, copied, the_switches};
+ghost use Rattle.wire_laws.specs.Worked.{unroutable, untold, asleep, aborted, questions, copied, tellable, the_switches};
 ghost use Rattle.wire_laws.specs.WorkedCourses.{chip_history, without_copies, passed_in_unroutable, passed_in_untold, passed_in_asleep, passed_in_restarted, passed_in_aborted, passed_in_questions, copied_course, switching_on};
-ghost use Rattle.wire_laws.specs.WorkedWrong.{held_back, aired_otherwise, aired_again, refused_though_idle, called_otherwise, called_early, brought_otherwise, routed_nowhere, told_from_afar, not_told, taken_though_busy, called_twice, neighbours_otherwise, failed_for_nothing, full_of_nothing};
+ghost use Rattle.wire_laws.specs.WorkedHalted.{sleeper};
+ghost use Rattle.wire_laws.specs.WorkedWrong.{without_at, held_back, aired_otherwise, aired_again, refused_though_idle, called_otherwise, called_early, brought_otherwise, routed_nowhere, told_from_afar, not_told, taken_though_busy, called_twice, neighbours_otherwise, failed_for_nothing, full_of_nothing};
 
 /// In worked transcripts the frames on the air are those of the SendData that the chip takes and has a route for.
 pub fn worked_taking()
@@ -56,4 +58,17 @@ pub fn rejected_chip()
     ensures healthy { AnswersInOrder the_switches (without_copies passed_in_questions questions) failed_for_nothing → ⊥ }
     ensures anew { AnswersInOrder (the_switch ∷ []) (without_copies (switching_on ∷ []) copied) copied → ⊥ }
     ensures full { DropsWhenFull (the_switch ∷ []) (course_of chip_history) full_of_nothing → ⊥ }
+{}
+
+/// A sensor that has a link, has joined and was woken can tell its information.
+pub fn worked_telling()
+    ensures { CanTell (sleeper ∷ []) 5 0 tellable }
+{}
+
+/// Each of these breaks one part of that: the sensor has no link, has not joined, sleeps, and is not there.
+pub fn rejected_telling()
+    ensures apart { CanTell (sleeper ∷ []) 5 0 (without_at 0 tellable) → ⊥ }
+    ensures stranger { CanTell (sleeper ∷ []) 5 0 (without_at 1 tellable) → ⊥ }
+    ensures asleep { CanTell (sleeper ∷ []) 5 0 (without_at 2 tellable) → ⊥ }
+    ensures nobody { CanTell [] 5 0 tellable → ⊥ }
 {}

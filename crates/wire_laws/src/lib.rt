@@ -19,11 +19,13 @@ mod records;
 mod routes;
 
 pub use arriving::{rejected_arrivals, worked_arrivals, worked_forgetting, worked_repeats};
-pub use chip::{rejected_chip, worked_answers, worked_drops, worked_taking};
+pub use chip::{
+    rejected_chip, rejected_telling, worked_answers, worked_drops, worked_taking, worked_telling,
+};
 pub use full::worked_full;
 pub use halted::worked_halted;
 pub use links::{rejected_links, worked_links};
 pub use marks::{rejected_marks, worked_collisions, worked_marks};
 pub use pipes::{rejected_pipes, worked_pipes};
-pub use records::worked_records;
+pub use records::{rejected_records, worked_records};
 pub use routes::{rejected_routes, worked_reach, worked_routes};

@@ -1,19 +1,31 @@
-//! What the law of records says of a plain exchange.
+//! What the law of records says of worked transcripts and records, and of others with one thing wrong.
 
-ghost use Rattle.std.specs.Prelude.{map, take};
+ghost use Rattle.std.specs.Prelude.{[], ◌∷◌, map};
 ghost use Rattle.host_keep.specs.RecordText.{record_text};
 ghost use Rattle.zw_laws.specs.Records.{KeepsRecords};
 ghost use Rattle.zw_laws.specs.Worked.{plain_exchange};
 ghost use Rattle.zw_laws.specs.WorkedDevices.{plain_records};
-ghost use Rattle.wire_laws.specs.WorkedWrong.{ordered_otherwise};
+ghost use Rattle.wire_laws.specs.WorkedRecords.{still_begun, begun_records, taken_back, cancelling_records, ordered_otherwise, spent_ungiven, taken_back_late, given_up};
 
-use host_keep::texts_give_one_thing;
+use host_keep::{a_text_is_of_one_record, texts_give_one_thing};
 
-/// The records of a plain exchange give what it shows, of all nodes; without the last one, or with another order, they do not.
+/// The records of a plain exchange, of a session that has not ended and of a command that is taken back give what is shown, of all nodes.
 pub fn worked_records()
     ensures plain { KeepsRecords plain_exchange (map record_text plain_records) }
-    ensures lacking { KeepsRecords plain_exchange (map record_text (take 2 plain_records)) → ⊥ }
+    ensures begun { KeepsRecords still_begun (map record_text begun_records) }
+    ensures taken_back { KeepsRecords taken_back (map record_text cancelling_records) }
+{}
+
+/// Each of these breaks one part of the law: the last record is missing, another order is kept, a record may not stand where it does, a text is of no
+/// record, a command is shown as taken back that is not kept so, and one is kept so that is not shown so.
+pub fn rejected_records()
+    ensures lacking { KeepsRecords plain_exchange (map record_text begun_records) → ⊥ }
     ensures ordered { KeepsRecords plain_exchange (map record_text ordered_otherwise) → ⊥ }
+    ensures illegal { KeepsRecords plain_exchange (map record_text spent_ungiven) → ⊥ }
+    ensures unread { KeepsRecords plain_exchange ([] ∷ map record_text plain_records) → ⊥ }
+    ensures unkept { KeepsRecords taken_back_late (map record_text begun_records) → ⊥ }
+    ensures unshown { KeepsRecords given_up (map record_text cancelling_records) → ⊥ }
 {
     texts_give_one_thing();
+    a_text_is_of_one_record();
 }

@@ -23,3 +23,4 @@ pub mod WorkedWrong
 pub mod WorkedWrongHost
 pub mod WorkedWrongWire
 pub mod WorkedDevices
+pub mod WorkedRepeats

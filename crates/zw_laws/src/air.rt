@@ -1,8 +1,13 @@
 //! What the laws of frames say of worked transcripts, and of others with one thing wrong.
 
+ghost use Rattle.std.specs.Prelude.{◌≡◌, [], ◌∷◌};
+ghost use Rattle.zw_text.specs.declared.entry.Entry.TheVariants.{Refused};
+ghost use Rattle.zw_text.specs.declared.entry.Refusal.TheVariants.{Forgotten, Stale};
+ghost use Rattle.zw_laws.specs.Repeats.{refusal_to_repeat};
 ghost use Rattle.zw_laws.specs.Fates.{NumbersFrames, FaresInTurn, LosesMarked};
 ghost use Rattle.zw_laws.specs.Worked.{plain_exchange, repeated_exchange, lossy_exchange, cancelled_order, restarted_host, sleeping_node, sealed_exchange, long_message};
 ghost use Rattle.zw_laws.specs.WorkedWrongHost.{numbered_apart, between_others, heard_at_once, heard_again, lost_unsent, unheard_unsent, left_flying, left_by_line, repeated_unsent, repeated_otherwise, heard_though_marked, unheard_though_marked};
+ghost use Rattle.zw_laws.specs.WorkedRepeats.{message_sent, segment_sent, sealed_sent, then_sent, then_begun, then_shown, others_begun, shown_again};
 
 /// In worked transcripts frames are numbered.
 pub fn worked_frames()
@@ -41,4 +46,21 @@ pub fn rejected_fates()
     ensures otherwise { FaresInTurn repeated_otherwise → ⊥ }
     ensures marked_unheard { LosesMarked unheard_though_marked → ⊥ }
     ensures marked { LosesMarked heard_though_marked → ⊥ }
+{}
+
+/// A frame is fresh just below each bound, and too old at it: more than 4,096 later frames, 62 later sessions of its node, 14 for a segment, and 120
+/// new nonces of its ends where it is sealed. Sessions of another node, a nonce that is shown again, and nonces where the frame is not sealed
+/// do not count.
+pub fn worked_freshness()
+    ensures frames_below { refusal_to_repeat (then_sent 4096) 1 ≡ [] }
+    ensures frames_at { refusal_to_repeat (then_sent 4097) 1 ≡ Refused Forgotten ∷ [] }
+    ensures sessions_below { refusal_to_repeat (then_begun message_sent 61) 1 ≡ [] }
+    ensures sessions_at { refusal_to_repeat (then_begun message_sent 62) 1 ≡ Refused (Stale 62) ∷ [] }
+    ensures segment_below { refusal_to_repeat (then_begun segment_sent 13) 1 ≡ [] }
+    ensures segment_at { refusal_to_repeat (then_begun segment_sent 14) 1 ≡ Refused (Stale 14) ∷ [] }
+    ensures nonces_below { refusal_to_repeat (then_shown sealed_sent 60 59) 1 ≡ [] }
+    ensures nonces_at { refusal_to_repeat (then_shown sealed_sent 60 60) 1 ≡ Refused (Stale 120) ∷ [] }
+    ensures others { refusal_to_repeat others_begun 1 ≡ [] }
+    ensures again { refusal_to_repeat shown_again 1 ≡ [] }
+    ensures unsealed { refusal_to_repeat (then_shown message_sent 60 60) 1 ≡ [] }
 {}
