@@ -54,7 +54,7 @@ pub struct Frame {
 }
 
 /// What a line brings about: at most one entry, and then at most one frame.
-#[derive(Debug, Drop)]
+#[derive(Drop)]
 pub struct Effect {
     pub enters: Option<EventEntry>,
     pub sends: Option<Frame>,
