@@ -23,9 +23,9 @@ pub use chip::{
     rejected_chip, rejected_telling, worked_answers, worked_drops, worked_taking, worked_telling,
 };
 pub use full::worked_full;
-pub use halted::worked_halted;
+pub use halted::{rejected_halted, worked_halted};
 pub use links::{rejected_links, worked_links};
 pub use marks::{rejected_marks, worked_collisions, worked_marks};
 pub use pipes::{rejected_pipes, worked_pipes};
 pub use records::{rejected_records, worked_records};
-pub use routes::{rejected_routes, worked_reach, worked_routes};
+pub use routes::{rejected_reach, rejected_routes, worked_reach, worked_routes};

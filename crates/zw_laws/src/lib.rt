@@ -18,7 +18,7 @@ mod once;
 mod wire;
 
 pub use air::{rejected_fates, worked_fates, worked_frames, worked_freshness, worked_losses};
-pub use device::{worked_devices, worked_table};
+pub use device::{rejected_devices, rejected_records, worked_devices, worked_table};
 pub use host::{rejected_answers, worked_answers, worked_cancels, worked_stores};
 pub use once::{rejected_once, worked_once, worked_sessions, worked_successes, worked_values};
 pub use wire::{
