@@ -46,20 +46,30 @@ pub record Enters (outcome : Outcome) (new : OuterState) (before all : List Entr
   pub outer : new ≡ has_entered outcome.outer outcome.entries
   pub entries : all ≡ before ++ stamp outcome.outer outcome.entries
 
--- At want of memory some events, none of the host's, were done that make of the devices what they are, and a front of their entries
--- was made. Nothing is said of the rest.
-pub record Stops (old : Outside) (devices : List State) (before all : List Entry) : Type 0 where
-  pub events : List OuterEvent
-  pub own : AreOwn events
-  pub may : MayAll old events
-  pub devices_are : devices ≡ (happens_all old events).devices
-  pub more : List Entry
-  pub front : all ++ more ≡ before ++ entries_all old events
+-- a front of events of a kind: they would go on to be such
+abbrev pub FrontOf : (List OuterEvent → Type 0) → List OuterEvent → Type 0
+FrontOf Kind events = (rest : List OuterEvent) × Kind (events ++ rest)
+
+-- an event, where there is one
+abbrev pub last_of : Option OuterEvent → List OuterEvent
+last_of None = []
+last_of (Some event) = event ∷ []
+
+-- At want of memory these events of a call, none of the host's, were done whole, with their entries; and where there is a last one, the devices are what it makes
+-- of them, and nothing of it is entered. Nothing is said of the rest.
+pub record Stops (Front : List OuterEvent → Type 0) (old : Outside) (devices : List State) (before all : List Entry) : Type 0 where
+  pub whole : List OuterEvent
+  pub last : Option OuterEvent
+  pub front : Front (whole ++ last_of last)
+  pub own : AreOwn (whole ++ last_of last)
+  pub may : MayAll old (whole ++ last_of last)
+  pub devices_are : devices ≡ (happens_all old (whole ++ last_of last)).devices
+  pub entered : all ≡ before ++ entries_all old whole
 
 -- the same with these devices, of which none moves
-abbrev pub StopsFor : List State → OuterState → List Entry → List Entry → Type 0
-StopsFor devices old before all = Stops (outside old devices) devices before all
+abbrev pub StopsFor : List State → (List OuterEvent → Type 0) → OuterState → List Entry → List Entry → Type 0
+StopsFor devices Front old before all = Stops Front (outside old devices) devices before all
 
 -- the same whatever the devices are
-abbrev pub StopsStill : OuterState → List Entry → List Entry → Type 0
-StopsStill old before all = (devices : List State) → StopsFor devices old before all
+abbrev pub StopsStill : (List OuterEvent → Type 0) → OuterState → List Entry → List Entry → Type 0
+StopsStill Front old before all = (devices : List State) → StopsFor devices Front old before all

@@ -1,10 +1,11 @@
 -- What was done, as lists of events (this project's own).
-use Rattle.std.specs.Prelude.{◌≡◌, ℕ, ◌≤◌, Bool, true, false, List, [], ◌∷◌, ◌++◌}
-use Rattle.std.specs.List.{list_any}
+use Rattle.std.specs.Prelude.{◌≡◌, ◌⊎◌, ℕ, ◌≤◌, Bool, true, false, List, [], ◌∷◌, ◌++◌, Option, Some, None}
+use Rattle.std.specs.List.{list_any, AllByRecursion}
 use Rattle.zw_text.specs.declared.entry.Entry.{Entry}
 use Rattle.zw_text.specs.declared.entry.Refusal.{Refusal}
 use Rattle.zw_text.specs.declared.entry.Refusal.TheVariants.{KeeperFault}
 use Rattle.host_events.specs.Did.{is_unkept as is_unkept_by_host, RoseIf}
+use Rattle.outer_events.specs.Events.{OuterEvent}
 use Rattle.zw_machine.specs.State.{Machine}
 use Rattle.zw_machine.specs.Events.{Event, Outside_does, Host_does, Host_takes, Decoder_ticks, Refuses, Shows_values, Restarts, happens, entries, May}
 
@@ -76,13 +77,40 @@ Then First Second m events =
 abbrev pub These : List Event → Schedule
 These these m events = events ≡ these
 
--- At want of memory some events were done that make of the devices and of the keeper's records what they are, and a front of their
--- entries was made. Nothing is said of the rest.
-pub record Stops (old new : Scene) : Type 0 where
-  pub events : List Event
-  pub may : MayAll old.machine events
-  pub devices : new.machine.outside.devices ≡ (happens_all old.machine events).outside.devices
-  pub records : new.machine.records ≡ (happens_all old.machine events).records
-  pub more : List Entry
-  pub front : new.entries ++ more ≡ old.entries ++ entries_all old.machine events
+-- ---- where memory was wanting
+
+-- nothing was done
+abbrev pub Nothing : Schedule
+Nothing m events = events ≡ []
+
+-- nothing, or events that would go on to be of the schedule
+abbrev pub FrontOf : Schedule → Schedule
+FrontOf Kind m events = Nothing m events ⊎ ((rest : List Event) × Kind m (events ++ rest))
+
+-- a front of the first, or the first whole and then a front of the second
+abbrev pub ThenFront : Schedule → Schedule → Schedule → Schedule
+ThenFront FirstFront First SecondFront m events = FirstFront m events ⊎ Then First SecondFront m events
+
+-- an event outside the host, where there is one
+abbrev pub last_of : Option OuterEvent → List Event
+last_of None = []
+last_of (Some event) = Outside_does event ∷ []
+
+-- an event of the host alone
+abbrev pub IsOfHost : Event → Type 0
+IsOfHost (Outside_does event) = ⊥
+IsOfHost event = Unit {0}
+
+-- At want of memory events were done whole, with their entries, which are a front of what was to be done. Behind them one event outside the host may have moved its
+-- device, or the host may have done what was kept: of either nothing is entered. The devices and the records are what all these make of them; nothing is said of the rest.
+pub record Stops (Front : Schedule) (old new : Scene) : Type 0 where
+  pub whole : List Event
+  pub last : Option OuterEvent
+  pub front : Front old.machine (whole ++ last_of last)
+  pub kept : List Event
+  pub of_host : AllByRecursion IsOfHost kept
+  pub may : MayAll old.machine ((whole ++ last_of last) ++ kept)
+  pub devices : new.machine.outside.devices ≡ (happens_all old.machine ((whole ++ last_of last) ++ kept)).outside.devices
+  pub records : new.machine.records ≡ (happens_all old.machine ((whole ++ last_of last) ++ kept)).records
+  pub entered : new.entries ≡ old.entries ++ entries_all old.machine whole
   pub never_falls : old.faults ≤ new.faults

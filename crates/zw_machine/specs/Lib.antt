@@ -5,4 +5,5 @@ pub mod Did
 pub mod Settling
 pub mod Ticking
 pub mod Lines
+pub mod Fronts
 pub mod Table
