@@ -1,6 +1,6 @@
 -- Lists of events that were done one after another.
 use Rattle.std.proofs.Common.{◌≡◌, ℕ, ◌≤◌, List, [], ◌∷◌, ◌++◌, refl, ap, sym, ◌∙◌, subst, append_assoc, arith}
-use Rattle.std.specs.Prelude.{Bool, true, false, ◌||◌}
+use Rattle.std.specs.Prelude.{Bool, true, false, ◌||◌, None}
 use Rattle.std.specs.List.{list_any}
 use Rattle.std.proofs.lemmas.List.{append-nil}
 use Rattle.zw_text.specs.declared.entry.Entry.{Entry}
@@ -8,7 +8,7 @@ use Rattle.host_events.specs.Did.{RoseIf}
 use Rattle.host_events.proofs.Doing.{rose_by_later, rose_since}
 use Rattle.zw_machine.specs.State.{Machine}
 use Rattle.zw_machine.specs.Events.{Event, happens, entries}
-use Rattle.zw_machine.specs.Did.{happens_all, entries_all, MayAll, is_unkept, Counted, Scene, Run, Stops}
+use Rattle.zw_machine.specs.Did.{happens_all, entries_all, MayAll, is_unkept, Counted, Scene, Run, Schedule, last_of, Stops}
 
 pub happens_all-append : (m : Machine) (a b : List Event) → happens_all m (a ++ b) ≡ happens_all (happens_all m a) b
 happens_all-append m [] b = refl
@@ -71,20 +71,57 @@ ran_both a b old mid new first later =
       counted = counted_both a b old.faults mid.faults new.faults first.counted later.counted;
     }
 
-pub stopped_at_once : (s : Scene) → Stops s s
-stopped_at_once s = record { events = []; may = tt; devices = refl; records = refl; more = []; front = refl; never_falls = omega arith }
+-- ---- what was done where memory was wanting
 
-pub stopped_later : (a : List Event) (old mid new : Scene) → Run a old mid → Stops mid new → Stops old new
-stopped_later a old mid new first later =
+pub stopped_now : (Front : Schedule) (s : Scene) → Front s.machine [] → Stops Front s s
+stopped_now Front s none = record {
+  whole = [];
+  last = None;
+  front = none;
+  kept = [];
+  of_host = tt;
+  may = tt;
+  devices = refl;
+  records = refl;
+  entered = sym (append-nil s.entries);
+  never_falls = omega arith;
+}
+
+-- a front of one thing is a front of another
+pub stopped_as : (A B : Schedule) (s t : Scene) → ((events : List Event) → A s.machine events → B s.machine events) → Stops A s t → Stops B s t
+stopped_as A B s t as stops = record {
+  whole = stops.whole;
+  last = stops.last;
+  front = as (stops.whole ++ last_of stops.last) stops.front;
+  kept = stops.kept;
+  of_host = stops.of_host;
+  may = stops.may;
+  devices = stops.devices;
+  records = stops.records;
+  entered = stops.entered;
+  never_falls = stops.never_falls;
+}
+
+-- events were done, and then it stopped
+pub stopped_later : (A B : Schedule) (a : List Event) (old mid new : Scene) → ((events : List Event) → B mid.machine events → A old.machine (a ++ events)) → Run a old mid → Stops B mid new → Stops A old new
+stopped_later A B a old mid new as first later =
     let there : mid.machine ≡ happens_all old.machine a = first.state in
-    let after : happens_all mid.machine later.events ≡ happens_all old.machine (a ++ later.events) =
-    ap (λ (m : Machine). happens_all m later.events) there ∙ sym (happens_all-append old.machine a later.events) in
+    let ends : List Event = later.whole ++ last_of later.last in
+    let front : a ++ ends ≡ (a ++ later.whole) ++ last_of later.last = sym (append_assoc a later.whole (last_of later.last)) in
+    let all : a ++ (ends ++ later.kept) ≡ ((a ++ later.whole) ++ last_of later.last) ++ later.kept =
+    sym (append_assoc a ends later.kept) ∙ ap (λ (l : List Event). l ++ later.kept) front in
+    let after : happens_all mid.machine (ends ++ later.kept) ≡ happens_all old.machine (((a ++ later.whole) ++ last_of later.last) ++ later.kept) =
+    ap (λ (m : Machine). happens_all m (ends ++ later.kept)) there ∙ (sym (happens_all-append old.machine a (ends ++ later.kept)) ∙ ap (λ (l : List Event). happens_all old.machine l) all) in
     record {
-      events = a ++ later.events;
-      may = may_all-append old.machine a later.events first.may (subst (λ (m : Machine). MayAll m later.events) there later.may);
+      whole = a ++ later.whole;
+      last = later.last;
+      front = subst (λ (l : List Event). A old.machine l) front (as ends later.front);
+      kept = later.kept;
+      of_host = later.of_host;
+      may = subst (λ (l : List Event). MayAll old.machine l) all
+          (may_all-append old.machine a (ends ++ later.kept) first.may (subst (λ (m : Machine). MayAll m (ends ++ later.kept)) there later.may));
       devices = later.devices ∙ ap (λ (m : Machine). m.outside.devices) after;
       records = later.records ∙ ap (λ (m : Machine). m.records) after;
-      more = later.more;
-      front = entries_on a later.events old.machine mid.machine old.entries mid.entries (new.entries ++ later.more) there first.entries later.front;
+      entered = entries_on a later.whole old.machine mid.machine old.entries mid.entries new.entries there first.entries later.entered;
       never_falls = omega (arith, first.counted.never_falls, later.never_falls);
     }

@@ -1,7 +1,7 @@
 -- Events of the host, as the machine's: what it puts out is routed once they are all done.
 use Rattle.std.proofs.Common.{◌≡◌, ℕ, ◌≤◌, Bool, true, false, List, [], ◌∷◌, ◌++◌, map, refl, ap, sym, ◌∙◌, subst, append_assoc}
 use Rattle.std.specs.Prelude.{Option, Some, None, ◌||◌}
-use Rattle.std.specs.List.{list_any}
+use Rattle.std.specs.List.{list_any, AllByRecursion}
 use Rattle.std.proofs.lemmas.List.{append-nil, map-append}
 use Rattle.zw_text.specs.declared.entry.Entry.{Entry}
 use Rattle.host_keep.specs.Keeping.{OptAdds}
@@ -21,7 +21,7 @@ use Rattle.outer_events.specs.Did.{happens_all as happens_all_outside, entries_a
 use Rattle.outer_events.proofs.Doing.{happens_all-append as outside-append, entries_all-append as outside_entries-append}
 use Rattle.zw_machine.specs.State.{Machine, begun_in, noted_by, routed, routed_one, with_texts, host_does, host_entries}
 use Rattle.zw_machine.specs.Events.{Event, Host_does, answers, happens, entries, May}
-use Rattle.zw_machine.specs.Did.{happens_all, entries_all, MayAll, is_unkept, Counted, Run, Stops}
+use Rattle.zw_machine.specs.Did.{happens_all, entries_all, MayAll, is_unkept, Counted, Run, Schedule, IsOfHost, Stops}
 
 -- ---- records
 
@@ -223,25 +223,32 @@ module _ (es : List HostEvent) (m : Machine) (state : HostState) (puts : List Ho
 
 -- ---- what was done where memory was wanting
 
--- events were done of which nothing was entered
-pub stopped_by : (es : List Event) (m new : Machine) (before all : List Entry) (f g : ℕ) → MayAll m es → new.outside.devices ≡ (happens_all m es).outside.devices
+-- the host did events of which nothing was entered
+pub stopped_by : (Front : Schedule) (es : List Event) (m new : Machine) (before all : List Entry) (f g : ℕ) → Front m [] → AllByRecursion IsOfHost es → MayAll m es → new.outside.devices ≡ (happens_all m es).outside.devices
     → new.records ≡ (happens_all m es).records → all ≡ before → f ≤ g
-    → Stops (record { machine = m; entries = before; faults = f }) (record { machine = new; entries = all; faults = g })
-stopped_by es m new before all f g may devices records same falls = record {
-  events = es;
+    → Stops Front (record { machine = m; entries = before; faults = f }) (record { machine = new; entries = all; faults = g })
+stopped_by Front es m new before all f g none hosts may devices records same falls = record {
+  whole = [];
+  last = None;
+  front = none;
+  kept = es;
+  of_host = hosts;
   may = may;
   devices = devices;
   records = records;
-  more = entries_all m es;
-  front = ap (λ (l : List Entry). l ++ entries_all m es) same;
+  entered = same ∙ sym (append-nil before);
   never_falls = falls;
 }
 
+pub all_of_host : (es : List HostEvent) → AllByRecursion IsOfHost (map Host_does es)
+all_of_host [] = tt
+all_of_host (e ∷ es) = (tt, all_of_host es)
+
 -- a call of the host was done in part, or what it put out was not routed
-pub stopped_host : (es : List HostEvent) (m new : Machine) (state : HostState) (put puts : List HostOut) (records : Option (List (List ℕ))) (f g : ℕ) (before all : List Entry)
+pub stopped_host : (Front : Schedule) (es : List HostEvent) (m new : Machine) (state : HostState) (put puts : List HostOut) (records : Option (List (List ℕ))) (f g : ℕ) (before all : List Entry) → Front m []
     → Did es m.host.state state put puts (record { records = m.records; faults = f }) (record { records = records; faults = g })
     → new.outside.devices ≡ m.outside.devices → new.records ≡ records → all ≡ before
-    → Stops (record { machine = m; entries = before; faults = f }) (record { machine = new; entries = all; faults = g })
-stopped_host es m new state put puts records f g before all did devices kept same =
-    stopped_by (map Host_does es) m new before all f g (may_host-all m es did.may) (devices ∙ sym (devices_host-all m es))
+    → Stops Front (record { machine = m; entries = before; faults = f }) (record { machine = new; entries = all; faults = g })
+stopped_host Front es m new state put puts records f g before all none did devices kept same =
+    stopped_by Front (map Host_does es) m new before all f g none (all_of_host es) (may_host-all m es did.may) (devices ∙ sym (devices_host-all m es))
     (kept ∙ (adds_is m.records records (texts_of (records_all m.host.state es)) did.records ∙ sym (records_host-all m es))) same did.never_falls

@@ -1,14 +1,16 @@
 -- Events outside the host, as the machine's.
 use Rattle.std.proofs.Common.{◌≡◌, ℕ, Bool, false, List, [], ◌∷◌, ◌++◌, map, refl, ap, sym, ◌∙◌, subst, arith}
+use Rattle.std.specs.Prelude.{Option, Some, None}
 use Rattle.std.specs.List.{list_any}
+use Rattle.std.proofs.lemmas.List.{append-nil}
 use Rattle.zw_text.specs.declared.entry.Entry.{Entry}
 use Rattle.host_events.specs.Did.{RoseIf}
 use Rattle.outer_events.specs.State.{Outside}
 use Rattle.outer_events.specs.Events.{OuterEvent, AreOwn, happens as happens_outside, entries as entries_outside}
-use Rattle.outer_events.specs.Did.{happens_all as happens_all_outside, entries_all as entries_all_outside, MayAll as MayAllOutside, Run as RunOutside, Stops as StopsOutside}
+use Rattle.outer_events.specs.Did.{happens_all as happens_all_outside, entries_all as entries_all_outside, MayAll as MayAllOutside, Run as RunOutside, last_of as outer_last, Stops as StopsOutside}
 use Rattle.zw_machine.specs.State.{Machine, with_outside}
-use Rattle.zw_machine.specs.Events.{Outside_does, happens, entries, May}
-use Rattle.zw_machine.specs.Did.{happens_all, entries_all, MayAll, is_unkept, Counted, Run, Stops}
+use Rattle.zw_machine.specs.Events.{Event, Outside_does, happens, entries, May}
+use Rattle.zw_machine.specs.Did.{happens_all, entries_all, MayAll, is_unkept, Counted, Run, Schedule, last_of, Stops}
 
 pub happens_outside-all : (m : Machine) (es : List OuterEvent) → happens_all m (map Outside_does es) ≡ with_outside m (happens_all_outside m.outside es)
 unfolding happens
@@ -43,14 +45,32 @@ ran_outside es m w before all faults own run = record {
 }
 
 -- they were done in part
-pub stopped_outside : (m new : Machine) (before all : List Entry) (faults : ℕ) → new.records ≡ m.records → StopsOutside m.outside new.outside.devices before all
-    → Stops (record { machine = m; entries = before; faults = faults }) (record { machine = new; entries = all; faults = faults })
-stopped_outside m new before all faults records stops = record {
-  events = map Outside_does stops.events;
-  may = may_outside-all m stops.events stops.own stops.may;
-  devices = stops.devices_are ∙ ap (λ (x : Machine). x.outside.devices) (sym (happens_outside-all m stops.events));
-  records = records ∙ ap (λ (x : Machine). x.records) (sym (happens_outside-all m stops.events));
-  more = stops.more;
-  front = stops.front ∙ ap (λ (l : List Entry). before ++ l) (sym (entries_outside-all m stops.events));
-  never_falls = omega arith;
-}
+last_outside : (last : Option OuterEvent) → last_of last ≡ map Outside_does (outer_last last)
+last_outside None = refl
+last_outside (Some event) = refl
+
+pub front_outside : (whole : List OuterEvent) (last : Option OuterEvent) → map Outside_does (whole ++ outer_last last) ≡ map Outside_does whole ++ last_of last
+front_outside [] last = sym (last_outside last)
+front_outside (event ∷ whole) last = ap (λ (l : List Event). Outside_does event ∷ l) (front_outside whole last)
+
+pub stopped_outside : (Front : Schedule) (OuterFront : List OuterEvent → Type 0) (m new : Machine) (before all : List Entry) (faults : ℕ) → ((events : List OuterEvent) → OuterFront events → Front m (map Outside_does events))
+    → new.records ≡ m.records → StopsOutside OuterFront m.outside new.outside.devices before all
+    → Stops Front (record { machine = m; entries = before; faults = faults }) (record { machine = new; entries = all; faults = faults })
+stopped_outside Front OuterFront m new before all faults as records stops =
+    let ends : List OuterEvent = stops.whole ++ outer_last stops.last in
+    let is : map Outside_does ends ≡ (map Outside_does stops.whole ++ last_of stops.last) ++ [] =
+    front_outside stops.whole stops.last ∙ sym (append-nil (map Outside_does stops.whole ++ last_of stops.last)) in
+    let after : with_outside m (happens_all_outside m.outside ends) ≡ happens_all m ((map Outside_does stops.whole ++ last_of stops.last) ++ []) =
+    sym (happens_outside-all m ends) ∙ ap (λ (l : List Event). happens_all m l) is in
+    record {
+      whole = map Outside_does stops.whole;
+      last = stops.last;
+      front = subst (λ (l : List Event). Front m l) (front_outside stops.whole stops.last) (as ends stops.front);
+      kept = [];
+      of_host = tt;
+      may = subst (λ (l : List Event). MayAll m l) is (may_outside-all m ends stops.own stops.may);
+      devices = stops.devices_are ∙ ap (λ (x : Machine). x.outside.devices) after;
+      records = records ∙ ap (λ (x : Machine). x.records) after;
+      entered = stops.entered ∙ ap (λ (l : List Entry). before ++ l) (sym (entries_outside-all m stops.whole));
+      never_falls = omega arith;
+    }

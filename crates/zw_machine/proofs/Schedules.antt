@@ -1,5 +1,5 @@
 -- Schedules one after another, and those of what is outside the host.
-use Rattle.std.proofs.Common.{ℕ, zero, suc, ◌+◌, Bool, true, false, List, [], ◌∷◌, ◌++◌, map, refl, sym, subst}
+use Rattle.std.proofs.Common.{ℕ, zero, suc, ◌+◌, Bool, true, false, List, [], ◌∷◌, ◌++◌, map, refl, sym, subst, inl, inr}
 use Rattle.zw_text.specs.declared.entry.Entry.{Entry}
 use Rattle.outer_events.specs.State.{Outside, OuterState}
 use Rattle.outer_events.specs.Events.{OuterEvent, AreOwn}
@@ -7,9 +7,9 @@ use Rattle.outer_events.specs.Did.{RunOf as RunOfOutside}
 use Rattle.outer_events.specs.Schedules.{TakesBy, Arrivals, Givings, DeviceTicks, IsRepeat, IsWake, IsSet}
 use Rattle.zw_machine.specs.State.{Machine, with_outside}
 use Rattle.zw_machine.specs.Events.{Event, Outside_does}
-use Rattle.zw_machine.specs.Did.{Schedule, Scene, Stops, Does, Then}
+use Rattle.zw_machine.specs.Did.{Schedule, Scene, Stops, Does, Then, ThenFront}
 use Rattle.zw_machine.specs.Settling.{Outside as OutsideOf}
-use Rattle.zw_machine.proofs.Doing.{ran_both, stopped_later}
+use Rattle.zw_machine.proofs.Doing.{ran_both, stopped_as, stopped_later}
 use Rattle.zw_machine.proofs.Outside.{ran_outside}
 
 -- one after another
@@ -17,8 +17,14 @@ pub did_then : (A B : Schedule) (s t u : Scene) → Does A s t → Does B t u �
 did_then A B s t u first later =
     (first.0 ++ later.0, (first.0, later.0, refl, first.1, subst (λ (m : Machine). B m later.0) first.2.state later.1), ran_both first.0 later.0 s t u first.2 later.2)
 
-pub stopped_then : (A : Schedule) (s t u : Scene) → Does A s t → Stops t u → Stops s u
-stopped_then A s t u first stops = stopped_later first.0 s t u first.2 stops
+-- the first was done, and the second in part
+pub stopped_then : (A FirstFront SecondFront : Schedule) (s t u : Scene) → Does A s t → Stops SecondFront t u → Stops (ThenFront FirstFront A SecondFront) s u
+stopped_then A FirstFront SecondFront s t u first stops = stopped_later (ThenFront FirstFront A SecondFront) SecondFront first.0 s t u
+    (λ events front. inr (first.0, events, refl, first.1, subst (λ (m : Machine). SecondFront m events) first.2.state front)) first.2 stops
+
+-- the first was done in part
+pub stopped_first : (A FirstFront SecondFront : Schedule) (s t : Scene) → Stops FirstFront s t → Stops (ThenFront FirstFront A SecondFront) s t
+stopped_first A FirstFront SecondFront s t stops = stopped_as FirstFront (ThenFront FirstFront A SecondFront) s t (λ events front. inl front) stops
 
 -- ---- kinds of events outside the host
 

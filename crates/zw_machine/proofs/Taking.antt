@@ -18,8 +18,8 @@ use Rattle.outer_events.specs.Events.{Host_takes as host_takes, happens as happe
 use Rattle.outer_events.specs.Did.{happens_all as happens_all_outside, entries_all as entries_all_outside, Goes}
 use Rattle.zw_machine.specs.State.{Machine, routed, with_texts, host_entries}
 use Rattle.zw_machine.specs.Events.{Event, Host_does, Host_takes, fed, happens, entries, May}
-use Rattle.zw_machine.specs.Did.{Counted, Run, Stops}
-use Rattle.zw_machine.proofs.Hosting.{adds_is, rose_any, routed_still, devices_host-all, records_host-all, may_host-all, stopped_by}
+use Rattle.zw_machine.specs.Did.{Counted, Run, Schedule, Stops}
+use Rattle.zw_machine.proofs.Hosting.{adds_is, rose_any, routed_still, devices_host-all, records_host-all, may_host-all, all_of_host, stopped_by}
 
 or_false : (b : Bool) → (b || false) ≡ b
 or_false true = refl
@@ -68,14 +68,14 @@ unfolding happens devices_after
 taken_still m count rest items es = routed_still (fed m count rest).outside (outs_all m.host.state es)
 
 -- what it put out was not routed for want of memory
-pub stopped_takes : (m new : Machine) (count : ℕ) (parts : HostParts) (puts : List HostOut) (records : Option (List (List ℕ))) (f g : ℕ) (before all : List Entry)
+pub stopped_takes : (Front : Schedule) (m new : Machine) (count : ℕ) (parts : HostParts) (puts : List HostOut) (records : Option (List (List ℕ))) (f g : ℕ) (before all : List Entry) → Front m []
     → is_stalled m.outside.outer ≡ false
     → Fed m.host (take count m.outside.outer.to_host.bytes) parts [] puts (record { records = m.records; faults = f }) (record { records = records; faults = g })
     → new.outside.devices ≡ m.outside.devices → new.records ≡ records → all ≡ before
-    → Stops (record { machine = m; entries = before; faults = f }) (record { machine = new; entries = all; faults = g })
+    → Stops Front (record { machine = m; entries = before; faults = f }) (record { machine = new; entries = all; faults = g })
 unfolding happens May
-stopped_takes m new count parts puts records f g before all moves fed_by devices kept same =
-    stopped_by (Host_takes count parts.decoder fed_by.items fed_by.events ∷ []) m new before all f g
+stopped_takes Front m new count parts puts records f g before all none moves fed_by devices kept same =
+    stopped_by Front (Host_takes count parts.decoder fed_by.items fed_by.events ∷ []) m new before all f g none (tt, tt)
     (record { moves = moves; feeds = fed_by.feeds; judged = fed_by.judged; may = fed_by.did.may }, tt)
     (devices ∙ sym (taken_still m count parts.decoder fed_by.items fed_by.events))
     (kept ∙ adds_is m.records records (texts_of (records_all m.host.state fed_by.events)) fed_by.did.records) same fed_by.did.never_falls
@@ -88,13 +88,13 @@ front_is count bytes front left parts =
     ∙ take-append_seam front (left ++ drop count bytes)
 
 -- it took a front of some bytes, and then memory was wanting
-pub stopped_front : (m new : Machine) (count : ℕ) (parts : HostParts) (puts : List HostOut) (records : Option (List (List ℕ))) (f g : ℕ) (before all : List Entry)
+pub stopped_front : (Front : Schedule) (m new : Machine) (count : ℕ) (parts : HostParts) (puts : List HostOut) (records : Option (List (List ℕ))) (f g : ℕ) (before all : List Entry) → Front m []
     → is_stalled m.outside.outer ≡ false
     → FedFront m.host (take count m.outside.outer.to_host.bytes) parts [] puts (record { records = m.records; faults = f }) (record { records = records; faults = g })
     → new.outside.devices ≡ m.outside.devices → new.records ≡ records → all ≡ before
-    → Stops (record { machine = m; entries = before; faults = f }) (record { machine = new; entries = all; faults = g })
+    → Stops Front (record { machine = m; entries = before; faults = f }) (record { machine = new; entries = all; faults = g })
 unfolding happens May
-stopped_front m new count parts puts records f g before all moves front devices kept same =
+stopped_front Front m new count parts puts records f g before all none moves front devices kept same =
     let h = m.host.state in
     let es = front.fed.events in
     let n = length front.front in
@@ -103,7 +103,7 @@ stopped_front m new count parts puts records f g before all moves front devices 
     let some_kept : front.kept.records ≡ with_texts m.records (texts_of (records_all h es)) = adds_is m.records front.kept.records (texts_of (records_all h es)) front.fed.did.records in
     let feeds : Feeds m.host.decoder (take n m.outside.outer.to_host.bytes) front.mid.decoder front.fed.items =
     subst (λ (l : List ℕ). Feeds m.host.decoder l front.mid.decoder front.fed.items) (sym (front_is count m.outside.outer.to_host.bytes front.front front.left front.parts)) front.fed.feeds in
-    stopped_by (e ∷ map Host_does front.begun) m new before all f g (
+    stopped_by Front (e ∷ map Host_does front.begun) m new before all f g none (tt, all_of_host front.begun) (
       record { moves = moves; feeds = feeds; judged = front.fed.judged; may = front.fed.did.may },
       may_host-all (happens m e) front.begun (subst (λ (s : HostState). MayAllHost s front.begun) there front.did.may),
     )

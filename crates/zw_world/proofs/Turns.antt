@@ -43,11 +43,29 @@ outside_ticked s t u v w a b c d =
     did_then IsDelivery (Then IsGiving (Then IsDeviceTick IsChipTick)) s t w a
     (did_then IsGiving (Then IsDeviceTick IsChipTick) t u w b (did_then IsDeviceTick IsChipTick u v w c d))
 
-pub stopped_two : (s t u v : Scene) → Does IsDelivery s t → Does IsGiving t u → Stops u v → Stops s v
-stopped_two s t u v a b stops = stopped_then IsDelivery s t v a (stopped_then IsGiving t u v b stops)
+-- ---- in part
 
-pub stopped_three : (s t u v w : Scene) → Does IsDelivery s t → Does IsGiving t u → Does IsDeviceTick u v → Stops v w → Stops s w
-stopped_three s t u v w a b c stops = stopped_two s t u w a b (stopped_then IsDeviceTick u v w c stops)
+abbrev DevicesFront : Schedule
+DevicesFront = ThenFront (FrontOf IsDeviceTick) IsDeviceTick Nothing
+
+abbrev GivingsFront : Schedule
+GivingsFront = ThenFront (FrontOf IsGiving) IsGiving DevicesFront
+
+pub stopped_one : (s t : Scene) → Stops (FrontOf IsDelivery) s t → Stops OutsideTickFront s t
+stopped_one s t stops = stopped_first IsDelivery (FrontOf IsDelivery) GivingsFront s t stops
+
+pub stopped_two : (s t u : Scene) → Does IsDelivery s t → Stops (FrontOf IsGiving) t u → Stops OutsideTickFront s u
+stopped_two s t u a stops = stopped_then IsDelivery (FrontOf IsDelivery) GivingsFront s t u a (stopped_first IsGiving (FrontOf IsGiving) DevicesFront t u stops)
+
+pub stopped_three : (s t u v : Scene) → Does IsDelivery s t → Does IsGiving t u → Stops (FrontOf IsDeviceTick) u v → Stops OutsideTickFront s v
+stopped_three s t u v a b stops =
+    stopped_then IsDelivery (FrontOf IsDelivery) GivingsFront s t v a
+    (stopped_then IsGiving (FrontOf IsGiving) DevicesFront t u v b (stopped_first IsDeviceTick (FrontOf IsDeviceTick) Nothing u v stops))
+
+pub stopped_four : (s t u v w : Scene) → Does IsDelivery s t → Does IsGiving t u → Does IsDeviceTick u v → Stops Nothing v w → Stops OutsideTickFront s w
+stopped_four s t u v w a b c stops =
+    stopped_then IsDelivery (FrontOf IsDelivery) GivingsFront s t w a
+    (stopped_then IsGiving (FrontOf IsGiving) DevicesFront t u w b (stopped_then IsDeviceTick (FrontOf IsDeviceTick) Nothing u v w c stops))
 
 -- ---- the whole
 

@@ -7,8 +7,9 @@ use Rattle.outer_events.specs.State.{is_stalled}
 use Rattle.outer_events.specs.Events.{Host_takes}
 use Rattle.outer_events.specs.Did.{Goes}
 use Rattle.zw_machine.specs.Events.{Event}
-use Rattle.zw_machine.specs.Did.{Schedule, Then}
+use Rattle.zw_machine.specs.Did.{Schedule, Then, Nothing, ThenFront}
 use Rattle.zw_machine.specs.Settling.{IsChipPart, IsHostPart, IsMove, IsPump}
+use Rattle.zw_machine.specs.Fronts.{MoveFront}
 use Rattle.zw_world.specs.World.{WorldState}
 
 -- there are some
@@ -29,6 +30,10 @@ Moves moved m events = IsMove m events × (moved ≡ are_some events)
 -- a pass
 abbrev pub Pass : Bool → Schedule
 Pass moved = Then (Moves moved) IsPump
+
+-- a front of it: of the bytes that move, or all of them
+abbrev pub PassFront : Schedule
+PassFront = ThenFront MoveFront IsMove Nothing
 
 -- the host took so many of the first bytes of its pipe
 pub record TakesBytes (count : ℕ) (old new : WorldState) (before all : List HostOut) (shelf shelf' : Shelf) : Type 0 where
