@@ -89,10 +89,10 @@ stopped_now Front s none = record {
 
 -- a front of one thing is a front of another
 pub stopped_as : (A B : Schedule) (s t : Scene) → ((events : List Event) → A s.machine events → B s.machine events) → Stops A s t → Stops B s t
-stopped_as A B s t as stops = record {
+stopped_as A B s t goes stops = record {
   whole = stops.whole;
   last = stops.last;
-  front = as (stops.whole ++ last_of stops.last) stops.front;
+  front = goes (stops.whole ++ last_of stops.last) stops.front;
   kept = stops.kept;
   of_host = stops.of_host;
   may = stops.may;
@@ -104,7 +104,7 @@ stopped_as A B s t as stops = record {
 
 -- events were done, and then it stopped
 pub stopped_later : (A B : Schedule) (a : List Event) (old mid new : Scene) → ((events : List Event) → B mid.machine events → A old.machine (a ++ events)) → Run a old mid → Stops B mid new → Stops A old new
-stopped_later A B a old mid new as first later =
+stopped_later A B a old mid new goes first later =
     let there : mid.machine ≡ happens_all old.machine a = first.state in
     let ends : List Event = later.whole ++ last_of later.last in
     let front : a ++ ends ≡ (a ++ later.whole) ++ last_of later.last = sym (append_assoc a later.whole (last_of later.last)) in
@@ -115,7 +115,7 @@ stopped_later A B a old mid new as first later =
     record {
       whole = a ++ later.whole;
       last = later.last;
-      front = subst (λ (l : List Event). A old.machine l) front (as ends later.front);
+      front = subst (λ (l : List Event). A old.machine l) front (goes ends later.front);
       kept = later.kept;
       of_host = later.of_host;
       may = subst (λ (l : List Event). MayAll old.machine l) all

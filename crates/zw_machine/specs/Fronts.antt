@@ -4,8 +4,8 @@ use Rattle.std.specs.Prelude.{◌≡◌, ◌⊎◌, ℕ, zero, suc, List, [], �
 use Rattle.zw_text.specs.declared.line.Line.{Line}
 use Rattle.zw_text.specs.declared.line.Line.TheVariants.{Tick}
 use Rattle.zw_machine.specs.Events.{Event}
-use Rattle.zw_machine.specs.Did.{happens_all, Schedule, Then, Nothing, FrontOf, ThenFront}
-use Rattle.zw_machine.specs.Settling.{IsPump, IsChipPart, IsMove, IfMoved, Passes}
+use Rattle.zw_machine.specs.Did.{happens_all, Schedule, Nothing, FrontOf, ThenFront}
+use Rattle.zw_machine.specs.Settling.{IsPump, IsChipPart, IsMove, IfMoved}
 use Rattle.zw_machine.specs.Ticking.{IsClockTick, IsDelivery, IsGiving, IsDeviceTick, IsOutsideTick, IsHostTick, IsTick}
 use Rattle.zw_machine.specs.Lines.{IsEffect, IsLineBegin, IsLine}
 
@@ -48,9 +48,13 @@ LineRestFront line = ThenFront (FrontOf (IsEffect line)) (IsEffect line) Settles
 abbrev pub LineFront : Line → Schedule
 LineFront line = ThenFront Nothing IsLineBegin (LineRestFront line)
 
+-- the whole line, or a front of it
+abbrev pub LinePart : Line → Schedule
+LinePart line m events = IsLine line m events ⊎ LineFront line m events
+
 -- ---- lines one after another
 
 -- the whole line, where another follows it; the last one may have been cut short
 abbrev pub IsLineBefore : {A : Type 0} → List A → Line → Schedule
-IsLineBefore [] line m events = IsLine line m events ⊎ LineFront line m events
+IsLineBefore [] line m events = LinePart line m events
 IsLineBefore (next ∷ more) line m events = IsLine line m events

@@ -1,7 +1,7 @@
 -- A host that starts from the records goes on in place of the one before.
 use Rattle.std.proofs.Common.{◌≡◌, ℕ, ◌≤◌, true, List, [], ◌∷◌, ◌++◌, map, refl, ap, sym, ◌∙◌, subst, inl, inr}
 use Rattle.std.specs.Prelude.{Option, Some, None, Result, Ok, Err, OnOk}
-use Rattle.std.proofs.lemmas.List.{append-nil}
+use Rattle.std.proofs.lemmas.List.{append-nil, map-append}
 use Rattle.zw_base.specs.Faults.{Rose}
 use Rattle.serial_frame.specs.Stream.{Rest}
 use Rattle.s0_crypto.specs.declared.key_pair.Keys.{Keys}
@@ -14,23 +14,23 @@ use Rattle.zw_text.specs.declared.entry.Refusal.{Refusal}
 use Rattle.zw_text.specs.declared.entry.Refusal.TheVariants.{KeeperFault as keeper_fault}
 use Rattle.host_keep.specs.Keeping.{OptAdds}
 use Rattle.host_keep.specs.Legal.{IsFirstBad}
-use Rattle.host_events.specs.State.{HostParts}
+use Rattle.host_events.specs.State.{HostState, HostParts}
 use Rattle.host_events.specs.Did.{RoseIf}
 use Rattle.host_core.specs.Opening.{Opens}
 use Rattle.host_core.specs.declared.opening.OpenFault.{OpenFault}
 use Rattle.host_core.specs.declared.opening.OpenFault.TheVariants as opening
 use Rattle.outer_events.specs.State.{OuterState, outside}
 use Rattle.outer_events.specs.Events.{OuterEvent, Clears_pipe, Host_notes, devices_after}
-use Rattle.outer_events.specs.Did.{Goes, Run as RunOutside, Stops as StopsOutside, StopsStill}
+use Rattle.outer_events.specs.Did.{happens_all as happens_all_outside, Goes, FrontOf as FrontOfOutside, StopsStill}
 use Rattle.outer_events.proofs.Doing.{ran_both as ran_both_outside}
 use Rattle.zw_machine.specs.State.{Machine, machine}
 use Rattle.zw_machine.specs.Refusals.{IsUnopened, HasBad}
 use Rattle.zw_machine.specs.Events.{Event, Outside_does, Refuses, Restarts, OpensFrom, happens, entries, May}
-use Rattle.zw_machine.specs.Did.{Run, Does, Stops, is_keeper_fault}
-use Rattle.zw_machine.specs.Lines.{IsRestart, restart_events}
-use Rattle.zw_machine.proofs.Doing.{ran_both}
+use Rattle.zw_machine.specs.Did.{Schedule, Run, Does, FrontOf, Stops, is_keeper_fault}
+use Rattle.zw_machine.specs.Lines.{IsRestart, IsEffect, restart_events}
+use Rattle.zw_machine.proofs.Doing.{ran_both, stopped_later}
 use Rattle.zw_machine.proofs.Outside.{ran_outside}
-use Rattle.zw_world.specs.Effects.{shown_unopened}
+use Rattle.zw_world.specs.Effects.{IsClearing, shown_unopened}
 use Rattle.zw_world.proofs.Scenes.{at, ran_refuses, none_more, stopped_out}
 use Rattle.zw_world.proofs.Asking.{fault_in, IsNothing}
 use Rattle.zw_world.proofs.Hosting.{did_as}
@@ -66,33 +66,47 @@ restarted keys number host host' o o' ds r r' before all f g opens kept falls go
     )
 
 -- some of the bytes on their way were lost, for want of memory
+restart_front : (state : HostState) (m : Machine) (events : List OuterEvent) → FrontOfOutside IsClearing events → FrontOf (IsEffect Restart) m (Restarts state ∷ map Outside_does events)
+restart_front state m events (rest, are) =
+    inr (map Outside_does rest, inl (state, ap (λ (l : List Event). Restarts state ∷ l) (sym (map-append events rest) ∙ ap (λ (l : List OuterEvent). map Outside_does l) are)))
+
 pub restart_stops : (keys keys' : Keys) (number : ℕ) (host host' host'' : HostParts) (o o' : OuterState) (ds : List State) (r r' : Option (List (List ℕ))) (before all : List Entry) (f g : ℕ)
-    → Opens keys number r host' → OptAdds r r' [] → f ≤ g → StopsStill o before all
-    → Stops (at keys host o ds r before f) (at keys' host'' o' ds r' all g)
+    → Opens keys number r host' → OptAdds r r' [] → f ≤ g → StopsStill (FrontOfOutside IsClearing) o before all
+    → Stops (FrontOf (IsEffect Restart)) (at keys host o ds r before f) (at keys' host'' o' ds r' all g)
 restart_stops keys keys' number host host' host'' o o' ds r r' before all f g opens kept falls stops =
-    subst (λ (x : Option (List (List ℕ))). Stops (at keys host o ds r before f) (at keys' host'' o' ds x all g)) (sym (none_more r r' kept))
-    (Rattle.zw_machine.proofs.Doing.stopped_later (Restarts host'.state ∷ []) (at keys host o ds r before f) (at keys host' o ds r before g) (at keys' host'' o' ds r all g)
-    (starts keys number host host' o ds r before f g opens falls)
-    (stopped_out keys keys' host' host'' o o' ds ds r before all g (stops ds)))
+    let Later : Schedule = λ m events. FrontOf (IsEffect Restart) (machine keys host o r ds) (Restarts host'.state ∷ events) in
+    subst (λ (x : Option (List (List ℕ))). Stops (FrontOf (IsEffect Restart)) (at keys host o ds r before f) (at keys' host'' o' ds x all g)) (sym (none_more r r' kept))
+    (stopped_later (FrontOf (IsEffect Restart)) Later (Restarts host'.state ∷ []) (at keys host o ds r before f) (at keys host' o ds r before g) (at keys' host'' o' ds r all g)
+    (λ events front. front) (starts keys number host host' o ds r before f g opens falls)
+    (stopped_out Later (FrontOfOutside IsClearing) keys keys' host' host'' o o' ds ds r before all g (restart_front host'.state (machine keys host o r ds)) (stops ds)))
 
 -- ---- two pipes are cleared
 
 pub clears_both : (a b : OuterEvent) (o mid o' : OuterState) (before some all : List Entry) → Goes (a ∷ []) o mid before some → Goes (b ∷ []) mid o' some all → Goes (a ∷ b ∷ []) o o' before all
 clears_both a b o mid o' before some all first later ds = ran_both_outside (a ∷ []) (b ∷ []) (outside o ds) (outside mid ds) (outside o' ds) before some all (first ds) (later ds)
 
-pub clears_one : (a : OuterEvent) (o mid : OuterState) (before some all : List Entry) → Rattle.outer_events.specs.Events.is_own a ≡ true → Goes (a ∷ []) o mid before some → all ≡ some
-    → ((ds : List State) → ds ≡ (Rattle.outer_events.specs.Did.happens_all (outside o ds) (a ∷ [])).devices) → StopsStill o before all
-clears_one a o mid before some all own goes same still ds = record {
-  events = a ∷ [];
-  own = (own, tt);
+pub clears_one : (o mid : OuterState) (before some all : List Entry) → Goes (Clears_pipe side.Host ∷ []) o mid before some → all ≡ some
+    → ((ds : List State) → ds ≡ (happens_all_outside (outside o ds) (Clears_pipe side.Host ∷ [])).devices) → StopsStill (FrontOfOutside IsClearing) o before all
+clears_one o mid before some all goes same still ds = record {
+  whole = Clears_pipe side.Host ∷ [];
+  last = None;
+  front = (Clears_pipe side.Chip ∷ [], refl);
+  own = (refl, tt);
   may = (goes ds).may;
   devices_are = still ds;
-  more = [];
-  front = append-nil all ∙ (same ∙ (goes ds).entries);
+  entered = same ∙ (goes ds).entries;
 }
 
-pub clears_none : (o : OuterState) (before all : List Entry) → all ≡ before → StopsStill o before all
-clears_none o before all same ds = record { events = []; own = tt; may = tt; devices_are = refl; more = []; front = ap (λ (l : List Entry). l ++ []) same }
+pub clears_none : (o : OuterState) (before all : List Entry) → all ≡ before → StopsStill (FrontOfOutside IsClearing) o before all
+clears_none o before all same ds = record {
+  whole = [];
+  last = None;
+  front = (Clears_pipe side.Host ∷ Clears_pipe side.Chip ∷ [], refl);
+  own = tt;
+  may = tt;
+  devices_are = refl;
+  entered = same ∙ sym (append-nil before);
+}
 
 -- ---- no host
 

@@ -9,10 +9,11 @@ use Rattle.outer_events.specs.State.{OuterState, outside}
 use Rattle.outer_events.specs.Events.{Begins_tick, Chip_ticks}
 use Rattle.outer_events.specs.Did.{Goes, GoesFor, RunOf}
 use Rattle.outer_events.specs.Schedules.{Delivers, Givings, DeviceTicks}
-use Rattle.zw_machine.specs.Did.{Scene, Does, Stops, Then}
+use Rattle.zw_machine.specs.Did.{Schedule, Scene, Does, Nothing, FrontOf, ThenFront, Stops, Then}
 use Rattle.zw_machine.specs.Settling.{Settles}
 use Rattle.zw_machine.specs.Ticking.{IsClockTick, IsDelivery, IsGiving, IsDeviceTick, IsChipTick, IsOutsideTick, IsHostTick, IsTick}
-use Rattle.zw_machine.proofs.Schedules.{did_then, stopped_then, arrivals_own, givings_own, ticks_own}
+use Rattle.zw_machine.specs.Fronts.{SettlesFront, OutsideTickFront, TickFront}
+use Rattle.zw_machine.proofs.Schedules.{did_then, stopped_first, stopped_then, arrivals_own, givings_own, ticks_own}
 use Rattle.zw_world.proofs.Scenes.{at, did_one, did_quiet, did_of}
 
 -- ---- outside the host
@@ -74,8 +75,21 @@ tick_done s t u v w a b c d =
     did_then IsClockTick (Then IsOutsideTick (Then IsHostTick Settles)) s t w a
     (did_then IsOutsideTick (Then IsHostTick Settles) t u w b (did_then IsHostTick Settles u v w c d))
 
-pub tick_two : (s t u v : Scene) → Does IsClockTick s t → Does IsOutsideTick t u → Stops u v → Stops s v
-tick_two s t u v a b stops = stopped_then IsClockTick s t v a (stopped_then IsOutsideTick t u v b stops)
+-- ---- the whole in part
 
-pub tick_three : (s t u v w : Scene) → Does IsClockTick s t → Does IsOutsideTick t u → Does IsHostTick u v → Stops v w → Stops s w
-tick_three s t u v w a b c stops = tick_two s t u w a b (stopped_then IsHostTick u v w c stops)
+abbrev HostFront : Schedule
+HostFront = ThenFront Nothing IsHostTick SettlesFront
+
+abbrev SidesFront : Schedule
+SidesFront = ThenFront OutsideTickFront IsOutsideTick HostFront
+
+pub tick_one : (s t u : Scene) → Does IsClockTick s t → Stops OutsideTickFront t u → Stops TickFront s u
+tick_one s t u a stops = stopped_then IsClockTick Nothing SidesFront s t u a (stopped_first IsOutsideTick OutsideTickFront HostFront t u stops)
+
+pub tick_two : (s t u v : Scene) → Does IsClockTick s t → Does IsOutsideTick t u → Stops Nothing u v → Stops TickFront s v
+tick_two s t u v a b stops =
+    stopped_then IsClockTick Nothing SidesFront s t v a (stopped_then IsOutsideTick OutsideTickFront HostFront t u v b (stopped_first IsHostTick Nothing SettlesFront u v stops))
+
+pub tick_three : (s t u v w : Scene) → Does IsClockTick s t → Does IsOutsideTick t u → Does IsHostTick u v → Stops SettlesFront v w → Stops TickFront s w
+tick_three s t u v w a b c stops =
+    stopped_then IsClockTick Nothing SidesFront s t w a (stopped_then IsOutsideTick OutsideTickFront HostFront t u w b (stopped_then IsHostTick Nothing SettlesFront u v w c stops))

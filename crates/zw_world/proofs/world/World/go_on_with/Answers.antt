@@ -22,4 +22,4 @@ pub returns-clause-err : goal.returns-clause-err
 returns-clause-err c =
     let w = the_view c.self.inside in
     rw (← c.self.view_is) (err_then c.clear-2.result c.clear-2.ensures.no_entries
-    (λ same. clears_one (Clears_pipe side.Host) w.outer c.clear.new.self c.args.out.now.items c.clear.new.out.items c.clear-2.new.out.items refl c.in_ok-clear.ensures.ok same (λ ds. clear_still w.outer ds)))
+    (λ same. clears_one w.outer c.clear.new.self c.args.out.now.items c.clear.new.out.items c.clear-2.new.out.items c.in_ok-clear.ensures.ok same (λ ds. clear_still w.outer ds)))
