@@ -31,7 +31,7 @@ use Rattle.zw_machine.specs.Lines.{IsRestart, IsEffect, restart_events}
 use Rattle.zw_machine.proofs.Doing.{ran_both, stopped_later}
 use Rattle.zw_machine.proofs.Outside.{ran_outside}
 use Rattle.zw_world.specs.Effects.{IsClearing, shown_unopened}
-use Rattle.zw_world.proofs.Scenes.{at, ran_refuses, none_more, stopped_out}
+use Rattle.zw_world.proofs.Scenes.{at, ran_refuses, none_more, fronts_of, stopped_out}
 use Rattle.zw_world.proofs.Asking.{fault_in, IsNothing}
 use Rattle.zw_world.proofs.Hosting.{did_as}
 
@@ -78,7 +78,7 @@ restart_stops keys keys' number host host' host'' o o' ds r r' before all f g op
     subst (λ (x : Option (List (List ℕ))). Stops (FrontOf (IsEffect Restart)) (at keys host o ds r before f) (at keys' host'' o' ds x all g)) (sym (none_more r r' kept))
     (stopped_later (FrontOf (IsEffect Restart)) Later (Restarts host'.state ∷ []) (at keys host o ds r before f) (at keys host' o ds r before g) (at keys' host'' o' ds r all g)
     (λ events front. front) (starts keys number host host' o ds r before f g opens falls)
-    (stopped_out Later (FrontOfOutside IsClearing) keys keys' host' host'' o o' ds ds r before all g (restart_front host'.state (machine keys host o r ds)) (stops ds)))
+    (stopped_out Later (FrontOfOutside IsClearing) keys keys' host' host'' o o' ds ds r before all g (fronts_of IsClearing) (restart_front host'.state (machine keys host o r ds)) (stops ds)))
 
 -- ---- two pipes are cleared
 

@@ -1,5 +1,5 @@
 -- What calls of the parts of a world are as events of the machine, whatever stands beside them.
-use Rattle.std.proofs.Common.{◌≡◌, ℕ, ◌≤◌, Bool, true, false, List, [], ◌∷◌, ◌++◌, map, refl, ap, sym, ◌∙◌, subst, arith, inl, inr}
+use Rattle.std.proofs.Common.{◌≡◌, ℕ, ◌≤◌, Bool, true, false, List, [], ◌∷◌, ◌++◌, map, refl, ap, sym, ◌∙◌, subst, append_assoc, arith, inl, inr}
 use Rattle.std.specs.Prelude.{Option, Some, None, Result, Ok, Err, OnOk, OnErr, ◌||◌}
 use Rattle.std.proofs.lemmas.List.{append-nil, map-append}
 use Rattle.serial_frame.specs.Stream.{Rest, after_tick}
@@ -114,10 +114,14 @@ did_run e keys host o o' ds r before all f own (es, are, run) =
 
 -- they were done in part
 pub stopped_out : (Front : Schedule) (OuterFront : List OuterEvent → Type 0) (keys keys' : Keys) (host host' : HostParts) (o o' : OuterState) (ds ds' : List State) (r : Option (List (List ℕ))) (before all : List Entry) (f : ℕ)
+    → ((a b : List OuterEvent) → OuterFront (a ++ b) → OuterFront a)
     → ((events : List OuterEvent) → OuterFront events → Front (machine keys host o r ds) (map Outside_does events))
     → StopsOutside OuterFront (outside o ds) ds' before all → Stops Front (at keys host o ds r before f) (at keys' host' o' ds' r all f)
-stopped_out Front OuterFront keys keys' host host' o o' ds ds' r before all f goes stops =
-    stopped_outside Front OuterFront (machine keys host o r ds) (machine keys' host' o' r ds') before all f goes refl stops
+stopped_out Front OuterFront keys keys' host host' o o' ds ds' r before all f fronts goes stops =
+    stopped_outside Front OuterFront (machine keys host o r ds) (machine keys' host' o' r ds') before all f fronts goes refl stops
+
+pub fronts_of : (Kind : List OuterEvent → Type 0) (a b : List OuterEvent) → FrontOfOutside Kind (a ++ b) → FrontOfOutside Kind a
+fronts_of Kind a b (rest, kind) = (b ++ rest, subst Kind (append_assoc a b rest) kind)
 
 pub front_of : (Kind : List OuterEvent → Type 0) (m : Machine) (events : List OuterEvent) → FrontOfOutside Kind events → FrontOf (λ (m : Machine) (es : List Event). OutsideOf Kind es) m (map Outside_does events)
 front_of Kind m events (rest, kind) = inr (map Outside_does rest, (events ++ rest, kind, sym (map-append events rest)))
@@ -126,7 +130,7 @@ pub stopped_of : (Kind : List OuterEvent → Type 0) (keys keys' : Keys) (host h
     → StopsOutside (FrontOfOutside Kind) (outside o ds) ds' before all
     → Stops (FrontOf (λ (m : Machine) (es : List Event). OutsideOf Kind es)) (at keys host o ds r before f) (at keys' host' o' ds' r all f)
 stopped_of Kind keys keys' host host' o o' ds ds' r before all f stops =
-    stopped_out (FrontOf (λ (m : Machine) (es : List Event). OutsideOf Kind es)) (FrontOfOutside Kind) keys keys' host host' o o' ds ds' r before all f (front_of Kind (machine keys host o r ds)) stops
+    stopped_out (FrontOf (λ (m : Machine) (es : List Event). OutsideOf Kind es)) (FrontOfOutside Kind) keys keys' host host' o o' ds ds' r before all f (fronts_of Kind) (front_of Kind (machine keys host o r ds)) stops
 
 -- ---- events of the host
 
