@@ -1,5 +1,5 @@
 -- A host that starts from the records goes on in place of the one before.
-use Rattle.std.proofs.Common.{◌≡◌, ℕ, ◌≤◌, true, List, [], ◌∷◌, ◌++◌, map, refl, ap, sym, ◌∙◌, subst, inl, inr}
+use Rattle.std.proofs.Common.{◌≡◌, ℕ, ◌≤◌, List, [], ◌∷◌, map, refl, ap, sym, ◌∙◌, subst, inl, inr}
 use Rattle.std.specs.Prelude.{Option, Some, None, Result, Ok, Err, OnOk}
 use Rattle.std.proofs.lemmas.List.{append-nil, map-append}
 use Rattle.zw_base.specs.Faults.{Rose}
@@ -68,7 +68,7 @@ restarted keys number host host' o o' ds r r' before all f g opens kept falls go
 -- some of the bytes on their way were lost, for want of memory
 restart_front : (state : HostState) (m : Machine) (events : List OuterEvent) → FrontOfOutside IsClearing events → FrontOf (IsEffect Restart) m (Restarts state ∷ map Outside_does events)
 restart_front state m events (rest, are) =
-    inr (map Outside_does rest, inl (state, ap (λ (l : List Event). Restarts state ∷ l) (sym (map-append events rest) ∙ ap (λ (l : List OuterEvent). map Outside_does l) are)))
+    inr (map Outside_does rest, inl (state, ap (λ (l : List Event). Restarts state ∷ l) (sym (map-append Outside_does events rest) ∙ ap (λ (l : List OuterEvent). map Outside_does l) are)))
 
 pub restart_stops : (keys keys' : Keys) (number : ℕ) (host host' host'' : HostParts) (o o' : OuterState) (ds : List State) (r r' : Option (List (List ℕ))) (before all : List Entry) (f g : ℕ)
     → Opens keys number r host' → OptAdds r r' [] → f ≤ g → StopsStill (FrontOfOutside IsClearing) o before all

@@ -124,7 +124,7 @@ pub fronts_of : (Kind : List OuterEvent → Type 0) (a b : List OuterEvent) → 
 fronts_of Kind a b (rest, kind) = (b ++ rest, subst Kind (append_assoc a b rest) kind)
 
 pub front_of : (Kind : List OuterEvent → Type 0) (m : Machine) (events : List OuterEvent) → FrontOfOutside Kind events → FrontOf (λ (m : Machine) (es : List Event). OutsideOf Kind es) m (map Outside_does events)
-front_of Kind m events (rest, kind) = inr (map Outside_does rest, (events ++ rest, kind, sym (map-append events rest)))
+front_of Kind m events (rest, kind) = inr (map Outside_does rest, (events ++ rest, kind, sym (map-append Outside_does events rest)))
 
 pub stopped_of : (Kind : List OuterEvent → Type 0) (keys keys' : Keys) (host host' : HostParts) (o o' : OuterState) (ds ds' : List State) (r : Option (List (List ℕ))) (before all : List Entry) (f : ℕ)
     → StopsOutside (FrontOfOutside Kind) (outside o ds) ds' before all

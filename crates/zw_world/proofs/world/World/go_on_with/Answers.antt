@@ -1,5 +1,4 @@
 -- Both pipes are cleared.
-use Rattle.std.proofs.Common.{refl}
 use Rattle.zw_words.specs.declared.side.Side.TheVariants as side
 use Rattle.outer_events.specs.Events.{Clears_pipe}
 use Rattle.zw_world.specs.contracts.world.World.{the_view}

@@ -2,11 +2,16 @@
 use Rattle.std.proofs.Common.{subst, arith}
 use Rattle.std.specs.Prelude.{Bool}
 use Rattle.zw_machine.specs.Did.{Does, Scene}
+use Rattle.zw_machine.specs.Settling.{Passes}
+use Rattle.zw_machine.specs.Fronts.{PassesFront}
 use Rattle.zw_world.specs.World.{scene}
 use Rattle.zw_world.specs.Moving.{Pass}
 use Rattle.zw_world.proofs.Scenes.{on_err}
-use Rattle.zw_world.proofs.Passing.{pass_so_far, last_pass, all_passes, passes_stop}
+use Rattle.zw_world.proofs.Passing.{nothing_so_far, pass_so_far, last_pass, all_passes, passes_stop}
 use Rattle.zw_world.proofs.world.World.pass_all.Goals as goal
+
+pub loop-init : goal.loop-init
+loop-init g c = λ ds. nothing_so_far (Passes 64) (PassesFront 64) _
 
 pub returns-in_err-pass-clause-err : goal.returns-in_err-pass-clause-err
 returns-in_err-pass-clause-err g c = on_err c.from_residual.result
