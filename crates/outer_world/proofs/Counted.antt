@@ -1,5 +1,5 @@
 -- Events of a kind that come so many at a time, from a place on: more of them after some, and where it stops among them.
-use Rattle.std.proofs.Common.{◌≡◌, ℕ, zero, suc, ◌+◌, ◌-◌, ◌<◌, ◌≤◌, List, [], ◌∷◌, ◌++◌, refl, ap, sym, ◌∙◌, subst, append_assoc, arith}
+use Rattle.std.proofs.Common.{◌≡◌, ℕ, zero, suc, ◌+◌, ◌-◌, ◌<◌, List, [], ◌∷◌, ◌++◌, refl, ap, sym, ◌∙◌, subst, append_assoc, arith}
 use Rattle.std.specs.Prelude.{None}
 use Rattle.device_sim.specs.State.{State}
 use Rattle.zw_text.specs.declared.entry.Entry.{Entry}
@@ -29,8 +29,7 @@ module _ {Kind : ℕ → ℕ → List OuterEvent → Type 0} (kind : Counted Kin
   front_after count total xs events within are (rest, one) =
       let left = kind.some (count + 1) (total - (count + 1)) in
       let all : (xs ++ (events ++ rest)) ++ left.0 ≡ (xs ++ events) ++ (rest ++ left.0) =
-      append_assoc xs (events ++ rest) left.0 ∙ (ap (λ (l : List OuterEvent). xs ++ l) (append_assoc events rest left.0) ∙ sym (append_assoc xs events (rest ++ left.0))) in
-      (
+      append_assoc xs (events ++ rest) left.0 ∙ (ap (λ (l : List OuterEvent). xs ++ l) (append_assoc events rest left.0) ∙ sym (append_assoc xs events (rest ++ left.0))) in (
         rest ++ left.0,
         subst (λ (l : List OuterEvent). Kind 0 total l) all
             (kind.both 0 (count + 1) (count + 1) (total - (count + 1)) total (xs ++ (events ++ rest)) left.0 (omega arith) (omega arith)

@@ -1,5 +1,5 @@
 -- Results that are given, and what is shown.
-use Rattle.std.proofs.Common.{◌≡◌, ℕ, zero, suc, ◌+◌, List, [], ◌∷◌, ◌++◌, drop, refl, ap, sym, ◌∙◌, subst, add-one, Result, OnOk}
+use Rattle.std.proofs.Common.{◌≡◌, ℕ, List, [], ◌∷◌, ◌++◌, drop, refl, ap, sym, ◌∙◌, subst, Result, OnOk}
 use Rattle.std.specs.Prelude.{Option, Some, None, slice_get}
 use Rattle.std.proofs.lemmas.List.{append-nil}
 use Rattle.zw_base.specs.declared.profile.Profile.{Profile}
@@ -15,12 +15,12 @@ use Rattle.zw_text.specs.declared.entry.Entry.TheVariants.{Refused}
 use Rattle.zw_text.specs.declared.entry.Refusal.TheVariants.{NoDevice}
 use Rattle.outer_events.specs.declared.waits.Due.{Due}
 use Rattle.outer_events.specs.declared.waits.Due.TheVariants.{Info, NoRoute}
-use Rattle.outer_events.specs.State.{OuterState, Outside, outside, tells, each, Does}
+use Rattle.outer_events.specs.State.{OuterState, outside, tells, each, Does}
 use Rattle.outer_events.specs.Chip.{put_out, chip_does}
 use Rattle.outer_events.specs.Results.{no_route, profile_for, informs, gives, MayGive, device_at}
 use Rattle.outer_events.specs.Devices.{device_entries, shown_entries}
-use Rattle.outer_events.specs.Events.{OuterEvent, Gives, Shows, outcome, devices_after, May, stamp, has_entered}
-use Rattle.outer_events.specs.Did.{RunOf, GoesFor, Enters}
+use Rattle.outer_events.specs.Events.{Gives, Shows, outcome, devices_after, May, stamp, has_entered}
+use Rattle.outer_events.specs.Did.{GoesFor, Enters}
 use Rattle.outer_events.specs.Schedules.{Givings, IsOne}
 use Rattle.outer_world.proofs.Single.{run_one, entered_ok, map_ok}
 use Rattle.outer_world.proofs.Doings.{does_chip}

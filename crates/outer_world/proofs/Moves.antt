@@ -1,15 +1,15 @@
 -- Events of one device of the list.
-use Rattle.std.proofs.Common.{◌≡◌, ℕ, zero, suc, ◌+◌, inl, inr, List, [], ◌∷◌, ◌++◌, set, slice_get, refl, ap, sym, ◌∙◌, subst, Result, OnOk, arith, add-one}
+use Rattle.std.proofs.Common.{◌≡◌, ℕ, zero, suc, inl, inr, List, [], ◌∷◌, ◌++◌, set, slice_get, refl, ap, sym, ◌∙◌, subst, Result, OnOk}
 use Rattle.std.specs.Prelude.{Option, Some, None}
 use Rattle.route_table.specs.declared.route.Route.{Route}
 use Rattle.device_sim.specs.State.{State}
 use Rattle.device_sim.specs.Event.{DeviceEvent, Ticks, Wakes, Sets, device_after, device_replies}
 use Rattle.mesh_sim.specs.Fates.{place_of}
 use Rattle.zw_text.specs.declared.entry.Entry.{Entry}
-use Rattle.outer_events.specs.State.{OuterState, Outside, outside, Does}
+use Rattle.outer_events.specs.State.{OuterState, outside, Does}
 use Rattle.outer_world.specs.Acting.{HasActed, HasActedByHand}
 use Rattle.outer_events.specs.Devices.{acts, acts_at, device_set, HasWay, MayAct, acts_by_hand, set_by_hand, MayActByHand}
-use Rattle.outer_events.specs.Events.{OuterEvent, Device_ticks, Wakes_device, Sets_device, outcome, devices_after, May, stamp, has_entered}
+use Rattle.outer_events.specs.Events.{Device_ticks, Wakes_device, Sets_device, outcome, devices_after, May, stamp, has_entered}
 use Rattle.outer_events.specs.Did.{RunOf, FrontOf, Stops, Enters}
 use Rattle.outer_events.specs.Schedules.{DeviceTicks, IsWake, IsSet}
 use Rattle.outer_world.proofs.Single.{run_one, stops_now, stops_in, entered_ok, map_ok}

@@ -14,7 +14,7 @@ pub loop-preserved : goal.loop-preserved
 loop-preserved g c = ran_more givings c.loop.counter _ _ _ _ _ _ c.loop.invariant c.in_ok-give.ensures.ok
 
 pub returns-in_err-give-clause-err : goal.returns-in_err-give-clause-err
-returns-in_err-give-clause-err g c = on_err c.from_residual.result _ 
+returns-in_err-give-clause-err g c = on_err c.from_residual.result _
     (ran_stops givings c.loop.counter _ _ _ _ _ _ _ (omega (arith, ap (λ (o : OuterState). length o.due) c.self.view_is)) c.loop.invariant
     (stops_now (FrontOf (Givings 1)) _ _ _ _ (givings.some 0 1) refl c.in_err-give.ensures.no_entries))
 

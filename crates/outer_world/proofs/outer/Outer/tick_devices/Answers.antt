@@ -15,7 +15,7 @@ loop-place-preserved g c = record {
 }
 
 pub returns-in_err-act_at-clause-err : goal.returns-in_err-act_at-clause-err
-returns-in_err-act_at-clause-err g c = on_err c.from_residual.result _ 
+returns-in_err-act_at-clause-err g c = on_err c.from_residual.result _
     (ran_stops device_ticks c.loop-place.place _ _ _ _ _ _ _ (omega arith) c.loop-place.invariant.runs (tick_stops _ _ _ c.loop-place.place _ _ _ c.in_err-act_at.ensures.err c.in_err-act_at.ensures.no_entries))
 
 pub returns-clause-ok : goal.returns-clause-ok
