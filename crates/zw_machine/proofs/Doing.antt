@@ -78,6 +78,7 @@ stopped_now Front s none = record {
   whole = [];
   last = None;
   front = none;
+  moved = none;
   kept = [];
   of_host = tt;
   may = tt;
@@ -89,10 +90,11 @@ stopped_now Front s none = record {
 
 -- a front of one thing is a front of another
 pub stopped_as : (A B : Schedule) (s t : Scene) → ((events : List Event) → A s.machine events → B s.machine events) → Stops A s t → Stops B s t
-stopped_as A B s t as stops = record {
+stopped_as A B s t goes stops = record {
   whole = stops.whole;
   last = stops.last;
-  front = as (stops.whole ++ last_of stops.last) stops.front;
+  front = goes stops.whole stops.front;
+  moved = goes (stops.whole ++ last_of stops.last) stops.moved;
   kept = stops.kept;
   of_host = stops.of_host;
   may = stops.may;
@@ -104,7 +106,7 @@ stopped_as A B s t as stops = record {
 
 -- events were done, and then it stopped
 pub stopped_later : (A B : Schedule) (a : List Event) (old mid new : Scene) → ((events : List Event) → B mid.machine events → A old.machine (a ++ events)) → Run a old mid → Stops B mid new → Stops A old new
-stopped_later A B a old mid new as first later =
+stopped_later A B a old mid new goes first later =
     let there : mid.machine ≡ happens_all old.machine a = first.state in
     let ends : List Event = later.whole ++ last_of later.last in
     let front : a ++ ends ≡ (a ++ later.whole) ++ last_of later.last = sym (append_assoc a later.whole (last_of later.last)) in
@@ -115,7 +117,8 @@ stopped_later A B a old mid new as first later =
     record {
       whole = a ++ later.whole;
       last = later.last;
-      front = subst (λ (l : List Event). A old.machine l) front (as ends later.front);
+      front = goes later.whole later.front;
+      moved = subst (λ (l : List Event). A old.machine l) front (goes ends later.moved);
       kept = later.kept;
       of_host = later.of_host;
       may = subst (λ (l : List Event). MayAll old.machine l) all

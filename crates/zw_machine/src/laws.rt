@@ -3,17 +3,13 @@
 ghost use Rattle.std.specs.Prelude.{◌≡◌, List, [], ◌∷◌, ◌++◌};
 ghost use Rattle.zw_machine.specs.State.{Machine};
 ghost use Rattle.zw_machine.specs.Events.{Event};
-ghost use Rattle.zw_machine.specs.Did.{happens_all, entries_all, MayAll, Scene, Run, Schedule, Stops};
+ghost use Rattle.zw_machine.specs.Did.{happens_all, entries_all, MayAll, Scene, Run};
 
-/// What two lists of events do, one after the other, is what both together do. Where memory was wanting after some were done, those are
-/// among what was done.
+/// What two lists of events do, one after the other, is what both together do.
 pub fn lists_go_on()
     ensures state { (m : Machine) (a b : List Event) → happens_all m (a ++ b) ≡ happens_all (happens_all m a) b }
     ensures entries { (m : Machine) (a b : List Event) → entries_all m (a ++ b) ≡ entries_all m a ++ entries_all (happens_all m a) b }
     ensures may { (m : Machine) (a b : List Event) → MayAll m a → MayAll (happens_all m a) b → MayAll m (a ++ b) }
     ensures nothing { (s : Scene) → Run [] s s }
     ensures both { (a b : List Event) (old mid new : Scene) → Run a old mid → Run b mid new → Run (a ++ b) old new }
-    ensures stops_at_once { (Front : Schedule) (s : Scene) → Front s.machine [] → Stops Front s s }
-    ensures stops_later { (A B : Schedule) (a : List Event) (old mid new : Scene) → ((events : List Event) → B mid.machine events → A old.machine (a ++ events)) →
-        Run a old mid → Stops B mid new → Stops A old new }
 {}

@@ -1,5 +1,5 @@
 -- Lists of events that were done one after another.
-use Rattle.zw_machine.proofs.Doing.{happens_all-append, entries_all-append, may_all-append, ran_nothing, ran_both, stopped_at_once, stopped_later}
+use Rattle.zw_machine.proofs.Doing.{happens_all-append, entries_all-append, may_all-append, ran_nothing, ran_both}
 use Rattle.zw_machine.proofs.laws.lists_go_on.Goals as goal
 
 pub returns-clause-state : goal.returns-clause-state
@@ -16,9 +16,3 @@ returns-clause-nothing c = ran_nothing
 
 pub returns-clause-both : goal.returns-clause-both
 returns-clause-both c = ran_both
-
-pub returns-clause-stops_at_once : goal.returns-clause-stops_at_once
-returns-clause-stops_at_once c = stopped_at_once
-
-pub returns-clause-stops_later : goal.returns-clause-stops_later
-returns-clause-stops_later c = stopped_later
