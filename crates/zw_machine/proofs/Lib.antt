@@ -5,4 +5,3 @@ pub mod Silence
 pub mod Taking
 pub mod Schedules
 pub mod Pieces
-pub mod Cutting
