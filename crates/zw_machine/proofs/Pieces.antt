@@ -138,10 +138,11 @@ module _ (L : Schedule) (law : Law L) where
     of_line_front : (line : Line) → Of L (IsEffect line) → Of L (LineFront line)
     of_line_front line effect = of_then_front Nothing IsLineBegin (LineRestFront line) of_none pieces.begins (of_rest_front line effect)
 
-    of_line_part : (line : Line) → Of L (IsEffect line) → Of L (LinePart line)
+    pub of_line_part : (line : Line) → Of L (IsEffect line) → Of L (LinePart line)
     of_line_part line effect m events (inl is) = of_line line effect m events is
     of_line_part line effect m events (inr is) = of_line_front line effect m events is
 
+    -- the whole line where another follows it
     pub of_line_before : {A : Type 0} (more : List A) (line : Line) → Of L (IsEffect line) → Of L (IsLineBefore more line)
     of_line_before [] line effect m events is = of_line_part line effect m events is
     of_line_before (next ∷ more) line effect m events is = of_line line effect m events is
