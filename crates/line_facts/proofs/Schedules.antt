@@ -18,25 +18,30 @@ use Rattle.outer_events.specs.Events.{OuterEvent, Chip_takes, Chip_ticks, Discov
 use Rattle.outer_events.specs.Schedules.{TakesBy as ChipTakesBy, Arrivals, Delivers, Givings, DeviceTicks, IsRepeat, IsWake, IsSet}
 use Rattle.zw_machine.specs.State.{Machine}
 use Rattle.zw_machine.specs.Events.{Event, Outside_does, Host_does, Decoder_ticks, happens}
-use Rattle.zw_machine.specs.Did.{happens_all, Schedule, Then}
-use Rattle.zw_machine.specs.Settling.{Outside, IsPump, IsChipPart, IsHostPart, TakesBy, IsMove, IfMoved, Passes, Settles}
-use Rattle.zw_machine.specs.Ticking.{IsClockTick, IsDelivery, IsGiving, IsDeviceTick, IsChipTick, IsOutsideTick, IsHostTick, IsTick, Ticks}
-use Rattle.zw_machine.specs.Lines.{IsRefusal, IsDone, Asks, IsRestart, IsDiscovery, IsEffect, IsLineBegin, IsLineRest, IsLine}
+use Rattle.zw_machine.specs.Did.{happens_all, Schedule}
+use Rattle.zw_machine.specs.Settling.{Outside, IsPump, IsChipPart, IsHostPart, TakesBy}
+use Rattle.zw_machine.specs.Ticking.{IsClockTick, IsDelivery, IsGiving, IsDeviceTick, IsChipTick, IsHostTick}
+use Rattle.zw_machine.specs.Lines.{IsRefusal, IsDone, Asks, IsRestart, IsDiscovery, IsEffect, IsLineBegin}
+use Rattle.zw_machine.specs.Fronts.{LinePart, IsLineBefore}
+use Rattle.zw_machine.proofs.Pieces.{Of, Law, Pieces, of_none, of_then, of_line_part, of_line_before}
 use Rattle.line_facts.specs.Line.{OuterTakesAll, AllTakeWhole, AreLines}
 
--- ---- schedules
-
--- the events of a schedule take all bytes
-abbrev pub TakesAllOf : Schedule → Type 0
-TakesAllOf Kind = (m : Machine) (events : List Event) → Kind m events → AllTakeWhole m events
+-- ---- lists
 
 takes_both : (m : Machine) (a b : List Event) → AllTakeWhole m a → AllTakeWhole (happens_all m a) b → AllTakeWhole m (a ++ b)
 takes_both m [] b first later = later
 takes_both m (event ∷ a) b first later = (first.0, takes_both (happens m event) a b first.1 later)
 
-takes_then : (First Second : Schedule) → TakesAllOf First → TakesAllOf Second → TakesAllOf (Then First Second)
-takes_then First Second first second m events (a, b, are, is_first, is_second) =
-    subst (λ (l : List Event). AllTakeWhole m l) (sym are) (takes_both m a b (first m a is_first) (second (happens_all m a) b is_second))
+takes_front : (m : Machine) (a b : List Event) → AllTakeWhole m (a ++ b) → AllTakeWhole m a
+takes_front m [] b all = tt
+takes_front m (event ∷ a) b all = (all.0, takes_front (happens m event) a b all.1)
+
+takes_law : Law AllTakeWhole
+takes_law = record { none = λ m. tt; both = takes_both; front = takes_front }
+
+-- the events of a schedule take all bytes
+abbrev TakesAllOf : Schedule → Type 0
+TakesAllOf Kind = Of AllTakeWhole Kind
 
 -- ---- events that take nothing
 
@@ -85,23 +90,6 @@ host_takes_by m false (byte ∷ bytes) events there (rest, items, inner, are) =
 host_part_takes : TakesAllOf IsHostPart
 host_part_takes m events is = host_takes_by m (is_stalled m.outside.outer) m.outside.outer.to_host.bytes events refl is
 
-move_takes : TakesAllOf IsMove
-move_takes = takes_then IsChipPart IsHostPart chip_part_takes host_part_takes
-
-if_moved_takes : (moved : List Event) (More : Schedule) → TakesAllOf More → TakesAllOf (IfMoved moved More)
-if_moved_takes [] More more m events is = subst (λ (l : List Event). AllTakeWhole m l) (sym is) tt
-if_moved_takes (one ∷ moved) More more m events is = more m events is
-
-passes_take : (count : ℕ) → TakesAllOf (Passes count)
-passes_take zero m events is = subst (λ (l : List Event). AllTakeWhole m l) (sym is) tt
-passes_take (suc more) m events (moves, rest, are, moved, after) =
-    subst (λ (l : List Event). AllTakeWhole m l) (sym are)
-    (takes_both m moves rest (move_takes m moves moved)
-    (takes_then IsPump (IfMoved moves (Passes more)) pump_takes (if_moved_takes moves (Passes more) (passes_take more)) (happens_all m moves) rest after))
-
-settling_takes : TakesAllOf Settles
-settling_takes = takes_then IsPump (Passes 64) pump_takes (passes_take 64)
-
 -- ---- ticks
 
 arrivals_none : (count : ℕ) (inner : List OuterEvent) → Arrivals count inner → AllByRecursion TakesNone inner
@@ -134,20 +122,6 @@ clock_tick_takes m events are = one_none m Begins_tick events are tt
 
 chip_tick_takes : TakesAllOf IsChipTick
 chip_tick_takes m events are = one_none m Chip_ticks events are tt
-
-outside_tick_takes : TakesAllOf IsOutsideTick
-outside_tick_takes =
-    takes_then IsDelivery (Then IsGiving (Then IsDeviceTick IsChipTick)) delivery_takes
-    (takes_then IsGiving (Then IsDeviceTick IsChipTick) giving_takes (takes_then IsDeviceTick IsChipTick device_tick_takes chip_tick_takes))
-
-tick_takes : TakesAllOf IsTick
-tick_takes =
-    takes_then IsClockTick (Then IsOutsideTick (Then IsHostTick Settles)) clock_tick_takes
-    (takes_then IsOutsideTick (Then IsHostTick Settles) outside_tick_takes (takes_then IsHostTick Settles host_tick_takes settling_takes))
-
-ticks_take : (count : ℕ) → TakesAllOf (Ticks count)
-ticks_take zero m events is = subst (λ (l : List Event). AllTakeWhole m l) (sym is) tt
-ticks_take (suc more) m events is = takes_then IsTick (Ticks more) tick_takes (ticks_take more) m events is
 
 -- ---- lines
 
@@ -212,40 +186,24 @@ effect_takes Restart m events is = restart_takes m events is
 begin_takes : TakesAllOf IsLineBegin
 begin_takes m events are = one_none m Begins_line events are tt
 
-plain_line : (line : Line) → TakesAllOf (Then (IsEffect line) Settles)
-plain_line line = takes_then (IsEffect line) Settles (effect_takes line) settling_takes
+pieces : Pieces AllTakeWhole
+pieces = record {
+  begins = begin_takes;
+  pump = pump_takes;
+  chip_part = chip_part_takes;
+  host_part = host_part_takes;
+  clock = clock_tick_takes;
+  delivery = delivery_takes;
+  giving = giving_takes;
+  device_tick = device_tick_takes;
+  chip_tick = chip_tick_takes;
+  host_tick = host_tick_takes;
+}
 
-rest_takes : (line : Line) → TakesAllOf (IsLineRest line)
-rest_takes (Command order) = plain_line (Command order)
-rest_takes (Tick count) = ticks_take count
-rest_takes (Cut size) = plain_line (Cut size)
-rest_takes (Stall ticks) = plain_line (Stall ticks)
-rest_takes (Drop by) = plain_line (Drop by)
-rest_takes (Garble by place xor) = plain_line (Garble by place xor)
-rest_takes Collide = plain_line Collide
-rest_takes (Send node word) = plain_line (Send node word)
-rest_takes (Get node end) = plain_line (Get node end)
-rest_takes (Join node) = plain_line (Join node)
-rest_takes (Interview node) = plain_line (Interview node)
-rest_takes (Lose count) = plain_line (Lose count)
-rest_takes (LoseAck count) = plain_line (LoseAck count)
-rest_takes (Repeat frame) = plain_line (Repeat frame)
-rest_takes (Wake node) = plain_line (Wake node)
-rest_takes (Cancel command) = plain_line (Cancel command)
-rest_takes (Link first second) = plain_line (Link first second)
-rest_takes (Unlink first second) = plain_line (Unlink first second)
-rest_takes Discover = plain_line Discover
-rest_takes (Neighbours node) = plain_line (Neighbours node)
-rest_takes (Failed node) = plain_line (Failed node)
-rest_takes Probe = plain_line Probe
-rest_takes (Local node value) = plain_line (Local node value)
-rest_takes (Show node) = plain_line (Show node)
-rest_takes (Store node) = plain_line (Store node)
-rest_takes Restart = plain_line Restart
-
-pub line_takes : (line : Line) → TakesAllOf (IsLine line)
-line_takes line = takes_then IsLineBegin (IsLineRest line) begin_takes (rest_takes line)
+pub line_takes : (line : Line) → TakesAllOf (LinePart line)
+line_takes line = of_line_part AllTakeWhole takes_law pieces line (effect_takes line)
 
 pub lines_take : (lines : List Line) → TakesAllOf (AreLines lines)
-lines_take [] m events is = subst (λ (l : List Event). AllTakeWhole m l) (sym is) tt
-lines_take (line ∷ lines) m events is = takes_then (IsLine line) (AreLines lines) (line_takes line) (lines_take lines) m events is
+lines_take [] m events is = of_none AllTakeWhole takes_law m events is
+lines_take (line ∷ lines) m events is =
+    of_then AllTakeWhole takes_law (IsLineBefore lines line) (AreLines lines) (of_line_before AllTakeWhole takes_law pieces lines line (effect_takes line)) (lines_take lines) m events is

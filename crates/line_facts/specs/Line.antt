@@ -20,7 +20,7 @@ use Rattle.outer_events.specs.Events.{OuterEvent, Chip_takes, Chip_ticks, Clears
 use Rattle.zw_machine.specs.State.{Machine}
 use Rattle.zw_machine.specs.Events.{Event, Outside_does, Host_does, Host_takes, Decoder_ticks, Restarts, happens}
 use Rattle.zw_machine.specs.Did.{happens_all, Schedule, Then}
-use Rattle.zw_machine.specs.Lines.{IsLine}
+use Rattle.zw_machine.specs.Fronts.{IsLineBefore}
 use Rattle.line_facts.specs.Way.{Carries, items_all}
 use Rattle.line_facts.specs.Chip.{HasFrames}
 
@@ -206,8 +206,8 @@ abbrev pub AllTakeWhole : Machine → List Event → Type 0
 AllTakeWhole m [] = Unit {0}
 AllTakeWhole m (event ∷ events) = TakesWhole m event × AllTakeWhole (happens m event) events
 
--- ---- lines one after another
+-- ---- lines one after another, the last of which want of memory may have cut short
 
 abbrev pub AreLines : List Line → Schedule
 AreLines [] m events = events ≡ []
-AreLines (line ∷ lines) m events = Then (IsLine line) (AreLines lines) m events
+AreLines (line ∷ lines) m events = Then (IsLineBefore lines line) (AreLines lines) m events

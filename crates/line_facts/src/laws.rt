@@ -19,7 +19,8 @@ ghost use Rattle.zw_text.specs.declared.line.Line.{Line};
 ghost use Rattle.zw_machine.specs.State.{Machine, first_machine};
 ghost use Rattle.zw_machine.specs.Events.{Event, May};
 ghost use Rattle.zw_machine.specs.Did.{happens_all, MayAll};
-ghost use Rattle.zw_machine.specs.Lines.{IsLine, restart_events};
+ghost use Rattle.zw_machine.specs.Lines.{restart_events};
+ghost use Rattle.zw_machine.specs.Fronts.{LinePart};
 ghost use Rattle.line_facts.specs.Chip.{HasFrames};
 ghost use Rattle.line_facts.specs.Host.{HostFits, FitsEvent, AllAskWell};
 ghost use Rattle.line_facts.specs.Line.{host_units, Carried, IsWhole, AreAtRest, IsAtRest, WritesWell, AllWriteWell, LineAfter, Stays, AreLines};
@@ -29,8 +30,8 @@ use host_events::{attempts_have_what_they_give, facts_are_kept};
 use host_records::a_restart_keeps_what_is_held;
 
 /// What is on the serial line is whole units, in both directions: it is at first; each event that may happen keeps it, with what it adds, judges
-/// or loses said exactly (`LineAfter`), where who ticks, starts again or loses bytes has nothing unfinished; after a restart nothing is on its way; and in a line that is so, since each
-/// side takes all bytes that are there. So it is over any lines, from the first on. The frames that the host writes have at most 252 bytes of
+/// or loses said exactly (`LineAfter`), where who ticks, starts again or loses bytes has nothing unfinished; after a restart nothing is on its way; and in a line, whole or cut short, that is so, since each
+/// side takes all bytes that are there. So it is over any lines, from the first on, the last of which want of memory may have cut short (`AreLines`). The frames that the host writes have at most 252 bytes of
 /// body (`AllWriteWell`).
 pub fn units_are_judged_whole()
     ensures first { (keys : Keys) (records : Option (List (List ℕ))) (devices : List State) →
@@ -39,7 +40,7 @@ pub fn units_are_judged_whole()
         May m event → IsAtRest m event → WritesWell m event → LineAfter m event up down }
     ensures restart { (m : Machine) (state : HostState) (up down : List Item) → Carried m up down → HasFrames m.outside.outer.chip.state.port → AreAtRest m →
         MayAll m (restart_events state) → Carried (happens_all m (restart_events state)) [] [] }
-    ensures line { (line : Line) (m : Machine) (events : List Event) → IsWhole m → AreAtRest m → IsLine line m events → MayAll m events →
+    ensures line { (line : Line) (m : Machine) (events : List Event) → IsWhole m → AreAtRest m → LinePart line m events → MayAll m events →
         AllWriteWell m events → Stays m events }
     ensures lines { (keys : Keys) (records : Option (List (List ℕ))) (devices : List State) (lines : List Line) (events : List Event) →
         AreLines lines (first_machine keys records devices) events → MayAll (first_machine keys records devices) events →

@@ -1,5 +1,5 @@
 -- In a line the host is asked what is in range, and nothing else.
-use Rattle.std.proofs.Common.{◌≡◌, ℕ, zero, suc, Bool, true, false, if◌then◌else◌, List, [], ◌∷◌, ◌++◌, length, map, refl, sym, subst, inl, inr}
+use Rattle.std.proofs.Common.{◌≡◌, ℕ, Bool, true, false, if◌then◌else◌, List, [], ◌∷◌, ◌++◌, length, map, refl, sym, subst, inl, inr}
 use Rattle.std.specs.Prelude.{Option, Some, None}
 use Rattle.std.specs.List.{AllByRecursion}
 use Rattle.zw_text.specs.declared.line.Line.{Line}
@@ -25,10 +25,12 @@ use Rattle.outer_events.specs.State.{is_stalled}
 use Rattle.outer_events.specs.Events.{OuterEvent, Discovers}
 use Rattle.zw_machine.specs.State.{Machine}
 use Rattle.zw_machine.specs.Events.{Event, Outside_does, Host_does, Decoder_ticks, happens}
-use Rattle.zw_machine.specs.Did.{happens_all, Schedule, Then}
-use Rattle.zw_machine.specs.Settling.{Outside, IsPump, IsChipPart, IsHostPart, TakesBy, IsMove, IfMoved, Passes, Settles}
-use Rattle.zw_machine.specs.Ticking.{IsClockTick, IsDelivery, IsGiving, IsDeviceTick, IsChipTick, IsOutsideTick, IsHostTick, IsTick, Ticks}
-use Rattle.zw_machine.specs.Lines.{IsRefusal, IsDone, Asks, IsRestart, IsDiscovery, IsEffect, IsLineBegin, IsLineRest, IsLine}
+use Rattle.zw_machine.specs.Did.{happens_all, Schedule}
+use Rattle.zw_machine.specs.Settling.{Outside, IsPump, IsHostPart, TakesBy}
+use Rattle.zw_machine.specs.Ticking.{IsHostTick}
+use Rattle.zw_machine.specs.Lines.{IsRefusal, IsDone, Asks, IsRestart, IsDiscovery, IsEffect}
+use Rattle.zw_machine.specs.Fronts.{LinePart, IsLineBefore}
+use Rattle.zw_machine.proofs.Pieces.{Of, Law, Pieces, of_none, of_then, of_line_part, of_line_before}
 use Rattle.line_facts.specs.Line.{AreLines}
 use Rattle.line_facts.proofs.Frames.{all-append}
 use Rattle.run_facts.specs.Lines.{IsInRange, IsAsked, AllAsked}
@@ -88,15 +90,18 @@ ticks_none h = ((λ h. tt), ((λ h. tt), nodes_none (ticking_nodes (after_all h 
 
 -- the events of a schedule ask well
 abbrev pub AsksWellAt : Schedule → Type 0
-AsksWellAt Kind = (m : Machine) (events : List Event) → Kind m events → AllAsked m events
+AsksWellAt Kind = Of AllAsked Kind
 
 pub asked_both : (m : Machine) (a b : List Event) → AllAsked m a → AllAsked (happens_all m a) b → AllAsked m (a ++ b)
 asked_both m [] b first later = later
 asked_both m (event ∷ a) b first later = (first.0, asked_both (happens m event) a b first.1 later)
 
-asked_then : (First Second : Schedule) → AsksWellAt First → AsksWellAt Second → AsksWellAt (Then First Second)
-asked_then First Second first second m events (a, b, are, is_first, is_second) =
-    subst (λ (l : List Event). AllAsked m l) (sym are) (asked_both m a b (first m a is_first) (second (happens_all m a) b is_second))
+asked_front : (m : Machine) (a b : List Event) → AllAsked m (a ++ b) → AllAsked m a
+asked_front m [] b all = tt
+asked_front m (event ∷ a) b all = (all.0, asked_front (happens m event) a b all.1)
+
+asked_law : Law AllAsked
+asked_law = record { none = λ m. tt; both = asked_both; front = asked_front }
 
 outer_asked : (m : Machine) (inner : List OuterEvent) → AllAsked m (map Outside_does inner)
 outer_asked m [] = tt
@@ -124,42 +129,10 @@ host_asked_by m false (byte ∷ bytes) events (rest, items, inner, are) = subst 
 host_part_asked : AsksWellAt IsHostPart
 host_part_asked m events is = host_asked_by m (is_stalled m.outside.outer) m.outside.outer.to_host.bytes events is
 
-move_asked : AsksWellAt IsMove
-move_asked = asked_then IsChipPart IsHostPart (λ m events is. outside_asked _ m events is) host_part_asked
-
-if_moved_asked : (moved : List Event) (More : Schedule) → AsksWellAt More → AsksWellAt (IfMoved moved More)
-if_moved_asked [] More more m events is = none_asked m events is
-if_moved_asked (one ∷ moved) More more m events is = more m events is
-
-passes_asked : (count : ℕ) → AsksWellAt (Passes count)
-passes_asked zero m events is = none_asked m events is
-passes_asked (suc more) m events (moves, rest, are, moved, after) =
-    subst (λ (l : List Event). AllAsked m l) (sym are)
-    (asked_both m moves rest (move_asked m moves moved)
-    (asked_then IsPump (IfMoved moves (Passes more)) pump_asked (if_moved_asked moves (Passes more) (passes_asked more)) (happens_all m moves) rest after))
-
-settling_asked : AsksWellAt Settles
-settling_asked = asked_then IsPump (Passes 64) pump_asked (passes_asked 64)
-
 -- ---- ticks
 
 host_tick_asked : AsksWellAt IsHostTick
 host_tick_asked m events are = subst (λ (l : List Event). AllAsked m l) (sym are) (tt, hosts_asked (happens m Decoder_ticks) (tick_events m.host.state) (ticks_none m.host.state))
-
-outside_tick_asked : AsksWellAt IsOutsideTick
-outside_tick_asked =
-    asked_then IsDelivery (Then IsGiving (Then IsDeviceTick IsChipTick)) (λ m events is. outside_asked _ m events is)
-    (asked_then IsGiving (Then IsDeviceTick IsChipTick) (λ m events is. outside_asked _ m events is)
-    (asked_then IsDeviceTick IsChipTick (λ m events is. outside_asked _ m events is) (λ m events are. one_outside m _ events are)))
-
-tick_asked : AsksWellAt IsTick
-tick_asked =
-    asked_then IsClockTick (Then IsOutsideTick (Then IsHostTick Settles)) (λ m events are. one_outside m _ events are)
-    (asked_then IsOutsideTick (Then IsHostTick Settles) outside_tick_asked (asked_then IsHostTick Settles host_tick_asked settling_asked))
-
-ticks_asked : (count : ℕ) → AsksWellAt (Ticks count)
-ticks_asked zero m events is = none_asked m events is
-ticks_asked (suc more) m events is = asked_then IsTick (Ticks more) tick_asked (ticks_asked more) m events is
 
 -- ---- lines
 
@@ -227,43 +200,24 @@ effect_asked (Show node) range m events is = one_outside m _ events is
 effect_asked (Store node) range m events is = subst (λ (l : List Event). AllAsked m l) (sym is) (tt, tt)
 effect_asked Restart range m events is = restart_asked m events is
 
-begin_asked : AsksWellAt IsLineBegin
-begin_asked m events are = one_outside m _ events are
+pieces : Pieces AllAsked
+pieces = record {
+  begins = λ m events are. one_outside m _ events are;
+  pump = pump_asked;
+  chip_part = λ m events is. outside_asked _ m events is;
+  host_part = host_part_asked;
+  clock = λ m events are. one_outside m _ events are;
+  delivery = λ m events is. outside_asked _ m events is;
+  giving = λ m events is. outside_asked _ m events is;
+  device_tick = λ m events is. outside_asked _ m events is;
+  chip_tick = λ m events are. one_outside m _ events are;
+  host_tick = host_tick_asked;
+}
 
-plain_line : (line : Line) → IsInRange line → AsksWellAt (Then (IsEffect line) Settles)
-plain_line line range = asked_then (IsEffect line) Settles (effect_asked line range) settling_asked
-
-rest_asked : (line : Line) → IsInRange line → AsksWellAt (IsLineRest line)
-rest_asked (Command order) range = plain_line (Command order) range
-rest_asked (Tick count) range = ticks_asked count
-rest_asked (Cut size) range = plain_line (Cut size) range
-rest_asked (Stall ticks) range = plain_line (Stall ticks) range
-rest_asked (Drop by) range = plain_line (Drop by) range
-rest_asked (Garble by place xor) range = plain_line (Garble by place xor) range
-rest_asked Collide range = plain_line Collide range
-rest_asked (Send node word) range = plain_line (Send node word) range
-rest_asked (Get node end) range = plain_line (Get node end) range
-rest_asked (Join node) range = plain_line (Join node) range
-rest_asked (Interview node) range = plain_line (Interview node) range
-rest_asked (Lose count) range = plain_line (Lose count) range
-rest_asked (LoseAck count) range = plain_line (LoseAck count) range
-rest_asked (Repeat frame) range = plain_line (Repeat frame) range
-rest_asked (Wake node) range = plain_line (Wake node) range
-rest_asked (Cancel command) range = plain_line (Cancel command) range
-rest_asked (Link first second) range = plain_line (Link first second) range
-rest_asked (Unlink first second) range = plain_line (Unlink first second) range
-rest_asked Discover range = plain_line Discover range
-rest_asked (Neighbours node) range = plain_line (Neighbours node) range
-rest_asked (Failed node) range = plain_line (Failed node) range
-rest_asked Probe range = plain_line Probe range
-rest_asked (Local node value) range = plain_line (Local node value) range
-rest_asked (Show node) range = plain_line (Show node) range
-rest_asked (Store node) range = plain_line (Store node) range
-rest_asked Restart range = plain_line Restart range
-
-pub line_asked : (line : Line) → IsInRange line → AsksWellAt (IsLine line)
-line_asked line range = asked_then IsLineBegin (IsLineRest line) begin_asked (rest_asked line range)
+pub line_asked : (line : Line) → IsInRange line → AsksWellAt (LinePart line)
+line_asked line range = of_line_part AllAsked asked_law pieces line (effect_asked line range)
 
 pub lines_asked : (lines : List Line) → AllByRecursion IsInRange lines → AsksWellAt (AreLines lines)
-lines_asked [] range m events is = none_asked m events is
-lines_asked (line ∷ lines) range m events is = asked_then (IsLine line) (AreLines lines) (line_asked line range.0) (lines_asked lines range.1) m events is
+lines_asked [] range m events is = of_none AllAsked asked_law m events is
+lines_asked (line ∷ lines) range m events is =
+    of_then AllAsked asked_law (IsLineBefore lines line) (AreLines lines) (of_line_before AllAsked asked_law pieces lines line (effect_asked line range.0)) (lines_asked lines range.1) m events is

@@ -9,7 +9,7 @@ ghost use Rattle.zw_text.specs.declared.line.Line.{Line};
 ghost use Rattle.zw_machine.specs.State.{Machine, first_machine};
 ghost use Rattle.zw_machine.specs.Events.{Event};
 ghost use Rattle.zw_machine.specs.Did.{happens_all, MayAll};
-ghost use Rattle.zw_machine.specs.Lines.{IsLine};
+ghost use Rattle.zw_machine.specs.Fronts.{LinePart};
 ghost use Rattle.world_facts.specs.Restarts.{AllKeepWell};
 ghost use Rattle.line_facts.specs.Host.{AllAskWell};
 ghost use Rattle.line_facts.specs.Line.{AreLines};
@@ -25,11 +25,11 @@ use host_records::{
 use line_facts::{hosts_write_well, units_are_judged_whole};
 use world_facts::restarts_go_on;
 
-/// A line that is read from a text names numbers that are in range, and so in every schedule of it: what the host is asked is in range, an
+/// A line that is read from a text names numbers that are in range, and so in every schedule of it, whole or cut short: what the host is asked is in range, an
 /// interview is asked of a node that is joined, and a message of a user's own has at most 46 bytes.
 pub fn lines_ask_well()
     ensures text { (text : List ℕ) (line : Line) → line_at text ≡ Ok (Some line) → IsInRange line }
-    ensures line { (line : Line) (m : Machine) (events : List Event) → IsInRange line → IsLine line m events → AllAsked m events }
+    ensures line { (line : Line) (m : Machine) (events : List Event) → IsInRange line → LinePart line m events → AllAsked m events }
     ensures lines { (lines : List Line) (m : Machine) (events : List Event) → AllByRecursion IsInRange lines → AreLines lines m events → AllAsked m events }
     ensures both { (m : Machine) (a b : List Event) → AllAsked m a → AllAsked (happens_all m a) b → AllAsked m (a ++ b) }
 {}
@@ -55,7 +55,7 @@ pub fn runs_keep_and_ask_well()
     restarts_go_on();
 }
 
-/// So in every run of lines that were read, over a keeper that tells its records and has none at first: what the laws of whole runs premise of records,
+/// So in every run of lines that were read, the last of which want of memory may have cut short, over a keeper that tells its records and has none at first: what the laws of whole runs premise of records,
 /// interviews, payloads and restarts holds. The class lists that interviews hear are of bytes, since the chip tells those of kinds of devices and each
 /// side judges whole units of the other. Premised is that the keeper holds fewer than 2 ^ 32 records in the end.
 pub fn lines_keep_and_ask_well()

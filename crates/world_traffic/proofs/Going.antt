@@ -1,5 +1,5 @@
 -- Events of one list after another are steps of the course, one part after the other.
-use Rattle.std.proofs.Common.{◌≡◌, ℕ, ◌<◌, List, [], ◌∷◌, ◌++◌, refl, sym, subst, append_assoc}
+use Rattle.std.proofs.Common.{◌≡◌, ℕ, ◌<◌, List, [], ◌∷◌, ◌++◌, refl, sym, subst, append_assoc, inl, inr}
 use Rattle.std.proofs.lemmas.List.{append-nil}
 use Rattle.serial_frame.specs.declared.item.Item.{Item}
 use Rattle.air_frames.specs.History.{Mark}
@@ -11,7 +11,7 @@ use Rattle.device_facts.specs.GoingOn.{AreSame}
 use Rattle.device_facts.proofs.GoingOn.{run_goes, go_same}
 use Rattle.zw_machine.specs.State.{Machine}
 use Rattle.zw_machine.specs.Events.{Event, May, happens}
-use Rattle.zw_machine.specs.Did.{happens_all, MayAll, Schedule, Then}
+use Rattle.zw_machine.specs.Did.{happens_all, MayAll, Schedule, Then, Nothing, FrontOf, ThenFront}
 use Rattle.zw_machine.proofs.Doing.{happens_all-append}
 use Rattle.line_facts.specs.Host.{AsksWell, AllAskWell}
 use Rattle.line_facts.specs.Line.{IsWhole, WritesWell, AllWriteWell}
@@ -133,3 +133,23 @@ goes_then First Second first second t log up down m events f (a, b, are, is_firs
 -- these events
 pub goes_as : (t : Traffic) (log : List Mark) (m : Machine) (events these : List Event) → events ≡ these → AllFair m events → (AllFair m these → Goes t log m these) → Goes t log m events
 goes_as t log m events these are fair go = subst (λ (l : List Event). Goes t log m l) (sym are) (go (subst (λ (l : List Event). AllFair m l) are fair))
+
+-- ---- where memory was wanting
+
+pub goes_none : GoesOf Nothing
+goes_none t log up down m events f are fair = goes_as t log m events [] are fair (λ fair. goes_nowhere t log up down m f)
+
+pub goes_then_front : (FirstFront First SecondFront : Schedule) → GoesOf FirstFront → GoesOf First → GoesOf SecondFront → GoesOf (ThenFront FirstFront First SecondFront)
+goes_then_front FirstFront First SecondFront front first second t log up down m events f (inl is) fair = front t log up down m events f is fair
+goes_then_front FirstFront First SecondFront front first second t log up down m events f (inr is) fair = goes_then First SecondFront first second t log up down m events f is fair
+
+-- these would go on to be events of the schedule
+abbrev pub Begun : Schedule → Schedule
+Begun Kind m events = (rest : List Event) × Kind m (events ++ rest)
+
+pub goes_whole : (Kind : Schedule) → GoesOf (Begun Kind) → GoesOf Kind
+goes_whole Kind begun t log up down m events f is fair = begun t log up down m events f ([], subst (λ (l : List Event). Kind m l) (sym (append-nil events)) is) fair
+
+pub goes_front : (Kind : Schedule) → GoesOf (Begun Kind) → GoesOf (FrontOf Kind)
+goes_front Kind begun t log up down m events f (inl none) fair = goes_none t log up down m events f none fair
+goes_front Kind begun t log up down m events f (inr is) fair = begun t log up down m events f is fair

@@ -15,7 +15,6 @@ use Rattle.zw_text.specs.declared.entry.Entry.TheVariants.{Refused}
 use Rattle.zw_text.specs.declared.entry.Refusal.{Refusal}
 use Rattle.air_frames.specs.History.{Mark}
 use Rattle.air_flights.specs.Flights.{Fly}
-use Rattle.chip_sim.specs.State.{ChipState}
 use Rattle.courses.specs.Parts.{IsPart}
 use Rattle.host_keep.specs.declared.record.Record.{Record}
 use Rattle.host_keep.specs.declared.record.Record.TheVariants as kept
@@ -46,15 +45,15 @@ use Rattle.zw_machine.specs.Lines.{restart_events}
 use Rattle.line_facts.specs.Chip.{HasFrames}
 use Rattle.line_facts.specs.Way.{items_all}
 use Rattle.line_facts.specs.Line.{Carried, IsWhole, AreAtRest, LineAfter, Change, Grows, Becomes, up_change, host_writes, TakesWhole}
-use Rattle.line_facts.proofs.Events.{event_after, at_rest, rests_after, all_stay, restart_empties}
+use Rattle.line_facts.proofs.Events.{event_after, at_rest, rests_after, all_stay}
 use Rattle.world_traffic.specs.OnAir.{on_air, IsFew, EventStaysFew, AlwaysFew}
 use Rattle.world_traffic.specs.Course.{Follows, Goes}
 use Rattle.world_traffic.proofs.Parts.{Airs, Laws}
 use Rattle.world_traffic.proofs.Flights.{hosts_few, follows_on_air}
 use Rattle.world_traffic.proofs.Losing.{words_written, words_both, written_part, host_words, part_both, Lost, loses}
 use Rattle.world_traffic.proofs.Calm.{Calm, calm_same, calm_both, calm_entered, does_calm, takes_calm, enters_calm}
-use Rattle.world_traffic.proofs.Going.{Fair, AllFair, fair_may, fair_well, steps_both, may_both, whole_of, nodes_kept}
-use Rattle.world_traffic.proofs.Outside.{follows_calm}
+use Rattle.world_traffic.proofs.Going.{Fair, AllFair, fair_may, fair_well, steps_both, may_both, whole_of, nodes_kept, goes_both}
+use Rattle.world_traffic.proofs.Outside.{follows_calm, outside_goes}
 
 -- ---- events at which only the host writes
 
@@ -338,7 +337,7 @@ module _ (laws : Laws) (t : Traffic) (log : List Mark) (up down : List Item) (m 
   unfolding happens
   starts_one state = calm_same m.outside.outer m.outside.outer refl refl refl refl
 
-  started_host : (state : HostState) → (happens_all m (restart_events state)).host.state ≡ state
+  started_host : (state : HostState) → (happens_all m (Restarts state ∷ Outside_does (Clears_pipe side.Host) ∷ [])).host.state ≡ state
   unfolding happens
   started_host state = refl
 
@@ -346,18 +345,18 @@ module _ (laws : Laws) (t : Traffic) (log : List Mark) (up down : List Item) (m 
   unfolding May
   opens_from state may = may
 
-  -- it loses what is on its way, and begins with no request
-  pub restart_goes : (state : HostState) → AllFair m (restart_events state) → Goes t log m (restart_events state)
-  restart_goes state fair =
-      let events : List Event = restart_events state in
+  -- it begins with no request, and what is on its way to the chip is lost
+  pub restart_begins : (state : HostState) → AllFair m (Restarts state ∷ Outside_does (Clears_pipe side.Host) ∷ []) → Goes t log m (Restarts state ∷ Outside_does (Clears_pipe side.Host) ∷ [])
+  restart_begins state fair =
+      let starts : Event = Restarts state in
+      let clears : Event = Outside_does (Clears_pipe side.Host) in
+      let events : List Event = starts ∷ clears ∷ [] in
       let new : Traffic = course.after t starts_anew in
       let o : OuterState = m.outside.outer in
-      let n : Machine = happens m (Restarts state) in
-      let k : Machine = happens n (Outside_does (Clears_pipe side.Host)) in
-      let p : OuterState = (happens_all m events).outside.outer in
+      let n : Machine = happens m starts in
+      let p : OuterState = (happens n clears).outside.outer in
       let one : Calm o n.outside.outer = starts_one state in
-      let two : Calm o k.outside.outer = calm_both o n.outside.outer k.outside.outer one (clears_one n side.Host) in
-      let all : Calm o p = calm_both o k.outside.outer p two (clears_one k side.Chip) in
+      let all : Calm o p = calm_both o n.outside.outer p one (clears_one n side.Host) in
       let begun : (more : List Mark) × Fly (log ++ more) (on_air o.air.frames) p.air.frames = all.begins log (on_air o.air.frames) f.outside.fly in
       let before : outer.Follows new log (on_air o.air.frames) o = record {
         knows = record { aborted = f.outside.knows.aborted; sending = f.outside.knows.sending; calls = f.outside.knows.calls };
@@ -366,21 +365,33 @@ module _ (laws : Laws) (t : Traffic) (log : List Mark) (up down : List Item) (m 
         joined = f.outside.joined;
       } in
       let few : IsFew o = hosts_few t log (on_air o.air.frames) o f.outside f.facts in
+      let rests : AreAtRest n = rests_after m starts (whole_of t log up down m f) f.rests fair.0.may tt fair.0.well in
+      let started : LineAfter m starts up down = event_after m starts up down f.carried f.frames fair.0.may (at_rest m starts f.rests) fair.0.well in
+      let cleared : LineAfter n clears started.up_after started.down_after =
+      event_after n clears started.up_after started.down_after started.carried started.frames fair.1.0.may (at_rest n clears rests) fair.1.0.well in
       record {
         steps = starts_anew ∷ [];
         may = (tt, tt);
         more = begun.0;
         up = [];
-        down = [];
+        down = cleared.down_after;
         follows = record {
           host = subst (λ (h : HostState). Knows new h) (sym (started_host state)) (opens_knows t m.keys m.records state (opens_from state fair.0.may) fair.0.asks);
           outside = follows_on_air new (log ++ begun.0) (on_air o.air.frames) p (follows_calm new log begun.0 (on_air o.air.frames) o p all begun.1 before);
-          carried = restart_empties m state up down f.carried f.frames f.rests (fair_may m events fair);
-          frames = subst (λ (s : ChipState). HasFrames s.port) (sym all.chip) f.frames;
-          rests = (all_stay m events (whole_of t log up down m f) f.rests (fair_may m events fair) (tt, (tt, (tt, tt))) (fair_well m events fair)).rests;
+          carried = subst (λ (l : List Item). Carried (happens_all m events) l cleared.down_after) cleared.up_is cleared.carried;
+          frames = cleared.frames;
+          rests = (all_stay m events (whole_of t log up down m f) f.rests (fair_may m events fair) (tt, (tt, tt)) (fair_well m events fair)).rests;
           up_is = refl;
           facts = laws.keeps t (starts_anew ∷ []) f.facts (tt, tt);
           nodes = nodes_kept m events f.nodes;
         };
-        few = (few, tt, (few_on o n.outside.outer one few, tt, (few_on o k.outside.outer two few, tt, few_on o p all few)));
+        few = (few, tt, (few_on o n.outside.outer one few, tt, few_on o p all few));
       }
+
+  -- and then what is on its way to the host
+  pub restart_goes : (state : HostState) → AllFair m (restart_events state) → Goes t log m (restart_events state)
+  restart_goes state fair =
+      let front : List Event = Restarts state ∷ Outside_does (Clears_pipe side.Host) ∷ [] in
+      let first : Goes t log m front = restart_begins state (fair.0, (fair.1.0, tt)) in
+      goes_both t log m front (Outside_does (Clears_pipe side.Chip) ∷ []) first
+      (outside_goes laws (course.after_all t first.steps) (log ++ first.more) first.up first.down (happens_all m front) first.follows (Clears_pipe side.Chip) fair.1.1.0 refl tt tt tt)

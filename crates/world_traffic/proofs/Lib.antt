@@ -6,6 +6,7 @@ pub mod Losing
 pub mod Calm
 pub mod Going
 pub mod Outside
+pub mod Parting
 pub mod Hosting
 pub mod Settling
 pub mod Ticking

@@ -15,7 +15,7 @@ use Rattle.host_events.specs.State.{HostState}
 use Rattle.outer_events.specs.declared.waits.Call.{Call}
 use Rattle.outer_events.specs.State.{OuterState, each}
 use Rattle.outer_events.specs.Chip.{chip_does, chip_takes}
-use Rattle.outer_events.specs.Events.{OuterEvent, Chip_takes, outcome, happens as happens_outside, May as MayOutside}
+use Rattle.outer_events.specs.Events.{OuterEvent, Chip_takes, Clears_pipe, Gives, Host_begins, outcome, happens as happens_outside, May as MayOutside}
 use Rattle.std.specs.Option.{is_some}
 use Rattle.request_course.specs.Requests.{Word, Traffic}
 use Rattle.request_course.specs.Requests as course
@@ -73,6 +73,34 @@ none_behind all judged left parts same = by left (short (length all) (length jud
     by [] e = refl
     by (item ∷ items) e = absurd (grind (arith, e))
 
+-- ---- an event at which the chip takes nothing, nothing on its way to it is lost, and no result is given
+
+abbrev pub IsFree : OuterEvent → Type 0
+IsFree (Chip_takes count rest ways) = ⊥
+IsFree (Clears_pipe by) = ⊥
+IsFree (Gives route) = ⊥
+IsFree (Host_begins node sessions) = ⊥
+IsFree event = Unit {0}
+
+free_grows : (event : OuterEvent) → IsFree event → outer_up event ≡ Grows []
+free_grows (Chip_takes count rest ways) free = absurd free
+free_grows (Clears_pipe by) free = absurd free
+free_grows event free = refl
+
+free_takes : (m : Machine) (event : OuterEvent) → IsFree event → OuterTakesAll m event
+free_takes m (Chip_takes count rest ways) free = absurd free
+free_takes m event free = tt
+
+free_turn : (flights : List Flown) (event : OuterEvent) → IsFree event → InTurn flights event
+free_turn flights (Chip_takes count rest ways) free = absurd free
+free_turn flights (Gives route) free = absurd free
+free_turn flights (Host_begins node sessions) free = absurd free
+free_turn flights event free = tt
+
+free_few : (o : OuterState) (event : OuterEvent) → IsFree event → OuterStaysFew o event
+free_few o (Chip_takes count rest ways) free = absurd free
+free_few o event free = tt
+
 module _ (laws : Laws) (t : Traffic) (log : List Mark) (up down : List Item) (m : Machine) (f : Follows t log up down m) where
   -- ---- an event at which the chip takes nothing
 
@@ -109,6 +137,9 @@ module _ (laws : Laws) (t : Traffic) (log : List Mark) (up down : List Item) (m 
         };
         few = (hosts_few t log (on_air o.air.frames) o f.outside f.facts, few, hosts_few (course.after_all t g.steps) (log ++ g.more) g.now p g.follows facts);
       }
+
+  pub free_goes : (event : OuterEvent) → IsFree event → Fair m (Outside_does event) → Goes t log m (Outside_does event ∷ [])
+  free_goes event free fair = outside_goes event fair (free_grows event free) (free_takes m event free) (free_turn (on_air m.outside.outer.air.frames) event free) (free_few m.outside.outer event free)
 
   -- ---- the chip takes all bytes that are there
 

@@ -1,5 +1,5 @@
 -- A settling: in each pass the chip takes all that is on its way before the host hears of anything.
-use Rattle.std.proofs.Common.{◌≡◌, ℕ, zero, suc, Bool, true, false, List, [], ◌∷◌, ◌++◌, length, map, refl, ap, sym, ◌∙◌, subst}
+use Rattle.std.proofs.Common.{◌≡◌, ℕ, zero, suc, Bool, true, false, List, [], ◌∷◌, ◌++◌, length, map, refl, ap, sym, ◌∙◌, subst, inl, inr}
 use Rattle.std.specs.Prelude.{take}
 use Rattle.serial_frame.specs.Stream.{Rest, Feeds, no_rest}
 use Rattle.serial_frame.specs.declared.item.Item.{Item}
@@ -11,12 +11,13 @@ use Rattle.request_course.specs.Requests.{Traffic}
 use Rattle.request_course.specs.Requests as course
 use Rattle.zw_machine.specs.State.{Machine}
 use Rattle.zw_machine.specs.Events.{Event, Outside_does, Host_does, Host_takes}
-use Rattle.zw_machine.specs.Did.{happens_all, Schedule}
-use Rattle.zw_machine.specs.Settling.{IsPump, TakesBy, IsMove, IfMoved, Passes, Settles}
+use Rattle.zw_machine.specs.Did.{happens_all, Schedule, Nothing}
+use Rattle.zw_machine.specs.Settling.{IsPump, IsChipPart, TakesBy, IsMove, IfMoved, Passes, Settles}
+use Rattle.zw_machine.specs.Fronts.{PassesFront, SettlesFront}
 use Rattle.line_facts.proofs.Reading.{feeds_all}
 use Rattle.world_traffic.specs.Course.{Follows, Goes}
 use Rattle.world_traffic.proofs.Parts.{Laws}
-use Rattle.world_traffic.proofs.Going.{AllFair, fair_first, fair_later, GoesOf, goes_nowhere, goes_both, goes_parts, goes_then, goes_as}
+use Rattle.world_traffic.proofs.Going.{AllFair, fair_first, fair_later, GoesOf, goes_nowhere, goes_both, goes_parts, goes_then, goes_as, goes_none, goes_then_front}
 use Rattle.world_traffic.proofs.Outside.{TakesAll, chip_goes}
 use Rattle.world_traffic.proofs.Hosting.{host_goes, takes_goes}
 
@@ -54,18 +55,23 @@ module _ (laws : Laws) where
 
   host_by : (t : Traffic) (log : List Mark) (up down : List Item) (m : Machine) (stalled : Bool) (bytes : List ℕ) (events : List Event) → Follows t log up down m
       → is_stalled m.outside.outer ≡ stalled → m.outside.outer.to_host.bytes ≡ bytes → (is_stalled m.outside.outer ≡ false → up ≡ []) → TakesBy stalled bytes events → AllFair m events → Goes t log m events
-  host_by t log up down m true bytes events f still there none is fair = goes_as t log m events [] is fair (λ fair. goes_nowhere t log up down m f)
-  host_by t log up down m false [] events f still there none is fair = goes_as t log m events [] is fair (λ fair. goes_nowhere t log up down m f)
+  host_by t log up down m true bytes events f still there none is fair = goes_none t log up down m events f is fair
+  host_by t log up down m false [] events f still there none is fair = goes_none t log up down m events f is fair
   host_by t log up down m false (byte ∷ bytes) events f still there none (rest, items, inner, are) fair =
       goes_as t log m events _ (are ∙ ap (λ (l : List ℕ). Host_takes (length l) rest items inner ∷ []) (sym there)) fair (λ fair. takes_goes laws t log up down m f rest items inner (none still) fair.0)
 
+  chip_part_taken : (t : Traffic) (log : List Mark) (up down : List Item) (m : Machine) (events : List Event) → Follows t log up down m → IsChipPart m events → AllFair m events → Taken t log m events
+  chip_part_taken t log up down m events f (inner, is, are) fair =
+      subst (λ (l : List Event). Taken t log m l) (sym are)
+      (taken_by t log up down m (is_stalled m.outside.outer) m.outside.outer.to_chip.bytes inner f refl refl is (subst (λ (l : List Event). AllFair m l) are fair))
+
+  chip_part_goes : GoesOf IsChipPart
+  chip_part_goes t log up down m events f is fair = (chip_part_taken t log up down m events f is fair).goes
+
   move_goes : GoesOf IsMove
-  move_goes t log up down m events f (a, b, are, (inner, is_first, first_are), is_second) fair =
+  move_goes t log up down m events f (a, b, are, is_first, is_second) fair =
       let split : AllFair m (a ++ b) = subst (λ (l : List Event). AllFair m l) are fair in
-      let fair_a : AllFair m (map Outside_does inner) = subst (λ (l : List Event). AllFair m l) first_are (fair_first m a b split) in
-      let taken : Taken t log m a =
-      subst (λ (l : List Event). Taken t log m l) (sym first_are)
-      (taken_by t log up down m (is_stalled m.outside.outer) m.outside.outer.to_chip.bytes inner f refl refl is_first fair_a) in
+      let taken : Taken t log m a = chip_part_taken t log up down m a f is_first (fair_first m a b split) in
       let g : Goes t log m a = taken.goes in
       let n : Machine = happens_all m a in
       subst (λ (l : List Event). Goes t log m l) (sym are)
@@ -73,11 +79,11 @@ module _ (laws : Laws) where
       (host_by (course.after_all t g.steps) (log ++ g.more) g.up g.down n (is_stalled n.outside.outer) n.outside.outer.to_host.bytes b g.follows refl refl taken.none is_second (fair_later m a b split)))
 
   if_moved_goes : (moved : List Event) (More : Schedule) → GoesOf More → GoesOf (IfMoved moved More)
-  if_moved_goes [] More more t log up down m events f is fair = goes_as t log m events [] is fair (λ fair. goes_nowhere t log up down m f)
+  if_moved_goes [] More more t log up down m events f is fair = goes_none t log up down m events f is fair
   if_moved_goes (one ∷ moved) More more t log up down m events f is fair = more t log up down m events f is fair
 
   passes_go : (count : ℕ) → GoesOf (Passes count)
-  passes_go zero t log up down m events f is fair = goes_as t log m events [] is fair (λ fair. goes_nowhere t log up down m f)
+  passes_go zero t log up down m events f is fair = goes_none t log up down m events f is fair
   passes_go (suc more) t log up down m events f (moves, rest, are, moved, after) fair =
       goes_parts t log m moves rest events are fair (λ fair_a. move_goes t log up down m moves f moved fair_a)
       (λ g fair_b. goes_then IsPump (IfMoved moves (Passes more)) pump_goes (if_moved_goes moves (Passes more) (passes_go more))
@@ -85,3 +91,16 @@ module _ (laws : Laws) where
 
   pub settles_go : GoesOf Settles
   settles_go = goes_then IsPump (Passes 64) pump_goes (passes_go 64)
+
+  -- ---- where memory was wanting
+
+  passes_front_go : (count : ℕ) → GoesOf (PassesFront count)
+  passes_front_go zero t log up down m events f is fair = goes_none t log up down m events f is fair
+  passes_front_go (suc more) t log up down m events f (inl is) fair = goes_then_front Nothing IsChipPart Nothing goes_none chip_part_goes goes_none t log up down m events f is fair
+  passes_front_go (suc more) t log up down m events f (inr (moves, rest, are, moved, after)) fair =
+      goes_parts t log m moves rest events are fair (λ fair_a. move_goes t log up down m moves f moved fair_a)
+      (λ g fair_b. goes_then_front Nothing IsPump (IfMoved moves (PassesFront more)) goes_none pump_goes (if_moved_goes moves (PassesFront more) (passes_front_go more))
+      (course.after_all t g.steps) (log ++ g.more) g.up g.down (happens_all m moves) rest g.follows after fair_b)
+
+  pub settles_front_go : GoesOf SettlesFront
+  settles_front_go = goes_then_front Nothing IsPump (PassesFront 64) goes_none pump_goes (passes_front_go 64)

@@ -1,6 +1,7 @@
 -- A tick: all frames on the air arrive, then all results are given to the chip, so that no call is to come when the host's waits are counted.
-use Rattle.std.proofs.Common.{◌≡◌, ℕ, zero, suc, ◌+◌, ◌-◌, List, [], ◌∷◌, ◌++◌, length, map, refl, ap, sym, ◌∙◌, subst, append_assoc, arith}
+use Rattle.std.proofs.Common.{◌≡◌, ℕ, zero, suc, ◌+◌, ◌-◌, List, [], ◌∷◌, ◌++◌, length, map, refl, ap, sym, ◌∙◌, subst, append_assoc, arith, inl, inr}
 use Rattle.std.specs.Prelude.{drop}
+use Rattle.std.specs.List.{AllByRecursion}
 use Rattle.std.proofs.lemmas.List.{append-nil}
 use Rattle.serial_frame.specs.declared.item.Item.{Item}
 use Rattle.air_frames.specs.Flown.{Flown}
@@ -23,20 +24,22 @@ use Rattle.host_traffic.specs.Traffic.{Goes as HostGoes}
 use Rattle.outer_traffic.specs.Traffic.{flags, outward, no_routes_due, without_frame}
 use Rattle.zw_machine.specs.State.{Machine}
 use Rattle.zw_machine.specs.Events.{Event, Outside_does, Host_does, Decoder_ticks, happens}
-use Rattle.zw_machine.specs.Did.{happens_all, Then}
+use Rattle.zw_machine.specs.Did.{happens_all, Schedule, Then, Nothing, FrontOf, ThenFront}
 use Rattle.zw_machine.proofs.Doing.{happens_all-append}
 use Rattle.zw_machine.specs.Settling.{Settles}
 use Rattle.zw_machine.specs.Ticking.{IsClockTick, IsDelivery, IsGiving, IsDeviceTick, IsOutsideTick, IsHostTick, IsTick, Ticks}
+use Rattle.zw_machine.specs.Fronts.{SettlesFront, OutsideTickFront, TickFront, TicksFront}
 use Rattle.world_traffic.specs.OnAir.{on_air, hosts_on_air}
 use Rattle.world_traffic.specs.Course.{Follows, Goes}
 use Rattle.world_traffic.proofs.Parts.{Laws}
 use Rattle.world_traffic.proofs.Flights.{flights_are, outward_both}
 use Rattle.world_traffic.proofs.Telling.{Given, given_first, device_calls, ticks_calls}
 use Rattle.world_traffic.proofs.Arriving.{Homes, arrives_home}
-use Rattle.world_traffic.proofs.Going.{Fair, AllFair, fair_first, fair_later, GoesOf, goes_nowhere, goes_both, goes_parts, goes_then, goes_as}
-use Rattle.world_traffic.proofs.Outside.{outside_goes}
+use Rattle.world_traffic.proofs.Going.{Fair, AllFair, fair_first, fair_later, GoesOf, goes_nowhere, goes_both, goes_parts, goes_then, goes_as, goes_none, goes_then_front}
+use Rattle.world_traffic.proofs.Outside.{IsFree, free_goes, outside_goes}
+use Rattle.world_traffic.proofs.Parting.{outside_parts, arrivals_free, givings_give, IsGiving as GivesOne, device_ticks_free, all_first}
 use Rattle.world_traffic.proofs.Hosting.{host_goes, decoder_goes}
-use Rattle.world_traffic.proofs.Settling.{settles_go}
+use Rattle.world_traffic.proofs.Settling.{settles_go, settles_front_go}
 
 -- ---- steps after which something holds of the machine
 
@@ -220,8 +223,9 @@ module _ (laws : Laws) where
   clock_goes t log up down m events f are fair =
       goes_as t log m events (Outside_does Begins_tick ∷ []) are fair (λ fair. outside_goes laws t log up down m f Begins_tick fair.0 refl tt tt tt)
 
-  sides_go : GoesOf (Then IsOutsideTick (Then IsHostTick Settles))
-  sides_go t log up down m events f (a, others, are, ticks, (b, last, others_are, host, settles)) fair =
+  -- what is outside the host ticks, then the host, and then the rest follows
+  sides_go : (Rest : Schedule) → GoesOf Rest → GoesOf (Then IsOutsideTick (Then IsHostTick Rest))
+  sides_go Rest rest t log up down m events f (a, others, are, ticks, (b, last, others_are, host, later)) fair =
       let split : AllFair m (a ++ others) = subst (λ (l : List Event). AllFair m l) are fair in
       let g : GoesTo NoneToCome t log m a = outside_tick_goes t log up down m a f ticks (fair_first m a others split) in
       let u : Traffic = course.after_all t g.goes.steps in
@@ -230,11 +234,97 @@ module _ (laws : Laws) where
       (goes_both t log m a others g.goes
       (goes_parts u (log ++ g.goes.more) n b last others others_are (fair_later m a others split)
       (λ fair. host_tick_goes u (log ++ g.goes.more) g.goes.up g.goes.down n b g.goes.follows g.holds host fair)
-      (λ h fair. settles_go laws (course.after_all u h.steps) ((log ++ g.goes.more) ++ h.more) h.up h.down (happens_all n b) last h.follows settles fair)))
+      (λ h fair. rest (course.after_all u h.steps) ((log ++ g.goes.more) ++ h.more) h.up h.down (happens_all n b) last h.follows later fair)))
 
   tick_goes : GoesOf IsTick
-  tick_goes = goes_then IsClockTick (Then IsOutsideTick (Then IsHostTick Settles)) clock_goes sides_go
+  tick_goes = goes_then IsClockTick (Then IsOutsideTick (Then IsHostTick Settles)) clock_goes (sides_go Settles (settles_go laws))
 
   pub ticks_go : (count : ℕ) → GoesOf (Ticks count)
-  ticks_go zero t log up down m events f is fair = goes_as t log m events [] is fair (λ fair. goes_nowhere t log up down m f)
+  ticks_go zero t log up down m events f is fair = goes_none t log up down m events f is fair
   ticks_go (suc more) t log up down m events f is fair = goes_then IsTick (Ticks more) tick_goes (ticks_go more) t log up down m events f is fair
+
+  -- ---- where memory was wanting
+
+  free_go : (inner : List OuterEvent) (t : Traffic) (log : List Mark) (up down : List Item) (m : Machine) → Follows t log up down m → AllByRecursion IsFree inner → AllFair m (map Outside_does inner) → Goes t log m (map Outside_does inner)
+  free_go [] t log up down m f free fair = goes_nowhere t log up down m f
+  free_go (event ∷ inner) t log up down m f free fair =
+      let first : Goes t log m (Outside_does event ∷ []) = free_goes laws t log up down m f event free.0 fair.0 in
+      goes_both t log m (Outside_does event ∷ []) (map Outside_does inner) first
+      (free_go inner (course.after_all t first.steps) (log ++ first.more) first.up first.down (happens m (Outside_does event)) first.follows free.1 fair.1)
+
+  gives_go : (inner : List OuterEvent) (t : Traffic) (log : List Mark) (up down : List Item) (m : Machine) → Follows t log up down m → IsClear m.outside.outer → AllByRecursion GivesOne inner → AllFair m (map Outside_does inner)
+      → Goes t log m (map Outside_does inner)
+  gives_go [] t log up down m f clear give fair = goes_nowhere t log up down m f
+  gives_go (Gives route ∷ inner) t log up down m f clear give fair =
+      let event : OuterEvent = Gives route in
+      let first : Goes t log m (Outside_does event ∷ []) = outside_goes laws t log up down m f event fair.0 refl tt clear tt in
+      let n : Machine = happens m (Outside_does event) in
+      let given : Given m.outside.outer n.outside.outer = subst (λ (w : Outside). Given m.outside.outer w.outer) (sym (outer_of m event)) (given_first m.outside route) in
+      goes_both t log m (Outside_does event ∷ []) (map Outside_does inner) first
+      (gives_go inner (course.after_all t first.steps) (log ++ first.more) first.up first.down n first.follows (ap (λ (a : AirState). outward (on_air a.frames)) given.air ∙ clear) give.1 fair.1)
+  gives_go (event ∷ inner) t log up down m f clear give fair = absurd give.0
+
+  delivery_front_goes : GoesOf (FrontOf IsDelivery)
+  delivery_front_goes t log up down m events f (inl none) fair = goes_none t log up down m events f none fair
+  delivery_front_goes t log up down m events f (inr (rest, (all, is, are))) fair =
+      let parts = outside_parts events rest all are in
+      goes_as t log m events (map Outside_does parts.inner) parts.are fair
+      (λ fair. free_go parts.inner t log up down m f (all_first IsFree parts.inner parts.later (subst (λ (l : List OuterEvent). AllByRecursion IsFree l) parts.all_are (arrivals_free _ all is))) fair)
+
+  giving_front_goes : (t : Traffic) (log : List Mark) (up down : List Item) (m : Machine) (events : List Event) → Follows t log up down m → IsClear m.outside.outer → FrontOf IsGiving m events → AllFair m events → Goes t log m events
+  giving_front_goes t log up down m events f clear (inl none) fair = goes_none t log up down m events f none fair
+  giving_front_goes t log up down m events f clear (inr (rest, (all, is, are))) fair =
+      let parts = outside_parts events rest all are in
+      goes_as t log m events (map Outside_does parts.inner) parts.are fair
+      (λ fair. gives_go parts.inner t log up down m f clear (all_first GivesOne parts.inner parts.later (subst (λ (l : List OuterEvent). AllByRecursion GivesOne l) parts.all_are (givings_give _ all is))) fair)
+
+  device_tick_front_goes : GoesOf (FrontOf IsDeviceTick)
+  device_tick_front_goes t log up down m events f (inl none) fair = goes_none t log up down m events f none fair
+  device_tick_front_goes t log up down m events f (inr (rest, (all, is, are))) fair =
+      let parts = outside_parts events rest all are in
+      goes_as t log m events (map Outside_does parts.inner) parts.are fair
+      (λ fair. free_go parts.inner t log up down m f (all_first IsFree parts.inner parts.later (subst (λ (l : List OuterEvent). AllByRecursion IsFree l) parts.all_are (device_ticks_free _ _ all is))) fair)
+
+  device_ticks_go : GoesOf IsDeviceTick
+  device_ticks_go t log up down m events f (all, is, are) fair =
+      goes_as t log m events (map Outside_does all) are fair (λ fair. free_go all t log up down m f (device_ticks_free _ _ all is) fair)
+
+  devices_front_go : GoesOf (ThenFront (FrontOf IsDeviceTick) IsDeviceTick Nothing)
+  devices_front_go = goes_then_front (FrontOf IsDeviceTick) IsDeviceTick Nothing device_tick_front_goes device_ticks_go goes_none
+
+  given_front_goes : (t : Traffic) (log : List Mark) (up down : List Item) (m : Machine) (events : List Event) → Follows t log up down m → IsClear m.outside.outer
+      → ThenFront (FrontOf IsGiving) IsGiving (ThenFront (FrontOf IsDeviceTick) IsDeviceTick Nothing) m events → AllFair m events → Goes t log m events
+  given_front_goes t log up down m events f clear (inl front) fair = giving_front_goes t log up down m events f clear front fair
+  given_front_goes t log up down m events f clear (inr (a, rest, are, given, front)) fair =
+      goes_parts t log m a rest events are fair (λ fair. (giving_goes t log up down m a f clear given fair).goes)
+      (λ g fair. devices_front_go (course.after_all t g.steps) (log ++ g.more) g.up g.down (happens_all m a) rest g.follows front fair)
+
+  -- nothing is said of what is then outside the host
+  abbrev NoMore : OuterState → Type 0
+  NoMore o = Unit {0}
+
+  no_more : (t : Traffic) (log : List Mark) (m : Machine) (events : List Event) → Goes t log m events → GoesTo NoMore t log m events
+  no_more t log m events goes = record { goes = goes; holds = tt }
+
+  outside_tick_front_goes : GoesOf OutsideTickFront
+  outside_tick_front_goes t log up down m events f (inl front) fair = delivery_front_goes t log up down m events f front fair
+  outside_tick_front_goes t log up down m events f (inr (a, rest, are, arrive, front)) fair =
+      (parts_to IsClear NoMore t log m a rest events are fair (λ fair. delivery_goes t log up down m a f arrive fair)
+      (λ g fair. no_more (course.after_all t g.goes.steps) (log ++ g.goes.more) (happens_all m a) rest
+      (given_front_goes (course.after_all t g.goes.steps) (log ++ g.goes.more) g.goes.up g.goes.down (happens_all m a) rest g.goes.follows g.holds front fair))).goes
+
+  -- what is outside the host has ticked, and the host has not
+  outside_alone : GoesOf (Then IsOutsideTick Nothing)
+  outside_alone = goes_then IsOutsideTick Nothing (λ t log up down m events f is fair. (outside_tick_goes t log up down m events f is fair).goes) goes_none
+
+  sides_front_go : GoesOf (ThenFront OutsideTickFront IsOutsideTick (ThenFront Nothing IsHostTick SettlesFront))
+  sides_front_go t log up down m events f (inl front) fair = outside_tick_front_goes t log up down m events f front fair
+  sides_front_go t log up down m events f (inr (a, rest, are, ticks, inl none)) fair = outside_alone t log up down m events f (a, rest, are, ticks, none) fair
+  sides_front_go t log up down m events f (inr (a, rest, are, ticks, inr host)) fair = sides_go SettlesFront (settles_front_go laws) t log up down m events f (a, rest, are, ticks, host) fair
+
+  tick_front_goes : GoesOf TickFront
+  tick_front_goes = goes_then_front Nothing IsClockTick (ThenFront OutsideTickFront IsOutsideTick (ThenFront Nothing IsHostTick SettlesFront)) goes_none clock_goes sides_front_go
+
+  pub ticks_front_go : (count : ℕ) → GoesOf (TicksFront count)
+  ticks_front_go zero t log up down m events f is fair = goes_none t log up down m events f is fair
+  ticks_front_go (suc more) t log up down m events f is fair = goes_then_front TickFront IsTick (TicksFront more) tick_front_goes tick_goes (ticks_front_go more) t log up down m events f is fair

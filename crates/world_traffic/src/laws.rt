@@ -13,7 +13,7 @@ ghost use Rattle.zw_text.specs.declared.line.Line.{Line};
 ghost use Rattle.zw_machine.specs.State.{Machine, first_machine};
 ghost use Rattle.zw_machine.specs.Events.{Event};
 ghost use Rattle.zw_machine.specs.Did.{happens_all, MayAll};
-ghost use Rattle.zw_machine.specs.Lines.{IsLine};
+ghost use Rattle.zw_machine.specs.Fronts.{LinePart};
 ghost use Rattle.line_facts.specs.Host.{AllAskWell};
 ghost use Rattle.line_facts.specs.Line.{AllWriteWell, AreLines};
 ghost use Rattle.request_course.specs.Requests.{Traffic, no_traffic};
@@ -22,11 +22,11 @@ ghost use Rattle.outer_traffic.specs.Traffic.{AreNodes, outward};
 ghost use Rattle.world_traffic.specs.OnAir.{on_air, hosts_on_air, IsFew, AlwaysFew};
 ghost use Rattle.world_traffic.specs.Course.{Follows, Goes};
 
-/// The course of the host's requests begins with the machine, and goes with it through every line: in each pass the chip takes all that is on its way before the host hears of anything, and in each tick it is given
+/// The course of the host's requests begins with the machine, and goes with it through every line, whole or cut short: in each pass the chip takes all that is on its way before the host hears of anything, and in each tick it is given
 /// all results before the host's waits are counted. Payloads that are asked for and sealed are short, and the keeper tells its records where the host starts again (`AllAskWell`).
 pub fn lines_make_requests()
     ensures first { (keys : Keys) (records : Option (List (List ℕ))) (devices : List State) → AreNodes devices → Follows no_traffic [] [] [] (first_machine keys records devices) }
-    ensures line { (line : Line) (t : Traffic) (log : List Mark) (up down : List Item) (m : Machine) (events : List Event) → Follows t log up down m → IsLine line m events →
+    ensures line { (line : Line) (t : Traffic) (log : List Mark) (up down : List Item) (m : Machine) (events : List Event) → Follows t log up down m → LinePart line m events →
         MayAll m events → AllWriteWell m events → AllAskWell m events → Goes t log m events }
     ensures lines { (keys : Keys) (records : Option (List (List ℕ))) (devices : List State) (lines : List Line) (events : List Event) → AreNodes devices →
         AreLines lines (first_machine keys records devices) events → MayAll (first_machine keys records devices) events → AllAskWell (first_machine keys records devices) events →
@@ -39,7 +39,7 @@ pub fn lines_make_requests()
     line_facts::hosts_write_well();
 }
 
-/// So over any lines from the first on, at every moment, at most two frames of the host have been sent that have not arrived: between any two events, and behind each item that the chip judges. Where one has just gone on
+/// So over any lines from the first on, the last of which want of memory may have cut short, at every moment, at most two frames of the host have been sent that have not arrived: between any two events, and behind each item that the chip judges. Where one has just gone on
 /// the air, at most one was there before it. The frames on the air are those of every history of them.
 pub fn at_most_two_are_on_the_air()
     ensures flights { (log : List Mark) (flights : List Flown) (frames : FramesState) → Fly log flights frames → flights ≡ on_air frames }

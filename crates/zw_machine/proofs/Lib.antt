@@ -4,3 +4,4 @@ pub mod Hosting
 pub mod Silence
 pub mod Taking
 pub mod Schedules
+pub mod Pieces

@@ -1,9 +1,12 @@
 -- What was done of a line that want of memory cut short (this project's own rule): calls of the world that were whole, one after another. A call that puts out its entries
 -- at its end was done whole or is none of them; those outside the host that go through frames, results or devices were done up to one of these.
 use Rattle.std.specs.Prelude.{◌≡◌, ◌⊎◌, ℕ, zero, suc, List, [], ◌∷◌, ◌++◌}
+use Rattle.zw_words.specs.declared.side.Side.TheVariants as side
 use Rattle.zw_text.specs.declared.line.Line.{Line}
-use Rattle.zw_text.specs.declared.line.Line.TheVariants.{Tick}
-use Rattle.zw_machine.specs.Events.{Event}
+use Rattle.zw_text.specs.declared.line.Line.TheVariants.{Tick, Restart}
+use Rattle.host_events.specs.State.{HostState}
+use Rattle.outer_events.specs.Events.{Clears_pipe}
+use Rattle.zw_machine.specs.Events.{Event, Outside_does, Restarts}
 use Rattle.zw_machine.specs.Did.{happens_all, Schedule, Nothing, FrontOf, ThenFront}
 use Rattle.zw_machine.specs.Settling.{IsPump, IsChipPart, IsMove, IfMoved}
 use Rattle.zw_machine.specs.Ticking.{IsClockTick, IsDelivery, IsGiving, IsDeviceTick, IsOutsideTick, IsHostTick, IsTick}
@@ -41,9 +44,17 @@ TicksFront (suc more) m events = ThenFront TickFront IsTick (TicksFront more) m 
 
 -- ---- lines
 
+-- of a restart nothing, or the host has started again and the bytes on their way to the chip are lost, while those to the host are not
+abbrev pub RestartFront : Schedule
+RestartFront m events = Nothing m events ⊎ ((state : HostState) × (events ≡ Restarts state ∷ Outside_does (Clears_pipe side.Host) ∷ []))
+
+abbrev pub EffectFront : Line → Schedule
+EffectFront Restart = RestartFront
+EffectFront line = FrontOf (IsEffect line)
+
 abbrev pub LineRestFront : Line → Schedule
 LineRestFront (Tick count) = TicksFront count
-LineRestFront line = ThenFront (FrontOf (IsEffect line)) (IsEffect line) SettlesFront
+LineRestFront line = ThenFront (EffectFront line) (IsEffect line) SettlesFront
 
 abbrev pub LineFront : Line → Schedule
 LineFront line = ThenFront Nothing IsLineBegin (LineRestFront line)

@@ -6,7 +6,7 @@ use Rattle.line_facts.proofs.First.{first_carried, first_frames, first_at_rest}
 use Rattle.world_traffic.proofs.Parts.{Laws}
 use Rattle.world_traffic.proofs.Flights.{follows_on_air}
 use Rattle.world_traffic.proofs.Going.{all_fair}
-use Rattle.world_traffic.proofs.Lines.{line_goes, lines_go}
+use Rattle.world_traffic.proofs.Lines.{part_goes, lines_go}
 use Rattle.request_course.specs.Requests.{no_traffic}
 use Rattle.world_traffic.proofs.laws.lines_make_requests.Goals as goal
 
@@ -41,7 +41,7 @@ laws_of c = record {
 }
 
 pub returns-clause-line : goal.returns-clause-line
-returns-clause-line c = λ line t log up down m events f is may well asks. line_goes (laws_of c) line t log up down m events f is (all_fair m events may well asks)
+returns-clause-line c = λ line t log up down m events f is may well asks. part_goes (laws_of c) line t log up down m events f is (all_fair m events may well asks)
 
 pub returns-clause-lines : goal.returns-clause-lines
 returns-clause-lines c = λ keys records devices lines events nodes are may asks.
