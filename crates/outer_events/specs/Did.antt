@@ -69,7 +69,3 @@ pub record Stops (Front : List OuterEvent → Type 0) (old : Outside) (devices :
 -- the same with these devices, of which none moves
 abbrev pub StopsFor : List State → (List OuterEvent → Type 0) → OuterState → List Entry → List Entry → Type 0
 StopsFor devices Front old before all = Stops Front (outside old devices) devices before all
-
--- the same whatever the devices are
-abbrev pub StopsStill : (List OuterEvent → Type 0) → OuterState → List Entry → List Entry → Type 0
-StopsStill Front old before all = (devices : List State) → StopsFor devices Front old before all

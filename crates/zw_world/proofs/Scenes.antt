@@ -58,10 +58,6 @@ pub stopped_still : (Front : Schedule) (keys keys' : Keys) (host host' : HostPar
 stopped_still Front keys keys' host host' o o' ds r r' before all f g none kept same falls =
     stopped_by Front [] (machine keys host o r ds) (machine keys' host' o' r' ds) before all f g none tt tt refl kept same falls
 
--- nothing is a front of anything
-pub nothing_in : (Kind : Schedule) (s t : Scene) → Stops Nothing s t → Stops (FrontOf Kind) s t
-nothing_in Kind s t stops = stopped_as Nothing (FrontOf Kind) s t (λ events none. inl none) stops
-
 -- no record was added
 pub none_more : (r r' : Option (List (List ℕ))) → OptAdds r r' [] → r' ≡ r
 none_more None r' adds = adds

@@ -1,5 +1,5 @@
 -- A line: it begins, and then it is so many ticks, or its effect and a settling.
-use Rattle.std.proofs.Common.{◌≡◌, ℕ, Bool, true, false, List, refl, sym, subst}
+use Rattle.std.proofs.Common.{◌≡◌, ℕ, Bool, true, false, List, [], refl, sym, subst, inl}
 use Rattle.std.specs.Prelude.{Result, Ok, Err, OnOk, OnErr}
 use Rattle.zw_text.specs.declared.line.Line.{Line}
 use Rattle.zw_order.specs.declared.order.Order.{Order}
@@ -8,8 +8,8 @@ use Rattle.zw_words.specs.declared.side.Side.{Side}
 use Rattle.zw_text.specs.declared.line.Line.TheVariants.{Command, Tick, Cut, Stall, Drop, Garble, Collide, Send, Get, Join, Interview, Lose, LoseAck, Repeat, Wake, Cancel, Link, Unlink, Discover, Neighbours, Failed, Probe, Local, Show, Store, Restart}
 use Rattle.zw_machine.specs.State.{Machine}
 use Rattle.zw_machine.specs.Events.{Event}
-use Rattle.zw_machine.specs.Did.{Scene, Does, Nothing, FrontOf, ThenFront, Stops, Then}
-use Rattle.zw_machine.specs.Fronts.{SettlesFront, TicksFront, LineRestFront, LineFront}
+use Rattle.zw_machine.specs.Did.{Scene, Does, Nothing, ThenFront, Stops, Then}
+use Rattle.zw_machine.specs.Fronts.{SettlesFront, TicksFront, EffectFront, LineRestFront, LineFront}
 use Rattle.zw_machine.specs.Settling.{Settles}
 use Rattle.zw_machine.specs.Ticking.{Ticks}
 use Rattle.zw_machine.specs.Lines.{IsEffect, IsLineBegin, IsLineRest, IsLine}
@@ -41,27 +41,35 @@ rest_done (Ok value) line s t u not first later = rest_as line s u not (did_then
 rest_done (Err fault) line s t u not first later = tt
 
 -- in part
-rest_front : (line : Line) (m : Machine) (events : List Event) → is_tick line ≡ false → ThenFront (FrontOf (IsEffect line)) (IsEffect line) SettlesFront m events → LineRestFront line m events
+rest_front : (line : Line) (m : Machine) (events : List Event) → is_tick line ≡ false → ThenFront (EffectFront line) (IsEffect line) SettlesFront m events → LineRestFront line m events
 rest_front (Tick count) m events not front = absurd (subst So not tt)
 rest_front line m events not front = front
 
-in_rest : (line : Line) (s u : Scene) → is_tick line ≡ false → Stops (ThenFront (FrontOf (IsEffect line)) (IsEffect line) SettlesFront) s u → Stops (LineRestFront line) s u
+in_rest : (line : Line) (s u : Scene) → is_tick line ≡ false → Stops (ThenFront (EffectFront line) (IsEffect line) SettlesFront) s u → Stops (LineRestFront line) s u
 in_rest line s u not stops =
-    stopped_as (ThenFront (FrontOf (IsEffect line)) (IsEffect line) SettlesFront) (LineRestFront line) s u (λ events front. rest_front line s.machine events not front) stops
+    stopped_as (ThenFront (EffectFront line) (IsEffect line) SettlesFront) (LineRestFront line) s u (λ events front. rest_front line s.machine events not front) stops
 
-pub effect_stops : (line : Line) (s u : Scene) → is_tick line ≡ false → Stops (FrontOf (IsEffect line)) s u → Stops (LineRestFront line) s u
-effect_stops line s u not stops = in_rest line s u not (stopped_first (IsEffect line) (FrontOf (IsEffect line)) SettlesFront s u stops)
+pub effect_stops : (line : Line) (s u : Scene) → is_tick line ≡ false → Stops (EffectFront line) s u → Stops (LineRestFront line) s u
+effect_stops line s u not stops = in_rest line s u not (stopped_first (IsEffect line) (EffectFront line) SettlesFront s u stops)
 
 pub rest_stops : {T E : Type 0} (answer : Result T E) (line : Line) (s t u : Scene) → is_tick line ≡ false → Does (IsEffect line) s t → OnErr answer (Stops SettlesFront t u) → OnErr answer (Stops (LineRestFront line) s u)
 rest_stops (Ok value) line s t u not first later = tt
-rest_stops (Err fault) line s t u not first later = in_rest line s u not (stopped_then (IsEffect line) (FrontOf (IsEffect line)) SettlesFront s t u first later)
+rest_stops (Err fault) line s t u not first later = in_rest line s u not (stopped_then (IsEffect line) (EffectFront line) SettlesFront s t u first later)
 
 pub ticks_stop_as : {T E : Type 0} (answer : Result T E) (line : Line) (count : ℕ) (s u : Scene) → line ≡ Tick count → OnErr answer (Stops (TicksFront count) s u) → OnErr answer (Stops (LineRestFront line) s u)
 ticks_stop_as answer line count s u is stops = subst (λ (l : Line). OnErr answer (Stops (LineRestFront l) s u)) (sym is) stops
 
+-- nothing of the effect was done
+pub none_in : (line : Line) (m : Machine) → EffectFront line m []
+none_in Restart m = inl refl
+none_in line m = inl refl
+
+pub nothing_in : (line : Line) (s t : Scene) → Stops Nothing s t → Stops (EffectFront line) s t
+nothing_in line s t stops = stopped_as Nothing (EffectFront line) s t (λ events none. subst (λ (l : List Event). EffectFront line s.machine l) (sym none) (none_in line s.machine)) stops
+
 -- of the effect of a line that was matched
-pub front_as : {T E : Type 0} (answer : Result T E) (line known : Line) (s u : Scene) → line ≡ known → OnErr answer (Stops (FrontOf (IsEffect known)) s u) → OnErr answer (Stops (FrontOf (IsEffect line)) s u)
-front_as answer line known s u is stops = subst (λ (l : Line). OnErr answer (Stops (FrontOf (IsEffect l)) s u)) (sym is) stops
+pub front_as : {T E : Type 0} (answer : Result T E) (line known : Line) (s u : Scene) → line ≡ known → OnErr answer (Stops (EffectFront known) s u) → OnErr answer (Stops (EffectFront line) s u)
+front_as answer line known s u is stops = subst (λ (l : Line). OnErr answer (Stops (EffectFront l) s u)) (sym is) stops
 
 pub line_done : {T E : Type 0} (answer : Result T E) (line : Line) (s t u : Scene) → Does IsLineBegin s t → OnOk answer (Does (IsLineRest line) t u) → OnOk answer (Does (IsLine line) s u)
 line_done (Ok value) line s t u first later = did_then IsLineBegin (IsLineRest line) s t u first later

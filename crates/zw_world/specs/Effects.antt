@@ -1,5 +1,5 @@
 -- What calls of the world tell of the effect of a line (this project's own).
-use Rattle.std.specs.Prelude.{◌≡◌, ℕ, Bool, true, false, List, [], ◌∷◌, Option, Some, None, Result, Ok, Err}
+use Rattle.std.specs.Prelude.{◌≡◌, ◌⊎◌, ℕ, Bool, true, false, List, [], ◌∷◌, Option, Some, None, Result, Ok, Err}
 use Rattle.zw_words.specs.declared.side.Side.TheVariants as side
 use Rattle.zw_text.specs.declared.line.Line.{Line}
 use Rattle.zw_text.specs.declared.line.Line.TheVariants.{Tick, Cut, Stall, Drop, Garble, Collide, Lose, LoseAck, Link, Unlink, Discover, Neighbours as neighbours, Failed as failed, Probe as probe}
@@ -67,9 +67,9 @@ abbrev pub begins_by : Option (ℕ × ℕ) → List OuterEvent
 begins_by None = []
 begins_by (Some begun) = Host_begins begun.0 begun.1 ∷ []
 
--- the bytes on their way from both sides are lost
-abbrev pub IsClearing : List OuterEvent → Type 0
-IsClearing events = events ≡ Clears_pipe side.Host ∷ Clears_pipe side.Chip ∷ []
+-- at want of memory the bytes on their way to the chip are lost, and those to the host are not; or neither, and nothing is entered
+abbrev pub ClearsInPart : OuterState → List Entry → List Entry → Type 0
+ClearsInPart old before all = (all ≡ before) ⊎ ((mid : OuterState) × Goes (Clears_pipe side.Host ∷ []) old mid before all)
 
 -- what is entered where no host starts from the records
 abbrev pub shown_unopened : OpenFault → Option Refusal

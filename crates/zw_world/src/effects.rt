@@ -4,7 +4,8 @@ ghost use Rattle.std.specs.Prelude.{◌≡◌, ◌<◌, ◌^◌, ℕ, length, ma
 ghost use Rattle.device_sim.specs.State.{State};
 ghost use Rattle.zw_text.specs.declared.line.Line.TheVariants as line;
 ghost use Rattle.zw_text.specs.declared.entry.Entry.{Entry as TheEntry};
-ghost use Rattle.zw_machine.specs.Did.{Does, Nothing, FrontOf, Stops};
+ghost use Rattle.zw_machine.specs.Did.{Does, Nothing, Stops};
+ghost use Rattle.zw_machine.specs.Fronts.{EffectFront};
 ghost use Rattle.zw_machine.specs.Lines.{IsEffect};
 ghost use Rattle.zw_world.specs.World.{scene};
 ghost use Rattle.zw_world.specs.Effects.{IsSetting, IsAsked, is_tick};
@@ -31,7 +32,7 @@ impl World {
         requires few { length devices.old.items < 2 ^ 64 }
         requires effect { is_tick line.now ≡ Rattle.std.specs.Prelude.false }
         ensures ok { OnOk result (Does (IsEffect line.now) (scene self.old (map (λ d. state d) devices.old.items) (P.records keeper.old) out.old.items (P.faults keeper.old)) (scene self.new (map (λ d. state d) devices.new.items) (P.records keeper.new) out.new.items (P.faults keeper.new))) }
-        ensures err { OnErr result (Stops (FrontOf (IsEffect line.now)) (scene self.old (map (λ d. state d) devices.old.items) (P.records keeper.old) out.old.items (P.faults keeper.old)) (scene self.new (map (λ d. state d) devices.new.items) (P.records keeper.new) out.new.items (P.faults keeper.new))) }
+        ensures err { OnErr result (Stops (EffectFront line.now) (scene self.old (map (λ d. state d) devices.old.items) (P.records keeper.old) out.old.items (P.faults keeper.old)) (scene self.new (map (λ d. state d) devices.new.items) (P.records keeper.new) out.new.items (P.faults keeper.new))) }
         ensures kept { length devices.new.items ≡ length devices.old.items }
     {
         match line {
