@@ -1,7 +1,7 @@
 -- A host that starts from the records goes on in place of the one before.
-use Rattle.std.proofs.Common.{◌≡◌, ℕ, ◌≤◌, List, [], ◌∷◌, map, refl, ap, sym, ◌∙◌, subst, inl, inr, arith}
+use Rattle.std.proofs.Common.{◌≡◌, ℕ, ◌≤◌, List, [], ◌∷◌, map, refl, ap, sym, subst, inl, inr, arith}
 use Rattle.std.specs.Prelude.{Option, Some, None, Result, Ok, Err, OnOk}
-use Rattle.std.proofs.lemmas.List.{append-nil, map-append}
+use Rattle.std.proofs.lemmas.List.{append-nil}
 use Rattle.zw_base.specs.Faults.{Rose}
 use Rattle.serial_frame.specs.Stream.{Rest}
 use Rattle.s0_crypto.specs.declared.key_pair.Keys.{Keys}
@@ -14,13 +14,13 @@ use Rattle.zw_text.specs.declared.entry.Refusal.{Refusal}
 use Rattle.zw_text.specs.declared.entry.Refusal.TheVariants.{KeeperFault as keeper_fault}
 use Rattle.host_keep.specs.Keeping.{OptAdds}
 use Rattle.host_keep.specs.Legal.{IsFirstBad}
-use Rattle.host_events.specs.State.{HostState, HostParts}
+use Rattle.host_events.specs.State.{HostParts}
 use Rattle.host_events.specs.Did.{RoseIf}
 use Rattle.host_core.specs.Opening.{Opens}
 use Rattle.host_core.specs.declared.opening.OpenFault.{OpenFault}
 use Rattle.host_core.specs.declared.opening.OpenFault.TheVariants as opening
 use Rattle.outer_events.specs.State.{OuterState, outside}
-use Rattle.outer_events.specs.Events.{OuterEvent, Clears_pipe, Host_notes, devices_after}
+use Rattle.outer_events.specs.Events.{OuterEvent, Clears_pipe, Host_notes}
 use Rattle.outer_events.specs.Did.{Goes}
 use Rattle.outer_events.proofs.Doing.{ran_both as ran_both_outside}
 use Rattle.zw_machine.specs.State.{Machine, machine}

@@ -1,5 +1,5 @@
 -- What calls of the parts of a world are as events of the machine, whatever stands beside them.
-use Rattle.std.proofs.Common.{◌≡◌, ℕ, ◌≤◌, Bool, true, false, List, [], ◌∷◌, ◌++◌, map, refl, ap, sym, ◌∙◌, subst, append_assoc, arith, inl, inr}
+use Rattle.std.proofs.Common.{◌≡◌, ℕ, ◌≤◌, Bool, true, false, List, [], ◌∷◌, ◌++◌, map, refl, ap, sym, ◌∙◌, subst, append_assoc, arith, inr}
 use Rattle.std.specs.Prelude.{Option, Some, None, Result, Ok, Err, OnOk, OnErr, ◌||◌}
 use Rattle.std.proofs.lemmas.List.{append-nil, map-append}
 use Rattle.serial_frame.specs.Stream.{Rest, after_tick}
@@ -24,7 +24,6 @@ use Rattle.zw_machine.specs.Refusals.{IsRefused}
 use Rattle.zw_machine.specs.Events.{Event, Outside_does, Host_does, Refuses, Decoder_ticks, happens, entries, May}
 use Rattle.zw_machine.specs.Did.{Schedule, Scene, Run, Does, Nothing, FrontOf, Stops, These, is_keeper_fault}
 use Rattle.zw_machine.specs.Settling.{Outside as OutsideOf}
-use Rattle.zw_machine.proofs.Doing.{stopped_as}
 use Rattle.zw_machine.proofs.Outside.{ran_outside, stopped_outside}
 use Rattle.zw_machine.proofs.Hosting.{Silent, ran_host, stopped_host, stopped_by}
 use Rattle.zw_machine.proofs.Schedules.{did_outside}
