@@ -27,7 +27,6 @@ use Rattle.zw_laws.specs.Headline.{Headline, HeadlineOf, IsAsMade}
 use Rattle.zw_laws.specs.Nodes.{device_of, first_node, is_supervised, listing_of}
 use Rattle.world_facts.specs.Devices.{GroupsSessions}
 use Rattle.world_facts.specs.Restarts.{AllKeepWell, BeginsEmpty}
-use Rattle.run_facts.specs.Premises.{AreFew}
 use Rattle.headline_facts.specs.Truly.{SucceedsAfterChangeOf}
 use Rattle.supervised_nodes.specs.Supervised.{IsSupervisedNode}
 use Rattle.sim_laws.specs.Around.{Around}
@@ -105,17 +104,15 @@ pub record Tells (ended : Status) (quiet : Bool) (key : List ℕ) (old new : Aro
 
 -- ---- premises of the laws
 
--- The keeper began without records, it tells them where a host starts from them, their numbers are in range, and an interview that ends
--- well is of a node that is joined.
+-- The keeper began without records, it tells them where a host starts from them, and an interview that ends well is of a node that is joined.
 pub record KeepsRecords (key : List ℕ) (old : Around) (story : List Ran) : Type 0 where
   pub empty : BeginsEmpty old.records
   pub well : AllKeepWell (first key old) (events_of story)
 
--- All lines were run whole, over a keeper that tells its records, had none at first and has fewer than 2 ^ 32 in the end.
+-- All lines were run whole, over a keeper that tells its records and had none at first.
 pub record IsWholeRun (key : List ℕ) (old : Around) (story : List Ran) : Type 0 where
   pub whole : AreSchedules (first key old) story
   pub empty : old.records ≡ Some []
-  pub few : AreFew (last key old story).records
 
 -- ---- what every story of a run keeps
 
