@@ -201,7 +201,7 @@ module _ (each : (past : List Entry) (h : HostState) (event : HostEvent) → Fac
   unfolding entries May
   machine_ends past m (Outside_does event) facts shown may true = asides_end Ends free past (entries_outside m.outside event) (own_aside m.outside event may.0)
   machine_ends past m (Host_does event) facts shown may true =
-      behind_ends past past (entries m (Host_does event)) m.host.state m.outside.devices event (record { more = []; is = sym (append-nil past) }) facts shown may true
+      behind_ends past past (entries m (Host_does event)) m.host.state m.outside.devices event (record { more = []; is = sym (append-nil past) }) facts shown may.0 true
       (subst (λ (l : List HostOut). Behind (entries_at m.host.state event)
       (entries_all_outside m.outside (routed l) ++ entries_all_outside (host_does m (event ∷ [])).outside (map Host_notes (answers m.host.state event))))
       (sym (append-nil (outs m.host.state event)))

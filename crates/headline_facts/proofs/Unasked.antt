@@ -193,7 +193,7 @@ module _ (node : ℕ) where
 
     event_told : (past : List Entry) (m : Machine) (event : Event) → Facts past m.host.state → May m event → HasNone m.host.state.commands → IsTrue node m event
     unfolding May
-    event_told past m (Host_does event) facts may none = none_told past m.host.state m.outside.devices event facts may none
+    event_told past m (Host_does event) facts may none = none_told past m.host.state m.outside.devices event facts may.0 none
     event_told past m (Host_takes count rest items events) facts may none =
         hosts_told past m.host.state m.outside.devices events facts may.may (silent_none m.host.state events (judged_silent m.host.state items events may.judged)) none
     event_told past m event facts may none = tt

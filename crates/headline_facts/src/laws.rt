@@ -16,7 +16,6 @@ ghost use Rattle.once_facts.specs.Tied.{AllTied, AreTied};
 ghost use Rattle.once_facts.specs.Truly.{IsTrue};
 ghost use Rattle.said_facts.specs.Said.{LinesTell};
 ghost use Rattle.said_facts.specs.Spoken.{Spoken, AreSpoken, after_all, transcript_of};
-ghost use Rattle.run_facts.specs.Premises.{AreFew};
 ghost use Rattle.listing_facts.specs.Lines.{AreDone};
 ghost use Rattle.headline_facts.specs.Truly.{IsAskable, LinesAreTrue, SucceedsAfterChangeOf};
 
@@ -100,16 +99,14 @@ pub fn runs_have_the_headline()
     headlines_follow();
 }
 
-/// So over any lines that were read, over a keeper that tells its records and has none at first: nothing is premised of interviews and of restarts then, but that the keeper
-/// holds fewer than 2 ^ 32 records in the end. Of each supervised device that is tied in the end, and the whole.
+/// So over any lines that were read, over a keeper that tells its records and has none at first: nothing is premised of interviews and of restarts
+/// then. Of each supervised device that is tied in the end, and the whole.
 pub fn lines_have_the_headline()
     ensures one { (keys : Keys) (devices : List State) (lines : List Spoken) (node : ℕ) (device : State) → AreUnchanged devices → AreDone (first_machine keys (Some []) devices) lines →
-        AreFew (after_all (first_machine keys (Some []) devices) lines).records →
         device_of node (after_all (first_machine keys (Some []) devices) lines).outside.devices ≡ Some device → is_supervised device ≡ true →
         AreTied (after_all (first_machine keys (Some []) devices) lines).host.state node device →
         HeadlineOf (listing_of devices) node (transcript_of (first_machine keys (Some []) devices) lines) device }
     ensures whole { (keys : Keys) (devices : List State) (lines : List Spoken) → AreUnchanged devices → AreApart devices → AreDone (first_machine keys (Some []) devices) lines →
-        AreFew (after_all (first_machine keys (Some []) devices) lines).records →
         ((node : ℕ) → IsAskable devices node → LinesAreTrue node (first_machine keys (Some []) devices) lines) →
         AllTied (after_all (first_machine keys (Some []) devices) lines).host.state (after_all (first_machine keys (Some []) devices) lines).outside.devices →
         Headline devices (after_all (first_machine keys (Some []) devices) lines).outside.devices (transcript_of (first_machine keys (Some []) devices) lines) }

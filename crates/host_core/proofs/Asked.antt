@@ -4,6 +4,7 @@ use Rattle.std.specs.Prelude.{Bool, true, false, Option, Some, None, Result, Ok,
 use Rattle.std.proofs.lemmas.Bool.Decides.{nat_tests}
 use Rattle.std.proofs.lemmas.List.{length-append}
 use Rattle.host_keep.specs.Keeping.{OptAdds}
+use Rattle.host_keep.specs.Rows.{IsRecord}
 use Rattle.host_keep.specs.RecordText.{record_text}
 use Rattle.host_keep.specs.declared.record.Record.TheVariants.{Accepted}
 use Rattle.host_requests.specs.declared.task.Task.TheVariants.{Plain}
@@ -167,13 +168,13 @@ queued_alone h new n payload text is some room host =
 
 -- an order was accepted
 pub accepted_does : (order : Order) (old new : HostParts) (a b : Shelf) (result : Result ℕ Refused) → Judges result (refusal_for old.state order)
-    → OnOk result (OptAdds a.records b.records (record_text (Accepted (length old.state.commands + 1) order) ∷ []))
+    → OnOk result (OptAdds a.records b.records (record_text (Accepted (length old.state.commands + 1) order) ∷ [])) → OnOk result (IsRecord (Accepted (length old.state.commands + 1) order))
     → OnOk result (new ≡ record old { state = after old.state (Accepts order (carriage_for old.state order)) }) → a.faults ≤ b.faults
     → OnOk result (Does (Are (Accepts order (carriage_for old.state order) ∷ [])) (beside a old.state []) (beside b new.state []))
-accepted_does order old new a b (Err refused) judged kept host falls = tt
-accepted_does order old new a b (Ok number) judged kept host falls =
+accepted_does order old new a b (Err refused) judged kept range host falls = tt
+accepted_does order old new a b (Ok number) judged kept range host falls =
     does_one (Are (Accepts order (carriage_for old.state order) ∷ [])) (Accepts order (carriage_for old.state order)) (beside a old.state []) (beside b new.state []) refl
-    (order_is_accepted old.state order judged) (ap (λ (p : HostParts). p.state) host) refl kept tt falls
+    (order_is_accepted old.state order judged) (range, tt) (ap (λ (p : HostParts). p.state) host) refl kept tt falls
 
 -- what a question is
 pub asked_as : {T E : Type 0} (r : Result T E) (question one : Question) (h new : HostState) → question ≡ one → OnOk r (DoesAlone (Are (question_event one ∷ [])) h [] new [])

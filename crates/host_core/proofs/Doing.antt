@@ -1,14 +1,16 @@
 -- Calls of a host one after another.
 use Rattle.std.proofs.Common.{◌≡◌, ◌≤◌, List, [], ◌∷◌, ◌++◌, sym, subst, arith}
 use Rattle.std.specs.Prelude.{Bool, true, false}
+use Rattle.std.specs.List.{AllByRecursion}
 use Rattle.host_keep.specs.Keeping.{OptAdds, Kept}
 use Rattle.host_keep.specs.RecordText.{record_text}
+use Rattle.host_keep.specs.Rows.{IsRecord}
 use Rattle.host_keep.specs.declared.record.Record.{Record}
 use Rattle.host_events.specs.State.{HostState}
 use Rattle.host_events.specs.Events.{HostEvent}
 use Rattle.host_events.specs.After.{after}
 use Rattle.host_events.specs.Outs.{outs}
-use Rattle.host_events.specs.Records.{records_at}
+use Rattle.host_events.specs.Records.{records_at, KeepsInRange}
 use Rattle.host_events.specs.May.{May}
 use Rattle.host_events.specs.Did.{after_all, is_unkept, RoseIf, texts_of}
 use Rattle.host_events.specs.declared.out.HostOut.{HostOut}
@@ -36,30 +38,30 @@ stops_alone old new before all host outs = λ shelf. stops_at_once (beside shelf
 
 -- ---- one event
 
-pub does_one : (Kind : List HostEvent → Type 0) (e : HostEvent) (a b : Scene) → Kind (e ∷ []) → May a.host e → b.host ≡ after a.host e → b.outs ≡ a.outs ++ outs a.host e
+pub does_one : (Kind : List HostEvent → Type 0) (e : HostEvent) (a b : Scene) → Kind (e ∷ []) → May a.host e → KeepsInRange a.host e → b.host ≡ after a.host e → b.outs ≡ a.outs ++ outs a.host e
     → OptAdds a.shelf.records b.shelf.records (texts_of (records_at a.host e)) → RoseIf (is_unkept e) a.shelf.faults b.shelf.faults → a.shelf.faults ≤ b.shelf.faults → Does Kind a b
-does_one Kind e a b are may host put records rose falls =
-    record { events = e ∷ []; are = are; did = did_one e a.host b.host a.outs b.outs a.shelf b.shelf may host put records rose falls }
+does_one Kind e a b are may range host put records rose falls =
+    record { events = e ∷ []; are = are; did = did_one e a.host b.host a.outs b.outs a.shelf b.shelf may range host put records rose falls }
 
 -- one that keeps no record
 pub one_alone : (Kind : List HostEvent → Type 0) (e : HostEvent) (old new : HostState) (before all : List HostOut) → Kind (e ∷ []) → May old e → records_at old e ≡ [] → is_unkept e ≡ false
     → new ≡ after old e → all ≡ before ++ outs old e → DoesAlone Kind old before new all
 one_alone Kind e old new before all are may none kept host put =
-    λ shelf. does_one Kind e (beside shelf old before) (beside shelf new all) are may host put
+    λ shelf. does_one Kind e (beside shelf old before) (beside shelf new all) are may (subst (λ (r : List Record). AllByRecursion IsRecord r) (sym none) tt) host put
     (subst (λ (r : List Record). OptAdds shelf.records shelf.records (texts_of r)) (sym none) (none_added shelf.records))
     (subst (λ (x : Bool). RoseIf x shelf.faults shelf.faults) (sym kept) tt) (omega arith)
 
 -- one whose record was kept, or the one that says that it was not
 pub does_kept : (Kind : List HostEvent → Type 0) (is_kept : Bool) (e u : HostEvent) (r : Record) (a b : Scene) → Kind (chosen is_kept e u ∷ []) → May a.host (chosen is_kept e u)
-    → records_at a.host e ≡ r ∷ [] → is_unkept e ≡ false → records_at a.host u ≡ [] → is_unkept u ≡ true
+    → records_at a.host e ≡ r ∷ [] → IsRecord r → is_unkept e ≡ false → records_at a.host u ≡ [] → is_unkept u ≡ true
     → Kept is_kept (record_text r) a.shelf.records b.shelf.records a.shelf.faults b.shelf.faults → b.host ≡ after a.host (chosen is_kept e u) → b.outs ≡ a.outs ++ outs a.host (chosen is_kept e u)
     → a.shelf.faults ≤ b.shelf.faults → Does Kind a b
-does_kept Kind true e u r a b are may recorded kept_it none not_it kept host put falls =
-    does_one Kind e a b are may host put
+does_kept Kind true e u r a b are may recorded range kept_it none not_it kept host put falls =
+    does_one Kind e a b are may (subst (λ (l : List Record). AllByRecursion IsRecord l) (sym recorded) (range, tt)) host put
     (subst (λ (l : List Record). OptAdds a.shelf.records b.shelf.records (texts_of l)) (sym recorded) kept)
     (subst (λ (x : Bool). RoseIf x a.shelf.faults b.shelf.faults) (sym kept_it) tt) falls
-does_kept Kind false e u r a b are may recorded kept_it none not_it kept host put falls =
-    does_one Kind u a b are may host put
+does_kept Kind false e u r a b are may recorded range kept_it none not_it kept host put falls =
+    does_one Kind u a b are may (subst (λ (l : List Record). AllByRecursion IsRecord l) (sym none) tt) host put
     (subst (λ (l : List Record). OptAdds a.shelf.records b.shelf.records (texts_of l)) (sym none) kept.0)
     (subst (λ (x : Bool). RoseIf x a.shelf.faults b.shelf.faults) (sym not_it) kept.1) falls
 

@@ -24,6 +24,7 @@ use Rattle.host_events.specs.State.{HostState}
 use Rattle.host_events.specs.Events.{HostEvent, Requests_do, Interviews, Interview_unkept}
 use Rattle.host_events.specs.May.{says_listens}
 use Rattle.host_keep.specs.Keeping.{Kept}
+use Rattle.host_keep.specs.Rows.{IsRecord}
 use Rattle.host_keep.specs.RecordText.{record_text}
 use Rattle.host_keep.specs.declared.record.Record.TheVariants.{Classes}
 use Rattle.host_core.proofs.OneNonce.{may_chosen}
@@ -122,27 +123,27 @@ read_as read one a b is does = subst (λ (r : Result Notice BodyFault). Does (No
 -- an interview ended well, once that was kept
 pub interviewed_does : (update : Update) (n : ℕ) (types : ℕ × ℕ × ℕ) (classes : List ℕ) (found : Option ℕ) (capability : ℕ) (is_kept : Bool) (a b : Scene) → update ≡ Received n types.0 types.1 types.2 classes
     → found ≡ interviewed_by a.host.requests update → found ≡ Some capability
-    → Kept is_kept (record_text (Classes n (says_listens capability) classes)) a.shelf.records b.shelf.records a.shelf.faults b.shelf.faults
+    → IsRecord (Classes n (says_listens capability) classes) → Kept is_kept (record_text (Classes n (says_listens capability) classes)) a.shelf.records b.shelf.records a.shelf.faults b.shelf.faults
     → b.host ≡ after a.host (chosen is_kept (Interviews n (says_listens capability) classes update) (Interview_unkept n update))
     → b.outs ≡ a.outs ++ outs a.host (chosen is_kept (Interviews n (says_listens capability) classes update) (Interview_unkept n update)) → a.shelf.faults ≤ b.shelf.faults
     → Does (InterviewEvents update (interviewed_by a.host.requests update)) a b
-interviewed_does update n types classes found capability is_kept a b is here some kept host put falls =
+interviewed_does update n types classes found capability is_kept a b is here some range kept host put falls =
     let brought : interviewed_by a.host.requests update ≡ Some capability = sym here ∙ some in
     does_kept (InterviewEvents update (interviewed_by a.host.requests update)) is_kept (Interviews n (says_listens capability) classes update) (Interview_unkept n update) (Classes n (says_listens capability) classes) a b
     (interview_is update n types classes (interviewed_by a.host.requests update) capability is_kept is brought)
     (may_chosen a.host is_kept (Interviews n (says_listens capability) classes update) (Interview_unkept n update)
     (capability, record { brought = brought; types = types; received = is }, refl)
-    (subst (λ (o : Option ℕ). IsSome o) (sym brought) refl)) refl refl refl refl kept host put falls
+    (subst (λ (o : Option ℕ). IsSome o) (sym brought) refl)) refl range refl refl refl kept host put falls
 
 -- the same, of what was said of its listening
 pub interviewed_as : (update : Update) (n : ℕ) (types : ℕ × ℕ × ℕ) (classes : List ℕ) (found : Option ℕ) (capability : ℕ) (listens is_kept : Bool) (a b : Scene) → update ≡ Received n types.0 types.1 types.2 classes
     → found ≡ interviewed_by a.host.requests update → found ≡ Some capability → listens ≡ says_listens capability
-    → Kept is_kept (record_text (Classes n listens classes)) a.shelf.records b.shelf.records a.shelf.faults b.shelf.faults
+    → IsRecord (Classes n listens classes) → Kept is_kept (record_text (Classes n listens classes)) a.shelf.records b.shelf.records a.shelf.faults b.shelf.faults
     → b.host ≡ after a.host (chosen is_kept (Interviews n listens classes update) (Interview_unkept n update))
     → b.outs ≡ a.outs ++ outs a.host (chosen is_kept (Interviews n listens classes update) (Interview_unkept n update)) → a.shelf.faults ≤ b.shelf.faults
     → Does (InterviewEvents update (interviewed_by a.host.requests update)) a b
-interviewed_as update n types classes found capability listens is_kept a b is here some says kept host put falls =
-    interviewed_does update n types classes found capability is_kept a b is here some
+interviewed_as update n types classes found capability listens is_kept a b is here some says range kept host put falls =
+    interviewed_does update n types classes found capability is_kept a b is here some range
     (subst (λ (l : Bool). Kept is_kept (record_text (Classes n l classes)) a.shelf.records b.shelf.records a.shelf.faults b.shelf.faults) says kept)
     (subst (λ (l : Bool). b.host ≡ after a.host (chosen is_kept (Interviews n l classes update) (Interview_unkept n update))) says host)
     (subst (λ (l : Bool). b.outs ≡ a.outs ++ outs a.host (chosen is_kept (Interviews n l classes update) (Interview_unkept n update))) says put) falls

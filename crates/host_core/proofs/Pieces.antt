@@ -85,7 +85,7 @@ stops_in_item old new a b bytes rest at_old at_new stops =
 -- an item is heard
 pub hears : (item : Item) (a b : Scene) → b.host ≡ after a.host (Hears item) → b.outs ≡ a.outs ++ outs a.host (Hears item) → b.shelf ≡ a.shelf → Does (Are (Hears item ∷ [])) a b
 hears item a b host put same =
-    does_one (Are (Hears item ∷ [])) (Hears item) a b refl tt host put (subst (λ (s : Shelf). OptAdds a.shelf.records s.records []) (sym same) (none_added a.shelf.records)) tt
+    does_one (Are (Hears item ∷ [])) (Hears item) a b refl tt tt host put (subst (λ (s : Shelf). OptAdds a.shelf.records s.records []) (sym same) (none_added a.shelf.records)) tt
     (subst (λ (s : Shelf). a.shelf.faults ≤ s.faults) (sym same) (omega arith))
 
 -- an item is heard, and then followed

@@ -8,6 +8,7 @@ use Rattle.supervision.specs.Host.{told_of, command_at as command_of_session}
 use Rattle.supervision.specs.declared.host_node.Told.{Told}
 use Rattle.supervision.specs.declared.host_node.Told.TheVariants.{Final, Working, Old}
 use Rattle.host_keep.specs.Keeping.{OptAdds, Kept}
+use Rattle.host_keep.specs.Rows.{IsRecord}
 use Rattle.host_keep.specs.RecordText.{record_text}
 use Rattle.host_keep.specs.declared.record.Record.TheVariants as record_of
 use Rattle.host_keep.specs.Status.{status_of, status_byte as final_byte}
@@ -31,14 +32,14 @@ pub old_reported : (n id : ℕ) (status : ReportStatus) (wake_request : Bool) (a
     → Does (ReportEvents a.host n id status wake_request (told_of (node_of a.host n).book id (status_byte status))) a b
 old_reported n id status wake_request a b is host put records falls =
     does_one (ReportEvents a.host n id status wake_request (told_of (node_of a.host n).book id (status_byte status))) (Reports_old n id) a b
-    (subst (λ (t : Told). ReportEvents a.host n id status wake_request t (Reports_old n id ∷ [])) (sym is) refl) (status_byte status, is) host put records tt falls
+    (subst (λ (t : Told). ReportEvents a.host n id status wake_request t (Reports_old n id ∷ [])) (sym is) refl) (status_byte status, is) tt host put records tt falls
 
 pub work_reported : (n id : ℕ) (status : ReportStatus) (wake_request : Bool) (a b : Scene) → told_of (node_of a.host n).book id (status_byte status) ≡ Working → b.host ≡ after a.host (Works n id)
     → b.outs ≡ a.outs ++ outs a.host (Works n id) → OptAdds a.shelf.records b.shelf.records [] → a.shelf.faults ≤ b.shelf.faults
     → Does (ReportEvents a.host n id status wake_request (told_of (node_of a.host n).book id (status_byte status))) a b
 work_reported n id status wake_request a b is host put records falls =
     does_one (ReportEvents a.host n id status wake_request (told_of (node_of a.host n).book id (status_byte status))) (Works n id) a b
-    (subst (λ (t : Told). ReportEvents a.host n id status wake_request t (Works n id ∷ [])) (sym is) refl) (works_at_one (node_of a.host n).book id (status_byte status) is) host put records tt falls
+    (subst (λ (t : Told). ReportEvents a.host n id status wake_request t (Works n id ∷ [])) (sym is) refl) (works_at_one (node_of a.host n).book id (status_byte status) is) tt host put records tt falls
 
 -- a final status has its byte
 pub final_is : (status : ReportStatus) (ended : FinalStatus) → status_of (status_byte status) ≡ Some ended → final_byte ended ≡ status_byte status
@@ -70,10 +71,10 @@ final_or n session id command ended wake_request is_kept carried status one two 
 -- a report that ends the session was kept, or not
 pub session_ended : (n session id command : ℕ) (status : ReportStatus) (ended : FinalStatus) (wake_request is_kept : Bool) (a b : Scene) → told_of (node_of a.host n).book id (status_byte status) ≡ Final session
     → command_of_session (node_of a.host n).book.commands session ≡ Some command → status_of (status_byte status) ≡ Some ended
-    → Kept is_kept (record_text (record_of.Final n session ended)) a.shelf.records b.shelf.records a.shelf.faults b.shelf.faults
+    → IsRecord (record_of.Final n session ended) → Kept is_kept (record_text (record_of.Final n session ended)) a.shelf.records b.shelf.records a.shelf.faults b.shelf.faults
     → b.host ≡ after a.host (chosen is_kept (Finishes n session id command ended wake_request) (Is_unkept n)) → b.outs ≡ a.outs ++ outs a.host (chosen is_kept (Finishes n session id command ended wake_request) (Is_unkept n))
     → a.shelf.faults ≤ b.shelf.faults → Does (FinalEvents n session id (command_of_session (node_of a.host n).book.commands session) (status_of (status_byte status)) wake_request) a b
-session_ended n session id command status ended wake_request is_kept a b told carried is kept host put falls =
+session_ended n session id command status ended wake_request is_kept a b told carried is range kept host put falls =
     does_kept (FinalEvents n session id (command_of_session (node_of a.host n).book.commands session) (status_of (status_byte status)) wake_request) is_kept (Finishes n session id command ended wake_request) (Is_unkept n)
     (record_of.Final n session ended) a b (final_or n session id command ended wake_request is_kept (command_of_session (node_of a.host n).book.commands session) (status_of (status_byte status)) carried is)
-    (may_chosen a.host is_kept (Finishes n session id command ended wake_request) (Is_unkept n) (final_may a.host n session id command status ended wake_request told carried is) tt) refl refl refl refl kept host put falls
+    (may_chosen a.host is_kept (Finishes n session id command ended wake_request) (Is_unkept n) (final_may a.host n session id command status ended wake_request told carried is) tt) refl range refl refl refl kept host put falls

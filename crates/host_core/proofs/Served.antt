@@ -10,6 +10,7 @@ use Rattle.host_events.specs.State.{HostState, node_of}
 use Rattle.host_events.specs.Events.{HostEvent, Submits_abort, Submits_front, Begins, Begin_unkept, Starts, Gives_text, Gives_segment}
 use Rattle.host_events.specs.Outs.{outs}
 use Rattle.host_keep.specs.Keeping.{OptAdds, Kept}
+use Rattle.host_keep.specs.Rows.{IsRecord}
 use Rattle.host_keep.specs.RecordText.{record_text}
 use Rattle.host_keep.specs.declared.record.Record.TheVariants.{Begun}
 use Rattle.host_recorded.specs.Choices.{chosen}
@@ -55,17 +56,17 @@ may_begin_or : (h : HostState) (n session command : ℕ) (is_kept : Bool) → Ma
 may_begin_or h n session command true may = may
 may_begin_or h n session command false may = (may.0, may.1)
 
-pub session_begun : (n session command : ℕ) (is_kept : Bool) (a b : Scene) → May a.host (Begins n session command) → Kept is_kept (record_text (Begun n session command)) a.shelf.records b.shelf.records a.shelf.faults b.shelf.faults
+pub session_begun : (n session command : ℕ) (is_kept : Bool) (a b : Scene) → May a.host (Begins n session command) → IsRecord (Begun n session command) → Kept is_kept (record_text (Begun n session command)) a.shelf.records b.shelf.records a.shelf.faults b.shelf.faults
     → b.host ≡ after a.host (chosen is_kept (Begins n session command) (Begin_unkept n)) → b.outs ≡ a.outs ++ outs a.host (chosen is_kept (Begins n session command) (Begin_unkept n)) → a.shelf.faults ≤ b.shelf.faults
     → Does (One (IsServedBy a.host n Idle)) a b
-session_begun n session command is_kept a b may kept host put falls =
+session_begun n session command is_kept a b may range kept host put falls =
     does_kept (One (IsServedBy a.host n Idle)) is_kept (Begins n session command) (Begin_unkept n) (Begun n session command) a b (
       chosen is_kept (Begins n session command) (Begin_unkept n),
       subst (λ (s : ℕ). IsServedBy a.host n Idle (chosen is_kept (Begins n s command) (Begin_unkept n))) (sym may.2)
           (subst (λ (c : ℕ). IsServedBy a.host n Idle (chosen is_kept (Begins n (begun_of (node_of a.host n).book + 1) c) (Begin_unkept n))) (sym may.3) (begun_or a.host n is_kept)),
       refl,
     )
-    (may_begin_or a.host n session command is_kept may) refl refl refl refl kept host put falls
+    (may_begin_or a.host n session command is_kept may) refl range refl refl refl kept host put falls
 
 -- an attempt started
 pub attempt_started : (h : HostState) (n : ℕ) (plan : Plan) (more : Bool) (payload : List ℕ) (new : HostState) (before all : List HostOut) → May h (Starts n plan more payload)
@@ -110,9 +111,9 @@ served_as n series one a b is does = subst (λ (s : Series). Does (One (IsServed
 pub abort_submitted : (a b : Scene) → IsFree a.host → a.host.requests.owes ≡ true → b.host ≡ after a.host Submits_abort → b.outs ≡ a.outs ++ outs a.host Submits_abort
     → OptAdds a.shelf.records b.shelf.records [] → a.shelf.faults ≤ b.shelf.faults → Does (One (IsNext a.host)) a b
 abort_submitted a b free owes host put records falls =
-    does_one (One (IsNext a.host)) Submits_abort a b (Submits_abort, abort_is_next a.host free owes, refl) (free, owes) host put records tt falls
+    does_one (One (IsNext a.host)) Submits_abort a b (Submits_abort, abort_is_next a.host free owes, refl) (free, owes) tt host put records tt falls
 
 pub front_submitted : (a b : Scene) → IsFree a.host → a.host.requests.owes ≡ false → (a.host.requests.queue ≡ [] → ⊥) → b.host ≡ after a.host Submits_front → b.outs ≡ a.outs ++ outs a.host Submits_front
     → OptAdds a.shelf.records b.shelf.records [] → a.shelf.faults ≤ b.shelf.faults → Does (One (IsNext a.host)) a b
 front_submitted a b free paid some host put records falls =
-    does_one (One (IsNext a.host)) Submits_front a b (Submits_front, front_is_next a.host free paid some, refl) (free, paid, some) host put records tt falls
+    does_one (One (IsNext a.host)) Submits_front a b (Submits_front, front_is_next a.host free paid some, refl) (free, paid, some) tt host put records tt falls

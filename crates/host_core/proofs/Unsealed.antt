@@ -5,6 +5,7 @@ use Rattle.encap.specs.Opening.{begins_with, opened_at}
 use Rattle.s0_session.specs.Nonces.{live_of}
 use Rattle.host_keep.specs.Keeping.{OptAdds, Kept}
 use Rattle.host_keep.specs.RecordText.{record_text}
+use Rattle.host_keep.specs.Rows.{IsRecord}
 use Rattle.host_keep.specs.declared.record.Record.TheVariants as record_of
 use Rattle.host_heard.specs.declared.payload.Heard.{Heard}
 use Rattle.host_heard.specs.declared.payload.Heard.TheVariants.{Sealed, Unread}
@@ -37,7 +38,7 @@ sealed_begins payload e = sealed_by (begins_with payload 152 129) (told_in (open
 -- a payload that tells nothing
 pub unread_does : (Kind : List HostEvent → Type 0) (n : ℕ) (payload : List ℕ) (a b : Scene) → Kind (Unreads n payload ∷ []) → b.host ≡ a.host → b.outs ≡ a.outs ++ outs a.host (Unreads n payload)
     → OptAdds a.shelf.records b.shelf.records [] → a.shelf.faults ≤ b.shelf.faults → Does Kind a b
-unread_does Kind n payload a b are host put records falls = does_one Kind (Unreads n payload) a b are tt host put records tt falls
+unread_does Kind n payload a b are host put records falls = does_one Kind (Unreads n payload) a b are tt tt host put records tt falls
 
 pub payload_unread : (n : ℕ) (payload : List ℕ) (heard : Heard) (a b : Scene) → heard ≡ Unread → b.host ≡ a.host → b.outs ≡ a.outs ++ outs a.host (Unreads n payload)
     → OptAdds a.shelf.records b.shelf.records [] → a.shelf.faults ≤ b.shelf.faults → Does (PayloadEvents a.host n payload heard) a b
@@ -58,13 +59,13 @@ named_live payload (Some live) nonce e = refl
 
 -- its event happened
 pub opening_did : (n : ℕ) (payload nonce : List ℕ) (opened : Opened) (a b : Scene) → named_by payload (live_of a.host.nonces n) ≡ Some nonce
-    → Kept (is_kept opened) (record_text (record_of.Spent n)) a.shelf.records b.shelf.records a.shelf.faults b.shelf.faults → b.host ≡ after a.host (opening n payload opened)
+    → IsRecord (record_of.Spent n) → Kept (is_kept opened) (record_text (record_of.Spent n)) a.shelf.records b.shelf.records a.shelf.faults b.shelf.faults → b.host ≡ after a.host (opening n payload opened)
     → b.outs ≡ a.outs ++ outs a.host (opening n payload opened) → a.shelf.faults ≤ b.shelf.faults → Does (Are (opening n payload opened ∷ [])) a b
-opening_did n payload nonce Unkept a b named kept host put falls = does_one (Are (Is_unkept n ∷ [])) (Is_unkept n) a b refl tt host put kept.0 kept.1 falls
-opening_did n payload nonce InVain a b named kept host put falls =
-    does_one (Are (Spends_unread n payload ∷ [])) (Spends_unread n payload) a b refl (named_live payload (live_of a.host.nonces n) nonce named) host put kept tt falls
-opening_did n payload nonce (Opens messages) a b named kept host put falls =
-    does_one (Are (Spends n ∷ [])) (Spends n) a b refl (named_live payload (live_of a.host.nonces n) nonce named) host put kept tt falls
+opening_did n payload nonce Unkept a b named range kept host put falls = does_one (Are (Is_unkept n ∷ [])) (Is_unkept n) a b refl tt tt host put kept.0 kept.1 falls
+opening_did n payload nonce InVain a b named range kept host put falls =
+    does_one (Are (Spends_unread n payload ∷ [])) (Spends_unread n payload) a b refl (named_live payload (live_of a.host.nonces n) nonce named) (range, tt) host put kept tt falls
+opening_did n payload nonce (Opens messages) a b named range kept host put falls =
+    does_one (Are (Spends n ∷ [])) (Spends n) a b refl (named_live payload (live_of a.host.nonces n) nonce named) (range, tt) host put kept tt falls
 
 -- it was not opened, or in vain
 pub opened_no_further : (n : ℕ) (payload nonce : List ℕ) (opened one : Opened) (a b : Scene) → named_by payload (live_of a.host.nonces n) ≡ Some nonce → opened ≡ one

@@ -2,16 +2,18 @@
 use Rattle.std.proofs.Common.{◌≡◌, ℕ, ◌≤◌, List, [], ◌∷◌, ◌++◌, inl, inr, refl, ap, sym, ◌∙◌, subst, append_assoc, arith}
 use Rattle.std.proofs.lemmas.Bool.{cases_eq}
 use Rattle.std.specs.Prelude.{Option, Some, None, Bool, true, false}
+use Rattle.std.specs.List.{AllByRecursion}
 use Rattle.std.proofs.lemmas.List.{append-nil, map-append}
 use Rattle.host_keep.specs.Keeping.{OptAdds}
 use Rattle.host_keep.specs.RecordText.{record_text}
+use Rattle.host_keep.specs.Rows.{IsRecord}
 use Rattle.host_keep.specs.declared.record.Record.{Record}
 use Rattle.zw_base.specs.Faults.{Rose, greatest_count}
 use Rattle.host_events.specs.State.{HostState}
 use Rattle.host_events.specs.Events.{HostEvent}
 use Rattle.host_events.specs.After.{after}
 use Rattle.host_events.specs.Outs.{outs}
-use Rattle.host_events.specs.Records.{records_at}
+use Rattle.host_events.specs.Records.{records_at, KeepsInRange}
 use Rattle.host_events.specs.May.{May}
 use Rattle.host_events.specs.Did.{after_all, outs_all, records_all, texts_of, MayAll, is_unkept, RoseIf, RoseAll, Shelf, Did}
 use Rattle.host_events.specs.declared.out.HostOut.{HostOut}
@@ -30,9 +32,18 @@ records_all-append h (e ∷ a) b = ap (λ (t : List Record). records_at h e ++ t
 
 pub may_all-append : (h : HostState) (a b : List HostEvent) → MayAll h a → MayAll (after_all h a) b → MayAll h (a ++ b)
 may_all-append h [] b first later = later
-may_all-append h (e ∷ a) b first later = (first.0, may_all-append (after h e) a b first.1 later)
+may_all-append h (e ∷ a) b first later = (first.0, may_all-append (after h e) a b first.1 later, first.2)
 
 -- ---- records
+
+-- each record of one list, and of another, is in range
+all_of_both : (a b : List Record) → AllByRecursion IsRecord a → AllByRecursion IsRecord b → AllByRecursion IsRecord (a ++ b)
+all_of_both [] b first later = later
+all_of_both (one ∷ a) b first later = (first.0, all_of_both a b first.1 later)
+
+pub all_in_range : (h : HostState) (events : List HostEvent) → MayAll h events → AllByRecursion IsRecord (records_all h events)
+all_in_range h [] may = tt
+all_in_range h (e ∷ events) may = all_of_both (records_at h e) (records_all (after h e) events) may.2 (all_in_range (after h e) events may.1)
 
 pub texts-append : (a b : List Record) → texts_of (a ++ b) ≡ texts_of a ++ texts_of b
 texts-append a b = map-append record_text a b
@@ -92,12 +103,12 @@ did_nothing old new before all shelf shelf' state outs records falls =
     record { may = tt; state = state; outs = outs ∙ sym (append-nil before); records = records; rose = tt; never_falls = falls }
 
 -- one event happened
-pub did_one : (e : HostEvent) (old new : HostState) (before all : List HostOut) (shelf shelf' : Shelf) → May old e → new ≡ after old e → all ≡ before ++ outs old e
+pub did_one : (e : HostEvent) (old new : HostState) (before all : List HostOut) (shelf shelf' : Shelf) → May old e → KeepsInRange old e → new ≡ after old e → all ≡ before ++ outs old e
     → OptAdds shelf.records shelf'.records (texts_of (records_at old e)) → RoseIf (is_unkept e) shelf.faults shelf'.faults → shelf.faults ≤ shelf'.faults
     → Did (e ∷ []) old new before all shelf shelf'
-did_one e old new before all shelf shelf' may state put records rose falls =
+did_one e old new before all shelf shelf' may range state put records rose falls =
     record {
-      may = (may, tt);
+      may = (may, tt, range);
       state = state;
       outs = put ∙ ap (λ (t : List HostOut). before ++ t) (sym (append-nil (outs old e)));
       records = subst (λ (t : List Record). OptAdds shelf.records shelf'.records (texts_of t)) (sym (append-nil (records_at old e))) records;

@@ -7,7 +7,7 @@ use Rattle.host_events.specs.State.{HostState}
 use Rattle.host_events.specs.Events.{HostEvent, Is_unkept, Interview_unkept, Begin_unkept}
 use Rattle.host_events.specs.After.{after}
 use Rattle.host_events.specs.Outs.{outs}
-use Rattle.host_events.specs.Records.{records_at}
+use Rattle.host_events.specs.Records.{records_at, KeepsInRange}
 use Rattle.host_events.specs.May.{May}
 use Rattle.host_events.specs.declared.out.HostOut.{HostOut}
 use Rattle.zw_base.specs.Faults.{Rose}
@@ -30,10 +30,10 @@ records_all h (event ∷ events) = records_at h event ++ records_all (after h ev
 abbrev pub texts_of : List Record → List (List ℕ)
 texts_of records = map record_text records
 
--- they may happen, one after another
+-- they may happen, one after another, and their records are in range
 abbrev pub MayAll : HostState → List HostEvent → Type 0
 MayAll h [] = Unit {0}
-MayAll h (event ∷ events) = May h event × MayAll (after h event) events
+MayAll h (event ∷ events) = May h event × MayAll (after h event) events × KeepsInRange h event
 
 -- something was not done, since its record was not kept
 abbrev pub is_unkept : HostEvent → Bool

@@ -1,6 +1,8 @@
 -- The records that a host has kept of each event (this project's own rule).
 use Rattle.std.specs.Prelude.{ℕ, ◌+◌, ◌==◌, if◌then◌else◌, List, [], ◌∷◌, length}
+use Rattle.std.specs.List.{AllByRecursion}
 use Rattle.s0_session.specs.Nonces.{given_of, new_nonce}
+use Rattle.host_keep.specs.Rows.{IsRecord}
 use Rattle.host_keep.specs.declared.record.Record.{Record}
 use Rattle.host_keep.specs.declared.record.Record.TheVariants as record_of
 use Rattle.host_events.specs.State.{HostState, node_of}
@@ -23,3 +25,7 @@ records_at h (Spends_unread n payload) = record_of.Spent n ∷ []
 records_at h (Takes_nonce n seen text) = seen_records h n seen
 records_at h (Begins n session command) = record_of.Begun n session command ∷ []
 records_at h _ = []
+
+-- the numbers of its records are in range, so that they can be written
+abbrev pub KeepsInRange : HostState → HostEvent → Type 0
+KeepsInRange h event = AllByRecursion IsRecord (records_at h event)

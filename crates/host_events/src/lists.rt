@@ -1,30 +1,33 @@
 //! Events of one list after another, and bytes after others.
 
 ghost use Rattle.std.specs.Prelude.{◌≡◌, ℕ, ◌≤◌, List, [], ◌∷◌, ◌++◌};
+ghost use Rattle.std.specs.List.{AllByRecursion};
 ghost use Rattle.serial_frame.specs.Stream.{Feeds, GoesOn, IsRest, piece_of};
 ghost use Rattle.serial_frame.specs.declared.item.Item.{Item};
 ghost use Rattle.host_keep.specs.Keeping.{OptAdds};
+ghost use Rattle.host_keep.specs.Rows.{IsRecord};
 ghost use Rattle.host_events.specs.State.{HostState, HostParts};
 ghost use Rattle.host_events.specs.Events.{HostEvent};
 ghost use Rattle.host_events.specs.After.{after};
 ghost use Rattle.host_events.specs.Outs.{outs};
-ghost use Rattle.host_events.specs.Records.{records_at};
+ghost use Rattle.host_events.specs.Records.{records_at, KeepsInRange};
 ghost use Rattle.host_events.specs.May.{May};
 ghost use Rattle.host_events.specs.Did.{after_all, outs_all, records_all, texts_of, MayAll, is_unkept, RoseIf, Shelf, Did};
 ghost use Rattle.host_events.specs.Taking.{IsJudged, AreJudged, Fed, FedFront};
 ghost use Rattle.host_events.specs.declared.out.HostOut.{HostOut};
 
-/// What two lists of events do, one after the other, is what both together do.
+/// What two lists of events do, one after the other, is what both together do. All that they keep is in range.
 pub fn lists_go_on()
     ensures state { (h : HostState) (a b : List HostEvent) → after_all h (a ++ b) ≡ after_all (after_all h a) b }
     ensures outs { (h : HostState) (a b : List HostEvent) → outs_all h (a ++ b) ≡ outs_all h a ++ outs_all (after_all h a) b }
     ensures records { (h : HostState) (a b : List HostEvent) → records_all h (a ++ b) ≡ records_all h a ++ records_all (after_all h a) b }
     ensures may { (h : HostState) (a b : List HostEvent) → MayAll h a → MayAll (after_all h a) b → MayAll h (a ++ b) }
+    ensures in_range { (h : HostState) (events : List HostEvent) → MayAll h events → AllByRecursion IsRecord (records_all h events) }
     ensures nothing { (old new : HostState) (before all : List HostOut) (shelf shelf' : Shelf) →
         new ≡ old → all ≡ before → OptAdds shelf.records shelf'.records [] → shelf.faults ≤ shelf'.faults →
         Did [] old new before all shelf shelf' }
     ensures one { (event : HostEvent) (old new : HostState) (before all : List HostOut) (shelf shelf' : Shelf) →
-        May old event → new ≡ after old event → all ≡ before ++ outs old event →
+        May old event → KeepsInRange old event → new ≡ after old event → all ≡ before ++ outs old event →
         OptAdds shelf.records shelf'.records (texts_of (records_at old event)) → RoseIf (is_unkept event) shelf.faults shelf'.faults →
         shelf.faults ≤ shelf'.faults → Did (event ∷ []) old new before all shelf shelf' }
     ensures both { (a b : List HostEvent) (old mid new : HostState) (before some all : List HostOut) (first mid_shelf last : Shelf) →

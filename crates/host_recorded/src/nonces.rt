@@ -4,12 +4,13 @@ ghost use Rattle.std.specs.Prelude.{◌≡◌, ◌++◌, ◌+◌, ◌^◌, ◌<�
 ghost use Rattle.zw_base.specs.Faults.{Rose};
 ghost use Rattle.s0_session.specs.Nonces.{given_of, new_nonce};
 ghost use Rattle.host_keep.specs.Keeping.{OptAdds, Kept};
+ghost use Rattle.host_keep.specs.Rows.{IsRecord};
 ghost use Rattle.host_keep.specs.RecordText.{record_text};
 ghost use Rattle.host_keep.specs.declared.record.Record.TheVariants.{Given as the_given};
 ghost use Rattle.host_events.specs.Events.{Gives, Takes_nonce, Is_unkept};
 ghost use Rattle.host_events.specs.After.{after};
 ghost use Rattle.host_events.specs.Outs.{outs};
-ghost use Rattle.host_events.specs.Records.{records_at};
+ghost use Rattle.host_events.specs.Records.{records_at, KeepsInRange};
 ghost use Rattle.host_events.specs.Did.{texts_of};
 ghost use Rattle.host_events.specs.May.{May};
 ghost use Rattle.host_recorded.specs.Choices.{chosen};
@@ -32,6 +33,7 @@ pub fn give<P: Keeper>(
 ) -> Result<bool, NoMemory>
     requires { May core.old.state (Gives node drawn) }
     ensures kept { IfOk result (λ is_kept. Kept is_kept (record_text (the_given node (given_of core.old.state.nonces node + 1) (new_nonce (given_of core.old.state.nonces node) drawn))) (P.records keeper.old) (P.records keeper.new) (P.faults keeper.old) (P.faults keeper.new)) }
+    ensures in_range { OnOk result (IsRecord (the_given node (given_of core.old.state.nonces node + 1) (new_nonce (given_of core.old.state.nonces node) drawn))) }
     ensures state { IfOk result (λ is_kept. core.new ≡ record core.old { state = after core.old.state (chosen is_kept (Gives node drawn) (Is_unkept node)) }) }
     ensures outs { IfOk result (λ is_kept. out.new.items ≡ out.old.items ++ outs core.old.state (chosen is_kept (Gives node drawn) (Is_unkept node))) }
     ensures err { OnErr result ((core.new ≡ core.old) × (out.new.items ≡ out.old.items)) }
@@ -110,6 +112,7 @@ pub fn take_nonce<P: Keeper>(
     requires { May core.old.state (Takes_nonce node seen text) }
     ensures records { IfOk result (λ is_kept. OptAdds (P.records keeper.old) (P.records keeper.new) (texts_of (records_at core.old.state (chosen is_kept (Takes_nonce node seen text) (Is_unkept node))))) }
     ensures rose { IfOk result (λ is_kept. is_kept ≡ false → Rose (P.faults keeper.old) (P.faults keeper.new)) }
+    ensures in_range { IfOk result (λ is_kept. KeepsInRange core.old.state (chosen is_kept (Takes_nonce node seen text) (Is_unkept node))) }
     ensures state { IfOk result (λ is_kept. core.new ≡ record core.old { state = after core.old.state (chosen is_kept (Takes_nonce node seen text) (Is_unkept node)) }) }
     ensures outs { IfOk result (λ is_kept. out.new.items ≡ out.old.items ++ outs core.old.state (chosen is_kept (Takes_nonce node seen text) (Is_unkept node))) }
     ensures err { OnErr result ((core.new ≡ core.old) × (out.new.items ≡ out.old.items)) }

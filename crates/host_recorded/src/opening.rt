@@ -1,9 +1,10 @@
 //! Security messages, which are opened with the nonce that they name.
 
-ghost use Rattle.std.specs.Prelude.{◌≡◌, ◌++◌, ◌≤◌, [], ℕ, List as Items, Some, true, length, IfOk, OnErr};
+ghost use Rattle.std.specs.Prelude.{◌≡◌, ◌++◌, ◌≤◌, [], ℕ, List as Items, Some, true, length, IfOk, OnOk, OnErr};
 ghost use Rattle.encap.specs.Opening.{begins_with};
 ghost use Rattle.s0_session.specs.Nonces.{live_of};
 ghost use Rattle.host_keep.specs.Keeping.{OptAdds, Kept};
+ghost use Rattle.host_keep.specs.Rows.{IsRecord};
 ghost use Rattle.host_keep.specs.RecordText.{record_text};
 ghost use Rattle.host_keep.specs.declared.record.Record.TheVariants.{Spent as the_spent};
 ghost use Rattle.host_events.specs.After.{after};
@@ -47,6 +48,7 @@ pub fn open<P: Keeper>(
     requires short { length payload.now ≤ 65534 }
     ensures opens { IfOk result (λ opened. OpensBy core.old.state node nonce payload.now opened) }
     ensures kept { IfOk result (λ opened. Kept (is_kept opened) (record_text (the_spent node)) (P.records keeper.old) (P.records keeper.new) (P.faults keeper.old) (P.faults keeper.new)) }
+    ensures in_range { OnOk result (IsRecord (the_spent node)) }
     ensures state { IfOk result (λ opened. core.new ≡ record core.old { state = after core.old.state (opening node payload.now opened) }) }
     ensures outs { IfOk result (λ opened. out.new.items ≡ out.old.items ++ outs core.old.state (opening node payload.now opened)) }
     ensures err { OnErr result ((core.new ≡ core.old) × (out.new.items ≡ out.old.items)) }

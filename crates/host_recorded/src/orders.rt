@@ -2,6 +2,7 @@
 
 ghost use Rattle.std.specs.Prelude.{◌≡◌, ◌++◌, ◌≤◌, [], IfOk, OnOk, OnErr};
 ghost use Rattle.host_keep.specs.Keeping.{OptAdds, Kept};
+ghost use Rattle.host_keep.specs.Rows.{IsRecord};
 ghost use Rattle.host_keep.specs.RecordText.{record_text};
 ghost use Rattle.host_keep.specs.declared.record.Record.TheVariants.{Cancelled as the_cancelled, Classes as the_classes, Joined as the_joined};
 ghost use Rattle.host_events.specs.Events.{Cancels, Interviews, Interview_unkept, Joins};
@@ -22,6 +23,7 @@ use zw_text::Entry;
 pub fn join<P: Keeper>(core: &mut Core, node: NodeId, keeper: &mut P) -> Result<bool, NoMemory>
     requires { May core.old.state (Joins node) }
     ensures kept { IfOk result (λ is_kept. Kept is_kept (record_text (the_joined node)) (P.records keeper.old) (P.records keeper.new) (P.faults keeper.old) (P.faults keeper.new)) }
+    ensures in_range { OnOk result (IsRecord (the_joined node)) }
     ensures state { IfOk result (λ is_kept. core.new ≡ record core.old { state = after_if is_kept core.old.state (Joins node) }) }
     ensures err { OnErr result (core.new ≡ core.old) }
     ensures no_record { OnErr result (OptAdds (P.records keeper.old) (P.records keeper.new) []) }
@@ -46,6 +48,7 @@ pub fn cancel<P: Keeper>(
     requires node { node ≡ node_for core.old.state command }
     requires may { May core.old.state (Cancels command) }
     ensures kept { IfOk result (λ is_kept. Kept is_kept (record_text (the_cancelled command)) (P.records keeper.old) (P.records keeper.new) (P.faults keeper.old) (P.faults keeper.new)) }
+    ensures in_range { OnOk result (IsRecord (the_cancelled command)) }
     ensures state { IfOk result (λ is_kept. core.new ≡ record core.old { state = after_if is_kept core.old.state (Cancels command) }) }
     ensures err { OnErr result (core.new ≡ core.old) }
     ensures no_record { OnErr result (OptAdds (P.records keeper.old) (P.records keeper.new) []) }
@@ -73,6 +76,7 @@ pub fn interviewed<P: Keeper>(
 ) -> Result<bool, NoMemory>
     requires { May core.old.state (Interviews node listens classes update) }
     ensures kept { IfOk result (λ is_kept. Kept is_kept (record_text (the_classes node listens classes)) (P.records keeper.old) (P.records keeper.new) (P.faults keeper.old) (P.faults keeper.new)) }
+    ensures in_range { OnOk result (IsRecord (the_classes node listens classes)) }
     ensures state { IfOk result (λ is_kept. core.new ≡ record core.old { state = after core.old.state (chosen is_kept (Interviews node listens classes update) (Interview_unkept node update)) }) }
     ensures outs { IfOk result (λ is_kept. out.new.items ≡ out.old.items ++ outs core.old.state (chosen is_kept (Interviews node listens classes update) (Interview_unkept node update))) }
     ensures err { OnErr result ((core.new ≡ core.old) × (out.new.items ≡ out.old.items)) }

@@ -1,7 +1,8 @@
 //! A report ends a session.
 
-ghost use Rattle.std.specs.Prelude.{◌≡◌, ◌++◌, ◌&&◌, ◌+◌, ◌≤◌, ◌<◌, [], length, IfOk, OnErr};
+ghost use Rattle.std.specs.Prelude.{◌≡◌, ◌++◌, ◌&&◌, ◌+◌, ◌≤◌, ◌<◌, [], length, IfOk, OnOk, OnErr};
 ghost use Rattle.host_keep.specs.Keeping.{OptAdds, Kept};
+ghost use Rattle.host_keep.specs.Rows.{IsRecord};
 ghost use Rattle.host_keep.specs.RecordText.{record_text};
 ghost use Rattle.host_keep.specs.declared.record.Record.TheVariants.{Final as the_final};
 ghost use Rattle.host_node.specs.State.{is_false};
@@ -40,6 +41,7 @@ pub fn finish<P: Keeper>(
     requires six_bits { id < 64 }
     requires may { May core.old.state (Finishes node session id command status wake_request) }
     ensures kept { IfOk result (λ is_kept. Kept is_kept (record_text (the_final node session status)) (P.records keeper.old) (P.records keeper.new) (P.faults keeper.old) (P.faults keeper.new)) }
+    ensures in_range { OnOk result (IsRecord (the_final node session status)) }
     ensures state { IfOk result (λ is_kept. core.new ≡ record core.old { state = after core.old.state (chosen is_kept (Finishes node session id command status wake_request) (Is_unkept node)) }) }
     ensures outs { IfOk result (λ is_kept. out.new.items ≡ out.old.items ++ outs core.old.state (chosen is_kept (Finishes node session id command status wake_request) (Is_unkept node))) }
     ensures err { OnErr result ((core.new ≡ core.old) × (out.new.items ≡ out.old.items)) }

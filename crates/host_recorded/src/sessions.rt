@@ -1,7 +1,8 @@
 //! A session begins.
 
-ghost use Rattle.std.specs.Prelude.{◌≡◌, ◌++◌, ◌≤◌, [], IfOk, OnErr};
+ghost use Rattle.std.specs.Prelude.{◌≡◌, ◌++◌, ◌≤◌, [], IfOk, OnOk, OnErr};
 ghost use Rattle.host_keep.specs.Keeping.{OptAdds, Kept};
+ghost use Rattle.host_keep.specs.Rows.{IsRecord};
 ghost use Rattle.host_keep.specs.RecordText.{record_text};
 ghost use Rattle.host_keep.specs.declared.record.Record.TheVariants.{Begun as the_begun};
 ghost use Rattle.host_events.specs.Events.{Begins, Begin_unkept};
@@ -28,6 +29,7 @@ pub fn begin<P: Keeper>(
 ) -> Result<bool, NoMemory>
     requires { May core.old.state (Begins node session command) }
     ensures kept { IfOk result (λ is_kept. Kept is_kept (record_text (the_begun node session command)) (P.records keeper.old) (P.records keeper.new) (P.faults keeper.old) (P.faults keeper.new)) }
+    ensures in_range { OnOk result (IsRecord (the_begun node session command)) }
     ensures state { IfOk result (λ is_kept. core.new ≡ record core.old { state = after core.old.state (chosen is_kept (Begins node session command) (Begin_unkept node)) }) }
     ensures outs { IfOk result (λ is_kept. out.new.items ≡ out.old.items ++ outs core.old.state (chosen is_kept (Begins node session command) (Begin_unkept node))) }
     ensures err { OnErr result ((core.new ≡ core.old) × (out.new.items ≡ out.old.items)) }

@@ -15,7 +15,7 @@ use Rattle.host_events.specs.declared.out.HostOut.{HostOut}
 use Rattle.host_records.specs.Opening.{opened}
 use Rattle.host_facts.specs.Entries.{entries_all}
 use Rattle.host_facts.specs.Facts.{Facts}
-use Rattle.world_facts.specs.Restarts.{HostsKeepWell}
+use Rattle.host_records.specs.Recording.{AllOfJoined}
 use Rattle.port_run.specs.declared.ending.Served.{Served}
 use Rattle.port_run.specs.declared.ending.Served.TheVariants.{Ok, Undone, BadLine, Opening, ReadFault, WriteFault, InputTooLong, NoMemory}
 use Rattle.port_run.specs.Schedule.{is_quiet}
@@ -80,7 +80,7 @@ module _ (records_so : (keys : Keys) (number : ℕ) (told : Option (List (List �
       (subst (λ (h : HostState). MayAll h story.events) (may_first keys number old.shelf.records new.shelf.records story l) l.may)
 
   pub story_leaves : (ended : Status) (key : List ℕ) (number : ℕ) (texts : List (List ℕ)) (old new : Desk) (story : Story) (lives : List (List HostEvent))
-      → Tells ended key number texts old new story → GoesOn (keys_of key) number old.shelf.records lives → (many : ℕ) → IsSome new.shelf.records → HostsKeepWell (first key story) story.events
+      → Tells ended key number texts old new story → GoesOn (keys_of key) number old.shelf.records lives → (many : ℕ) → IsSome new.shelf.records → AllOfJoined (first key story) story.events
       → GoesOn (keys_of key) many new.shelf.records (lives ++ story.events ∷ [])
   story_leaves ended key number texts old new story lives tells on many some well =
       let keys = keys_of key in
@@ -90,4 +90,4 @@ module _ (records_so : (keys : Keys) (number : ℕ) (told : Option (List (List �
       = may_first keys number old.shelf.records new.shelf.records story l ∙ ap (λ (r : List Record). opened keys r) back in
       leaves_life keys number many old.shelf.records l.told new.shelf.records lives story.events on l.still
       (subst (λ (h : HostState). OptAdds l.told new.shelf.records (texts_of (records_all h story.events))) here l.adds) some
-      (subst (λ (h : HostState). MayAll h story.events) here l.may) (subst (λ (r : List Record). HostsKeepWell (opened keys r) story.events) back well)
+      (subst (λ (h : HostState). MayAll h story.events) here l.may) (subst (λ (r : List Record). AllOfJoined (opened keys r) story.events) back well)

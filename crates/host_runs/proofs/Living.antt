@@ -15,6 +15,7 @@ use Rattle.host_events.specs.Events.{HostEvent}
 use Rattle.host_events.specs.After.{after}
 use Rattle.host_events.specs.Records.{records_at}
 use Rattle.host_events.specs.Did.{MayAll, records_all, texts_of}
+use Rattle.host_events.proofs.Doing.{all_in_range}
 use Rattle.host_core.specs.Opening.{Opens, AreTold}
 use Rattle.host_records.specs.Holding.{Holds, HoldsAlone}
 use Rattle.host_records.specs.Opening.{opened}
@@ -22,7 +23,7 @@ use Rattle.host_records.specs.Recording.{AllOfJoined}
 use Rattle.host_facts.specs.Facts.{Facts}
 use Rattle.host_facts.specs.Lives.{AreLives, with_records, entries_of_lives, last_of_lives}
 use Rattle.host_facts.proofs.Living.{nothing_kept, nothing_legal}
-use Rattle.world_facts.specs.Restarts.{HostsKeepWell}
+use Rattle.world_facts.proofs.Recording.{texts_of_range, texts_both}
 use Rattle.host_runs.specs.Lives.{records_from, records_of, entries_of, AreLivesOf, HasRecords, GoesOn}
 
 -- ---- lives from records on
@@ -47,28 +48,6 @@ more_records keys h records (first ∷ more) events = more_records keys (opened 
 
 -- ---- texts of records
 
-texts_of_range : (records : List Record) → AllByRecursion IsRecord records → AreTextsOf records (texts_of records)
-texts_of_range [] all = tt
-texts_of_range (one ∷ records) all = (record { in_range = all.0; text = refl }, texts_of_range records all.1)
-
-texts_both : (a b : List Record) (s t : List (List ℕ)) → AreTextsOf a s → AreTextsOf b t → AreTextsOf (a ++ b) (s ++ t)
-texts_both [] b [] t first later = later
-texts_both [] b (x ∷ s) t first later = absurd first
-texts_both (one ∷ a) b [] t first later = absurd first
-texts_both (one ∷ a) b (x ∷ s) t first later = (first.0, texts_both a b s t first.1 later)
-
-all_both : (a b : List Record) → AllByRecursion IsRecord a → AllByRecursion IsRecord b → AllByRecursion IsRecord (a ++ b)
-all_both [] b first later = later
-all_both (one ∷ a) b first later = (first.0, all_both a b first.1 later)
-
-in_range : (h : HostState) (events : List HostEvent) → HostsKeepWell h events → AllByRecursion IsRecord (records_all h events)
-in_range h [] well = tt
-in_range h (event ∷ events) well = all_both (records_at h event) (records_all (after h event) events) well.0.in_range (in_range (after h event) events well.1)
-
-of_joined : (h : HostState) (events : List HostEvent) → HostsKeepWell h events → AllOfJoined h events
-of_joined h [] well = tt
-of_joined h (event ∷ events) well = (well.0.of_joined, of_joined (after h event) events well.1)
-
 -- what the keeper told, once nothing was added and then these records were
 told_more : (before told later : Option (List (List ℕ))) (kept more : List Record) (number many : ℕ) → HasRecords number before kept → OptAdds before told [] → OptAdds told later (texts_of more)
     → IsSome later → AreTextsOf more (texts_of more) → HasRecords many later (kept ++ more)
@@ -83,16 +62,16 @@ told_more (Some before) told later kept more number many has still adds some tex
 -- a run that did these events from the records of lives on leaves those of one life more
 pub leaves_life : (keys : Keys) (number many : ℕ) (before told later : Option (List (List ℕ))) (lives : List (List HostEvent)) (events : List HostEvent) → GoesOn keys number before lives
     → OptAdds before told [] → OptAdds told later (texts_of (records_all (opened keys (records_of keys lives)) events)) → IsSome later → MayAll (opened keys (records_of keys lives)) events
-    → HostsKeepWell (opened keys (records_of keys lives)) events → GoesOn keys many later (lives ++ events ∷ [])
+    → AllOfJoined (opened keys (records_of keys lives)) events → GoesOn keys many later (lives ++ events ∷ [])
 leaves_life keys number many before told later lives events on still adds some may well =
     let here = opened keys (records_of keys lives) in
     let last : last_of_lives keys (opened keys []) [] lives ≡ here = last_opened keys [] lives in
     record {
       are = one_more keys (opened keys []) [] lives events on.are (subst (λ (h : HostState). MayAll h events) (sym last) may)
-          (subst (λ (h : HostState). AllOfJoined h events) (sym last) (of_joined here events well));
+          (subst (λ (h : HostState). AllOfJoined h events) (sym last) well);
       kept = subst (λ (l : List Record). HasRecords many later l)
           (ap (λ (h : HostState). records_of keys lives ++ records_all h events) (sym last) ∙ sym (more_records keys (opened keys []) [] lives events))
-          (told_more before told later (records_of keys lives) (records_all here events) number many on.kept still adds some (texts_of_range (records_all here events) (in_range here events well)));
+          (told_more before told later (records_of keys lives) (records_all here events) number many on.kept still adds some (texts_of_range (records_all here events) (all_in_range here events may)));
     }
 
 -- ---- records

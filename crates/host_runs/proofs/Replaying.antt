@@ -91,7 +91,7 @@ module _ (each : (past : List Entry) (h : HostState) (event : HostEvent) → Fac
   event_keeps : (past : List Entry) (m : Lone) (event : Event) → Facts past m.host.state → May m event → IsQuiet event → Facts (past ++ entries m event) (happens m event).host.state
   unfolding happens entries May
   event_keeps past m (Does_itself events) facts may quiet = silent_keeps each aside past m.host.state events facts may quiet
-  event_keeps past m (Does_asked event) facts may quiet = behind_keeps each aside past (entries m (Does_asked event)) m.host.state event facts may (asked_behind m.host.state event)
+  event_keeps past m (Does_asked event) facts may quiet = behind_keeps each aside past (entries m (Does_asked event)) m.host.state event facts may.0 (asked_behind m.host.state event)
   event_keeps past m (Takes bytes rest items events) facts may quiet =
       silent_keeps each aside past m.host.state events facts may.may (judged_silent m.host.state items events may.judged)
   event_keeps past m (Ticks events) facts may quiet = timed_keeps each aside past m.host.state _ events facts may quiet

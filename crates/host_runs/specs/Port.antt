@@ -27,7 +27,7 @@ use Rattle.port_run.specs.Steps.{Place, Step}
 use Rattle.port_run.specs.Schedule.{Telling, is_quiet}
 use Rattle.port_run.specs.Serving.{Halts}
 use Rattle.port_run.specs.Ending.{Desk, Started, start_of, RanAll, RanSome, HostRan, IsUntouched, status_of}
-use Rattle.world_facts.specs.Restarts.{HostsKeepWell}
+use Rattle.host_records.specs.Recording.{AllOfJoined}
 use Rattle.host_runs.specs.Lives.{GoesOn, entries_of}
 
 -- ---- stories
@@ -138,12 +138,12 @@ DoneIsSuccess key number texts old new =
     (story : Story) (lives : List (List HostEvent)) (told : ToldAll Ok is_quiet (keys_of key) number texts old new story) → GoesOn (keys_of key) number old.shelf.records lives
     → AllByRecursion (IsBorneOut (transcript key lives story)) told.0.answers
 
--- A run that starts where this one ended goes on from one life more: where the keeper tells its records, their numbers are in range, and an
--- interview that ends well is of a node that is joined.
+-- A run that starts where this one ended goes on from one life more, where the keeper tells its records and each interview that ended well was of a
+-- node that is joined.
 abbrev pub LeavesALife : Status → List ℕ → ℕ → List (List ℕ) → Desk → Desk → Type 0
 LeavesALife ended key number texts old new =
     Always ended key number texts old new
-    (λ lives story. (many : ℕ) → IsSome new.shelf.records → HostsKeepWell (first key story) story.events → GoesOn (keys_of key) many new.shelf.records (lives ++ story.events ∷ []))
+    (λ lives story. (many : ℕ) → IsSome new.shelf.records → AllOfJoined (first key story) story.events → GoesOn (keys_of key) many new.shelf.records (lives ++ story.events ∷ []))
 
 -- What holds of every run of `host`, at every status.
 pub record PortKeepsLaws (ended : Status) (key : List ℕ) (number : ℕ) (texts : List (List ℕ)) (old new : Desk) : Type 0 where

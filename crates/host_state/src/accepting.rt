@@ -4,6 +4,7 @@ ghost use Rattle.std.specs.Prelude.{◌≡◌, ◌≢◌, ◌⊎◌, ◌+◌, �
 ghost use Rattle.zw_base.specs.Faults.{Rose};
 ghost use Rattle.value_store.specs.Values.{count_with, missing_of, releasing, reserving};
 ghost use Rattle.host_keep.specs.Keeping.{OptAdds};
+ghost use Rattle.host_keep.specs.Rows.{IsRecord};
 ghost use Rattle.host_keep.specs.RecordText.{record_text};
 ghost use Rattle.host_keep.specs.declared.record.Record.TheVariants.{Accepted as the_accepted};
 ghost use Rattle.host_node.specs.Events.NodeEvent.{Puts, Takes_back};
@@ -36,6 +37,7 @@ impl Core {
         ensures number { IfOk result (λ number. number ≡ length self.old.state.commands + 1) }
         ensures judges { Judges result (refusal_for self.old.state order.now) }
         ensures kept { OnOk result (OptAdds (P.records keeper.old) (P.records keeper.new) (record_text (the_accepted (length self.old.state.commands + 1) order.now) ∷ [])) }
+        ensures in_range { OnOk result (IsRecord (the_accepted (length self.old.state.commands + 1) order.now)) }
         ensures state { OnOk result (self.new ≡ record self.old { state = after self.old.state (Accepts order.now (carriage_for self.old.state order.now)) }) }
         ensures failed { result ≡ Err Refused.KeeperFault → Rose (P.faults keeper.old) (P.faults keeper.new) }
         ensures err { OnErr result (self.new ≡ self.old) }
@@ -77,6 +79,7 @@ impl Core {
         ensures number { IfOk result (λ accepted. accepted ≡ number) }
         ensures judges { Judges result (refusal_for self.old.state order.now) }
         ensures kept { OnOk result (OptAdds (P.records keeper.old) (P.records keeper.new) (record_text (the_accepted number order.now) ∷ [])) }
+        ensures in_range { OnOk result (IsRecord (the_accepted number order.now)) }
         ensures state { OnOk result (self.new ≡ record self.old { state = after self.old.state (Accepts order.now (carriage_for self.old.state order.now)) }) }
         ensures failed { result ≡ Err Refused.KeeperFault → Rose (P.faults keeper.old) (P.faults keeper.new) }
         ensures err { OnErr result (self.new ≡ self.old) }
@@ -192,6 +195,7 @@ fn keep_accepted<P: Keeper>(
     keeper: &mut P,
 ) -> Result<(), Refused>
     ensures kept { OnOk result (OptAdds (P.records keeper.old) (P.records keeper.new) (record_text (the_accepted number order.now) ∷ [])) }
+    ensures in_range { OnOk result (IsRecord (the_accepted number order.now)) }
     ensures faults { IfErr result (λ refused. (refused ≡ Refused.KeeperFault) ⊎ (refused ≡ Refused.NoMemory)) }
     ensures failed { result ≡ Err Refused.KeeperFault → Rose (P.faults keeper.old) (P.faults keeper.new) }
     ensures no_record { OnErr result (OptAdds (P.records keeper.old) (P.records keeper.new) []) }

@@ -152,7 +152,7 @@ module _ (starts : StartsShort) (segments : SegmentsShort) (kept : FactsKept) (o
   pub event_writes : (m : Machine) (event : Event) → IsFit m.host.state → May m event → AsksWell m event → WritesWell m event × IsFit (happens m event).host.state
   unfolding happens May
   event_writes m (Outside_does event) fit may asks = (tt, fit)
-  event_writes m (Host_does event) fit may asks = (hosts_units m.host.state (event ∷ []) fit (may, tt) (asks, tt), host_fit m.host.state event fit may asks)
+  event_writes m (Host_does event) fit may asks = (hosts_units m.host.state (event ∷ []) fit may (asks, tt), host_fit m.host.state event fit may.0 asks)
   event_writes m (Host_takes count rest items events) fit may asks = (hosts_units m.host.state events fit may.may asks, hosts_fit m.host.state events fit may.may asks)
   event_writes m Decoder_ticks fit may asks = (tt, fit)
   event_writes m (Refuses line refusal) fit may asks = (tt, fit)

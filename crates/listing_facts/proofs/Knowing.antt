@@ -8,10 +8,11 @@ use Rattle.host_events.specs.Events.{HostEvent, Interviews}
 use Rattle.host_events.specs.After.{after}
 use Rattle.host_events.specs.Facts.{HostFacts}
 use Rattle.host_facts.specs.Facts.{Facts}
+use Rattle.host_records.specs.Recording.{IsOfJoined, AllOfJoined}
 use Rattle.zw_machine.specs.State.{Machine}
 use Rattle.zw_machine.specs.Events.{Event, Outside_does, Host_does, Host_takes, Decoder_ticks, Refuses, Shows_values, Restarts, happens, entries, May}
 use Rattle.zw_machine.specs.Did.{MayAll}
-use Rattle.world_facts.specs.Restarts.{StartsWell, HostKeepsWell, HostsKeepWell, KeepsWell, AllKeepWell, AreHeld, IsHeld}
+use Rattle.world_facts.specs.Restarts.{StartsWell, KeepsWell, AllKeepWell, AreHeld, IsHeld}
 use Rattle.run_facts.specs.Lines.{IsAsked, AsksWell, AllAsked}
 use Rattle.said_facts.specs.Said.{TellsListing, TellListing, KnowsAgain, Tells, AllTell}
 use Rattle.listing_facts.specs.Lines.{HearsList, HearLists}
@@ -22,11 +23,11 @@ asked_tells : (listing : ℕ → List ℕ) (h : HostState) (event : HostEvent) �
 asked_tells listing h (Interviews n listens classes update) asked = absurd asked
 asked_tells listing h _ asked = tt
 
-heard_tells : (listing : ℕ → List ℕ) (h : HostState) (event : HostEvent) → HostKeepsWell h event → HearsList listing event → TellsListing listing h event
-heard_tells listing h (Interviews n listens classes update) well hears = record { joined = well.of_joined; lists = hears }
+heard_tells : (listing : ℕ → List ℕ) (h : HostState) (event : HostEvent) → IsOfJoined h event → HearsList listing event → TellsListing listing h event
+heard_tells listing h (Interviews n listens classes update) well hears = record { joined = well; lists = hears }
 heard_tells listing h _ well hears = tt
 
-all_heard_tell : (listing : ℕ → List ℕ) (h : HostState) (events : List HostEvent) → HostsKeepWell h events → AllByRecursion (HearsList listing) events → TellListing listing h events
+all_heard_tell : (listing : ℕ → List ℕ) (h : HostState) (events : List HostEvent) → AllOfJoined h events → AllByRecursion (HearsList listing) events → TellListing listing h events
 all_heard_tell listing h [] well hears = tt
 all_heard_tell listing h (event ∷ events) well hears = (heard_tells listing h event well.0 hears.0, all_heard_tell listing (after h event) events well.1 hears.1)
 

@@ -11,7 +11,6 @@ ghost use Rattle.zw_machine.specs.Events.{Event};
 ghost use Rattle.zw_machine.specs.Did.{happens_all, MayAll};
 ghost use Rattle.line_facts.specs.Line.{AreLines};
 ghost use Rattle.run_facts.specs.Lines.{IsRead};
-ghost use Rattle.run_facts.specs.Premises.{AreFew};
 ghost use Rattle.said_facts.specs.Spoken.{Spoken, AreSpoken, after_all};
 ghost use Rattle.said_facts.specs.Said.{AllTell, LinesTell};
 ghost use Rattle.listing_facts.specs.Lines.{HearLists, AreDone};
@@ -23,15 +22,13 @@ use said_facts::interviews_give_what_is_known;
 use world_facts::{restarts_go_on, the_machine_keeps_facts};
 
 /// In every run of lines that were read, over a keeper that tells its records and has none at first: an interview that ends well hears what the first
-/// device of its node lists. It is of a node that is joined, and a host that starts again knows what the one before knew, where the keeper holds
-/// fewer than 2 ^ 32 records in the end.
+/// device of its node lists. It is of a node that is joined, and a host that starts again knows what the one before knew.
 pub fn interviews_tell_what_nodes_list()
     ensures heard { (keys : Keys) (devices : List State) (lines : List Line) (events : List Event) → AllByRecursion IsRead lines →
         AreLines lines (first_machine keys (Some []) devices) events → MayAll (first_machine keys (Some []) devices) events →
         AllByRecursion (HearLists (listing_of devices)) events }
     ensures tell { (keys : Keys) (devices : List State) (lines : List Line) (events : List Event) → AllByRecursion IsRead lines →
         AreLines lines (first_machine keys (Some []) devices) events → MayAll (first_machine keys (Some []) devices) events →
-        AreFew (happens_all (first_machine keys (Some []) devices) events).records →
         AllTell (listing_of devices) (first_machine keys (Some []) devices) events }
 {
     devices_go_on();
@@ -50,9 +47,9 @@ pub fn interviews_tell_what_nodes_list()
 /// headline of runs premises of interviews holds of the lists of the devices.
 pub fn lines_tell_what_nodes_list()
     ensures spoken { (keys : Keys) (devices : List State) (lines : List Spoken) → AreDone (first_machine keys (Some []) devices) lines →
-        AreFew (after_all (first_machine keys (Some []) devices) lines).records → AreSpoken (first_machine keys (Some []) devices) lines }
+        AreSpoken (first_machine keys (Some []) devices) lines }
     ensures tell { (keys : Keys) (devices : List State) (lines : List Spoken) → AreDone (first_machine keys (Some []) devices) lines →
-        AreFew (after_all (first_machine keys (Some []) devices) lines).records → LinesTell (listing_of devices) (first_machine keys (Some []) devices) lines }
+        LinesTell (listing_of devices) (first_machine keys (Some []) devices) lines }
 {
     the_machine_keeps_facts();
     restarts_go_on();

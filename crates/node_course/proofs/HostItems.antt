@@ -93,7 +93,7 @@ pub well_front : (h : HostState) (a b : List HostEvent) → AllWell h (a ++ b) �
 well_front h [] b is = (record { may = tt; units = tt }, is)
 well_front h (event ∷ a) b is =
     let later = well_front (after_host h event) a b (record { may = is.may.1; units = is.units.1 }) in
-    (record { may = (is.may.0, later.0.may); units = (is.units.0, later.0.units) }, later.1)
+    (record { may = (is.may.0, later.0.may, is.may.2); units = (is.units.0, later.0.units) }, later.1)
 
 pub told_same : (a b : HostBook) (id status : ℕ) → a.commands ≡ b.commands → a.outcome ≡ b.outcome → told_of a id status ≡ told_of b id status
 told_same a b id status commands outcomes =

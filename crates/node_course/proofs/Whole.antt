@@ -271,7 +271,7 @@ module _ (laws : Laws) (node : ℕ) (within : node < 233) where
       → EventStaysFew m event → KeepsWell m event → IsPlainly node event → EndsByHearing node event → WorldGoes node c (happens m event)
   unfolding happens May
   event_goes orders c up down m (Outside_does event) f held may rests well few keeps plain none = outside_goes orders c up down m event f may.0 may.1 rests few
-  event_goes orders c up down m (Host_does event) f held may rests well few keeps plain none = host_goes orders c up down m event f may plain none well
+  event_goes orders c up down m (Host_does event) f held may rests well few keeps plain none = host_goes orders c up down m event f may.0 plain none well
   event_goes orders c up down m (Host_takes count rest items events) f held may rests well few keeps plain none = takes_goes orders c up down m count rest items events f may well
   event_goes orders c up down m Decoder_ticks f held may rests well few keeps plain none = ticks_goes orders c up down m f rests
   event_goes orders c up down m (Refuses line refusal) f held may rests well few keeps plain none = enters_goes orders c up down m (Refused refusal) f

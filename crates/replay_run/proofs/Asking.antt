@@ -129,7 +129,7 @@ asked_ran : (e : HostEvent) (host host' : HostParts) (clock : ℕ) (r r' : Optio
     → Run (Does_asked e ∷ []) (at host clock r before f) (at host' clock r' all g)
 unfolding happens entries May
 asked_ran e host host' clock r r' before all f g did decoder entered =
-    ran_one (Does_asked e) _ _ before all f g did.may.0
+    ran_one (Does_asked e) _ _ before all f g did.may
     (ap (λ (d : Rest). record { host = record { decoder = d; state = host'.state }; clock = clock; records = r' }) decoder ∙ hosted_is (e ∷ []) host host'.state [] r r' f g clock did host.decoder clock)
     (entered ∙ ap (λ (l : List HostOut). before ++ (entries_of l ++ answers host.state e)) did.outs) did.rose.0 did.never_falls
 
@@ -142,7 +142,7 @@ event_stops (Ok value) e host host' clock r r' before all f g does same = tt
 event_stops (Err fault) e host host' clock r r' before all f g does same =
     let did : Did (e ∷ []) host.state host'.state [] [] (held r f) (held r' g) =
     subst (λ (l : List HostEvent). Did l host.state host'.state [] [] (held r f) (held r' g)) does.are does.did in
-    stopped_in (Does_asked e) _ _ before all f g did.may.0 (adds_is r r' (texts_of (records_all host.state (e ∷ []))) did.records)
+    stopped_in (Does_asked e) _ _ before all f g did.may (adds_is r r' (texts_of (records_all host.state (e ∷ []))) did.records)
     (none_entered before all (entries _ (Does_asked e)) same) did.never_falls
 
 -- a line is refused

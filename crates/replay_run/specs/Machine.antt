@@ -13,7 +13,6 @@ use Rattle.zw_text.specs.declared.entry.Entry.TheVariants.{Refused, Written, Tim
 use Rattle.zw_text.specs.declared.entry.Refusal.{Refusal}
 use Rattle.host_events.specs.State.{HostParts, first_host}
 use Rattle.host_events.specs.Events.{HostEvent}
-use Rattle.host_events.specs.May.{May as MayHost}
 use Rattle.host_events.specs.Taking.{AreJudged}
 use Rattle.host_events.specs.Did.{MayAll as MayAllHost, after_all, outs_all, records_all, texts_of, is_unkept as is_unkept_by_host, RoseIf}
 use Rattle.host_events.specs.declared.out.HostOut.{HostOut}
@@ -110,7 +109,7 @@ pub record MayTake (m : Lone) (bytes : List ℕ) (rest : Rest) (items : List Ite
 -- when it may happen
 unfoldable pub May : Lone → Event → Type 0
 May m (Does_itself events) = MayAllHost m.host.state events
-May m (Does_asked event) = MayHost m.host.state event
+May m (Does_asked event) = MayAllHost m.host.state (event ∷ [])
 May m (Takes bytes rest items events) = MayTake m bytes rest items events
 May m (Ticks events) = MayAllHost m.host.state events
 May m (Refuses line refusal) = IsRefused (alone m) line refusal

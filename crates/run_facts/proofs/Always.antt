@@ -1,21 +1,19 @@
--- What an event of the host needs for its records, and lists of events that the chip's bytes bring.
+-- What an event of the host is asked, and lists of events that the chip's bytes bring.
 use Rattle.std.proofs.Common.{◌≡◌, List, [], ◌∷◌, sym, subst, inl, inr}
 use Rattle.std.specs.List.{AllByRecursion}
-use Rattle.host_keep.specs.Rows.{IsNode}
 use Rattle.host_events.specs.State.{HostState}
 use Rattle.host_events.specs.Events.{HostEvent, Accepts, Joins, Queues, Queues_interview, Requests_do, Interviews, Finishes, Gives, Spends, Spends_unread, Takes_nonce}
 use Rattle.host_events.specs.Taking.{IsKeptOr}
 use Rattle.run_facts.specs.Lines.{IsAsked}
-use Rattle.run_facts.specs.Premises.{HearsBytes}
 
--- what it is asked is in range, and so is the node that the chip's bytes name
+-- What it is asked is in order. Of what the chip's bytes bring nothing is asked.
 abbrev pub IsInOrder : HostState → HostEvent → Type 0
-IsInOrder h (Interviews n listens classes update) = IsNode n
-IsInOrder h (Finishes n session id command status wake_request) = IsNode n
-IsInOrder h (Gives n drawn) = IsNode n
-IsInOrder h (Spends n) = IsNode n
-IsInOrder h (Spends_unread n payload) = IsNode n
-IsInOrder h (Takes_nonce n seen text) = IsNode n
+IsInOrder h (Interviews n listens classes update) = Unit {0}
+IsInOrder h (Finishes n session id command status wake_request) = Unit {0}
+IsInOrder h (Gives n drawn) = Unit {0}
+IsInOrder h (Spends n) = Unit {0}
+IsInOrder h (Spends_unread n payload) = Unit {0}
+IsInOrder h (Takes_nonce n seen text) = Unit {0}
 IsInOrder h event = IsAsked h event
 
 pub asked_in_order : (h : HostState) (event : HostEvent) → IsAsked h event → IsInOrder h event
@@ -31,11 +29,6 @@ asked_in_order h (Queues task) asked = asked
 asked_in_order h (Queues_interview n) asked = asked
 asked_in_order h (Requests_do event moment) asked = asked
 asked_in_order h _ asked = tt
-
--- it hears nothing of a node
-pub asked_hears : (h : HostState) (event : HostEvent) → IsAsked h event → HearsBytes event
-asked_hears h (Interviews n listens classes update) asked = absurd asked
-asked_hears h _ asked = tt
 
 -- in every state of the host
 abbrev pub AlwaysAsked : HostEvent → Type 0

@@ -3,11 +3,6 @@ pub mod Errands
 pub mod Always
 pub mod Schedules
 pub mod Heard
-pub mod Telling
-pub mod Ports
-pub mod Informing
-pub mod Hearing
-pub mod Kept
 pub mod Nodes
 pub mod Tasks
 pub mod Hosts

@@ -1,4 +1,4 @@
-//! The premises of the laws of whole runs.
+//! What the laws of whole runs premise, and that it holds.
 
 ghost use Rattle.std.specs.Prelude.{◌≡◌, ◌++◌, ℕ, Ok, Some, List, []};
 ghost use Rattle.std.specs.List.{AllByRecursion};
@@ -14,16 +14,6 @@ ghost use Rattle.world_facts.specs.Restarts.{AllKeepWell};
 ghost use Rattle.line_facts.specs.Host.{AllAskWell};
 ghost use Rattle.line_facts.specs.Line.{AreLines};
 ghost use Rattle.run_facts.specs.Lines.{IsRead, IsInRange, AllAsked};
-ghost use Rattle.run_facts.specs.Premises.{HearBytes, AreFew};
-
-use host_events::facts_are_kept;
-use host_facts::what_is_kept_starts_a_host;
-use host_keep::{a_text_is_of_one_record, records_go_on};
-use host_records::{
-    a_restart_keeps_what_is_held, events_do_what_their_records_do, records_of_events_are_legal,
-};
-use line_facts::{hosts_write_well, units_are_judged_whole};
-use world_facts::restarts_go_on;
 
 /// A line that is read from a text names numbers that are in range, and so in every schedule of it, whole or cut short: what the host is asked is in range, an
 /// interview is asked of a node that is joined, and a message of a user's own has at most 46 bytes.
@@ -34,41 +24,21 @@ pub fn lines_ask_well()
     ensures both { (m : Machine) (a b : List Event) → AllAsked m a → AllAsked (happens_all m a) b → AllAsked m (a ++ b) }
 {}
 
-/// So over a keeper that tells its records and has none at first, of events that are asked well. Payloads that are asked for and sealed texts have at
-/// most 46 bytes, and the keeper tells its records wherever the host starts again. Where interviews hear class lists of bytes, and the keeper holds
-/// fewer than 2 ^ 32 records in the end, the records are in range, and an interview that ends well is of a node that is joined.
+/// So over a keeper that tells its records and has none at first, of events that are asked well: an interview that ends well is of a node that is
+/// joined, the keeper tells its records wherever the host starts again, and payloads that are asked for and sealed texts have at most 46 bytes.
 pub fn runs_keep_and_ask_well()
-    ensures asks { (keys : Keys) (devices : List State) (events : List Event) →
+    ensures { (keys : Keys) (devices : List State) (events : List Event) →
         MayAll (first_machine keys (Some []) devices) events → AllAsked (first_machine keys (Some []) devices) events →
-        AllAskWell (first_machine keys (Some []) devices) events }
-    ensures keeps { (keys : Keys) (devices : List State) (events : List Event) →
-        MayAll (first_machine keys (Some []) devices) events → AllAsked (first_machine keys (Some []) devices) events →
-        AllByRecursion HearBytes events → AreFew (happens_all (first_machine keys (Some []) devices) events).records → AllKeepWell (first_machine keys (Some []) devices) events }
-{
-    facts_are_kept();
-    what_is_kept_starts_a_host();
-    a_text_is_of_one_record();
-    records_go_on();
-    events_do_what_their_records_do();
-    records_of_events_are_legal();
-    a_restart_keeps_what_is_held();
-    restarts_go_on();
-}
+        AllKeepWell (first_machine keys (Some []) devices) events × AllAskWell (first_machine keys (Some []) devices) events }
+{}
 
-/// So in every run of lines that were read, the last of which want of memory may have cut short, over a keeper that tells its records and has none at first: what the laws of whole runs premise of records,
-/// interviews, payloads and restarts holds. The class lists that interviews hear are of bytes, since the chip tells those of kinds of devices and each
-/// side judges whole units of the other. Premised is that the keeper holds fewer than 2 ^ 32 records in the end.
+/// So in every run of lines that were read, the last of which want of memory may have cut short, over a keeper that tells its records and has none at first: what the laws of
+/// whole runs premise of interviews, payloads and restarts holds.
 pub fn lines_keep_and_ask_well()
-    ensures heard { (keys : Keys) (devices : List State) (lines : List Line) (events : List Event) → AllByRecursion IsRead lines →
-        AreLines lines (first_machine keys (Some []) devices) events → MayAll (first_machine keys (Some []) devices) events →
-        AllByRecursion HearBytes events }
     ensures all { (keys : Keys) (devices : List State) (lines : List Line) (events : List Event) → AllByRecursion IsRead lines →
         AreLines lines (first_machine keys (Some []) devices) events → MayAll (first_machine keys (Some []) devices) events →
-        AreFew (happens_all (first_machine keys (Some []) devices) events).records → AllKeepWell (first_machine keys (Some []) devices) events ×
-        AllAskWell (first_machine keys (Some []) devices) events }
+        AllKeepWell (first_machine keys (Some []) devices) events × AllAskWell (first_machine keys (Some []) devices) events }
 {
-    hosts_write_well();
-    units_are_judged_whole();
     lines_ask_well();
     runs_keep_and_ask_well();
 }

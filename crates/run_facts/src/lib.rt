@@ -1,9 +1,8 @@
-//! What every run of lines gives of the premises of its laws: the laws of whole runs ask that records are in range, that interviews are of nodes that
-//! are joined, and that what is sent is short, and lines that were read give that.
+//! What every run of lines gives of the premises of its laws: the laws of whole runs ask that interviews are of nodes that are joined, that what is
+//! sent is short, and that a host that starts again is told its records, and lines that were read give that.
 //!
 //! Each law is the contract of a function that does nothing, over the definitions of `zw_machine`, `world_facts` and `line_facts`. The definitions stand
-//! in `specs/`: `Lines` (what lines ask of the host), `Asking` (what the host keeps of what it was asked) and `Premises` (what is still premised: how
-//! many records there are).
+//! in `specs/`: `Lines` (what lines ask of the host) and `Asking` (what the host keeps of what it was asked).
 #![tactic(auto)]
 
 mod laws;

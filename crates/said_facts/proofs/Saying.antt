@@ -145,7 +145,7 @@ taken_then m order carriage = refl
 
 pub may_accept : (m : Machine) (order : Order) (carriage : Carriage) → MayAll m (Outside_does Begins_line ∷ Host_does (Accepts order carriage) ∷ []) → IsAccepted m.host.state order carriage
 unfolding happens May
-may_accept m order carriage may = may.1.0
+may_accept m order carriage may = may.1.0.0
 
 entries_both : (m : Machine) (first later : List Event) → entries_all m (first ++ later) ≡ entries_all m first ++ entries_all (happens_all m first) later
 entries_both m [] later = refl

@@ -52,7 +52,7 @@ use Rattle.host_events.specs.State.{HostState, node_of}
 use Rattle.host_events.specs.After.{after, is_busy, gives_up}
 use Rattle.host_events.specs.Taking.{FinalEvents, ReportEvents, NonceGetEvents, NonceReportEvents, AreTaken, ends_from, PayloadEvents, InterviewEvents, ResponseEvents, NoticeEvents, FrameEvents, told_if, IsFollowed}
 use Rattle.host_events.specs.Events.{HostEvent, Interview_unkept, Unreads, Is_unkept, Reports_old, Works, Finishes, Offers, Gives, Spends, Spends_unread, Takes_nonce, Notifies, Resends, Hears_value, Has_no_room}
-use Rattle.run_facts.proofs.Heard.{IsOfPayload, payload_of, notice_names}
+use Rattle.run_facts.proofs.Heard.{IsOfPayload, payload_of}
 use Rattle.run_facts.proofs.Always.{one, none, either}
 use Rattle.seal_facts.specs.Numbers.{IsNonce, HasGiven}
 use Rattle.seal_facts.specs.Payloads.{report_of, IsSealed}
@@ -67,6 +67,7 @@ use Rattle.sealed_course.specs.Lines.{Tells}
 use Rattle.sealed_course.specs.Host.{AsksFitly, PushesOther}
 use Rattle.sealed_course.specs.HostGoing.{IsUnheard}
 use Rattle.sealed_course.proofs.HostGoing.{AreAside}
+use Rattle.sealed_course.proofs.Notices.{notice_names}
 
 -- ---- what an item may be
 

@@ -17,6 +17,7 @@ pub mod HostDoing
 pub mod HostEvents
 pub mod HostBegins
 pub mod HostGoing
+pub mod Notices
 pub mod HostJudging
 pub mod HostNonces
 pub mod HostItems

@@ -284,7 +284,7 @@ module _ (laws : Laws) (node : ℕ) (within : node < 233) where
       → EventStaysFew m event → KeepsWell m event → IsFitly node event → HearsInPipe node event → WorldGoes past node c (happens m event)
   unfolding happens May
   event_goes past c up down m (Outside_does event) f held may rests well few keeps sealed unheard = outside_goes past c up down m event f may.0 may.1 rests few
-  event_goes past c up down m (Host_does event) f held may rests well few keeps sealed unheard = host_goes past c up down m event f may sealed unheard well
+  event_goes past c up down m (Host_does event) f held may rests well few keeps sealed unheard = host_goes past c up down m event f may.0 sealed unheard well
   event_goes past c up down m (Host_takes count rest items events) f held may rests well few keeps sealed unheard = takes_goes past c up down m count rest items events f may well
   event_goes past c up down m Decoder_ticks f held may rests well few keeps sealed unheard = ticks_goes past c up down m f rests
   event_goes past c up down m (Refuses line refusal) f held may rests well few keeps sealed unheard = enters_goes past c up down m (Refused refusal) f

@@ -47,5 +47,5 @@ module _ (node : ℕ) where
 
   pub event_plain : (m : Machine) (event : Event) → May m event → KnowsOpen m.host.state → OrdersPlain node event
   unfolding May
-  event_plain m (Host_does event) may knows = order_plain m.host.state event may knows
+  event_plain m (Host_does event) may knows = order_plain m.host.state event may.0 knows
   event_plain m event may knows = tt

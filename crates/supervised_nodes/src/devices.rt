@@ -12,7 +12,6 @@ ghost use Rattle.zw_machine.specs.Events.{Event};
 ghost use Rattle.zw_machine.specs.Did.{happens_all, MayAll};
 ghost use Rattle.line_facts.specs.Line.{AreLines};
 ghost use Rattle.run_facts.specs.Lines.{IsRead};
-ghost use Rattle.run_facts.specs.Premises.{AreFew};
 ghost use Rattle.supervised_nodes.specs.Supervised.{IsPlainOrLock, IsSupervisedNode};
 
 use crate::lock_nodes::locks_as_made_begin_courses;
@@ -22,7 +21,7 @@ use crate::plain_nodes::{devices_as_made_begin_courses, orders_go_plain};
 pub fn supervised_nodes_are_plain_or_locks()
     ensures { (key : List ℕ) (devices : List State) (lines : List Line) (events : List Event) (node : ℕ) → AllByRecursion (IsAsMade key) devices → AreApart devices → AllByRecursion IsRead lines →
         AreLines lines (first_machine (keys_of key) (Some []) devices) events → MayAll (first_machine (keys_of key) (Some []) devices) events →
-        AreFew (happens_all (first_machine (keys_of key) (Some []) devices) events).records → IsSupervisedNode devices node → IsPlainOrLock (keys_of key) devices events node }
+        IsSupervisedNode devices node → IsPlainOrLock (keys_of key) devices events node }
 {
     devices_as_made_begin_courses();
     orders_go_plain();

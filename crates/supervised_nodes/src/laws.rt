@@ -10,7 +10,6 @@ ghost use Rattle.zw_machine.specs.State.{first_machine};
 ghost use Rattle.once_facts.specs.Tied.{AreTied};
 ghost use Rattle.said_facts.specs.Spoken.{Spoken, after_all, transcript_of};
 ghost use Rattle.listing_facts.specs.Lines.{AreDone, events_of};
-ghost use Rattle.run_facts.specs.Premises.{AreFew};
 ghost use Rattle.headline_facts.specs.Truly.{IsAskable, LinesAreTrue, SucceedsAfterChangeOf};
 ghost use Rattle.supervised_nodes.specs.Supervised.{IsPlainOrLock};
 
@@ -23,11 +22,11 @@ use listing_facts::lines_tell_what_nodes_list;
 /// Over any lines that were read, the device of a node that is plain or of a lock is tied to the host in the end, and each success that the host is told of the node is true at the moment it is told.
 pub fn nodes_are_tied()
     ensures tied { (keys : Keys) (devices : List State) (lines : List Spoken) (node : ℕ) (device : State) → IsPlainOrLock keys devices (events_of lines) node →
-        AreDone (first_machine keys (Some []) devices) lines → AreFew (after_all (first_machine keys (Some []) devices) lines).records →
+        AreDone (first_machine keys (Some []) devices) lines →
         device_of node (after_all (first_machine keys (Some []) devices) lines).outside.devices ≡ Some device →
         AreTied (after_all (first_machine keys (Some []) devices) lines).host.state node device }
     ensures truth { (keys : Keys) (devices : List State) (lines : List Spoken) (node : ℕ) → IsPlainOrLock keys devices (events_of lines) node →
-        AreDone (first_machine keys (Some []) devices) lines → AreFew (after_all (first_machine keys (Some []) devices) lines).records → LinesAreTrue node (first_machine keys (Some []) devices) lines }
+        AreDone (first_machine keys (Some []) devices) lines → LinesAreTrue node (first_machine keys (Some []) devices) lines }
 {
     plain_nodes_are_tied();
     locks_are_tied();
@@ -38,7 +37,7 @@ pub fn nodes_are_tied()
 /// waits; and where the last change of a property is of a command reported successful, its confirmed value is the device's.
 pub fn nodes_have_the_headline()
     ensures { (keys : Keys) (devices : List State) (lines : List Spoken) (node : ℕ) (device : State) → IsPlainOrLock keys devices (events_of lines) node → AreUnchanged devices →
-        AreDone (first_machine keys (Some []) devices) lines → AreFew (after_all (first_machine keys (Some []) devices) lines).records →
+        AreDone (first_machine keys (Some []) devices) lines →
         device_of node (after_all (first_machine keys (Some []) devices) lines).outside.devices ≡ Some device → is_supervised device ≡ true →
         HeadlineOf (listing_of devices) node (transcript_of (first_machine keys (Some []) devices) lines) device }
 {
@@ -49,7 +48,7 @@ pub fn nodes_have_the_headline()
 /// And each success of a command of such a node is reported after the change, where no two devices are of one node.
 pub fn nodes_report_after_the_change()
     ensures { (keys : Keys) (devices : List State) (lines : List Spoken) (node : ℕ) → IsPlainOrLock keys devices (events_of lines) node → AreUnchanged devices → AreApart devices →
-        AreDone (first_machine keys (Some []) devices) lines → AreFew (after_all (first_machine keys (Some []) devices) lines).records → SucceedsAfterChangeOf node (transcript_of (first_machine keys (Some []) devices) lines) }
+        AreDone (first_machine keys (Some []) devices) lines → SucceedsAfterChangeOf node (transcript_of (first_machine keys (Some []) devices) lines) }
 {
     nodes_are_tied();
     lines_tell_what_nodes_list();
@@ -59,7 +58,7 @@ pub fn nodes_report_after_the_change()
 /// So where the first node and each that has a device which knows Supervision are such, the whole headline holds.
 pub fn runs_have_the_headline()
     ensures { (keys : Keys) (devices : List State) (lines : List Spoken) → ((node : ℕ) → IsAskable devices node → IsPlainOrLock keys devices (events_of lines) node) → AreUnchanged devices → AreApart devices →
-        AreDone (first_machine keys (Some []) devices) lines → AreFew (after_all (first_machine keys (Some []) devices) lines).records →
+        AreDone (first_machine keys (Some []) devices) lines →
         Headline devices (after_all (first_machine keys (Some []) devices) lines).outside.devices (transcript_of (first_machine keys (Some []) devices) lines) }
 {
     nodes_are_tied();

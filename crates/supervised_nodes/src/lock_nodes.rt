@@ -13,7 +13,6 @@ ghost use Rattle.zw_machine.specs.State.{first_machine};
 ghost use Rattle.once_facts.specs.Tied.{AreTied};
 ghost use Rattle.said_facts.specs.Spoken.{Spoken, after_all};
 ghost use Rattle.listing_facts.specs.Lines.{AreDone};
-ghost use Rattle.run_facts.specs.Premises.{AreFew};
 ghost use Rattle.headline_facts.specs.Truly.{LinesAreTrue};
 
 use node_course::lines_ask_plainly;
@@ -32,11 +31,11 @@ pub fn locks_as_made_begin_courses()
 /// Over any lines that were read, a lock is tied to the host in the end, and each success that the host is told of it is true at the moment it is told.
 pub fn locks_are_tied()
     ensures tied { (keys : Keys) (devices : List State) (lines : List Spoken) (node : ℕ) (device : State) → IsLockNode keys devices node →
-        AreDone (first_machine keys (Some []) devices) lines → AreFew (after_all (first_machine keys (Some []) devices) lines).records →
+        AreDone (first_machine keys (Some []) devices) lines →
         device_of node (after_all (first_machine keys (Some []) devices) lines).outside.devices ≡ Some device →
         AreTied (after_all (first_machine keys (Some []) devices) lines).host.state node device }
     ensures truth { (keys : Keys) (devices : List State) (lines : List Spoken) (node : ℕ) → IsLockNode keys devices node →
-        AreDone (first_machine keys (Some []) devices) lines → AreFew (after_all (first_machine keys (Some []) devices) lines).records → LinesAreTrue node (first_machine keys (Some []) devices) lines }
+        AreDone (first_machine keys (Some []) devices) lines → LinesAreTrue node (first_machine keys (Some []) devices) lines }
 {
     lines_ask_plainly();
     lines_have_courses();

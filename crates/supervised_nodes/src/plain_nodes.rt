@@ -16,7 +16,6 @@ ghost use Rattle.zw_machine.specs.Events.{Event};
 ghost use Rattle.zw_machine.specs.Did.{happens_all, MayAll};
 ghost use Rattle.line_facts.specs.Line.{AreLines};
 ghost use Rattle.run_facts.specs.Lines.{IsRead};
-ghost use Rattle.run_facts.specs.Premises.{AreFew};
 ghost use Rattle.node_course.specs.World.{OrdersPlain};
 ghost use Rattle.once_facts.specs.Tied.{AreTied};
 ghost use Rattle.said_facts.specs.Spoken.{Spoken, after_all};
@@ -46,7 +45,6 @@ pub fn devices_as_made_begin_courses()
 pub fn orders_go_plain()
     ensures { (keys : Keys) (devices : List State) (lines : List Line) (events : List Event) (node : ℕ) (device : State) → AllByRecursion IsRead lines →
         AreLines lines (first_machine keys (Some []) devices) events → MayAll (first_machine keys (Some []) devices) events →
-        AreFew (happens_all (first_machine keys (Some []) devices) events).records →
         device_of node devices ≡ Some device → IsPlainKind device.kind → AllByRecursion (OrdersPlain node) events }
 {
     a_restart_needs_the_records_alone();
@@ -58,11 +56,11 @@ pub fn orders_go_plain()
 /// is told.
 pub fn plain_nodes_are_tied()
     ensures tied { (keys : Keys) (devices : List State) (lines : List Spoken) (node : ℕ) (device : State) → IsPlain devices (events_of lines) node →
-        AreDone (first_machine keys (Some []) devices) lines → AreFew (after_all (first_machine keys (Some []) devices) lines).records →
+        AreDone (first_machine keys (Some []) devices) lines →
         device_of node (after_all (first_machine keys (Some []) devices) lines).outside.devices ≡ Some device →
         AreTied (after_all (first_machine keys (Some []) devices) lines).host.state node device }
     ensures truth { (keys : Keys) (devices : List State) (lines : List Spoken) (node : ℕ) → IsPlain devices (events_of lines) node →
-        AreDone (first_machine keys (Some []) devices) lines → AreFew (after_all (first_machine keys (Some []) devices) lines).records → LinesAreTrue node (first_machine keys (Some []) devices) lines }
+        AreDone (first_machine keys (Some []) devices) lines → LinesAreTrue node (first_machine keys (Some []) devices) lines }
 {
     lines_ask_plainly();
     lines_have_a_course();

@@ -65,7 +65,7 @@ module _ (each : (past : List Entry) (h : HostState) (event : HostEvent) → Fac
   unfolding happens entries May
   event_keeps past m (Outside_does event) facts may well = asides past m.host.state (entries_outside m.outside event) facts (own_aside m.outside event may.0)
   event_keeps past m (Host_does event) facts may well =
-      event_behind_keeps past (entries m (Host_does event)) m.host.state event facts may
+      event_behind_keeps past (entries m (Host_does event)) m.host.state event facts may.0
       (subst (λ (l : List HostOut). Behind (entries_at m.host.state event)
       (entries_all_outside m.outside (routed l) ++ entries_all_outside (host_does m (event ∷ [])).outside (map Host_notes (answers m.host.state event))))
       (sym (append-nil (outs m.host.state event)))

@@ -15,6 +15,7 @@ use Rattle.host_events.specs.After.{after}
 use Rattle.host_events.specs.Records.{records_at}
 use Rattle.host_events.specs.Did.{MayAll as MayAllHost, after_all, records_all, texts_of}
 use Rattle.host_events.specs.Facts.{HostFacts}
+use Rattle.host_events.proofs.Doing.{all_in_range}
 use Rattle.host_records.specs.Holding.{Holds, HoldsAlone}
 use Rattle.host_records.specs.Opening.{opened}
 use Rattle.host_records.specs.Recording.{AllOfJoined}
@@ -23,31 +24,19 @@ use Rattle.zw_machine.specs.Events.{Event, Outside_does, Host_does, Host_takes, 
 use Rattle.zw_machine.specs.Did.{happens_all, MayAll}
 use Rattle.host_facts.specs.Facts.{Facts, StartsAs}
 use Rattle.host_facts.proofs.Living.{legal_both, nothing_kept, nothing_legal, KeptStarts, KeptGoesOn, EventsHold, EventsAreLegal, OpenedHolds, OpenedFacts}
-use Rattle.world_facts.specs.Restarts.{StartsWell, AllStartWell, HostKeepsWell, HostsKeepWell, KeepsWell, AllKeepWell, BeginsEmpty, AreHeld, IsHeld}
+use Rattle.world_facts.specs.Restarts.{StartsWell, AllStartWell, KeepsWell, AllKeepWell, BeginsEmpty, AreHeld, IsHeld}
 
 -- ---- texts
 
-texts_of_range : (records : List Record) → AllByRecursion IsRecord records → AreTextsOf records (map record_text records)
+pub texts_of_range : (records : List Record) → AllByRecursion IsRecord records → AreTextsOf records (map record_text records)
 texts_of_range [] all = tt
 texts_of_range (one ∷ records) all = (record { in_range = all.0; text = refl }, texts_of_range records all.1)
 
-texts_both : (a b : List Record) (s t : List (List ℕ)) → AreTextsOf a s → AreTextsOf b t → AreTextsOf (a ++ b) (s ++ t)
+pub texts_both : (a b : List Record) (s t : List (List ℕ)) → AreTextsOf a s → AreTextsOf b t → AreTextsOf (a ++ b) (s ++ t)
 texts_both [] b [] t first later = later
 texts_both [] b (x ∷ s) t first later = absurd first
 texts_both (one ∷ a) b [] t first later = absurd first
 texts_both (one ∷ a) b (x ∷ s) t first later = (first.0, texts_both a b s t first.1 later)
-
-all_both : (a b : List Record) → AllByRecursion IsRecord a → AllByRecursion IsRecord b → AllByRecursion IsRecord (a ++ b)
-all_both [] b first later = later
-all_both (one ∷ a) b first later = (first.0, all_both a b first.1 later)
-
-ranges : (h : HostState) (events : List HostEvent) → HostsKeepWell h events → AllByRecursion IsRecord (records_all h events)
-ranges h [] well = tt
-ranges h (event ∷ events) well = all_both (records_at h event) (records_all (after h event) events) well.0.in_range (ranges (after h event) events well.1)
-
-joined : (h : HostState) (events : List HostEvent) → HostsKeepWell h events → AllOfJoined h events
-joined h [] well = tt
-joined h (event ∷ events) well = (well.0.of_joined, joined (after h event) events well.1)
 
 -- ---- a host and its records
 
@@ -64,17 +53,17 @@ module _ (of_one : (one other : Record) (text : List ℕ) → IsTextOf one text 
   one_reading (x ∷ a) (y ∷ b) (t ∷ texts) first later =
       ap₂ (λ (z : Record) (zs : List Record). z ∷ zs) (of_one x y t first.0 later.0) (one_reading a b texts first.1 later.1)
 
-  held_on : (h : HostState) (events : List HostEvent) (texts : List (List ℕ)) → HostFacts h → MayAllHost h events → HostsKeepWell h events → AreHeld h texts
+  held_on : (h : HostState) (events : List HostEvent) (texts : List (List ℕ)) → HostFacts h → MayAllHost h events → AllOfJoined h events → AreHeld h texts
       → AreHeld (after_all h events) (texts ++ texts_of (records_all h events))
   held_on h events texts facts may well held = record {
     records = held.records ++ records_all h events;
-    are = texts_both held.records (records_all h events) texts (texts_of (records_all h events)) held.are (texts_of_range (records_all h events) (ranges h events well));
-    legal = legal_both first_kept held.records (records_all h events) held.legal (are_legal h (kept_of held.records) events facts may (joined h events well) held.holds);
+    are = texts_both held.records (records_all h events) texts (texts_of (records_all h events)) held.are (texts_of_range (records_all h events) (all_in_range h events may));
+    legal = legal_both first_kept held.records (records_all h events) held.legal (are_legal h (kept_of held.records) events facts may well held.holds);
     holds = subst (λ (k : Kept). Holds (after_all h events) k) (sym (goes_on first_kept held.records (records_all h events)))
         (events_hold h (kept_of held.records) events facts may held.holds);
   }
 
-  pub host_held : (h : HostState) (events : List HostEvent) (records : Option (List (List ℕ))) → HostFacts h → MayAllHost h events → HostsKeepWell h events → IsHeld h records
+  pub host_held : (h : HostState) (events : List HostEvent) (records : Option (List (List ℕ))) → HostFacts h → MayAllHost h events → AllOfJoined h events → IsHeld h records
       → IsHeld (after_all h events) (with_texts records (texts_of (records_all h events)))
   host_held h events None facts may well held = tt
   host_held h events (Some texts) facts may well held = held_on h events texts facts may well held
@@ -103,7 +92,7 @@ module _ (of_one : (one other : Record) (text : List ℕ) → IsTextOf one text 
       → StartsWell m event × IsHeld (happens m event).host.state (happens m event).records
   unfolding happens May
   event_held m (Outside_does event) facts held may well = (tt, held)
-  event_held m (Host_does event) facts held may well = (tt, host_held m.host.state (event ∷ []) m.records facts (may, tt) (well, tt) held)
+  event_held m (Host_does event) facts held may well = (tt, host_held m.host.state (event ∷ []) m.records facts may (well, tt) held)
   event_held m (Host_takes count rest items events) facts held may well = (tt, host_held m.host.state events m.records facts may.may well held)
   event_held m Decoder_ticks facts held may well = (tt, held)
   event_held m (Refuses line refusal) facts held may well = (tt, held)

@@ -1,17 +1,12 @@
 -- Restarts in a run of the machine (this project's own): a host that starts goes on as the one before it, where its keeper gives back what
 -- it was given.
 use Rattle.std.specs.Prelude.{◌≡◌, ℕ, List, [], ◌∷◌, Option, Some, None, IsSome}
-use Rattle.std.specs.List.{AllByRecursion}
 use Rattle.host_keep.specs.Kept.{kept_of}
 use Rattle.host_keep.specs.Legal.{AreTextsOf, AreLegal}
-use Rattle.host_keep.specs.Rows.{IsRecord}
 use Rattle.host_keep.specs.declared.record.Record.{Record}
 use Rattle.host_events.specs.State.{HostState}
-use Rattle.host_events.specs.Events.{HostEvent}
-use Rattle.host_events.specs.After.{after}
-use Rattle.host_events.specs.Records.{records_at}
 use Rattle.host_records.specs.Holding.{Holds}
-use Rattle.host_records.specs.Recording.{IsOfJoined}
+use Rattle.host_records.specs.Recording.{IsOfJoined, AllOfJoined}
 use Rattle.zw_machine.specs.State.{Machine}
 use Rattle.zw_machine.specs.Events.{Event, Host_does, Host_takes, Restarts, happens}
 use Rattle.host_facts.specs.Facts.{StartsAs}
@@ -28,20 +23,10 @@ AllStartWell m (event ∷ events) = StartsWell m event × AllStartWell (happens 
 
 -- ---- records that are read again as they were written
 
--- the numbers of an event's records are in range, and an interview that ends well is of a node that is joined
-pub record HostKeepsWell (h : HostState) (event : HostEvent) : Type 0 where
-  pub in_range : AllByRecursion IsRecord (records_at h event)
-  pub of_joined : IsOfJoined h event
-
--- so for each of these events of a host
-abbrev pub HostsKeepWell : HostState → List HostEvent → Type 0
-HostsKeepWell h [] = Unit {0}
-HostsKeepWell h (event ∷ events) = HostKeepsWell h event × HostsKeepWell (after h event) events
-
--- so for what the host does at an event of the machine; and where a host starts again, the keeper tells its records
+-- an interview that ends well is of a node that is joined; and where a host starts again, the keeper tells its records
 abbrev pub KeepsWell : Machine → Event → Type 0
-KeepsWell m (Host_does event) = HostKeepsWell m.host.state event
-KeepsWell m (Host_takes count rest items events) = HostsKeepWell m.host.state events
+KeepsWell m (Host_does event) = IsOfJoined m.host.state event
+KeepsWell m (Host_takes count rest items events) = AllOfJoined m.host.state events
 KeepsWell m (Restarts state) = IsSome m.records
 KeepsWell m event = Unit {0}
 

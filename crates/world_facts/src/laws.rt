@@ -47,7 +47,7 @@ pub fn the_machine_keeps_facts()
 }
 
 /// Where the keeper gives back what it was given, each host that starts again has what the one before recorded: the keeper began with no
-/// records, the numbers of the records are in range, and each interview that ends well is of a node that is joined (`AllKeepWell`).
+/// records, and each interview that ends well is of a node that is joined (`AllKeepWell`).
 pub fn restarts_go_on()
     ensures first { (keys : Keys) (records : Option (List (List ℕ))) → BeginsEmpty records → IsHeld (first_host keys) records }
     ensures each { (m : Machine) (event : Event) → HostFacts m.host.state → IsHeld m.host.state m.records → May m event → KeepsWell m event →

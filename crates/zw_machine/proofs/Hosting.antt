@@ -127,7 +127,7 @@ entries_host-all m (e ∷ es) silent =
 pub may_host-all : (m : Machine) (es : List HostEvent) → MayAllHost m.host.state es → MayAll m (map Host_does es)
 unfolding happens May
 may_host-all m [] may = tt
-may_host-all m (e ∷ es) may = (may.0, may_host-all (happens m (Host_does e)) es may.1)
+may_host-all m (e ∷ es) may = ((may.0, tt, may.2), may_host-all (happens m (Host_does e)) es may.1)
 
 unkept_is : (es : List HostEvent) → list_any is_unkept (map Host_does es) ≡ list_any is_unkept_by_host es
 unkept_is [] = refl

@@ -16,7 +16,6 @@ use Rattle.host_keep.specs.Legal.{AreTextsOf, AreLegal}
 use Rattle.host_records.specs.Opening.{opened}
 use Rattle.host_events.specs.State.{HostState}
 use Rattle.host_events.specs.Events.{HostEvent, Accepts, Cancels}
-use Rattle.host_events.specs.May.{May as MayHost}
 use Rattle.host_events.specs.Did.{MayAll as MayAllHost}
 use Rattle.host_events.specs.Taking.{AreJudged}
 use Rattle.outer_events.specs.State.{is_stalled}
@@ -108,7 +107,7 @@ pub record MayTake (m : Machine) (count : ℕ) (rest : Rest) (items : List Item)
 -- when it may happen
 unfoldable pub May : Machine → Event → Type 0
 May m (Outside_does event) = (is_own event ≡ true) × MayOutside m.outside event
-May m (Host_does event) = MayHost m.host.state event
+May m (Host_does event) = MayAllHost m.host.state (event ∷ [])
 May m (Host_takes count rest items events) = MayTake m count rest items events
 May m Decoder_ticks = Unit {0}
 May m (Refuses line refusal) = IsRefused m line refusal

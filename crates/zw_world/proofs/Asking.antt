@@ -246,7 +246,7 @@ ran_answered e keys host host' o o' ds r r' before all f g did decoder goes =
     let w = outside o ds in
     let kept : r' ≡ with_texts r (texts_of (records_all h (e ∷ []))) = adds_is r r' (texts_of (records_all h (e ∷ []))) did.records in
     record {
-      may = (did.may.0, tt);
+      may = (did.may, tt);
       state = ap (λ (x : Outside). record { keys = keys; host = host'; records = r'; outside = x }) went.state
           ∙ (ap (λ (l : List HostOut). record { keys = keys; host = host'; records = r'; outside = happens_all_outside (happens_all_outside w (routed l)) n }) did.outs
           ∙ (ap (λ (d : Rest). record { keys = keys; host = record { decoder = d; state = host'.state }; records = r'; outside = happens_all_outside (happens_all_outside w (routed (outs_all h (e ∷ [])))) n }) decoder

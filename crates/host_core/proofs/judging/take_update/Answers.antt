@@ -29,4 +29,4 @@ returns-clause-ok g c =
     let told = rw c.in-Some-2.is at c.in_ok-found.ensures in
     interviewed_as c.args.update _ told.0 _ c.interviewed_by.result c.in-Some.capability _ c.in_ok-interviewed.field-0 a b told.1
     (c.interviewed_by.ensures ∙ ap (λ (r : RequestsState). interviewed_by r c.args.update) c.requests.ensures) c.in-Some.is (grind (arith, nat_tests))
-    c.in_ok-interviewed.ensures.kept (ap (λ (p : HostParts). p.state) c.in_ok-interviewed.ensures.state) c.in_ok-interviewed.ensures.outs c.interviewed.ensures.never_falls
+    c.in_ok-interviewed.ensures.in_range c.in_ok-interviewed.ensures.kept (ap (λ (p : HostParts). p.state) c.in_ok-interviewed.ensures.state) c.in_ok-interviewed.ensures.outs c.interviewed.ensures.never_falls

@@ -41,7 +41,7 @@ returns-in_ok-notified-in-Notification-clause-ok g c =
     let a : Scene = scene c.args.core.now.state c.args.out.now.items (g.P.Keeper.records c.args.keeper.now) (g.P.Keeper.faults c.args.keeper.now) in
     let b : Scene = scene c.notified.new.self.state c.notified.new.out.items (g.P.Keeper.records c.args.keeper.now) (g.P.Keeper.faults c.args.keeper.now) in
     does_one (IsTaken c.args.core.now.state c.args.node c.args.payload.now c.args.sealed c.args.message.now) (Notifies c.args.node) a b
-    (subst (λ (m : Told). IsTaken c.args.core.now.state c.args.node c.args.payload.now c.args.sealed m (Notifies c.args.node ∷ [])) (sym c.in-Notification.is) refl) tt (ap (λ (p : HostParts). p.state) c.in_ok-notified-in-Notification.ensures.state) c.in_ok-notified-in-Notification.ensures.outs (none_added a.shelf.records) tt (omega arith)
+    (subst (λ (m : Told). IsTaken c.args.core.now.state c.args.node c.args.payload.now c.args.sealed m (Notifies c.args.node ∷ [])) (sym c.in-Notification.is) refl) tt tt (ap (λ (p : HostParts). p.state) c.in_ok-notified-in-Notification.ensures.state) c.in_ok-notified-in-Notification.ensures.outs (none_added a.shelf.records) tt (omega arith)
 
 pub returns-in_ok-resend-in-SegmentRequest-clause-ok : goal.returns-in_ok-resend-in-SegmentRequest-clause-ok
 returns-in_ok-resend-in-SegmentRequest-clause-ok g c =

@@ -21,4 +21,4 @@ returns-clause-ok g c =
     session_begun c.args.node _ _ c.in_ok-begin.field-0 a b
     (begins_may_as c.a_pump_ends.ensures.may c.args.core.now.state c.args.node c.node-state.ensures.facts c.requires.served c.requires.idle c.node-state.result.now c.node-state.ensures.value _ _
     (ap (λ (k : ℕ). k + 1) c.sessions-before.ensures) (sym c.oldest.ensures ∙ c.unwrap-command.ensures))
-    c.in_ok-begin.ensures.kept (ap (λ (p : HostParts). p.state) c.in_ok-begin.ensures.state) c.in_ok-begin.ensures.outs c.begin.ensures.never_falls
+    c.in_ok-begin.ensures.in_range c.in_ok-begin.ensures.kept (ap (λ (p : HostParts). p.state) c.in_ok-begin.ensures.state) c.in_ok-begin.ensures.outs c.begin.ensures.never_falls

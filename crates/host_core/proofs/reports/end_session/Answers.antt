@@ -15,4 +15,4 @@ returns-clause-ok g c =
     session_ended c.args.node c.args.session c.args.id c.in-Some.command c.args.status c.in-Some-of.ended c.args.wake_request c.in_ok-finish.field-0 a b c.requires
     (ap (λ (n : NodeState). command_of_session n.book.commands c.args.session) (sym c.node.ensures.value) ∙ sym c.command_of.ensures ∙ c.in-Some.is)
     (ap (λ (k : ℕ). status_of k) (sym c.byte.ensures) ∙ sym c.of.ensures ∙ c.in-Some-of.is)
-    c.in_ok-finish.ensures.kept (ap (λ (p : HostParts). p.state) c.in_ok-finish.ensures.state) c.in_ok-finish.ensures.outs c.finish.ensures.never_falls
+    c.in_ok-finish.ensures.in_range c.in_ok-finish.ensures.kept (ap (λ (p : HostParts). p.state) c.in_ok-finish.ensures.state) c.in_ok-finish.ensures.outs c.finish.ensures.never_falls

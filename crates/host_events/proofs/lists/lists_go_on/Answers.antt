@@ -1,5 +1,5 @@
 -- Lists of events that happened one after another.
-use Rattle.host_events.proofs.Doing.{after_all-append, outs_all-append, records_all-append, may_all-append, did_nothing, did_one, did_both}
+use Rattle.host_events.proofs.Doing.{after_all-append, outs_all-append, records_all-append, may_all-append, all_in_range, did_nothing, did_one, did_both}
 use Rattle.host_events.proofs.lists.lists_go_on.Goals as goal
 
 pub returns-clause-state : goal.returns-clause-state
@@ -13,6 +13,9 @@ returns-clause-records c = records_all-append
 
 pub returns-clause-may : goal.returns-clause-may
 returns-clause-may c = may_all-append
+
+pub returns-clause-in_range : goal.returns-clause-in_range
+returns-clause-in_range c = all_in_range
 
 pub returns-clause-nothing : goal.returns-clause-nothing
 returns-clause-nothing c = did_nothing

@@ -1,4 +1,4 @@
--- Units are judged whole, so interviews hear what devices list; records are in range, so they are of joined nodes and restarts know again.
+-- Units are judged whole, so interviews hear what devices list; they are of joined nodes, and restarts know again.
 use Rattle.std.proofs.Common.{List, [], ◌∷◌, Some, refl}
 use Rattle.std.specs.List.{AllByRecursion}
 use Rattle.zw_text.specs.declared.line.Line.{Line}
@@ -21,17 +21,17 @@ returns-clause-heard c = λ keys devices lines events read are may.
     let m = first_machine keys (Some []) devices in
     let listing = listing_of devices in
     let asked = c.lines_ask_well.ensures.lines lines m events (all_in lines read) are in
-    let short = c.runs_keep_and_ask_well.ensures.asks keys devices events may asked in
+    let short = (c.runs_keep_and_ask_well.ensures keys devices events may asked).1 in
     let written = c.hosts_write_well.ensures.run keys (Some []) devices events may short in
     let rests = c.units_are_judged_whole.ensures.lines keys (Some []) devices lines events are may written in
     let lists = lists_on c.devices_go_on.ensures.each c.devices_stay_the_same.ensures.all devices m events (go_none devices) in
     all_hear_lists listing m events may rests.at_rest lists (first_down listing keys (Some []) devices)
 
 pub returns-clause-tell : goal.returns-clause-tell
-returns-clause-tell c = λ keys devices lines events read are may few.
+returns-clause-tell c = λ keys devices lines events read are may.
     let m = first_machine keys (Some []) devices in
     let listing = listing_of devices in
-    let well = c.lines_keep_and_ask_well.ensures.all keys devices lines events read are may few in
+    let well = c.lines_keep_and_ask_well.ensures.all keys devices lines events read are may in
     all_tell listing c.interviews_give_what_is_known.ensures.again c.restarts_go_on.ensures.each c.the_machine_keeps_facts.ensures.each [] m events
     (c.the_machine_keeps_facts.ensures.first keys (Some []) devices) (c.restarts_go_on.ensures.first keys (Some []) refl) may
     (c.lines_ask_well.ensures.lines lines m events (all_in lines read) are) well.0 (returns-clause-heard c keys devices lines events read are may)

@@ -2,24 +2,21 @@
 use Rattle.std.proofs.Common.{[], Some, refl, subst}
 use Rattle.zw_laws.specs.Nodes.{listing_of}
 use Rattle.zw_machine.specs.State.{Machine, first_machine}
-use Rattle.run_facts.specs.Premises.{AreFew}
 use Rattle.listing_facts.specs.Lines.{events_of}
 use Rattle.listing_facts.proofs.Speaking.{lines_of, all_read, all_lines, all_may, all_after, are_spoken, lines_tell}
 use Rattle.listing_facts.proofs.laws.lines_tell_what_nodes_list.Goals as goal
 
 pub returns-clause-spoken : goal.returns-clause-spoken
-returns-clause-spoken c = λ keys devices lines are few.
+returns-clause-spoken c = λ keys devices lines are.
     let m = first_machine keys (Some []) devices in
     let may = all_may m lines are in
     let well =
-    c.lines_keep_and_ask_well.ensures.all keys devices (lines_of lines) (events_of lines) (all_read m lines are) (all_lines m lines are) may
-    (subst (λ (n : Machine). AreFew n.records) (all_after m lines) few) in
+    c.lines_keep_and_ask_well.ensures.all keys devices (lines_of lines) (events_of lines) (all_read m lines are) (all_lines m lines are) may in
     are_spoken m lines are
     (c.restarts_go_on.ensures.all [] m (events_of lines) (c.the_machine_keeps_facts.ensures.first keys (Some []) devices) (c.restarts_go_on.ensures.first keys (Some []) refl) may well.0).0
 
 pub returns-clause-tell : goal.returns-clause-tell
-returns-clause-tell c = λ keys devices lines are few.
+returns-clause-tell c = λ keys devices lines are.
     let m = first_machine keys (Some []) devices in
     lines_tell (listing_of devices) m lines
-    (c.interviews_tell_what_nodes_list.ensures.tell keys devices (lines_of lines) (events_of lines) (all_read m lines are) (all_lines m lines are) (all_may m lines are)
-    (subst (λ (n : Machine). AreFew n.records) (all_after m lines) few))
+    (c.interviews_tell_what_nodes_list.ensures.tell keys devices (lines_of lines) (events_of lines) (all_read m lines are) (all_lines m lines are) (all_may m lines are))

@@ -19,7 +19,6 @@ use Rattle.zw_machine.specs.Did.{happens_all, MayAll}
 use Rattle.line_facts.specs.Line.{AreLines}
 use Rattle.entry_pieces.specs.Pieces.{said_text}
 use Rattle.run_facts.specs.Lines.{IsRead}
-use Rattle.run_facts.specs.Premises.{AreFew}
 use Rattle.said_facts.specs.Spoken.{Spoken, after_all, transcript_of}
 use Rattle.listing_facts.specs.Lines.{AreDone, events_of as events_said}
 use Rattle.supervised_nodes.proofs.PlainTying.{was_there}
@@ -35,7 +34,6 @@ use Rattle.sim_laws.proofs.laws.stories_have_the_headline.Goals as goal
 record Fair (key : List ℕ) (devices : List State) (story : List Ran) (records : Option (List (List ℕ))) : Type 0 where
   schedules : AreSchedules (first_machine (keys_of key) records devices) story
   may : MayAll (first_machine (keys_of key) records devices) (events_of story)
-  few : AreFew (happens_all (first_machine (keys_of key) records devices) (events_of story)).records
   read : AreRead story
   made : AllByRecursion (IsAsMade key) devices
   apart : AreApart devices
@@ -44,7 +42,7 @@ record Fair (key : List ℕ) (devices : List State) (story : List Ran) (records 
 abbrev AreBy : (List ℕ → Keys) → Type 0
 AreBy keys = (key : List ℕ) (devices : List State) (lines : List Line) (events : List Event) (node : ℕ) → AllByRecursion (IsAsMade key) devices → AreApart devices → AllByRecursion IsRead lines →
     AreLines lines (first_machine (keys key) (Some []) devices) events → MayAll (first_machine (keys key) (Some []) devices) events →
-    AreFew (happens_all (first_machine (keys key) (Some []) devices) events).records → IsSupervisedNode devices node → IsPlainOrLock (keys key) devices events node
+    IsSupervisedNode devices node → IsPlainOrLock (keys key) devices events node
 
 -- devices have the keys of the network
 as_network : AreBy device_keys → AreBy keys_of
@@ -72,19 +70,15 @@ module _ (laws : Laws) (key : List ℕ) (devices : List State) (story : List Ran
   done : AreDone begun lines
   done = all_done laws.again begun story fair.read fair.schedules fair.may
 
-  few : AreFew (after_all begun lines).records
-  few = subst (λ (x : Machine). AreFew x.records) (sym (same_machine begun story)) fair.few
-
   plain_or_lock : (node : ℕ) → IsSupervisedNode devices node → IsPlainOrLock (keys_of key) devices (events_said lines) node
   plain_or_lock node supervised = subst (λ (events : List Event). IsPlainOrLock (keys_of key) devices events node) (sym (same_events story))
-      (as_network laws.are key devices (lines_of story) (events_of story) node fair.made fair.apart (lines_read story fair.read) (story_lines begun story fair.schedules) fair.may fair.few supervised)
+      (as_network laws.are key devices (lines_of story) (events_of story) node fair.made fair.apart (lines_read story fair.read) (story_lines begun story fair.schedules) fair.may supervised)
 
 -- what `run` was given, and what it left
 fair_of : (key : List ℕ) (old : Around) (story : List Ran) → AreRead story → MayAll (first key old) (events_of story) → IsFairRun key old story → Fair key old.devices story (Some [])
 fair_of key old story read may fair = subst (Fair key old.devices story) fair.run.empty (record {
   schedules = fair.run.whole;
   may = may;
-  few = fair.run.few;
   read = read;
   made = fair.made;
   apart = fair.apart;
@@ -117,7 +111,7 @@ returns-clause-one c = λ ended key old new quiet story tells fair node device f
     let supervised : IsSupervisedNode d node = record { device = was.before; first = was.found; supervised = ap (λ (k : Kind). lists k 0x6C) (sym was.kind) ∙ knows } in
     subst (λ (l : List Entry). HeadlineOf (listing_of d) node l device) (reads_as key old story fair)
     (c.nodes_have_the_headline.ensures (keys_of key) d (all_said story) node device (plain_or_lock laws key d story f node supervised) (laws.unchanged key d fair.made)
-    (done laws key d story f) (few laws key d story f)
+    (done laws key d story f)
     (subst (λ (m : Machine). device_of node m.outside.devices ≡ Some device) (ends_as key old story fair) there) knows)
 
 pub returns-clause-after_change : goal.returns-clause-after_change
@@ -131,7 +125,7 @@ returns-clause-after_change c = λ ended key old new quiet story tells fair node
     let f = fair_of key old story (texts_read story _ tells.lines) tells.may fair in
     subst (λ (l : List Entry). SucceedsAfterChangeOf node l) (reads_as key old story fair)
     (c.nodes_report_after_the_change.ensures (keys_of key) d (all_said story) node (plain_or_lock laws key d story f node supervised) (laws.unchanged key d fair.made) fair.apart
-    (done laws key d story f) (few laws key d story f))
+    (done laws key d story f))
 
 pub returns-clause-whole : goal.returns-clause-whole
 returns-clause-whole c = λ ended key old new quiet story tells fair first_is.
@@ -146,4 +140,4 @@ returns-clause-whole c = λ ended key old new quiet story tells fair first_is.
     subst (λ (l : List State). Headline d l (transcript_from (first key old) story)) ends
     (subst (λ (l : List Entry). Headline d (after_all (first_machine (keys_of key) (Some []) d) (all_said story)).outside.devices l) (reads_as key old story fair)
     (c.runs_have_the_headline.ensures (keys_of key) d (all_said story) (λ node askable. plain_or_lock laws key d story f node (askable_supervised d node first_is askable)) (laws.unchanged key d fair.made) fair.apart
-    (done laws key d story f) (few laws key d story f)))
+    (done laws key d story f)))

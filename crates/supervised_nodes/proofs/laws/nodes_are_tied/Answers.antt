@@ -3,13 +3,13 @@ use Rattle.std.proofs.Common.{inl, inr}
 use Rattle.supervised_nodes.proofs.laws.nodes_are_tied.Goals as goal
 
 pub returns-clause-tied : goal.returns-clause-tied
-returns-clause-tied c = λ keys devices lines node device is done few found. elim is [
-  | inl plain ↦ c.plain_nodes_are_tied.ensures.tied keys devices lines node device plain done few found
-  | inr lock ↦ c.locks_are_tied.ensures.tied keys devices lines node device lock done few found
+returns-clause-tied c = λ keys devices lines node device is done found. elim is [
+  | inl plain ↦ c.plain_nodes_are_tied.ensures.tied keys devices lines node device plain done found
+  | inr lock ↦ c.locks_are_tied.ensures.tied keys devices lines node device lock done found
 ]
 
 pub returns-clause-truth : goal.returns-clause-truth
-returns-clause-truth c = λ keys devices lines node is done few. elim is [
-  | inl plain ↦ c.plain_nodes_are_tied.ensures.truth keys devices lines node plain done few
-  | inr lock ↦ c.locks_are_tied.ensures.truth keys devices lines node lock done few
+returns-clause-truth c = λ keys devices lines node is done. elim is [
+  | inl plain ↦ c.plain_nodes_are_tied.ensures.truth keys devices lines node plain done
+  | inr lock ↦ c.locks_are_tied.ensures.truth keys devices lines node lock done
 ]
