@@ -75,18 +75,18 @@ pub fn others_are_told_nothing()
 
 /// The headline, over any such lines, with devices that have not changed yet, where each interview that ends well tells what the node's device lists: of
 /// each device that knows Supervision, is the first of its node and is tied to the host in the end. And the whole, where all those are, each report of
-/// success is true of the first node and of those, and no two devices are of one node.
+/// success is true of the first node and of those, and no two devices are of one node. The devices may be those after further lines, of which nothing is entered.
 pub fn runs_have_the_headline()
-    ensures one { (keys : Keys) (records : Option (List (List ℕ))) (devices : List State) (lines : List Spoken) (node : ℕ) (device : State) → AreUnchanged devices →
+    ensures one { (keys : Keys) (records : Option (List (List ℕ))) (devices : List State) (lines further : List Spoken) (node : ℕ) (device : State) → AreUnchanged devices →
         AreSpoken (first_machine keys records devices) lines → LinesTell (listing_of devices) (first_machine keys records devices) lines →
-        device_of node (after_all (first_machine keys records devices) lines).outside.devices ≡ Some device → is_supervised device ≡ true →
+        device_of node (after_all (first_machine keys records devices) further).outside.devices ≡ Some device → is_supervised device ≡ true →
         AreTied (after_all (first_machine keys records devices) lines).host.state node device →
         HeadlineOf (listing_of devices) node (transcript_of (first_machine keys records devices) lines) device }
-    ensures whole { (keys : Keys) (records : Option (List (List ℕ))) (devices : List State) (lines : List Spoken) → AreUnchanged devices → AreApart devices →
+    ensures whole { (keys : Keys) (records : Option (List (List ℕ))) (devices : List State) (lines further : List Spoken) → AreUnchanged devices → AreApart devices →
         AreSpoken (first_machine keys records devices) lines → ((node : ℕ) → IsAskable devices node → LinesAreTrue node (first_machine keys records devices) lines) →
         LinesTell (listing_of devices) (first_machine keys records devices) lines →
-        AllTied (after_all (first_machine keys records devices) lines).host.state (after_all (first_machine keys records devices) lines).outside.devices →
-        Headline devices (after_all (first_machine keys records devices) lines).outside.devices (transcript_of (first_machine keys records devices) lines) }
+        AllTied (after_all (first_machine keys records devices) lines).host.state (after_all (first_machine keys records devices) further).outside.devices →
+        Headline devices (after_all (first_machine keys records devices) further).outside.devices (transcript_of (first_machine keys records devices) lines) }
 {
     devices_go_on();
     devices_change_in_sessions();
@@ -102,14 +102,14 @@ pub fn runs_have_the_headline()
 /// So over any lines that were read, over a keeper that tells its records and has none at first: nothing is premised of interviews and of restarts
 /// then. Of each supervised device that is tied in the end, and the whole.
 pub fn lines_have_the_headline()
-    ensures one { (keys : Keys) (devices : List State) (lines : List Spoken) (node : ℕ) (device : State) → AreUnchanged devices → AreDone (first_machine keys (Some []) devices) lines →
-        device_of node (after_all (first_machine keys (Some []) devices) lines).outside.devices ≡ Some device → is_supervised device ≡ true →
+    ensures one { (keys : Keys) (devices : List State) (lines further : List Spoken) (node : ℕ) (device : State) → AreUnchanged devices → AreDone (first_machine keys (Some []) devices) lines →
+        device_of node (after_all (first_machine keys (Some []) devices) further).outside.devices ≡ Some device → is_supervised device ≡ true →
         AreTied (after_all (first_machine keys (Some []) devices) lines).host.state node device →
         HeadlineOf (listing_of devices) node (transcript_of (first_machine keys (Some []) devices) lines) device }
-    ensures whole { (keys : Keys) (devices : List State) (lines : List Spoken) → AreUnchanged devices → AreApart devices → AreDone (first_machine keys (Some []) devices) lines →
+    ensures whole { (keys : Keys) (devices : List State) (lines further : List Spoken) → AreUnchanged devices → AreApart devices → AreDone (first_machine keys (Some []) devices) lines →
         ((node : ℕ) → IsAskable devices node → LinesAreTrue node (first_machine keys (Some []) devices) lines) →
-        AllTied (after_all (first_machine keys (Some []) devices) lines).host.state (after_all (first_machine keys (Some []) devices) lines).outside.devices →
-        Headline devices (after_all (first_machine keys (Some []) devices) lines).outside.devices (transcript_of (first_machine keys (Some []) devices) lines) }
+        AllTied (after_all (first_machine keys (Some []) devices) lines).host.state (after_all (first_machine keys (Some []) devices) further).outside.devices →
+        Headline devices (after_all (first_machine keys (Some []) devices) further).outside.devices (transcript_of (first_machine keys (Some []) devices) lines) }
 {
     lines_tell_what_nodes_list();
     runs_have_the_headline();

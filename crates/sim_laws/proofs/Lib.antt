@@ -2,3 +2,4 @@ pub mod Stories
 pub mod Keeping
 pub mod Reading
 pub mod Speaking
+pub mod Unentered

@@ -8,11 +8,12 @@ use Rattle.zw_text.specs.declared.entry.Entry.TheVariants.{Said}
 use Rattle.zw_machine.specs.State.{Machine}
 use Rattle.zw_machine.specs.Events.{Event}
 use Rattle.zw_machine.specs.Did.{happens_all, entries_all, MayAll}
+use Rattle.zw_machine.specs.Fronts.{IsLineBefore}
 use Rattle.entry_pieces.specs.Pieces.{said_text}
 use Rattle.said_facts.specs.Spoken.{Spoken, after_all, transcript_of}
 use Rattle.listing_facts.specs.Lines.{AreDone, events_of as events_said}
 use Rattle.listing_facts.proofs.Speaking.{all_after}
-use Rattle.sim_laws.specs.Laws.{Ran, events_of, transcript_from, AreSchedules}
+use Rattle.sim_laws.specs.Laws.{Ran, events_of, transcript_from, AreBegun}
 use Rattle.sim_laws.proofs.Keeping.{may_front, may_rest}
 use Rattle.sim_laws.proofs.Reading.{AreRead}
 
@@ -42,12 +43,16 @@ same_machine m story = all_after m (all_said story) ∙ ap (λ (l : List Event).
 abbrev ReadAgain : Type 0
 ReadAgain = (text : List ℕ) (line : Line) → line_at text ≡ Ok (Some line) → line_at (said_text text) ≡ Ok (Some line)
 
-pub all_done : ReadAgain → (m : Machine) (story : List Ran) → AreRead story → AreSchedules m story → MayAll m (events_of story) → AreDone m (all_said story)
+before_said : (more : List Ran) (line : Line) (m : Machine) (events : List Event) → IsLineBefore more line m events → IsLineBefore (all_said more) line m events
+before_said [] line m events is = is
+before_said (next ∷ more) line m events is = is
+
+pub all_done : ReadAgain → (m : Machine) (story : List Ran) → AreRead story → AreBegun m story → MayAll m (events_of story) → AreDone m (all_said story)
 all_done again m [] read are may = tt
 all_done again m (ran ∷ more) read are may = (
   record {
     read = ap read_as (again ran.line.text ran.line.line read.0);
-    is_line = are.0;
+    is_line = before_said more ran.line.line m ran.events are.0;
     may = may_front m ran.events (events_of more) may;
   },
   all_done again (happens_all m ran.events) more read.1 are.1 (may_rest m ran.events (events_of more) may),

@@ -35,10 +35,13 @@ pub fn nodes_are_tied()
 /// So over any such lines, whatever is lost, changed, delayed or repeated, and however often the host starts again: the device of such a node that knows Supervision has applied a part of the commands accepted for it, in
 /// order, each at most once, with exactly the settings that each asks for; every command reported successful is in it, and none that failed, was taken back or
 /// waits; and where the last change of a property is of a command reported successful, its confirmed value is the device's.
+///
+/// The device may be that after further lines, of which nothing is entered and at which the host stays as it is.
 pub fn nodes_have_the_headline()
-    ensures { (keys : Keys) (devices : List State) (lines : List Spoken) (node : ℕ) (device : State) → IsPlainOrLock keys devices (events_of lines) node → AreUnchanged devices →
-        AreDone (first_machine keys (Some []) devices) lines →
-        device_of node (after_all (first_machine keys (Some []) devices) lines).outside.devices ≡ Some device → is_supervised device ≡ true →
+    ensures { (keys : Keys) (devices : List State) (lines further : List Spoken) (node : ℕ) (device : State) → IsPlainOrLock keys devices (events_of further) node → AreUnchanged devices →
+        AreDone (first_machine keys (Some []) devices) lines → AreDone (first_machine keys (Some []) devices) further →
+        (after_all (first_machine keys (Some []) devices) further).host.state ≡ (after_all (first_machine keys (Some []) devices) lines).host.state →
+        device_of node (after_all (first_machine keys (Some []) devices) further).outside.devices ≡ Some device → is_supervised device ≡ true →
         HeadlineOf (listing_of devices) node (transcript_of (first_machine keys (Some []) devices) lines) device }
 {
     nodes_are_tied();
@@ -55,11 +58,13 @@ pub fn nodes_report_after_the_change()
     runs_report_after_the_change();
 }
 
-/// So where the first node and each that has a device which knows Supervision are such, the whole headline holds.
+/// So where the first node and each that has a device which knows Supervision are such, the whole headline holds, of the devices after further lines likewise.
 pub fn runs_have_the_headline()
-    ensures { (keys : Keys) (devices : List State) (lines : List Spoken) → ((node : ℕ) → IsAskable devices node → IsPlainOrLock keys devices (events_of lines) node) → AreUnchanged devices → AreApart devices →
-        AreDone (first_machine keys (Some []) devices) lines →
-        Headline devices (after_all (first_machine keys (Some []) devices) lines).outside.devices (transcript_of (first_machine keys (Some []) devices) lines) }
+    ensures { (keys : Keys) (devices : List State) (lines further : List Spoken) → ((node : ℕ) → IsAskable devices node → IsPlainOrLock keys devices (events_of lines) node) →
+        ((node : ℕ) → IsAskable devices node → IsPlainOrLock keys devices (events_of further) node) → AreUnchanged devices → AreApart devices →
+        AreDone (first_machine keys (Some []) devices) lines → AreDone (first_machine keys (Some []) devices) further →
+        (after_all (first_machine keys (Some []) devices) further).host.state ≡ (after_all (first_machine keys (Some []) devices) lines).host.state →
+        Headline devices (after_all (first_machine keys (Some []) devices) further).outside.devices (transcript_of (first_machine keys (Some []) devices) lines) }
 {
     nodes_are_tied();
     lines_have_the_headline();

@@ -1,11 +1,12 @@
 -- The lines of a story were said, and the headline is of lines that were said.
-use Rattle.std.proofs.Common.{◌≡◌, ℕ, List, [], inl, inr, Option, Some, Ok, ap, sym, subst, ◌∙◌}
+use Rattle.std.proofs.Common.{◌≡◌, ℕ, Bool, List, [], ◌++◌, inl, inr, Option, Some, Ok, ap, sym, subst, ◌∙◌}
 use Rattle.std.specs.List.{AllByRecursion}
 use Rattle.s0_crypto.specs.declared.key_pair.Keys.{Keys}
 use Rattle.device_stack.specs.Sealing.{keys_of as device_keys}
 use Rattle.device_stack.specs.Kind.{lists}
 use Rattle.device_stack.specs.declared.kind.Kind.{Kind}
 use Rattle.device_sim.specs.State.{State}
+use Rattle.device_facts.specs.GoingOn.{AreSame}
 use Rattle.device_facts.specs.Showing.{AreApart, AreUnchanged}
 use Rattle.host_core.specs.Network.{keys_of}
 use Rattle.zw_text.specs.Line.{line_at}
@@ -17,7 +18,9 @@ use Rattle.zw_machine.specs.State.{Machine, first_machine}
 use Rattle.zw_machine.specs.Events.{Event}
 use Rattle.zw_machine.specs.Did.{happens_all, MayAll}
 use Rattle.line_facts.specs.Line.{AreLines}
+use Rattle.scenario_run.specs.declared.status.Status.{Status}
 use Rattle.entry_pieces.specs.Pieces.{said_text}
+use Rattle.entry_pieces.specs.Lines.{TextLine}
 use Rattle.run_facts.specs.Lines.{IsRead}
 use Rattle.said_facts.specs.Spoken.{Spoken, after_all, transcript_of}
 use Rattle.listing_facts.specs.Lines.{AreDone, events_of as events_said}
@@ -25,14 +28,17 @@ use Rattle.supervised_nodes.proofs.PlainTying.{was_there}
 use Rattle.headline_facts.specs.Truly.{IsAskable, SucceedsAfterChangeOf}
 use Rattle.supervised_nodes.specs.Supervised.{IsPlainOrLock, IsSupervisedNode}
 use Rattle.sim_laws.specs.Around.{Around}
-use Rattle.sim_laws.specs.Laws.{Ran, AreSchedules, IsFairRun, events_of, first, last, transcript_from}
-use Rattle.sim_laws.proofs.Reading.{AreRead, lines_of, lines_read, story_lines, texts_read}
+use Rattle.sim_laws.specs.Laws.{Ran, AreBegun, IsFairRun, IsUnentered, Tells, events_of, first, last, transcript_from, with_last}
+use Rattle.sim_laws.proofs.Stories.{is_begun, is_unentered}
+use Rattle.sim_laws.proofs.Keeping.{may_front}
+use Rattle.sim_laws.proofs.Unentered.{same_lines, further_may, further_devices, further_host}
+use Rattle.sim_laws.proofs.Reading.{AreRead, IsReadAs, plain_lines, lines_read, story_lines, texts_read}
 use Rattle.sim_laws.proofs.Speaking.{all_done, all_said, same_events, same_machine, same_transcript}
 use Rattle.sim_laws.proofs.laws.stories_have_the_headline.Goals as goal
 
 -- a run of the machine whose keeper had these records, with devices as their makers left them
 record Fair (key : List ℕ) (devices : List State) (story : List Ran) (records : Option (List (List ℕ))) : Type 0 where
-  schedules : AreSchedules (first_machine (keys_of key) records devices) story
+  schedules : AreBegun (first_machine (keys_of key) records devices) story
   may : MayAll (first_machine (keys_of key) records devices) (events_of story)
   read : AreRead story
   made : AllByRecursion (IsAsMade key) devices
@@ -64,80 +70,109 @@ module _ (laws : Laws) (key : List ℕ) (devices : List State) (story : List Ran
   abbrev begun : Machine
   begun = first_machine (keys_of key) (Some []) devices
 
-  abbrev lines : List Spoken
-  lines = all_said story
-
-  done : AreDone begun lines
+  done : AreDone begun (all_said story)
   done = all_done laws.again begun story fair.read fair.schedules fair.may
 
-  plain_or_lock : (node : ℕ) → IsSupervisedNode devices node → IsPlainOrLock (keys_of key) devices (events_said lines) node
+  plain_or_lock : (node : ℕ) → IsSupervisedNode devices node → IsPlainOrLock (keys_of key) devices (events_said (all_said story)) node
   plain_or_lock node supervised = subst (λ (events : List Event). IsPlainOrLock (keys_of key) devices events node) (sym (same_events story))
-      (as_network laws.are key devices (lines_of story) (events_of story) node fair.made fair.apart (lines_read story fair.read) (story_lines begun story fair.schedules) fair.may supervised)
+      (as_network laws.are key devices (plain_lines story) (events_of story) node fair.made fair.apart (lines_read story fair.read) (story_lines begun story fair.schedules) fair.may supervised)
 
 -- what `run` was given, and what it left
-fair_of : (key : List ℕ) (old : Around) (story : List Ran) → AreRead story → MayAll (first key old) (events_of story) → IsFairRun key old story → Fair key old.devices story (Some [])
-fair_of key old story read may fair = subst (Fair key old.devices story) fair.run.empty (record {
-  schedules = fair.run.whole;
+fair_of : (key : List ℕ) (old : Around) (story : List Ran) → AreRead story → MayAll (first key old) (events_of story) → AreBegun (first key old) story → IsFairRun key old → Fair key old.devices story (Some [])
+fair_of key old story read may begun fair = subst (Fair key old.devices story) fair.empty (record {
+  schedules = begun;
   may = may;
   read = read;
   made = fair.made;
   apart = fair.apart;
 })
 
--- the machine at first and in the end, where the keeper had no records
-begins_as : (key : List ℕ) (old : Around) (story : List Ran) → IsFairRun key old story → first key old ≡ first_machine (keys_of key) (Some []) old.devices
-begins_as key old story fair = ap (λ (records : Option (List (List ℕ))). first_machine (keys_of key) records old.devices) fair.run.empty
+-- the machine at first, where the keeper had no records, and after a story
+begins_as : (key : List ℕ) (old : Around) → IsFairRun key old → first key old ≡ first_machine (keys_of key) (Some []) old.devices
+begins_as key old fair = ap (λ (records : Option (List (List ℕ))). first_machine (keys_of key) records old.devices) fair.empty
 
-ends_as : (key : List ℕ) (old : Around) (story : List Ran) → IsFairRun key old story → last key old story ≡ after_all (first_machine (keys_of key) (Some []) old.devices) (all_said story)
+ends_as : (key : List ℕ) (old : Around) (story : List Ran) → IsFairRun key old → last key old story ≡ after_all (first_machine (keys_of key) (Some []) old.devices) (all_said story)
 ends_as key old story fair =
-    ap (λ (m : Machine). happens_all m (events_of story)) (begins_as key old story fair) ∙ sym (same_machine (first_machine (keys_of key) (Some []) old.devices) story)
+    ap (λ (m : Machine). happens_all m (events_of story)) (begins_as key old fair) ∙ sym (same_machine (first_machine (keys_of key) (Some []) old.devices) story)
 
-reads_as : (key : List ℕ) (old : Around) (story : List Ran) → IsFairRun key old story
+reads_as : (key : List ℕ) (old : Around) (story : List Ran) → IsFairRun key old
     → transcript_of (first_machine (keys_of key) (Some []) old.devices) (all_said story) ≡ transcript_from (first key old) story
 reads_as key old story fair =
-    same_transcript (first_machine (keys_of key) (Some []) old.devices) story ∙ ap (λ (m : Machine). transcript_from m story) (sym (begins_as key old story fair))
+    same_transcript (first_machine (keys_of key) (Some []) old.devices) story ∙ ap (λ (m : Machine). transcript_from m story) (sym (begins_as key old fair))
+
+-- ---- a story, and the story with what its last line did besides
+
+module _ (ended : Status) (key : List ℕ) (old new : Around) (fair : IsFairRun key old) (quiet : Bool) (story : List Ran) (unentered : List Event) (tells : Tells ended quiet key old new story unentered) where
+  behind : IsUnentered (first key old) story unentered
+  behind = is_unentered tells.ran.told.end (first key old) tells.ran.point.machine story unentered tells.scheduled tells.ends
+
+  read : AreRead story
+  read = texts_read tells.ran.told.end story _ tells.lines
+
+  fairly : Fair key old.devices story (Some [])
+  fairly = fair_of key old story read (may_front (first key old) (events_of story) unentered tells.may) (is_begun tells.ran.told.end (first key old) story tells.scheduled) fair
+
+  abbrev further : List Ran
+  further = with_last behind.last story
+
+  further_fairly : Fair key old.devices further (Some [])
+  further_fairly = fair_of key old further (subst (λ (l : List (TextLine Line)). AllByRecursion IsReadAs l) (sym (same_lines behind.last story)) read)
+      (further_may (first key old) story unentered behind tells.may) behind.moved fair
+
+  devices_are : new.devices ≡ (after_all (first_machine (keys_of key) (Some []) old.devices) (all_said further)).outside.devices
+  devices_are =
+      tells.devices ∙ (further_devices (first key old) story unentered behind ∙ ap (λ (x : Machine). x.outside.devices) (ends_as key old further fair))
+
+  host_is : (after_all (first_machine (keys_of key) (Some []) old.devices) (all_said further)).host.state ≡ (after_all (first_machine (keys_of key) (Some []) old.devices) (all_said story)).host.state
+  host_is =
+      ap (λ (x : Machine). x.host.state) (sym (ends_as key old further fair))
+      ∙ (further_host (first key old) story unentered behind ∙ ap (λ (x : Machine). x.host.state) (ends_as key old story fair))
 
 pub returns-clause-one : goal.returns-clause-one
-returns-clause-one c = λ ended key old new quiet story tells fair node device found knows.
+returns-clause-one c = λ ended key old new fair quiet story unentered tells node device found knows.
     let laws : Laws = record {
       again = c.lines_are_read_as_said.ensures;
       unchanged = c.devices_as_made_begin_courses.ensures.unchanged;
       are = c.supervised_nodes_are_plain_or_locks.ensures;
     } in
     let d = old.devices in
-    let f = fair_of key old story (texts_read story _ tells.lines) tells.may fair in
-    let there : device_of node (last key old story).outside.devices ≡ Some device = subst (λ (l : List State). device_of node l ≡ Some device) tells.devices found in
-    let was = was_there node d (last key old story).outside.devices device (c.runs_take_once.ensures.same (keys_of key) old.records d (events_of story)) there in
+    let on = further ended key old new fair quiet story unentered tells in
+    let f = fairly ended key old new fair quiet story unentered tells in
+    let g = further_fairly ended key old new fair quiet story unentered tells in
+    let was = was_there node d new.devices device
+    (subst (λ (l : List State). AreSame d l) (sym tells.devices) (c.runs_take_once.ensures.same (keys_of key) old.records d (events_of story ++ unentered))) found in
     let supervised : IsSupervisedNode d node = record { device = was.before; first = was.found; supervised = ap (λ (k : Kind). lists k 0x6C) (sym was.kind) ∙ knows } in
     subst (λ (l : List Entry). HeadlineOf (listing_of d) node l device) (reads_as key old story fair)
-    (c.nodes_have_the_headline.ensures (keys_of key) d (all_said story) node device (plain_or_lock laws key d story f node supervised) (laws.unchanged key d fair.made)
-    (done laws key d story f)
-    (subst (λ (m : Machine). device_of node m.outside.devices ≡ Some device) (ends_as key old story fair) there) knows)
+    (c.nodes_have_the_headline.ensures (keys_of key) d (all_said story) (all_said on) node device (plain_or_lock laws key d on g node supervised) (laws.unchanged key d fair.made)
+    (done laws key d story f) (done laws key d on g) (host_is ended key old new fair quiet story unentered tells)
+    (subst (λ (l : List State). device_of node l ≡ Some device) (devices_are ended key old new fair quiet story unentered tells) found) knows)
 
 pub returns-clause-after_change : goal.returns-clause-after_change
-returns-clause-after_change c = λ ended key old new quiet story tells fair node supervised.
+returns-clause-after_change c = λ ended key old new fair quiet story unentered tells node supervised.
     let laws : Laws = record {
       again = c.lines_are_read_as_said.ensures;
       unchanged = c.devices_as_made_begin_courses.ensures.unchanged;
       are = c.supervised_nodes_are_plain_or_locks.ensures;
     } in
     let d = old.devices in
-    let f = fair_of key old story (texts_read story _ tells.lines) tells.may fair in
+    let f = fairly ended key old new fair quiet story unentered tells in
     subst (λ (l : List Entry). SucceedsAfterChangeOf node l) (reads_as key old story fair)
     (c.nodes_report_after_the_change.ensures (keys_of key) d (all_said story) node (plain_or_lock laws key d story f node supervised) (laws.unchanged key d fair.made) fair.apart
     (done laws key d story f))
 
 pub returns-clause-whole : goal.returns-clause-whole
-returns-clause-whole c = λ ended key old new quiet story tells fair first_is.
+returns-clause-whole c = λ ended key old new fair quiet story unentered tells first_is.
     let laws : Laws = record {
       again = c.lines_are_read_as_said.ensures;
       unchanged = c.devices_as_made_begin_courses.ensures.unchanged;
       are = c.supervised_nodes_are_plain_or_locks.ensures;
     } in
     let d = old.devices in
-    let f = fair_of key old story (texts_read story _ tells.lines) tells.may fair in
-    let ends : (after_all (first_machine (keys_of key) (Some []) d) (all_said story)).outside.devices ≡ new.devices = ap (λ (m : Machine). m.outside.devices) (sym (ends_as key old story fair)) ∙ sym tells.devices in
-    subst (λ (l : List State). Headline d l (transcript_from (first key old) story)) ends
-    (subst (λ (l : List Entry). Headline d (after_all (first_machine (keys_of key) (Some []) d) (all_said story)).outside.devices l) (reads_as key old story fair)
-    (c.runs_have_the_headline.ensures (keys_of key) d (all_said story) (λ node askable. plain_or_lock laws key d story f node (askable_supervised d node first_is askable)) (laws.unchanged key d fair.made) fair.apart
-    (done laws key d story f)))
+    let on = further ended key old new fair quiet story unentered tells in
+    let f = fairly ended key old new fair quiet story unentered tells in
+    let g = further_fairly ended key old new fair quiet story unentered tells in
+    subst (λ (l : List State). Headline d l (transcript_from (first key old) story)) (sym (devices_are ended key old new fair quiet story unentered tells))
+    (subst (λ (l : List Entry). Headline d (after_all (first_machine (keys_of key) (Some []) d) (all_said on)).outside.devices l) (reads_as key old story fair)
+    (c.runs_have_the_headline.ensures (keys_of key) d (all_said story) (all_said on) (λ node askable. plain_or_lock laws key d story f node (askable_supervised d node first_is askable))
+    (λ node askable. plain_or_lock laws key d on g node (askable_supervised d node first_is askable)) (laws.unchanged key d fair.made) fair.apart
+    (done laws key d story f) (done laws key d on g) (host_is ended key old new fair quiet story unentered tells)))
