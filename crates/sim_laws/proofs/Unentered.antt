@@ -1,12 +1,10 @@
 -- What was done and not entered: an event outside the host leaves the host, and what the host did leaves the devices.
-use Rattle.std.proofs.Common.{◌≡◌, ℕ, List, [], ◌∷◌, ◌++◌, refl, ap, ap₂, sym, ◌∙◌, subst, append_assoc}
+use Rattle.std.proofs.Common.{◌≡◌, ℕ, List, [], ◌∷◌, ◌++◌, refl, ap, sym, ◌∙◌, subst, append_assoc}
 use Rattle.std.specs.Prelude.{Option, Some, None}
 use Rattle.std.specs.List.{AllByRecursion}
-use Rattle.device_sim.specs.State.{State}
 use Rattle.serial_frame.specs.Stream.{Rest}
 use Rattle.serial_frame.specs.declared.item.Item.{Item}
 use Rattle.zw_text.specs.declared.line.Line.{Line}
-use Rattle.host_events.specs.State.{HostState}
 use Rattle.host_events.specs.Events.{HostEvent}
 use Rattle.host_events.specs.Did.{outs_all}
 use Rattle.outer_events.specs.Events.{OuterEvent, devices_after}

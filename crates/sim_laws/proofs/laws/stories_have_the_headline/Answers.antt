@@ -22,7 +22,7 @@ use Rattle.scenario_run.specs.declared.status.Status.{Status}
 use Rattle.entry_pieces.specs.Pieces.{said_text}
 use Rattle.entry_pieces.specs.Lines.{TextLine}
 use Rattle.run_facts.specs.Lines.{IsRead}
-use Rattle.said_facts.specs.Spoken.{Spoken, after_all, transcript_of}
+use Rattle.said_facts.specs.Spoken.{after_all, transcript_of}
 use Rattle.listing_facts.specs.Lines.{AreDone, events_of as events_said}
 use Rattle.supervised_nodes.proofs.PlainTying.{was_there}
 use Rattle.headline_facts.specs.Truly.{IsAskable, SucceedsAfterChangeOf}
