@@ -1,19 +1,15 @@
 -- A host that starts from the records of earlier lives goes on with their facts.
 use Rattle.std.proofs.Common.{◌≡◌, ℕ, true, false, List, [], ◌∷◌, ◌++◌, length, Option, Some, None, refl, sym, ap, ap₂, subst, ◌∙◌, append-nil}
 use Rattle.std.specs.Prelude.{IsSome}
-use Rattle.std.specs.List.{AllByRecursion}
 use Rattle.s0_crypto.specs.declared.key_pair.Keys.{Keys}
 use Rattle.zw_text.specs.declared.entry.Entry.{Entry}
 use Rattle.host_keep.specs.Keeping.{OptAdds}
 use Rattle.host_keep.specs.Kept.{Kept, first_kept, kept_of}
 use Rattle.host_keep.specs.Legal.{AreTextsOf, AreLegal}
-use Rattle.host_keep.specs.Rows.{IsRecord}
 use Rattle.host_keep.specs.RecordText.{IsTextOf}
 use Rattle.host_keep.specs.declared.record.Record.{Record}
 use Rattle.host_events.specs.State.{HostState, HostParts, first_host}
 use Rattle.host_events.specs.Events.{HostEvent}
-use Rattle.host_events.specs.After.{after}
-use Rattle.host_events.specs.Records.{records_at}
 use Rattle.host_events.specs.Did.{MayAll, records_all, texts_of}
 use Rattle.host_events.proofs.Doing.{all_in_range}
 use Rattle.host_core.specs.Opening.{Opens, AreTold}

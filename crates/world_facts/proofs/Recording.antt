@@ -1,25 +1,23 @@
 -- What the keeper holds goes on with the host, so a host that starts from it goes on as the one before.
-use Rattle.std.proofs.Common.{◌≡◌, ℕ, List, [], ◌∷◌, ◌++◌, map, Bool, true, false, Option, Some, None, refl, ap, ap₂, sym, ◌∙◌, subst}
+use Rattle.std.proofs.Common.{◌≡◌, ℕ, List, [], ◌∷◌, ◌++◌, map, true, false, Option, Some, None, refl, ap₂, sym, subst}
 use Rattle.std.specs.Prelude.{IsSome}
 use Rattle.std.specs.List.{AllByRecursion}
 use Rattle.s0_crypto.specs.declared.key_pair.Keys.{Keys}
 use Rattle.zw_text.specs.declared.entry.Entry.{Entry}
-use Rattle.host_keep.specs.Kept.{Kept, kept_of, first_kept, after_all as kept_after_all}
+use Rattle.host_keep.specs.Kept.{Kept, kept_of, first_kept}
 use Rattle.host_keep.specs.Legal.{AreTextsOf, AreLegal}
 use Rattle.host_keep.specs.Rows.{IsRecord}
 use Rattle.host_keep.specs.RecordText.{IsTextOf, record_text}
 use Rattle.host_keep.specs.declared.record.Record.{Record}
 use Rattle.host_events.specs.State.{HostState, first_host}
 use Rattle.host_events.specs.Events.{HostEvent}
-use Rattle.host_events.specs.After.{after}
-use Rattle.host_events.specs.Records.{records_at}
 use Rattle.host_events.specs.Did.{MayAll as MayAllHost, after_all, records_all, texts_of}
 use Rattle.host_events.specs.Facts.{HostFacts}
 use Rattle.host_events.proofs.Doing.{all_in_range}
 use Rattle.host_records.specs.Holding.{Holds, HoldsAlone}
 use Rattle.host_records.specs.Opening.{opened}
 use Rattle.host_records.specs.Recording.{AllOfJoined}
-use Rattle.zw_machine.specs.State.{Machine, with_texts, first_machine}
+use Rattle.zw_machine.specs.State.{Machine, with_texts}
 use Rattle.zw_machine.specs.Events.{Event, Outside_does, Host_does, Host_takes, Decoder_ticks, Refuses, Shows_values, Restarts, OpensFrom, happens, entries, May}
 use Rattle.zw_machine.specs.Did.{happens_all, MayAll}
 use Rattle.host_facts.specs.Facts.{Facts, StartsAs}

@@ -1,9 +1,9 @@
 -- All the events of the lines are those of lines that were read.
-use Rattle.std.proofs.Common.{[], Some, refl, subst}
+use Rattle.std.proofs.Common.{[], Some, refl}
 use Rattle.zw_laws.specs.Nodes.{listing_of}
-use Rattle.zw_machine.specs.State.{Machine, first_machine}
+use Rattle.zw_machine.specs.State.{first_machine}
 use Rattle.listing_facts.specs.Lines.{events_of}
-use Rattle.listing_facts.proofs.Speaking.{lines_of, all_read, all_lines, all_may, all_after, are_spoken, lines_tell}
+use Rattle.listing_facts.proofs.Speaking.{lines_of, all_read, all_lines, all_may, are_spoken, lines_tell}
 use Rattle.listing_facts.proofs.laws.lines_tell_what_nodes_list.Goals as goal
 
 pub returns-clause-spoken : goal.returns-clause-spoken
