@@ -59,8 +59,8 @@ module _ (keeps : (past : List Entry) (m : Machine) (event : Event) → Facts pa
       subst (λ (l : List Entry). IsSo Ends l (happens_all (happens m event) events)) (append_assoc past (entries m event) (entries_all (happens m event) events))
       (events_so (past ++ entries m event) (happens m event) events may.1 well.1 (λ node of. (true node of).1) (event_so past m event may.0 well.0 (λ node of. (true node of).0) so))
 
-  line_so : (past : List Entry) (m : Machine) (spoken : Spoken) → IsSpoken m spoken → ((node : ℕ) → Of node → AreTrue node m spoken.events) → IsSo Ends past m → IsSo Ends (past ++ entries_of m spoken) (after m spoken)
-  line_so past m spoken is true so =
+  line_so : (past : List Entry) (m : Machine) (spoken : Spoken) (more : List Spoken) → IsSpoken more m spoken → ((node : ℕ) → Of node → AreTrue node m spoken.events) → IsSo Ends past m → IsSo Ends (past ++ entries_of m spoken) (after m spoken)
+  line_so past m spoken more is true so =
       let begun : IsSo Ends (past ++ Said spoken.words ∷ []) m = record {
         facts = aside past m.host.state (Said spoken.words) so.facts tt;
         apart = so.apart;
@@ -74,4 +74,4 @@ module _ (keeps : (past : List Entry) (m : Machine) (event : Event) → Facts pa
   lines_so past m [] are true so = subst (λ (l : List Entry). IsSo Ends l m) (sym (append-nil past)) so
   lines_so past m (spoken ∷ more) are true so =
       subst (λ (l : List Entry). IsSo Ends l (after_all (after m spoken) more)) (append_assoc past (entries_of m spoken) (transcript_of (after m spoken) more))
-      (lines_so (past ++ entries_of m spoken) (after m spoken) more are.1 (λ node of. (true node of).1) (line_so past m spoken are.0 (λ node of. (true node of).0) so))
+      (lines_so (past ++ entries_of m spoken) (after m spoken) more are.1 (λ node of. (true node of).1) (line_so past m spoken more are.0 (λ node of. (true node of).0) so))

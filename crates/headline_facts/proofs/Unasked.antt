@@ -33,14 +33,14 @@ use Rattle.outer_events.specs.Events.{Begins_line}
 use Rattle.zw_machine.specs.State.{Machine}
 use Rattle.zw_machine.specs.Events.{Event, Outside_does, Host_does, Host_takes, happens, entries, May}
 use Rattle.zw_machine.specs.Did.{happens_all, entries_all, MayAll}
-use Rattle.zw_machine.specs.Lines.{IsLine}
+use Rattle.zw_machine.specs.Fronts.{LinePart}
 use Rattle.zw_machine.proofs.Silence.{judged_silent}
 use Rattle.world_facts.specs.Restarts.{AllStartWell, StartsWell}
 use Rattle.once_facts.specs.Truly.{AreTrue, IsTrue, TellTruly, TellsTruly}
 use Rattle.said_facts.specs.Said.{AllKnow, KnowsListing}
 use Rattle.said_facts.specs.Spoken.{Spoken, IsSpoken, AreSpoken, after as after_line, entries_of}
 use Rattle.said_facts.proofs.Orders.{IsNoOrder, SameOrders, event_kept}
-use Rattle.said_facts.proofs.Plain.{ArePlain, line_kind, line_orders, line_plain, silent_none}
+use Rattle.said_facts.proofs.Plain.{ArePlain, spoken_part, line_kind, line_orders, line_plain, silent_none}
 use Rattle.said_facts.proofs.Saying.{events_kept, machine_kept, may_accept, taken_then}
 use Rattle.headline_facts.specs.Truly.{IsAskable, LinesAreTrue}
 use Rattle.headline_facts.proofs.Succeeding.{owned}
@@ -230,9 +230,9 @@ module _ (node : ℕ) where
         record { told = (tt, (tt, rest.told)); none = rest.none }
 
     module _ (listing : ℕ → List ℕ) (later : node ≢ first_node) (none_listed : lists (listing node) 0x6C ≡ false) where
-      line_told : (past known : List Entry) (m : Machine) (spoken : Spoken) → IsSpoken m spoken → Facts past m.host.state → KnowsListing listing known m.host.state → HasNone m.host.state.commands → IsTold m spoken.events
-      line_told past known m spoken is facts known_now none = elim (line_kind spoken.line) [
-        | inl (order, asks) ↦ elim (line_orders order m spoken.events (subst (λ (l : Line). IsLine l m spoken.events) asks is.is_line)) [
+      line_told : (past known : List Entry) (m : Machine) (spoken : Spoken) (more : List Spoken) → IsSpoken more m spoken → Facts past m.host.state → KnowsListing listing known m.host.state → HasNone m.host.state.commands → IsTold m spoken.events
+      line_told past known m spoken more is facts known_now none = elim (line_kind spoken.line) [
+        | inl (order, asks) ↦ elim (line_orders order m spoken.events (subst (λ (l : Line). LinePart l m spoken.events) asks (spoken_part more m spoken is))) [
           | inl orders ↦
               let front : List Event = Outside_does Begins_line ∷ Host_does (Accepts order orders.carriage) ∷ orders.later in
               let may : MayAll m front = subst (λ (es : List Event). MayAll m es) orders.are is.may in
@@ -242,11 +242,11 @@ module _ (node : ℕ) where
               (refused listing node later none_listed known m.host.state order orders.carriage known_now (may_accept m order orders.carriage (may.0, (may.1.0, tt)))) none)
           | inr plain ↦ plain_told past m spoken.events facts is.may is.well plain none
         ]
-        | inr nothing ↦ plain_told past m spoken.events facts is.may is.well (line_plain spoken.line m spoken.events nothing is.is_line) none
+        | inr nothing ↦ plain_told past m spoken.events facts is.may is.well (line_plain spoken.line m spoken.events nothing (spoken_part more m spoken is)) none
       ]
 
       pub lines_told : (past known : List Entry) (m : Machine) (lines : List Spoken) → AreSpoken m lines → AllKnow listing known m lines → Facts past m.host.state → HasNone m.host.state.commands → LinesAreTrue node m lines
       lines_told past known m [] are knows facts none = tt
       lines_told past known m (spoken ∷ more) are knows facts none =
-          let one : IsTold m spoken.events = line_told past known m spoken are.0 facts knows.0 none in
+          let one : IsTold m spoken.events = line_told past known m spoken more are.0 facts knows.0 none in
           (one.told, lines_told (past ++ entries_all m spoken.events) (known ++ entries_of m spoken) (after_line m spoken) more are.1 knows.1 (keep past m spoken.events facts are.0.may are.0.well) one.none)

@@ -9,6 +9,7 @@ use Rattle.zw_text.specs.declared.line.Line.{Line}
 use Rattle.zw_machine.specs.State.{Machine}
 use Rattle.zw_machine.specs.Events.{Event, happens}
 use Rattle.zw_machine.specs.Did.{happens_all, MayAll}
+use Rattle.zw_machine.specs.Fronts.{IsLineBefore}
 use Rattle.zw_machine.proofs.Doing.{happens_all-append, may_all-append}
 use Rattle.line_facts.specs.Line.{AreLines}
 use Rattle.run_facts.specs.Lines.{IsRead}
@@ -33,9 +34,13 @@ all_read m (spoken ∷ more) are = ((spoken.words, read_is (line_at spoken.words
 
 -- ---- their events
 
+before_lines : (more : List Spoken) (line : Line) (m : Machine) (events : List Event) → IsLineBefore more line m events → IsLineBefore (lines_of more) line m events
+before_lines [] line m events is = is
+before_lines (next ∷ more) line m events is = is
+
 pub all_lines : (m : Machine) (lines : List Spoken) → AreDone m lines → AreLines (lines_of lines) m (events_of lines)
 all_lines m [] are = refl
-all_lines m (spoken ∷ more) are = (spoken.events, events_of more, refl, are.0.is_line, all_lines (after m spoken) more are.1)
+all_lines m (spoken ∷ more) are = (spoken.events, events_of more, refl, before_lines more spoken.line m spoken.events are.0.is_line, all_lines (after m spoken) more are.1)
 
 pub all_may : (m : Machine) (lines : List Spoken) → AreDone m lines → MayAll m (events_of lines)
 all_may m [] are = tt

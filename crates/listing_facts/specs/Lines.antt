@@ -7,7 +7,7 @@ use Rattle.host_events.specs.Events.{HostEvent, Interviews}
 use Rattle.zw_machine.specs.State.{Machine}
 use Rattle.zw_machine.specs.Events.{Event, Host_takes}
 use Rattle.zw_machine.specs.Did.{MayAll}
-use Rattle.zw_machine.specs.Lines.{IsLine}
+use Rattle.zw_machine.specs.Fronts.{IsLineBefore}
 use Rattle.said_facts.specs.Spoken.{Spoken, after}
 
 -- ---- interviews
@@ -24,16 +24,16 @@ HearLists listing event = Unit {0}
 
 -- ---- lines
 
--- the words are read as the line, and its events are those of such a line, and may happen
-pub record IsDone (m : Machine) (spoken : Spoken) : Type 0 where
+-- the words are read as the line, and its events are those of such a line, all of them where others follow, and may happen
+pub record IsDone (more : List Spoken) (m : Machine) (spoken : Spoken) : Type 0 where
   pub read : line_of (Said spoken.words) ≡ spoken.line ∷ []
-  pub is_line : IsLine spoken.line m spoken.events
+  pub is_line : IsLineBefore more spoken.line m spoken.events
   pub may : MayAll m spoken.events
 
--- so of lines, one after another
+-- so of lines, one after another, the last of which want of memory may have cut short
 abbrev pub AreDone : Machine → List Spoken → Type 0
 AreDone m [] = Unit {0}
-AreDone m (spoken ∷ more) = IsDone m spoken × AreDone (after m spoken) more
+AreDone m (spoken ∷ more) = IsDone more m spoken × AreDone (after m spoken) more
 
 -- all their events, in order
 abbrev pub events_of : List Spoken → List Event

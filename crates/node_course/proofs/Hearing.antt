@@ -20,10 +20,12 @@ use Rattle.outer_events.specs.Events.{OuterEvent, Chip_takes, Chip_ticks, Discov
 use Rattle.outer_events.specs.Schedules.{TakesBy as ChipTakesBy, Arrivals, Delivers, Givings, DeviceTicks, IsRepeat, IsWake, IsSet}
 use Rattle.zw_machine.specs.State.{Machine}
 use Rattle.zw_machine.specs.Events.{Event, Outside_does, Host_does, Decoder_ticks, happens}
-use Rattle.zw_machine.specs.Did.{happens_all, Schedule, Then}
-use Rattle.zw_machine.specs.Settling.{Outside, IsPump, IsChipPart, IsHostPart, TakesBy, IsMove, IfMoved, Passes, Settles}
-use Rattle.zw_machine.specs.Ticking.{IsClockTick, IsDelivery, IsGiving, IsDeviceTick, IsChipTick, IsOutsideTick, IsHostTick, IsTick, Ticks}
-use Rattle.zw_machine.specs.Lines.{IsRefusal, IsDone, Asks, IsRestart, IsDiscovery, IsEffect, IsLineBegin, IsLineRest, IsLine}
+use Rattle.zw_machine.specs.Did.{happens_all, Schedule}
+use Rattle.zw_machine.specs.Settling.{Outside, IsPump, IsChipPart, IsHostPart, TakesBy}
+use Rattle.zw_machine.specs.Ticking.{IsClockTick, IsDelivery, IsGiving, IsDeviceTick, IsChipTick, IsHostTick}
+use Rattle.zw_machine.specs.Lines.{IsRefusal, IsDone, Asks, IsRestart, IsDiscovery, IsEffect, IsLineBegin}
+use Rattle.zw_machine.specs.Fronts.{IsLineBefore}
+use Rattle.zw_machine.proofs.Pieces.{Of, Law, Pieces, of_none, of_then, of_line_before}
 use Rattle.host_events.specs.After.{is_full, after as after_host}
 use Rattle.host_events.specs.Did.{after_all as after_host_all}
 use Rattle.host_events.specs.Pumping.{LetsSleep, GivesNext, IsServedBy, IsNextOfNodes, IsNextOf, Submits, Pumps}
@@ -38,19 +40,22 @@ module _ (Near : Type 0) (Is : List ℕ → Type 0) (sends : (classes : List ℕ
   abbrev pub AllEnd : Machine → List Event → Type 0
   AllEnd m events = AllByRecursion (ComesOfLine Near Is node) events
 
-  -- ---- schedules
+  -- ---- lists
 
-  -- the events of a schedule take all bytes
+  -- so of the events of a schedule
   abbrev pub EndOf : Schedule → Type 0
-  EndOf Kind = (m : Machine) (events : List Event) → Kind m events → AllEnd m events
+  EndOf Kind = Of AllEnd Kind
 
-  takes_both : (m : Machine) (a b : List Event) → AllEnd m a → AllEnd (happens_all m a) b → AllEnd m (a ++ b)
-  takes_both m [] b first later = later
-  takes_both m (event ∷ a) b first later = (first.0, takes_both (happens m event) a b first.1 later)
+  ends_both : (m : Machine) (a b : List Event) → AllEnd m a → AllEnd (happens_all m a) b → AllEnd m (a ++ b)
+  ends_both m [] b first later = later
+  ends_both m (event ∷ a) b first later = (first.0, ends_both (happens m event) a b first.1 later)
 
-  takes_then : (First Second : Schedule) → EndOf First → EndOf Second → EndOf (Then First Second)
-  takes_then First Second first second m events (a, b, are, is_first, is_second) =
-      subst (λ (l : List Event). AllEnd m l) (sym are) (takes_both m a b (first m a is_first) (second (happens_all m a) b is_second))
+  ends_front : (m : Machine) (a b : List Event) → AllEnd m (a ++ b) → AllEnd m a
+  ends_front m [] b all = tt
+  ends_front m (event ∷ a) b all = (all.0, ends_front (happens m event) a b all.1)
+
+  ends_law : Law AllEnd
+  ends_law = record { none = λ m. tt; both = ends_both; front = ends_front }
 
   -- ---- events that take nothing
 
@@ -151,23 +156,6 @@ module _ (Near : Type 0) (Is : List ℕ → Type 0) (sends : (classes : List ℕ
   host_part_takes : EndOf IsHostPart
   host_part_takes m events is = host_takes_by m (is_stalled m.outside.outer) m.outside.outer.to_host.bytes events refl is
 
-  move_takes : EndOf IsMove
-  move_takes = takes_then IsChipPart IsHostPart chip_part_takes host_part_takes
-
-  if_moved_takes : (moved : List Event) (More : Schedule) → EndOf More → EndOf (IfMoved moved More)
-  if_moved_takes [] More more m events is = subst (λ (l : List Event). AllEnd m l) (sym is) tt
-  if_moved_takes (one ∷ moved) More more m events is = more m events is
-
-  passes_take : (count : ℕ) → EndOf (Passes count)
-  passes_take zero m events is = subst (λ (l : List Event). AllEnd m l) (sym is) tt
-  passes_take (suc more) m events (moves, rest, are, moved, after) =
-      subst (λ (l : List Event). AllEnd m l) (sym are)
-      (takes_both m moves rest (move_takes m moves moved)
-      (takes_then IsPump (IfMoved moves (Passes more)) pump_takes (if_moved_takes moves (Passes more) (passes_take more)) (happens_all m moves) rest after))
-
-  settling_takes : EndOf Settles
-  settling_takes = takes_then IsPump (Passes 64) pump_takes (passes_take 64)
-
   -- ---- ticks
 
   arrivals_none : (count : ℕ) (inner : List OuterEvent) → Arrivals count inner → AllByRecursion TakesNone inner
@@ -200,20 +188,6 @@ module _ (Near : Type 0) (Is : List ℕ → Type 0) (sends : (classes : List ℕ
 
   chip_tick_takes : EndOf IsChipTick
   chip_tick_takes m events are = one_none m Chip_ticks events are tt
-
-  outside_tick_takes : EndOf IsOutsideTick
-  outside_tick_takes =
-      takes_then IsDelivery (Then IsGiving (Then IsDeviceTick IsChipTick)) delivery_takes
-      (takes_then IsGiving (Then IsDeviceTick IsChipTick) giving_takes (takes_then IsDeviceTick IsChipTick device_tick_takes chip_tick_takes))
-
-  tick_takes : EndOf IsTick
-  tick_takes =
-      takes_then IsClockTick (Then IsOutsideTick (Then IsHostTick Settles)) clock_tick_takes
-      (takes_then IsOutsideTick (Then IsHostTick Settles) outside_tick_takes (takes_then IsHostTick Settles host_tick_takes settling_takes))
-
-  ticks_take : (count : ℕ) → EndOf (Ticks count)
-  ticks_take zero m events is = subst (λ (l : List Event). AllEnd m l) (sym is) tt
-  ticks_take (suc more) m events is = takes_then IsTick (Ticks more) tick_takes (ticks_take more) m events is
 
   -- ---- lines
 
@@ -278,40 +252,22 @@ module _ (Near : Type 0) (Is : List ℕ → Type 0) (sends : (classes : List ℕ
   begin_takes : EndOf IsLineBegin
   begin_takes m events are = one_none m Begins_line events are tt
 
-  plain_line : (line : Line) → (Near → NamesEnd line) → EndOf (Then (IsEffect line) Settles)
-  plain_line line names = takes_then (IsEffect line) Settles (effect_takes line names) settling_takes
-
-  rest_takes : (line : Line) → (Near → NamesEnd line) → EndOf (IsLineRest line)
-  rest_takes (Command order) names = plain_line (Command order) names
-  rest_takes (Tick count) names = ticks_take count
-  rest_takes (Cut size) names = plain_line (Cut size) names
-  rest_takes (Stall ticks) names = plain_line (Stall ticks) names
-  rest_takes (Drop by) names = plain_line (Drop by) names
-  rest_takes (Garble by place xor) names = plain_line (Garble by place xor) names
-  rest_takes Collide names = plain_line Collide names
-  rest_takes (Send n word) names = plain_line (Send n word) names
-  rest_takes (Get n end) names = plain_line (Get n end) names
-  rest_takes (Join n) names = plain_line (Join n) names
-  rest_takes (Interview n) names = plain_line (Interview n) names
-  rest_takes (Lose count) names = plain_line (Lose count) names
-  rest_takes (LoseAck count) names = plain_line (LoseAck count) names
-  rest_takes (Repeat frame) names = plain_line (Repeat frame) names
-  rest_takes (Wake n) names = plain_line (Wake n) names
-  rest_takes (Cancel command) names = plain_line (Cancel command) names
-  rest_takes (Link first second) names = plain_line (Link first second) names
-  rest_takes (Unlink first second) names = plain_line (Unlink first second) names
-  rest_takes Discover names = plain_line Discover names
-  rest_takes (Neighbours n) names = plain_line (Neighbours n) names
-  rest_takes (Failed n) names = plain_line (Failed n) names
-  rest_takes Probe names = plain_line Probe names
-  rest_takes (Local n value) names = plain_line (Local n value) names
-  rest_takes (Show n) names = plain_line (Show n) names
-  rest_takes (Store n) names = plain_line (Store n) names
-  rest_takes Restart names = plain_line Restart names
-
-  line_ends : (line : Line) → (Near → NamesEnd line) → EndOf (IsLine line)
-  line_ends line names = takes_then IsLineBegin (IsLineRest line) begin_takes (rest_takes line names)
+  pieces : Pieces AllEnd
+  pieces = record {
+    begins = begin_takes;
+    pump = pump_takes;
+    chip_part = chip_part_takes;
+    host_part = host_part_takes;
+    clock = clock_tick_takes;
+    delivery = delivery_takes;
+    giving = giving_takes;
+    device_tick = device_tick_takes;
+    chip_tick = chip_tick_takes;
+    host_tick = host_tick_takes;
+  }
 
   pub lines_end : (lines : List Line) → (Near → AllByRecursion NamesEnd lines) → EndOf (AreLines lines)
-  lines_end [] names m events is = subst (λ (l : List Event). AllEnd m l) (sym is) tt
-  lines_end (line ∷ lines) names m events is = takes_then (IsLine line) (AreLines lines) (line_ends line (λ near. (names near).0)) (lines_end lines (λ near. (names near).1)) m events is
+  lines_end [] names m events is = of_none AllEnd ends_law m events is
+  lines_end (line ∷ lines) names m events is =
+      of_then AllEnd ends_law (IsLineBefore lines line) (AreLines lines) (of_line_before AllEnd ends_law pieces lines line (effect_takes line (λ near. (names near).0)))
+      (lines_end lines (λ near. (names near).1)) m events is

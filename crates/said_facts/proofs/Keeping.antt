@@ -1,11 +1,9 @@
 -- A command that was taken stays in the table as it was taken.
-use Rattle.std.proofs.Common.{◌≡◌, ℕ, List, [], ◌∷◌, Some, ◌∙◌}
-use Rattle.host_keep.specs.Kept.{Taken}
+use Rattle.std.proofs.Common.{List, [], ◌∷◌, ◌∙◌}
 use Rattle.host_events.specs.State.{Command, HostState}
 use Rattle.host_events.specs.Events.{HostEvent, Accepts}
 use Rattle.host_events.specs.After.{after}
 use Rattle.host_events.specs.Did.{after_all}
-use Rattle.host_facts.specs.Tables.{taken_at}
 use Rattle.zw_machine.specs.State.{Machine}
 use Rattle.zw_machine.specs.Events.{Event, Outside_does, Host_does, Host_takes, Decoder_ticks, Refuses, Shows_values, Restarts, happens}
 use Rattle.world_facts.specs.Restarts.{StartsWell}

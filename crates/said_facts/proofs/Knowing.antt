@@ -1,16 +1,14 @@
 -- The host knows the classes that the transcript shows, where each interview tells what the node lists.
-use Rattle.std.proofs.Common.{◌≡◌, ℕ, zero, suc, ◌+◌, ◌<◌, ◌==◌, ◌||◌, Bool, true, false, if◌then◌else◌, List, [], ◌∷◌, ◌++◌, length, Option, Some, None, inl, inr, refl, sym, ap, subst, ◌∙◌, append_assoc, append-nil, arith}
-use Rattle.std.specs.List.{AllByRecursion, list_any}
+use Rattle.std.proofs.Common.{◌≡◌, ℕ, zero, suc, ◌+◌, ◌==◌, ◌||◌, Bool, true, false, if◌then◌else◌, List, [], ◌∷◌, ◌++◌, length, Option, Some, None, inl, inr, refl, sym, ap, subst, ◌∙◌, append_assoc, append-nil, arith}
+use Rattle.std.specs.List.{list_any}
 use Rattle.std.proofs.lemmas.Bool.{cases_eq, eq-eqb, ne_eqb}
 use Rattle.std.proofs.lemmas.List.{length-set}
 use Rattle.zw_text.specs.declared.entry.Entry.{Entry}
 use Rattle.zw_text.specs.declared.entry.Entry.TheVariants.{Accepted, Interviewed, InterviewFailed, Out, Refused, Said}
 use Rattle.zw_text.specs.declared.entry.Ended.TheVariants as ended
-use Rattle.zw_text.specs.Transcript.{interview_at, interviews, where_same}
+use Rattle.zw_text.specs.Transcript.{interview_at, interviews}
 use Rattle.zw_text.proofs.Views.{shown-append}
 use Rattle.zw_laws.specs.Nodes.{known_at_first, known_classes}
-use Rattle.serial_frame.specs.declared.unit.Unit.{Unit as LineUnit}
-use Rattle.host_node.specs.State.{NodeState, unknown}
 use Rattle.host_node.specs.Steps.{after_interview, after_join}
 use Rattle.host_nodes.specs.State.{node_of, unknown_from, unknown_nodes, with_node}
 use Rattle.host_events.specs.State.{HostState, command_at, first_classes, first_host, first_nodes}
@@ -25,24 +23,24 @@ use Rattle.device_stack.specs.Kind.{classes_of as kind_classes}
 use Rattle.device_stack.specs.declared.kind.Kind.TheVariants.{Switch}
 use Rattle.host_events.specs.Events.{HostEvent, Accepts, Cancels, Finishes, Interviews}
 use Rattle.host_events.specs.After.{after as host_after, is_held}
-use Rattle.host_events.specs.Did.{after_all as host_after_all, MayAll as MayAllHost}
+use Rattle.host_events.specs.Did.{after_all as host_after_all}
 use Rattle.host_events.specs.Outs.{outs}
 use Rattle.host_events.specs.declared.out.HostOut.{HostOut}
 use Rattle.host_events.specs.declared.out.HostOut.TheVariants.{Write, Note}
 use Rattle.host_facts.specs.Entries.{answers_at, entries_at, notes_of}
 use Rattle.host_facts.proofs.Lists.{all-append, all-right, all-weaker}
 use Rattle.outer_events.specs.State.{Outside}
-use Rattle.outer_events.specs.Events.{OuterEvent, Host_writes, Host_notes, Host_begins, entries as entries_outside, outcome, ticked_entry, happens as happens_outside}
+use Rattle.outer_events.specs.Events.{Host_writes, Host_notes, Host_begins, entries as entries_outside, outcome, ticked_entry, happens as happens_outside}
 use Rattle.outer_events.specs.Did.{entries_all as entries_all_outside, happens_all as happens_all_outside}
 use Rattle.outer_events.proofs.Doing.{entries_all-append}
 use Rattle.zw_machine.specs.State.{Machine, begun_in, host_does, host_entries, noted_by, routed}
 use Rattle.zw_machine.specs.Events.{Event, Outside_does, Host_does, Host_takes, Decoder_ticks, Refuses, Shows_values, Restarts, answers, entries, fed, happens, notes, shown_values, May}
 use Rattle.zw_machine.specs.Did.{happens_all, entries_all, MayAll}
 use Rattle.zw_machine.proofs.Hosting.{entries_cons}
-use Rattle.said_facts.specs.Spoken.{Spoken, IsSpoken, AreSpoken, after, after_all, entries_of, transcript_of}
+use Rattle.said_facts.specs.Spoken.{Spoken, AreSpoken, after, entries_of}
 use Rattle.said_facts.specs.Said.{AllKnow, AllTell, IsTrueInterview, KnowsAgain, KnowsListing, LinesTell, TellListing, TellsListing, Tells}
 use Rattle.said_facts.proofs.Classes.{IsNoInterview, LeavesRecords, classes_of, event_kept, joined_place, set_here, set_there}
-use Rattle.said_facts.proofs.Noting.{AreRoutine, DoesRoutine, IsRoutine, behind_routine, event_routine}
+use Rattle.said_facts.proofs.Noting.{AreRoutine, IsRoutine, behind_routine, event_routine}
 use Rattle.said_facts.proofs.Outside.{AreForeign, IsForeign, own_foreign, stamp_foreign, ticked_foreign, write_foreign}
 
 -- ---- what entries show of interviews

@@ -1,6 +1,7 @@
 -- Which events of a line accept no order: all but the one that an order's own line asks for.
-use Rattle.std.proofs.Common.{◌≡◌, ◌⊎◌, ℕ, zero, suc, Bool, true, false, List, [], ◌∷◌, ◌++◌, map, Option, Some, None, inl, inr, refl, sym, ap, ap₂, subst, ◌∙◌, arith}
+use Rattle.std.proofs.Common.{◌≡◌, ◌⊎◌, ℕ, Bool, true, false, List, [], ◌∷◌, ◌++◌, map, Option, Some, None, inl, inr, refl, sym, ap, ap₂, subst, ◌∙◌, arith}
 use Rattle.std.specs.List.{AllByRecursion}
+use Rattle.std.proofs.lemmas.List.{append-nil}
 use Rattle.zw_text.specs.declared.line.Line.{Line}
 use Rattle.zw_text.specs.declared.line.Line.TheVariants as line
 use Rattle.zw_text.specs.declared.entry.Refusal.{Refusal}
@@ -15,12 +16,15 @@ use Rattle.host_facts.proofs.Lists.{all-append}
 use Rattle.outer_events.specs.Events.{OuterEvent, Begins_line}
 use Rattle.zw_machine.specs.State.{Machine}
 use Rattle.zw_machine.specs.Events.{Event, Outside_does, Host_does, Host_takes, Refuses, answers}
-use Rattle.zw_machine.specs.Did.{happens_all}
-use Rattle.zw_machine.specs.Settling.{IsPump, IsMove, TakesBy, IfMoved, Passes, Settles}
-use Rattle.zw_machine.specs.Ticking.{IsOutsideTick, IsHostTick, IsTick, Ticks}
-use Rattle.zw_machine.specs.Lines.{Asks, IsEffect, IsLine, IsLineRest}
+use Rattle.zw_machine.specs.Did.{happens_all, Schedule, FrontOf}
+use Rattle.zw_machine.specs.Settling.{IsPump, TakesBy}
+use Rattle.zw_machine.specs.Ticking.{IsHostTick}
+use Rattle.zw_machine.specs.Lines.{Asks, IsEffect, IsLineBegin}
+use Rattle.zw_machine.specs.Fronts.{LinePart}
+use Rattle.zw_machine.proofs.Pieces.{Law, Pieces, of_settling, of_settling_front, of_line_part}
 use Rattle.zw_machine.proofs.Hosting.{Silent}
 use Rattle.zw_machine.proofs.Silence.{pump_silent, tick_silent}
+use Rattle.said_facts.specs.Spoken.{Spoken, IsSpoken}
 use Rattle.said_facts.proofs.Orders.{IsNoOrder}
 
 -- ---- events that answer no line
@@ -46,9 +50,6 @@ ArePlain events = AllByRecursion IsPlain events
 plain_are : (events these : List Event) → events ≡ these → ArePlain these → ArePlain events
 plain_are events these e all = subst ArePlain (sym e) all
 
-pub plain_both : (events first later : List Event) → events ≡ first ++ later → ArePlain first → ArePlain later → ArePlain events
-plain_both events first later e one other = plain_are events (first ++ later) e (all-append IsPlain first later one other)
-
 outside_plain : (inner : List OuterEvent) → ArePlain (map Outside_does inner)
 outside_plain [] = tt
 outside_plain (event ∷ inner) = (tt, outside_plain inner)
@@ -60,7 +61,7 @@ host_plain : (events : List HostEvent) → AllByRecursion IsNoOrder events → A
 host_plain [] all = tt
 host_plain (event ∷ events) all = (all.0, host_plain events all.1)
 
--- ---- settling
+-- ---- parts of lines
 
 pump_plain : (m : Machine) (events : List Event) → IsPump m events → ArePlain events
 pump_plain m events (inner, pumps, are) =
@@ -71,47 +72,33 @@ takes_plain true bytes events are = plain_are events [] are tt
 takes_plain false [] events are = plain_are events [] are tt
 takes_plain false (byte ∷ bytes) events (rest, items, inner, are) = plain_are events (Host_takes _ rest items inner ∷ []) are (tt, tt)
 
-move_plain : (m : Machine) (events : List Event) → IsMove m events → ArePlain events
-move_plain m events (first, rest, are, (inner, takes, is), host) =
-    plain_both events first rest are (of_outside first inner is) (takes_plain _ _ rest host)
-
-moved_plain : (k : ℕ) (moves : List Event) (m : Machine) (events : List Event) → ((n : Machine) (es : List Event) → Passes k n es → ArePlain es) → IfMoved moves (Passes k) m events → ArePlain events
-moved_plain k [] m events next are = plain_are events [] are tt
-moved_plain k (moved ∷ others) m events next passes = next m events passes
-
-passes_plain : (k : ℕ) (m : Machine) (events : List Event) → Passes k m events → ArePlain events
-passes_plain zero m events are = plain_are events [] are tt
-passes_plain (suc k) m events (moves, rest, are, move, (pumps, more, is, pump, then)) =
-    plain_both events moves rest are (move_plain m moves move)
-    (plain_both rest pumps more is (pump_plain (happens_all m moves) pumps pump) (moved_plain k moves (happens_all (happens_all m moves) pumps) more (passes_plain k) then))
-
-pub settles_plain : (m : Machine) (events : List Event) → Settles m events → ArePlain events
-settles_plain m events (first, rest, are, pump, passes) =
-    plain_both events first rest are (pump_plain m first pump) (passes_plain 64 (happens_all m first) rest passes)
-
--- ---- ticks
-
-outside_tick_plain : (m : Machine) (events : List Event) → IsOutsideTick m events → ArePlain events
-outside_tick_plain m events (delivery, rest, are, (d, d_is, d_are), (giving, more, are', (g, g_is, g_are), (devices, chip, are'', (t, t_is, t_are), is))) =
-    plain_both events delivery rest are (of_outside delivery d d_are)
-    (plain_both rest giving more are' (of_outside giving g g_are)
-    (plain_both more devices chip are'' (of_outside devices t t_are) (plain_are chip _ is (tt, tt))))
-
 host_tick_plain : (m : Machine) (events : List Event) → IsHostTick m events → ArePlain events
 host_tick_plain m events are =
     plain_are events _ are (tt, host_plain (tick_events m.host.state) (silent_none m.host.state (tick_events m.host.state) (tick_silent m.host.state)))
 
-tick_plain : (m : Machine) (events : List Event) → IsTick m events → ArePlain events
-tick_plain m events (clock, rest, are, is, (outside, later, are', ticks, (host, settling, are'', counts, settles))) =
-    let ticking = happens_all m clock in
-    let ticked = happens_all ticking outside in
-    plain_both events clock rest are (plain_are clock _ is (tt, tt))
-    (plain_both rest outside later are' (outside_tick_plain ticking outside ticks)
-    (plain_both later host settling are'' (host_tick_plain ticked host counts) (settles_plain (happens_all ticked host) settling settles)))
+plain_front : (first later : List Event) → ArePlain (first ++ later) → ArePlain first
+plain_front [] later all = tt
+plain_front (event ∷ first) later all = (all.0, plain_front first later all.1)
 
-pub ticks_plain : (k : ℕ) (m : Machine) (events : List Event) → Ticks k m events → ArePlain events
-ticks_plain zero m events are = plain_are events [] are tt
-ticks_plain (suc k) m events (first, rest, are, tick, more) = plain_both events first rest are (tick_plain m first tick) (ticks_plain k (happens_all m first) rest more)
+abbrev Plain : Schedule
+Plain m events = ArePlain events
+
+plain_law : Law Plain
+plain_law = record { none = λ m. tt; both = λ m a b one other. all-append IsPlain a b one other; front = λ m a b all. plain_front a b all }
+
+pieces : Pieces Plain
+pieces = record {
+  begins = λ m events are. plain_are events _ are (tt, tt);
+  pump = pump_plain;
+  chip_part = λ m events is. of_outside events is.0 is.2;
+  host_part = λ m events is. takes_plain _ _ events is;
+  clock = λ m events are. plain_are events _ are (tt, tt);
+  delivery = λ m events is. of_outside events is.0 is.2;
+  giving = λ m events is. of_outside events is.0 is.2;
+  device_tick = λ m events is. of_outside events is.0 is.2;
+  chip_tick = λ m events are. plain_are events _ are (tt, tt);
+  host_tick = host_tick_plain;
+}
 
 -- ---- effects of lines
 
@@ -160,7 +147,14 @@ effect_plain (line.Store node) m events none is = plain_are events _ is (tt, tt)
 effect_plain line.Restart m events none (inl (state, are)) = plain_are events _ are (tt, (tt, (tt, tt)))
 effect_plain line.Restart m events none (inr (refusal, are)) = plain_are events _ are (tt, tt)
 
--- ---- whole lines
+-- ---- lines, whole or cut short
+
+pub spoken_part : (more : List Spoken) (m : Machine) (spoken : Spoken) → IsSpoken more m spoken → LinePart spoken.line m spoken.events
+spoken_part [] m spoken is = is.is_line
+spoken_part (next ∷ more) m spoken is = inl is.is_line
+
+pub line_plain : (said : Line) (m : Machine) (events : List Event) → OrdersNothing said → LinePart said m events → ArePlain events
+line_plain said m events none is = of_line_part Plain plain_law pieces said (λ n inner done. effect_plain said n inner none done) m events is
 
 -- the first event behind its beginning accepts the order that the line asks for, and no later one does
 pub record Orders (order : Order) (events : List Event) : Type 0 where
@@ -169,29 +163,46 @@ pub record Orders (order : Order) (events : List Event) : Type 0 where
   pub are : events ≡ Outside_does Begins_line ∷ Host_does (Accepts order carriage) ∷ later
   pub plain : ArePlain later
 
-then_settles : (m : Machine) (events effect rest : List Event) → events ≡ effect ++ rest → ArePlain effect → Settles (happens_all m effect) rest → ArePlain events
-then_settles m events effect rest are plain settles = plain_both events effect rest are plain (settles_plain (happens_all m effect) rest settles)
+-- an order is accepted, or none
+abbrev pub MayOrder : Order → List Event → Type 0
+MayOrder order events = Orders order events ⊎ ArePlain events
 
-rest_plain : (said : Line) (m : Machine) (events : List Event) → OrdersNothing said → IsLineRest said m events → ArePlain events
-rest_plain (line.Command order) m events none is = absurd none
-rest_plain (line.Tick count) m events none is = ticks_plain count m events is
-rest_plain said m events none (effect, rest, are, is, settles) = then_settles m events effect rest are (effect_plain said m effect none is) settles
-
-pub line_plain : (said : Line) (m : Machine) (events : List Event) → OrdersNothing said → IsLine said m events → ArePlain events
-line_plain said m events none (first, rest, are, is, more) =
-    plain_both events first rest are (plain_are first _ is (tt, tt)) (rest_plain said (happens_all m first) rest none more)
-
-pub line_orders : (order : Order) (m : Machine) (events : List Event) → IsLine (line.Command order) m events → Orders order events ⊎ ArePlain events
-line_orders order m events (first, rest, are, is, (effect, settling, are', inl accepts, settles)) =
+-- behind the effect no order is accepted
+effect_orders : (order : Order) (n : Machine) (effect later : List Event) → IsEffect (line.Command order) n effect → ArePlain later → MayOrder order (Outside_does Begins_line ∷ (effect ++ later))
+effect_orders order n effect later (inl accepts) plain =
     inl (record {
-      carriage = carriage_for (happens_all m first).host.state order;
-      later = settling;
-      are = are ∙ ap₂ (λ (a b : List Event). a ++ b) is (are' ∙ ap (λ (l : List Event). l ++ settling) accepts);
-      plain = settles_plain (happens_all (happens_all m first) effect) settling settles;
+      carriage = carriage_for n.host.state order;
+      later = later;
+      are = ap (λ (l : List Event). Outside_does Begins_line ∷ (l ++ later)) accepts;
+      plain = plain;
     })
-line_orders order m events (first, rest, are, is, (effect, settling, are', inr (refusal, refuses), settles)) =
-    inr (plain_both events first rest are (plain_are first _ is (tt, tt))
-    (then_settles (happens_all m first) rest effect settling are' (plain_are effect _ refuses (tt, tt)) settles))
+effect_orders order n effect later (inr (refusal, refuses)) plain = inr (tt, all-append IsPlain effect later (plain_are effect _ refuses (tt, tt)) plain)
+
+-- of the effect nothing was done, or all
+effect_begun : (order : Order) (n : Machine) (effect : List Event) → FrontOf (IsEffect (line.Command order)) n effect → (effect ≡ []) ⊎ IsEffect (line.Command order) n effect
+effect_begun order n effect (inl none) = inl none
+effect_begun order n [] (inr begun) = inl refl
+effect_begun order n (event ∷ []) (inr ([], is)) = inr is
+effect_begun order n (event ∷ []) (inr (next ∷ rest, inl are)) = absurd cc
+effect_begun order n (event ∷ []) (inr (next ∷ rest, inr (refusal, are))) = absurd cc
+effect_begun order n (event ∷ next ∷ effect) (inr (rest, inl are)) = absurd cc
+effect_begun order n (event ∷ next ∷ effect) (inr (rest, inr (refusal, are))) = absurd cc
+
+begun_orders : (order : Order) (m : Machine) (events first rest effect later : List Event) → events ≡ first ++ rest → IsLineBegin m first → rest ≡ effect ++ later
+    → IsEffect (line.Command order) (happens_all m first) effect → ArePlain later → MayOrder order events
+begun_orders order m events first rest effect later are is parts done plain =
+    subst (λ (l : List Event). MayOrder order l) (sym (are ∙ ap₂ (λ (a b : List Event). a ++ b) is parts)) (effect_orders order (happens_all m first) effect later done plain)
+
+pub line_orders : (order : Order) (m : Machine) (events : List Event) → LinePart (line.Command order) m events → MayOrder order events
+line_orders order m events (inl (first, rest, are, is, (effect, settling, parts, done, settles))) =
+    begun_orders order m events first rest effect settling are is parts done (of_settling Plain plain_law pieces (happens_all (happens_all m first) effect) settling settles)
+line_orders order m events (inr (inl none)) = inr (plain_are events [] none tt)
+line_orders order m events (inr (inr (first, rest, are, is, inl front))) = elim (effect_begun order (happens_all m first) rest front) [
+  | inl none ↦ inr (plain_are events _ (are ∙ ap₂ (λ (a b : List Event). a ++ b) is none) (tt, tt))
+  | inr done ↦ begun_orders order m events first rest rest [] are is (sym (append-nil rest)) done tt
+]
+line_orders order m events (inr (inr (first, rest, are, is, inr (effect, settling, parts, done, settles)))) =
+    begun_orders order m events first rest effect settling are is parts done (of_settling_front Plain plain_law pieces (happens_all (happens_all m first) effect) settling settles)
 
 -- a line asks for an order, or for none
 pub line_kind : (said : Line) → ((order : Order) × (said ≡ line.Command order)) ⊎ OrdersNothing said

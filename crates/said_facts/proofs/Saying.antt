@@ -27,13 +27,13 @@ use Rattle.outer_events.specs.Events.{Begins_line, devices_after, outcome}
 use Rattle.zw_machine.specs.State.{Machine}
 use Rattle.zw_machine.specs.Events.{Event, Outside_does, Host_does, Host_takes, Decoder_ticks, Refuses, Shows_values, Restarts, happens, entries, May}
 use Rattle.zw_machine.specs.Did.{happens_all, entries_all, MayAll}
-use Rattle.zw_machine.specs.Lines.{IsLine}
+use Rattle.zw_machine.specs.Fronts.{LinePart}
 use Rattle.zw_machine.proofs.Silence.{judged_silent}
 use Rattle.world_facts.specs.Restarts.{StartsWell, AllStartWell}
 use Rattle.said_facts.specs.Spoken.{Spoken, IsSpoken, AreSpoken, after, after_all, entries_of, transcript_of}
 use Rattle.said_facts.specs.Said.{AllKnow, AreSaid, IsSaid, KnowsListing, MayAnswer}
 use Rattle.said_facts.proofs.Orders.{IsNoOrder, SameOrders, event_kept, push_is, push_stays, restart_kept, same_orders, then_same}
-use Rattle.said_facts.proofs.Plain.{IsPlain, ArePlain, Orders, line_kind, line_orders, line_plain, silent_none}
+use Rattle.said_facts.proofs.Plain.{IsPlain, ArePlain, Orders, spoken_part, line_kind, line_orders, line_plain, silent_none}
 
 -- ---- the table over events that accept no order
 
@@ -226,35 +226,35 @@ module _ (go_on : FactsGoOn) (listing : ℕ → List ℕ) where
       done)
 
   module _ (aside : AsidesKeep) where
-    events_so : (past : List Entry) (m : Machine) (spoken : Spoken) → KnowsListing listing past m.host.state → IsSpoken m spoken → IsSo listing (past ++ Said spoken.words ∷ []) m
+    events_so : (past : List Entry) (m : Machine) (spoken : Spoken) (more : List Spoken) → KnowsListing listing past m.host.state → IsSpoken more m spoken → IsSo listing (past ++ Said spoken.words ∷ []) m
         → IsSo listing ((past ++ Said spoken.words ∷ []) ++ entries_all m spoken.events) (after m spoken)
-    events_so past m spoken knows is so = elim (line_kind spoken.line) [
-      | inl (order, which) ↦ elim (line_orders order m spoken.events (subst (λ (l : Line). IsLine l m spoken.events) which is.is_line)) [
+    events_so past m spoken more knows is so = elim (line_kind spoken.line) [
+      | inl (order, which) ↦ elim (line_orders order m spoken.events (subst (λ (l : Line). LinePart l m spoken.events) which (spoken_part more m spoken is))) [
         | inl orders ↦ orders_so past m spoken.words order spoken.events (is.read ∙ ap (λ (l : Line). l ∷ []) which) knows orders is.may is.well so
         | inr plain ↦ plain_so (past ++ Said spoken.words ∷ []) m spoken.events plain is.may is.well so
       ]
-      | inr none ↦ plain_so (past ++ Said spoken.words ∷ []) m spoken.events (line_plain spoken.line m spoken.events none is.is_line) is.may is.well so
+      | inr none ↦ plain_so (past ++ Said spoken.words ∷ []) m spoken.events (line_plain spoken.line m spoken.events none (spoken_part more m spoken is)) is.may is.well so
     ]
 
-    line_so : (past : List Entry) (m : Machine) (spoken : Spoken) → KnowsListing listing past m.host.state → IsSpoken m spoken → IsSo listing past m
+    line_so : (past : List Entry) (m : Machine) (spoken : Spoken) (more : List Spoken) → KnowsListing listing past m.host.state → IsSpoken more m spoken → IsSo listing past m
         → IsSo listing (past ++ entries_of m spoken) (after m spoken)
-    line_so past m spoken knows is so =
+    line_so past m spoken more knows is so =
         let begun : IsSo listing (past ++ Said spoken.words ∷ []) m = record {
           facts = aside past m.host.state (Said spoken.words) so.facts tt;
           said = said_more listing m.host.state.commands past (Said spoken.words ∷ []) so.said (tt, tt);
         } in
-        subst (λ (l : List Entry). IsSo listing l (after m spoken)) (append_assoc past (Said spoken.words ∷ []) (entries_all m spoken.events)) (events_so past m spoken knows is begun)
+        subst (λ (l : List Entry). IsSo listing l (after m spoken)) (append_assoc past (Said spoken.words ∷ []) (entries_all m spoken.events)) (events_so past m spoken more knows is begun)
 
     lines_so : (past : List Entry) (m : Machine) (lines : List Spoken) → AllKnow listing past m lines → AreSpoken m lines → IsSo listing past m
         → IsSo listing (past ++ transcript_of m lines) (after_all m lines)
     lines_so past m [] knows are so = subst (λ (l : List Entry). IsSo listing l m) (sym (append-nil past)) so
     lines_so past m (spoken ∷ more) knows are so =
         subst (λ (l : List Entry). IsSo listing l (after_all (after m spoken) more)) (append_assoc past (entries_of m spoken) (transcript_of (after m spoken) more))
-        (lines_so (past ++ entries_of m spoken) (after m spoken) more knows.1 are.1 (line_so past m spoken knows.0 are.0 so))
+        (lines_so (past ++ entries_of m spoken) (after m spoken) more knows.1 are.1 (line_so past m spoken more knows.0 are.0 so))
 
-    pub line_answers : (past : List Entry) (m : Machine) (spoken : Spoken) → Facts past m.host.state → AreSaid listing m.host.state.commands past → KnowsListing listing past m.host.state
-        → IsSpoken m spoken → Facts (past ++ entries_of m spoken) (after m spoken).host.state × AreSaid listing (after m spoken).host.state.commands (past ++ entries_of m spoken)
-    line_answers past m spoken facts said knows is = let so = line_so past m spoken knows is (record { facts = facts; said = said }) in (so.facts, so.said)
+    pub line_answers : (past : List Entry) (m : Machine) (spoken : Spoken) (more : List Spoken) → Facts past m.host.state → AreSaid listing m.host.state.commands past → KnowsListing listing past m.host.state
+        → IsSpoken more m spoken → Facts (past ++ entries_of m spoken) (after m spoken).host.state × AreSaid listing (after m spoken).host.state.commands (past ++ entries_of m spoken)
+    line_answers past m spoken more facts said knows is = let so = line_so past m spoken more knows is (record { facts = facts; said = said }) in (so.facts, so.said)
 
     pub lines_answer : (past : List Entry) (m : Machine) (lines : List Spoken) → Facts past m.host.state → AreSaid listing m.host.state.commands past → AllKnow listing past m lines
         → AreSpoken m lines → Facts (past ++ transcript_of m lines) (after_all m lines).host.state × AreSaid listing (after_all m lines).host.state.commands (past ++ transcript_of m lines)

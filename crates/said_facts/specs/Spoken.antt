@@ -1,4 +1,4 @@
--- Lines as they are said, one after another, with what the machine does at each (this project's own).
+-- Lines as they are said, one after another, with what the machine does at each; want of memory may have cut the last one short (this project's own).
 use Rattle.std.specs.Prelude.{◌≡◌, ℕ, List, [], ◌∷◌, ◌++◌}
 use Rattle.zw_text.specs.declared.line.Line.{Line}
 use Rattle.zw_text.specs.declared.entry.Entry.{Entry}
@@ -7,7 +7,7 @@ use Rattle.zw_text.specs.Transcript.{line_of}
 use Rattle.zw_machine.specs.State.{Machine}
 use Rattle.zw_machine.specs.Events.{Event}
 use Rattle.zw_machine.specs.Did.{happens_all, entries_all, MayAll}
-use Rattle.zw_machine.specs.Lines.{IsLine}
+use Rattle.zw_machine.specs.Fronts.{IsLineBefore}
 use Rattle.world_facts.specs.Restarts.{AllStartWell}
 
 -- the words that were said, the line that they are, and the events of it
@@ -23,17 +23,17 @@ entries_of m spoken = Said spoken.words ∷ entries_all m spoken.events
 abbrev pub after : Machine → Spoken → Machine
 after m spoken = happens_all m spoken.events
 
--- the words are read as the line; its events are those of such a line, and may happen; and a host that starts again has what the one before recorded
-pub record IsSpoken (m : Machine) (spoken : Spoken) : Type 0 where
+-- the words are read as the line; its events are those of such a line, all of them where others follow, and may happen; and a host that starts again has what the one before recorded
+pub record IsSpoken (more : List Spoken) (m : Machine) (spoken : Spoken) : Type 0 where
   pub read : line_of (Said spoken.words) ≡ spoken.line ∷ []
-  pub is_line : IsLine spoken.line m spoken.events
+  pub is_line : IsLineBefore more spoken.line m spoken.events
   pub may : MayAll m spoken.events
   pub well : AllStartWell m spoken.events
 
 -- lines, one after another
 abbrev pub AreSpoken : Machine → List Spoken → Type 0
 AreSpoken m [] = Unit {0}
-AreSpoken m (spoken ∷ more) = IsSpoken m spoken × AreSpoken (after m spoken) more
+AreSpoken m (spoken ∷ more) = IsSpoken more m spoken × AreSpoken (after m spoken) more
 
 abbrev pub after_all : Machine → List Spoken → Machine
 after_all m [] = m

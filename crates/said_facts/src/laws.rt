@@ -27,10 +27,10 @@ pub fn tables_keep_orders()
     ensures each { (m : Machine) (event : Event) → StartsWell m event → KeepsOrders m.host.state.commands (happens m event).host.state.commands }
 {}
 
-/// Over any lines each order that is accepted stands directly behind the line that asks for it, and stays in the table as it was asked for.
+/// Over any lines, the last of which want of memory may have cut short, each order that is accepted stands directly behind the line that asks for it, and stays in the table as it was asked for.
 pub fn answers_stand_behind_their_lines()
-    ensures line { (listing : ℕ → List ℕ) (past : List Entry) (m : Machine) (spoken : Spoken) → Facts past m.host.state → AreSaid listing m.host.state.commands past →
-        KnowsListing listing past m.host.state → IsSpoken m spoken →
+    ensures line { (listing : ℕ → List ℕ) (past : List Entry) (m : Machine) (spoken : Spoken) (more : List Spoken) → Facts past m.host.state → AreSaid listing m.host.state.commands past →
+        KnowsListing listing past m.host.state → IsSpoken more m spoken →
         Facts (past ++ entries_of m spoken) (after m spoken).host.state × AreSaid listing (after m spoken).host.state.commands (past ++ entries_of m spoken) }
     ensures lines { (listing : ℕ → List ℕ) (past : List Entry) (m : Machine) (lines : List Spoken) → Facts past m.host.state → AreSaid listing m.host.state.commands past →
         AllKnow listing past m lines → AreSpoken m lines →
@@ -57,7 +57,7 @@ pub fn interviews_give_what_is_known()
     texts_give_one_thing();
 }
 
-/// From the beginning on: over any lines, whatever happens at each, where interviews tell what nodes list.
+/// From the beginning on: over any such lines, whatever happens at each, where interviews tell what nodes list.
 pub fn runs_have_their_tables()
     ensures { (listing : ℕ → List ℕ) (keys : Keys) (records : Option (List (List ℕ))) (devices : List State) (lines : List Spoken) (node : ℕ) →
         AreSpoken (first_machine keys records devices) lines → LinesTell listing (first_machine keys records devices) lines →
