@@ -131,7 +131,7 @@ module _ (laws : Laws) (node : ℕ) (orders : List Asked) (c : Course) (rest : R
       mesh_goes w (record { air = answered_if (is_joined w.outer.air device.node) w.outer.air device.node (option_map backwards route) (device_replies device event); devices = slice_set w.devices place (device_after device event) }) [] f
       (laws.own node orders c (mesh_of w) place device event (option_map backwards route) f.mesh stood here
       (λ own. goes device (subst (λ (d : State). AtDevice c d)
-          (sym (one_stands w.devices place h.place device h.device stood h.stands (one_place node w.devices place h.place (ap (λ (k : ℕ). place_of k w.devices) (sym own) ∙ here) h.first))) h.at))
+      (sym (one_stands w.devices place h.place device h.device stood h.stands (one_place node w.devices place h.place (ap (λ (k : ℕ). place_of k w.devices) (sym own) ∙ here) h.first))) h.at))
       (λ own. laws.keeps orders c.host.commands device event none (f.mesh.made place device stood own)))
 
   hand_go : (w : Outside) (n : ℕ) (place : Option ℕ) (event : DeviceEvent) (route : Option Route) → HearsNone event → Follows node orders c rest turn up down w → place_of n w.devices ≡ place → ((device : State) → AtDevice c device → GoesAs c device event)

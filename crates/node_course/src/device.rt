@@ -45,5 +45,4 @@ pub fn devices_follow_the_course()
 pub fn idle_devices_stay_idle()
     ensures fresh { (node : ℕ) (kind : Kind) (key : List ℕ) → IsIdle (fresh node kind key) }
     ensures ticks { (device : State) (drawn : List ℕ) → IsIdle device → IsIdle (device_after device (Ticks drawn)) × (device_replies device (Ticks drawn) ≡ []) }
-{
-}
+{}
