@@ -47,7 +47,7 @@ pub fn successes_follow_changes()
     endings_are_shown();
 }
 
-/// So over any lines from the beginning on, with devices that have not changed yet, of which no two are of one node.
+/// So over any lines from the beginning on, the last of which want of memory may have cut short, with devices that have not changed yet, of which no two are of one node.
 pub fn runs_report_after_the_change()
     ensures one { (keys : Keys) (records : Option (List (List ℕ))) (devices : List State) (lines : List Spoken) (node : ℕ) → AreUnchanged devices → AreApart devices →
         AreSpoken (first_machine keys records devices) lines → LinesAreTrue node (first_machine keys records devices) lines →
@@ -74,7 +74,7 @@ pub fn others_are_told_nothing()
     interviews_give_what_is_known();
 }
 
-/// The headline, over any lines from the beginning on, with devices that have not changed yet, where each interview that ends well tells what the node's device lists: of
+/// The headline, over any such lines, with devices that have not changed yet, where each interview that ends well tells what the node's device lists: of
 /// each device that knows Supervision, is the first of its node and is tied to the host in the end. And the whole, where all those are, each report of
 /// success is true of the first node and of those, and no two devices are of one node.
 pub fn runs_have_the_headline()

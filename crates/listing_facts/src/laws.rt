@@ -22,7 +22,7 @@ use run_facts::{lines_ask_well, lines_keep_and_ask_well, runs_keep_and_ask_well}
 use said_facts::interviews_give_what_is_known;
 use world_facts::{restarts_go_on, the_machine_keeps_facts};
 
-/// In every run of lines that were read, over a keeper that tells its records and has none at first: an interview that ends well hears what the first
+/// In every run of lines that were read, the last of which want of memory may have cut short, over a keeper that tells its records and has none at first: an interview that ends well hears what the first
 /// device of its node lists. It is of a node that is joined, and a host that starts again knows what the one before knew, where the keeper holds
 /// fewer than 2 ^ 32 records in the end.
 pub fn interviews_tell_what_nodes_list()

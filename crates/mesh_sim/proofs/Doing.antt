@@ -17,7 +17,7 @@ use Rattle.mesh_sim.specs.Routes.{IsRoute, backwards}
 use Rattle.mesh_sim.specs.Air.{AirState, is_joined, departing}
 use Rattle.mesh_sim.specs.Fates.{Mesh, HearsWithin, fate_of, listener_of}
 use Rattle.air_frames.specs.declared.ages.Refusal.{Refusal}
-use Rattle.mesh_sim.specs.Steps.{AirStep, Arrives, Repeats, mesh_after, mesh_outs, MayHappen, mesh_after_all, mesh_outs_all, MayAllHappen, Did, Stops, Delivers, IsCut, IsArrival, HasHeard, HasPerhaps, Comes, done_of, outs_at, landed, acknowledged, status_of, answered, answered_if, air_hearing, outs_hearing, heard_at, arriving, arriving_as, arrival_outs, arrival_outs_as, MayArrive, MayArriveIf, repeating, repeating_by, repeat_outs, repeat_outs_by, MayRepeat, MayRepeatBy, MayHearAgain, heard_again, outs_again, ComesAgain, IsHeardAgain, IsHeardPerhaps}
+use Rattle.mesh_sim.specs.Steps.{AirStep, Arrives, Repeats, mesh_after, mesh_outs, MayHappen, mesh_after_all, mesh_outs_all, MayAllHappen, Did, Stops, Delivers, IsCut, IsArrival, IsRepeatOf, HasHeard, HasPerhaps, Comes, done_of, outs_at, landed, acknowledged, status_of, answered, answered_if, air_hearing, outs_hearing, heard_at, arriving, arriving_as, arrival_outs, arrival_outs_as, MayArrive, MayArriveIf, repeating, repeating_by, repeat_outs, repeat_outs_by, MayRepeat, MayRepeatBy, MayHearAgain, heard_again, outs_again, ComesAgain, IsHeardAgain, IsHeardPerhaps}
 
 abbrev pub States : Type 0
 States = List State
@@ -55,7 +55,7 @@ did_both xs ys a b c d e f before mid all first more = record {
 }
 
 -- it stops where nothing was told, and a device may have done its part
-pub stop_now : (old new : AirState) (ds ds' : States) (before all : List AirEvent) → new ≡ old → all ≡ before → IsCut (mesh old ds) ds' → Stops old ds new ds' before all
+pub stop_now : (old new : AirState) (ds ds' : States) (before all : List AirEvent) → new ≡ old → all ≡ before → IsCut IsArrival (mesh old ds) ds' → Stops old ds new ds' before all
 stop_now old new ds ds' before all same told cut = record {
   steps = [];
   arrivals = All-nil IsArrival;
@@ -72,7 +72,7 @@ stop_then xs a b c d e f before mid all arrive first more = record {
   arrivals = All-append IsArrival xs more.steps arrive more.arrivals;
   may = MayAllHappen-append (mesh a d) xs more.steps first.may (subst (λ (m : Mesh). MayAllHappen m more.steps) first.mesh more.may);
   air_is = more.air_is ∙ ap (λ (m : Mesh). m.air) whole;
-  cut = subst (λ (m : Mesh). IsCut m f) whole more.cut;
+  cut = subst (λ (m : Mesh). IsCut IsArrival m f) whole more.cut;
   outs = outs_then before mid all (mesh_outs_all (mesh a d) xs) (mesh_outs_all (mesh b e) more.steps) first.outs more.outs
       ∙ ap (λ l. before ++ l) (ap (λ (m : Mesh). mesh_outs_all (mesh a d) xs ++ mesh_outs_all m more.steps) first.mesh ∙ sym (mesh_outs_all-append (mesh a d) xs more.steps));
 }
@@ -94,10 +94,11 @@ module _ (old new : AirState) (ds later : States) (frame : Flown) (fate : Fate) 
         ∙ (ap (λ (o : Option Flown). arrival_outs (mesh old ds) o drawn route) (sym next) ∙ sym (append-nil (arrival_outs (mesh old ds) (next_of old.frames) drawn route))));
   }
 
-  pub arrive_cut : MayArrive (mesh old ds) frame fate route → later ≡ (arriving_as (mesh old ds) frame fate drawn route).devices → IsCut (mesh old ds) later
+  pub arrive_cut : MayArrive (mesh old ds) frame fate route → later ≡ (arriving_as (mesh old ds) frame fate drawn route).devices → IsCut IsArrival (mesh old ds) later
   unfolding mesh_after MayHappen
   arrive_cut may moves = inr (
     Arrives drawn route,
+    (drawn, route, refl),
     (subst (λ (o : Option Flown). MayArriveIf (mesh old ds) o route) (sym next) (subst (λ (f : Fate). MayArrive (mesh old ds) frame f route) is may), eight),
     moves ∙ (ap (λ (f : Fate). (arriving_as (mesh old ds) frame f drawn route).devices) is ∙ ap (λ (o : Option Flown). (arriving (mesh old ds) o drawn route).devices) (sym next)),
   )
@@ -190,7 +191,7 @@ pub one_arrived : (count : ℕ) (a b c : AirState) (d e f : States) (before mid 
 one_arrived count a b c d e f before mid all first more =
     let moves = arrived b c e f more.0 more.1 mid all more.2 in record {
       steps = first.steps ++ Arrives more.0 more.1 ∷ [];
-      arrivals = All-append IsArrival first.steps (Arrives more.0 more.1 ∷ []) first.arrivals (All-cons IsArrival (Arrives more.0 more.1) [] tt (All-nil IsArrival));
+      arrivals = All-append IsArrival first.steps (Arrives more.0 more.1 ∷ []) first.arrivals (All-cons IsArrival (Arrives more.0 more.1) [] (more.0, more.1, refl) (All-nil IsArrival));
       each = length-append first.steps (Arrives more.0 more.1 ∷ []) ∙ ap (λ n. n + 1) first.each;
       did = did_both first.steps (Arrives more.0 more.1 ∷ []) a b c d e f before mid all first.did more.2;
       landed = let x = moves.landed in let y = first.landed in omega arith;
@@ -274,7 +275,7 @@ module _ {V E : Type 0} (r : Result V E) (old new : AirState) (ds later : States
       go (Ok v) heard = (drawn, heard.0, device_ok heard.0 heard.1)
       go (Err e) heard = tt
 
-  device_cut : HasPerhaps old node d d' (Hears payload drawn) → IsCut (mesh old ds) later
+  device_cut : HasPerhaps old node d d' (Hears payload drawn) → IsCut IsArrival (mesh old ds) later
   device_cut (inl same) = inl (set_is ∙ (ap (λ (x : State). set ds place x) same ∙ set_same ds place d at))
   device_cut (inr (route, way, after)) =
       arrive_cut old old ds later comes.frame (AtDevice place) drawn route [] [] comes.next (sym is ∙ comes.becomes) eight
@@ -289,10 +290,10 @@ module _ {V E : Type 0} (r : Result V E) (old new : AirState) (ds later : States
       go (Ok v) same told perhaps = tt
       go (Err e) same told perhaps = stop_now old new ds later before all same told (device_cut perhaps)
 
-  pub device_is_cut : OnErr r (HasPerhaps old node d d' (Hears payload drawn)) → OnErr r (IsCut (mesh old ds) later)
+  pub device_is_cut : OnErr r (HasPerhaps old node d d' (Hears payload drawn)) → OnErr r (IsCut IsArrival (mesh old ds) later)
   device_is_cut = go r
     where
-      go : (s : Result V E) → OnErr s (HasPerhaps old node d d' (Hears payload drawn)) → OnErr s (IsCut (mesh old ds) later)
+      go : (s : Result V E) → OnErr s (HasPerhaps old node d d' (Hears payload drawn)) → OnErr s (IsCut IsArrival (mesh old ds) later)
       go (Ok v) perhaps = tt
       go (Err e) perhaps = device_cut perhaps
 
@@ -339,13 +340,14 @@ module _ (old new : AirState) (ds later : States) (frame_number : ℕ) (heading 
       ∙ (ap (λ n. outs_again (mesh old ds) (listener_of n ds) frame_number n route (Hears payload drawn)) comes.ends
       ∙ ap (λ p. outs_again (mesh old ds) (listener_of comes.frame.node ds) frame_number comes.frame.node route (Hears p drawn)) comes.carries)))
 
-  pub device_again_cut : heading ≡ Outward → IsHeardPerhaps old ds later node payload → IsCut (mesh old ds) later
+  pub device_again_cut : heading ≡ Outward → IsHeardPerhaps old ds later node payload → IsCut (IsRepeatOf frame_number) (mesh old ds) later
   unfolding mesh_after MayHappen
   device_again_cut is (inl same) = inl same
   device_again_cut is (inr (drawn', route', may, moves, eight)) =
       let same : Outward ≡ comes.frame.heading = sym is ∙ comes.heads in
       inr (
         Repeats frame_number drawn' route',
+        (drawn', route', refl),
         (
           comes.allowed,
           subst (λ (o : Option Flown). MayRepeat (mesh old ds) o route') (sym comes.kept) (subst (λ (h : Heading). MayRepeatBy h (mesh old ds) comes.frame route') same

@@ -238,15 +238,11 @@ pub record Did (steps : List AirStep) (old : AirState) (devices : List State) (n
 
 -- the step is an arrival
 abbrev pub IsArrival : AirStep → Type 0
-IsArrival (Arrives drawn route) = Unit {0}
-IsArrival (Links a b live) = ⊥
-IsArrival (Joins node listening) = ⊥
-IsArrival (Begins node sessions) = ⊥
-IsArrival (Loses count) = ⊥
-IsArrival (Loses_acks count) = ⊥
-IsArrival (Sends node route payload) = ⊥
-IsArrival (Sends_from node route payload) = ⊥
-IsArrival (Repeats number drawn route) = ⊥
+IsArrival step = (drawn : List ℕ) × (route : Option Route) × (step ≡ Arrives drawn route)
+
+-- the step is a repeat of the frame of that number
+abbrev pub IsRepeatOf : ℕ → AirStep → Type 0
+IsRepeatOf number step = (drawn : List ℕ) × (route : Option Route) × (step ≡ Repeats number drawn route)
 
 -- exactly the frames arrived that were on the air
 pub record Delivers (old : AirState) (devices : List State) (new : AirState) (later : List State) (before all : List AirEvent) : Type 0 where
@@ -255,17 +251,17 @@ pub record Delivers (old : AirState) (devices : List State) (new : AirState) (la
   pub each : length steps ≡ old.frames.sent - old.frames.landed
   pub did : Did steps old devices new later before all
 
--- the devices are as they were, or as a step that may happen leaves them
-abbrev pub IsCut : Mesh → List State → Type 0
-IsCut mesh later = (later ≡ mesh.devices) ⊎ ((step : AirStep) × MayHappen mesh step × (later ≡ (mesh_after mesh step).devices))
+-- the devices are as they were, or as a step that may happen, and is such a one, leaves them
+abbrev pub IsCut : (AirStep → Type 0) → Mesh → List State → Type 0
+IsCut Which mesh later = (later ≡ mesh.devices) ⊎ ((step : AirStep) × Which step × MayHappen mesh step × (later ≡ (mesh_after mesh step).devices))
 
--- a front was done, and told whole; the device of one further step may have done its part
+-- a front was done, and told whole; the device of one further arrival may have done its part
 pub record Stops (old : AirState) (devices : List State) (new : AirState) (later : List State) (before all : List AirEvent) : Type 0 where
   pub steps : List AirStep
   pub arrivals : All IsArrival steps
   pub may : MayAllHappen (record { air = old; devices = devices }) steps
   pub air_is : new ≡ (mesh_after_all (record { air = old; devices = devices }) steps).air
-  pub cut : IsCut (mesh_after_all (record { air = old; devices = devices }) steps) later
+  pub cut : IsCut IsArrival (mesh_after_all (record { air = old; devices = devices }) steps) later
   pub outs : all ≡ before ++ mesh_outs_all (record { air = old; devices = devices }) steps
 
 -- a device is as it was, or has heard, with the route over which it would answer

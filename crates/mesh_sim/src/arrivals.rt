@@ -11,7 +11,7 @@ ghost use Rattle.air_frames.specs.Frames.{landing, next_of};
 ghost use Rattle.mesh_sim.specs.Air.{is_joined, departing};
 ghost use Rattle.mesh_sim.specs.Routes.{IsRoute, backwards};
 ghost use Rattle.mesh_sim.specs.Fates.{HearsWithin};
-ghost use Rattle.mesh_sim.specs.Steps.{Arrives, Did, Stops, IsCut, Delivers, landed, acknowledged, status_of, done_of, changed, sent_event, answered, answers, answered_if, answers_if, HasHeard, HasPerhaps, Comes};
+ghost use Rattle.mesh_sim.specs.Steps.{Arrives, Did, Stops, IsArrival, IsCut, Delivers, landed, acknowledged, status_of, done_of, changed, sent_event, answered, answers, answered_if, answers_if, HasHeard, HasPerhaps, Comes};
 
 use crate::air::{NO_ROUTE, copy_of};
 use crate::devices::{changes_of, hear_one};
@@ -57,7 +57,8 @@ pub(crate) struct Arrival {
 impl Air {
     /// Delivers each frame that is on the air now, in the order of numbers. At each what became of it is first, then the
     /// changes of the device that heard it, then the frames that the device sends, then the end of a frame of node 1.
-    /// `draw` gives the bytes for the nonces of the devices. Where memory is wanting a front of that was done.
+    /// `draw` gives the bytes for the nonces of the devices. Where memory is wanting a front of that was done, and the
+    /// device of one further frame may have heard.
     pub fn deliver<D: Draw>(
         &mut self,
         devices: &mut Vec<Box<dyn Device>>,
@@ -95,7 +96,7 @@ impl Air {
         ensures ok { OnOk result ((drawn : Items ℕ) × (route : Option TheRoute) × Did (Arrives drawn route ∷ [])
             self.old.state (map (λ d. state d) devices.old.items) self.new.state (map (λ d. state d) devices.new.items) out.old.items out.new.items) }
         ensures err { OnErr result (Stops self.old.state (map (λ d. state d) devices.old.items) self.new.state (map (λ d. state d) devices.new.items) out.old.items out.new.items) }
-        ensures cut { OnErr result (IsCut (record { air = self.old.state; devices = map (λ d. state d) devices.old.items }) (map (λ d. state d) devices.new.items)) }
+        ensures cut { OnErr result (IsCut IsArrival (record { air = self.old.state; devices = map (λ d. state d) devices.old.items }) (map (λ d. state d) devices.new.items)) }
         ensures kept { length devices.new.items ≡ length devices.old.items }
     {
         let coming = self.coming(devices);

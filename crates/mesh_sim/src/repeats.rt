@@ -8,7 +8,7 @@ ghost use Rattle.air_frames.specs.declared.ages.Refusal.{Refusal as Refused};
 ghost use Rattle.air_frames.specs.History.{Mark, IsOf, refusal_in};
 ghost use Rattle.mesh_sim.specs.Faults.{IsFault};
 ghost use Rattle.mesh_sim.specs.Fates.{Mesh};
-ghost use Rattle.mesh_sim.specs.Steps.{Repeats, Did, IsCut, HasHeard, HasPerhaps, ComesAgain, IsHeardAgain, IsHeardPerhaps};
+ghost use Rattle.mesh_sim.specs.Steps.{Repeats, Did, IsRepeatOf, IsCut, HasHeard, HasPerhaps, ComesAgain, IsHeardAgain, IsHeardPerhaps};
 
 use crate::air::copy_of;
 use crate::arrivals::{Arrival, enter_at_chip};
@@ -44,7 +44,7 @@ impl Air {
             self.old.state (map (λ d. state d) devices.old.items) self.new.state (map (λ d. state d) devices.new.items) out.old.items out.new.items) }
         ensures err { OnErr result (self.new.state ≡ self.old.state) }
         ensures no_outs { OnErr result (out.new.items ≡ out.old.items) }
-        ensures cut { OnErr result (IsCut (record { air = self.old.state; devices = map (λ d. state d) devices.old.items }) (map (λ d. state d) devices.new.items)) }
+        ensures cut { OnErr result (IsCut (IsRepeatOf frame) (record { air = self.old.state; devices = map (λ d. state d) devices.old.items }) (map (λ d. state d) devices.new.items)) }
         ensures kept { length devices.new.items ≡ length devices.old.items }
     {
         ages_are_those_of_the_history();

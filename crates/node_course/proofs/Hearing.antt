@@ -1,5 +1,5 @@
 -- In a line the host makes something of a payload only where it has taken it out of its pipe, and what it is asked to send beside orders is what Sets and Gets are.
-use Rattle.std.proofs.Common.{◌≡◌, ℕ, zero, suc, Bool, true, false, List, [], ◌∷◌, ◌++◌, length, map, refl, sym, subst, inl, inr, ◌+◌, ◌-◌, ◌≤◌}
+use Rattle.std.proofs.Common.{◌≡◌, ℕ, Bool, true, false, List, [], ◌∷◌, ◌++◌, length, map, sym, subst, inl, inr, ◌≤◌}
 use Rattle.std.specs.Prelude.{if◌then◌else◌, Option, Some, None}
 use Rattle.std.specs.List.{AllByRecursion}
 use Rattle.zw_text.specs.declared.line.Line.{Line}
@@ -16,14 +16,14 @@ use Rattle.host_events.specs.Events.{HostEvent, Queues, Queues_interview, Queues
 use Rattle.host_events.specs.Ticking.{first_ticks, ticking_nodes}
 use Rattle.host_events.specs.Ticking.{tick_events}
 use Rattle.outer_events.specs.State.{is_stalled}
-use Rattle.outer_events.specs.Events.{OuterEvent, Chip_takes, Chip_ticks, Discovers, Begins_line, Begins_tick}
-use Rattle.outer_events.specs.Schedules.{TakesBy as ChipTakesBy, Arrivals, Delivers, Givings, DeviceTicks, IsRepeat, IsWake, IsSet}
+use Rattle.outer_events.specs.Events.{OuterEvent, Discovers}
+use Rattle.outer_events.specs.Schedules.{IsRepeat, IsWake, IsSet}
 use Rattle.zw_machine.specs.State.{Machine}
 use Rattle.zw_machine.specs.Events.{Event, Outside_does, Host_does, Decoder_ticks, happens}
 use Rattle.zw_machine.specs.Did.{happens_all, Schedule}
-use Rattle.zw_machine.specs.Settling.{Outside, IsPump, IsChipPart, IsHostPart, TakesBy}
-use Rattle.zw_machine.specs.Ticking.{IsClockTick, IsDelivery, IsGiving, IsDeviceTick, IsChipTick, IsHostTick}
-use Rattle.zw_machine.specs.Lines.{IsRefusal, IsDone, Asks, IsRestart, IsDiscovery, IsEffect, IsLineBegin}
+use Rattle.zw_machine.specs.Settling.{Outside, IsPump, IsHostPart, TakesBy}
+use Rattle.zw_machine.specs.Ticking.{IsHostTick}
+use Rattle.zw_machine.specs.Lines.{IsRefusal, IsDone, Asks, IsRestart, IsDiscovery, IsEffect}
 use Rattle.zw_machine.specs.Fronts.{IsLineBefore}
 use Rattle.zw_machine.proofs.Pieces.{Of, Law, Pieces, of_none, of_then, of_line_before}
 use Rattle.host_events.specs.After.{is_full, after as after_host}
@@ -37,12 +37,13 @@ use Rattle.line_facts.specs.Line.{AreLines}
 use Rattle.node_course.specs.World.{NamesEnd, IsOfLine, ComesOfLine}
 
 module _ (Near : Type 0) (Is : List ℕ → Type 0) (sends : (classes : List ℕ) (word : Word) → Is (send_text classes word)) (gets : (classes : List ℕ) (end : ℕ) → end ≤ 127 → Is (get_text classes end)) (node : ℕ) where
+  -- each event comes of a line
   abbrev pub AllEnd : Machine → List Event → Type 0
   AllEnd m events = AllByRecursion (ComesOfLine Near Is node) events
 
   -- ---- lists
 
-  -- so of the events of a schedule
+  -- so does each of a schedule
   abbrev pub EndOf : Schedule → Type 0
   EndOf Kind = Of AllEnd Kind
 
@@ -57,23 +58,21 @@ module _ (Near : Type 0) (Is : List ℕ → Type 0) (sends : (classes : List ℕ
   ends_law : Law AllEnd
   ends_law = record { none = λ m. tt; both = ends_both; front = ends_front }
 
-  -- ---- events that take nothing
+  -- ---- events outside the host, and those of the host
 
-  abbrev TakesNone : OuterEvent → Type 0
-  TakesNone (Chip_takes count rest ways) = ⊥
-  TakesNone event = Unit {0}
+  outer_ends : (m : Machine) (inner : List OuterEvent) → AllEnd m (map Outside_does inner)
+  outer_ends m [] = tt
+  outer_ends m (event ∷ inner) = (tt, outer_ends (happens m (Outside_does event)) inner)
 
-  one_takes_none : (m : Machine) (event : OuterEvent) → TakesNone event → Unit {0}
-  one_takes_none m (Chip_takes count rest ways) none = absurd none
-  one_takes_none m _ none = tt
+  outside_ends : (Kind : List OuterEvent → Type 0) (m : Machine) (events : List Event) → Outside Kind events → AllEnd m events
+  outside_ends Kind m events (inner, is, are) = subst (λ (l : List Event). AllEnd m l) (sym are) (outer_ends m inner)
 
-  outer_take_none : (m : Machine) (inner : List OuterEvent) → AllByRecursion TakesNone inner → AllEnd m (map Outside_does inner)
-  outer_take_none m [] all = tt
-  outer_take_none m (event ∷ inner) all = (one_takes_none m event all.0, outer_take_none (happens m (Outside_does event)) inner all.1)
+  one_ends : (m : Machine) (event : OuterEvent) (events : List Event) → events ≡ Outside_does event ∷ [] → AllEnd m events
+  one_ends m event events are = subst (λ (l : List Event). AllEnd m l) (sym are) (tt, tt)
 
-  host_takes_none : (m : Machine) (inner : List HostEvent) → AllByRecursion (IsOfLine Near Is node) inner → AllEnd m (map Host_does inner)
-  host_takes_none m [] all = tt
-  host_takes_none m (event ∷ inner) all = (all.0, host_takes_none (happens m (Host_does event)) inner all.1)
+  hosts_end : (m : Machine) (inner : List HostEvent) → AllByRecursion (IsOfLine Near Is node) inner → AllEnd m (map Host_does inner)
+  hosts_end m [] all = tt
+  hosts_end m (event ∷ inner) all = (all.0, hosts_end (happens m (Host_does event)) inner all.1)
 
   -- ---- what the host does of itself
 
@@ -127,147 +126,91 @@ module _ (Near : Type 0) (Is : List ℕ → Type 0) (sends : (classes : List ℕ
   tick_none : (h : HostState) → AllByRecursion (IsOfLine Near Is node) (tick_events h)
   tick_none h = (tt, (tt, nodes_tick (ticking_nodes (after_host_all h first_ticks))))
 
-  outside_none : (Kind : List OuterEvent → Type 0) → ((inner : List OuterEvent) → Kind inner → AllByRecursion TakesNone inner) → (m : Machine) (events : List Event) → Outside Kind events → AllEnd m events
-  outside_none Kind none m events (inner, is, are) = subst (λ (l : List Event). AllEnd m l) (sym are) (outer_take_none m inner (none inner is))
-
-  one_none : (m : Machine) (event : OuterEvent) (events : List Event) → events ≡ Outside_does event ∷ [] → TakesNone event → AllEnd m events
-  one_none m event events are none = subst (λ (l : List Event). AllEnd m l) (sym are) (one_takes_none m event none, tt)
-
   -- ---- a settling
 
-  pump_takes : EndOf IsPump
-  pump_takes m events (inner, pumps, are) = subst (λ (l : List Event). AllEnd m l) (sym are) (host_takes_none m inner (pumps_none m.host.state inner pumps))
+  pump_ends : EndOf IsPump
+  pump_ends m events (inner, pumps, are) = subst (λ (l : List Event). AllEnd m l) (sym are) (hosts_end m inner (pumps_none m.host.state inner pumps))
 
-  chip_takes_by : (m : Machine) (stalled : Bool) (bytes : List ℕ) (inner : List OuterEvent) → ChipTakesBy stalled bytes m.outside.outer inner → AllEnd m (map Outside_does inner)
-  chip_takes_by m true bytes inner is = subst (λ (l : List OuterEvent). AllEnd m (map Outside_does l)) (sym is) tt
-  chip_takes_by m false [] inner is = subst (λ (l : List OuterEvent). AllEnd m (map Outside_does l)) (sym is) tt
-  chip_takes_by m false (byte ∷ bytes) inner is = subst (λ (l : List OuterEvent). AllEnd m (map Outside_does l)) (sym is.are) (tt, tt)
+  host_ends_by : (m : Machine) (stalled : Bool) (bytes : List ℕ) (events : List Event) → TakesBy stalled bytes events → AllEnd m events
+  host_ends_by m true bytes events is = subst (λ (l : List Event). AllEnd m l) (sym is) tt
+  host_ends_by m false [] events is = subst (λ (l : List Event). AllEnd m l) (sym is) tt
+  host_ends_by m false (byte ∷ bytes) events (rest, items, inner, are) = subst (λ (l : List Event). AllEnd m l) (sym are) (tt, tt)
 
-  chip_part_takes : EndOf IsChipPart
-  chip_part_takes m events (inner, is, are) =
-      subst (λ (l : List Event). AllEnd m l) (sym are) (chip_takes_by m (is_stalled m.outside.outer) m.outside.outer.to_chip.bytes inner is)
-
-  host_takes_by : (m : Machine) (stalled : Bool) (bytes : List ℕ) (events : List Event) → m.outside.outer.to_host.bytes ≡ bytes → TakesBy stalled bytes events → AllEnd m events
-  host_takes_by m true bytes events there is = subst (λ (l : List Event). AllEnd m l) (sym is) tt
-  host_takes_by m false [] events there is = subst (λ (l : List Event). AllEnd m l) (sym is) tt
-  host_takes_by m false (byte ∷ bytes) events there (rest, items, inner, are) =
-      subst (λ (l : List Event). AllEnd m l) (sym are) (tt, tt)
-
-  host_part_takes : EndOf IsHostPart
-  host_part_takes m events is = host_takes_by m (is_stalled m.outside.outer) m.outside.outer.to_host.bytes events refl is
+  host_part_ends : EndOf IsHostPart
+  host_part_ends m events is = host_ends_by m (is_stalled m.outside.outer) m.outside.outer.to_host.bytes events is
 
   -- ---- ticks
 
-  arrivals_none : (count : ℕ) (inner : List OuterEvent) → Arrivals count inner → AllByRecursion TakesNone inner
-  arrivals_none zero inner is = subst (λ (l : List OuterEvent). AllByRecursion TakesNone l) (sym is) tt
-  arrivals_none (suc count) inner (drawn, route, rest, are, more) = subst (λ (l : List OuterEvent). AllByRecursion TakesNone l) (sym are) (tt, arrivals_none count rest more)
-
-  givings_none : (count : ℕ) (inner : List OuterEvent) → Givings count inner → AllByRecursion TakesNone inner
-  givings_none zero inner is = subst (λ (l : List OuterEvent). AllByRecursion TakesNone l) (sym is) tt
-  givings_none (suc count) inner (route, rest, are, more) = subst (λ (l : List OuterEvent). AllByRecursion TakesNone l) (sym are) (tt, givings_none count rest more)
-
-  device_ticks_none : (place count : ℕ) (inner : List OuterEvent) → DeviceTicks place count inner → AllByRecursion TakesNone inner
-  device_ticks_none place zero inner is = subst (λ (l : List OuterEvent). AllByRecursion TakesNone l) (sym is) tt
-  device_ticks_none place (suc count) inner (drawn, route, rest, are, more) =
-      subst (λ (l : List OuterEvent). AllByRecursion TakesNone l) (sym are) (tt, device_ticks_none (place + 1) count rest more)
-
-  delivery_takes : EndOf IsDelivery
-  delivery_takes m = outside_none (Delivers m.outside.outer) (arrivals_none (m.outside.outer.air.frames.sent - m.outside.outer.air.frames.landed)) m
-
-  giving_takes : EndOf IsGiving
-  giving_takes m = outside_none (Givings (length m.outside.outer.due)) (givings_none (length m.outside.outer.due)) m
-
-  device_tick_takes : EndOf IsDeviceTick
-  device_tick_takes m = outside_none (DeviceTicks 0 (length m.outside.devices)) (device_ticks_none 0 (length m.outside.devices)) m
-
-  host_tick_takes : EndOf IsHostTick
-  host_tick_takes m events are = subst (λ (l : List Event). AllEnd m l) (sym are) (tt, host_takes_none (happens m Decoder_ticks) (tick_events m.host.state) (tick_none m.host.state))
-
-  clock_tick_takes : EndOf IsClockTick
-  clock_tick_takes m events are = one_none m Begins_tick events are tt
-
-  chip_tick_takes : EndOf IsChipTick
-  chip_tick_takes m events are = one_none m Chip_ticks events are tt
+  host_tick_ends : EndOf IsHostTick
+  host_tick_ends m events are = subst (λ (l : List Event). AllEnd m l) (sym are) (tt, hosts_end (happens m Decoder_ticks) (tick_events m.host.state) (tick_none m.host.state))
 
   -- ---- lines
 
-  refusal_takes : (line : Line) (m : Machine) (events : List Event) → IsRefusal line events → AllEnd m events
-  refusal_takes line m events (refusal, are) = subst (λ (l : List Event). AllEnd m l) (sym are) (tt, tt)
+  refusal_ends : (line : Line) (m : Machine) (events : List Event) → IsRefusal line events → AllEnd m events
+  refusal_ends line m events (refusal, are) = subst (λ (l : List Event). AllEnd m l) (sym are) (tt, tt)
 
-  asks_takes : (rule : Option Refused) (line : Line) (event : HostEvent) → IsOfLine Near Is node event → (m : Machine) (events : List Event) → Asks rule line event events → AllEnd m events
-  asks_takes None line event none m events are = subst (λ (l : List Event). AllEnd m l) (sym are) (none, tt)
-  asks_takes (Some refused) line event none m events (refusal, shown, are) = subst (λ (l : List Event). AllEnd m l) (sym are) (tt, tt)
+  asks_ends : (rule : Option Refused) (line : Line) (event : HostEvent) → IsOfLine Near Is node event → (m : Machine) (events : List Event) → Asks rule line event events → AllEnd m events
+  asks_ends None line event none m events are = subst (λ (l : List Event). AllEnd m l) (sym are) (none, tt)
+  asks_ends (Some refused) line event none m events (refusal, shown, are) = subst (λ (l : List Event). AllEnd m l) (sym are) (tt, tt)
 
-  done_takes : (line : Line) (these : List Event) (m : Machine) (events : List Event) → IsDone line these events → AllEnd m these → AllEnd m events
-  done_takes line these m events (inl are) take = subst (λ (l : List Event). AllEnd m l) (sym are) take
-  done_takes line these m events (inr refused) take = refusal_takes line m events refused
+  done_ends : (line : Line) (these : List Event) (m : Machine) (events : List Event) → IsDone line these events → AllEnd m these → AllEnd m events
+  done_ends line these m events (inl are) take = subst (λ (l : List Event). AllEnd m l) (sym are) take
+  done_ends line these m events (inr refused) take = refusal_ends line m events refused
 
-  restart_takes : (m : Machine) (events : List Event) → IsRestart events → AllEnd m events
-  restart_takes m events (inl (state, are)) = subst (λ (l : List Event). AllEnd m l) (sym are) (tt, (tt, (tt, tt)))
-  restart_takes m events (inr refused) = refusal_takes Restart m events refused
+  restart_ends : (m : Machine) (events : List Event) → IsRestart events → AllEnd m events
+  restart_ends m events (inl (state, are)) = subst (λ (l : List Event). AllEnd m l) (sym are) (tt, (tt, (tt, tt)))
+  restart_ends m events (inr refused) = refusal_ends Restart m events refused
 
-  discovery_takes : (m : Machine) (events : List Event) → IsDiscovery m events → AllEnd m events
-  discovery_takes m events (asked, asks, are) =
-      subst (λ (l : List Event). AllEnd m l) (sym are) (tt, asks_takes (places_refusal m.host.state 1) Discover (Queues task.Members) (λ near. tt) (happens m (Outside_does Discovers)) asked asks)
+  discovery_ends : (m : Machine) (events : List Event) → IsDiscovery m events → AllEnd m events
+  discovery_ends m events (asked, asks, are) =
+      subst (λ (l : List Event). AllEnd m l) (sym are) (tt, asks_ends (places_refusal m.host.state 1) Discover (Queues task.Members) (λ near. tt) (happens m (Outside_does Discovers)) asked asks)
 
-  repeat_none : (number : ℕ) (inner : List OuterEvent) → IsRepeat number inner → AllByRecursion TakesNone inner
-  repeat_none number inner (drawn, route, are) = subst (λ (l : List OuterEvent). AllByRecursion TakesNone l) (sym are) (tt, tt)
-
-  wake_none : (n : ℕ) (inner : List OuterEvent) → IsWake n inner → AllByRecursion TakesNone inner
-  wake_none n inner (route, are) = subst (λ (l : List OuterEvent). AllByRecursion TakesNone l) (sym are) (tt, tt)
-
-  set_none : (n value : ℕ) (inner : List OuterEvent) → IsSet n value inner → AllByRecursion TakesNone inner
-  set_none n value inner (route, are) = subst (λ (l : List OuterEvent). AllByRecursion TakesNone l) (sym are) (tt, tt)
-
-  effect_takes : (line : Line) → (Near → NamesEnd line) → EndOf (IsEffect line)
-  effect_takes (Command order) names m events is = done_takes (Command order) _ m events is (names, tt)
-  effect_takes (Tick count) names m events is = absurd is
-  effect_takes (Cut size) names m events is = one_none m _ events is tt
-  effect_takes (Stall ticks) names m events is = one_none m _ events is tt
-  effect_takes (Drop by) names m events is = one_none m _ events is tt
-  effect_takes (Garble by place xor) names m events is = one_none m _ events is tt
-  effect_takes Collide names m events is = one_none m _ events is tt
-  effect_takes (Send n word) names m events is = asks_takes (send_refusal (known_of (node_of m.host.state n)) (length m.host.state.requests.queue) word) (Send n word)
+  effect_ends : (line : Line) → (Near → NamesEnd line) → EndOf (IsEffect line)
+  effect_ends (Command order) names m events is = done_ends (Command order) _ m events is (names, tt)
+  effect_ends (Tick count) names m events is = absurd is
+  effect_ends (Cut size) names m events is = one_ends m _ events is
+  effect_ends (Stall ticks) names m events is = one_ends m _ events is
+  effect_ends (Drop by) names m events is = one_ends m _ events is
+  effect_ends (Garble by place xor) names m events is = one_ends m _ events is
+  effect_ends Collide names m events is = one_ends m _ events is
+  effect_ends (Send n word) names m events is = asks_ends (send_refusal (known_of (node_of m.host.state n)) (length m.host.state.requests.queue) word) (Send n word)
       (Queues (task.Plain n (send_text (classes_of (known_of (node_of m.host.state n))) word))) (λ near own. sends (classes_of (known_of (node_of m.host.state n))) word) m events is
-  effect_takes (Get n end) names m events is = asks_takes (get_refusal (known_of (node_of m.host.state n)) (length m.host.state.requests.queue) end) (Get n end)
+  effect_ends (Get n end) names m events is = asks_ends (get_refusal (known_of (node_of m.host.state n)) (length m.host.state.requests.queue) end) (Get n end)
       (Queues (task.Plain n (get_text (classes_of (known_of (node_of m.host.state n))) end))) (λ near own. gets (classes_of (known_of (node_of m.host.state n))) end (names near)) m events is
-  effect_takes (Join n) names m events is = done_takes (Join n) _ m events is (tt, (tt, tt))
-  effect_takes (Interview n) names m events is = asks_takes (interview_refusal m.host.state n) (Interview n) (Queues_interview n) tt m events is
-  effect_takes (Lose count) names m events is = one_none m _ events is tt
-  effect_takes (LoseAck count) names m events is = one_none m _ events is tt
-  effect_takes (Repeat frame) names m events is = outside_none (IsRepeat frame) (repeat_none frame) m events is
-  effect_takes (Wake n) names m events is = outside_none (IsWake n) (wake_none n) m events is
-  effect_takes (Cancel command) names m events is = done_takes (Cancel command) _ m events is (tt, tt)
-  effect_takes (Link first second) names m events is = one_none m _ events is tt
-  effect_takes (Unlink first second) names m events is = one_none m _ events is tt
-  effect_takes Discover names m events is = discovery_takes m events is
-  effect_takes (Neighbours n) names m events is = asks_takes (places_refusal m.host.state 1) (Neighbours n) (Queues (task.Neighbours n)) (λ near. tt) m events is
-  effect_takes (Failed n) names m events is = asks_takes (places_refusal m.host.state 1) (Failed n) (Queues (task.IsFailed n)) (λ near. tt) m events is
-  effect_takes Probe names m events is = asks_takes (places_refusal m.host.state 3) Probe Queues_probe tt m events is
-  effect_takes (Local n value) names m events is = outside_none (IsSet n value) (set_none n value) m events is
-  effect_takes (Show n) names m events is = one_none m _ events is tt
-  effect_takes (Store n) names m events is = subst (λ (l : List Event). AllEnd m l) (sym is) (tt, tt)
-  effect_takes Restart names m events is = restart_takes m events is
-
-  begin_takes : EndOf IsLineBegin
-  begin_takes m events are = one_none m Begins_line events are tt
+  effect_ends (Join n) names m events is = done_ends (Join n) _ m events is (tt, (tt, tt))
+  effect_ends (Interview n) names m events is = asks_ends (interview_refusal m.host.state n) (Interview n) (Queues_interview n) tt m events is
+  effect_ends (Lose count) names m events is = one_ends m _ events is
+  effect_ends (LoseAck count) names m events is = one_ends m _ events is
+  effect_ends (Repeat frame) names m events is = outside_ends (IsRepeat frame) m events is
+  effect_ends (Wake n) names m events is = outside_ends (IsWake n) m events is
+  effect_ends (Cancel command) names m events is = done_ends (Cancel command) _ m events is (tt, tt)
+  effect_ends (Link first second) names m events is = one_ends m _ events is
+  effect_ends (Unlink first second) names m events is = one_ends m _ events is
+  effect_ends Discover names m events is = discovery_ends m events is
+  effect_ends (Neighbours n) names m events is = asks_ends (places_refusal m.host.state 1) (Neighbours n) (Queues (task.Neighbours n)) (λ near. tt) m events is
+  effect_ends (Failed n) names m events is = asks_ends (places_refusal m.host.state 1) (Failed n) (Queues (task.IsFailed n)) (λ near. tt) m events is
+  effect_ends Probe names m events is = asks_ends (places_refusal m.host.state 3) Probe Queues_probe tt m events is
+  effect_ends (Local n value) names m events is = outside_ends (IsSet n value) m events is
+  effect_ends (Show n) names m events is = one_ends m _ events is
+  effect_ends (Store n) names m events is = subst (λ (l : List Event). AllEnd m l) (sym is) (tt, tt)
+  effect_ends Restart names m events is = restart_ends m events is
 
   pieces : Pieces AllEnd
   pieces = record {
-    begins = begin_takes;
-    pump = pump_takes;
-    chip_part = chip_part_takes;
-    host_part = host_part_takes;
-    clock = clock_tick_takes;
-    delivery = delivery_takes;
-    giving = giving_takes;
-    device_tick = device_tick_takes;
-    chip_tick = chip_tick_takes;
-    host_tick = host_tick_takes;
+    begins = λ m events are. one_ends m _ events are;
+    pump = pump_ends;
+    chip_part = λ m events is. outside_ends _ m events is;
+    host_part = host_part_ends;
+    clock = λ m events are. one_ends m _ events are;
+    delivery = λ m events is. outside_ends _ m events is;
+    giving = λ m events is. outside_ends _ m events is;
+    device_tick = λ m events is. outside_ends _ m events is;
+    chip_tick = λ m events are. one_ends m _ events are;
+    host_tick = host_tick_ends;
   }
 
   pub lines_end : (lines : List Line) → (Near → AllByRecursion NamesEnd lines) → EndOf (AreLines lines)
   lines_end [] names m events is = of_none AllEnd ends_law m events is
   lines_end (line ∷ lines) names m events is =
-      of_then AllEnd ends_law (IsLineBefore lines line) (AreLines lines) (of_line_before AllEnd ends_law pieces lines line (effect_takes line (λ near. (names near).0)))
+      of_then AllEnd ends_law (IsLineBefore lines line) (AreLines lines) (of_line_before AllEnd ends_law pieces lines line (effect_ends line (λ near. (names near).0)))
       (lines_end lines (λ near. (names near).1)) m events is

@@ -3,7 +3,7 @@ use Rattle.std.proofs.Common.{◌≡◌, List, [], ◌∷◌, ◌++◌, refl, ap
 use Rattle.std.proofs.lemmas.List.{append-nil}
 use Rattle.zw_text.specs.declared.entry.Entry.{Entry}
 use Rattle.outer_events.specs.State.{Outside}
-use Rattle.outer_events.specs.Events.{OuterEvent, happens, entries, May}
+use Rattle.outer_events.specs.Events.{OuterEvent, happens, entries}
 use Rattle.outer_events.specs.Did.{happens_all, entries_all, MayAll, Run}
 
 pub happens_all-append : (w : Outside) (a b : List OuterEvent) → happens_all w (a ++ b) ≡ happens_all (happens_all w a) b

@@ -1,6 +1,5 @@
 -- What the chip does outside itself: where its outputs go (this project's own rule, docs/OUTSIDE.md).
-use Rattle.std.specs.Prelude.{◌≡◌, ◌≢◌, ℕ, ◌≤◌, length, ◌+◌, ◌&&◌, ◌||◌, Bool, true, false, nat_le, nat_lt, if◌then◌else◌, Option, Some, None, List, [], ◌∷◌, ◌++◌, filter, map, take}
-use Rattle.std.specs.Option.{is_some}
+use Rattle.std.specs.Prelude.{◌≡◌, ◌≢◌, ℕ, ◌≤◌, length, ◌+◌, ◌&&◌, Bool, false, nat_le, Option, Some, List, [], ◌∷◌, ◌++◌, filter, map, take}
 use Rattle.serial_frame.specs.Stream.{Rest, Feeds, after_tick}
 use Rattle.serial_frame.specs.declared.item.Item.{Item}
 use Rattle.route_table.specs.declared.route.Route.{Route}
@@ -8,7 +7,6 @@ use Rattle.route_table.specs.Route.{via}
 use Rattle.air_frames.specs.declared.frame.Heading.TheVariants.{Outward}
 use Rattle.air_frames.specs.Flown.{IsSound}
 use Rattle.mesh_sim.specs.Air.{departing}
-use Rattle.chip_sim.specs.State.{ChipState}
 use Rattle.chip_sim.specs.Events.{ChipEvent, Ticked, after, outs}
 use Rattle.chip_sim.specs.Did.{MayAll, judged_all}
 use Rattle.chip_sim.specs.declared.out.ChipOut.{ChipOut}
@@ -16,7 +14,6 @@ use Rattle.chip_sim.specs.declared.out.ChipOut.TheVariants.{Write, OnAir, NoRout
 use Rattle.serial_pipes.specs.Events.{told, Writes, Takes}
 use Rattle.serial_pipes.specs.Events as way
 use Rattle.zw_words.specs.declared.side.Side.TheVariants.{Chip as by_chip}
-use Rattle.zw_text.specs.declared.entry.Entry.{Entry}
 use Rattle.zw_text.specs.declared.entry.Entry.TheVariants.{Air, ChipFull}
 use Rattle.outer_events.specs.declared.waits.Due.TheVariants.{Info, NoRoute as no_route_due}
 use Rattle.outer_events.specs.declared.waits.Call.TheVariants.{OfFrame, NoRoute as no_route_call}

@@ -1,5 +1,5 @@
 -- What devices do of themselves or by hand, and what is shown of them (this project's own rule, docs/OUTSIDE.md).
-use Rattle.std.specs.Prelude.{◌≡◌, ◌⊎◌, ℕ, Option, Some, None, List, [], ◌∷◌, ◌++◌, drop, length, map, slice_get, slice_set, option_map}
+use Rattle.std.specs.Prelude.{ℕ, Option, Some, None, List, [], ◌∷◌, drop, length, map, slice_get, slice_set, option_map}
 use Rattle.std.specs.List.{flat_map}
 use Rattle.zw_base.specs.declared.property.Setting.{Setting}
 use Rattle.route_table.specs.declared.route.Route.{Route}
@@ -7,9 +7,8 @@ use Rattle.route_table.specs.Network.{Network}
 use Rattle.device_stack.specs.declared.change.Change.{Change}
 use Rattle.device_stack.specs.Showing.{shown_of}
 use Rattle.device_sim.specs.State.{State}
-use Rattle.device_sim.specs.Event.{DeviceEvent, Ticks, Wakes, Sets, device_after, device_replies}
-use Rattle.mesh_sim.specs.declared.event.AirEvent.{AirEvent}
-use Rattle.mesh_sim.specs.Air.{AirState, is_joined}
+use Rattle.device_sim.specs.Event.{DeviceEvent, device_after, device_replies}
+use Rattle.mesh_sim.specs.Air.{is_joined}
 use Rattle.mesh_sim.specs.Routes.{IsRoute, backwards}
 use Rattle.mesh_sim.specs.Steps.{answered_if, answers_if}
 use Rattle.zw_text.specs.declared.entry.Entry.{Entry}

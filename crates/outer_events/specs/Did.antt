@@ -1,5 +1,5 @@
 -- What calls did, as lists of events (this project's own).
-use Rattle.std.specs.Prelude.{◌≡◌, ℕ, Option, Some, None, List, [], ◌∷◌, ◌++◌}
+use Rattle.std.specs.Prelude.{◌≡◌, Option, Some, None, List, [], ◌∷◌, ◌++◌}
 use Rattle.device_sim.specs.State.{State}
 use Rattle.zw_text.specs.declared.entry.Entry.{Entry}
 use Rattle.outer_events.specs.State.{OuterState, Outside, outside, Outcome}
@@ -69,7 +69,3 @@ pub record Stops (Front : List OuterEvent → Type 0) (old : Outside) (devices :
 -- the same with these devices, of which none moves
 abbrev pub StopsFor : List State → (List OuterEvent → Type 0) → OuterState → List Entry → List Entry → Type 0
 StopsFor devices Front old before all = Stops Front (outside old devices) devices before all
-
--- the same whatever the devices are
-abbrev pub StopsStill : (List OuterEvent → Type 0) → OuterState → List Entry → List Entry → Type 0
-StopsStill Front old before all = (devices : List State) → StopsFor devices Front old before all

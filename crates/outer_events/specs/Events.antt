@@ -1,6 +1,6 @@
 -- What may happen outside the host, one event at a time, what it makes of it, and its entries (this project's own rule,
 -- docs/OUTSIDE.md). An event carries what is chosen: drawn bytes, routes, how bytes are split.
-use Rattle.std.specs.Prelude.{◌≡◌, ℕ, ◌+◌, ◌<◌, ◌≤◌, nat_lt, nat_le, max, if◌then◌else◌, not, ◌&&◌, ◌||◌, Bool, true, false, Option, Some, None, List, [], ◌∷◌, ◌++◌, length, slice_get}
+use Rattle.std.specs.Prelude.{◌≡◌, ℕ, ◌+◌, nat_lt, nat_le, max, if◌then◌else◌, not, ◌&&◌, ◌||◌, Bool, true, false, Option, Some, None, List, [], ◌∷◌, ◌++◌, length, slice_get}
 use Rattle.serial_frame.specs.declared.unit.Unit.{Unit as LineUnit}
 use Rattle.serial_frame.specs.declared.item.Item.{Item}
 use Rattle.serial_frame.specs.Stream.{Rest}
@@ -9,7 +9,7 @@ use Rattle.chip_sim.specs.Events.{Collides}
 use Rattle.chip_sim.specs.Events as chip
 use Rattle.device_sim.specs.State.{State}
 use Rattle.device_sim.specs.Event.{Ticks, Wakes, Sets}
-use Rattle.air_frames.specs.Frames.{peer_of, remembered}
+use Rattle.air_frames.specs.Frames.{peer_of}
 use Rattle.air_frames.specs.Ages.{refusal_of}
 use Rattle.air_frames.specs.declared.ages.Refusal.{Refusal as RepeatRefusal}
 use Rattle.air_frames.specs.declared.ages.Refusal.TheVariants.{NeverSent, Forgotten, Stale}
@@ -27,7 +27,7 @@ use Rattle.zw_text.specs.declared.entry.Entry.{Entry}
 use Rattle.zw_text.specs.declared.entry.Entry.TheVariants.{Time, Refused, Cleared}
 use Rattle.zw_text.specs.declared.entry.Refusal.TheVariants as refusal
 use Rattle.outer_events.specs.State.{OuterState, Outside, outside, Outcome, silent, tells, each, with_chip, is_stalled}
-use Rattle.outer_events.specs.Chip.{chip_does, chip_takes, chip_ticks, MayTake}
+use Rattle.outer_events.specs.Chip.{chip_takes, chip_ticks, MayTake}
 use Rattle.outer_events.specs.Results.{gives, MayGive, device_at}
 use Rattle.outer_events.specs.Air.{deals}
 use Rattle.outer_events.specs.Devices.{acts_at, device_set, MayAct, acts_by_hand, set_by_hand, MayActByHand, shown_entries}

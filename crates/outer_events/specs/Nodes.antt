@@ -1,5 +1,5 @@
 -- Which nodes are joined, as chip and air know it (this project's own rule, docs/OUTSIDE.md).
-use Rattle.std.specs.Prelude.{ℕ, ◌-◌, ◌==◌, ◌||◌, ◌&&◌, Bool, true, false, Option, Some, None, List, [], ◌∷◌, map, filter}
+use Rattle.std.specs.Prelude.{ℕ, ◌-◌, ◌==◌, ◌||◌, ◌&&◌, Bool, true, false, Option, Some, None, List, ◌∷◌, map, filter}
 use Rattle.std.specs.List.{range_with_len, flat_map}
 use Rattle.route_table.specs.Network.{linked}
 use Rattle.chip_sim.specs.Events.{ChipEvent, Joined, Linked}
@@ -7,9 +7,7 @@ use Rattle.chip_sim.specs.Did.{after_all}
 use Rattle.device_sim.specs.Kind.{listens}
 use Rattle.device_sim.specs.State.{State}
 use Rattle.mesh_sim.specs.Air.{AirState, is_joined, joining}
-use Rattle.mesh_sim.specs.Fates.{place_of}
 use Rattle.outer_events.specs.State.{OuterState, with_chip}
-use Rattle.outer_events.specs.Results.{device_at}
 
 -- node 1, or a node that is joined
 abbrev pub is_known : AirState → ℕ → Bool

@@ -1,6 +1,6 @@
 -- Results of SendData and of RequestNodeInfo, in the order in which the chip is given them (this project's own rule,
 -- docs/OUTSIDE.md).
-use Rattle.std.specs.Prelude.{◌≡◌, ℕ, zero, suc, ◌+◌, ◌-◌, ◌&&◌, ◌||◌, Bool, true, false, nat_lt, if◌then◌else◌, Option, Some, None, List, [], ◌∷◌, ◌++◌, drop, slice_get}
+use Rattle.std.specs.Prelude.{ℕ, zero, suc, ◌+◌, ◌&&◌, ◌||◌, Bool, nat_lt, if◌then◌else◌, Option, Some, None, List, [], ◌∷◌, drop, slice_get}
 use Rattle.std.specs.Option.{is_some, unwrap_or}
 use Rattle.zw_base.specs.declared.profile.Profile.{Profile}
 use Rattle.route_table.specs.declared.route.Route.{Route}
@@ -16,7 +16,6 @@ use Rattle.device_sim.specs.State.{State}
 use Rattle.mesh_sim.specs.Air.{AirState, is_joined}
 use Rattle.mesh_sim.specs.Fates.{place_of}
 use Rattle.mesh_sim.specs.Routes.{IsRoute}
-use Rattle.zw_text.specs.declared.entry.Entry.{Entry}
 use Rattle.zw_text.specs.declared.entry.Entry.TheVariants.{Forget}
 use Rattle.outer_events.specs.declared.waits.Due.{Due}
 use Rattle.outer_events.specs.declared.waits.Due.TheVariants.{Info, NoRoute as no_route_due}

@@ -1,5 +1,5 @@
 -- Which events a call is (this project's own rule, docs/OUTSIDE.md).
-use Rattle.std.specs.Prelude.{◌≡◌, ℕ, zero, suc, ◌+◌, ◌-◌, ◌≤◌, ◌&&◌, not, nat_lt, Bool, true, false, Option, List, [], ◌∷◌, drop, length}
+use Rattle.std.specs.Prelude.{◌≡◌, ℕ, zero, suc, ◌+◌, ◌-◌, ◌&&◌, not, nat_lt, Bool, true, false, Option, List, [], ◌∷◌, drop, length}
 use Rattle.serial_frame.specs.declared.item.Item.{Item}
 use Rattle.serial_frame.specs.Stream.{Rest}
 use Rattle.route_table.specs.declared.route.Route.{Route}

@@ -1,6 +1,6 @@
 -- What is outside the host: the chip, the air, the serial line between host and chip, and time; and beside them the
 -- devices (this project's own model, docs/OUTSIDE.md).
-use Rattle.std.specs.Prelude.{◌≡◌, ℕ, ◌+◌, Bool, true, false, nat_lt, Option, Some, None, List, [], ◌∷◌, ◌++◌, drop, length}
+use Rattle.std.specs.Prelude.{◌≡◌, ℕ, Bool, true, false, nat_lt, List, [], ◌∷◌, ◌++◌}
 use Rattle.serial_frame.specs.Stream.{no_rest}
 use Rattle.chip_sim.specs.State.{ChipState, ChipParts, fresh_chip}
 use Rattle.chip_sim.specs.Events.{after, Joined, Linked}

@@ -7,7 +7,7 @@ use Rattle.air_frames.specs.Ages.{refusal_of}
 use Rattle.mesh_sim.specs.Air.{AirState}
 use Rattle.mesh_sim.specs.Fates.{Mesh}
 use Rattle.mesh_sim.specs.declared.event.AirEvent.{AirEvent}
-use Rattle.mesh_sim.specs.Steps.{AirStep, Links as links, Joins as joins, Begins as begins, Loses as loses, Loses_acks as loses_acks, Sends as sends, Sends_from as sends_from, Arrives as arrives, Repeats as repeats_frame, mesh_after, mesh_outs, MayHappen, Did, IsCut}
+use Rattle.mesh_sim.specs.Steps.{AirStep, Arrives as arrives, Repeats as repeats_frame, mesh_after, mesh_outs, MayHappen, Did, IsArrival, IsRepeatOf, IsCut}
 use Rattle.std.proofs.lemmas.List.{append-nil}
 use Rattle.mesh_sim.specs.Faults.{IsFault, fault_of}
 use Rattle.mesh_sim.specs.declared.event.RepeatFault.{RepeatFault}
@@ -18,9 +18,10 @@ use Rattle.zw_text.specs.declared.entry.Entry.{Entry}
 use Rattle.outer_events.specs.State.{OuterState, outside, tells, each}
 use Rattle.outer_events.specs.Air.{deals}
 use Rattle.outer_events.specs.Events.{Arrives, Repeats, outcome, devices_after, May, steps, repeats, devices_repeated, MayRepeat, refusal_entries, mesh_of}
-use Rattle.outer_events.specs.Did.{RunOf, Stops, Enters}
+use Rattle.outer_events.specs.Did.{RunOf, FrontOf, Stops, Enters}
 use Rattle.outer_events.specs.Schedules.{Arrivals, IsRepeat}
 use Rattle.outer_world.proofs.Single.{run_one, stops_now, stops_in, map_ok, map_err}
+use Rattle.outer_world.proofs.Counted.{arrivals}
 
 abbrev pub States : Type 0
 States = List State
@@ -78,9 +79,10 @@ arrival_runs o new ds later drawn route before all may devices done =
 -- it stops in that
 pub arrival_stops : (o : OuterState) (ds later : States) (drawn : List ℕ) (route : Option Route) (before all : List Entry)
     → MayHappen (mesh_of (outside o ds)) (arrives drawn route) → later ≡ (mesh_after (mesh_of (outside o ds)) (arrives drawn route)).devices → all ≡ before
-    → Stops (outside o ds) later before all
+    → Stops (FrontOf (Arrivals 1)) (outside o ds) later before all
 unfolding outcome devices_after May
-arrival_stops o ds later drawn route before all may devices put = stops_in (Arrives drawn route) (outside o ds) later before all refl may devices put
+arrival_stops o ds later drawn route before all may devices put =
+    stops_in (FrontOf (Arrivals 1)) (Arrives drawn route) (outside o ds) later before all ([], (drawn, route, [], refl, refl)) refl may devices put
 
 -- a frame was heard again
 pub repeat_runs : (o new : OuterState) (ds later : States) (number : ℕ) (drawn : List ℕ) (route : Option Route) (before all : List Entry)
@@ -98,10 +100,10 @@ repeat_runs o new ds later number drawn route before all allowed may devices don
 
 pub repeat_stops : (o : OuterState) (ds later : States) (number : ℕ) (drawn : List ℕ) (route : Option Route) (before all : List Entry)
     → MayHappen (mesh_of (outside o ds)) (repeats_frame number drawn route) → later ≡ (mesh_after (mesh_of (outside o ds)) (repeats_frame number drawn route)).devices → all ≡ before
-    → Stops (outside o ds) later before all
+    → Stops (FrontOf (IsRepeat number)) (outside o ds) later before all
 unfolding outcome devices_after May MayHappen
 repeat_stops o ds later number drawn route before all may devices put =
-    stops_in (Repeats number drawn route) (outside o ds) later before all refl
+    stops_in (FrontOf (IsRepeat number)) (Repeats number drawn route) (outside o ds) later before all ([], (drawn, route, refl)) refl
     (subst (λ (r : Option RepeatRefusal). MayRepeat (outside o ds) r (repeats_frame number drawn route)) (sym may.0) may)
     (devices ∙ ap (λ (r : Option RepeatRefusal). devices_repeated (outside o ds) r (repeats_frame number drawn route)) (sym may.0)) put
 
@@ -118,19 +120,19 @@ refusal_runs o new ds number refused before all is done = (
       (ap (λ (r : Option RepeatRefusal). devices_repeated (outside o ds) r (repeats_frame number [] None)) (sym is)),
 )
 
--- a step of the air was cut short
-pub cut_stops : (o : OuterState) (ds later : States) (before all : List Entry) → IsCut (record { air = o.air; devices = ds }) later → all ≡ before → Stops (outside o ds) later before all
-unfolding mesh_after
-cut_stops o ds later before all (inl same) put = stops_now (outside o ds) later before all same put
-cut_stops o ds later before all (inr (links a b live, may, same)) put = stops_now (outside o ds) later before all same put
-cut_stops o ds later before all (inr (joins node listening, may, same)) put = stops_now (outside o ds) later before all same put
-cut_stops o ds later before all (inr (begins node sessions, may, same)) put = stops_now (outside o ds) later before all same put
-cut_stops o ds later before all (inr (loses count, may, same)) put = stops_now (outside o ds) later before all same put
-cut_stops o ds later before all (inr (loses_acks count, may, same)) put = stops_now (outside o ds) later before all same put
-cut_stops o ds later before all (inr (sends node route payload, may, same)) put = stops_now (outside o ds) later before all same put
-cut_stops o ds later before all (inr (sends_from node route payload, may, same)) put = stops_now (outside o ds) later before all same put
-cut_stops o ds later before all (inr (arrives drawn route, may, same)) put = arrival_stops o ds later drawn route before all may same put
-cut_stops o ds later before all (inr (repeats_frame number drawn route, may, same)) put = repeat_stops o ds later number drawn route before all may same put
+-- an arrival, or a repeat, was cut short
+arrival_cut : (o : OuterState) (ds later : States) (before all : List Entry) → IsCut IsArrival (mesh_of (outside o ds)) later → all ≡ before → Stops (FrontOf (Arrivals 1)) (outside o ds) later before all
+arrival_cut o ds later before all (inl same) put = stops_now (FrontOf (Arrivals 1)) (outside o ds) later before all (arrivals.some 0 1) same put
+arrival_cut o ds later before all (inr (step, (drawn, route, is), may, same)) put =
+    arrival_stops o ds later drawn route before all (subst (λ (s : AirStep). MayHappen (mesh_of (outside o ds)) s) is may)
+    (same ∙ ap (λ (s : AirStep). (mesh_after (mesh_of (outside o ds)) s).devices) is) put
+
+repeat_cut : (o : OuterState) (ds later : States) (number : ℕ) (before all : List Entry) → IsCut (IsRepeatOf number) (mesh_of (outside o ds)) later → all ≡ before
+    → Stops (FrontOf (IsRepeat number)) (outside o ds) later before all
+repeat_cut o ds later number before all (inl same) put = stops_now (FrontOf (IsRepeat number)) (outside o ds) later before all (Repeats number [] None ∷ [], ([], None, refl)) same put
+repeat_cut o ds later number before all (inr (step, (drawn, route, is), may, same)) put =
+    repeat_stops o ds later number drawn route before all (subst (λ (s : AirStep). MayHappen (mesh_of (outside o ds)) s) is may)
+    (same ∙ ap (λ (s : AirStep). (mesh_after (mesh_of (outside o ds)) s).devices) is) put
 
 -- what calls of the air did
 module _ {V E : Type 0} (r : Result V E) (o q new : OuterState) (ds later : States) (air : AirState) (before all : List Entry) (same : q ≡ o) where
@@ -145,11 +147,11 @@ module _ {V E : Type 0} (r : Result V E) (o q new : OuterState) (ds later : Stat
         (λ (entered : Enters (each (deals later) (with_air q air) events) new before all). arrival_runs q new ds later drawn route before all did.may.0
         (step_devices q air ds later (arrives drawn route) events did) (step_enters q air ds later (arrives drawn route) events did new before all entered)) done)
 
-    pub arrived_err : (drawn : List ℕ) × (route : Option Route) × Did (arrives drawn route ∷ []) q.air ds air later none events → OnErr r (all ≡ before) → OnErr r (Stops (outside o ds) later before all)
+    pub arrived_err : (drawn : List ℕ) × (route : Option Route) × Did (arrives drawn route ∷ []) q.air ds air later none events → OnErr r (all ≡ before) → OnErr r (Stops (FrontOf (Arrivals 1)) (outside o ds) later before all)
     arrived_err (drawn, route, told) put =
         let did : Did (arrives drawn route ∷ []) q.air ds air later [] events = subst (λ (l : List AirEvent). Did (arrives drawn route ∷ []) q.air ds air later l events) empty told in
-        subst (λ (p : OuterState). OnErr r (Stops (outside p ds) later before all)) same
-        (map_err r (all ≡ before) (Stops (outside q ds) later before all)
+        subst (λ (p : OuterState). OnErr r (Stops (FrontOf (Arrivals 1)) (outside p ds) later before all)) same
+        (map_err r (all ≡ before) (Stops (FrontOf (Arrivals 1)) (outside q ds) later before all)
         (λ (e : all ≡ before). arrival_stops q ds later drawn route before all did.may.0 (step_devices q air ds later (arrives drawn route) events did) e) put)
 
     -- a frame was heard again
@@ -163,18 +165,24 @@ module _ {V E : Type 0} (r : Result V E) (o q new : OuterState) (ds later : Stat
         (step_devices q air ds later (repeats_frame number drawn route) events did) (step_enters q air ds later (repeats_frame number drawn route) events did new before all entered)) done)
 
     pub repeated_err : (number : ℕ) → (drawn : List ℕ) × (route : Option Route) × Did (repeats_frame number drawn route ∷ []) q.air ds air later none events
-        → OnErr r (all ≡ before) → OnErr r (Stops (outside o ds) later before all)
+        → OnErr r (all ≡ before) → OnErr r (Stops (FrontOf (IsRepeat number)) (outside o ds) later before all)
     repeated_err number (drawn, route, told) put =
         let did : Did (repeats_frame number drawn route ∷ []) q.air ds air later [] events = subst (λ (l : List AirEvent). Did (repeats_frame number drawn route ∷ []) q.air ds air later l events) empty told in
-        subst (λ (p : OuterState). OnErr r (Stops (outside p ds) later before all)) same
-        (map_err r (all ≡ before) (Stops (outside q ds) later before all)
+        subst (λ (p : OuterState). OnErr r (Stops (FrontOf (IsRepeat number)) (outside p ds) later before all)) same
+        (map_err r (all ≡ before) (Stops (FrontOf (IsRepeat number)) (outside q ds) later before all)
         (λ (e : all ≡ before). repeat_stops q ds later number drawn route before all did.may.0 (step_devices q air ds later (repeats_frame number drawn route) events did) e) put)
 
-  -- a step was cut short
-  pub cut_err : IsCut (record { air = q.air; devices = ds }) later → OnErr r (all ≡ before) → OnErr r (Stops (outside o ds) later before all)
-  cut_err cut put =
-      subst (λ (p : OuterState). OnErr r (Stops (outside p ds) later before all)) same
-      (map_err r (all ≡ before) (Stops (outside q ds) later before all) (λ (e : all ≡ before). cut_stops q ds later before all cut e) put)
+  -- it was cut short
+  pub arrival_cut_err : IsCut IsArrival (record { air = q.air; devices = ds }) later → OnErr r (all ≡ before) → OnErr r (Stops (FrontOf (Arrivals 1)) (outside o ds) later before all)
+  arrival_cut_err cut put =
+      subst (λ (p : OuterState). OnErr r (Stops (FrontOf (Arrivals 1)) (outside p ds) later before all)) same
+      (map_err r (all ≡ before) (Stops (FrontOf (Arrivals 1)) (outside q ds) later before all) (λ (e : all ≡ before). arrival_cut q ds later before all cut e) put)
+
+  pub repeat_cut_err : (number : ℕ) → IsCut (IsRepeatOf number) (record { air = q.air; devices = ds }) later → OnErr r (all ≡ before)
+      → OnErr r (Stops (FrontOf (IsRepeat number)) (outside o ds) later before all)
+  repeat_cut_err number cut put =
+      subst (λ (p : OuterState). OnErr r (Stops (FrontOf (IsRepeat number)) (outside p ds) later before all)) same
+      (map_err r (all ≡ before) (Stops (FrontOf (IsRepeat number)) (outside q ds) later before all) (λ (e : all ≡ before). repeat_cut q ds later number before all cut e) put)
 
   -- a repeat was refused
   pub repeat_refused : (number : ℕ) (fault : RepeatFault) → air ≡ q.air → IsFault (refusal_of q.air.frames number) fault

@@ -1,5 +1,5 @@
 -- Results that are given, and what is shown.
-use Rattle.std.proofs.Common.{◌≡◌, ℕ, zero, suc, ◌+◌, List, [], ◌∷◌, ◌++◌, drop, refl, ap, sym, ◌∙◌, subst, add-one, Result, OnOk}
+use Rattle.std.proofs.Common.{◌≡◌, ℕ, List, [], ◌∷◌, ◌++◌, drop, refl, ap, sym, ◌∙◌, subst, Result, OnOk}
 use Rattle.std.specs.Prelude.{Option, Some, None, slice_get}
 use Rattle.std.proofs.lemmas.List.{append-nil}
 use Rattle.zw_base.specs.declared.profile.Profile.{Profile}
@@ -15,15 +15,14 @@ use Rattle.zw_text.specs.declared.entry.Entry.TheVariants.{Refused}
 use Rattle.zw_text.specs.declared.entry.Refusal.TheVariants.{NoDevice}
 use Rattle.outer_events.specs.declared.waits.Due.{Due}
 use Rattle.outer_events.specs.declared.waits.Due.TheVariants.{Info, NoRoute}
-use Rattle.outer_events.specs.State.{OuterState, Outside, outside, tells, each, Does}
+use Rattle.outer_events.specs.State.{OuterState, outside, tells, each, Does}
 use Rattle.outer_events.specs.Chip.{put_out, chip_does}
 use Rattle.outer_events.specs.Results.{no_route, profile_for, informs, gives, MayGive, device_at}
 use Rattle.outer_events.specs.Devices.{device_entries, shown_entries}
-use Rattle.outer_events.specs.Events.{OuterEvent, Gives, Shows, outcome, devices_after, May, stamp, has_entered}
-use Rattle.outer_events.specs.Did.{RunOf, GoesFor, Enters}
+use Rattle.outer_events.specs.Events.{Gives, Shows, outcome, devices_after, May, stamp, has_entered}
+use Rattle.outer_events.specs.Did.{GoesFor, Enters}
 use Rattle.outer_events.specs.Schedules.{Givings, IsOne}
 use Rattle.outer_world.proofs.Single.{run_one, entered_ok, map_ok}
-use Rattle.outer_events.proofs.Doing.{ran_both}
 use Rattle.outer_world.proofs.Doings.{does_chip}
 
 -- the chip was given the information of a node
@@ -106,17 +105,3 @@ module _ {V E : Type 0} (r : Result V E) (o new : OuterState) (ds : List State) 
             (subst (λ (s : Option State). Enters (tells o (shown_entries node s)) new before all) (sym at) did)) refl,
       ))
       (entered_ok r (tells o (device_entries node (Some d))) o new start told before all none (record { outer = refl; entries = put }) outer entered)
-
--- results were given, and then one more
-givings_more : (count : ℕ) (xs ys : List OuterEvent) → Givings count xs → Givings 1 ys → Givings (suc count) (xs ++ ys)
-givings_more zero xs ys none more = subst (λ (l : List OuterEvent). Givings 1 (l ++ ys)) (sym none) more
-givings_more (suc count) xs ys (route, rest, are, others) more = (route, rest ++ ys, ap (λ (l : List OuterEvent). l ++ ys) are, givings_more count rest ys others more)
-
-pub give_more : (w : Outside) (o new : OuterState) (ds : List State) (count : ℕ) (before some all : List Entry) → RunOf (Givings count) w (outside o ds) before some
-    → GoesFor ds (Givings 1) o new some all → RunOf (Givings (count + 1)) w (outside new ds) before all
-give_more w o new ds count before some all (xs, are, run) (ys, one, more) =
-    subst (λ n. RunOf (Givings n) w (outside new ds) before all) (sym (add-one count))
-    (xs ++ ys, givings_more count xs ys are one, ran_both xs ys w (outside o ds) (outside new ds) before some all run more)
-
-pub givings_all : (n m : ℕ) (w v : Outside) (before all : List Entry) → n ≡ m → RunOf (Givings n) w v before all → RunOf (Givings m) w v before all
-givings_all n m w v before all e run = subst (λ k. RunOf (Givings k) w v before all) e run

@@ -1,5 +1,5 @@
 -- How many frames have landed and were sent, after what was told is dealt with.
-use Rattle.std.proofs.Common.{◌≡◌, ℕ, zero, suc, ◌+◌, ◌≤◌, Bool, true, false, List, [], ◌∷◌, ◌++◌, length, refl, ap, sym, ◌∙◌, subst, arith, drop, add-one}
+use Rattle.std.proofs.Common.{◌≡◌, ℕ, zero, suc, ◌≤◌, Bool, true, false, List, [], ◌∷◌, length, refl, ap, sym, ◌∙◌, subst, arith, drop}
 use Rattle.std.specs.Prelude.{Option, Some, None, if◌then◌else◌, ◌&&◌, nat_le}
 use Rattle.std.specs.Option.{unwrap_or}
 use Rattle.route_table.specs.declared.route.Route.{Route}
@@ -27,7 +27,6 @@ use Rattle.outer_events.specs.Air.{deals, to_chip}
 use Rattle.outer_events.specs.Events.{OuterEvent, Arrives, outcome, devices_after, May, steps, mesh_of, has_entered}
 use Rattle.outer_events.specs.Did.{Run, RunOf}
 use Rattle.outer_events.specs.Schedules.{Arrivals}
-use Rattle.outer_events.proofs.Doing.{ran_both}
 
 -- no more have landed, and no fewer were sent
 record Keeps (old new : AirState) : Type 0 where
@@ -132,18 +131,3 @@ pub arrive_moves : (o new : OuterState) (ds later : List State) (before all : Li
 arrive_moves o new ds later before all (events, (drawn, route, rest, are, last), run) =
     let is : events ≡ Arrives drawn route ∷ [] = are ∙ ap (λ (l : List OuterEvent). Arrives drawn route ∷ l) last in
     event_moves o new ds later drawn route before all (subst (λ (l : List OuterEvent). Run l (outside o ds) (outside new later) before all) is run)
-
--- frames arrived, and then one more
-arrivals_more : (count : ℕ) (xs ys : List OuterEvent) → Arrivals count xs → Arrivals 1 ys → Arrivals (suc count) (xs ++ ys)
-arrivals_more zero xs ys none more = subst (λ (l : List OuterEvent). Arrivals 1 (l ++ ys)) (sym none) more
-arrivals_more (suc count) xs ys (drawn, route, rest, are, others) more =
-    (drawn, route, rest ++ ys, ap (λ (l : List OuterEvent). l ++ ys) are, arrivals_more count rest ys others more)
-
-pub arrive_more : (w : Outside) (o new : OuterState) (ds later : List State) (count : ℕ) (before some all : List Entry) → RunOf (Arrivals count) w (outside o ds) before some
-    → RunOf (Arrivals 1) (outside o ds) (outside new later) some all → RunOf (Arrivals (count + 1)) w (outside new later) before all
-arrive_more w o new ds later count before some all (xs, are, run) (ys, one, more) =
-    subst (λ n. RunOf (Arrivals n) w (outside new later) before all) (sym (add-one count))
-    (xs ++ ys, arrivals_more count xs ys are one, ran_both xs ys w (outside o ds) (outside new later) before some all run more)
-
-pub arrivals_all : (n m : ℕ) (w v : Outside) (before all : List Entry) → n ≡ m → RunOf (Arrivals n) w v before all → RunOf (Arrivals m) w v before all
-arrivals_all n m w v before all e run = subst (λ k. RunOf (Arrivals k) w v before all) e run

@@ -1,5 +1,6 @@
 pub mod Outcomes
 pub mod Single
+pub mod Counted
 pub mod Chips
 pub mod Sendable
 pub mod Ranges

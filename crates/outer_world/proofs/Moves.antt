@@ -1,19 +1,19 @@
 -- Events of one device of the list.
-use Rattle.std.proofs.Common.{◌≡◌, ℕ, zero, suc, ◌+◌, inl, inr, List, [], ◌∷◌, ◌++◌, set, slice_get, refl, ap, sym, ◌∙◌, subst, Result, OnOk, arith, add-one}
-use Rattle.std.specs.Prelude.{Option, Some}
+use Rattle.std.proofs.Common.{◌≡◌, ℕ, zero, suc, inl, inr, List, [], ◌∷◌, ◌++◌, set, slice_get, refl, ap, sym, ◌∙◌, subst, Result, OnOk}
+use Rattle.std.specs.Prelude.{Option, Some, None}
 use Rattle.route_table.specs.declared.route.Route.{Route}
 use Rattle.device_sim.specs.State.{State}
 use Rattle.device_sim.specs.Event.{DeviceEvent, Ticks, Wakes, Sets, device_after, device_replies}
 use Rattle.mesh_sim.specs.Fates.{place_of}
 use Rattle.zw_text.specs.declared.entry.Entry.{Entry}
-use Rattle.outer_events.specs.State.{OuterState, Outside, outside, Does}
+use Rattle.outer_events.specs.State.{OuterState, outside, Does}
 use Rattle.outer_world.specs.Acting.{HasActed, HasActedByHand}
 use Rattle.outer_events.specs.Devices.{acts, acts_at, device_set, HasWay, MayAct, acts_by_hand, set_by_hand, MayActByHand}
-use Rattle.outer_events.specs.Events.{OuterEvent, Device_ticks, Wakes_device, Sets_device, outcome, devices_after, May, stamp, has_entered}
-use Rattle.outer_events.specs.Did.{Run, RunOf, Stops, Enters}
+use Rattle.outer_events.specs.Events.{Device_ticks, Wakes_device, Sets_device, outcome, devices_after, May, stamp, has_entered}
+use Rattle.outer_events.specs.Did.{RunOf, FrontOf, Stops, Enters}
 use Rattle.outer_events.specs.Schedules.{DeviceTicks, IsWake, IsSet}
-use Rattle.outer_world.proofs.Single.{run_one, stops_now, stops_in, stops_after, ticks_own, entered_ok, map_ok}
-use Rattle.outer_events.proofs.Doing.{ran_both}
+use Rattle.outer_world.proofs.Single.{run_one, stops_now, stops_in, entered_ok, map_ok}
+use Rattle.outer_world.proofs.Counted.{device_ticks}
 
 abbrev pub States : Type 0
 States = List State
@@ -67,32 +67,21 @@ module _ (o new : OuterState) (ds later : States) (place : Option ℕ) (event : 
   pub found_acted : (at : Option ℕ) → place ≡ at → HasActedByHand o ds later at event → HasActedByHand o ds later place event
   found_acted at is did = subst (λ (p : Option ℕ). HasActedByHand o ds later p event) (sym is) did
 
--- the devices before a place have ticked, and now that at the place
-ticks_more : (start count : ℕ) (place : ℕ) (drawn : List ℕ) (route : Option Route) (events : List OuterEvent) → place ≡ start + count → DeviceTicks start count events
-    → DeviceTicks start (suc count) (events ++ Device_ticks place drawn route ∷ [])
-ticks_more start zero place drawn route events is are =
-    let same : place ≡ start = omega arith in
-    (drawn, route, [], ap (λ (l : List OuterEvent). l ++ Device_ticks place drawn route ∷ []) are ∙ ap (λ n. Device_ticks n drawn route ∷ []) same, refl)
-ticks_more start (suc count) place drawn route events is (first, way, rest, are, more) =
-    (first, way, rest ++ Device_ticks place drawn route ∷ [], ap (λ (l : List OuterEvent). l ++ Device_ticks place drawn route ∷ []) are, ticks_more (start + 1) count place drawn route rest (omega arith) more)
-
-pub tick_runs : (w : Outside) (o new : OuterState) (ds later : States) (place : ℕ) (drawn : List ℕ) (before some all : List Entry) → RunOf (DeviceTicks 0 place) w (outside o ds) before some
-    → later ≡ set_by_hand ds (Some place) (Ticks drawn)
-    → (route : Option Route) × MayActByHand o ds (Some place) (Ticks drawn) route × Enters (acts_by_hand o ds (Some place) (Ticks drawn) route) new some all
-    → RunOf (DeviceTicks 0 (place + 1)) w (outside new later) before all
+-- the device at a place has ticked
+pub tick_runs : (o new : OuterState) (ds later : States) (place : ℕ) (drawn : List ℕ) (before all : List Entry) → later ≡ set_by_hand ds (Some place) (Ticks drawn)
+    → (route : Option Route) × MayActByHand o ds (Some place) (Ticks drawn) route × Enters (acts_by_hand o ds (Some place) (Ticks drawn) route) new before all
+    → RunOf (DeviceTicks place 1) (outside o ds) (outside new later) before all
 unfolding outcome devices_after May
-tick_runs w o new ds later place drawn before some all (events, are, run) after (route, may, done) =
-    let one : Run (Device_ticks place drawn route ∷ []) (outside o ds) (outside new later) some all = run_one (Device_ticks place drawn route) (outside o ds) new later some all may done after in
-    subst (λ n. RunOf (DeviceTicks 0 n) w (outside new later) before all) (sym (add-one place))
-    (events ++ Device_ticks place drawn route ∷ [], ticks_more 0 place place drawn route events (omega arith) are, ran_both events (Device_ticks place drawn route ∷ []) w (outside o ds) (outside new later) before some all run one)
+tick_runs o new ds later place drawn before all after (route, may, done) =
+    (Device_ticks place drawn route ∷ [], (drawn, route, [], refl, refl), run_one (Device_ticks place drawn route) (outside o ds) new later before all may done after)
 
 -- or it stops in that
-pub tick_stops : (w : Outside) (o : OuterState) (ds later : States) (place : ℕ) (drawn : List ℕ) (before some all : List Entry) → RunOf (DeviceTicks 0 place) w (outside o ds) before some
-    → HasActedByHand o ds later (Some place) (Ticks drawn) → all ≡ some → Stops w later before all
+pub tick_stops : (o : OuterState) (ds later : States) (place : ℕ) (drawn : List ℕ) (before all : List Entry) → HasActedByHand o ds later (Some place) (Ticks drawn) → all ≡ before
+    → Stops (FrontOf (DeviceTicks place 1)) (outside o ds) later before all
 unfolding outcome devices_after May
-tick_stops w o ds later place drawn before some all (events, are, run) (inl same) put = stops_after events w (outside o ds) later before some all (ticks_own 0 place events are) run (stops_now (outside o ds) later some all same put)
-tick_stops w o ds later place drawn before some all (events, are, run) (inr (route, may, after)) put =
-    stops_after events w (outside o ds) later before some all (ticks_own 0 place events are) run (stops_in (Device_ticks place drawn route) (outside o ds) later some all refl may after put)
+tick_stops o ds later place drawn before all (inl same) put = stops_now (FrontOf (DeviceTicks place 1)) (outside o ds) later before all (device_ticks.some place 1) same put
+tick_stops o ds later place drawn before all (inr (route, may, after)) put =
+    stops_in (FrontOf (DeviceTicks place 1)) (Device_ticks place drawn route) (outside o ds) later before all ([], (drawn, route, [], refl, refl)) refl may after put
 
 -- by hand
 pub wake_runs : (o new : OuterState) (ds later : States) (node : ℕ) (before all : List Entry) → later ≡ set_by_hand ds (place_of node ds) Wakes
@@ -102,10 +91,11 @@ unfolding outcome devices_after May
 wake_runs o new ds later node before all after did =
     (Wakes_device node did.0 ∷ [], (did.0, refl), run_one (Wakes_device node did.0) (outside o ds) new later before all did.1 did.2 after)
 
-pub wake_stops : (o : OuterState) (ds later : States) (node : ℕ) (before all : List Entry) → HasActedByHand o ds later (place_of node ds) Wakes → all ≡ before → Stops (outside o ds) later before all
+pub wake_stops : (o : OuterState) (ds later : States) (node : ℕ) (before all : List Entry) → HasActedByHand o ds later (place_of node ds) Wakes → all ≡ before
+    → Stops (FrontOf (IsWake node)) (outside o ds) later before all
 unfolding outcome devices_after May
-wake_stops o ds later node before all (inl same) put = stops_now (outside o ds) later before all same put
-wake_stops o ds later node before all (inr (route, may, after)) put = stops_in (Wakes_device node route) (outside o ds) later before all refl may after put
+wake_stops o ds later node before all (inl same) put = stops_now (FrontOf (IsWake node)) (outside o ds) later before all (Wakes_device node None ∷ [], (None, refl)) same put
+wake_stops o ds later node before all (inr (route, may, after)) put = stops_in (FrontOf (IsWake node)) (Wakes_device node route) (outside o ds) later before all ([], (route, refl)) refl may after put
 
 pub set_runs : (o new : OuterState) (ds later : States) (node value : ℕ) (before all : List Entry) → later ≡ set_by_hand ds (place_of node ds) (Sets value)
     → (route : Option Route) × MayActByHand o ds (place_of node ds) (Sets value) route × Enters (acts_by_hand o ds (place_of node ds) (Sets value) route) new before all
@@ -114,10 +104,10 @@ unfolding outcome devices_after May
 set_runs o new ds later node value before all after did =
     (Sets_device node value did.0 ∷ [], (did.0, refl), run_one (Sets_device node value did.0) (outside o ds) new later before all did.1 did.2 after)
 
-pub set_stops : (o : OuterState) (ds later : States) (node value : ℕ) (before all : List Entry) → HasActedByHand o ds later (place_of node ds) (Sets value) → all ≡ before → Stops (outside o ds) later before all
+pub set_stops : (o : OuterState) (ds later : States) (node value : ℕ) (before all : List Entry) → HasActedByHand o ds later (place_of node ds) (Sets value) → all ≡ before
+    → Stops (FrontOf (IsSet node value)) (outside o ds) later before all
 unfolding outcome devices_after May
-set_stops o ds later node value before all (inl same) put = stops_now (outside o ds) later before all same put
-set_stops o ds later node value before all (inr (route, may, after)) put = stops_in (Sets_device node value route) (outside o ds) later before all refl may after put
-
-pub ticks_all : (n m : ℕ) (w v : Outside) (before all : List Entry) → n ≡ m → RunOf (DeviceTicks 0 n) w v before all → RunOf (DeviceTicks 0 m) w v before all
-ticks_all n m w v before all e run = subst (λ k. RunOf (DeviceTicks 0 k) w v before all) e run
+set_stops o ds later node value before all (inl same) put =
+    stops_now (FrontOf (IsSet node value)) (outside o ds) later before all (Sets_device node value None ∷ [], (None, refl)) same put
+set_stops o ds later node value before all (inr (route, may, after)) put =
+    stops_in (FrontOf (IsSet node value)) (Sets_device node value route) (outside o ds) later before all ([], (route, refl)) refl may after put

@@ -1,13 +1,12 @@
 -- Single events that were done.
-use Rattle.std.proofs.Common.{◌≡◌, ℕ, zero, suc, ◌+◌, true, List, [], ◌∷◌, ◌++◌, refl, ap, sym, ◌∙◌, subst, append_assoc, Result, Ok, Err, OnOk, OnErr}
+use Rattle.std.proofs.Common.{◌≡◌, true, Some, None, List, [], ◌∷◌, ◌++◌, ap, sym, ◌∙◌, subst, append_assoc, Result, Ok, Err, OnOk, OnErr}
 use Rattle.std.proofs.lemmas.List.{append-nil}
 use Rattle.device_sim.specs.State.{State}
 use Rattle.zw_text.specs.declared.entry.Entry.{Entry}
 use Rattle.outer_events.specs.State.{OuterState, Outside, outside, Outcome, silent, Does}
 use Rattle.outer_events.specs.Events.{OuterEvent, outcome, devices_after, May, stamp, has_entered, entries, is_own, AreOwn}
-use Rattle.outer_events.specs.Schedules.{Arrivals, Givings, DeviceTicks}
 use Rattle.outer_events.proofs.Doing.{happens_all-append, entries_all-append, may_all-append}
-use Rattle.outer_events.specs.Did.{happens_all, entries_all, MayAll, Run, Goes, Enters, Stops, RunOf}
+use Rattle.outer_events.specs.Did.{happens_all, entries_all, MayAll, Run, Goes, Enters, last_of, Stops}
 
 -- what was told of an outcome was entered
 pub entered : (out : Outcome) (mid new : OuterState) (start told before all : List Entry)
@@ -43,26 +42,29 @@ pub enters_silent : (o new : OuterState) (all : List Entry) → new ≡ o → En
 enters_silent o new all same = record { outer = same; entries = sym (append-nil all) }
 
 -- it stops before anything was done
-pub stops_now : (old : Outside) (devices : List State) (before all : List Entry) → devices ≡ old.devices → all ≡ before → Stops old devices before all
-stops_now old devices before all same put = record {
-  events = [];
+pub stops_now : (Front : List OuterEvent → Type 0) (old : Outside) (devices : List State) (before all : List Entry)
+    → Front [] → devices ≡ old.devices → all ≡ before → Stops Front old devices before all
+stops_now Front old devices before all front same put = record {
+  whole = [];
+  last = None;
+  front = front;
   own = tt;
   may = tt;
   devices_are = same;
-  more = [];
-  front = append-nil all ∙ (put ∙ sym (append-nil before));
+  entered = put ∙ sym (append-nil before);
 }
 
 -- it stops in an event whose device has done its part
-pub stops_in : (e : OuterEvent) (old : Outside) (devices : List State) (before all : List Entry)
-    → is_own e ≡ true → May old e → devices ≡ devices_after old e → all ≡ before → Stops old devices before all
-stops_in e old devices before all own may same put = record {
-  events = e ∷ [];
+pub stops_in : (Front : List OuterEvent → Type 0) (e : OuterEvent) (old : Outside) (devices : List State) (before all : List Entry)
+    → Front (e ∷ []) → is_own e ≡ true → May old e → devices ≡ devices_after old e → all ≡ before → Stops Front old devices before all
+stops_in Front e old devices before all front own may same put = record {
+  whole = [];
+  last = Some e;
+  front = front;
   own = (own, tt);
   may = (may, tt);
   devices_are = same;
-  more = entries old e ++ [];
-  front = ap (λ (l : List Entry). l ++ (entries old e ++ [])) put;
+  entered = put ∙ sym (append-nil before);
 }
 
 -- ---- lists of events
@@ -71,18 +73,27 @@ AreOwn-append : (xs ys : List OuterEvent) → AreOwn xs → AreOwn ys → AreOwn
 AreOwn-append [] ys first more = more
 AreOwn-append (x ∷ xs) ys first more = (first.0, AreOwn-append xs ys first.1 more)
 
--- it stops after events
-pub stops_after : (xs : List OuterEvent) (a b : Outside) (devices : List State) (before mid all : List Entry) → AreOwn xs → Run xs a b before mid → Stops b devices mid all → Stops a devices before all
-stops_after xs a b devices before mid all own first more = record {
-  events = xs ++ more.events;
-  own = AreOwn-append xs more.events own more.own;
-  may = may_all-append a xs more.events first.may (subst (λ (w : Outside). MayAll w more.events) first.state more.may);
-  devices_are = more.devices_are ∙ ap (λ (w : Outside). w.devices) (ap (λ (w : Outside). happens_all w more.events) first.state ∙ sym (happens_all-append a xs more.events));
-  more = more.more;
-  front = more.front ∙ (ap (λ (l : List Entry). l ++ entries_all b more.events) first.entries
-      ∙ (append_assoc before (entries_all a xs) (entries_all b more.events)
-      ∙ ap (λ (l : List Entry). before ++ l) (ap (λ (w : Outside). entries_all a xs ++ entries_all w more.events) first.state ∙ sym (entries_all-append a xs more.events))));
+-- it stops after events, which what follows makes a front of another kind
+pub stops_after : (Later Front : List OuterEvent → Type 0) (xs : List OuterEvent) (a b : Outside) (devices : List State) (before mid all : List Entry)
+    → ((events : List OuterEvent) → Later events → Front (xs ++ events)) → AreOwn xs → Run xs a b before mid → Stops Later b devices mid all → Stops Front a devices before all
+stops_after Later Front xs a b devices before mid all goes own first more = record {
+  whole = xs ++ more.whole;
+  last = more.last;
+  front = subst (λ (l : List OuterEvent). Front l) joined (goes done more.front);
+  own = subst (λ (l : List OuterEvent). AreOwn l) joined (AreOwn-append xs done own more.own);
+  may = subst (λ (l : List OuterEvent). MayAll a l) joined (may_all-append a xs done first.may (subst (λ (w : Outside). MayAll w done) first.state more.may));
+  devices_are = more.devices_are ∙ ap (λ (w : Outside). w.devices)
+      (ap (λ (w : Outside). happens_all w done) first.state ∙ (sym (happens_all-append a xs done) ∙ ap (λ (l : List OuterEvent). happens_all a l) joined));
+  entered = more.entered ∙ (ap (λ (l : List Entry). l ++ entries_all b more.whole) first.entries
+      ∙ (append_assoc before (entries_all a xs) (entries_all b more.whole)
+      ∙ ap (λ (l : List Entry). before ++ l) (ap (λ (w : Outside). entries_all a xs ++ entries_all w more.whole) first.state ∙ sym (entries_all-append a xs more.whole))));
 }
+  where
+    done : List OuterEvent
+    done = more.whole ++ last_of more.last
+
+    joined : xs ++ done ≡ (xs ++ more.whole) ++ last_of more.last
+    joined = sym (append_assoc xs more.whole (last_of more.last))
 
 -- facts of an answer
 pub on_ok : {V E : Type 0} (r : Result V E) (P : Type 0) → P → OnOk r P
@@ -109,24 +120,3 @@ map_err_both (Err e) P Q R f p q = f p q
 pub map_err : {V E : Type 0} (r : Result V E) (P Q : Type 0) → (P → Q) → OnErr r P → OnErr r Q
 map_err (Ok v) P Q f holds = tt
 map_err (Err e) P Q f holds = f holds
-
--- events of a kind, none of them the host's, were done, and then it stops
-pub run_stops : (Kind : List OuterEvent → Type 0) (w : Outside) (o : OuterState) (devices : List State) (before some all : List Entry) → ((events : List OuterEvent) → Kind events → AreOwn events)
-    → RunOf Kind w (outside o devices) before some → all ≡ some → Stops w devices before all
-run_stops Kind w o devices before some all own (events, are, run) put = stops_after events w (outside o devices) devices before some all (own events are) run (stops_now (outside o devices) devices some all refl put)
-
-pub runs_stop : (Kind : List OuterEvent → Type 0) (a b : Outside) (devices : List State) (before some all : List Entry) → ((events : List OuterEvent) → Kind events → AreOwn events)
-    → RunOf Kind a b before some → Stops b devices some all → Stops a devices before all
-runs_stop Kind a b devices before some all own (events, are, run) more = stops_after events a b devices before some all (own events are) run more
-
-pub arrivals_own : (count : ℕ) (events : List OuterEvent) → Arrivals count events → AreOwn events
-arrivals_own zero events none = subst (λ (l : List OuterEvent). AreOwn l) (sym none) tt
-arrivals_own (suc count) events (drawn, route, rest, are, more) = subst (λ (l : List OuterEvent). AreOwn l) (sym are) (refl, arrivals_own count rest more)
-
-pub givings_own : (count : ℕ) (events : List OuterEvent) → Givings count events → AreOwn events
-givings_own zero events none = subst (λ (l : List OuterEvent). AreOwn l) (sym none) tt
-givings_own (suc count) events (route, rest, are, more) = subst (λ (l : List OuterEvent). AreOwn l) (sym are) (refl, givings_own count rest more)
-
-pub ticks_own : (place count : ℕ) (events : List OuterEvent) → DeviceTicks place count events → AreOwn events
-ticks_own place zero events none = subst (λ (l : List OuterEvent). AreOwn l) (sym none) tt
-ticks_own place (suc count) events (drawn, route, rest, are, more) = subst (λ (l : List OuterEvent). AreOwn l) (sym are) (refl, ticks_own (place + 1) count rest more)

@@ -14,7 +14,7 @@ ghost use Rattle.outer_events.specs.Air.{sent_entries};
 ghost use Rattle.outer_world.specs.Acting.{act_event, HasActed, HasActedByHand};
 ghost use Rattle.outer_events.specs.Devices.{acts, sends_over, changes_entries, HasWay, acts_by_hand, set_by_hand, MayActByHand, shown_entries};
 ghost use Rattle.outer_events.specs.Events.{Shows};
-ghost use Rattle.outer_events.specs.Did.{RunOf, Stops, GoesFor, Enters};
+ghost use Rattle.outer_events.specs.Did.{RunOf, FrontOf, Stops, GoesFor, Enters};
 ghost use Rattle.outer_events.specs.Schedules.{DeviceTicks, IsWake, IsSet, IsOne};
 
 use crate::Outer;
@@ -48,7 +48,7 @@ impl Outer {
     ) -> Result<(), NoMemory>
         requires few { length devices.old.items < 2 ^ 64 }
         ensures ok { OnOk result (RunOf (DeviceTicks 0 (length devices.old.items)) (outside self.old (map (λ d. state d) devices.old.items)) (outside self.new (map (λ d. state d) devices.new.items)) out.old.items out.new.items) }
-        ensures err { OnErr result (Stops (outside self.old (map (λ d. state d) devices.old.items)) (map (λ d. state d) devices.new.items) out.old.items out.new.items) }
+        ensures err { OnErr result (Stops (FrontOf (DeviceTicks 0 (length devices.old.items))) (outside self.old (map (λ d. state d) devices.old.items)) (map (λ d. state d) devices.new.items) out.old.items out.new.items) }
         ensures kept { length devices.new.items ≡ length devices.old.items }
     {
         for place in 0..devices.len() {
@@ -137,7 +137,7 @@ impl Outer {
     ) -> Result<(), NoMemory>
         requires few { length devices.old.items < 2 ^ 64 }
         ensures ok { OnOk result (RunOf (IsWake node) (outside self.old (map (λ d. state d) devices.old.items)) (outside self.new (map (λ d. state d) devices.new.items)) out.old.items out.new.items) }
-        ensures err { OnErr result (Stops (outside self.old (map (λ d. state d) devices.old.items)) (map (λ d. state d) devices.new.items) out.old.items out.new.items) }
+        ensures err { OnErr result (Stops (FrontOf (IsWake node)) (outside self.old (map (λ d. state d) devices.old.items)) (map (λ d. state d) devices.new.items) out.old.items out.new.items) }
         ensures kept { length devices.new.items ≡ length devices.old.items }
     {
         self.act_by_hand(node, Act::Wake, devices, out)
@@ -153,7 +153,7 @@ impl Outer {
     ) -> Result<(), NoMemory>
         requires few { length devices.old.items < 2 ^ 64 }
         ensures ok { OnOk result (RunOf (IsSet node value) (outside self.old (map (λ d. state d) devices.old.items)) (outside self.new (map (λ d. state d) devices.new.items)) out.old.items out.new.items) }
-        ensures err { OnErr result (Stops (outside self.old (map (λ d. state d) devices.old.items)) (map (λ d. state d) devices.new.items) out.old.items out.new.items) }
+        ensures err { OnErr result (Stops (FrontOf (IsSet node value)) (outside self.old (map (λ d. state d) devices.old.items)) (map (λ d. state d) devices.new.items) out.old.items out.new.items) }
         ensures kept { length devices.new.items ≡ length devices.old.items }
     {
         self.act_by_hand(node, Act::Local(value), devices, out)

@@ -6,7 +6,7 @@ ghost use Rattle.outer_events.specs.State.{outside, tells};
 ghost use Rattle.air_frames.specs.declared.ages.Refusal.{Refusal as Refused};
 ghost use Rattle.mesh_sim.specs.Faults.{fault_of};
 ghost use Rattle.outer_events.specs.Events.{refusal_entries};
-ghost use Rattle.outer_events.specs.Did.{Run, RunOf, Stops, Enters};
+ghost use Rattle.outer_events.specs.Did.{RunOf, FrontOf, Stops, Enters};
 ghost use Rattle.outer_events.specs.Schedules.{Arrivals, Delivers, IsRepeat};
 
 use crate::Outer;
@@ -25,7 +25,7 @@ impl Outer {
     ) -> Result<(), NoMemory>
         requires few { length devices.old.items < 2 ^ 64 }
         ensures ok { OnOk result (RunOf (Delivers self.old) (outside self.old (map (λ d. state d) devices.old.items)) (outside self.new (map (λ d. state d) devices.new.items)) out.old.items out.new.items) }
-        ensures err { OnErr result (Stops (outside self.old (map (λ d. state d) devices.old.items)) (map (λ d. state d) devices.new.items) out.old.items out.new.items) }
+        ensures err { OnErr result (Stops (FrontOf (Delivers self.old)) (outside self.old (map (λ d. state d) devices.old.items)) (map (λ d. state d) devices.new.items) out.old.items out.new.items) }
         ensures kept { length devices.new.items ≡ length devices.old.items }
     {
         for _ in 0..self.air.flying() {
@@ -44,7 +44,7 @@ impl Outer {
         requires few { length devices.old.items < 2 ^ 64 }
         requires flying { self.old.air.frames.landed < self.old.air.frames.sent }
         ensures ok { OnOk result (RunOf (Arrivals 1) (outside self.old (map (λ d. state d) devices.old.items)) (outside self.new (map (λ d. state d) devices.new.items)) out.old.items out.new.items) }
-        ensures err { OnErr result (Stops (outside self.old (map (λ d. state d) devices.old.items)) (map (λ d. state d) devices.new.items) out.old.items out.new.items) }
+        ensures err { OnErr result (Stops (FrontOf (Arrivals 1)) (outside self.old (map (λ d. state d) devices.old.items)) (map (λ d. state d) devices.new.items) out.old.items out.new.items) }
         ensures kept { length devices.new.items ≡ length devices.old.items }
     {
         let mut events = List::new(self.alloc);
@@ -62,7 +62,7 @@ impl Outer {
     ) -> Result<(), NoMemory>
         requires few { length devices.old.items < 2 ^ 64 }
         ensures ok { OnOk result (RunOf (IsRepeat frame) (outside self.old (map (λ d. state d) devices.old.items)) (outside self.new (map (λ d. state d) devices.new.items)) out.old.items out.new.items) }
-        ensures err { OnErr result (Stops (outside self.old (map (λ d. state d) devices.old.items)) (map (λ d. state d) devices.new.items) out.old.items out.new.items) }
+        ensures err { OnErr result (Stops (FrontOf (IsRepeat frame)) (outside self.old (map (λ d. state d) devices.old.items)) (map (λ d. state d) devices.new.items) out.old.items out.new.items) }
         ensures kept { length devices.new.items ≡ length devices.old.items }
     {
         let mut events = List::new(self.alloc);

@@ -2,8 +2,8 @@
 //! the devices that are handed in.
 //!
 //! Each call is a list of small events. Its contract says which events they are; what each makes of the outside and which
-//! entries it has stands in `outer_events`. Where memory is wanting, some events were done that lead to the devices as they
-//! are, with a front of their entries; a run ends there, and nothing is said of the rest.
+//! entries it has stands in `outer_events`. Where memory is wanting, a front of them was done, each whole and with all its
+//! entries, and of one more the device may have done its part; a run ends there, and nothing is said of the rest.
 //! Of its own it defines only how a device's doings are named (`specs/Acting`), and the size of pieces (`specs/Pieces`).
 #![tactic(auto)]
 

@@ -8,7 +8,7 @@ ghost use Rattle.chip_sim.specs.Events.{Informed, FitsProfile};
 ghost use Rattle.outer_events.specs.State.{Does};
 ghost use Rattle.outer_events.specs.Chip.{chip_does};
 ghost use Rattle.outer_events.specs.Results.{call_back, without_no_route, no_route, no_routes, leading, forgets, frame_ends, profile_for, informs, gives, MayGive};
-ghost use Rattle.outer_events.specs.Did.{GoesFor, StopsFor};
+ghost use Rattle.outer_events.specs.Did.{GoesFor, FrontOf, StopsFor};
 ghost use Rattle.outer_events.specs.Schedules.{Givings};
 
 use crate::Outer;
@@ -127,7 +127,7 @@ impl Outer {
     ) -> Result<(), NoMemory>
         requires few { length devices.now.items < 2 ^ 64 }
         ensures ok { OnOk result (GoesFor (map (λ d. state d) devices.now.items) (Givings (length self.old.due)) self.old self.new out.old.items out.new.items) }
-        ensures err { OnErr result (StopsFor (map (λ d. state d) devices.now.items) self.old out.old.items out.new.items) }
+        ensures err { OnErr result (StopsFor (map (λ d. state d) devices.now.items) (FrontOf (Givings (length self.old.due))) self.old out.old.items out.new.items) }
     {
         for _ in 0..self.due.len() {
             self.give(devices, out)?;

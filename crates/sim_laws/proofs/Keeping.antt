@@ -68,13 +68,21 @@ same_made n m (ran ∷ more) =
     ∙ (sym (flat_map-append (made_at n) (entries_all m ran.events) (entries_all next (events_of more)))
     ∙ ap (λ (l : List Entry). made n l) (sym (entries_all-append m ran.events (events_of more)))))
 
-pub all_shown : (m : Machine) (story : List Ran) (devices : List State) → AllByRecursion (IsShown (entries_all m (events_of story))) devices
-    → AllByRecursion (IsShown (transcript_from m story)) devices
-all_shown m story [] all = tt
-all_shown m story (d ∷ devices) all = (same_made d.node m story ∙ all.0, all_shown m story devices all.1)
+-- the same with events more
+on_made : (n : ℕ) (m : Machine) (story : List Ran) (more : List Event) → made n (transcript_from m story ++ entries_all (happens_all m (events_of story)) more) ≡ made n (entries_all m (events_of story ++ more))
+on_made n m story more =
+    flat_map-append (made_at n) (transcript_from m story) (entries_all (happens_all m (events_of story)) more)
+    ∙ (ap (λ (l : List Made). l ++ made n (entries_all (happens_all m (events_of story)) more)) (same_made n m story)
+    ∙ (sym (flat_map-append (made_at n) (entries_all m (events_of story)) (entries_all (happens_all m (events_of story)) more))
+    ∙ ap (λ (l : List Entry). made n l) (sym (entries_all-append m (events_of story) more))))
 
-pub all_group : (m : Machine) (story : List Ran) (devices : List State) → AllByRecursion (GroupsSessions (entries_all m (events_of story))) devices
-    → AllByRecursion (GroupsSessions (transcript_from m story)) devices
-all_group m story [] all = tt
-all_group m story (d ∷ devices) all =
-    (subst (λ (l : List Made). NeverFalls (flat_map (λ (x : Made). by_session x.by) l)) (sym (same_made d.node m story)) all.0, all_group m story devices all.1)
+pub all_shown : (m : Machine) (story : List Ran) (more : List Event) (devices : List State) → AllByRecursion (IsShown (entries_all m (events_of story ++ more))) devices
+    → AllByRecursion (IsShown (transcript_from m story ++ entries_all (happens_all m (events_of story)) more)) devices
+all_shown m story more [] all = tt
+all_shown m story more (d ∷ devices) all = (on_made d.node m story more ∙ all.0, all_shown m story more devices all.1)
+
+pub all_group : (m : Machine) (story : List Ran) (more : List Event) (devices : List State) → AllByRecursion (GroupsSessions (entries_all m (events_of story ++ more))) devices
+    → AllByRecursion (GroupsSessions (transcript_from m story ++ entries_all (happens_all m (events_of story)) more)) devices
+all_group m story more [] all = tt
+all_group m story more (d ∷ devices) all =
+    (subst (λ (l : List Made). NeverFalls (flat_map (λ (x : Made). by_session x.by) l)) (sym (on_made d.node m story more)) all.0, all_group m story more devices all.1)

@@ -5,11 +5,15 @@ use Rattle.zw_words.specs.declared.fault.LineFault.{LineFault}
 use Rattle.zw_text.specs.Line.{line_at}
 use Rattle.zw_text.specs.declared.line.Line.{Line}
 use Rattle.zw_machine.specs.State.{Machine}
+use Rattle.zw_machine.specs.Events.{Event}
 use Rattle.zw_machine.specs.Did.{happens_all}
+use Rattle.zw_machine.specs.Fronts.{IsLineBefore}
 use Rattle.line_facts.specs.Line.{AreLines}
+use Rattle.scenario_run.specs.declared.running.LinesEnd.{LinesEnd}
 use Rattle.entry_pieces.specs.Lines.{TextLine, listed, lines_in}
 use Rattle.run_facts.specs.Lines.{IsRead}
-use Rattle.sim_laws.specs.Laws.{Ran, events_of, AreSchedules}
+use Rattle.sim_laws.specs.Laws.{Ran, events_of, lines_of, AreRun, AreBegun}
+use Rattle.sim_laws.proofs.Stories.{are_front}
 
 -- a line, and the text that was read as it
 abbrev pub IsReadAs : TextLine Line → Type 0
@@ -26,26 +30,33 @@ all_read : (texts : List (List ℕ)) → AllByRecursion IsReadAs (lines_in line_
 all_read [] = tt
 all_read (text ∷ texts) = listed_read text (line_at text) (lines_in line_at texts) refl (all_read texts)
 
--- the lines of a story
-abbrev pub lines_of : List Ran → List Line
-lines_of [] = []
-lines_of (ran ∷ more) = ran.line.line ∷ lines_of more
+-- the lines of a story, without their texts
+abbrev pub plain_lines : List Ran → List Line
+plain_lines [] = []
+plain_lines (ran ∷ more) = ran.line.line ∷ plain_lines more
 
 -- so of the lines of a story
 abbrev pub AreRead : List Ran → Type 0
-AreRead story = AllByRecursion IsReadAs (map (λ (r : Ran). r.line) story)
+AreRead story = AllByRecursion IsReadAs (lines_of story)
 
-pub lines_read : (story : List Ran) → AreRead story → AllByRecursion IsRead (lines_of story)
+pub lines_read : (story : List Ran) → AreRead story → AllByRecursion IsRead (plain_lines story)
 lines_read [] all = tt
 lines_read (ran ∷ more) all = ((ran.line.text, all.0), lines_read more all.1)
 
-pub texts_read : (story : List Ran) (texts : List (List ℕ)) → map (λ (r : Ran). r.line) story ≡ lines_in line_at texts → AreRead story
-texts_read story texts are = subst (λ (l : List (TextLine Line)). AllByRecursion IsReadAs l) (sym are) (all_read texts)
+front_read : (a b : List (TextLine Line)) → AllByRecursion IsReadAs (a ++ b) → AllByRecursion IsReadAs a
+front_read [] b all = tt
+front_read (one ∷ a) b all = (all.0, front_read a b all.1)
 
-pub story_read : (story : List Ran) (texts : List (List ℕ)) → map (λ (r : Ran). r.line) story ≡ lines_in line_at texts → AllByRecursion IsRead (lines_of story)
-story_read story texts are = lines_read story (texts_read story texts are)
+pub texts_read : (end : LinesEnd) (story : List Ran) (texts : List (List ℕ)) → AreRun end story (lines_in line_at texts) → AreRead story
+texts_read end story texts are =
+    let front = are_front end story (lines_in line_at texts) are in
+    front_read (lines_of story) front.0 (subst (λ (l : List (TextLine Line)). AllByRecursion IsReadAs l) (sym front.1) (all_read texts))
 
 -- its events are the schedules of these lines
-pub story_lines : (m : Machine) (story : List Ran) → AreSchedules m story → AreLines (lines_of story) m (events_of story)
+before_same : (more : List Ran) (line : Line) (m : Machine) (events : List Event) → IsLineBefore more line m events → IsLineBefore (plain_lines more) line m events
+before_same [] line m events is = is
+before_same (next ∷ more) line m events is = is
+
+pub story_lines : (m : Machine) (story : List Ran) → AreBegun m story → AreLines (plain_lines story) m (events_of story)
 story_lines m [] are = refl
-story_lines m (ran ∷ more) are = (ran.events, events_of more, refl, are.0, story_lines (happens_all m ran.events) more are.1)
+story_lines m (ran ∷ more) are = (ran.events, events_of more, refl, before_same more ran.line.line m ran.events are.0, story_lines (happens_all m ran.events) more are.1)

@@ -1,6 +1,6 @@
 -- What a run of `sim` keeps true (this project's own): its story is the lines that were run, each with the events of the machine that it was,
 -- and the laws are of this story.
-use Rattle.std.specs.Prelude.{◌≡◌, ℕ, Bool, true, ◌⊎◌, List, [], ◌∷◌, ◌++◌, map, Some}
+use Rattle.std.specs.Prelude.{◌≡◌, ℕ, Bool, true, ◌⊎◌, List, [], ◌∷◌, ◌++◌, map, Option, Some}
 use Rattle.std.specs.List.{AllByRecursion}
 use Rattle.zw_text.specs.Line.{line_at}
 use Rattle.zw_text.specs.declared.line.Line.{Line}
@@ -9,8 +9,10 @@ use Rattle.zw_text.specs.declared.entry.Entry.TheVariants.{Said}
 use Rattle.host_core.specs.Network.{keys_of}
 use Rattle.zw_machine.specs.State.{Machine, first_machine}
 use Rattle.zw_machine.specs.Events.{Event}
-use Rattle.zw_machine.specs.Did.{happens_all, entries_all, MayAll}
+use Rattle.outer_events.specs.Events.{OuterEvent}
+use Rattle.zw_machine.specs.Did.{happens_all, entries_all, MayAll, last_of, IsOfHost}
 use Rattle.zw_machine.specs.Lines.{IsLine}
+use Rattle.zw_machine.specs.Fronts.{IsLineBefore}
 use Rattle.scenario_run.specs.declared.running.LinesEnd.{LinesEnd}
 use Rattle.scenario_run.specs.declared.running.LinesEnd.TheVariants.{NoMemory}
 use Rattle.scenario_run.specs.declared.status.Status.{Status}
@@ -27,7 +29,6 @@ use Rattle.zw_laws.specs.Headline.{Headline, HeadlineOf, IsAsMade}
 use Rattle.zw_laws.specs.Nodes.{device_of, first_node, is_supervised, listing_of}
 use Rattle.world_facts.specs.Devices.{GroupsSessions}
 use Rattle.world_facts.specs.Restarts.{AllKeepWell, BeginsEmpty}
-use Rattle.run_facts.specs.Premises.{AreFew}
 use Rattle.headline_facts.specs.Truly.{SucceedsAfterChangeOf}
 use Rattle.supervised_nodes.specs.Supervised.{IsSupervisedNode}
 use Rattle.sim_laws.specs.Around.{Around}
@@ -49,6 +50,10 @@ abbrev pub events_of : List Ran → List Event
 events_of [] = []
 events_of (ran ∷ more) = ran.events ++ events_of more
 
+-- its lines, as they were read
+abbrev pub lines_of : List Ran → List (TextLine Line)
+lines_of story = map (λ (ran : Ran). ran.line) story
+
 -- its entries from a machine on: the words of each line, and then the entries of its events
 abbrev pub transcript_from : Machine → List Ran → List Entry
 transcript_from m [] = []
@@ -59,22 +64,42 @@ abbrev pub AreSchedules : Machine → List Ran → Type 0
 AreSchedules m [] = Unit {0}
 AreSchedules m (ran ∷ more) = IsLine ran.line.line m ran.events × AreSchedules (happens_all m ran.events) more
 
--- the same of all lines but the last, which was run in part
-pub record AreSchedulesButLast (m : Machine) (story : List Ran) : Type 0 where
-  pub front : List Ran
-  pub last : Ran
-  pub are : story ≡ front ++ last ∷ []
-  pub schedules : AreSchedules m front
+-- the same, but that want of memory may have cut the last line short: then they are a front of it
+abbrev pub AreBegun : Machine → List Ran → Type 0
+AreBegun m [] = Unit {0}
+AreBegun m (ran ∷ more) = IsLineBefore more ran.line.line m ran.events × AreBegun (happens_all m ran.events) more
 
 -- each line was run whole; where there was no memory, the last perhaps in part
 abbrev pub AreScheduled : LinesEnd → Machine → List Ran → Type 0
-AreScheduled NoMemory m story = AreSchedules m story ⊎ AreSchedulesButLast m story
+AreScheduled NoMemory m story = AreBegun m story
 AreScheduled end m story = AreSchedules m story
 
--- the machine ended so, and no entry is left out; want of memory may leave entries out, and the host as it was in between
-abbrev pub IsWhole : LinesEnd → List Entry → Machine → Machine → Type 0
-IsWhole NoMemory more machine last = Unit {0}
-IsWhole end more machine last = (more ≡ []) × (machine ≡ last)
+-- the lines that were run are all that were read; where there was no memory to enter the last one, all but that
+abbrev pub AreRun : LinesEnd → List Ran → List (TextLine Line) → Type 0
+AreRun NoMemory story lines = (lines_of story ≡ lines) ⊎ ((line : TextLine Line) × (lines_of story ++ line ∷ [] ≡ lines))
+AreRun end story lines = lines_of story ≡ lines
+
+-- ---- what was done and not entered
+
+-- the story with one event more of its last line, where there is one
+abbrev pub with_last : Option OuterEvent → List Ran → List Ran
+with_last last [] = []
+with_last last (ran ∷ []) = record { line = ran.line; events = ran.events ++ last_of last } ∷ []
+with_last last (ran ∷ (next ∷ more)) = ran ∷ with_last last (next ∷ more)
+
+-- Behind the story one event outside the host may have moved its device, as its last line would go on, and then the host may have done what was kept.
+pub record IsUnentered (m : Machine) (story : List Ran) (events : List Event) : Type 0 where
+  pub last : Option OuterEvent
+  pub kept : List Event
+  pub are : events ≡ last_of last ++ kept
+  pub adds : events_of (with_last last story) ≡ events_of story ++ last_of last
+  pub moved : AreBegun m (with_last last story)
+  pub of_host : AllByRecursion IsOfHost kept
+
+-- there is such only where there was no memory; else the machine is that after the story
+abbrev pub EndsAs : LinesEnd → Machine → List Ran → List Event → Machine → Type 0
+EndsAs NoMemory m story unentered last = IsUnentered m story unentered
+EndsAs end m story unentered last = (unentered ≡ []) × (last ≡ happens_all m (events_of story))
 
 -- ---- the story of a run
 
@@ -86,92 +111,94 @@ first key old = first_machine (keys_of key) old.records old.devices
 abbrev pub last : List ℕ → Around → List Ran → Machine
 last key old story = happens_all (first key old) (events_of story)
 
+-- and after what was not entered
+abbrev pub end : List ℕ → Around → List Ran → List Event → Machine
+end key old story unentered = happens_all (first key old) (events_of story ++ unentered)
+
 -- the transcript of a story
 abbrev pub transcript : List ℕ → Around → List Ran → List Entry
 transcript key old story = transcript_from (first key old) story
 
--- A run of `sim` has this story: its lines are those that were run, its events those that were done, and its transcript is what was written as
--- `SimRan` says, but for what want of memory left out.
-pub record Tells (ended : Status) (quiet : Bool) (key : List ℕ) (old new : Around) (story : List Ran) : Type 0 where
+-- A run of `sim` has this story, behind which these events were not entered: its lines are those that were run, its events and those were done, and its
+-- transcript is what `SimRan` says is written.
+pub record Tells (ended : Status) (quiet : Bool) (key : List ℕ) (old new : Around) (story : List Ran) (unentered : List Event) : Type 0 where
   pub ran : RunsSim ended quiet key old new
-  pub lines : map (λ (r : Ran). r.line) story ≡ lines_in line_at ran.told.texts
+  pub lines : AreRun ran.told.end story (lines_in line_at ran.told.texts)
   pub scheduled : AreScheduled ran.told.end (first key old) story
-  pub may : MayAll (first key old) (events_of story)
-  pub more : List Entry
-  pub entered : ran.told.transcript ++ more ≡ transcript key old story
-  pub whole : IsWhole ran.told.end more ran.point.machine (last key old story)
-  pub devices : new.devices ≡ (last key old story).outside.devices
-  pub records : new.records ≡ (last key old story).records
+  pub may : MayAll (first key old) (events_of story ++ unentered)
+  pub entered : ran.told.transcript ≡ transcript key old story
+  pub ends : EndsAs ran.told.end (first key old) story unentered ran.point.machine
+  pub devices : new.devices ≡ (end key old story unentered).outside.devices
+  pub records : new.records ≡ (end key old story unentered).records
 
 -- ---- premises of the laws
 
--- The keeper began without records, it tells them where a host starts from them, their numbers are in range, and an interview that ends
--- well is of a node that is joined.
+-- The keeper began without records, it tells them where a host starts from them, and an interview that ends well is of a node that is joined.
 pub record KeepsRecords (key : List ℕ) (old : Around) (story : List Ran) : Type 0 where
   pub empty : BeginsEmpty old.records
   pub well : AllKeepWell (first key old) (events_of story)
-
--- All lines were run whole, over a keeper that tells its records, had none at first and has fewer than 2 ^ 32 in the end.
-pub record IsWholeRun (key : List ℕ) (old : Around) (story : List Ran) : Type 0 where
-  pub whole : AreSchedules (first key old) story
-  pub empty : old.records ≡ Some []
-  pub few : AreFew (last key old story).records
 
 -- ---- what every story of a run keeps
 
 -- a run of `sim` has a story
 abbrev pub HasStory : Status → List ℕ → Around → Around → Type 0
-HasStory ended key old new = (quiet : Bool) → RunsSim ended quiet key old new → (story : List Ran) × Tells ended quiet key old new story
+HasStory ended key old new = (quiet : Bool) → RunsSim ended quiet key old new → (story : List Ran) × (unentered : List Event) × Tells ended quiet key old new story unentered
 
--- a law of every story that a run has
-abbrev pub Always : Status → List ℕ → Around → Around → (List Ran → Type 0) → Type 0
-Always ended key old new Law = (quiet : Bool) (story : List Ran) → Tells ended quiet key old new story → Law story
+-- a law of every story that a run has, and of what was not entered behind it
+abbrev pub Always : Status → List ℕ → Around → Around → (List Ran → List Event → Type 0) → Type 0
+Always ended key old new Law = (quiet : Bool) (story : List Ran) (unentered : List Event) → Tells ended quiet key old new story unentered → Law story unentered
 
--- such a run has the records that the next three laws premise
+-- the same of the story alone
+abbrev pub AlwaysOf : Status → List ℕ → Around → Around → (List Ran → Type 0) → Type 0
+AlwaysOf ended key old new Law = Always ended key old new (λ story unentered. Law story)
+
+-- over a keeper that tells its records and had none the next three laws have what they premise
 abbrev pub KeepsWell : Status → List ℕ → Around → Around → Type 0
-KeepsWell ended key old new = Always ended key old new (λ story. IsWholeRun key old story → KeepsRecords key old story)
+KeepsWell ended key old new = AlwaysOf ended key old new (λ story. old.records ≡ Some [] → KeepsRecords key old story)
 
 -- orders, sessions and outcomes keep their laws
 abbrev pub KeepsOrders : Status → List ℕ → Around → Around → Type 0
-KeepsOrders ended key old new = Always ended key old new (λ story. KeepsRecords key old story → HostLaws (transcript key old story))
+KeepsOrders ended key old new = AlwaysOf ended key old new (λ story. KeepsRecords key old story → HostLaws (transcript key old story))
 
 -- the tables of the host are what the transcript shows
 abbrev pub ShowsTables : Status → List ℕ → Around → Around → Type 0
-ShowsTables ended key old new = Always ended key old new (λ story. KeepsRecords key old story → AreShown (transcript key old story) (last key old story).host.state)
+ShowsTables ended key old new = AlwaysOf ended key old new (λ story. KeepsRecords key old story → AreShown (transcript key old story) (last key old story).host.state)
 
 -- a confirmed value is that of the last successful session that sets it
 abbrev pub ConfirmsValues : Status → List ℕ → Around → Around → Type 0
-ConfirmsValues ended key old new = Always ended key old new (λ story. KeepsRecords key old story → StoresLaw (transcript key old story) (last key old story).host.state)
+ConfirmsValues ended key old new = AlwaysOf ended key old new (λ story. KeepsRecords key old story → StoresLaw (transcript key old story) (last key old story).host.state)
 
 -- each device changes at most once by each session, in their order
 abbrev pub AppliesOnce : Status → List ℕ → Around → Around → Type 0
-AppliesOnce ended key old new = Always ended key old new (λ story. AreInOrder old.devices → TakeOnce new.devices)
+AppliesOnce ended key old new = AlwaysOf ended key old new (λ story. AreInOrder old.devices → TakeOnce new.devices)
 
 -- each device keeps its node, its kind and its key
 abbrev pub KeepsDevices : Status → List ℕ → Around → Around → Type 0
-KeepsDevices ended key old new = Always ended key old new (λ story. AreSame old.devices new.devices)
+KeepsDevices ended key old new = AlwaysOf ended key old new (λ story. AreSame old.devices new.devices)
 
--- of devices as their makers left them, one a node, the transcript shows every change
+-- of devices as their makers left them, one a node, the transcript shows every change, with what was not entered
 abbrev pub ShowsChanges : Status → List ℕ → Around → Around → Type 0
 ShowsChanges ended key old new = Always ended key old new
-    (λ story. AllByRecursion (IsAsMade key) old.devices → AreApart old.devices → AllByRecursion (IsShown (transcript key old story)) new.devices)
+    (λ story unentered. AllByRecursion (IsAsMade key) old.devices → AreApart old.devices →
+    AllByRecursion (IsShown (transcript key old story ++ entries_all (last key old story) unentered)) new.devices)
 
 -- and those of one session stand together
 abbrev pub GroupsChanges : Status → List ℕ → Around → Around → Type 0
 GroupsChanges ended key old new = Always ended key old new
-    (λ story. AllByRecursion (IsAsMade key) old.devices → AreApart old.devices → AllByRecursion (GroupsSessions (transcript key old story)) new.devices)
+    (λ story unentered. AllByRecursion (IsAsMade key) old.devices → AreApart old.devices →
+    AllByRecursion (GroupsSessions (transcript key old story ++ entries_all (last key old story) unentered)) new.devices)
 
 -- ---- the headline
 
--- What the headline premises of a run: all lines were run whole over such a keeper, and the devices are as their makers left them, one a node.
-pub record IsFairRun (key : List ℕ) (old : Around) (story : List Ran) : Type 0 where
-  pub run : IsWholeRun key old story
+-- What the headline premises of a run: the keeper tells its records and had none at first, and the devices are as their makers left them, one a node.
+pub record IsFairRun (key : List ℕ) (old : Around) : Type 0 where
+  pub empty : old.records ≡ Some []
   pub made : AllByRecursion (IsAsMade key) old.devices
   pub apart : AreApart old.devices
 
 -- a law of such runs
 abbrev pub InFairRuns : Status → List ℕ → Around → Around → (List Ran → Type 0) → Type 0
-InFairRuns ended key old new Law = Always ended key old new (λ story. IsFairRun key old story → Law story)
+InFairRuns ended key old new Law = IsFairRun key old → AlwaysOf ended key old new Law
 
 -- The headline: each device whose kind lists Supervision has applied a part of the commands accepted for its node, in order, each at most once; every command that is reported
 -- successful is in it; and where the last change of a property came from a command reported successful, the confirmed value is the device's.

@@ -1,5 +1,5 @@
 -- What the world does with a text, and the transcript of a run.
-use Rattle.std.proofs.Common.{◌≡◌, ℕ, Bool, false, List, [], ◌∷◌, ◌++◌, Option, Some, None, Result, Ok, Err, IsOk, OnOk, is_err, refl, sym, ap, ◌∙◌, subst, arith, append-nil}
+use Rattle.std.proofs.Common.{◌≡◌, ℕ, Bool, false, List, [], ◌∷◌, ◌++◌, Option, Some, None, Result, Ok, Err, IsOk, OnOk, is_err, refl, sym, ap, ◌∙◌, subst, arith, append-nil, inl, inr}
 use Rattle.std.specs.Io.KnownBytes.{Appends}
 use Rattle.zw_words.specs.Fields.{Gives}
 use Rattle.zw_words.specs.declared.fault.LineFault.{LineFault}
@@ -10,9 +10,11 @@ use Rattle.zw_text.specs.declared.line.Line.{Line}
 use Rattle.zw_text.specs.declared.entry.Entry.{Entry}
 use Rattle.zw_text.specs.declared.entry.Entry.TheVariants.{Said}
 use Rattle.device_sim.specs.State.{State}
-use Rattle.zw_machine.specs.Did.{Does, Stops}
+use Rattle.zw_machine.specs.Events.{Event}
+use Rattle.zw_machine.specs.Did.{Does, Nothing, Stops}
 use Rattle.zw_machine.specs.Lines.{IsLine}
-use Rattle.zw_machine.proofs.Doing.{stopped_at_once, stopped_later}
+use Rattle.zw_machine.specs.Fronts.{LineFront, LinePart}
+use Rattle.zw_machine.proofs.Doing.{stopped_now, stopped_as, stopped_later}
 use Rattle.zw_machine.specs.Table.{table_entries}
 use Rattle.zw_world.specs.World.{WorldState, first_world, machine_of}
 use Rattle.scenario_run.specs.Machine.{RefusesBy}
@@ -30,8 +32,7 @@ use Rattle.sim_run.specs.Sim.{Point, SimRan, SimRuns, SimStops, LineRan, PartRan
 
 -- nothing of a line was done, and nothing of it was entered
 pub nothing_done : (line : TextLine Line) (point : Point) → PartRan line point point []
-nothing_done line point =
-    record { events = []; may = tt; devices = refl; records = refl; more = said line; front = sym (append-nil (said line)); never_falls = omega arith }
+nothing_done line point = inl (refl, refl)
 
 -- there was no memory for the line before it was run
 pub not_run : (quiet : Bool) (text : List ℕ) (line : Line) (point : Point) (pieces : List (List ℕ)) → pieces ≡ [] → StopsLine quiet text line point point pieces
@@ -85,17 +86,23 @@ module _ (quiet : Bool) (text : List ℕ) (line : Line) (old new : Point) (first
     is ∙ ap (λ (o : List (List ℕ)). o ++ pieces_of quiet shown) none ∙ ap (λ (es : List Entry). pieces_of quiet es) same,
   )
 
-  pub stops_line : Stops (at old first) (at new entries) → ((rest : List (List ℕ)) × (sink ++ pieces_of quiet shown ≡ out ++ rest)) → StopsLine quiet text line old new out
-  stops_line s front = (
+  part_stops : Stops (LinePart line) (at old first) (at new entries) → ((rest : List (List ℕ)) × (sink ++ pieces_of quiet shown ≡ out ++ rest)) → StopsLine quiet text line old new out
+  part_stops s front = (
     entries,
     front.0,
-    subst (λ (es : List Entry). Stops (at old es) (at new entries)) begun s,
+    inr (subst (λ (es : List Entry). Stops (LinePart line) (at old es) (at new entries)) begun s),
     ap (λ (es : List Entry). pieces_of quiet es) (sym same) ∙ ap (λ (o : List (List ℕ)). o ++ pieces_of quiet shown) (sym none) ∙ front.1,
   )
 
+  pub stops_line : Stops (LineFront line) (at old first) (at new entries) → ((rest : List (List ℕ)) × (sink ++ pieces_of quiet shown ≡ out ++ rest)) → StopsLine quiet text line old new out
+  stops_line s front = part_stops (stopped_as (LineFront line) (LinePart line) (at old first) (at new entries) (λ events is. inr is) s) front
+
   -- the line was run, and there was no memory for its pieces
   pub added_in_part : Does (IsLine line) (at old first) (at new entries) → ((rest : List (List ℕ)) × (sink ++ pieces_of quiet shown ≡ out ++ rest)) → StopsLine quiet text line old new out
-  added_in_part d front = stops_line (stopped_later d.0 (at old first) (at new entries) (at new entries) d.2 (stopped_at_once (at new entries))) front
+  added_in_part (events, is, ran) front = part_stops
+      (stopped_later (LinePart line) Nothing events (at old first) (at new entries) (at new entries)
+      (λ more empty. inl (subst (λ (l : List Event). IsLine line old.machine l) (sym (ap (λ (l : List Event). events ++ l) empty ∙ append-nil events)) is)) ran
+      (stopped_now Nothing (at new entries) refl)) front
 
 -- the table was listed, and its pieces were added
 pub is_table : (world : WorldState) (devices : List State) (none table shown : List Entry) (sink out : List (List ℕ)) → none ≡ [] → sink ≡ []

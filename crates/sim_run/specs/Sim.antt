@@ -1,5 +1,5 @@
 -- What `sim` reads, runs and writes (this project's own rule, over the machine of `zw_machine`).
-use Rattle.std.specs.Prelude.{◌≡◌, ℕ, Bool, List, [], ◌∷◌, Option, Some, Ok, false}
+use Rattle.std.specs.Prelude.{◌≡◌, ◌⊎◌, ℕ, Bool, List, [], ◌∷◌, Option, Some, Ok, false}
 use Rattle.zw_text.specs.Line.{line_at}
 use Rattle.zw_text.specs.Entry.{transcript_text}
 use Rattle.zw_text.specs.declared.line.Line.{Line}
@@ -9,6 +9,7 @@ use Rattle.device_sim.specs.State.{State}
 use Rattle.zw_machine.specs.State.{Machine}
 use Rattle.zw_machine.specs.Did.{Scene, Does, Stops}
 use Rattle.zw_machine.specs.Lines.{IsLine}
+use Rattle.zw_machine.specs.Fronts.{LinePart}
 use Rattle.zw_machine.specs.Table.{table_entries}
 use Rattle.zw_world.specs.World.{WorldState, first_world, machine_of}
 use Rattle.scenario_run.specs.declared.status.Status.{Status}
@@ -40,9 +41,9 @@ said line = Said (said_text line.text) ∷ []
 abbrev pub LineRan : TextLine Line → Point → Point → List Entry → Type 0
 LineRan line old new entries = Does (IsLine line.line) (at old (said line)) (at new entries)
 
--- there was no memory for all of it
+-- there was no memory for all of it: it was not even entered, or a front of it was done
 abbrev pub PartRan : TextLine Line → Point → Point → List Entry → Type 0
-PartRan line old new entries = Stops (at old (said line)) (at new entries)
+PartRan line old new entries = ((new ≡ old) × (entries ≡ [])) ⊎ Stops (LinePart line.line) (at old (said line)) (at new entries)
 
 -- the last lines are those of the table
 unfoldable pub IsTable : Point → List (List ℕ) → Type 0

@@ -20,7 +20,7 @@ use device_facts::{devices_go_on, devices_stay_the_same};
 use headline_facts::{lines_have_the_headline, runs_report_after_the_change};
 use listing_facts::lines_tell_what_nodes_list;
 
-/// Over any lines that were read, the device of a node that is plain or of a lock is tied to the host in the end, and each success that the host is told of the node is true at the moment it is told.
+/// Over any lines that were read, the last of which want of memory may have cut short, the device of a node that is plain or of a lock is tied to the host in the end, and each success that the host is told of the node is true at the moment it is told.
 pub fn nodes_are_tied()
     ensures tied { (keys : Keys) (devices : List State) (lines : List Spoken) (node : ℕ) (device : State) → IsPlainOrLock keys devices (events_of lines) node →
         AreDone (first_machine keys (Some []) devices) lines → AreFew (after_all (first_machine keys (Some []) devices) lines).records →
@@ -33,7 +33,7 @@ pub fn nodes_are_tied()
     locks_are_tied();
 }
 
-/// Over any lines that were read, whatever is lost, changed, delayed or repeated, and however often the host starts again: the device of such a node that knows Supervision has applied a part of the commands accepted for it, in
+/// So over any such lines, whatever is lost, changed, delayed or repeated, and however often the host starts again: the device of such a node that knows Supervision has applied a part of the commands accepted for it, in
 /// order, each at most once, with exactly the settings that each asks for; every command reported successful is in it, and none that failed, was taken back or
 /// waits; and where the last change of a property is of a command reported successful, its confirmed value is the device's.
 pub fn nodes_have_the_headline()

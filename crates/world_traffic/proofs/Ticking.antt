@@ -37,7 +37,7 @@ use Rattle.world_traffic.proofs.Telling.{Given, given_first, device_calls, ticks
 use Rattle.world_traffic.proofs.Arriving.{Homes, arrives_home}
 use Rattle.world_traffic.proofs.Going.{Fair, AllFair, fair_first, fair_later, GoesOf, goes_nowhere, goes_both, goes_parts, goes_then, goes_as, goes_none, goes_then_front}
 use Rattle.world_traffic.proofs.Outside.{IsFree, free_goes, outside_goes}
-use Rattle.world_traffic.proofs.Parting.{outside_parts, arrivals_free, givings_give, IsGiving as GivesOne, device_ticks_free, all_first}
+use Rattle.world_traffic.proofs.Parting.{Parts, outside_parts, arrivals_free, givings_give, IsGiving as GivesOne, device_ticks_free, all_first}
 use Rattle.world_traffic.proofs.Hosting.{host_goes, decoder_goes}
 use Rattle.world_traffic.proofs.Settling.{settles_go, settles_front_go}
 
@@ -264,26 +264,28 @@ module _ (laws : Laws) where
       (gives_go inner (course.after_all t first.steps) (log ++ first.more) first.up first.down n first.follows (ap (λ (a : AirState). outward (on_air a.frames)) given.air ∙ clear) give.1 fair.1)
   gives_go (event ∷ inner) t log up down m f clear give fair = absurd give.0
 
+  -- the first of events that are all of one kind
+  first_go : (P : OuterEvent → Type 0) (t : Traffic) (log : List Mark) (m : Machine) (events rest : List Event) (all : List OuterEvent) → events ++ rest ≡ map Outside_does all → AllByRecursion P all → AllFair m events
+      → ((inner : List OuterEvent) → AllByRecursion P inner → AllFair m (map Outside_does inner) → Goes t log m (map Outside_does inner)) → Goes t log m events
+  first_go P t log m events rest all are kind fair go =
+      let parts : Parts events all = outside_parts events rest all are in
+      goes_as t log m events (map Outside_does parts.inner) parts.are fair
+      (λ fair. go parts.inner (all_first P parts.inner parts.later (subst (λ (l : List OuterEvent). AllByRecursion P l) parts.all_are kind)) fair)
+
   delivery_front_goes : GoesOf (FrontOf IsDelivery)
   delivery_front_goes t log up down m events f (inl none) fair = goes_none t log up down m events f none fair
   delivery_front_goes t log up down m events f (inr (rest, (all, is, are))) fair =
-      let parts = outside_parts events rest all are in
-      goes_as t log m events (map Outside_does parts.inner) parts.are fair
-      (λ fair. free_go parts.inner t log up down m f (all_first IsFree parts.inner parts.later (subst (λ (l : List OuterEvent). AllByRecursion IsFree l) parts.all_are (arrivals_free _ all is))) fair)
+      first_go IsFree t log m events rest all are (arrivals_free _ all is) fair (λ inner free fair. free_go inner t log up down m f free fair)
 
   giving_front_goes : (t : Traffic) (log : List Mark) (up down : List Item) (m : Machine) (events : List Event) → Follows t log up down m → IsClear m.outside.outer → FrontOf IsGiving m events → AllFair m events → Goes t log m events
   giving_front_goes t log up down m events f clear (inl none) fair = goes_none t log up down m events f none fair
   giving_front_goes t log up down m events f clear (inr (rest, (all, is, are))) fair =
-      let parts = outside_parts events rest all are in
-      goes_as t log m events (map Outside_does parts.inner) parts.are fair
-      (λ fair. gives_go parts.inner t log up down m f clear (all_first GivesOne parts.inner parts.later (subst (λ (l : List OuterEvent). AllByRecursion GivesOne l) parts.all_are (givings_give _ all is))) fair)
+      first_go GivesOne t log m events rest all are (givings_give _ all is) fair (λ inner give fair. gives_go inner t log up down m f clear give fair)
 
   device_tick_front_goes : GoesOf (FrontOf IsDeviceTick)
   device_tick_front_goes t log up down m events f (inl none) fair = goes_none t log up down m events f none fair
   device_tick_front_goes t log up down m events f (inr (rest, (all, is, are))) fair =
-      let parts = outside_parts events rest all are in
-      goes_as t log m events (map Outside_does parts.inner) parts.are fair
-      (λ fair. free_go parts.inner t log up down m f (all_first IsFree parts.inner parts.later (subst (λ (l : List OuterEvent). AllByRecursion IsFree l) parts.all_are (device_ticks_free _ _ all is))) fair)
+      first_go IsFree t log m events rest all are (device_ticks_free _ _ all is) fair (λ inner free fair. free_go inner t log up down m f free fair)
 
   device_ticks_go : GoesOf IsDeviceTick
   device_ticks_go t log up down m events f (all, is, are) fair =

@@ -78,6 +78,7 @@ stopped_now Front s none = record {
   whole = [];
   last = None;
   front = none;
+  moved = none;
   kept = [];
   of_host = tt;
   may = tt;
@@ -92,7 +93,8 @@ pub stopped_as : (A B : Schedule) (s t : Scene) → ((events : List Event) → A
 stopped_as A B s t goes stops = record {
   whole = stops.whole;
   last = stops.last;
-  front = goes (stops.whole ++ last_of stops.last) stops.front;
+  front = goes stops.whole stops.front;
+  moved = goes (stops.whole ++ last_of stops.last) stops.moved;
   kept = stops.kept;
   of_host = stops.of_host;
   may = stops.may;
@@ -115,7 +117,8 @@ stopped_later A B a old mid new goes first later =
     record {
       whole = a ++ later.whole;
       last = later.last;
-      front = subst (λ (l : List Event). A old.machine l) front (goes ends later.front);
+      front = goes later.whole later.front;
+      moved = subst (λ (l : List Event). A old.machine l) front (goes ends later.moved);
       kept = later.kept;
       of_host = later.of_host;
       may = subst (λ (l : List Event). MayAll old.machine l) all

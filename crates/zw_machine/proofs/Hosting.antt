@@ -231,6 +231,7 @@ stopped_by Front es m new before all f g none hosts may devices records same fal
   whole = [];
   last = None;
   front = none;
+  moved = none;
   kept = es;
   of_host = hosts;
   may = may;

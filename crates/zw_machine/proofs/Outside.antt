@@ -53,10 +53,10 @@ pub front_outside : (whole : List OuterEvent) (last : Option OuterEvent) → map
 front_outside [] last = sym (last_outside last)
 front_outside (event ∷ whole) last = ap (λ (l : List Event). Outside_does event ∷ l) (front_outside whole last)
 
-pub stopped_outside : (Front : Schedule) (OuterFront : List OuterEvent → Type 0) (m new : Machine) (before all : List Entry) (faults : ℕ) → ((events : List OuterEvent) → OuterFront events → Front m (map Outside_does events))
-    → new.records ≡ m.records → StopsOutside OuterFront m.outside new.outside.devices before all
+pub stopped_outside : (Front : Schedule) (OuterFront : List OuterEvent → Type 0) (m new : Machine) (before all : List Entry) (faults : ℕ) → ((a b : List OuterEvent) → OuterFront (a ++ b) → OuterFront a)
+    → ((events : List OuterEvent) → OuterFront events → Front m (map Outside_does events)) → new.records ≡ m.records → StopsOutside OuterFront m.outside new.outside.devices before all
     → Stops Front (record { machine = m; entries = before; faults = faults }) (record { machine = new; entries = all; faults = faults })
-stopped_outside Front OuterFront m new before all faults goes records stops =
+stopped_outside Front OuterFront m new before all faults fronts goes records stops =
     let ends : List OuterEvent = stops.whole ++ outer_last stops.last in
     let is : map Outside_does ends ≡ (map Outside_does stops.whole ++ last_of stops.last) ++ [] =
     front_outside stops.whole stops.last ∙ sym (append-nil (map Outside_does stops.whole ++ last_of stops.last)) in
@@ -65,7 +65,8 @@ stopped_outside Front OuterFront m new before all faults goes records stops =
     record {
       whole = map Outside_does stops.whole;
       last = stops.last;
-      front = subst (λ (l : List Event). Front m l) (front_outside stops.whole stops.last) (goes ends stops.front);
+      front = goes stops.whole (fronts stops.whole (outer_last stops.last) stops.front);
+      moved = subst (λ (l : List Event). Front m l) (front_outside stops.whole stops.last) (goes ends stops.front);
       kept = [];
       of_host = tt;
       may = subst (λ (l : List Event). MayAll m l) is (may_outside-all m ends stops.own stops.may);

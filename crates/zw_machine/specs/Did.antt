@@ -106,7 +106,8 @@ IsOfHost event = Unit {0}
 pub record Stops (Front : Schedule) (old new : Scene) : Type 0 where
   pub whole : List Event
   pub last : Option OuterEvent
-  pub front : Front old.machine (whole ++ last_of last)
+  pub front : Front old.machine whole
+  pub moved : Front old.machine (whole ++ last_of last)
   pub kept : List Event
   pub of_host : AllByRecursion IsOfHost kept
   pub may : MayAll old.machine ((whole ++ last_of last) ++ kept)

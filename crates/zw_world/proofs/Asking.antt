@@ -45,7 +45,7 @@ use Rattle.outer_events.specs.Schedules.{IsOne}
 use Rattle.zw_machine.specs.State.{Machine, machine, routed, with_texts}
 use Rattle.zw_machine.specs.Refusals.{shown, IsRefused, IsRefusedBy, IsRefusedOrUnkept, IsUncancelled}
 use Rattle.zw_machine.specs.Events.{Event, Host_does, Outside_does, Refuses as refuses, Shows_values, notes, answers, happens, entries, May}
-use Rattle.zw_machine.specs.Did.{Run, Does, Stops, is_keeper_fault}
+use Rattle.zw_machine.specs.Did.{Run, Does, Nothing, Stops, is_keeper_fault}
 use Rattle.zw_machine.specs.Lines.{Asks, IsDone, IsDiscovery, IsEffect}
 use Rattle.zw_machine.proofs.Doing.{ran_both}
 use Rattle.zw_machine.proofs.Hosting.{Silent, adds_is, rose_any}
@@ -356,7 +356,7 @@ cancelled (Ok value) command keys keys' host mid host' o o' r r' before all f g 
 -- the host did its event, and then memory was wanting
 pub event_stops : {T E : Type 0} (answer : Result T E) (e : HostEvent) (keys keys' : Keys) (host mid host' : HostParts) (o o' : OuterState) (r r' : Option (List (List ℕ))) (before all : List Entry) (f g : ℕ)
     → calls.Does (Are (e ∷ [])) (scene host.state [] r f) (scene mid.state [] r' g) → OnErr answer (all ≡ before)
-    → OnErr answer ((ds : List State) → Stops (at keys host o ds r before f) (at keys' host' o' ds r' all g))
+    → OnErr answer ((ds : List State) → Stops Nothing (at keys host o ds r before f) (at keys' host' o' ds r' all g))
 event_stops (Ok value) e keys keys' host mid host' o o' r r' before all f g does same = tt
 event_stops (Err fault) e keys keys' host mid host' o o' r r' before all f g does same = λ ds.
     stopped_hosted does.events keys keys' host host' o o' ds r r' mid.state [] [] before all f g does.did same
@@ -374,10 +374,10 @@ refusal_done (Ok value) line these seen keys keys' host mid host' o o' r r' befo
     (refused_done line these entered keys host mid o o' ds r r' before all f g same kept (may entered is ds) goes (rose entered is) falls)
 
 pub refusal_stops : {T E : Type 0} (answer : Result T E) (keys keys' : Keys) (host host' : HostParts) (o o' : OuterState) (r r' : Option (List (List ℕ))) (before all : List Entry) (f g : ℕ)
-    → OptAdds r r' [] → f ≤ g → OnErr answer (all ≡ before) → OnErr answer ((ds : List State) → Stops (at keys host o ds r before f) (at keys' host' o' ds r' all g))
+    → OptAdds r r' [] → f ≤ g → OnErr answer (all ≡ before) → OnErr answer ((ds : List State) → Stops Nothing (at keys host o ds r before f) (at keys' host' o' ds r' all g))
 refusal_stops (Ok value) keys keys' host host' o o' r r' before all f g kept falls same = tt
 refusal_stops (Err fault) keys keys' host host' o o' r r' before all f g kept falls same = λ ds.
-    stopped_still keys keys' host host' o o' ds r r' before all f g (none_more r r' kept) same falls
+    stopped_still Nothing keys keys' host host' o o' ds r r' before all f g refl (none_more r r' kept) same falls
 
 -- what asks no keeper, in all
 pub asked : {A T E : Type 0} (answer : Result T E) (said : Result A Refused) (rule : Option Refused) (line : Line) (e : HostEvent) (keys keys' : Keys) (host mid host' : HostParts) (o o' : OuterState) (before all : List Entry)

@@ -23,8 +23,8 @@ use Rattle.outer_events.specs.Schedules as chip
 use Rattle.outer_world.proofs.Going.{goes_takes}
 use Rattle.zw_machine.specs.State.{Machine, machine, routed}
 use Rattle.zw_machine.specs.Events.{Event, Outside_does, Host_takes as takes}
-use Rattle.zw_machine.specs.Did.{Scene, Does, Stops, happens_all}
-use Rattle.zw_machine.specs.Settling.{IsHostPart, TakesAll, TakesBy}
+use Rattle.zw_machine.specs.Did.{Scene, Does, Nothing, Stops, happens_all}
+use Rattle.zw_machine.specs.Settling.{IsChipPart, IsHostPart, IsMove, TakesAll, TakesBy}
 use Rattle.zw_machine.proofs.Doing.{ran_nothing, ran_both}
 use Rattle.zw_machine.proofs.Schedules.{takes_own}
 use Rattle.zw_machine.proofs.Taking.{ran_takes, stopped_takes, stopped_front}
@@ -186,22 +186,22 @@ pub stopped_routing : (w w1 : WorldState) (keys' : Keys) (host' : HostParts) (o'
     → is_stalled w.outer ≡ false → put ≡ []
     → TakesBytes (length w.outer.to_host.bytes) w w1 put puts (record { records = r; faults = f }) (record { records = r'; faults = g })
     → all ≡ before
-    → Stops (at w.keys w.host w.outer ds r before f) (at keys' host' o' ds r' all g)
+    → Stops Nothing (at w.keys w.host w.outer ds r before f) (at keys' host' o' ds r' all g)
 stopped_routing w w1 keys' host' o' ds r r' put puts before all f g moves none taken same =
     let n : ℕ = length w.outer.to_host.bytes in
     let fed : Fed w.host (take n w.outer.to_host.bytes) w1.host [] puts (record { records = r; faults = f }) (record { records = r'; faults = g }) =
     subst (λ (l : List HostOut). Fed w.host (take n w.outer.to_host.bytes) w1.host l puts (record { records = r; faults = f }) (record { records = r'; faults = g })) none taken.fed in
-    stopped_takes (machine w.keys w.host w.outer r ds) (machine keys' host' o' r' ds) n w1.host puts r' f g before all moves fed refl refl same
+    stopped_takes Nothing (machine w.keys w.host w.outer r ds) (machine keys' host' o' r' ds) n w1.host puts r' f g before all refl moves fed refl refl same
 
 -- it took a front of some bytes
 pub stopped_taking : (w w' : WorldState) (o' : OuterState) (keys' : Keys) (host' : HostParts) (ds : List State) (r r' : Option (List (List ℕ))) (put puts : List HostOut) (before all : List Entry) (f g : ℕ)
     → is_stalled w.outer ≡ false → put ≡ []
     → TakesFront w w' put puts (record { records = r; faults = f }) (record { records = r'; faults = g }) → all ≡ before
-    → Stops (at w.keys w.host w.outer ds r before f) (at keys' host' o' ds r' all g)
+    → Stops Nothing (at w.keys w.host w.outer ds r before f) (at keys' host' o' ds r' all g)
 stopped_taking w w' o' keys' host' ds r r' put puts before all f g moves none front same =
     let fed : FedFront w.host (take front.count w.outer.to_host.bytes) w'.host [] puts (record { records = r; faults = f }) (record { records = r'; faults = g }) =
     subst (λ (l : List HostOut). FedFront w.host (take front.count w.outer.to_host.bytes) w'.host l puts (record { records = r; faults = f }) (record { records = r'; faults = g })) none front.fed in
-    stopped_front (machine w.keys w.host w.outer r ds) (machine keys' host' o' r' ds) front.count w'.host puts r' f g before all moves fed refl refl same
+    stopped_front Nothing (machine w.keys w.host w.outer r ds) (machine keys' host' o' r' ds) front.count w'.host puts r' f g before all refl moves fed refl refl same
 
 -- ---- the part of the chip
 
@@ -232,3 +232,10 @@ both_moved x y s t u (first, (chips, is_x), ran) (rest, (hosts, is_y), later) =
       ((first, rest, refl, chips, subst (λ (m : Machine). IsHostPart m rest) there hosts), ap (λ (b : Bool). b || y) is_x ∙ (ap (λ (b : Bool). are_some first || b) is_y ∙ sym (some_either first rest))),
       ran_both first rest s t u ran later,
     )
+
+-- whether anything moved is told besides
+pub did_move : (moved : Bool) (s t : Scene) → Does (Moves moved) s t → Does IsMove s t
+did_move moved s t (events, is, ran) = (events, is.0, ran)
+
+pub did_chip : (moved : Bool) (s t : Scene) → Does (ChipPart moved) s t → Does IsChipPart s t
+did_chip moved s t (events, is, ran) = (events, is.0, ran)

@@ -17,7 +17,7 @@ use Rattle.outer_events.specs.State.{OuterState}
 use Rattle.outer_events.specs.Did.{Goes}
 use Rattle.zw_machine.specs.State.{routed}
 use Rattle.zw_machine.specs.Events.{Host_does, Decoder_ticks}
-use Rattle.zw_machine.specs.Did.{Schedule, Scene, Does, Stops}
+use Rattle.zw_machine.specs.Did.{Schedule, Scene, Does, Nothing, Stops}
 use Rattle.zw_machine.specs.Settling.{IsPump}
 use Rattle.zw_machine.specs.Ticking.{IsHostTick}
 use Rattle.zw_machine.proofs.Doing.{ran_both}
@@ -32,7 +32,7 @@ did_as Kind s keys keys' host host' o ds r all f same_keys same_host done =
 
 -- a call of the host was done in part
 pub host_stops : {T E : Type 0} (answer : Result T E) (keys keys' : Keys) (host host' : HostParts) (state : HostState) (o o' : OuterState) (r r' : Option (List (List ℕ))) (put puts : List HostOut) (before : List Entry) (f g : ℕ)
-    → calls.Stops (scene host.state put r f) (scene state puts r' g) → OnErr answer ((ds : List State) → Stops (at keys host o ds r before f) (at keys' host' o' ds r' before g))
+    → calls.Stops (scene host.state put r f) (scene state puts r' g) → OnErr answer ((ds : List State) → Stops Nothing (at keys host o ds r before f) (at keys' host' o' ds r' before g))
 host_stops (Ok value) keys keys' host host' state o o' r r' put puts before f g stops = tt
 host_stops (Err fault) keys keys' host host' state o o' r r' put puts before f g stops =
     λ ds. stopped_hosted stops.events keys keys' host host' o o' ds r r' state put puts before before f g stops.did refl
@@ -40,7 +40,7 @@ host_stops (Err fault) keys keys' host host' state o o' r r' put puts before f g
 -- it was done, and not routed
 pub route_stops : {T E : Type 0} (Kind : List HostEvent → Type 0) (answer : Result T E) (keys keys' : Keys) (host host' : HostParts) (state : HostState) (o o' : OuterState) (r r' : Option (List (List ℕ))) (put puts : List HostOut) (before all : List Entry) (f g : ℕ)
     → calls.Does Kind (scene host.state put r f) (scene state puts r' g) → OnErr answer (all ≡ before)
-    → OnErr answer ((ds : List State) → Stops (at keys host o ds r before f) (at keys' host' o' ds r' all g))
+    → OnErr answer ((ds : List State) → Stops Nothing (at keys host o ds r before f) (at keys' host' o' ds r' all g))
 route_stops Kind (Ok value) keys keys' host host' state o o' r r' put puts before all f g does same = tt
 route_stops Kind (Err fault) keys keys' host host' state o o' r r' put puts before all f g does same =
     λ ds. stopped_hosted does.events keys keys' host host' o o' ds r r' state put puts before all f g does.did same

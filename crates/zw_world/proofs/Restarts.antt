@@ -1,5 +1,5 @@
 -- A host that starts from the records goes on in place of the one before.
-use Rattle.std.proofs.Common.{◌≡◌, ℕ, ◌≤◌, true, List, [], ◌∷◌, ◌++◌, map, refl, ap, sym, ◌∙◌, subst, inl, inr}
+use Rattle.std.proofs.Common.{◌≡◌, ℕ, ◌≤◌, List, [], ◌∷◌, map, refl, ap, sym, subst, inl, inr, arith}
 use Rattle.std.specs.Prelude.{Option, Some, None, Result, Ok, Err, OnOk}
 use Rattle.std.proofs.lemmas.List.{append-nil}
 use Rattle.zw_base.specs.Faults.{Rose}
@@ -20,18 +20,20 @@ use Rattle.host_core.specs.Opening.{Opens}
 use Rattle.host_core.specs.declared.opening.OpenFault.{OpenFault}
 use Rattle.host_core.specs.declared.opening.OpenFault.TheVariants as opening
 use Rattle.outer_events.specs.State.{OuterState, outside}
-use Rattle.outer_events.specs.Events.{OuterEvent, Clears_pipe, Host_notes, devices_after}
-use Rattle.outer_events.specs.Did.{Goes, Run as RunOutside, Stops as StopsOutside, StopsStill}
+use Rattle.outer_events.specs.Events.{OuterEvent, Clears_pipe, Host_notes}
+use Rattle.outer_events.specs.Did.{Goes}
 use Rattle.outer_events.proofs.Doing.{ran_both as ran_both_outside}
 use Rattle.zw_machine.specs.State.{Machine, machine}
 use Rattle.zw_machine.specs.Refusals.{IsUnopened, HasBad}
 use Rattle.zw_machine.specs.Events.{Event, Outside_does, Refuses, Restarts, OpensFrom, happens, entries, May}
-use Rattle.zw_machine.specs.Did.{Run, Does, Stops, is_keeper_fault}
+use Rattle.zw_machine.specs.Did.{Nothing, Run, Does, Stops, is_keeper_fault}
+use Rattle.zw_machine.specs.Fronts.{RestartFront}
 use Rattle.zw_machine.specs.Lines.{IsRestart, restart_events}
-use Rattle.zw_machine.proofs.Doing.{ran_both}
+use Rattle.zw_machine.proofs.Doing.{ran_both, stopped_later}
 use Rattle.zw_machine.proofs.Outside.{ran_outside}
-use Rattle.zw_world.specs.Effects.{shown_unopened}
-use Rattle.zw_world.proofs.Scenes.{at, ran_refuses, none_more, stopped_out}
+use Rattle.zw_world.specs.Effects.{ClearsInPart, shown_unopened}
+use Rattle.zw_machine.proofs.Hosting.{stopped_by}
+use Rattle.zw_world.proofs.Scenes.{at, ran_refuses, none_more, stopped_still}
 use Rattle.zw_world.proofs.Asking.{fault_in, IsNothing}
 use Rattle.zw_world.proofs.Hosting.{did_as}
 
@@ -65,34 +67,39 @@ restarted keys number host host' o o' ds r r' before all f g opens kept falls go
       subst (λ (x : Option (List (List ℕ))). Run (restart_events host'.state) (at keys host o ds r before f) (at keys host' o' ds x all g)) (sym (none_more r r' kept)) ran,
     )
 
--- some of the bytes on their way were lost, for want of memory
-pub restart_stops : (keys keys' : Keys) (number : ℕ) (host host' host'' : HostParts) (o o' : OuterState) (ds : List State) (r r' : Option (List (List ℕ))) (before all : List Entry) (f g : ℕ)
-    → Opens keys number r host' → OptAdds r r' [] → f ≤ g → StopsStill o before all
-    → Stops (at keys host o ds r before f) (at keys' host'' o' ds r' all g)
-restart_stops keys keys' number host host' host'' o o' ds r r' before all f g opens kept falls stops =
-    subst (λ (x : Option (List (List ℕ))). Stops (at keys host o ds r before f) (at keys' host'' o' ds x all g)) (sym (none_more r r' kept))
-    (Rattle.zw_machine.proofs.Doing.stopped_later (Restarts host'.state ∷ []) (at keys host o ds r before f) (at keys host' o ds r before g) (at keys' host'' o' ds r all g)
+-- for want of memory the bytes to the chip alone were lost, or none
+started_alone : (keys keys' : Keys) (number : ℕ) (host host' host'' : HostParts) (o o' : OuterState) (ds : List State) (r : Option (List (List ℕ))) (before all : List Entry) (f g : ℕ)
+    → Opens keys number r host' → f ≤ g → all ≡ before → Stops RestartFront (at keys host o ds r before f) (at keys' host'' o' ds r all g)
+unfolding happens May
+started_alone keys keys' number host host' host'' o o' ds r before all f g opens falls same =
+    stopped_by RestartFront (Restarts host'.state ∷ []) (machine keys host o r ds) (machine keys' host'' o' r ds) before all f g (inl refl) (tt, tt) (opens_from keys number r host' opens, tt) refl refl same falls
+
+cleared_one : (keys keys' : Keys) (number : ℕ) (host host' host'' : HostParts) (o mid o' : OuterState) (ds : List State) (r : Option (List (List ℕ))) (before all : List Entry) (f g : ℕ)
+    → Opens keys number r host' → f ≤ g → Goes (Clears_pipe side.Host ∷ []) o mid before all → Stops RestartFront (at keys host o ds r before f) (at keys' host'' o' ds r all g)
+cleared_one keys keys' number host host' host'' o mid o' ds r before all f g opens falls goes =
+    let cleared : List Event = Outside_does (Clears_pipe side.Host) ∷ [] in
+    let ran : Run (Restarts host'.state ∷ cleared) (at keys host o ds r before f) (at keys host' mid ds r all g) =
+    ran_both (Restarts host'.state ∷ []) cleared (at keys host o ds r before f) (at keys host' o ds r before g) (at keys host' mid ds r all g)
     (starts keys number host host' o ds r before f g opens falls)
-    (stopped_out keys keys' host' host'' o o' ds ds r before all g (stops ds)))
+    (ran_outside (Clears_pipe side.Host ∷ []) (machine keys host' o r ds) (outside mid ds) before all g (refl, tt) (goes ds)) in
+    stopped_later RestartFront Nothing (Restarts host'.state ∷ cleared) (at keys host o ds r before f) (at keys host' mid ds r all g) (at keys' host'' o' ds r all g)
+    (λ events none. inr (host'.state, ap (λ (l : List Event). Restarts host'.state ∷ Outside_does (Clears_pipe side.Host) ∷ l) none)) ran
+    (stopped_still Nothing keys keys' host' host'' mid o' ds r r all all g g refl refl refl (omega arith))
+
+pub restart_stops : (keys keys' : Keys) (number : ℕ) (host host' host'' : HostParts) (o o' : OuterState) (ds : List State) (r r' : Option (List (List ℕ))) (before all : List Entry) (f g : ℕ)
+    → Opens keys number r host' → OptAdds r r' [] → f ≤ g → ClearsInPart o before all
+    → Stops RestartFront (at keys host o ds r before f) (at keys' host'' o' ds r' all g)
+restart_stops keys keys' number host host' host'' o o' ds r r' before all f g opens kept falls stops =
+    subst (λ (x : Option (List (List ℕ))). Stops RestartFront (at keys host o ds r before f) (at keys' host'' o' ds x all g)) (sym (none_more r r' kept)) (by stops)
+  where
+    by : ClearsInPart o before all → Stops RestartFront (at keys host o ds r before f) (at keys' host'' o' ds r all g)
+    by (inl same) = started_alone keys keys' number host host' host'' o o' ds r before all f g opens falls same
+    by (inr (mid, goes)) = cleared_one keys keys' number host host' host'' o mid o' ds r before all f g opens falls goes
 
 -- ---- two pipes are cleared
 
 pub clears_both : (a b : OuterEvent) (o mid o' : OuterState) (before some all : List Entry) → Goes (a ∷ []) o mid before some → Goes (b ∷ []) mid o' some all → Goes (a ∷ b ∷ []) o o' before all
 clears_both a b o mid o' before some all first later ds = ran_both_outside (a ∷ []) (b ∷ []) (outside o ds) (outside mid ds) (outside o' ds) before some all (first ds) (later ds)
-
-pub clears_one : (a : OuterEvent) (o mid : OuterState) (before some all : List Entry) → Rattle.outer_events.specs.Events.is_own a ≡ true → Goes (a ∷ []) o mid before some → all ≡ some
-    → ((ds : List State) → ds ≡ (Rattle.outer_events.specs.Did.happens_all (outside o ds) (a ∷ [])).devices) → StopsStill o before all
-clears_one a o mid before some all own goes same still ds = record {
-  events = a ∷ [];
-  own = (own, tt);
-  may = (goes ds).may;
-  devices_are = still ds;
-  more = [];
-  front = append-nil all ∙ (same ∙ (goes ds).entries);
-}
-
-pub clears_none : (o : OuterState) (before all : List Entry) → all ≡ before → StopsStill o before all
-clears_none o before all same ds = record { events = []; own = tt; may = tt; devices_are = refl; more = []; front = ap (λ (l : List Entry). l ++ []) same }
 
 -- ---- no host
 
@@ -154,7 +161,3 @@ unopened_all (Err wanting) fault keys keys' host host' o o' r r' before all f g 
 unopened_all (Ok value) fault keys keys' host host' o o' r r' before all f g same kept bad rose falls same_keys (entered, seen, goes) = λ ds.
     did_as (λ (m : Machine) (es : List Event). IsRestart es) (at keys host o ds r before f) keys keys' host' host' o' ds r' all g same_keys refl
     (unopened fault entered keys host host' o o' ds r r' before all f g same kept seen bad rose falls goes)
-
-pub clear_still : (o : OuterState) (ds : List State) → ds ≡ (Rattle.outer_events.specs.Did.happens_all (outside o ds) (Clears_pipe side.Host ∷ [])).devices
-unfolding devices_after
-clear_still o ds = refl

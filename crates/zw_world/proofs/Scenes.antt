@@ -1,7 +1,7 @@
 -- What calls of the parts of a world are as events of the machine, whatever stands beside them.
-use Rattle.std.proofs.Common.{◌≡◌, ℕ, ◌≤◌, Bool, true, false, List, [], ◌∷◌, ◌++◌, map, refl, ap, sym, ◌∙◌, subst, arith}
+use Rattle.std.proofs.Common.{◌≡◌, ℕ, ◌≤◌, Bool, true, false, List, [], ◌∷◌, ◌++◌, map, refl, ap, sym, ◌∙◌, subst, append_assoc, arith, inr}
 use Rattle.std.specs.Prelude.{Option, Some, None, Result, Ok, Err, OnOk, OnErr, ◌||◌}
-use Rattle.std.proofs.lemmas.List.{append-nil}
+use Rattle.std.proofs.lemmas.List.{append-nil, map-append}
 use Rattle.serial_frame.specs.Stream.{Rest, after_tick}
 use Rattle.s0_crypto.specs.declared.key_pair.Keys.{Keys}
 use Rattle.device_sim.specs.State.{State}
@@ -16,13 +16,13 @@ use Rattle.host_events.specs.Did.{Did, RoseIf}
 use Rattle.host_events.specs.declared.out.HostOut.{HostOut}
 use Rattle.outer_events.specs.State.{OuterState, Outside, outside}
 use Rattle.outer_events.specs.Events.{OuterEvent, Host_notes, is_own, AreOwn}
-use Rattle.outer_events.specs.Did.{Run as RunOutside, RunOf, Goes, GoesOf, GoesFor, Stops as StopsOutside}
+use Rattle.outer_events.specs.Did.{Run as RunOutside, RunOf, Goes, GoesOf, GoesFor, FrontOf as FrontOfOutside, Stops as StopsOutside}
 use Rattle.outer_events.specs.Schedules.{IsOne as IsOneOutside}
 use Rattle.outer_events.proofs.Doing.{ran_nothing as ran_nothing_outside}
 use Rattle.zw_machine.specs.State.{Machine, machine, with_outside, routed}
 use Rattle.zw_machine.specs.Refusals.{IsRefused}
 use Rattle.zw_machine.specs.Events.{Event, Outside_does, Host_does, Refuses, Decoder_ticks, happens, entries, May}
-use Rattle.zw_machine.specs.Did.{Scene, Run, Does, Stops, These, is_keeper_fault}
+use Rattle.zw_machine.specs.Did.{Schedule, Scene, Run, Does, Nothing, FrontOf, Stops, These, is_keeper_fault}
 use Rattle.zw_machine.specs.Settling.{Outside as OutsideOf}
 use Rattle.zw_machine.proofs.Outside.{ran_outside, stopped_outside}
 use Rattle.zw_machine.proofs.Hosting.{Silent, ran_host, stopped_host, stopped_by}
@@ -52,10 +52,10 @@ abbrev pub at : Keys → HostParts → OuterState → List State → Option (Lis
 at keys host o ds records before faults = record { machine = machine keys host o records ds; entries = before; faults = faults }
 
 -- nothing was done, for want of memory
-pub stopped_still : (keys keys' : Keys) (host host' : HostParts) (o o' : OuterState) (ds : List State) (r r' : Option (List (List ℕ))) (before all : List Entry) (f g : ℕ)
-    → r' ≡ r → all ≡ before → f ≤ g → Stops (at keys host o ds r before f) (at keys' host' o' ds r' all g)
-stopped_still keys keys' host host' o o' ds r r' before all f g kept same falls =
-    stopped_by [] (machine keys host o r ds) (machine keys' host' o' r' ds) before all f g tt refl kept same falls
+pub stopped_still : (Front : Schedule) (keys keys' : Keys) (host host' : HostParts) (o o' : OuterState) (ds : List State) (r r' : Option (List (List ℕ))) (before all : List Entry) (f g : ℕ)
+    → Front (machine keys host o r ds) [] → r' ≡ r → all ≡ before → f ≤ g → Stops Front (at keys host o ds r before f) (at keys' host' o' ds r' all g)
+stopped_still Front keys keys' host host' o o' ds r r' before all f g none kept same falls =
+    stopped_by Front [] (machine keys host o r ds) (machine keys' host' o' r' ds) before all f g none tt tt refl kept same falls
 
 -- no record was added
 pub none_more : (r r' : Option (List (List ℕ))) → OptAdds r r' [] → r' ≡ r
@@ -108,9 +108,24 @@ did_run e keys host o o' ds r before all f own (es, are, run) =
     (Outside_does e ∷ [], refl, ran_outside (e ∷ []) (machine keys host o r ds) (outside o' ds) before all f (own, tt) (subst (λ (l : List OuterEvent). RunOutside l (outside o ds) (outside o' ds) before all) are run))
 
 -- they were done in part
-pub stopped_out : (keys keys' : Keys) (host host' : HostParts) (o o' : OuterState) (ds ds' : List State) (r : Option (List (List ℕ))) (before all : List Entry) (f : ℕ)
-    → StopsOutside (outside o ds) ds' before all → Stops (at keys host o ds r before f) (at keys' host' o' ds' r all f)
-stopped_out keys keys' host host' o o' ds ds' r before all f stops = stopped_outside (machine keys host o r ds) (machine keys' host' o' r ds') before all f refl stops
+pub stopped_out : (Front : Schedule) (OuterFront : List OuterEvent → Type 0) (keys keys' : Keys) (host host' : HostParts) (o o' : OuterState) (ds ds' : List State) (r : Option (List (List ℕ))) (before all : List Entry) (f : ℕ)
+    → ((a b : List OuterEvent) → OuterFront (a ++ b) → OuterFront a)
+    → ((events : List OuterEvent) → OuterFront events → Front (machine keys host o r ds) (map Outside_does events))
+    → StopsOutside OuterFront (outside o ds) ds' before all → Stops Front (at keys host o ds r before f) (at keys' host' o' ds' r all f)
+stopped_out Front OuterFront keys keys' host host' o o' ds ds' r before all f fronts goes stops =
+    stopped_outside Front OuterFront (machine keys host o r ds) (machine keys' host' o' r ds') before all f fronts goes refl stops
+
+pub fronts_of : (Kind : List OuterEvent → Type 0) (a b : List OuterEvent) → FrontOfOutside Kind (a ++ b) → FrontOfOutside Kind a
+fronts_of Kind a b (rest, kind) = (b ++ rest, subst Kind (append_assoc a b rest) kind)
+
+pub front_of : (Kind : List OuterEvent → Type 0) (m : Machine) (events : List OuterEvent) → FrontOfOutside Kind events → FrontOf (λ (m : Machine) (es : List Event). OutsideOf Kind es) m (map Outside_does events)
+front_of Kind m events (rest, kind) = inr (map Outside_does rest, (events ++ rest, kind, sym (map-append Outside_does events rest)))
+
+pub stopped_of : (Kind : List OuterEvent → Type 0) (keys keys' : Keys) (host host' : HostParts) (o o' : OuterState) (ds ds' : List State) (r : Option (List (List ℕ))) (before all : List Entry) (f : ℕ)
+    → StopsOutside (FrontOfOutside Kind) (outside o ds) ds' before all
+    → Stops (FrontOf (λ (m : Machine) (es : List Event). OutsideOf Kind es)) (at keys host o ds r before f) (at keys' host' o' ds' r all f)
+stopped_of Kind keys keys' host host' o o' ds ds' r before all f stops =
+    stopped_out (FrontOf (λ (m : Machine) (es : List Event). OutsideOf Kind es)) (FrontOfOutside Kind) keys keys' host host' o o' ds ds' r before all f (fronts_of Kind) (front_of Kind (machine keys host o r ds)) stops
 
 -- ---- events of the host
 
@@ -127,9 +142,9 @@ ran_hosted es keys host host' o o' ds r r' put puts before all f g silent none d
 -- a call of the host was done in part, or what it put out was not routed
 pub stopped_hosted : (es : List HostEvent) (keys keys' : Keys) (host host' : HostParts) (o o' : OuterState) (ds : List State) (r r' : Option (List (List ℕ))) (state : HostState) (put puts : List HostOut) (before all : List Entry) (f g : ℕ)
     → Did es host.state state put puts (record { records = r; faults = f }) (record { records = r'; faults = g })
-    → all ≡ before → Stops (at keys host o ds r before f) (at keys' host' o' ds r' all g)
+    → all ≡ before → Stops Nothing (at keys host o ds r before f) (at keys' host' o' ds r' all g)
 stopped_hosted es keys keys' host host' o o' ds r r' state put puts before all f g did same =
-    stopped_host es (machine keys host o r ds) (machine keys' host' o' r' ds) state put puts r' f g before all did refl refl same
+    stopped_host Nothing es (machine keys host o r ds) (machine keys' host' o' r' ds) state put puts r' f g before all refl did refl refl same
 
 -- ---- what is unfinished of the chip's bytes ticks
 

@@ -1,16 +1,20 @@
 -- A line: it begins, and then it is so many ticks, or its effect and a settling.
-use Rattle.std.proofs.Common.{◌≡◌, ℕ, Bool, true, false, refl, sym, subst}
+use Rattle.std.proofs.Common.{◌≡◌, ℕ, Bool, true, false, List, [], refl, sym, subst, inl}
 use Rattle.std.specs.Prelude.{Result, Ok, Err, OnOk, OnErr}
 use Rattle.zw_text.specs.declared.line.Line.{Line}
 use Rattle.zw_order.specs.declared.order.Order.{Order}
 use Rattle.zw_order.specs.declared.order.Word.{Word}
 use Rattle.zw_words.specs.declared.side.Side.{Side}
 use Rattle.zw_text.specs.declared.line.Line.TheVariants.{Command, Tick, Cut, Stall, Drop, Garble, Collide, Send, Get, Join, Interview, Lose, LoseAck, Repeat, Wake, Cancel, Link, Unlink, Discover, Neighbours, Failed, Probe, Local, Show, Store, Restart}
-use Rattle.zw_machine.specs.Did.{Scene, Does, Stops, Then}
+use Rattle.zw_machine.specs.State.{Machine}
+use Rattle.zw_machine.specs.Events.{Event}
+use Rattle.zw_machine.specs.Did.{Scene, Does, Nothing, ThenFront, Stops, Then}
+use Rattle.zw_machine.specs.Fronts.{SettlesFront, TicksFront, EffectFront, LineRestFront, LineFront}
 use Rattle.zw_machine.specs.Settling.{Settles}
 use Rattle.zw_machine.specs.Ticking.{Ticks}
 use Rattle.zw_machine.specs.Lines.{IsEffect, IsLineBegin, IsLineRest, IsLine}
-use Rattle.zw_machine.proofs.Schedules.{did_then, stopped_then}
+use Rattle.zw_machine.proofs.Doing.{stopped_as}
+use Rattle.zw_machine.proofs.Schedules.{did_then, stopped_first, stopped_then}
 use Rattle.zw_world.specs.Effects.{is_tick, IsSetting}
 
 pub not_tick : (line : Line) → ((count : ℕ) → line ≡ Tick count → ⊥) → is_tick line ≡ false
@@ -36,17 +40,44 @@ pub rest_done : {T E : Type 0} (answer : Result T E) (line : Line) (s t u : Scen
 rest_done (Ok value) line s t u not first later = rest_as line s u not (did_then (IsEffect line) Settles s t u first later)
 rest_done (Err fault) line s t u not first later = tt
 
-pub rest_stops : {T E : Type 0} (answer : Result T E) (line : Line) (s t u : Scene) → Does (IsEffect line) s t → OnErr answer (Stops t u) → OnErr answer (Stops s u)
-rest_stops (Ok value) line s t u first later = tt
-rest_stops (Err fault) line s t u first later = stopped_then (IsEffect line) s t u first later
+-- in part
+rest_front : (line : Line) (m : Machine) (events : List Event) → is_tick line ≡ false → ThenFront (EffectFront line) (IsEffect line) SettlesFront m events → LineRestFront line m events
+rest_front (Tick count) m events not front = absurd (subst So not tt)
+rest_front line m events not front = front
+
+in_rest : (line : Line) (s u : Scene) → is_tick line ≡ false → Stops (ThenFront (EffectFront line) (IsEffect line) SettlesFront) s u → Stops (LineRestFront line) s u
+in_rest line s u not stops =
+    stopped_as (ThenFront (EffectFront line) (IsEffect line) SettlesFront) (LineRestFront line) s u (λ events front. rest_front line s.machine events not front) stops
+
+pub effect_stops : (line : Line) (s u : Scene) → is_tick line ≡ false → Stops (EffectFront line) s u → Stops (LineRestFront line) s u
+effect_stops line s u not stops = in_rest line s u not (stopped_first (IsEffect line) (EffectFront line) SettlesFront s u stops)
+
+pub rest_stops : {T E : Type 0} (answer : Result T E) (line : Line) (s t u : Scene) → is_tick line ≡ false → Does (IsEffect line) s t → OnErr answer (Stops SettlesFront t u) → OnErr answer (Stops (LineRestFront line) s u)
+rest_stops (Ok value) line s t u not first later = tt
+rest_stops (Err fault) line s t u not first later = in_rest line s u not (stopped_then (IsEffect line) (EffectFront line) SettlesFront s t u first later)
+
+pub ticks_stop_as : {T E : Type 0} (answer : Result T E) (line : Line) (count : ℕ) (s u : Scene) → line ≡ Tick count → OnErr answer (Stops (TicksFront count) s u) → OnErr answer (Stops (LineRestFront line) s u)
+ticks_stop_as answer line count s u is stops = subst (λ (l : Line). OnErr answer (Stops (LineRestFront l) s u)) (sym is) stops
+
+-- nothing of the effect was done
+pub none_in : (line : Line) (m : Machine) → EffectFront line m []
+none_in Restart m = inl refl
+none_in line m = inl refl
+
+pub nothing_in : (line : Line) (s t : Scene) → Stops Nothing s t → Stops (EffectFront line) s t
+nothing_in line s t stops = stopped_as Nothing (EffectFront line) s t (λ events none. subst (λ (l : List Event). EffectFront line s.machine l) (sym none) (none_in line s.machine)) stops
+
+-- of the effect of a line that was matched
+pub front_as : {T E : Type 0} (answer : Result T E) (line known : Line) (s u : Scene) → line ≡ known → OnErr answer (Stops (EffectFront known) s u) → OnErr answer (Stops (EffectFront line) s u)
+front_as answer line known s u is stops = subst (λ (l : Line). OnErr answer (Stops (EffectFront l) s u)) (sym is) stops
 
 pub line_done : {T E : Type 0} (answer : Result T E) (line : Line) (s t u : Scene) → Does IsLineBegin s t → OnOk answer (Does (IsLineRest line) t u) → OnOk answer (Does (IsLine line) s u)
 line_done (Ok value) line s t u first later = did_then IsLineBegin (IsLineRest line) s t u first later
 line_done (Err fault) line s t u first later = tt
 
-pub line_stops : {T E : Type 0} (answer : Result T E) (s t u : Scene) → Does IsLineBegin s t → OnErr answer (Stops t u) → OnErr answer (Stops s u)
-line_stops (Ok value) s t u first later = tt
-line_stops (Err fault) s t u first later = stopped_then IsLineBegin s t u first later
+pub line_stops : {T E : Type 0} (answer : Result T E) (line : Line) (s t u : Scene) → Does IsLineBegin s t → OnErr answer (Stops (LineRestFront line) t u) → OnErr answer (Stops (LineFront line) s u)
+line_stops (Ok value) line s t u first later = tt
+line_stops (Err fault) line s t u first later = stopped_then IsLineBegin Nothing (LineRestFront line) s t u first later
 
 pub effect_plain : (line known : Line) (s u : Scene) → line ≡ known → Does (IsEffect known) s u → Does (IsEffect line) s u
 effect_plain line known s u is done = subst (λ (l : Line). Does (IsEffect l) s u) (sym is) done

@@ -1,5 +1,6 @@
 -- What calls of the world tell of the effect of a line (this project's own).
-use Rattle.std.specs.Prelude.{◌≡◌, ℕ, Bool, true, false, List, [], ◌∷◌, Option, Some, None, Result, Ok, Err}
+use Rattle.std.specs.Prelude.{◌≡◌, ◌⊎◌, ℕ, Bool, true, false, List, [], ◌∷◌, Option, Some, None, Result, Ok, Err}
+use Rattle.zw_words.specs.declared.side.Side.TheVariants as side
 use Rattle.zw_text.specs.declared.line.Line.{Line}
 use Rattle.zw_text.specs.declared.line.Line.TheVariants.{Tick, Cut, Stall, Drop, Garble, Collide, Lose, LoseAck, Link, Unlink, Discover, Neighbours as neighbours, Failed as failed, Probe as probe}
 use Rattle.zw_text.specs.declared.entry.Entry.{Entry}
@@ -16,7 +17,7 @@ use Rattle.host_core.specs.declared.orders.CancelFault.{CancelFault}
 use Rattle.host_core.specs.declared.orders.CancelFault.TheVariants as cancel
 use Rattle.host_core.specs.Orders.{places_of, question_event}
 use Rattle.outer_events.specs.State.{OuterState}
-use Rattle.outer_events.specs.Events.{OuterEvent, Host_notes, Host_begins}
+use Rattle.outer_events.specs.Events.{OuterEvent, Host_notes, Host_begins, Clears_pipe}
 use Rattle.outer_events.specs.Did.{Goes}
 use Rattle.zw_machine.specs.Refusals.{shown}
 use Rattle.zw_machine.specs.Did.{Schedule}
@@ -65,6 +66,10 @@ shown_uncancelled command cancel.NoMemory = None
 abbrev pub begins_by : Option (ℕ × ℕ) → List OuterEvent
 begins_by None = []
 begins_by (Some begun) = Host_begins begun.0 begun.1 ∷ []
+
+-- at want of memory the bytes on their way to the chip are lost, and those to the host are not; or neither, and nothing is entered
+abbrev pub ClearsInPart : OuterState → List Entry → List Entry → Type 0
+ClearsInPart old before all = (all ≡ before) ⊎ ((mid : OuterState) × Goes (Clears_pipe side.Host ∷ []) old mid before all)
 
 -- what is entered where no host starts from the records
 abbrev pub shown_unopened : OpenFault → Option Refusal

@@ -4,7 +4,8 @@ ghost use Rattle.std.specs.Prelude.{◌≡◌, ◌<◌, ◌^◌, ℕ, length, ma
 ghost use Rattle.device_sim.specs.State.{State};
 ghost use Rattle.zw_text.specs.declared.line.Line.TheVariants as line;
 ghost use Rattle.zw_text.specs.declared.entry.Entry.{Entry as TheEntry};
-ghost use Rattle.zw_machine.specs.Did.{Does, Stops};
+ghost use Rattle.zw_machine.specs.Did.{Does, Nothing, Stops};
+ghost use Rattle.zw_machine.specs.Fronts.{EffectFront};
 ghost use Rattle.zw_machine.specs.Lines.{IsEffect};
 ghost use Rattle.zw_world.specs.World.{scene};
 ghost use Rattle.zw_world.specs.Effects.{IsSetting, IsAsked, is_tick};
@@ -31,7 +32,7 @@ impl World {
         requires few { length devices.old.items < 2 ^ 64 }
         requires effect { is_tick line.now ≡ Rattle.std.specs.Prelude.false }
         ensures ok { OnOk result (Does (IsEffect line.now) (scene self.old (map (λ d. state d) devices.old.items) (P.records keeper.old) out.old.items (P.faults keeper.old)) (scene self.new (map (λ d. state d) devices.new.items) (P.records keeper.new) out.new.items (P.faults keeper.new))) }
-        ensures err { OnErr result (Stops (scene self.old (map (λ d. state d) devices.old.items) (P.records keeper.old) out.old.items (P.faults keeper.old)) (scene self.new (map (λ d. state d) devices.new.items) (P.records keeper.new) out.new.items (P.faults keeper.new))) }
+        ensures err { OnErr result (Stops (EffectFront line.now) (scene self.old (map (λ d. state d) devices.old.items) (P.records keeper.old) out.old.items (P.faults keeper.old)) (scene self.new (map (λ d. state d) devices.new.items) (P.records keeper.new) out.new.items (P.faults keeper.new))) }
         ensures kept { length devices.new.items ≡ length devices.old.items }
     {
         match line {
@@ -97,7 +98,7 @@ impl World {
         out: &mut List<Entry>,
     ) -> Result<(), NoMemory>
         ensures ok { OnOk result ((ds : Items State) → Does (IsEffect (line.Command order.now)) (scene self.old ds (P.records keeper.old) out.old.items (P.faults keeper.old)) (scene self.new ds (P.records keeper.new) out.new.items (P.faults keeper.new))) }
-        ensures err { OnErr result ((ds : Items State) → Stops (scene self.old ds (P.records keeper.old) out.old.items (P.faults keeper.old)) (scene self.new ds (P.records keeper.new) out.new.items (P.faults keeper.new))) }
+        ensures err { OnErr result ((ds : Items State) → Stops Nothing (scene self.old ds (P.records keeper.old) out.old.items (P.faults keeper.old)) (scene self.new ds (P.records keeper.new) out.new.items (P.faults keeper.new))) }
     {
         match self.host.command(order, keeper) {
             Ok(command) => self.outer.note(
@@ -166,7 +167,7 @@ impl World {
     ) -> Result<(), NoMemory>
         requires few { length devices.now.items < 2 ^ 64 }
         ensures ok { OnOk result (Does (IsEffect (line.Join node)) (scene self.old (map (λ d. state d) devices.now.items) (P.records keeper.old) out.old.items (P.faults keeper.old)) (scene self.new (map (λ d. state d) devices.now.items) (P.records keeper.new) out.new.items (P.faults keeper.new))) }
-        ensures err { OnErr result (Stops (scene self.old (map (λ d. state d) devices.now.items) (P.records keeper.old) out.old.items (P.faults keeper.old)) (scene self.new (map (λ d. state d) devices.now.items) (P.records keeper.new) out.new.items (P.faults keeper.new))) }
+        ensures err { OnErr result (Stops Nothing (scene self.old (map (λ d. state d) devices.now.items) (P.records keeper.old) out.old.items (P.faults keeper.old)) (scene self.new (map (λ d. state d) devices.now.items) (P.records keeper.new) out.new.items (P.faults keeper.new))) }
     {
         match self.host.join(node, keeper) {
             Ok(()) => self.outer.join(node, devices),
@@ -182,7 +183,7 @@ impl World {
         out: &mut List<Entry>,
     ) -> Result<(), NoMemory>
         ensures ok { OnOk result ((ds : Items State) → Does (IsEffect (line.Cancel command)) (scene self.old ds (P.records keeper.old) out.old.items (P.faults keeper.old)) (scene self.new ds (P.records keeper.new) out.new.items (P.faults keeper.new))) }
-        ensures err { OnErr result ((ds : Items State) → Stops (scene self.old ds (P.records keeper.old) out.old.items (P.faults keeper.old)) (scene self.new ds (P.records keeper.new) out.new.items (P.faults keeper.new))) }
+        ensures err { OnErr result ((ds : Items State) → Stops Nothing (scene self.old ds (P.records keeper.old) out.old.items (P.faults keeper.old)) (scene self.new ds (P.records keeper.new) out.new.items (P.faults keeper.new))) }
     {
         match self.host.cancel(command, keeper) {
             Ok(()) => self.outer.note(

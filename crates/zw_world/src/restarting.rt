@@ -7,11 +7,12 @@ ghost use Rattle.zw_text.specs.declared.line.Line.TheVariants as line;
 ghost use Rattle.zw_text.specs.declared.entry.Entry.TheVariants.{Refused as refused_entry};
 ghost use Rattle.zw_text.specs.declared.entry.Refusal.{Refusal as TheRefusal};
 ghost use Rattle.outer_events.specs.Events.{Clears_pipe, Host_notes};
-ghost use Rattle.outer_events.specs.Did.{Goes, StopsStill};
+ghost use Rattle.outer_events.specs.Did.{Goes};
 ghost use Rattle.zw_machine.specs.Did.{Does, Stops};
+ghost use Rattle.zw_machine.specs.Fronts.{RestartFront};
 ghost use Rattle.zw_machine.specs.Lines.{IsEffect};
 ghost use Rattle.zw_world.specs.World.{scene};
-ghost use Rattle.zw_world.specs.Effects.{shown_unopened};
+ghost use Rattle.zw_world.specs.Effects.{ClearsInPart, shown_unopened};
 
 use crate::World;
 use host_core::{Host, OpenFault};
@@ -27,7 +28,7 @@ impl World {
         out: &mut List<Entry>,
     ) -> Result<(), NoMemory>
         ensures ok { OnOk result ((ds : Items State) → Does (IsEffect line.Restart) (scene self.old ds (P.records keeper.old) out.old.items (P.faults keeper.old)) (scene self.new ds (P.records keeper.new) out.new.items (P.faults keeper.new))) }
-        ensures err { OnErr result ((ds : Items State) → Stops (scene self.old ds (P.records keeper.old) out.old.items (P.faults keeper.old)) (scene self.new ds (P.records keeper.new) out.new.items (P.faults keeper.new))) }
+        ensures err { OnErr result ((ds : Items State) → Stops RestartFront (scene self.old ds (P.records keeper.old) out.old.items (P.faults keeper.old)) (scene self.new ds (P.records keeper.new) out.new.items (P.faults keeper.new))) }
     {
         match Host::open(self.alloc, self.key, keeper) {
             Ok(host) => self.go_on_with(host, out),
@@ -40,7 +41,7 @@ impl World {
         ensures ok { OnOk result (Goes (Clears_pipe side.Host ∷ Clears_pipe side.Chip ∷ []) self.old.outer self.new.outer out.old.items out.new.items) }
         ensures host { OnOk result (self.new.host ≡ host) }
         ensures keys { self.new.keys ≡ self.old.keys }
-        ensures err { OnErr result (StopsStill self.old.outer out.old.items out.new.items) }
+        ensures err { OnErr result (ClearsInPart self.old.outer out.old.items out.new.items) }
     {
         self.host = host;
         self.outer.clear(Side::Host, out)?;

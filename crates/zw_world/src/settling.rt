@@ -2,10 +2,11 @@
 
 ghost use Rattle.std.specs.Prelude.{◌≡◌, List as Items, IfOk, OnOk, OnErr};
 ghost use Rattle.device_sim.specs.State.{State};
-ghost use Rattle.zw_machine.specs.Did.{Does, Stops};
+ghost use Rattle.zw_machine.specs.Did.{Does, Nothing, Stops};
 ghost use Rattle.zw_machine.specs.Settling.{IsPump, Passes, Settles};
+ghost use Rattle.zw_machine.specs.Fronts.{PassesFront, SettlesFront};
 ghost use Rattle.zw_world.specs.World.{scene};
-ghost use Rattle.zw_world.specs.Moving.{Pass};
+ghost use Rattle.zw_world.specs.Moving.{Pass, PassFront};
 
 use crate::World;
 use host_keep::Keeper;
@@ -24,7 +25,7 @@ impl World {
         out: &mut List<Entry>,
     ) -> Result<(), NoMemory>
         ensures ok { OnOk result ((ds : Items State) → Does Settles (scene self.old ds (P.records keeper.old) out.old.items (P.faults keeper.old)) (scene self.new ds (P.records keeper.new) out.new.items (P.faults keeper.new))) }
-        ensures err { OnErr result ((ds : Items State) → Stops (scene self.old ds (P.records keeper.old) out.old.items (P.faults keeper.old)) (scene self.new ds (P.records keeper.new) out.new.items (P.faults keeper.new))) }
+        ensures err { OnErr result ((ds : Items State) → Stops SettlesFront (scene self.old ds (P.records keeper.old) out.old.items (P.faults keeper.old)) (scene self.new ds (P.records keeper.new) out.new.items (P.faults keeper.new))) }
     {
         self.pump(draw, keeper, out)?;
         self.pass_all(draw, keeper, out)
@@ -38,7 +39,7 @@ impl World {
         out: &mut List<Entry>,
     ) -> Result<(), NoMemory>
         ensures ok { OnOk result ((ds : Items State) → Does (Passes 64) (scene self.old ds (P.records keeper.old) out.old.items (P.faults keeper.old)) (scene self.new ds (P.records keeper.new) out.new.items (P.faults keeper.new))) }
-        ensures err { OnErr result ((ds : Items State) → Stops (scene self.old ds (P.records keeper.old) out.old.items (P.faults keeper.old)) (scene self.new ds (P.records keeper.new) out.new.items (P.faults keeper.new))) }
+        ensures err { OnErr result ((ds : Items State) → Stops (PassesFront 64) (scene self.old ds (P.records keeper.old) out.old.items (P.faults keeper.old)) (scene self.new ds (P.records keeper.new) out.new.items (P.faults keeper.new))) }
     {
         for _ in 0..PASSES {
             if !self.pass(draw, keeper, out)? {
@@ -56,7 +57,7 @@ impl World {
         out: &mut List<Entry>,
     ) -> Result<bool, NoMemory>
         ensures ok { IfOk result (λ moved. (ds : Items State) → Does (Pass moved) (scene self.old ds (P.records keeper.old) out.old.items (P.faults keeper.old)) (scene self.new ds (P.records keeper.new) out.new.items (P.faults keeper.new))) }
-        ensures err { OnErr result ((ds : Items State) → Stops (scene self.old ds (P.records keeper.old) out.old.items (P.faults keeper.old)) (scene self.new ds (P.records keeper.new) out.new.items (P.faults keeper.new))) }
+        ensures err { OnErr result ((ds : Items State) → Stops PassFront (scene self.old ds (P.records keeper.old) out.old.items (P.faults keeper.old)) (scene self.new ds (P.records keeper.new) out.new.items (P.faults keeper.new))) }
     {
         let moved = self.move_bytes(draw, keeper, out)?;
         self.pump(draw, keeper, out)?;
@@ -71,7 +72,7 @@ impl World {
         out: &mut List<Entry>,
     ) -> Result<(), NoMemory>
         ensures ok { OnOk result ((ds : Items State) → Does IsPump (scene self.old ds (P.records keeper.old) out.old.items (P.faults keeper.old)) (scene self.new ds (P.records keeper.new) out.new.items (P.faults keeper.new))) }
-        ensures err { OnErr result ((ds : Items State) → Stops (scene self.old ds (P.records keeper.old) out.old.items (P.faults keeper.old)) (scene self.new ds (P.records keeper.new) out.new.items (P.faults keeper.new))) }
+        ensures err { OnErr result ((ds : Items State) → Stops Nothing (scene self.old ds (P.records keeper.old) out.old.items (P.faults keeper.old)) (scene self.new ds (P.records keeper.new) out.new.items (P.faults keeper.new))) }
     {
         let mut outs = List::new(self.alloc);
         self.host.pump(draw, &mut outs, keeper)?;

@@ -6,7 +6,8 @@ ghost use Rattle.host_core.specs.Calls.{scene as host_scene};
 ghost use Rattle.outer_events.specs.State.{is_stalled};
 ghost use Rattle.outer_events.specs.Events.{Host_takes};
 ghost use Rattle.outer_events.specs.Did.{Goes};
-ghost use Rattle.zw_machine.specs.Did.{Does, Stops};
+ghost use Rattle.zw_machine.specs.Did.{Does, Nothing, Stops};
+ghost use Rattle.zw_machine.specs.Fronts.{MoveFront};
 ghost use Rattle.zw_world.specs.World.{scene};
 ghost use Rattle.zw_world.specs.Moving.{ChipPart, HostPart, Moves, TakesBytes, TakesFront};
 
@@ -27,7 +28,7 @@ impl World {
         out: &mut List<Entry>,
     ) -> Result<bool, NoMemory>
         ensures ok { IfOk result (λ moved. (ds : Items State) → Does (Moves moved) (scene self.old ds (P.records keeper.old) out.old.items (P.faults keeper.old)) (scene self.new ds (P.records keeper.new) out.new.items (P.faults keeper.new))) }
-        ensures err { OnErr result ((ds : Items State) → Stops (scene self.old ds (P.records keeper.old) out.old.items (P.faults keeper.old)) (scene self.new ds (P.records keeper.new) out.new.items (P.faults keeper.new))) }
+        ensures err { OnErr result ((ds : Items State) → Stops MoveFront (scene self.old ds (P.records keeper.old) out.old.items (P.faults keeper.old)) (scene self.new ds (P.records keeper.new) out.new.items (P.faults keeper.new))) }
     {
         let chip = self.chip_takes(out)?;
         let host = self.host_takes(draw, keeper, out)?;
@@ -50,7 +51,7 @@ impl World {
         out: &mut List<Entry>,
     ) -> Result<bool, NoMemory>
         ensures ok { IfOk result (λ moved. (ds : Items State) → Does (HostPart moved) (scene self.old ds (P.records keeper.old) out.old.items (P.faults keeper.old)) (scene self.new ds (P.records keeper.new) out.new.items (P.faults keeper.new))) }
-        ensures err { OnErr result ((ds : Items State) → Stops (scene self.old ds (P.records keeper.old) out.old.items (P.faults keeper.old)) (scene self.new ds (P.records keeper.new) out.new.items (P.faults keeper.new))) }
+        ensures err { OnErr result ((ds : Items State) → Stops Nothing (scene self.old ds (P.records keeper.old) out.old.items (P.faults keeper.old)) (scene self.new ds (P.records keeper.new) out.new.items (P.faults keeper.new))) }
     {
         if !self.has_bytes() {
             return Ok(false);

@@ -2,7 +2,8 @@
 
 ghost use Rattle.std.specs.Prelude.{◌≡◌, ℕ, ◌<◌, ◌^◌, length, map, List as Items, OnOk, OnErr};
 ghost use Rattle.device_sim.specs.State.{State};
-ghost use Rattle.zw_machine.specs.Did.{Does, Stops};
+ghost use Rattle.zw_machine.specs.Did.{Does, Nothing, Stops};
+ghost use Rattle.zw_machine.specs.Fronts.{OutsideTickFront, TickFront, TicksFront};
 ghost use Rattle.zw_machine.specs.Ticking.{IsOutsideTick, IsHostTick, IsTick, Ticks};
 ghost use Rattle.zw_world.specs.World.{scene};
 
@@ -24,7 +25,7 @@ impl World {
     ) -> Result<(), NoMemory>
         requires few { length devices.old.items < 2 ^ 64 }
         ensures ok { OnOk result (Does (Ticks count) (scene self.old (map (λ d. state d) devices.old.items) (P.records keeper.old) out.old.items (P.faults keeper.old)) (scene self.new (map (λ d. state d) devices.new.items) (P.records keeper.new) out.new.items (P.faults keeper.new))) }
-        ensures err { OnErr result (Stops (scene self.old (map (λ d. state d) devices.old.items) (P.records keeper.old) out.old.items (P.faults keeper.old)) (scene self.new (map (λ d. state d) devices.new.items) (P.records keeper.new) out.new.items (P.faults keeper.new))) }
+        ensures err { OnErr result (Stops (TicksFront count) (scene self.old (map (λ d. state d) devices.old.items) (P.records keeper.old) out.old.items (P.faults keeper.old)) (scene self.new (map (λ d. state d) devices.new.items) (P.records keeper.new) out.new.items (P.faults keeper.new))) }
         ensures kept { length devices.new.items ≡ length devices.old.items }
     {
         for _ in 0..count {
@@ -43,7 +44,7 @@ impl World {
     ) -> Result<(), NoMemory>
         requires few { length devices.old.items < 2 ^ 64 }
         ensures ok { OnOk result (Does IsTick (scene self.old (map (λ d. state d) devices.old.items) (P.records keeper.old) out.old.items (P.faults keeper.old)) (scene self.new (map (λ d. state d) devices.new.items) (P.records keeper.new) out.new.items (P.faults keeper.new))) }
-        ensures err { OnErr result (Stops (scene self.old (map (λ d. state d) devices.old.items) (P.records keeper.old) out.old.items (P.faults keeper.old)) (scene self.new (map (λ d. state d) devices.new.items) (P.records keeper.new) out.new.items (P.faults keeper.new))) }
+        ensures err { OnErr result (Stops TickFront (scene self.old (map (λ d. state d) devices.old.items) (P.records keeper.old) out.old.items (P.faults keeper.old)) (scene self.new (map (λ d. state d) devices.new.items) (P.records keeper.new) out.new.items (P.faults keeper.new))) }
         ensures kept { length devices.new.items ≡ length devices.old.items }
     {
         self.outer.begin_tick()?;
@@ -61,7 +62,7 @@ impl World {
     ) -> Result<(), NoMemory>
         requires few { length devices.old.items < 2 ^ 64 }
         ensures ok { OnOk result ((records : Rattle.std.specs.Prelude.Option (Items (Items ℕ))) (faults : ℕ) → Does IsOutsideTick (scene self.old (map (λ d. state d) devices.old.items) records out.old.items faults) (scene self.new (map (λ d. state d) devices.new.items) records out.new.items faults)) }
-        ensures err { OnErr result ((records : Rattle.std.specs.Prelude.Option (Items (Items ℕ))) (faults : ℕ) → Stops (scene self.old (map (λ d. state d) devices.old.items) records out.old.items faults) (scene self.new (map (λ d. state d) devices.new.items) records out.new.items faults)) }
+        ensures err { OnErr result ((records : Rattle.std.specs.Prelude.Option (Items (Items ℕ))) (faults : ℕ) → Stops OutsideTickFront (scene self.old (map (λ d. state d) devices.old.items) records out.old.items faults) (scene self.new (map (λ d. state d) devices.new.items) records out.new.items faults)) }
         ensures kept { length devices.new.items ≡ length devices.old.items }
     {
         self.outer.deliver(devices, draw, out)?;
@@ -78,7 +79,7 @@ impl World {
         out: &mut List<Entry>,
     ) -> Result<(), NoMemory>
         ensures ok { OnOk result ((ds : Items State) → Does IsHostTick (scene self.old ds (P.records keeper.old) out.old.items (P.faults keeper.old)) (scene self.new ds (P.records keeper.new) out.new.items (P.faults keeper.new))) }
-        ensures err { OnErr result ((ds : Items State) → Stops (scene self.old ds (P.records keeper.old) out.old.items (P.faults keeper.old)) (scene self.new ds (P.records keeper.new) out.new.items (P.faults keeper.new))) }
+        ensures err { OnErr result ((ds : Items State) → Stops Nothing (scene self.old ds (P.records keeper.old) out.old.items (P.faults keeper.old)) (scene self.new ds (P.records keeper.new) out.new.items (P.faults keeper.new))) }
     {
         let mut outs = List::new(self.alloc);
         self.host.tick(draw, &mut outs, keeper)?;

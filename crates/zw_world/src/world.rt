@@ -2,6 +2,7 @@
 
 ghost use Rattle.std.specs.Prelude.{◌≡◌, ◌<◌, ◌^◌, length, map, IfOk, OnOk, OnErr};
 ghost use Rattle.zw_machine.specs.Did.{Does, Stops};
+ghost use Rattle.zw_machine.specs.Fronts.{LineRestFront, LineFront};
 ghost use Rattle.zw_machine.specs.Lines.{IsLine, IsLineRest};
 ghost use Rattle.zw_world.specs.World.{first_world, scene};
 
@@ -61,7 +62,7 @@ impl World {
     ) -> Result<(), NoMemory>
         requires few { length devices.old.items < 2 ^ 64 }
         ensures ok { OnOk result (Does (IsLine line.now) (scene self.old (map (λ d. state d) devices.old.items) (P.records keeper.old) out.old.items (P.faults keeper.old)) (scene self.new (map (λ d. state d) devices.new.items) (P.records keeper.new) out.new.items (P.faults keeper.new))) }
-        ensures err { OnErr result (Stops (scene self.old (map (λ d. state d) devices.old.items) (P.records keeper.old) out.old.items (P.faults keeper.old)) (scene self.new (map (λ d. state d) devices.new.items) (P.records keeper.new) out.new.items (P.faults keeper.new))) }
+        ensures err { OnErr result (Stops (LineFront line.now) (scene self.old (map (λ d. state d) devices.old.items) (P.records keeper.old) out.old.items (P.faults keeper.old)) (scene self.new (map (λ d. state d) devices.new.items) (P.records keeper.new) out.new.items (P.faults keeper.new))) }
         ensures kept { length devices.new.items ≡ length devices.old.items }
     {
         self.outer.begin_line();
@@ -79,7 +80,7 @@ impl World {
     ) -> Result<(), NoMemory>
         requires few { length devices.old.items < 2 ^ 64 }
         ensures ok { OnOk result (Does (IsLineRest line.now) (scene self.old (map (λ d. state d) devices.old.items) (P.records keeper.old) out.old.items (P.faults keeper.old)) (scene self.new (map (λ d. state d) devices.new.items) (P.records keeper.new) out.new.items (P.faults keeper.new))) }
-        ensures err { OnErr result (Stops (scene self.old (map (λ d. state d) devices.old.items) (P.records keeper.old) out.old.items (P.faults keeper.old)) (scene self.new (map (λ d. state d) devices.new.items) (P.records keeper.new) out.new.items (P.faults keeper.new))) }
+        ensures err { OnErr result (Stops (LineRestFront line.now) (scene self.old (map (λ d. state d) devices.old.items) (P.records keeper.old) out.old.items (P.faults keeper.old)) (scene self.new (map (λ d. state d) devices.new.items) (P.records keeper.new) out.new.items (P.faults keeper.new))) }
         ensures kept { length devices.new.items ≡ length devices.old.items }
     {
         if let Line::Tick { count } = line {

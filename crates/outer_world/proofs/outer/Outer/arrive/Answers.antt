@@ -1,12 +1,12 @@
 use Rattle.std.proofs.Common.{refl}
 use Rattle.outer_world.specs.contracts.outer.Outer.{the_view}
 use Rattle.outer_world.proofs.Single.{on_err}
-use Rattle.outer_world.proofs.Airing.{arrived_ok, arrived_err, cut_err}
+use Rattle.outer_world.proofs.Airing.{arrived_ok, arrived_err, arrival_cut_err}
 use Rattle.outer_world.proofs.outer.Outer.arrive.Goals as goal
 
 pub returns-in_err-arrive-clause-err : goal.returns-in_err-arrive-clause-err
 returns-in_err-arrive-clause-err g c =
-    cut_err c.from_residual.result c.args.self.now (the_view c.self.inside) c.args.self.now _ _ c.arrive.new.self.state _ _ c.self.view_is c.in_err-arrive.ensures.cut (on_err c.from_residual.result _ refl)
+    arrival_cut_err c.from_residual.result c.args.self.now (the_view c.self.inside) c.args.self.now _ _ c.arrive.new.self.state _ _ c.self.view_is c.in_err-arrive.ensures.cut (on_err c.from_residual.result _ refl)
 
 pub returns-clause-ok : goal.returns-clause-ok
 returns-clause-ok g c =

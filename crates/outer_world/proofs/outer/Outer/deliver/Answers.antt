@@ -1,9 +1,9 @@
 use Rattle.std.proofs.Common.{[], ◌-◌, refl, ap, arith, ◌∙◌}
 use Rattle.outer_events.specs.State.{OuterState}
-use Rattle.outer_events.specs.Schedules.{Arrivals}
-use Rattle.outer_world.proofs.Single.{runs_stop, arrivals_own, on_err}
+use Rattle.outer_world.proofs.Single.{on_err}
+use Rattle.outer_world.proofs.Counted.{arrivals, ran_more, ran_all, ran_stops}
 use Rattle.outer_events.proofs.Doing.{ran_nothing}
-use Rattle.outer_world.proofs.Landing.{arrive_moves, arrive_more, arrivals_all}
+use Rattle.outer_world.proofs.Landing.{arrive_moves}
 use Rattle.mesh_sim.proofs.Doing.{Moves}
 use Rattle.outer_world.proofs.outer.Outer.deliver.Goals as goal
 
@@ -14,14 +14,15 @@ pub loop-preserved : goal.loop-preserved
 loop-preserved g c =
     let moves : Moves c.loop.self.air c.arrive.new.self.air = arrive_moves _ _ _ _ _ _ c.in_ok-arrive.ensures.ok in
     record {
-      runs = arrive_more _ _ _ _ _ c.loop.counter _ _ _ c.loop.invariant.runs c.in_ok-arrive.ensures.ok;
+      runs = ran_more arrivals c.loop.counter _ _ _ _ _ _ c.loop.invariant.runs c.in_ok-arrive.ensures.ok;
       landed = omega arith;
       sent = omega arith;
       kept = c.arrive.ensures.kept ∙ c.loop.invariant.kept;
     }
 
 pub returns-in_err-arrive-clause-err : goal.returns-in_err-arrive-clause-err
-returns-in_err-arrive-clause-err g c = on_err c.from_residual.result _ (runs_stop (Arrivals c.loop.counter) _ _ _ _ _ _ (arrivals_own c.loop.counter) c.loop.invariant.runs c.in_err-arrive.ensures.err)
+returns-in_err-arrive-clause-err g c = on_err c.from_residual.result _
+    (ran_stops arrivals c.loop.counter _ _ _ _ _ _ _ (omega (arith, ap (λ (o : OuterState). o.air.frames.sent - o.air.frames.landed) c.self.view_is)) c.loop.invariant.runs c.in_err-arrive.ensures.err)
 
 pub returns-clause-ok : goal.returns-clause-ok
-returns-clause-ok g c = arrivals_all c.loop.counter _ _ _ _ _ (omega (arith, ap (λ (o : OuterState). o.air.frames.sent - o.air.frames.landed) c.self.view_is)) c.loop.invariant.runs
+returns-clause-ok g c = ran_all arrivals c.loop.counter _ _ _ _ _ (omega (arith, ap (λ (o : OuterState). o.air.frames.sent - o.air.frames.landed) c.self.view_is)) c.loop.invariant.runs

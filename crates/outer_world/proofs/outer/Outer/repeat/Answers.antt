@@ -1,5 +1,5 @@
 use Rattle.outer_world.specs.contracts.outer.Outer.{the_view}
-use Rattle.outer_world.proofs.Airing.{repeated_ok, repeated_err, cut_err, repeat_refused}
+use Rattle.outer_world.proofs.Airing.{repeated_ok, repeated_err, repeat_cut_err, repeat_refused}
 use Rattle.outer_world.proofs.outer.Outer.repeat.Goals as goal
 
 pub returns-in-Ok-clause-ok : goal.returns-in-Ok-clause-ok
@@ -19,4 +19,4 @@ returns-clause-ok g c =
 
 pub returns-clause-err : goal.returns-clause-err
 returns-clause-err g c =
-    cut_err c.refuse_repeat.result c.args.self.now (the_view c.self.inside) c.args.self.now _ _ c.repeat.new.self.state _ _ c.self.view_is c.in-Err.ensures.cut c.refuse_repeat.ensures.err
+    repeat_cut_err c.refuse_repeat.result c.args.self.now (the_view c.self.inside) c.args.self.now _ _ c.repeat.new.self.state _ _ c.self.view_is c.args.frame c.in-Err.ensures.cut c.refuse_repeat.ensures.err

@@ -1,26 +1,28 @@
 -- Bytes move to the chip, and then to the host.
-use Rattle.std.proofs.Common.{Bool, refl, sym, subst, arith}
+use Rattle.std.proofs.Common.{Bool, refl, sym, subst, arith, inl}
 use Rattle.zw_machine.proofs.Schedules.{stopped_then}
-use Rattle.zw_machine.specs.Did.{Scene, Does}
+use Rattle.zw_machine.specs.Did.{Scene, Does, Nothing}
+use Rattle.zw_machine.specs.Settling.{IsChipPart}
+use Rattle.zw_machine.specs.Fronts.{MoveFront}
 use Rattle.zw_world.specs.World.{scene}
-use Rattle.zw_world.specs.Moving.{ChipPart, Moves}
+use Rattle.zw_world.specs.Moving.{Moves}
 use Rattle.zw_world.proofs.Scenes.{on_err, stopped_still}
-use Rattle.zw_world.proofs.Bytes.{both_moved}
+use Rattle.zw_world.proofs.Bytes.{both_moved, did_chip}
 use Rattle.zw_world.proofs.world.World.move_bytes.Goals as goal
 
 pub returns-in_err-chip-clause-err : goal.returns-in_err-chip-clause-err
 returns-in_err-chip-clause-err g c = on_err c.from_residual.result
     (λ ds.
-    stopped_still c.args.self.now.keys c.chip_takes.new.self.keys c.args.self.now.host c.chip_takes.new.self.host c.args.self.now.outer c.chip_takes.new.self.outer ds (g.P.Keeper.records c.args.keeper.now)
-    (g.P.Keeper.records c.args.keeper.now) c.args.out.now.items c.chip_takes.new.out.items (g.P.Keeper.faults c.args.keeper.now) (g.P.Keeper.faults c.args.keeper.now) refl c.in_err-chip.ensures.err (omega arith))
+    stopped_still MoveFront c.args.self.now.keys c.chip_takes.new.self.keys c.args.self.now.host c.chip_takes.new.self.host c.args.self.now.outer c.chip_takes.new.self.outer ds (g.P.Keeper.records c.args.keeper.now)
+    (g.P.Keeper.records c.args.keeper.now) c.args.out.now.items c.chip_takes.new.out.items (g.P.Keeper.faults c.args.keeper.now) (g.P.Keeper.faults c.args.keeper.now) (inl refl) refl c.in_err-chip.ensures.err (omega arith))
 
 pub returns-in_err-host-clause-err : goal.returns-in_err-host-clause-err
 returns-in_err-host-clause-err g c = on_err c.from_residual-in_err-host.result
     (λ ds.
-    stopped_then (ChipPart c.in_ok-chip.chip) (scene c.args.self.now ds (g.P.Keeper.records c.args.keeper.now) c.args.out.now.items (g.P.Keeper.faults c.args.keeper.now))
+    stopped_then IsChipPart Nothing Nothing (scene c.args.self.now ds (g.P.Keeper.records c.args.keeper.now) c.args.out.now.items (g.P.Keeper.faults c.args.keeper.now))
     (scene c.chip_takes.new.self ds (g.P.Keeper.records c.args.keeper.now) c.chip_takes.new.out.items (g.P.Keeper.faults c.args.keeper.now))
     (scene c.host_takes.new.self ds (g.P.Keeper.records c.host_takes.new.keeper) c.host_takes.new.out.items (g.P.Keeper.faults c.host_takes.new.keeper))
-    (c.in_ok-chip.ensures.ok ds (g.P.Keeper.records c.args.keeper.now) (g.P.Keeper.faults c.args.keeper.now)) (c.in_err-host.ensures.err ds))
+    (did_chip c.in_ok-chip.chip _ _ (c.in_ok-chip.ensures.ok ds (g.P.Keeper.records c.args.keeper.now) (g.P.Keeper.faults c.args.keeper.now))) (c.in_err-host.ensures.err ds))
 
 pub returns-clause-ok : goal.returns-clause-ok
 returns-clause-ok g c = λ ds.

@@ -1,21 +1,25 @@
 -- Pass after pass.
-use Rattle.std.proofs.Common.{◌-◌, subst, arith}
+use Rattle.std.proofs.Common.{subst, arith}
 use Rattle.std.specs.Prelude.{Bool}
 use Rattle.zw_machine.specs.Did.{Does, Scene}
 use Rattle.zw_machine.specs.Settling.{Passes}
+use Rattle.zw_machine.specs.Fronts.{PassesFront}
 use Rattle.zw_world.specs.World.{scene}
 use Rattle.zw_world.specs.Moving.{Pass}
 use Rattle.zw_world.proofs.Scenes.{on_err}
-use Rattle.zw_world.proofs.Passing.{pass_so_far, last_pass, all_passes, stopped_so_far}
+use Rattle.zw_world.proofs.Passing.{nothing_so_far, pass_so_far, last_pass, all_passes, passes_stop}
 use Rattle.zw_world.proofs.world.World.pass_all.Goals as goal
+
+pub loop-init : goal.loop-init
+loop-init g c = λ ds. nothing_so_far (Passes 64) (PassesFront 64) _
 
 pub returns-in_err-pass-clause-err : goal.returns-in_err-pass-clause-err
 returns-in_err-pass-clause-err g c = on_err c.from_residual.result
     (λ ds.
-    stopped_so_far (Passes 64) (Passes (64 - c.loop.counter)) (scene c.args.self.now ds (g.P.Keeper.records c.args.keeper.now) c.args.out.now.items (g.P.Keeper.faults c.args.keeper.now))
+    passes_stop c.loop.counter (scene c.args.self.now ds (g.P.Keeper.records c.args.keeper.now) c.args.out.now.items (g.P.Keeper.faults c.args.keeper.now))
     (scene c.loop.self ds (g.P.Keeper.records c.loop.keeper) c.loop.out.items (g.P.Keeper.faults c.loop.keeper))
     (scene c.pass.new.self ds (g.P.Keeper.records c.pass.new.keeper) c.pass.new.out.items (g.P.Keeper.faults c.pass.new.keeper))
-    (c.loop.invariant ds) (c.in_err-pass.ensures.err ds))
+    (omega (arith, c.loop-test.true)) (c.loop.invariant ds) (c.in_err-pass.ensures.err ds))
 
 pub returns-then-not-branch-clause-ok : goal.returns-then-not-branch-clause-ok
 returns-then-not-branch-clause-ok g c = λ ds.

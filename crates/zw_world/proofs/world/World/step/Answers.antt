@@ -14,4 +14,4 @@ returns-clause-ok g c =
 pub returns-clause-err : goal.returns-clause-err
 returns-clause-err g c =
     let w = the_view c.self.inside in
-    rw (← c.self.view_is) (line_stops c.run_line.result _ _ _ (did_quiet Begins_line w.keys w.host w.outer c.begin_line.new.self _ (g.P.Keeper.records c.args.keeper.now) c.args.out.now.items (g.P.Keeper.faults c.args.keeper.now) refl c.begin_line.ensures) c.run_line.ensures.err)
+    rw (← c.self.view_is) (line_stops c.run_line.result c.args.line.now _ _ _ (did_quiet Begins_line w.keys w.host w.outer c.begin_line.new.self _ (g.P.Keeper.records c.args.keeper.now) c.args.out.now.items (g.P.Keeper.faults c.args.keeper.now) refl c.begin_line.ensures) c.run_line.ensures.err)

@@ -1,35 +1,34 @@
 -- Frames arrive, results are given, devices and chip tick.
 use Rattle.std.proofs.Common.{refl, arith}
 use Rattle.std.proofs.lemmas.List.{length-map}
-use Rattle.zw_machine.specs.Ticking.{IsDelivery}
-use Rattle.zw_machine.proofs.Schedules.{stopped_then}
+use Rattle.zw_machine.specs.Did.{Nothing}
 use Rattle.zw_world.specs.contracts.world.World.{the_view}
-use Rattle.zw_world.proofs.Scenes.{ok_then, err_then, on_err, stopped_out, stopped_still}
-use Rattle.zw_world.proofs.Turns.{delivered, given_due, devices_ticked, chip_ticked, outside_ticked, stopped_two, stopped_three}
+use Rattle.zw_world.proofs.Scenes.{ok_then, err_then, on_err, stopped_still}
+use Rattle.zw_world.proofs.Turns.{delivered, given_due, devices_ticked, chip_ticked, delivered_some, given_some, ticked_some, outside_ticked, stopped_one, stopped_two, stopped_three, stopped_four}
 use Rattle.zw_world.proofs.world.World.tick_outside.Goals as goal
 
 pub returns-in_err-deliver-clause-err : goal.returns-in_err-deliver-clause-err
 returns-in_err-deliver-clause-err g c =
     let w = the_view c.self.inside in
     rw (← c.self.view_is) (on_err c.from_residual.result
-    (λ r f. stopped_out w.keys w.keys w.host w.host w.outer c.deliver.new.self _ _ r c.args.out.now.items c.deliver.new.out.items f c.in_err-deliver.ensures.err))
+    (λ r f. stopped_one _ _ (delivered_some w.keys w.host r f w.outer c.deliver.new.self _ _ c.args.out.now.items c.deliver.new.out.items c.in_err-deliver.ensures.err)))
 
 pub returns-in_err-give_due-clause-err : goal.returns-in_err-give_due-clause-err
 returns-in_err-give_due-clause-err g c =
     let w = the_view c.self.inside in
     rw (← c.self.view_is) (on_err c.from_residual-in_err-give_due.result
     (λ r f.
-    stopped_then IsDelivery _ _ _ (delivered w.keys w.host r f w.outer c.deliver.new.self _ _ c.args.out.now.items c.deliver.new.out.items c.in_ok-deliver.ensures.ok)
-    (stopped_out w.keys w.keys w.host w.host c.deliver.new.self c.give_due.new.self _ _ r c.deliver.new.out.items c.give_due.new.out.items f c.in_err-give_due.ensures.err)))
+    stopped_two _ _ _ (delivered w.keys w.host r f w.outer c.deliver.new.self _ _ c.args.out.now.items c.deliver.new.out.items c.in_ok-deliver.ensures.ok)
+    (given_some w.keys w.host r f c.deliver.new.self c.give_due.new.self _ c.deliver.new.out.items c.give_due.new.out.items c.in_err-give_due.ensures.err)))
 
 pub returns-in_err-tick_devices-clause-err : goal.returns-in_err-tick_devices-clause-err
 returns-in_err-tick_devices-clause-err g c =
     let w = the_view c.self.inside in
     rw (← c.self.view_is) (on_err c.from_residual-in_err-tick_devices.result
     (λ r f.
-    stopped_two _ _ _ _ (delivered w.keys w.host r f w.outer c.deliver.new.self _ _ c.args.out.now.items c.deliver.new.out.items c.in_ok-deliver.ensures.ok)
+    stopped_three _ _ _ _ (delivered w.keys w.host r f w.outer c.deliver.new.self _ _ c.args.out.now.items c.deliver.new.out.items c.in_ok-deliver.ensures.ok)
     (given_due w.keys w.host r f c.deliver.new.self c.give_due.new.self _ c.deliver.new.out.items c.give_due.new.out.items c.in_ok-give_due.ensures.ok)
-    (stopped_out w.keys w.keys w.host w.host c.give_due.new.self c.tick_devices.new.self _ _ r c.give_due.new.out.items c.tick_devices.new.out.items f c.in_err-tick_devices.ensures.err)))
+    (ticked_some w.keys w.host r f _ c.give_due.new.self c.tick_devices.new.self _ _ c.give_due.new.out.items c.tick_devices.new.out.items (length-map _ _) c.in_err-tick_devices.ensures.err)))
 
 pub returns-clause-ok : goal.returns-clause-ok
 returns-clause-ok g c =
@@ -46,7 +45,7 @@ returns-clause-err g c =
     let w = the_view c.self.inside in
     rw (← c.self.view_is) (err_then c.tick_chip.result c.tick_chip.ensures.no_entries
     (λ same r f.
-    stopped_three _ _ _ _ _ (delivered w.keys w.host r f w.outer c.deliver.new.self _ _ c.args.out.now.items c.deliver.new.out.items c.in_ok-deliver.ensures.ok)
+    stopped_four _ _ _ _ _ (delivered w.keys w.host r f w.outer c.deliver.new.self _ _ c.args.out.now.items c.deliver.new.out.items c.in_ok-deliver.ensures.ok)
     (given_due w.keys w.host r f c.deliver.new.self c.give_due.new.self _ c.deliver.new.out.items c.give_due.new.out.items c.in_ok-give_due.ensures.ok)
     (devices_ticked w.keys w.host r f _ c.give_due.new.self c.tick_devices.new.self _ _ c.give_due.new.out.items c.tick_devices.new.out.items (length-map _ _) c.in_ok-tick_devices.ensures.ok)
-    (stopped_still w.keys w.keys w.host w.host c.tick_devices.new.self c.tick_chip.new.self _ r r c.tick_devices.new.out.items c.tick_chip.new.out.items f f refl same (omega arith))))
+    (stopped_still Nothing w.keys w.keys w.host w.host c.tick_devices.new.self c.tick_chip.new.self _ r r c.tick_devices.new.out.items c.tick_chip.new.out.items f f refl refl same (omega arith))))

@@ -1,8 +1,7 @@
 -- Tick after tick.
-use Rattle.std.proofs.Common.{◌-◌, ◌∙◌, refl, arith}
-use Rattle.zw_machine.specs.Ticking.{Ticks}
+use Rattle.std.proofs.Common.{◌∙◌, refl, arith}
 use Rattle.zw_world.proofs.Scenes.{on_err}
-use Rattle.zw_world.proofs.Passing.{no_ticks, tick_so_far, all_ticks, stopped_so_far}
+use Rattle.zw_world.proofs.Passing.{no_ticks, tick_so_far, all_ticks, ticks_stop}
 use Rattle.zw_world.proofs.world.World.ticks.Goals as goal
 
 pub loop-init : goal.loop-init
@@ -16,7 +15,7 @@ loop-preserved g c = record {
 
 pub returns-in_err-tick-clause-err : goal.returns-in_err-tick-clause-err
 returns-in_err-tick-clause-err g c = on_err c.from_residual.result
-    (stopped_so_far (Ticks c.args.count) (Ticks (c.args.count - c.loop.counter)) _ _ _ c.loop.invariant.so_far c.in_err-tick.ensures.err)
+    (ticks_stop c.args.count c.loop.counter _ _ _ (omega (arith, c.loop-test.true)) c.loop.invariant.so_far c.in_err-tick.ensures.err)
 
 pub returns-clause-ok : goal.returns-clause-ok
 returns-clause-ok g c = all_ticks c.args.count c.loop.counter _ _ (omega (arith, c.loop-test.false)) c.loop.invariant.so_far
