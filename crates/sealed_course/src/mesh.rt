@@ -24,7 +24,8 @@ use courses::{
 use device_facts::devices_stay_the_same;
 use node_course::{devices_follow_the_course, idle_devices_stay_idle};
 
-/// The next frame arrives, or one is heard again that may be: by the lock of the node, by another device, by the chip or by nobody. What a device answers goes on the air where it is joined; so does what the first device of a node says at an event of its own, at which a lock says nothing. Any device ticks: where there are more of the node, the others say nothing.
+/// The next frame arrives, or one is heard again that may be: by the lock of the node, by another device, by the chip or by nobody. What a device answers goes on the air where it is joined;
+/// so does what the first device of a node says at an event of its own, at which a lock says nothing. Any device ticks: where there are more of the node, the others say nothing.
 pub fn arrivals_follow_the_courses()
     ensures arrives { (past : Past) (node : ℕ) (c : Courses) (mesh : Mesh) (drawn : List ℕ) (route : Option TheRoute) → node < 233 → CoursesFacts c → InMesh past node c mesh → MayHappen mesh (Arrives drawn route) →
         MeshGoes past node c (mesh_after mesh (Arrives drawn route)) (brought (mesh_outs mesh (Arrives drawn route))) }
