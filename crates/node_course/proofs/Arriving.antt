@@ -37,7 +37,7 @@ use Rattle.node_course.specs.Device.{AtDevice, HearsAs}
 use Rattle.node_course.specs.Making.{Makes, AllMake, NamesNext, Names}
 use Rattle.node_course.specs.Mesh.{InMesh, brought_by, brought, MeshGoes}
 use Rattle.node_course.proofs.Thinning.{goes_nowhere, goes_once}
-use Rattle.node_course.proofs.Replies.{Flying, Airs, KeepsWays, Stands, stands_of, ways_stay, airs_of, mesh_then, device_moves, device_goes}
+use Rattle.node_course.proofs.Replies.{Flying, Airs, KeepsWays, Stands, stands_of, ways_stay, airs_of, one_place, one_stands, mesh_then, device_moves, device_goes}
 
 -- ---- what brings nothing to the chip
 
@@ -163,8 +163,11 @@ module _ (laws : Laws) (node : ℕ) (orders : List Asked) where
       event : DeviceEvent
       event = Hears frame.payload drawn
 
+      first : place_of frame.node mesh.devices ≡ Some place
+      first = listener_is frame.node mesh.devices place listens
+
       named : device.node ≡ frame.node
-      named = place_is frame.node mesh.devices place device (listener_is frame.node mesh.devices place listens) stood
+      named = place_is frame.node mesh.devices place device first stood
 
       awake : device.awake ≡ true
       awake = awake_at_place mesh.devices frame.node place device listens stood
@@ -175,11 +178,11 @@ module _ (laws : Laws) (node : ℕ) (orders : List Asked) where
           mine : device.node ≡ node
           mine = named ∙ eqb-true frame.node node e
 
+          here : place ≡ h.has.place
+          here = one_place node mesh.devices place h.has.place (ap (λ (n : ℕ). place_of n mesh.devices) (sym (eqb-true frame.node node e)) ∙ first) h.has.first
+
           at : AtDevice before device
-          at =
-              let found : Some device ≡ Some h.has.device = sym stood ∙ (ap (λ (k : ℕ). slice_get mesh.devices k) (h.has.alone place device stood mine) ∙ h.has.stands) in
-              let one : device ≡ h.has.device = cc in
-              subst (λ (d : State). AtDevice before d) (sym one) h.has.at
+          at = subst (λ (d : State). AtDevice before d) (sym (one_stands mesh.devices place h.has.place device h.has.device stood h.has.stands here)) h.has.at
 
           makes : Makes orders before.host.commands device
           makes = h.made place device stood mine
@@ -193,18 +196,18 @@ module _ (laws : Laws) (node : ℕ) (orders : List Asked) where
               let same : now.host ≡ before.host = heard_host before flight.since flight.cargo is_whole in
               mesh_then node orders c now _ (goes is_whole) (heard_ways c before orders before.host.commands frame.payload flight.since flight.cargo is_whole means ways)
               (device_goes laws.flying laws.same node orders before now mesh place frame.node device (Hears frame.payload drawn) (option_map backwards route) h.has
-              (heard_airs node orders before mesh.air flight.since flight.cargo is_whole airs) stood (sym named) (λ own. heard) (λ apart. absurd (apart mine))
+              (heard_airs node orders before mesh.air flight.since flight.cargo is_whole airs) stood (sym named) (λ own. here) (λ own. heard) (λ apart. absurd (apart mine))
               (subst (λ (b : HostBook). AllMake node orders b.commands mesh.devices) (sym same) h.made)
               (λ own. subst (λ (b : HostBook). Makes orders b.commands (device_after device (Hears frame.payload drawn))) (sym same) made))
           as_heard (inr (segment, unheard)) =
               mesh_then node orders c before _ still ways
               (device_goes laws.flying laws.same node orders before before mesh place frame.node device (Hears frame.payload drawn) (option_map backwards route) h.has airs stood (sym named)
-              (λ own. unheard) (λ apart. h.has.at) h.made (λ own. made))
+              (λ own. here) (λ own. unheard) (λ apart. h.has.at) h.made (λ own. made))
       by false e other =
           let apart : device.node ≢ node = λ mine. let bad : (frame.node == node) ≡ false = e in let same : frame.node ≡ node = sym named ∙ mine in grind (arith, bad, same) in
           mesh_then node orders c before _ still ways
           (device_goes laws.flying laws.same node orders before before mesh place frame.node device (Hears frame.payload drawn) (option_map backwards route) h.has airs stood (sym named)
-          (λ own. absurd (apart own)) (λ apart. h.has.at) h.made (λ own. absurd (apart own)))
+          (λ own. absurd (apart own)) (λ own. absurd (apart own)) (λ apart. h.has.at) h.made (λ own. absurd (apart own)))
 
   -- ---- by the chip
 
@@ -253,7 +256,7 @@ module _ (laws : Laws) (node : ℕ) (orders : List Asked) where
                 first = h.has.first;
                 stands = h.has.stands;
                 at = record { sessions = h.has.at.sessions; kept = h.has.at.kept; ended = h.has.at.ended; can = h.has.at.can; is_open = h.has.at.is_open };
-                alone = h.has.alone;
+                others = h.has.others;
                 nodes = h.has.nodes;
               };
               made = h.made;

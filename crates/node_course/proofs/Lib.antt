@@ -4,6 +4,7 @@ pub mod Segments
 pub mod Saying
 pub mod Devices
 pub mod Making
+pub mod Idle
 pub mod Replies
 pub mod Arriving
 pub mod Moving

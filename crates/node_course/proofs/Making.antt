@@ -298,15 +298,21 @@ get_other (first ∷ devices) zero (suc at) other apart = refl
 get_other (first ∷ devices) (suc place) zero other apart = refl
 get_other (first ∷ devices) (suc place) (suc at) other apart = get_other devices place at other (λ e. apart (ap suc e))
 
+-- what holds of each device at its place holds where one is set of which it holds
+pub set_holds : (Holds : ℕ → State → Type 0) (devices : List State) (place : ℕ) (device new : State) → slice_get devices place ≡ Some device → Holds place new
+    → ((at : ℕ) (one : State) → slice_get devices at ≡ Some one → Holds at one) → (at : ℕ) (one : State) → slice_get (slice_set devices place new) at ≡ Some one → Holds at one
+set_holds Holds devices place device new stood here all at one found = by (at == place) refl
+  where
+    by : (b : Bool) → (at == place) ≡ b → Holds at one
+    by true e =
+        let same : at ≡ place = eqb-true at place e in
+        let is : Some new ≡ Some one = sym (get_same devices place device new stood) ∙ (ap (λ (k : ℕ). slice_get (slice_set devices place new) k) (sym same) ∙ found) in
+        let it : new ≡ one = cc in
+        subst (λ (k : ℕ). Holds k one) (sym same) (subst (λ (d : State). Holds place d) it here)
+    by false e = all at one (sym (get_other devices place at new (grind (arith, e))) ∙ found)
+
 -- one of them goes on
 pub all_make_set : (node : ℕ) (orders : List Asked) (commands : List ℕ) (devices : List State) (place : ℕ) (device new : State) → slice_get devices place ≡ Some device → new.node ≡ device.node
     → (device.node ≡ node → Makes orders commands new) → AllMake node orders commands devices → AllMake node orders commands (slice_set devices place new)
-all_make_set node orders commands devices place device new stood same makes all other one found own = by (other == place) refl
-  where
-    by : (b : Bool) → (other == place) ≡ b → Makes orders commands one
-    by true e =
-        let here : other ≡ place = eqb-true other place e in
-        let is : Some new ≡ Some one = sym (get_same devices place device new stood) ∙ (ap (λ (k : ℕ). slice_get (slice_set devices place new) k) (sym here) ∙ found) in
-        let it : new ≡ one = cc in
-        subst (λ (d : State). Makes orders commands d) it (makes (sym same ∙ (ap (λ (d : State). d.node) it ∙ own)))
-    by false e = all other one (sym (get_other devices place other new (grind (arith, e))) ∙ found) own
+all_make_set node orders commands devices place device new stood same makes all =
+    set_holds (λ (at : ℕ) (one : State). one.node ≡ node → Makes orders commands one) devices place device new stood (λ own. makes (sym same ∙ own)) all

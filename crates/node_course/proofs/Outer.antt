@@ -95,7 +95,7 @@ at_same old new device same at = record {
 
 pub has_same : (node : ℕ) (old new : Course) (devices : List State) → SameDevice old new → HasDevice node old devices → HasDevice node new devices
 has_same node old new devices same h =
-    record { device = h.device; place = h.place; first = h.first; stands = h.stands; at = at_same old new h.device same h.at; alone = h.alone; nodes = h.nodes }
+    record { device = h.device; place = h.place; first = h.first; stands = h.stands; at = at_same old new h.device same h.at; others = h.others; nodes = h.nodes }
 
 pub mesh_down : (node : ℕ) (orders : List Asked) (c : Course) (mesh : Mesh) (now : List Report) → InMesh node orders c mesh → InMesh node orders (record c { down = now }) mesh
 mesh_down node orders c mesh now is = record {

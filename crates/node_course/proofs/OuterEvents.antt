@@ -1,7 +1,8 @@
 -- Each event outside the host, in the course of one node.
-use Rattle.std.proofs.Common.{◌≡◌, ℕ, ◌<◌, ◌≤◌, Bool, true, false, Option, Some, None, List, [], ◌∷◌, ◌++◌, refl, ap, sym, ◌∙◌, subst, append-nil, arith}
+use Rattle.std.proofs.Common.{◌≡◌, ℕ, ◌<◌, ◌≤◌, ◌==◌, Bool, true, false, Option, Some, None, List, [], ◌∷◌, ◌++◌, refl, ap, sym, ◌∙◌, subst, append-nil, arith}
 use Rattle.std.specs.Prelude.{slice_get, slice_set}
 use Rattle.std.specs.Option.{option_map}
+use Rattle.std.proofs.lemmas.Bool.{eqb-true}
 use Rattle.supervision.specs.Host.{no_sessions}
 use Rattle.supervision.specs.Device.{Taken}
 use Rattle.supervision.specs.Ends.{Report}
@@ -45,6 +46,7 @@ use Rattle.outer_traffic.specs.Traffic.{outward}
 use Rattle.world_traffic.specs.OnAir.{IsFew, OuterStaysFew}
 use Rattle.line_facts.specs.Way.{Carries}
 use Rattle.line_facts.proofs.Ways.{carries_none}
+use Rattle.device_facts.proofs.Telling.{place_is}
 use Rattle.node_course.specs.Ways.{Thinned}
 use Rattle.node_course.specs.Meaning.{Asked}
 use Rattle.node_course.specs.Air.{OnAir}
@@ -56,7 +58,8 @@ use Rattle.node_course.proofs.Thinning.{goes_nowhere, up_thins, down_thins}
 use Rattle.node_course.proofs.Moving.{thinned_same, thinned_behind, labels-append}
 use Rattle.node_course.proofs.Segments.{kept_none}
 use Rattle.node_course.proofs.Making.{first_makes}
-use Rattle.node_course.proofs.Replies.{Flying}
+use Rattle.node_course.proofs.Idle.{idle_makes}
+use Rattle.node_course.proofs.Replies.{Flying, one_place, one_stands}
 use Rattle.node_course.proofs.ChipTelling.{ChipTells, tells_still, tells_one, deals_tell, gives_tells, joins_tell, discovers_tell, collides_tell}
 use Rattle.node_course.proofs.Outer.{mesh_down, mesh_up, outer_goes, entered, takes_go}
 
@@ -69,9 +72,10 @@ pub record Laws : Type 0 where
   pub repeats : (node : ℕ) (orders : List Asked) (c : Course) (m : Mesh) (number : ℕ) (drawn : List ℕ) (route : Option Route) → node < 233 → CourseFacts c → InMesh node orders c m → refusal_of m.air.frames number ≡ None → MayHappen m (mesh.Repeats number drawn route)
       → MeshGoes node orders c (mesh_after m (mesh.Repeats number drawn route)) (brought (mesh_outs m (mesh.Repeats number drawn route)))
   pub own : (node : ℕ) (orders : List Asked) (c : Course) (m : Mesh) (place : ℕ) (device : State) (event : DeviceEvent) (found : Option Route) → InMesh node orders c m → slice_get m.devices place ≡ Some device
-      → (device.node ≡ node → GoesAs c device event) → (device.node ≡ node → Makes orders c.host.commands (device_after device event))
+      → place_of device.node m.devices ≡ Some place → (device.node ≡ node → GoesAs c device event) → (device.node ≡ node → Makes orders c.host.commands (device_after device event))
       → MeshGoes node orders c (record { air = answered_if (is_joined m.air device.node) m.air device.node found (device_replies device event); devices = slice_set m.devices place (device_after device event) }) []
-  pub ticks : (c : Course) (device : State) (drawn : List ℕ) → AtDevice c device → GoesAs c device (Ticks drawn)
+  pub ticks : (node : ℕ) (orders : List Asked) (c : Course) (m : Mesh) (place : ℕ) (device : State) (drawn : List ℕ) (found : Option Route) → InMesh node orders c m → slice_get m.devices place ≡ Some device
+      → MeshGoes node orders c (record { air = answered_if (is_joined m.air device.node) m.air device.node found (device_replies device (Ticks drawn)); devices = slice_set m.devices place (device_after device (Ticks drawn)) }) []
   pub wakes : (c : Course) (device : State) → AtDevice c device → GoesAs c device Wakes
   pub sets : (c : Course) (device : State) (value : ℕ) → AtDevice c device → GoesAs c device (Sets value)
   pub keeps : (orders : List Asked) (commands : List ℕ) (device : State) (event : DeviceEvent) → HearsNone event → Makes orders commands device → Makes orders commands (device_after device event)
@@ -108,22 +112,32 @@ module _ (laws : Laws) (node : ℕ) (orders : List Asked) (c : Course) (rest : R
       mesh_goes w (mesh_after (mesh_of w) (mesh.Repeats number drawn route)) (mesh_outs (mesh_of w) (mesh.Repeats number drawn route)) f (laws.repeats node orders c (mesh_of w) number drawn route within course f.mesh is may)
   repeats_go w (Some refused) number drawn route within course f is may = still w w.outer f refl refl refl refl
 
-  -- an event of a device
-  acts_go : (w : Outside) (place : ℕ) (found : Option State) (event : DeviceEvent) (route : Option Route) → HearsNone event → Follows node orders c rest turn up down w → slice_get w.devices place ≡ found → ((device : State) → AtDevice c device → GoesAs c device event)
-      → OuterGoes node orders c rest turn (outside (acts_at w.outer found event route).outer (device_set w.devices place found event))
-  acts_go w place None event route none f stood goes = still w w.outer f refl refl refl refl
-  acts_go w place (Some device) event route none f stood goes =
+  -- a tick of a device
+  device_ticks : (w : Outside) (place : ℕ) (found : Option State) (drawn : List ℕ) (route : Option Route) → Follows node orders c rest turn up down w → slice_get w.devices place ≡ found
+      → OuterGoes node orders c rest turn (outside (acts_at w.outer found (Ticks drawn) route).outer (device_set w.devices place found (Ticks drawn)))
+  device_ticks w place None drawn route f stood = still w w.outer f refl refl refl refl
+  device_ticks w place (Some device) drawn route f stood =
+      mesh_goes w (record { air = answered_if (is_joined w.outer.air device.node) w.outer.air device.node (option_map backwards route) (device_replies device (Ticks drawn)); devices = slice_set w.devices place (device_after device (Ticks drawn)) }) [] f
+      (laws.ticks node orders c (mesh_of w) place device drawn (option_map backwards route) f.mesh stood)
+
+  -- an event of the first device of a node
+  acts_go : (w : Outside) (n place : ℕ) (found : Option State) (event : DeviceEvent) (route : Option Route) → HearsNone event → Follows node orders c rest turn up down w → place_of n w.devices ≡ Some place → slice_get w.devices place ≡ found
+      → ((device : State) → AtDevice c device → GoesAs c device event) → OuterGoes node orders c rest turn (outside (acts_at w.outer found event route).outer (device_set w.devices place found event))
+  acts_go w n place None event route none f first stood goes = still w w.outer f refl refl refl refl
+  acts_go w n place (Some device) event route none f first stood goes =
+      let h = f.mesh.device in
+      let of_node : device.node ≡ n = place_is n w.devices place device first stood in
+      let here : place_of device.node w.devices ≡ Some place = ap (λ (k : ℕ). place_of k w.devices) of_node ∙ first in
       mesh_goes w (record { air = answered_if (is_joined w.outer.air device.node) w.outer.air device.node (option_map backwards route) (device_replies device event); devices = slice_set w.devices place (device_after device event) }) [] f
-      (laws.own node orders c (mesh_of w) place device event (option_map backwards route) f.mesh stood
-      (λ own. let h = f.mesh.device in
-      let found : Some device ≡ Some h.device = sym stood ∙ (ap (λ (k : ℕ). slice_get w.devices k) (h.alone place device stood own) ∙ h.stands) in
-      let one : device ≡ h.device = cc in goes device (subst (λ (d : State). AtDevice c d) (sym one) h.at))
+      (laws.own node orders c (mesh_of w) place device event (option_map backwards route) f.mesh stood here
+      (λ own. goes device (subst (λ (d : State). AtDevice c d)
+      (sym (one_stands w.devices place h.place device h.device stood h.stands (one_place node w.devices place h.place (ap (λ (k : ℕ). place_of k w.devices) (sym own) ∙ here) h.first))) h.at))
       (λ own. laws.keeps orders c.host.commands device event none (f.mesh.made place device stood own)))
 
-  hand_go : (w : Outside) (place : Option ℕ) (event : DeviceEvent) (route : Option Route) → HearsNone event → Follows node orders c rest turn up down w → ((device : State) → AtDevice c device → GoesAs c device event)
+  hand_go : (w : Outside) (n : ℕ) (place : Option ℕ) (event : DeviceEvent) (route : Option Route) → HearsNone event → Follows node orders c rest turn up down w → place_of n w.devices ≡ place → ((device : State) → AtDevice c device → GoesAs c device event)
       → OuterGoes node orders c rest turn (outside (acts_by_hand w.outer w.devices place event route).outer (set_by_hand w.devices place event))
-  hand_go w None event route none f goes = still w w.outer f refl refl refl refl
-  hand_go w (Some place) event route none f goes = acts_go w place (slice_get w.devices place) event route none f refl goes
+  hand_go w n None event route none f first goes = still w w.outer f refl refl refl refl
+  hand_go w n (Some place) event route none f first goes = acts_go w n place (slice_get w.devices place) event route none f first refl goes
 
   -- a node joins
   joins_go : (w : Outside) (n : ℕ) (listening : Bool) → Follows node orders c rest turn up down w → OuterGoes node orders c rest turn (outside (joins w.outer n listening) w.devices)
@@ -263,11 +277,11 @@ module _ (laws : Laws) (node : ℕ) (orders : List Asked) (c : Course) (rest : R
   goes_by w (Arrives drawn route) within course f own may rests few =
       mesh_goes w (mesh_after (mesh_of w) (mesh.Arrives drawn route)) (mesh_outs (mesh_of w) (mesh.Arrives drawn route)) f (laws.arrives node orders c (mesh_of w) drawn route within course f.mesh may)
   goes_by w (Gives route) within course f own may rests few = chip_goes w (gives w.outer w.devices w.outer.due route).outer f (gives_tells IsTold node w.outer w.devices w.outer.due route)
-  goes_by w (Device_ticks place drawn route) within course f own may rests few = acts_go w place (slice_get w.devices place) (Ticks drawn) route tt f refl (λ device at. laws.ticks c device drawn at)
+  goes_by w (Device_ticks place drawn route) within course f own may rests few = device_ticks w place (slice_get w.devices place) drawn route f refl
   goes_by w Chip_ticks within course f own may rests few = tick_goes w f rests
   goes_by w (Repeats number drawn route) within course f own may rests few = repeats_go w (refusal_of w.outer.air.frames number) number drawn route within course f refl may
-  goes_by w (Wakes_device n route) within course f own may rests few = hand_go w (place_of n w.devices) Wakes route tt f (λ device at. laws.wakes c device at)
-  goes_by w (Sets_device n value route) within course f own may rests few = hand_go w (place_of n w.devices) (Sets value) route tt f (λ device at. laws.sets c device value at)
+  goes_by w (Wakes_device n route) within course f own may rests few = hand_go w n (place_of n w.devices) Wakes route tt f refl (λ device at. laws.wakes c device at)
+  goes_by w (Sets_device n value route) within course f own may rests few = hand_go w n (place_of n w.devices) (Sets value) route tt f refl (λ device at. laws.sets c device value at)
   goes_by w (Shows n) within course f own may rests few = still w _ f refl refl refl refl
   goes_by w (Joins n) within course f own may rests few = joins_go w n (listens_at (device_at w.devices (place_of n w.devices))) f
   goes_by w Discovers within course f own may rests few = chip_goes w (discovers w.outer) f (discovers_tell IsTold node w.outer)
@@ -288,10 +302,13 @@ module _ (laws : Laws) (node : ℕ) (orders : List Asked) (c : Course) (rest : R
 -- ---- at first
 
 first_make : (node : ℕ) (devices : List State) → HasDevice node first_course devices → AllMake node [] [] devices
-first_make node devices has place device stands own =
-    let found : Some device ≡ Some has.device = sym stands ∙ (ap (λ (k : ℕ). slice_get devices k) (has.alone place device stands own) ∙ has.stands) in
-    let one : device ≡ has.device = cc in
-    subst (λ (d : State). Makes [] [] d) (sym one) (first_makes has.device has.at.ended (ap (λ (t : Taken). t.taken) has.at.sessions) (kept_none has.device.reassembly has.at.kept))
+first_make node devices has place device stood own = by (place == has.place) refl
+  where
+    by : (here : Bool) → (place == has.place) ≡ here → Makes [] [] device
+    by true e =
+        let one : device ≡ has.device = one_stands devices place has.place device has.device stood has.stands (eqb-true place has.place e) in
+        subst (λ (d : State). Makes [] [] d) (sym one) (first_makes has.device has.at.ended (ap (λ (t : Taken). t.taken) has.at.sessions) (kept_none has.device.reassembly has.at.kept))
+    by false e = idle_makes [] [] device (has.others place device stood own (grind (arith, e)))
 
 pub first_follows : ((node : ℕ) → OnAir node [] no_sessions [] [] [] [] no_frames) → (node : ℕ) (devices : List State) → HasDevice node first_course devices
     → Follows node [] first_course no_rest Idle [] [] (outside first_outer devices)

@@ -17,7 +17,7 @@ use Rattle.air_frames.specs.Frames.{FramesState, putting}
 use Rattle.air_frames.specs.History.{Mark, Goes as goes_mark, begins_in, news_after}
 use Rattle.air_flights.specs.Flights.{flown_now}
 use Rattle.device_sim.specs.State.{State}
-use Rattle.device_sim.specs.Event.{DeviceEvent, device_after, device_replies}
+use Rattle.device_sim.specs.Event.{DeviceEvent, Ticks, device_after, device_replies}
 use Rattle.mesh_sim.specs.Air.{AirState, is_joined, no_route, departing}
 use Rattle.mesh_sim.specs.Steps.{answered, answered_if}
 use Rattle.mesh_sim.specs.Fates.{Mesh, place_of}
@@ -28,11 +28,12 @@ use Rattle.message_facts.specs.Landing.{IsOf}
 use Rattle.node_course.specs.Ways.{Beside, Goes}
 use Rattle.node_course.specs.Meaning.{Asked, NodeMeans}
 use Rattle.node_course.specs.Air.{BearsBy, Bears, OnAir}
-use Rattle.node_course.specs.Device.{AtDevice, finishes, Says, GoesAs}
-use Rattle.node_course.specs.Making.{Makes, AllMake}
+use Rattle.node_course.specs.Device.{AtDevice, IsIdle, finishes, Says, GoesAs}
+use Rattle.node_course.specs.Making.{Makes, AllMake, HearsNone}
 use Rattle.node_course.specs.Mesh.{HasDevice, InMesh, labels, Brings, Adds, MeshGoes}
 use Rattle.node_course.proofs.Thinning.{goes_nowhere, goes_on, goes_once}
-use Rattle.node_course.proofs.Making.{get_same, get_other, all_make_set}
+use Rattle.node_course.proofs.Making.{get_same, get_other, set_holds, all_make_set}
+use Rattle.node_course.proofs.Idle.{idle_makes, others_set}
 
 -- how frames go on the air, as the course has it
 abbrev pub Flying : Type 0
@@ -178,18 +179,23 @@ place_set node (first ∷ devices) zero device other at same =
 place_set node (first ∷ devices) (suc place) device other at same =
     ap (λ (o : Option ℕ). if first.node == node then Some 0 else option_map suc o) (place_set node devices place device other at same)
 
--- who stands at a place once one was set there
-pub was_there : (devices : List State) (place : ℕ) (device new : State) (at : ℕ) (one : State) → slice_get devices place ≡ Some device → new.node ≡ device.node → slice_get (slice_set devices place new) at ≡ Some one
-    → (old : State) × ((slice_get devices at ≡ Some old) × (old.node ≡ one.node))
-was_there devices place device new at one stood same found = by (at == place) refl
-  where
-    by : (b : Bool) → (at == place) ≡ b → (old : State) × ((slice_get devices at ≡ Some old) × (old.node ≡ one.node))
-    by true e =
-        let here : at ≡ place = eqb-true at place e in
-        let is : Some new ≡ Some one = sym (get_same devices place device new stood) ∙ (ap (λ (k : ℕ). slice_get (slice_set devices place new) k) (sym here) ∙ found) in
-        let own : new ≡ one = cc in
-        (device, (ap (λ (k : ℕ). slice_get devices k) here ∙ stood, sym same ∙ ap (λ (d : State). d.node) own))
-    by false e = (one, (sym (get_other devices place at new (grind (arith, e))) ∙ found, refl))
+-- the first device of a node stands at one place
+pub one_place : (node : ℕ) (devices : List State) (place other : ℕ) → place_of node devices ≡ Some place → place_of node devices ≡ Some other → place ≡ other
+one_place node devices place other first also = let same : Some place ≡ Some other = sym first ∙ also in cc
+
+-- and one device stands at a place
+pub one_stands : (devices : List State) (place other : ℕ) (device one : State) → slice_get devices place ≡ Some device → slice_get devices other ≡ Some one → place ≡ other → device ≡ one
+one_stands devices place other device one stood stands here = let same : Some device ≡ Some one = sym stood ∙ (ap (λ (k : ℕ). slice_get devices k) here ∙ stands) in cc
+
+-- a device of another node stands elsewhere
+pub stands_elsewhere : (node : ℕ) (devices : List State) (place own : ℕ) (device one : State) → slice_get devices place ≡ Some device → device.node ≢ node → place_of node devices ≡ Some own → slice_get devices own ≡ Some one → place ≢ own
+stands_elsewhere node devices place own device one stood apart first stands here =
+    apart (ap (λ (d : State). d.node) (one_stands devices place own device one stood stands here) ∙ place_is node devices own one first stands)
+
+pub nodes_set : (devices : List State) (place : ℕ) (device new : State) → slice_get devices place ≡ Some device → new.node ≡ device.node → ((other : ℕ) (one : State) → slice_get devices other ≡ Some one → one.node < 233)
+    → (other : ℕ) (one : State) → slice_get (slice_set devices place new) other ≡ Some one → one.node < 233
+nodes_set devices place device new stood same nodes =
+    set_holds (λ (at : ℕ) (one : State). one.node < 233) devices place device new stood (subst (λ (n : ℕ). n < 233) (sym same) (nodes place device stood)) nodes
 
 pub own_set : (node : ℕ) (c later : Course) (devices : List State) (new : State) (h : HasDevice node c devices) → new.node ≡ h.device.node → AtDevice later new → HasDevice node later (slice_set devices h.place new)
 own_set node c later devices new h same at = record {
@@ -198,24 +204,22 @@ own_set node c later devices new h same at = record {
   first = place_set node devices h.place h.device new h.stands same ∙ h.first;
   stands = get_same devices h.place h.device new h.stands;
   at = at;
-  alone = λ other one found is. let old = was_there devices h.place h.device new other one h.stands same found in h.alone other old.0 old.1.0 (old.1.1 ∙ is);
-  nodes = λ other one found. let old = was_there devices h.place h.device new other one h.stands same found in subst (λ (n : ℕ). n < 233) old.1.1 (h.nodes other old.0 old.1.0);
+  others = others_set node devices h.place h.place h.device new h.stands (λ own away. absurd (away refl)) h.others;
+  nodes = nodes_set devices h.place h.device new h.stands same h.nodes;
 }
 
-pub other_set : (node : ℕ) (c : Course) (devices : List State) (place : ℕ) (device new : State) (h : HasDevice node c devices) → slice_get devices place ≡ Some device → device.node ≢ node → new.node ≡ device.node
+-- one elsewhere, of another node or idle, is another than before
+pub other_set : (node : ℕ) (c : Course) (devices : List State) (place : ℕ) (device new : State) (h : HasDevice node c devices) → slice_get devices place ≡ Some device → place ≢ h.place → (device.node ≡ node → IsIdle new) → new.node ≡ device.node
     → HasDevice node c (slice_set devices place new)
-other_set node c devices place device new h stood apart same = record {
+other_set node c devices place device new h stood away idle same = record {
   device = h.device;
   place = h.place;
   first = place_set node devices place device new stood same ∙ h.first;
-  stands = get_other devices place h.place new (λ e. apart (own (ap (λ (k : ℕ). slice_get devices k) (sym e) ∙ h.stands))) ∙ h.stands;
+  stands = get_other devices place h.place new (λ e. away (sym e)) ∙ h.stands;
   at = h.at;
-  alone = λ other one found is. let old = was_there devices place device new other one stood same found in h.alone other old.0 old.1.0 (old.1.1 ∙ is);
-  nodes = λ other one found. let old = was_there devices place device new other one stood same found in subst (λ (n : ℕ). n < 233) old.1.1 (h.nodes other old.0 old.1.0);
+  others = others_set node devices h.place place device new stood (λ own elsewhere. idle (sym same ∙ own)) h.others;
+  nodes = nodes_set devices place device new stood same h.nodes;
 }
-  where
-    own : slice_get devices place ≡ Some h.device → device.node ≡ node
-    own e = let is : Some device ≡ Some h.device = sym stood ∙ e in let same : device ≡ h.device = cc in ap (λ (d : State). d.node) same ∙ place_is node devices h.place h.device h.first h.stands
 
 -- the device of the node, and what the node's devices made
 pub record Stands (node : ℕ) (orders : List Asked) (c : Course) (devices : List State) : Type 0 where
@@ -227,7 +231,7 @@ stands_of node orders c mesh is = record { has = is.device; made = is.made }
 
 pub device_moves : (node : ℕ) (c later : Course) (devices : List State) → OnlyAir c later → HasDevice node c devices → HasDevice node later devices
 device_moves node c later devices only h =
-    record { device = h.device; place = h.place; first = h.first; stands = h.stands; at = device_stays c later h.device only h.at; alone = h.alone; nodes = h.nodes }
+    record { device = h.device; place = h.place; first = h.first; stands = h.stands; at = device_stays c later h.device only h.at; others = h.others; nodes = h.nodes }
 
 -- ---- an event of a device
 
@@ -268,10 +272,10 @@ ways_stay c = record { host = refl; sent = refl; up = refl; down = refl; told = 
 
 -- an event of a device of which the course may have heard before; where the device is another, the node's is as the course has it
 pub device_goes : Flying → ((device : State) (event : DeviceEvent) → IsSame device (device_after device event)) → (node : ℕ) (orders : List Asked) (old c : Course) (mesh : Mesh) (place of : ℕ) (device : State) (event : DeviceEvent)
-    (way : Option Route) (h : HasDevice node old mesh.devices) → Airs node orders c mesh.air → slice_get mesh.devices place ≡ Some device → of ≡ device.node → (device.node ≡ node → GoesAs c device event)
-    → (device.node ≢ node → AtDevice c h.device) → AllMake node orders c.host.commands mesh.devices → (device.node ≡ node → Makes orders c.host.commands (device_after device event))
+    (way : Option Route) (h : HasDevice node old mesh.devices) → Airs node orders c mesh.air → slice_get mesh.devices place ≡ Some device → of ≡ device.node → (device.node ≡ node → place ≡ h.place)
+    → (device.node ≡ node → GoesAs c device event) → (device.node ≢ node → AtDevice c h.device) → AllMake node orders c.host.commands mesh.devices → (device.node ≡ node → Makes orders c.host.commands (device_after device event))
     → MeshGoes node orders c (record { air = answered_if (is_joined mesh.air of) mesh.air of way (device_replies device event); devices = slice_set mesh.devices place (device_after device event) }) []
-device_goes flying same node orders old c mesh place of device event way h airs stood named own other made makes = by (device.node == node) refl
+device_goes flying same node orders old c mesh place of device event way h airs stood named there own other made makes = by (device.node == node) refl
   where
     within : of < 233
     within = subst (λ (n : ℕ). n < 233) (sym named) (h.nodes place device stood)
@@ -284,9 +288,8 @@ device_goes flying same node orders old c mesh place of device event way h airs 
     by true e =
         let mine : device.node ≡ node = eqb-true device.node node e in
         let g : GoesAs c device event = own mine in
-        let here : place ≡ h.place = h.alone place device stood mine in
-        let found : Some device ≡ Some h.device = sym stood ∙ (ap (λ (k : ℕ). slice_get mesh.devices k) here ∙ h.stands) in
-        let one : device ≡ h.device = cc in
+        let here : place ≡ h.place = there mine in
+        let one : device ≡ h.device = one_stands mesh.devices place h.place device h.device stood h.stands here in
         let between : Course = after_all c (finishes g.final) in
         let s : Sent node orders between (answered_if (is_joined mesh.air of) mesh.air of way (device_replies device event)) =
         replies_go_if flying node orders (is_joined mesh.air of) between mesh.air of way (device_replies device event) within
@@ -311,7 +314,7 @@ device_goes flying same node orders old c mesh place of device event way h airs 
         let apart : device.node ≢ node = grind (arith, e) in
         let s : Sent node orders c (answered_if (is_joined mesh.air of) mesh.air of way (device_replies device event)) =
         replies_go_if flying node orders (is_joined mesh.air of) c mesh.air of way (device_replies device event) within airs (λ mine. absurd (apart (sym named ∙ eqb-true of node mine))) in
-        let here : HasDevice node c mesh.devices = record { device = h.device; place = h.place; first = h.first; stands = h.stands; at = other apart; alone = h.alone; nodes = h.nodes } in
+        let here : HasDevice node c mesh.devices = record { device = h.device; place = h.place; first = h.first; stands = h.stands; at = other apart; others = h.others; nodes = h.nodes } in
         record {
           later = s.later;
           goes = s.goes;
@@ -320,7 +323,8 @@ device_goes flying same node orders old c mesh place of device event way h airs 
             flights = s.airs.flights;
             on_air = s.airs.on_air;
             device = device_moves node c s.later (slice_set mesh.devices place (device_after device event)) s.only
-                (other_set node c mesh.devices place device (device_after device event) here stood apart (same device event).node);
+                (other_set node c mesh.devices place device (device_after device event) here stood (stands_elsewhere node mesh.devices place h.place device h.device stood apart h.first h.stands)
+                (λ own. absurd (apart own)) (same device event).node);
             made = subst (λ (b : HostBook). AllMake node orders b.commands (slice_set mesh.devices place (device_after device event))) (sym s.only.host) now_made;
           };
           marks = [];
@@ -328,8 +332,67 @@ device_goes flying same node orders old c mesh place of device event way h airs 
           adds = nothing_added c c s.later (ways_stay c) s.only;
         }
 
+-- the first device of a node has an event of its own
 pub own_goes : Flying → ((device : State) (event : DeviceEvent) → IsSame device (device_after device event)) → (node : ℕ) (orders : List Asked) (c : Course) (mesh : Mesh) (place : ℕ) (device : State) (event : DeviceEvent) (way : Option Route)
-    → InMesh node orders c mesh → slice_get mesh.devices place ≡ Some device → (device.node ≡ node → GoesAs c device event) → (device.node ≡ node → Makes orders c.host.commands (device_after device event))
+    → InMesh node orders c mesh → slice_get mesh.devices place ≡ Some device → place_of device.node mesh.devices ≡ Some place → (device.node ≡ node → GoesAs c device event) → (device.node ≡ node → Makes orders c.host.commands (device_after device event))
     → MeshGoes node orders c (record { air = answered_if (is_joined mesh.air device.node) mesh.air device.node way (device_replies device event); devices = slice_set mesh.devices place (device_after device event) }) []
-own_goes flying same node orders c mesh place device event way is stood own makes =
-    device_goes flying same node orders c c mesh place device.node device event way is.device (airs_of node orders c mesh is) stood refl own (λ apart. is.device.at) is.made makes
+own_goes flying same node orders c mesh place device event way is stood first own makes =
+    device_goes flying same node orders c c mesh place device.node device event way is.device (airs_of node orders c mesh is) stood refl
+    (λ own. one_place node mesh.devices place is.device.place (ap (λ (n : ℕ). place_of n mesh.devices) (sym own) ∙ first) is.device.first) own (λ apart. is.device.at) is.made makes
+
+-- ---- a tick
+
+-- nothing is said, whether or not the device has joined
+pub silence : (joined : Bool) (air : AirState) (of : ℕ) (way : Option Route) (replies : List (List ℕ)) → replies ≡ [] → answered_if joined air of way replies ≡ air
+silence true air of way replies none = ap (λ (rs : List (List ℕ)). answered air of way rs) none
+silence false air of way replies none = refl
+
+-- the laws that are used
+pub record TickLaws : Type 0 where
+  pub flying : Flying
+  pub same : (device : State) (event : DeviceEvent) → IsSame device (device_after device event)
+  pub ticks : (c : Course) (device : State) (drawn : List ℕ) → AtDevice c device → GoesAs c device (Ticks drawn)
+  pub keeps : (orders : List Asked) (commands : List ℕ) (device : State) (event : DeviceEvent) → HearsNone event → Makes orders commands device → Makes orders commands (device_after device event)
+  pub idle : (device : State) (drawn : List ℕ) → IsIdle device → IsIdle (device_after device (Ticks drawn)) × (device_replies device (Ticks drawn) ≡ [])
+
+-- a tick of the device of the node, of one of another node, or of an idle one of the node
+module _ (laws : TickLaws) (node : ℕ) (orders : List Asked) (c : Course) (mesh : Mesh) (place : ℕ) (device : State) (drawn : List ℕ) (way : Option Route) (is : InMesh node orders c mesh) (stood : slice_get mesh.devices place ≡ Some device) where
+  abbrev new : State
+  new = device_after device (Ticks drawn)
+
+  abbrev now : Mesh
+  now = record { air = answered_if (is_joined mesh.air device.node) mesh.air device.node way (device_replies device (Ticks drawn)); devices = slice_set mesh.devices place new }
+
+  idle_goes : place ≢ is.device.place → IsIdle new × (device_replies device (Ticks drawn) ≡ []) → MeshGoes node orders c now []
+  idle_goes away (idle, none) =
+      subst (λ (air : AirState). MeshGoes node orders c (record { air = air; devices = slice_set mesh.devices place new }) [])
+      (sym (silence (is_joined mesh.air device.node) mesh.air device.node way (device_replies device (Ticks drawn)) none))
+      (record {
+        later = c;
+        goes = goes_nowhere c;
+        in_mesh = record {
+          log = is.log;
+          flights = is.flights;
+          on_air = is.on_air;
+          device = other_set node c mesh.devices place device new is.device stood away (λ own. idle) (laws.same device (Ticks drawn)).node;
+          made = all_make_set node orders c.host.commands mesh.devices place device new stood (laws.same device (Ticks drawn)).node (λ own. idle_makes orders c.host.commands new idle) is.made;
+        };
+        marks = [];
+        brings = tt;
+        adds = nothing_added c c c (ways_stay c) (same_all c);
+      })
+
+  goes_as : (device.node ≡ node → place ≡ is.device.place) → MeshGoes node orders c now []
+  goes_as there =
+      device_goes laws.flying laws.same node orders c c mesh place device.node device (Ticks drawn) way is.device (airs_of node orders c mesh is) stood refl there
+      (λ own. laws.ticks c device drawn
+      (subst (λ (d : State). AtDevice c d) (sym (one_stands mesh.devices place is.device.place device is.device.device stood is.device.stands (there own))) is.device.at))
+      (λ apart. is.device.at) is.made (λ own. laws.keeps orders c.host.commands device (Ticks drawn) tt (is.made place device stood own))
+
+  pub ticks_go : MeshGoes node orders c now []
+  ticks_go = by (place == is.device.place) (device.node == node) refl refl
+    where
+      by : (here mine : Bool) → (place == is.device.place) ≡ here → (device.node == node) ≡ mine → MeshGoes node orders c now []
+      by true mine e own = goes_as (λ same. eqb-true place is.device.place e)
+      by false false e own = goes_as (λ same. absurd (grind (arith, own, same)))
+      by false true e own = let away : place ≢ is.device.place = grind (arith, e) in idle_goes away (laws.idle device drawn (is.device.others place device stood (eqb-true device.node node own) away))

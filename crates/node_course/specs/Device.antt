@@ -1,8 +1,9 @@
 -- The device of a node in the course of its sessions (this project's own rule).
-use Rattle.std.specs.Prelude.{◌≡◌, ◌⊎◌, ℕ, ◌<◌, Bool, true, List, [], ◌∷◌, Option, Some, None}
+use Rattle.std.specs.Prelude.{◌≡◌, ◌≢◌, ◌⊎◌, ℕ, ◌<◌, Bool, true, List, [], ◌∷◌, Option, Some, None, slice_get}
 use Rattle.std.specs.List.{AllByRecursion}
 use Rattle.supervision.specs.Device.{Taken}
 use Rattle.courses.specs.Sessions.{Course, Cargo, Command, Of_host, Answer, Of_node, Step, Finishes, hears, after_all, MayAll}
+use Rattle.transport_segments.specs.Kept.{Empty}
 use Rattle.device_sim.specs.State.{State}
 use Rattle.device_sim.specs.Event.{DeviceEvent, device_after, device_replies}
 use Rattle.device_course.specs.Ending.{HasEnded}
@@ -18,6 +19,20 @@ pub record AtDevice (c : Course) (device : State) : Type 0 where
   pub ended : HasEnded device c.ends
   pub can : CanSay device
   pub is_open : takes_openly device.kind ≡ true
+
+-- ---- the other devices of the node
+
+-- a device that is at no work, made no change and keeps no segments
+pub record IsIdle (device : State) : Type 0 where
+  pub no_work : device.work_left ≡ 0
+  pub no_change : device.journal ≡ []
+  pub no_segments : device.reassembly ≡ Empty
+
+-- each device of the node but the one at this place is idle
+abbrev pub OthersAreIdle : ℕ → List State → ℕ → Type 0
+OthersAreIdle node devices place = (other : ℕ) (one : State) → slice_get devices other ≡ Some one → one.node ≡ node → other ≢ place → IsIdle one
+
+-- ---- what the device does
 
 -- the commands of its last session come to their end now, or they do not
 abbrev pub finishes : Option ℕ → List Step

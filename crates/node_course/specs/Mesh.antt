@@ -14,16 +14,16 @@ use Rattle.node_course.specs.Ways.{Beside, Goes}
 use Rattle.node_course.specs.Meaning.{Asked, NodeMeans}
 use Rattle.node_course.specs.Air.{OnAir}
 use Rattle.node_course.specs.Making.{AllMake}
-use Rattle.node_course.specs.Device.{AtDevice}
+use Rattle.node_course.specs.Device.{AtDevice, OthersAreIdle}
 
--- the device of a node is the only one of that node in the list, and is as the course has it; each device is of a node that has a place in the tables
+-- the device of a node is the first one of that node in the list, and is as the course has it; the others of the node are idle; each device is of a node that has a place in the tables
 pub record HasDevice (node : ℕ) (c : Course) (devices : List State) : Type 0 where
   pub device : State
   pub place : ℕ
   pub first : place_of node devices ≡ Some place
   pub stands : slice_get devices place ≡ Some device
   pub at : AtDevice c device
-  pub alone : (other : ℕ) (one : State) → slice_get devices other ≡ Some one → one.node ≡ node → other ≡ place
+  pub others : OthersAreIdle node devices place
   pub nodes : (other : ℕ) (one : State) → slice_get devices other ≡ Some one → one.node < 233
 
 -- so with the frames on the air; and the sessions of the node's devices made what their commands ask for

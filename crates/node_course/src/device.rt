@@ -1,14 +1,14 @@
 //! The device of a node, in the course of its sessions.
 
-ghost use Rattle.std.specs.Prelude.{◌≡◌, ℕ, true, false, List};
+ghost use Rattle.std.specs.Prelude.{◌≡◌, ℕ, true, false, List, []};
 ghost use Rattle.courses.specs.Sessions.{Course, Cargo, first_course};
 ghost use Rattle.device_stack.specs.declared.kind.Kind.{Kind};
 ghost use Rattle.device_sim.specs.State.{State, fresh};
-ghost use Rattle.device_sim.specs.Event.{DeviceEvent, Hears, Ticks, Wakes, Sets, device_after};
+ghost use Rattle.device_sim.specs.Event.{DeviceEvent, Hears, Ticks, Wakes, Sets, device_after, device_replies};
 ghost use Rattle.message_facts.specs.Asking.{takes_openly};
 ghost use Rattle.node_course.specs.Meaning.{Asked, HostMeans};
 ghost use Rattle.node_course.specs.Making.{Makes, Names, HearsNone};
-ghost use Rattle.node_course.specs.Device.{AtDevice, GoesAs, HearsAs};
+ghost use Rattle.node_course.specs.Device.{AtDevice, IsIdle, GoesAs, HearsAs};
 
 use device_course::devices_end_sessions;
 use device_facts::devices_stay_the_same;
@@ -40,3 +40,9 @@ pub fn devices_follow_the_course()
     reports_tell();
     segments_tell();
 }
+
+/// A device is idle as its maker left it; at a tick an idle one stays so, and says nothing.
+pub fn idle_devices_stay_idle()
+    ensures fresh { (node : ℕ) (kind : Kind) (key : List ℕ) → IsIdle (fresh node kind key) }
+    ensures ticks { (device : State) (drawn : List ℕ) → IsIdle device → IsIdle (device_after device (Ticks drawn)) × (device_replies device (Ticks drawn) ≡ []) }
+{}

@@ -17,7 +17,7 @@ mod ways;
 mod world;
 
 pub use air::frames_follow_the_course;
-pub use device::devices_follow_the_course;
+pub use device::{devices_follow_the_course, idle_devices_stay_idle};
 pub use host::hosts_follow_the_course;
 pub use lines::chips_carry_reports;
 pub use mesh::arrivals_follow_the_course;

@@ -61,7 +61,9 @@ pub fn lines_ask_plainly()
     others_are_no_messages();
 }
 
-/// So over any lines from the first on, the last of which want of memory may have cut short, however often the host starts again: for a node whose commands go unsealed, whole or in segments, and whose device is the only one of it and takes what is not sealed, there is a course of its sessions, from the first. The sessions of the
+/// So over any lines from the first on, the last of which want of memory may have cut short, however often the host starts again: for
+/// a node whose commands go unsealed, whole or in segments, and whose device, the first of it in the list, takes what is not sealed while others of the node are idle,
+/// there is a course of its sessions, from the first. The sessions of the
 /// host are the course's, and so are those of the device, with the statuses to which it came; what the device applied by sessions is a part of the commands of the sessions that began, in order, each once; and each session of which the host was told success is
 /// among them. The command of each session of which the host was told has the outcome of the status that was told, and each change
 /// of the device by a session has exactly the settings that the host's table of commands says the session's command asks for. It is enough that the

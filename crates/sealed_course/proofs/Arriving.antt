@@ -23,21 +23,24 @@ use Rattle.air_frames.specs.Ages.{refusal_of}
 use Rattle.air_frames.specs.History.{Mark}
 use Rattle.air_flights.specs.Flights.{Fly as FlyInOrder}
 use Rattle.device_sim.specs.State.{State}
-use Rattle.device_sim.specs.Event.{DeviceEvent, Hears as hears_event, device_after, device_replies}
+use Rattle.device_sim.specs.Event.{DeviceEvent, Hears as hears_event, Ticks, device_after, device_replies}
 use Rattle.mesh_sim.specs.declared.event.AirEvent.{AirEvent}
 use Rattle.mesh_sim.specs.declared.event.AirEvent.TheVariants.{Lost, Unheard, Done}
 use Rattle.mesh_sim.specs.declared.fate.Fate.{Fate}
 use Rattle.mesh_sim.specs.declared.fate.Fate.TheVariants as fate
 use Rattle.mesh_sim.specs.Routes.{backwards}
 use Rattle.mesh_sim.specs.Air.{AirState, is_joined}
-use Rattle.mesh_sim.specs.Fates.{Mesh, listener_of, fate_of, dead_hop_of}
+use Rattle.mesh_sim.specs.Fates.{Mesh, place_of, listener_of, fate_of, dead_hop_of}
 use Rattle.mesh_sim.specs.Steps.{Arrives, Repeats, landed as air_landed, acknowledged, status_of, done_of, answered_if, outs_hearing, heard_at, outs_at, arriving_as, arrival_outs_as, heard_again, outs_again, repeating_by, repeating, repeat_outs_by, repeat_outs, mesh_after, mesh_outs, MayHappen}
 use Rattle.device_facts.specs.GoingOn.{IsSame}
 use Rattle.device_facts.proofs.Telling.{place_is, listener_is, fate_listens}
 use Rattle.node_course.specs.Meaning.{Asked}
 use Rattle.node_course.specs.Making.{Makes, Names, HearsNone}
+use Rattle.node_course.specs.Device.{IsIdle}
 use Rattle.node_course.specs.Mesh.{brought_by, brought}
 use Rattle.node_course.proofs.Making.{all_make_set}
+use Rattle.node_course.proofs.Idle.{idle_makes}
+use Rattle.node_course.proofs.Replies.{one_place, one_stands, stands_elsewhere, silence}
 use Rattle.node_course.specs.Ways.{Goes}
 use Rattle.node_course.proofs.Thinning.{goes_once}
 use Rattle.node_course.proofs.Arriving.{brought-append, hearing_brings, done_brings, home_by, out_by}
@@ -63,6 +66,7 @@ pub record Laws : Type 0 where
       → NamesNonce c held → Makes past.orders past.commands device → Makes past.orders past.commands (device_after device (hears_event payload drawn))
   pub other : (past : Past) (c : Courses) (device : State) (event : DeviceEvent) → AtLock past c device → HearsNone event → AtLock past c (device_after device event) × (device_replies device event ≡ [])
   pub keeps : (orders : List Asked) (commands : List ℕ) (device : State) (event : DeviceEvent) → HearsNone event → Makes orders commands device → Makes orders commands (device_after device event)
+  pub idle : (device : State) (drawn : List ℕ) → IsIdle device → IsIdle (device_after device (Ticks drawn)) × (device_replies device (Ticks drawn) ≡ [])
   pub landing_names : (c : Course) (message : Message) (begun : ℕ) (later : List (Flight SessionCargo)) → CourseFacts c → c.air ≡ record { cargo = Command message; since = begun } ∷ later → NamesOne c.device message
   pub repeated_names : (c : Course) (message : Message) (begun at : ℕ) → CourseFacts c → slice_get c.old at ≡ Some (record { cargo = Command message; since = begun }) → IsFresh (begun_of c.host) begun message.is_segment
       → NamesOne c.device message
@@ -80,22 +84,10 @@ pub record Laws : Type 0 where
 airs_of : (past : Past) (node : ℕ) (c : Courses) (mesh : Mesh) → InMesh past node c mesh → Airs past node c mesh.air
 airs_of past node c mesh is = record { log = is.log; flights = is.flights; on_air = is.on_air }
 
--- nothing is said, whether or not the device has joined
-silence : (joined : Bool) (air : AirState) (of : ℕ) (way : Option Route) → answered_if joined air of way [] ≡ air
-silence true air of way = refl
-silence false air of way = refl
-
 -- a lock that has not joined gave no nonce
 unjoined : (given : ℕ) (joined : Bool) → (0 < given → joined ≡ true) → joined ≡ false → given ≡ 0
 unjoined zero joined some e = refl
 unjoined (suc before) joined some e = absurd (let on = some (omega arith) in grind (arith, e, on))
-
--- the device of the node is the lock
-is_lock : (past : Past) (node : ℕ) (c : Courses) (devices : List State) (place : ℕ) (device : State) (h : HasLock past node c devices) → slice_get devices place ≡ Some device → device.node ≡ node → (place ≡ h.place) × (device ≡ h.device)
-is_lock past node c devices place device h stood mine =
-    let here : place ≡ h.place = h.alone place device stood mine in
-    let found : Some device ≡ Some h.device = sym stood ∙ (ap (λ (k : ℕ). slice_get devices k) here ∙ h.stands) in
-    (here, let one : device ≡ h.device = cc in one)
 
 module _ (laws : Laws) (past : Past) (node : ℕ) where
   -- ---- by nobody
@@ -133,7 +125,8 @@ module _ (laws : Laws) (past : Past) (node : ℕ) where
           flights = s.airs.flights;
           on_air = s.airs.on_air;
           device = has_stays past past node before s.later (slice_set mesh.devices place (device_after device event)) refl refl s.lock
-              (other_set past node before mesh.devices place device (device_after device event) is.device stood apart (laws.same device event).node);
+              (other_set past node before mesh.devices place device (device_after device event) is.device stood
+              (stands_elsewhere node mesh.devices place is.device.place device is.device.device stood apart is.device.first is.device.stands) (λ mine. absurd (apart mine)) (laws.same device event).node);
           made = all_make_set node past.orders past.commands mesh.devices place device (device_after device event) stood (laws.same device event).node (λ mine. absurd (apart mine)) is.made;
           joined = λ some. joined_stays (is_joined mesh.air device.node) mesh.air device.node way (device_replies device event) node ∙ is.joined (subst (λ (n : ℕ). 0 < n) s.lock.given some);
         };
@@ -146,18 +139,21 @@ module _ (laws : Laws) (past : Past) (node : ℕ) where
 
   -- the lock of the node hears a payload of the host
   lock_hears : (c before : Courses) (mesh : Mesh) (since : ℕ) (held : Held) (place : ℕ) (device : State) (payload drawn : List ℕ) (way : Option Route) → node < 233 → length drawn ≡ 8 → Hears c before since held → SameWays c before
-      → InMesh past node before mesh → NodeFacts before.node → slice_get mesh.devices place ≡ Some device → device.node ≡ node → HostMeans past node payload held → Names before.sessions.device (as_session held) → NamesNonce before held
+      → InMesh past node before mesh → NodeFacts before.node → slice_get mesh.devices place ≡ Some device → place_of node mesh.devices ≡ Some place → device.node ≡ node → HostMeans past node payload held → Names before.sessions.device (as_session held) → NamesNonce before held
       → MeshGoes past node c (record { air = answered_if (is_joined mesh.air node) mesh.air node way (device_replies device (hears_event payload drawn)); devices = slice_set mesh.devices place (device_after device (hears_event payload drawn)) }) []
-  lock_hears c before mesh since held place device payload drawn way within eight hears ways is facts stood mine means names nonces = by (is_joined mesh.air node) refl
+  lock_hears c before mesh since held place device payload drawn way within eight hears ways is facts stood first mine means names nonces = by (is_joined mesh.air node) refl
     where
       event : DeviceEvent
       event = hears_event payload drawn
 
-      it : (place ≡ is.device.place) × (device ≡ is.device.device)
-      it = is_lock past node before mesh.devices place device is.device stood mine
+      here : place ≡ is.device.place
+      here = one_place node mesh.devices place is.device.place first is.device.first
+
+      one : device ≡ is.device.device
+      one = one_stands mesh.devices place is.device.place device is.device.device stood is.device.stands here
 
       at : AtLock past before device
-      at = subst (λ (d : State). AtLock past before d) (sym it.1) is.device.at
+      at = subst (λ (d : State). AtLock past before d) (sym one) is.device.at
 
       by : (joined : Bool) → is_joined mesh.air node ≡ joined → MeshGoes past node c (record { air = answered_if joined mesh.air node way (device_replies device event); devices = slice_set mesh.devices place (device_after device event) }) []
       by joined e =
@@ -177,8 +173,8 @@ module _ (laws : Laws) (past : Past) (node : ℕ) where
               log = a.airs.log;
               flights = a.airs.flights;
               on_air = a.airs.on_air;
-              device = subst (λ (k : ℕ). HasLock later_past node a.later (slice_set mesh.devices k (device_after device event))) (sym it.0)
-                  (own_set past later_past node before a.later mesh.devices (device_after device event) is.device ((laws.same device event).node ∙ ap (λ (d : State). d.node) it.1)
+              device = subst (λ (k : ℕ). HasLock later_past node a.later (slice_set mesh.devices k (device_after device event))) (sym here)
+                  (own_set past later_past node before a.later mesh.devices (device_after device event) is.device ((laws.same device event).node ∙ ap (λ (d : State). d.node) one)
                   (lock_stays later_past later_past heard a.later (device_after device event) refl refl a.lock g.at));
               made = all_make_set node past.orders past.commands mesh.devices place device (device_after device event) stood (laws.same device event).node
                   (λ own. laws.makes past node before device held payload drawn at mine means names nonces (is.made place device stood mine)) is.made;
@@ -204,44 +200,79 @@ module _ (laws : Laws) (past : Past) (node : ℕ) where
       event : DeviceEvent
       event = hears_event frame.payload drawn
 
+      first : place_of frame.node mesh.devices ≡ Some place
+      first = listener_is frame.node mesh.devices place listens
+
       named : device.node ≡ frame.node
-      named = place_is frame.node mesh.devices place device (listener_is frame.node mesh.devices place listens) stood
+      named = place_is frame.node mesh.devices place device first stood
 
       by : (b : Bool) → (frame.node == node) ≡ b → MeansBy Outward b past node frame.payload held → MeshGoes past node c (heard_at mesh place (Some device) frame.node route event) []
       by true e means =
           let own : frame.node ≡ node = eqb-true frame.node node e in
           subst (λ (of : ℕ). MeshGoes past node c (record { air = answered_if (is_joined mesh.air of) mesh.air of (option_map backwards route) (device_replies device event); devices = slice_set mesh.devices place (device_after device event) }) [])
-          (sym own) (lock_hears c before mesh since held place device frame.payload drawn (option_map backwards route) within eight hears ways is facts stood (named ∙ own) means names nonces)
+          (sym own) (lock_hears c before mesh since held place device frame.payload drawn (option_map backwards route) within eight hears ways is facts stood
+          (ap (λ (n : ℕ). place_of n mesh.devices) (sym own) ∙ first) (named ∙ own) means names nonces)
       by false e other =
           let apart : device.node ≢ node = λ mine. let bad : (frame.node == node) ≡ false = e in let same : frame.node ≡ node = sym named ∙ mine in grind (arith, bad, same) in
           subst (λ (of : ℕ). MeshGoes past node c (record { air = answered_if (is_joined mesh.air of) mesh.air of (option_map backwards route) (device_replies device event); devices = slice_set mesh.devices place (device_after device event) }) [])
           named (other_goes c before mesh place device event (option_map backwards route) hears.still ways is stood apart)
 
-  -- a device has an event at which it hears nothing
-  pub own_goes : (c : Courses) (mesh : Mesh) (place : ℕ) (device : State) (event : DeviceEvent) (way : Option Route) → InMesh past node c mesh → slice_get mesh.devices place ≡ Some device → HearsNone event
-      → MeshGoes past node c (record { air = answered_if (is_joined mesh.air device.node) mesh.air device.node way (device_replies device event); devices = slice_set mesh.devices place (device_after device event) }) []
-  own_goes c mesh place device event way is stood none = by (device.node == node) refl
+  -- the mesh where a device has an event of its own
+  abbrev after_own : Mesh → ℕ → State → DeviceEvent → Option Route → Mesh
+  after_own mesh place device event way =
+      record { air = answered_if (is_joined mesh.air device.node) mesh.air device.node way (device_replies device event); devices = slice_set mesh.devices place (device_after device event) }
+
+  -- nothing is said then, and the lock, its place and the other devices are as they must be
+  silent_goes : (c : Courses) (mesh : Mesh) (place : ℕ) (device : State) (event : DeviceEvent) (way : Option Route) → InMesh past node c mesh → slice_get mesh.devices place ≡ Some device → device_replies device event ≡ []
+      → HasLock past node c (slice_set mesh.devices place (device_after device event)) → (device.node ≡ node → Makes past.orders past.commands (device_after device event)) → MeshGoes past node c (after_own mesh place device event way) []
+  silent_goes c mesh place device event way is stood none has makes =
+      subst (λ (air : AirState). MeshGoes past node c (record { air = air; devices = slice_set mesh.devices place (device_after device event) }) [])
+      (sym (silence (is_joined mesh.air device.node) mesh.air device.node way (device_replies device event) none))
+      (unheard c c (record { air = mesh.air; devices = slice_set mesh.devices place (device_after device event) }) (goes_nowhere c) (ways_same c) (record {
+        log = is.log;
+        flights = is.flights;
+        on_air = is.on_air;
+        device = has;
+        made = all_make_set node past.orders past.commands mesh.devices place device (device_after device event) stood (laws.same device event).node makes is.made;
+        joined = is.joined;
+      }))
+
+  -- the lock has an event at which it hears nothing
+  lock_goes : (c : Courses) (mesh : Mesh) (place : ℕ) (device : State) (event : DeviceEvent) (way : Option Route) (is : InMesh past node c mesh) → slice_get mesh.devices place ≡ Some device → HearsNone event → device.node ≡ node
+      → place ≡ is.device.place → MeshGoes past node c (after_own mesh place device event way) []
+  lock_goes c mesh place device event way is stood none mine here =
+      let one : device ≡ is.device.device = one_stands mesh.devices place is.device.place device is.device.device stood is.device.stands here in
+      let now = laws.other past c device event (subst (λ (d : State). AtLock past c d) (sym one) is.device.at) none in
+      silent_goes c mesh place device event way is stood now.1
+      (subst (λ (k : ℕ). HasLock past node c (slice_set mesh.devices k (device_after device event))) (sym here)
+      (own_set past past node c c mesh.devices (device_after device event) is.device ((laws.same device event).node ∙ ap (λ (d : State). d.node) one) now.0))
+      (λ own. laws.keeps past.orders past.commands device event none (is.made place device stood mine))
+
+  -- the first device of a node has an event at which it hears nothing
+  pub own_goes : (c : Courses) (mesh : Mesh) (place : ℕ) (device : State) (event : DeviceEvent) (way : Option Route) → InMesh past node c mesh → slice_get mesh.devices place ≡ Some device → place_of device.node mesh.devices ≡ Some place
+      → HearsNone event → MeshGoes past node c (after_own mesh place device event way) []
+  own_goes c mesh place device event way is stood first none = by (device.node == node) refl
     where
-      by : (b : Bool) → (device.node == node) ≡ b
-          → MeshGoes past node c (record { air = answered_if (is_joined mesh.air device.node) mesh.air device.node way (device_replies device event); devices = slice_set mesh.devices place (device_after device event) }) []
+      by : (b : Bool) → (device.node == node) ≡ b → MeshGoes past node c (after_own mesh place device event way) []
       by false e = other_goes c c mesh place device event way (goes_nowhere c) (ways_same c) is stood (grind (arith, e))
       by true e =
           let mine : device.node ≡ node = eqb-true device.node node e in
-          let it = is_lock past node c mesh.devices place device is.device stood mine in
-          let now = laws.other past c device event (subst (λ (d : State). AtLock past c d) (sym it.1) is.device.at) none in
-          let silent : answered_if (is_joined mesh.air device.node) mesh.air device.node way (device_replies device event) ≡ mesh.air =
-          ap (λ (rs : List (List ℕ)). answered_if (is_joined mesh.air device.node) mesh.air device.node way rs) now.1 ∙ silence (is_joined mesh.air device.node) mesh.air device.node way in
-          subst (λ (air : AirState). MeshGoes past node c (record { air = air; devices = slice_set mesh.devices place (device_after device event) }) []) (sym silent)
-          (unheard c c (record { air = mesh.air; devices = slice_set mesh.devices place (device_after device event) }) (goes_nowhere c) (ways_same c) (record {
-            log = is.log;
-            flights = is.flights;
-            on_air = is.on_air;
-            device = subst (λ (k : ℕ). HasLock past node c (slice_set mesh.devices k (device_after device event))) (sym it.0)
-                (own_set past past node c c mesh.devices (device_after device event) is.device ((laws.same device event).node ∙ ap (λ (d : State). d.node) it.1) now.0);
-            made = all_make_set node past.orders past.commands mesh.devices place device (device_after device event) stood (laws.same device event).node
-                (λ own. laws.keeps past.orders past.commands device event none (is.made place device stood mine)) is.made;
-            joined = is.joined;
-          }))
+          lock_goes c mesh place device event way is stood none mine (one_place node mesh.devices place is.device.place (ap (λ (n : ℕ). place_of n mesh.devices) (sym mine) ∙ first) is.device.first)
+
+  -- a tick: of the lock, of a device of another node, or of an idle one of the node
+  pub ticks_go : (c : Courses) (mesh : Mesh) (place : ℕ) (device : State) (drawn : List ℕ) (way : Option Route) → InMesh past node c mesh → slice_get mesh.devices place ≡ Some device
+      → MeshGoes past node c (after_own mesh place device (Ticks drawn) way) []
+  ticks_go c mesh place device drawn way is stood = by (device.node == node) (place == is.device.place) refl refl
+    where
+      by : (b here : Bool) → (device.node == node) ≡ b → (place == is.device.place) ≡ here → MeshGoes past node c (after_own mesh place device (Ticks drawn) way) []
+      by false here own e = other_goes c c mesh place device (Ticks drawn) way (goes_nowhere c) (ways_same c) is stood (grind (arith, own))
+      by true true own e = lock_goes c mesh place device (Ticks drawn) way is stood tt (eqb-true device.node node own) (eqb-true place is.device.place e)
+      by true false own e =
+          let away : place ≢ is.device.place = grind (arith, e) in
+          let now = laws.idle device drawn (is.device.others place device stood (eqb-true device.node node own) away) in
+          silent_goes c mesh place device (Ticks drawn) way is stood now.1
+          (other_set past node c mesh.devices place device (device_after device (Ticks drawn)) is.device stood away (λ mine. now.0) (laws.same device (Ticks drawn)).node)
+          (λ mine. idle_makes past.orders past.commands (device_after device (Ticks drawn)) now.0)
 
   -- ---- by the chip
 

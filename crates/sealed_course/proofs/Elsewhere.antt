@@ -95,7 +95,7 @@ lock_stays past later c now device keys given same at = record {
 
 pub has_stays : (past later : Past) (node : ℕ) (c now : Courses) (devices : List State) → later.keys ≡ past.keys → later.given ≡ past.given → SameLock c now → HasLock past node c devices → HasLock later node now devices
 has_stays past later node c now devices keys given same h =
-    record { device = h.device; place = h.place; first = h.first; stands = h.stands; at = lock_stays past later c now h.device keys given same h.at; alone = h.alone; nodes = h.nodes }
+    record { device = h.device; place = h.place; first = h.first; stands = h.stands; at = lock_stays past later c now h.device keys given same h.at; others = h.others; nodes = h.nodes }
 
 make_more : (past later : Past) (node : ℕ) (devices : List State) → Grows past later → AllMake node past.orders past.commands devices → AllMake node later.orders later.commands devices
 make_more past later node devices grows made =

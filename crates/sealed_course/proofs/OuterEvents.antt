@@ -1,7 +1,8 @@
 -- Each event outside the host, in the courses of a lock.
-use Rattle.std.proofs.Common.{◌≡◌, ℕ, zero, suc, ◌<◌, Bool, true, false, Option, Some, None, List, [], ◌∷◌, ◌++◌, refl, ap, sym, ◌∙◌, subst, append-nil, arith}
+use Rattle.std.proofs.Common.{◌≡◌, ℕ, zero, suc, ◌<◌, ◌==◌, Bool, true, false, Option, Some, None, List, [], ◌∷◌, ◌++◌, refl, ap, sym, ◌∙◌, subst, append-nil, arith}
 use Rattle.std.specs.Prelude.{slice_get, slice_set, slice_index_or}
 use Rattle.std.specs.Option.{option_map, option_to_list}
+use Rattle.std.proofs.lemmas.Bool.{eqb-true}
 use Rattle.serial_frame.specs.Stream.{Rest, no_rest, after_tick}
 use Rattle.serial_frame.specs.declared.item.Item.{Item}
 use Rattle.serial_link.specs.declared.turn.Turn.{Turn}
@@ -35,12 +36,15 @@ use Rattle.outer_events.specs.Events.{OuterEvent, Begins_line, Begins_tick, Host
 use Rattle.world_traffic.specs.OnAir.{OuterStaysFew}
 use Rattle.line_facts.specs.Way.{Carries}
 use Rattle.line_facts.proofs.Ways.{carries_none}
+use Rattle.device_facts.proofs.Telling.{place_is}
 use Rattle.node_course.specs.Ways.{Thinned}
 use Rattle.node_course.specs.Making.{Makes, AllMake, HearsNone}
 use Rattle.node_course.specs.Mesh.{labels, brought}
 use Rattle.node_course.specs.Outside.{SideRests, Rests}
 use Rattle.node_course.proofs.Moving.{thinned_same, thinned_behind, labels-append}
 use Rattle.node_course.proofs.Making.{first_makes}
+use Rattle.node_course.proofs.Idle.{idle_makes}
+use Rattle.node_course.proofs.Replies.{one_stands}
 use Rattle.node_course.proofs.ChipTelling.{ChipTells, tells_still, tells_one, deals_tell, gives_tells, joins_tell, discovers_tell, collides_tell}
 use Rattle.supervision.specs.Device.{Taken}
 use Rattle.s0_crypto.specs.declared.key_pair.Keys.{Keys}
@@ -62,8 +66,10 @@ pub record Laws : Type 0 where
       → MeshGoes past node c (mesh_after m (mesh.Arrives drawn route)) (brought (mesh_outs m (mesh.Arrives drawn route)))
   pub repeats : (past : Past) (node : ℕ) (c : Courses) (m : Mesh) (number : ℕ) (drawn : List ℕ) (route : Option Route) → node < 233 → CoursesFacts c → InMesh past node c m → refusal_of m.air.frames number ≡ None
       → MayHappen m (mesh.Repeats number drawn route) → MeshGoes past node c (mesh_after m (mesh.Repeats number drawn route)) (brought (mesh_outs m (mesh.Repeats number drawn route)))
-  pub own : (past : Past) (node : ℕ) (c : Courses) (m : Mesh) (place : ℕ) (device : State) (event : DeviceEvent) (found : Option Route) → InMesh past node c m → slice_get m.devices place ≡ Some device → HearsNone event
+  pub own : (past : Past) (node : ℕ) (c : Courses) (m : Mesh) (place : ℕ) (device : State) (event : DeviceEvent) (found : Option Route) → InMesh past node c m → slice_get m.devices place ≡ Some device → place_of device.node m.devices ≡ Some place → HearsNone event
       → MeshGoes past node c (record { air = answered_if (is_joined m.air device.node) m.air device.node found (device_replies device event); devices = slice_set m.devices place (device_after device event) }) []
+  pub ticks : (past : Past) (node : ℕ) (c : Courses) (m : Mesh) (place : ℕ) (device : State) (drawn : List ℕ) (found : Option Route) → InMesh past node c m → slice_get m.devices place ≡ Some device
+      → MeshGoes past node c (record { air = answered_if (is_joined m.air device.node) m.air device.node found (device_replies device (Ticks drawn)); devices = slice_set m.devices place (device_after device (Ticks drawn)) }) []
 
 -- who is joined stays so
 joined_more : (joined : List Bool) (n node : ℕ) → slice_index_or joined node false ≡ true → slice_index_or (slice_set joined n true) node false ≡ true
@@ -119,18 +125,26 @@ module _ (laws : Laws) (past : Past) (node : ℕ) (c : Courses) (text : Option �
       mesh_goes w (mesh_after (mesh_of w) (mesh.Repeats number drawn route)) (mesh_outs (mesh_of w) (mesh.Repeats number drawn route)) f (laws.repeats past node c (mesh_of w) number drawn route within course f.mesh is may)
   repeats_go w (Some refused) number drawn route within course f is may = still w w.outer f refl refl refl refl refl
 
-  -- an event of a device
-  acts_go : (w : Outside) (place : ℕ) (found : Option State) (event : DeviceEvent) (route : Option Route) → HearsNone event → Follows past node c text tasks rest turn up down w → slice_get w.devices place ≡ found
-      → OuterGoes past node c text tasks rest turn (outside (acts_at w.outer found event route).outer (device_set w.devices place found event))
-  acts_go w place None event route none f stood = still w w.outer f refl refl refl refl refl
-  acts_go w place (Some device) event route none f stood =
-      mesh_goes w (record { air = answered_if (is_joined w.outer.air device.node) w.outer.air device.node (option_map backwards route) (device_replies device event); devices = slice_set w.devices place (device_after device event) }) [] f
-      (laws.own past node c (mesh_of w) place device event (option_map backwards route) f.mesh stood none)
+  -- a tick of a device
+  device_ticks : (w : Outside) (place : ℕ) (found : Option State) (drawn : List ℕ) (route : Option Route) → Follows past node c text tasks rest turn up down w → slice_get w.devices place ≡ found
+      → OuterGoes past node c text tasks rest turn (outside (acts_at w.outer found (Ticks drawn) route).outer (device_set w.devices place found (Ticks drawn)))
+  device_ticks w place None drawn route f stood = still w w.outer f refl refl refl refl refl
+  device_ticks w place (Some device) drawn route f stood =
+      mesh_goes w (record { air = answered_if (is_joined w.outer.air device.node) w.outer.air device.node (option_map backwards route) (device_replies device (Ticks drawn)); devices = slice_set w.devices place (device_after device (Ticks drawn)) }) [] f
+      (laws.ticks past node c (mesh_of w) place device drawn (option_map backwards route) f.mesh stood)
 
-  hand_go : (w : Outside) (place : Option ℕ) (event : DeviceEvent) (route : Option Route) → HearsNone event → Follows past node c text tasks rest turn up down w
+  -- an event of the first device of a node
+  acts_go : (w : Outside) (n place : ℕ) (found : Option State) (event : DeviceEvent) (route : Option Route) → HearsNone event → Follows past node c text tasks rest turn up down w → place_of n w.devices ≡ Some place → slice_get w.devices place ≡ found
+      → OuterGoes past node c text tasks rest turn (outside (acts_at w.outer found event route).outer (device_set w.devices place found event))
+  acts_go w n place None event route none f first stood = still w w.outer f refl refl refl refl refl
+  acts_go w n place (Some device) event route none f first stood =
+      mesh_goes w (record { air = answered_if (is_joined w.outer.air device.node) w.outer.air device.node (option_map backwards route) (device_replies device event); devices = slice_set w.devices place (device_after device event) }) [] f
+      (laws.own past node c (mesh_of w) place device event (option_map backwards route) f.mesh stood (ap (λ (k : ℕ). place_of k w.devices) (place_is n w.devices place device first stood) ∙ first) none)
+
+  hand_go : (w : Outside) (n : ℕ) (place : Option ℕ) (event : DeviceEvent) (route : Option Route) → HearsNone event → Follows past node c text tasks rest turn up down w → place_of n w.devices ≡ place
       → OuterGoes past node c text tasks rest turn (outside (acts_by_hand w.outer w.devices place event route).outer (set_by_hand w.devices place event))
-  hand_go w None event route none f = still w w.outer f refl refl refl refl refl
-  hand_go w (Some place) event route none f = acts_go w place (slice_get w.devices place) event route none f refl
+  hand_go w n None event route none f first = still w w.outer f refl refl refl refl refl
+  hand_go w n (Some place) event route none f first = acts_go w n place (slice_get w.devices place) event route none f first refl
 
   -- a node joins
   joins_go : (w : Outside) (n : ℕ) (listening : Bool) → Follows past node c text tasks rest turn up down w → OuterGoes past node c text tasks rest turn (outside (joins w.outer n listening) w.devices)
@@ -305,11 +319,11 @@ module _ (laws : Laws) (past : Past) (node : ℕ) (c : Courses) (text : Option �
   goes_by w (Arrives drawn route) within course f own may rests few =
       mesh_goes w (mesh_after (mesh_of w) (mesh.Arrives drawn route)) (mesh_outs (mesh_of w) (mesh.Arrives drawn route)) f (laws.arrives past node c (mesh_of w) drawn route within course f.mesh may)
   goes_by w (Gives route) within course f own may rests few = chip_goes w (gives w.outer w.devices w.outer.due route).outer f (gives_tells (IsTold past node) node w.outer w.devices w.outer.due route)
-  goes_by w (Device_ticks place drawn route) within course f own may rests few = acts_go w place (slice_get w.devices place) (Ticks drawn) route tt f refl
+  goes_by w (Device_ticks place drawn route) within course f own may rests few = device_ticks w place (slice_get w.devices place) drawn route f refl
   goes_by w Chip_ticks within course f own may rests few = tick_goes w f rests
   goes_by w (Repeats number drawn route) within course f own may rests few = repeats_go w (refusal_of w.outer.air.frames number) number drawn route within course f refl may
-  goes_by w (Wakes_device n route) within course f own may rests few = hand_go w (place_of n w.devices) Wakes route tt f
-  goes_by w (Sets_device n value route) within course f own may rests few = hand_go w (place_of n w.devices) (Sets value) route tt f
+  goes_by w (Wakes_device n route) within course f own may rests few = hand_go w n (place_of n w.devices) Wakes route tt f refl
+  goes_by w (Sets_device n value route) within course f own may rests few = hand_go w n (place_of n w.devices) (Sets value) route tt f refl
   goes_by w (Shows n) within course f own may rests few = still w _ f refl refl refl refl refl
   goes_by w (Joins n) within course f own may rests few = joins_go w n (listens_at (device_at w.devices (place_of n w.devices))) f
   goes_by w Discovers within course f own may rests few = chip_goes w (discovers w.outer) f (discovers_tell (IsTold past node) node w.outer)
@@ -330,10 +344,13 @@ module _ (laws : Laws) (past : Past) (node : ℕ) (c : Courses) (text : Option �
 -- ---- at first
 
 first_make : (keys : Keys) (node : ℕ) (devices : List State) → HasLock (first_past keys) node first_courses devices → AllMake node [] [] devices
-first_make keys node devices has place device stands own =
-    let found : Some device ≡ Some has.device = sym stands ∙ (ap (λ (k : ℕ). slice_get devices k) (has.alone place device stands own) ∙ has.stands) in
-    let one : device ≡ has.device = cc in
-    subst (λ (d : State). Makes [] [] d) (sym one) (first_makes has.device has.at.ended (ap (λ (t : Taken). t.taken) has.at.sessions) has.at.whole)
+first_make keys node devices has place device stood own = by (place == has.place) refl
+  where
+    by : (here : Bool) → (place == has.place) ≡ here → Makes [] [] device
+    by true e =
+        let one : device ≡ has.device = one_stands devices place has.place device has.device stood has.stands (eqb-true place has.place e) in
+        subst (λ (d : State). Makes [] [] d) (sym one) (first_makes has.device has.at.ended (ap (λ (t : Taken). t.taken) has.at.sessions) has.at.whole)
+    by false e = idle_makes [] [] device (has.others place device stood own (grind (arith, e)))
 
 pub first_follows : ((keys : Keys) (node : ℕ) → OnAir (first_past keys) node first_courses [] [] no_frames) → (keys : Keys) (node : ℕ) (devices : List State) → HasLock (first_past keys) node first_courses devices
     → Follows (first_past keys) node first_courses None [] no_rest Idle [] [] (outside first_outer devices)

@@ -20,11 +20,11 @@ use Rattle.device_sim.specs.State.{State}
 use Rattle.mesh_sim.specs.Air.{AirState, is_joined, no_route, departing}
 use Rattle.mesh_sim.specs.Steps.{answered, answered_if}
 use Rattle.seal_facts.specs.Payloads.{IsOffer}
-use Rattle.device_facts.proofs.Telling.{place_is}
 use Rattle.node_course.specs.Ways.{Goes}
-use Rattle.node_course.specs.Device.{finishes}
+use Rattle.node_course.specs.Device.{IsIdle, finishes}
 use Rattle.node_course.proofs.Making.{get_same, get_other}
-use Rattle.node_course.proofs.Replies.{place_set, was_there}
+use Rattle.node_course.proofs.Idle.{others_set}
+use Rattle.node_course.proofs.Replies.{place_set, nodes_set}
 use Rattle.node_course.proofs.Thinning.{goes_on as sessions_on, goes_once}
 use Rattle.sealed_course.specs.Labels.{Held, Sealed, Offer, Reports, Shows, Up, Of_host, Down, Of_node, as_session, as_node, as_host}
 use Rattle.sealed_course.specs.Courses.{Courses, CoursesGo, NodeGoes, HostGoes, SameBooks, SameUp, AddsDown}
@@ -89,24 +89,22 @@ own_set past later_past node c later devices new h same at = record {
   first = place_set node devices h.place h.device new h.stands same ∙ h.first;
   stands = get_same devices h.place h.device new h.stands;
   at = at;
-  alone = λ other one found is. let old = was_there devices h.place h.device new other one h.stands same found in h.alone other old.0 old.1.0 (old.1.1 ∙ is);
-  nodes = λ other one found. let old = was_there devices h.place h.device new other one h.stands same found in subst (λ (n : ℕ). n < 233) old.1.1 (h.nodes other old.0 old.1.0);
+  others = others_set node devices h.place h.place h.device new h.stands (λ own away. absurd (away refl)) h.others;
+  nodes = nodes_set devices h.place h.device new h.stands same h.nodes;
 }
 
-pub other_set : (past : Past) (node : ℕ) (c : Courses) (devices : List State) (place : ℕ) (device new : State) (h : HasLock past node c devices) → slice_get devices place ≡ Some device → device.node ≢ node → new.node ≡ device.node
-    → HasLock past node c (slice_set devices place new)
-other_set past node c devices place device new h stood apart same = record {
+-- one elsewhere, of another node or idle, is another than before
+pub other_set : (past : Past) (node : ℕ) (c : Courses) (devices : List State) (place : ℕ) (device new : State) (h : HasLock past node c devices) → slice_get devices place ≡ Some device → place ≢ h.place → (device.node ≡ node → IsIdle new)
+    → new.node ≡ device.node → HasLock past node c (slice_set devices place new)
+other_set past node c devices place device new h stood away idle same = record {
   device = h.device;
   place = h.place;
   first = place_set node devices place device new stood same ∙ h.first;
-  stands = get_other devices place h.place new (λ e. apart (own (ap (λ (k : ℕ). slice_get devices k) (sym e) ∙ h.stands))) ∙ h.stands;
+  stands = get_other devices place h.place new (λ e. away (sym e)) ∙ h.stands;
   at = h.at;
-  alone = λ other one found is. let old = was_there devices place device new other one stood same found in h.alone other old.0 old.1.0 (old.1.1 ∙ is);
-  nodes = λ other one found. let old = was_there devices place device new other one stood same found in subst (λ (n : ℕ). n < 233) old.1.1 (h.nodes other old.0 old.1.0);
+  others = others_set node devices h.place place device new stood (λ own elsewhere. idle (sym same ∙ own)) h.others;
+  nodes = nodes_set devices place device new stood same h.nodes;
 }
-  where
-    own : slice_get devices place ≡ Some h.device → device.node ≡ node
-    own e = let is : Some device ≡ Some h.device = sym stood ∙ e in let same : device ≡ h.device = cc in ap (λ (d : State). d.node) same ∙ place_is node devices h.place h.device h.first h.stands
 
 -- ---- frames go on the air
 

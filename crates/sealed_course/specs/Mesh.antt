@@ -7,6 +7,7 @@ use Rattle.mesh_sim.specs.Air.{is_joined}
 use Rattle.mesh_sim.specs.Fates.{Mesh, place_of}
 use Rattle.node_course.specs.Ways.{Beside}
 use Rattle.node_course.specs.Making.{AllMake}
+use Rattle.node_course.specs.Device.{OthersAreIdle}
 use Rattle.node_course.specs.Mesh.{labels, BringsAs}
 use Rattle.sealed_course.specs.Labels.{Held, Of_node, Down, Late}
 use Rattle.sealed_course.specs.Courses.{Courses, CoursesGo, SameBooks, SameUp, AddsDown}
@@ -14,14 +15,14 @@ use Rattle.sealed_course.specs.Meaning.{Past, GivesMore, NodeMeans}
 use Rattle.sealed_course.specs.Lock.{AtLock}
 use Rattle.sealed_course.specs.Air.{OnAir}
 
--- the lock of a node is the only device of that node in the list, and is as the courses have it; each device is of a node that has a place in the tables
+-- the lock of a node is the first device of that node in the list, and is as the courses have it; the others of the node are idle; each device is of a node that has a place in the tables
 pub record HasLock (past : Past) (node : ℕ) (c : Courses) (devices : List State) : Type 0 where
   pub device : State
   pub place : ℕ
   pub first : place_of node devices ≡ Some place
   pub stands : slice_get devices place ≡ Some device
   pub at : AtLock past c device
-  pub alone : (other : ℕ) (one : State) → slice_get devices other ≡ Some one → one.node ≡ node → other ≡ place
+  pub others : OthersAreIdle node devices place
   pub nodes : (other : ℕ) (one : State) → slice_get devices other ≡ Some one → one.node < 233
 
 -- so with the frames on the air; the sessions of the node's devices made what their commands ask for; and a lock that gave a nonce to somebody has joined

@@ -5,9 +5,9 @@ use Rattle.device_stack.specs.declared.kind.Kind.{Kind}
 use Rattle.device_stack.specs.declared.kind.Kind.TheVariants as kinds
 use Rattle.device_stack.specs.Sealing.{keys_of}
 use Rattle.device_sim.specs.State.{State, fresh}
-use Rattle.device_facts.specs.Showing.{AreApart}
 use Rattle.zw_laws.specs.Headline.{IsAsMade}
 use Rattle.zw_laws.specs.Nodes.{device_of}
+use Rattle.node_course.specs.Device.{IsIdle}
 use Rattle.sealed_course.specs.Courses.{first_courses}
 use Rattle.sealed_course.specs.Meaning.{first_past}
 use Rattle.sealed_course.specs.Lock.{AtLock}
@@ -25,16 +25,16 @@ is_lock kinds.Thermostat lock = let none = lock.sealed in absurd cc
 is_lock kinds.Strip lock = let none = lock.sealed in absurd cc
 is_lock kinds.Configurable lock = let none = lock.sealed in absurd cc
 
-module _ (begins : (node : ℕ) (key : List ℕ) → AtLock (first_past (keys_of key)) first_courses (fresh node kinds.Lock key)) where
+module _ (idle : (node : ℕ) (kind : Kind) (key : List ℕ) → IsIdle (fresh node kind key)) (begins : (node : ℕ) (key : List ℕ) → AtLock (first_past (keys_of key)) first_courses (fresh node kinds.Lock key)) where
   lock_begins : (key : List ℕ) (device : State) → device ≡ fresh device.node device.kind key → device.kind ≡ kinds.Lock → AtLock (first_past (keys_of key)) first_courses device
   lock_begins key device made lock =
       let is : device ≡ fresh device.node kinds.Lock key = made ∙ ap (λ (kind : Kind). fresh device.node kind key) lock in
       subst (AtLock (first_past (keys_of key)) first_courses) (sym is) (begins device.node key)
 
-  pub begin_courses : (key : List ℕ) (devices : List State) (node : ℕ) (device : State) → AllByRecursion (IsAsMade key) devices → AreApart devices → device_of node devices ≡ Some device → IsLockKind device.kind
+  pub begin_courses : (key : List ℕ) (devices : List State) (node : ℕ) (device : State) → AllByRecursion (IsAsMade key) devices → device_of node devices ≡ Some device → IsLockKind device.kind
       → IsLockNode (keys_of key) devices node
-  begin_courses key devices node device all apart found lock =
-      let at = stand_as_made key devices node device all apart found in
+  begin_courses key devices node device all found lock =
+      let at = stand_as_made idle key devices node device all found in
       record {
         within = at.within;
         device = record {
@@ -43,7 +43,7 @@ module _ (begins : (node : ℕ) (key : List ℕ) → AtLock (first_past (keys_of
           first = at.first;
           stands = at.stands;
           at = lock_begins key device at.made (is_lock device.kind lock);
-          alone = at.alone;
+          others = at.others;
           nodes = at.nodes;
         };
       }

@@ -1,6 +1,5 @@
 -- A machine that has the course of a node has its device tied to the host; and what is true at all events is so line by line.
-use Rattle.std.proofs.Common.{◌≡◌, ℕ, suc, Bool, true, false, List, [], ◌∷◌, length, Option, Some, None, option_map, ◌++◌, Ok, if◌then◌else◌, ◌==◌, slice_get, refl, sym, ap, ap₂, subst, ◌∙◌, arith}
-use Rattle.std.proofs.lemmas.Bool.{eqb-true}
+use Rattle.std.proofs.Common.{◌≡◌, ℕ, Bool, true, false, List, [], ◌∷◌, length, Option, Some, ◌++◌, Ok, if◌then◌else◌, ◌==◌, slice_get, refl, sym, ap, ap₂, subst, ◌∙◌, arith}
 use Rattle.std.specs.List.{AllByRecursion}
 use Rattle.supervision.specs.Host.{HostBook, begun_of, open_session}
 use Rattle.courses.specs.Sessions.{Course}
@@ -8,6 +7,7 @@ use Rattle.courses.specs.SessionFacts.{CourseFacts}
 use Rattle.device_sim.specs.State.{State}
 use Rattle.device_course.specs.Ending.{HasEnded}
 use Rattle.device_facts.specs.GoingOn.{AreSame, IsSame}
+use Rattle.device_facts.proofs.Telling.{place_is}
 use Rattle.mesh_sim.specs.Fates.{place_of}
 use Rattle.zw_text.specs.Line.{line_at}
 use Rattle.zw_text.specs.declared.line.Line.{Line}
@@ -24,6 +24,8 @@ use Rattle.said_facts.specs.Spoken.{Spoken, after}
 use Rattle.listing_facts.specs.Lines.{events_of}
 use Rattle.headline_facts.specs.Truly.{LinesAreTrue}
 use Rattle.node_course.specs.World.{HasCourse, NamesEnd}
+use Rattle.node_course.proofs.Replies.{one_place, one_stands}
+use Rattle.supervised_nodes.proofs.PlainBeginning.{finds}
 
 -- ---- lines
 
@@ -40,32 +42,6 @@ lines_true node m [] all = tt
 lines_true node m (spoken ∷ more) all = let both = both_true node m spoken.events (events_of more) all in (both.0, lines_true node (after m spoken) more both.1)
 
 -- ---- the first device of a node
-
--- the device that stands where the first of a node does is that first one, and is of the node
-pub record IsFirst (node : ℕ) (device other : State) : Type 0 where
-  pub same : device ≡ other
-  pub of_node : device.node ≡ node
-
-abbrev FindsIn : ℕ → List State → Type 0
-FindsIn node devices = (place : ℕ) (device other : State) → place_of node devices ≡ Some place → slice_get devices place ≡ Some device → device_of node devices ≡ Some other → IsFirst node device other
-
-found_by : (hit : Bool) (node : ℕ) (first : State) (rest : List State) (at : Option ℕ) (place : ℕ) (device other : State) → (first.node == node) ≡ hit → place_of node rest ≡ at → FindsIn node rest
-    → (if hit then Some 0 else option_map suc at) ≡ Some place → slice_get (first ∷ rest) place ≡ Some device → (if hit then Some first else device_of node rest) ≡ Some other → IsFirst node device other
-found_by true node first rest at place device other is later more here stands found =
-    let zero_is : 0 ≡ place = cc in
-    let at_first : slice_get (first ∷ rest) 0 ≡ Some device = subst (λ (p : ℕ). slice_get (first ∷ rest) p ≡ Some device) (sym zero_is) stands in
-    let one : first ≡ device = cc in
-    let two : first ≡ other = cc in
-    record { same = sym one ∙ two; of_node = ap (λ (d : State). d.node) (sym one) ∙ eqb-true first.node node is }
-found_by false node first rest None place device other is later more here stands found = absurd cc
-found_by false node first rest (Some at) place device other is later more here stands found =
-    let next : suc at ≡ place = cc in
-    more at device other later (subst (λ (p : ℕ). slice_get (first ∷ rest) p ≡ Some device) (sym next) stands) found
-
-finds : (node : ℕ) (devices : List State) → FindsIn node devices
-finds node [] place device other here stands found = absurd cc
-finds node (first ∷ rest) place device other here stands found =
-    found_by (first.node == node) node first rest (place_of node rest) place device other refl refl (finds node rest) here stands found
 
 -- the first device of a node, as it was among devices that went on: devices keep their nodes and kinds
 pub record Was (node : ℕ) (old : List State) (device : State) : Type 0 where
@@ -141,10 +117,11 @@ Ties = (c : Course) (commands : List Command) (device : State) → CourseFacts c
 
 pub course_ties : Ties → (node : ℕ) (m : Machine) (device : State) (c : Course) → IsAt node m c → device_of node m.outside.devices ≡ Some device → AreTied m.host.state node device
 course_ties ties node m device c at found =
-    let is = finds node m.outside.devices at.place at.device device at.first at.stands found in
-    let ended : HasEnded device c.ends = subst (λ (d : State). HasEnded d c.ends) is.same at.ended in
+    let is = finds node m.outside.devices device found in
+    let same : at.device ≡ device = one_stands m.outside.devices at.place is.place at.device device at.stands is.stands (one_place node m.outside.devices at.place is.place at.first is.first) in
+    let ended : HasEnded device c.ends = subst (λ (d : State). HasEnded d c.ends) same at.ended in
     let made : AllByRecursion (MakesWhatIsTaken m.host.state.commands c.host.commands) device.journal =
-    subst (λ (d : State). AllByRecursion (MakesWhatIsTaken m.host.state.commands c.host.commands) d.journal) is.same (at.made at.place at.device at.stands is.of_node) in
+    subst (λ (d : State). AllByRecursion (MakesWhatIsTaken m.host.state.commands c.host.commands) d.journal) same (at.made at.place at.device at.stands (place_is node m.outside.devices at.place at.device at.first at.stands)) in
     record {
       finals = c.ends;
       told = c.told;

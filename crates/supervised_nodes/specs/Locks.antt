@@ -13,7 +13,7 @@ pub record IsLockKind (kind : Kind) : Type 0 where
   pub supervised : lists kind 0x6C ≡ true
   pub sealed : lists kind 0x98 ≡ true
 
--- the device of the node is the only one of it, and is a lock as its maker left it, with the key of the network
+-- the first device of the node is a lock as its maker left it, with the key of the network; the others of the node are idle
 pub record IsLockNode (keys : Keys) (devices : List State) (node : ℕ) : Type 0 where
   pub within : node < 233
   pub device : HasLock (first_past keys) node first_courses devices

@@ -26,7 +26,7 @@ pub record IsPlainNode (devices : List State) (node : ℕ) : Type 0 where
 pub record IsOpenList (classes : List ℕ) : Type 0 where
   pub unsealed : lists classes 0x98 ≡ false
 
--- over these events: the device of the node is the only one of it, is as its maker left it and takes what is not sealed; and the orders for the node go unsealed
+-- over these events: the first device of the node is as its maker left it and takes what is not sealed, and the others of the node are idle; and the orders for the node go unsealed
 pub record IsPlain (devices : List State) (events : List Event) (node : ℕ) : Type 0 where
   pub within : node < 233
   pub device : HasDevice node first_course devices

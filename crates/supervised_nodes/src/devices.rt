@@ -4,7 +4,6 @@ ghost use Rattle.std.specs.Prelude.{ℕ, List, [], Some};
 ghost use Rattle.std.specs.List.{AllByRecursion};
 ghost use Rattle.device_stack.specs.Sealing.{keys_of};
 ghost use Rattle.device_sim.specs.State.{State};
-ghost use Rattle.device_facts.specs.Showing.{AreApart};
 ghost use Rattle.zw_text.specs.declared.line.Line.{Line};
 ghost use Rattle.zw_laws.specs.Headline.{IsAsMade};
 ghost use Rattle.zw_machine.specs.State.{first_machine};
@@ -17,9 +16,9 @@ ghost use Rattle.supervised_nodes.specs.Supervised.{IsPlainOrLock, IsSupervisedN
 use crate::lock_nodes::locks_as_made_begin_courses;
 use crate::plain_nodes::{devices_as_made_begin_courses, orders_go_plain};
 
-/// Of devices as their makers left them, no two of one node, over any lines that were read: a node whose device lists Supervision is plain, or one of a lock.
+/// Of devices as their makers left them, over any lines that were read: a node whose device lists Supervision is plain, or one of a lock.
 pub fn supervised_nodes_are_plain_or_locks()
-    ensures { (key : List ℕ) (devices : List State) (lines : List Line) (events : List Event) (node : ℕ) → AllByRecursion (IsAsMade key) devices → AreApart devices → AllByRecursion IsRead lines →
+    ensures { (key : List ℕ) (devices : List State) (lines : List Line) (events : List Event) (node : ℕ) → AllByRecursion (IsAsMade key) devices → AllByRecursion IsRead lines →
         AreLines lines (first_machine (keys_of key) (Some []) devices) events → MayAll (first_machine (keys_of key) (Some []) devices) events →
         IsSupervisedNode devices node → IsPlainOrLock (keys_of key) devices events node }
 {

@@ -4,7 +4,6 @@ ghost use Rattle.std.specs.Prelude.{◌≡◌, ℕ, List, Some, []};
 ghost use Rattle.std.specs.List.{AllByRecursion};
 ghost use Rattle.device_stack.specs.Sealing.{keys_of};
 ghost use Rattle.device_sim.specs.State.{State};
-ghost use Rattle.device_facts.specs.Showing.{AreApart};
 ghost use Rattle.zw_laws.specs.Headline.{IsAsMade};
 ghost use Rattle.zw_laws.specs.Nodes.{device_of};
 ghost use Rattle.supervised_nodes.specs.Locks.{IsLockKind, IsLockNode};
@@ -15,16 +14,17 @@ ghost use Rattle.said_facts.specs.Spoken.{Spoken, after_all};
 ghost use Rattle.listing_facts.specs.Lines.{AreDone};
 ghost use Rattle.headline_facts.specs.Truly.{LinesAreTrue};
 
-use node_course::lines_ask_plainly;
+use node_course::{idle_devices_stay_idle, lines_ask_plainly};
 use once_facts::courses_tie_their_ends;
 use run_facts::lines_keep_and_ask_well;
 use sealed_course::{lines_have_courses, locks_follow_the_courses};
 
-/// Of devices as their makers left them, no two of one node, each that takes commands in sessions and sealed is at the beginning of the courses of its node, with the keys of the network.
+/// Of devices as their makers left them, the first of a node is at the beginning of the courses of it, with the keys of the network, where it takes commands in sessions and sealed; the others of the node are idle.
 pub fn locks_as_made_begin_courses()
-    ensures { (key : List ℕ) (devices : List State) (node : ℕ) (device : State) → AllByRecursion (IsAsMade key) devices → AreApart devices → device_of node devices ≡ Some device →
+    ensures { (key : List ℕ) (devices : List State) (node : ℕ) (device : State) → AllByRecursion (IsAsMade key) devices → device_of node devices ≡ Some device →
         IsLockKind device.kind → IsLockNode (keys_of key) devices node }
 {
+    idle_devices_stay_idle();
     locks_follow_the_courses();
 }
 

@@ -4,7 +4,7 @@ ghost use Rattle.std.specs.Prelude.{◌≡◌, ℕ, ◌<◌, List, Some, []};
 ghost use Rattle.std.specs.List.{AllByRecursion};
 ghost use Rattle.courses.specs.Sessions.{first_course};
 ghost use Rattle.device_sim.specs.State.{State};
-ghost use Rattle.device_facts.specs.Showing.{AreApart, AreUnchanged};
+ghost use Rattle.device_facts.specs.Showing.{AreUnchanged};
 ghost use Rattle.zw_laws.specs.Headline.{IsAsMade};
 ghost use Rattle.zw_laws.specs.Nodes.{device_of};
 ghost use Rattle.node_course.specs.Mesh.{HasDevice};
@@ -25,19 +25,21 @@ ghost use Rattle.headline_facts.specs.Truly.{LinesAreTrue};
 use host_node::a_restart_needs_the_records_alone;
 use listing_facts::interviews_tell_what_nodes_list;
 use node_course::{
-    devices_follow_the_course, lines_ask_plainly, lines_have_a_course, lines_tell_the_truth,
+    devices_follow_the_course, idle_devices_stay_idle, lines_ask_plainly, lines_have_a_course,
+    lines_tell_the_truth,
 };
 use once_facts::courses_tie_their_ends;
 use run_facts::lines_keep_and_ask_well;
 use said_facts::interviews_give_what_is_known;
 
-/// Of devices as their makers left them, no two of one node, each of a plain kind is at the beginning of a course of its node.
+/// Of devices as their makers left them, the first of a node is at the beginning of a course of it where its kind is plain; the others of the node are idle.
 pub fn devices_as_made_begin_courses()
-    ensures begins { (key : List ℕ) (devices : List State) (node : ℕ) (device : State) → AllByRecursion (IsAsMade key) devices → AreApart devices → device_of node devices ≡ Some device →
+    ensures begins { (key : List ℕ) (devices : List State) (node : ℕ) (device : State) → AllByRecursion (IsAsMade key) devices → device_of node devices ≡ Some device →
         IsPlainKind device.kind → (node < 233) × HasDevice node first_course devices }
     ensures unchanged { (key : List ℕ) (devices : List State) → AllByRecursion (IsAsMade key) devices → AreUnchanged devices }
 {
     devices_follow_the_course();
+    idle_devices_stay_idle();
 }
 
 /// Over any lines that were read, each order that is accepted for a node whose device is of a plain kind goes unsealed: before an interview the host takes

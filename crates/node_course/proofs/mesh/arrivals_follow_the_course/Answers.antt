@@ -1,6 +1,6 @@
 -- Each clause is a lemma, over the laws of the air and of the device.
 use Rattle.node_course.proofs.Arriving.{arrives_go, repeats_go}
-use Rattle.node_course.proofs.Replies.{own_goes}
+use Rattle.node_course.proofs.Replies.{own_goes, ticks_go}
 use Rattle.node_course.proofs.mesh.arrivals_follow_the_course.Goals as goal
 
 pub returns-clause-arrives : goal.returns-clause-arrives
@@ -37,3 +37,12 @@ returns-clause-repeats c = repeats_go (record {
 
 pub returns-clause-own : goal.returns-clause-own
 returns-clause-own c = own_goes c.frames_follow_the_course.ensures.goes c.devices_stay_the_same.ensures.event
+
+pub returns-clause-ticks : goal.returns-clause-ticks
+returns-clause-ticks c node orders course mesh place device drawn way is stood = ticks_go (record {
+  flying = c.frames_follow_the_course.ensures.goes;
+  same = c.devices_stay_the_same.ensures.event;
+  ticks = c.devices_follow_the_course.ensures.ticks;
+  keeps = c.devices_follow_the_course.ensures.keeps;
+  idle = c.idle_devices_stay_idle.ensures.ticks;
+}) node orders course mesh place device drawn way is stood

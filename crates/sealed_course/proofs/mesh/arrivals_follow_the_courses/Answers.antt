@@ -1,5 +1,5 @@
 -- Each clause is a lemma, over the laws of the air, of the lock and of the courses.
-use Rattle.sealed_course.proofs.Arriving.{Laws, arrives_go, repeats_go, own_goes}
+use Rattle.sealed_course.proofs.Arriving.{Laws, arrives_go, repeats_go, own_goes, ticks_go}
 use Rattle.sealed_course.proofs.mesh.arrivals_follow_the_courses.Goals as goal
 
 laws_of : (c : goal.After-first_bytes_name_one_of_the_host) → Laws
@@ -10,6 +10,7 @@ laws_of c = record {
   makes = c.locks_follow_the_courses.ensures.makes;
   other = c.locks_follow_the_courses.ensures.other;
   keeps = c.devices_follow_the_course.ensures.keeps;
+  idle = c.idle_devices_stay_idle.ensures.ticks;
   landing_names = c.ids_name_one_session.ensures.landing;
   repeated_names = c.ids_name_one_session.ensures.repeated;
   node_landing = c.first_bytes_name_one_of_the_node.ensures.landing;
@@ -31,3 +32,6 @@ returns-clause-repeats c past node = repeats_go (laws_of c) past node
 
 pub returns-clause-own : goal.returns-clause-own
 returns-clause-own c past node = own_goes (laws_of c) past node
+
+pub returns-clause-ticks : goal.returns-clause-ticks
+returns-clause-ticks c past node = ticks_go (laws_of c) past node

@@ -17,4 +17,5 @@ returns-clause-events c past node courses text tasks rest turn up down w event =
       arrives = c.arrivals_follow_the_courses.ensures.arrives;
       repeats = c.arrivals_follow_the_courses.ensures.repeats;
       own = c.arrivals_follow_the_courses.ensures.own;
+      ticks = c.arrivals_follow_the_courses.ensures.ticks;
     }) past node courses text tasks rest turn up down w event

@@ -7,7 +7,7 @@ use Rattle.device_stack.specs.Kind.{lists}
 use Rattle.device_stack.specs.declared.kind.Kind.{Kind}
 use Rattle.device_sim.specs.State.{State}
 use Rattle.device_facts.specs.GoingOn.{AreSame}
-use Rattle.device_facts.specs.Showing.{AreApart, AreUnchanged}
+use Rattle.device_facts.specs.Showing.{AreUnchanged}
 use Rattle.host_core.specs.Network.{keys_of}
 use Rattle.zw_text.specs.Line.{line_at}
 use Rattle.zw_text.specs.declared.line.Line.{Line}
@@ -42,11 +42,10 @@ record Fair (key : List ℕ) (devices : List State) (story : List Ran) (records 
   may : MayAll (first_machine (keys_of key) records devices) (events_of story)
   read : AreRead story
   made : AllByRecursion (IsAsMade key) devices
-  apart : AreApart devices
 
 -- which nodes are plain or of a lock, by the keys of the network
 abbrev AreBy : (List ℕ → Keys) → Type 0
-AreBy keys = (key : List ℕ) (devices : List State) (lines : List Line) (events : List Event) (node : ℕ) → AllByRecursion (IsAsMade key) devices → AreApart devices → AllByRecursion IsRead lines →
+AreBy keys = (key : List ℕ) (devices : List State) (lines : List Line) (events : List Event) (node : ℕ) → AllByRecursion (IsAsMade key) devices → AllByRecursion IsRead lines →
     AreLines lines (first_machine (keys key) (Some []) devices) events → MayAll (first_machine (keys key) (Some []) devices) events →
     IsSupervisedNode devices node → IsPlainOrLock (keys key) devices events node
 
@@ -75,7 +74,7 @@ module _ (laws : Laws) (key : List ℕ) (devices : List State) (story : List Ran
 
   plain_or_lock : (node : ℕ) → IsSupervisedNode devices node → IsPlainOrLock (keys_of key) devices (events_said (all_said story)) node
   plain_or_lock node supervised = subst (λ (events : List Event). IsPlainOrLock (keys_of key) devices events node) (sym (same_events story))
-      (as_network laws.are key devices (plain_lines story) (events_of story) node fair.made fair.apart (lines_read story fair.read) (story_lines begun story fair.schedules) fair.may supervised)
+      (as_network laws.are key devices (plain_lines story) (events_of story) node fair.made (lines_read story fair.read) (story_lines begun story fair.schedules) fair.may supervised)
 
 -- what `run` was given, and what it left
 fair_of : (key : List ℕ) (old : Around) (story : List Ran) → AreRead story → MayAll (first key old) (events_of story) → AreBegun (first key old) story → IsFairRun key old → Fair key old.devices story (Some [])
@@ -84,7 +83,6 @@ fair_of key old story read may begun fair = subst (Fair key old.devices story) f
   may = may;
   read = read;
   made = fair.made;
-  apart = fair.apart;
 })
 
 -- the machine at first, where the keeper had no records, and after a story
@@ -148,7 +146,7 @@ returns-clause-one c = λ ended key old new fair quiet story unentered tells nod
     (subst (λ (l : List State). device_of node l ≡ Some device) (devices_are ended key old new fair quiet story unentered tells) found) knows)
 
 pub returns-clause-after_change : goal.returns-clause-after_change
-returns-clause-after_change c = λ ended key old new fair quiet story unentered tells node supervised.
+returns-clause-after_change c = λ ended key old new fair quiet story unentered tells apart node supervised.
     let laws : Laws = record {
       again = c.lines_are_read_as_said.ensures;
       unchanged = c.devices_as_made_begin_courses.ensures.unchanged;
@@ -157,11 +155,11 @@ returns-clause-after_change c = λ ended key old new fair quiet story unentered 
     let d = old.devices in
     let f = fairly ended key old new fair quiet story unentered tells in
     subst (λ (l : List Entry). SucceedsAfterChangeOf node l) (reads_as key old story fair)
-    (c.nodes_report_after_the_change.ensures (keys_of key) d (all_said story) node (plain_or_lock laws key d story f node supervised) (laws.unchanged key d fair.made) fair.apart
+    (c.nodes_report_after_the_change.ensures (keys_of key) d (all_said story) node (plain_or_lock laws key d story f node supervised) (laws.unchanged key d fair.made) apart
     (done laws key d story f))
 
 pub returns-clause-whole : goal.returns-clause-whole
-returns-clause-whole c = λ ended key old new fair quiet story unentered tells first_is.
+returns-clause-whole c = λ ended key old new fair quiet story unentered tells apart first_is.
     let laws : Laws = record {
       again = c.lines_are_read_as_said.ensures;
       unchanged = c.devices_as_made_begin_courses.ensures.unchanged;
@@ -174,5 +172,5 @@ returns-clause-whole c = λ ended key old new fair quiet story unentered tells f
     subst (λ (l : List State). Headline d l (transcript_from (first key old) story)) (sym (devices_are ended key old new fair quiet story unentered tells))
     (subst (λ (l : List Entry). Headline d (after_all (first_machine (keys_of key) (Some []) d) (all_said on)).outside.devices l) (reads_as key old story fair)
     (c.runs_have_the_headline.ensures (keys_of key) d (all_said story) (all_said on) (λ node askable. plain_or_lock laws key d story f node (askable_supervised d node first_is askable))
-    (λ node askable. plain_or_lock laws key d on g node (askable_supervised d node first_is askable)) (laws.unchanged key d fair.made) fair.apart
+    (λ node askable. plain_or_lock laws key d on g node (askable_supervised d node first_is askable)) (laws.unchanged key d fair.made) apart
     (done laws key d story f) (done laws key d on g) (host_is ended key old new fair quiet story unentered tells)))
