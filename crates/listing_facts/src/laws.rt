@@ -10,7 +10,6 @@ ghost use Rattle.zw_machine.specs.State.{first_machine};
 ghost use Rattle.zw_machine.specs.Events.{Event};
 ghost use Rattle.zw_machine.specs.Did.{happens_all, MayAll};
 ghost use Rattle.line_facts.specs.Line.{AreLines};
-ghost use Rattle.run_facts.specs.Lines.{IsRead};
 ghost use Rattle.said_facts.specs.Spoken.{Spoken, AreSpoken, after_all};
 ghost use Rattle.said_facts.specs.Said.{AllTell, LinesTell};
 ghost use Rattle.listing_facts.specs.Lines.{HearLists, AreDone};
@@ -21,13 +20,13 @@ use run_facts::{lines_ask_well, lines_keep_and_ask_well, runs_keep_and_ask_well}
 use said_facts::interviews_give_what_is_known;
 use world_facts::{restarts_go_on, the_machine_keeps_facts};
 
-/// In every run of lines that were read, the last of which want of memory may have cut short, over a keeper that tells its records and has none at first: an interview that ends well hears what the first
+/// In every run of lines, the last of which want of memory may have cut short, over a keeper that tells its records and has none at first: an interview that ends well hears what the first
 /// device of its node lists. It is of a node that is joined, and a host that starts again knows what the one before knew.
 pub fn interviews_tell_what_nodes_list()
-    ensures heard { (keys : Keys) (devices : List State) (lines : List Line) (events : List Event) → AllByRecursion IsRead lines →
+    ensures heard { (keys : Keys) (devices : List State) (lines : List Line) (events : List Event) →
         AreLines lines (first_machine keys (Some []) devices) events → MayAll (first_machine keys (Some []) devices) events →
         AllByRecursion (HearLists (listing_of devices)) events }
-    ensures tell { (keys : Keys) (devices : List State) (lines : List Line) (events : List Event) → AllByRecursion IsRead lines →
+    ensures tell { (keys : Keys) (devices : List State) (lines : List Line) (events : List Event) →
         AreLines lines (first_machine keys (Some []) devices) events → MayAll (first_machine keys (Some []) devices) events →
         AllTell (listing_of devices) (first_machine keys (Some []) devices) events }
 {

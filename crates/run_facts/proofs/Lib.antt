@@ -1,4 +1,3 @@
-pub mod Reading
 pub mod Errands
 pub mod Always
 pub mod Schedules

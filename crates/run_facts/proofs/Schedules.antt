@@ -33,7 +33,7 @@ use Rattle.zw_machine.specs.Fronts.{LinePart, IsLineBefore}
 use Rattle.zw_machine.proofs.Pieces.{Of, Law, Pieces, of_none, of_then, of_line_part, of_line_before}
 use Rattle.line_facts.specs.Line.{AreLines}
 use Rattle.line_facts.proofs.Frames.{all-append}
-use Rattle.run_facts.specs.Lines.{IsInRange, IsAsked, AllAsked}
+use Rattle.run_facts.specs.Lines.{IsAsked, AllAsked}
 use Rattle.run_facts.proofs.Always.{AlwaysAsked}
 use Rattle.run_facts.proofs.Errands.{send_short, get_short}
 
@@ -165,40 +165,40 @@ interview_joined false places none = absurd cc
 interview_asked : (h : HostState) (n : ℕ) → interview_refusal h n ≡ None → IsAsked h (Queues_interview n)
 interview_asked h n none = interview_joined (node_of h n).joined (places_refusal h 2) none
 
-effect_asked : (line : Line) → IsInRange line → AsksWellAt (IsEffect line)
-effect_asked (Command order) range m events is = done_asked (Command order) _ m events is (range, tt)
-effect_asked (Tick count) range m events is = absurd is
-effect_asked (Cut size) range m events is = one_outside m _ events is
-effect_asked (Stall ticks) range m events is = one_outside m _ events is
-effect_asked (Drop by) range m events is = one_outside m _ events is
-effect_asked (Garble by place xor) range m events is = one_outside m _ events is
-effect_asked Collide range m events is = one_outside m _ events is
-effect_asked (Send node word) range m events is =
+effect_asked : (line : Line) → AsksWellAt (IsEffect line)
+effect_asked (Command order) m events is = done_asked (Command order) _ m events is (tt, tt)
+effect_asked (Tick count) m events is = absurd is
+effect_asked (Cut size) m events is = one_outside m _ events is
+effect_asked (Stall ticks) m events is = one_outside m _ events is
+effect_asked (Drop by) m events is = one_outside m _ events is
+effect_asked (Garble by place xor) m events is = one_outside m _ events is
+effect_asked Collide m events is = one_outside m _ events is
+effect_asked (Send node word) m events is =
     let classes = classes_of (known_of (node_of m.host.state node)) in
     asks_asked (send_refusal (known_of (node_of m.host.state node)) (length m.host.state.requests.queue) word) (Send node word)
     (Queues (task.Plain node (send_text classes word))) m events (λ none. send_short classes word) is
-effect_asked (Get node end) range m events is =
+effect_asked (Get node end) m events is =
     let classes = classes_of (known_of (node_of m.host.state node)) in
     asks_asked (get_refusal (known_of (node_of m.host.state node)) (length m.host.state.requests.queue) end) (Get node end)
     (Queues (task.Plain node (get_text classes end))) m events (λ none. get_short classes end) is
-effect_asked (Join node) range m events is = done_asked (Join node) _ m events is (range, (tt, tt))
-effect_asked (Interview node) range m events is =
+effect_asked (Join node) m events is = done_asked (Join node) _ m events is (tt, (tt, tt))
+effect_asked (Interview node) m events is =
     asks_asked (interview_refusal m.host.state node) (Interview node) (Queues_interview node) m events (interview_asked m.host.state node) is
-effect_asked (Lose count) range m events is = one_outside m _ events is
-effect_asked (LoseAck count) range m events is = one_outside m _ events is
-effect_asked (Repeat frame) range m events is = outside_asked _ m events is
-effect_asked (Wake node) range m events is = outside_asked _ m events is
-effect_asked (Cancel command) range m events is = done_asked (Cancel command) _ m events is (tt, tt)
-effect_asked (Link first second) range m events is = one_outside m _ events is
-effect_asked (Unlink first second) range m events is = one_outside m _ events is
-effect_asked Discover range m events is = discovery_asked m events is
-effect_asked (Neighbours node) range m events is = asks_asked (places_refusal m.host.state 1) (Neighbours node) (Queues (task.Neighbours node)) m events (λ none. tt) is
-effect_asked (Failed node) range m events is = asks_asked (places_refusal m.host.state 1) (Failed node) (Queues (task.IsFailed node)) m events (λ none. tt) is
-effect_asked Probe range m events is = asks_asked (places_refusal m.host.state 3) Probe Queues_probe m events (λ none. tt) is
-effect_asked (Local node value) range m events is = outside_asked _ m events is
-effect_asked (Show node) range m events is = one_outside m _ events is
-effect_asked (Store node) range m events is = subst (λ (l : List Event). AllAsked m l) (sym is) (tt, tt)
-effect_asked Restart range m events is = restart_asked m events is
+effect_asked (Lose count) m events is = one_outside m _ events is
+effect_asked (LoseAck count) m events is = one_outside m _ events is
+effect_asked (Repeat frame) m events is = outside_asked _ m events is
+effect_asked (Wake node) m events is = outside_asked _ m events is
+effect_asked (Cancel command) m events is = done_asked (Cancel command) _ m events is (tt, tt)
+effect_asked (Link first second) m events is = one_outside m _ events is
+effect_asked (Unlink first second) m events is = one_outside m _ events is
+effect_asked Discover m events is = discovery_asked m events is
+effect_asked (Neighbours node) m events is = asks_asked (places_refusal m.host.state 1) (Neighbours node) (Queues (task.Neighbours node)) m events (λ none. tt) is
+effect_asked (Failed node) m events is = asks_asked (places_refusal m.host.state 1) (Failed node) (Queues (task.IsFailed node)) m events (λ none. tt) is
+effect_asked Probe m events is = asks_asked (places_refusal m.host.state 3) Probe Queues_probe m events (λ none. tt) is
+effect_asked (Local node value) m events is = outside_asked _ m events is
+effect_asked (Show node) m events is = one_outside m _ events is
+effect_asked (Store node) m events is = subst (λ (l : List Event). AllAsked m l) (sym is) (tt, tt)
+effect_asked Restart m events is = restart_asked m events is
 
 pieces : Pieces AllAsked
 pieces = record {
@@ -214,10 +214,10 @@ pieces = record {
   host_tick = host_tick_asked;
 }
 
-pub line_asked : (line : Line) → IsInRange line → AsksWellAt (LinePart line)
-line_asked line range = of_line_part AllAsked asked_law pieces line (effect_asked line range)
+pub line_asked : (line : Line) → AsksWellAt (LinePart line)
+line_asked line = of_line_part AllAsked asked_law pieces line (effect_asked line)
 
-pub lines_asked : (lines : List Line) → AllByRecursion IsInRange lines → AsksWellAt (AreLines lines)
-lines_asked [] range m events is = of_none AllAsked asked_law m events is
-lines_asked (line ∷ lines) range m events is =
-    of_then AllAsked asked_law (IsLineBefore lines line) (AreLines lines) (of_line_before AllAsked asked_law pieces lines line (effect_asked line range.0)) (lines_asked lines range.1) m events is
+pub lines_asked : (lines : List Line) → AsksWellAt (AreLines lines)
+lines_asked [] m events is = of_none AllAsked asked_law m events is
+lines_asked (line ∷ lines) m events is =
+    of_then AllAsked asked_law (IsLineBefore lines line) (AreLines lines) (of_line_before AllAsked asked_law pieces lines line (effect_asked line)) (lines_asked lines) m events is

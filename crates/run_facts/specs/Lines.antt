@@ -1,15 +1,13 @@
--- What the lines of a scenario ask of the host (this project's own): every number that a line names is in its range, and nothing else is asked.
+-- What the lines of a scenario ask of the host (this project's own), and that nothing else is asked.
 use Rattle.std.specs.Prelude.{◌≡◌, ◌≤◌, ℕ, true, List, [], ◌∷◌, length, Ok, Some}
 use Rattle.zw_text.specs.Line.{line_at}
 use Rattle.zw_text.specs.declared.line.Line.{Line}
-use Rattle.zw_text.specs.declared.line.Line.TheVariants.{Command, Join}
-use Rattle.host_keep.specs.Rows.{IsNode, IsOrder}
 use Rattle.host_requests.specs.Events.{RequestsEvent}
 use Rattle.host_requests.specs.Events.RequestsEvent.{Pushes, PushesInterview}
 use Rattle.host_requests.specs.declared.task.Task.{Task}
 use Rattle.host_requests.specs.declared.task.Task.TheVariants.{Plain, Offer, Segment, First, Second}
 use Rattle.host_events.specs.State.{HostState, node_of}
-use Rattle.host_events.specs.Events.{HostEvent, Accepts, Joins, Queues, Queues_interview, Requests_do, Interviews, Finishes, Gives, Spends, Spends_unread, Takes_nonce}
+use Rattle.host_events.specs.Events.{HostEvent, Queues, Queues_interview, Requests_do, Interviews, Finishes, Gives, Spends, Spends_unread, Takes_nonce}
 use Rattle.zw_machine.specs.State.{Machine}
 use Rattle.zw_machine.specs.Events.{Event, Host_does, happens}
 
@@ -18,12 +16,6 @@ use Rattle.zw_machine.specs.Events.{Event, Host_does, happens}
 -- a line that was read from a text
 abbrev pub IsRead : Line → Type 0
 IsRead line = (text : List ℕ) × (line_at text ≡ Ok (Some line))
-
--- the numbers of its order, and the node that is to join, are in range
-abbrev pub IsInRange : Line → Type 0
-IsInRange (Command order) = IsOrder order
-IsInRange (Join node) = IsNode node
-IsInRange line = Unit {0}
 
 -- ---- what the host is asked
 
@@ -42,11 +34,8 @@ AsksNothing (Pushes task) = ⊥
 AsksNothing (PushesInterview n) = ⊥
 AsksNothing event = Unit {0}
 
--- What the host does of itself or for a line: the order and the node that it is asked for are in range, an interview is asked of a node that is joined, and
--- a task that is asked for is an errand. It is nothing that only the chip's bytes bring.
+-- What the host does of itself or for a line: an interview is asked of a node that is joined, and a task that is asked for is an errand. It is nothing that only the chip's bytes bring.
 abbrev pub IsAsked : HostState → HostEvent → Type 0
-IsAsked h (Accepts order carriage) = IsOrder order
-IsAsked h (Joins n) = IsNode n
 IsAsked h (Queues task) = IsErrand task
 IsAsked h (Queues_interview n) = (node_of h n).joined ≡ true
 IsAsked h (Requests_do event moment) = AsksNothing event

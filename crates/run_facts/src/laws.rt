@@ -1,10 +1,8 @@
 //! What the laws of whole runs premise, and that it holds.
 
-ghost use Rattle.std.specs.Prelude.{◌≡◌, ◌++◌, ℕ, Ok, Some, List, []};
-ghost use Rattle.std.specs.List.{AllByRecursion};
+ghost use Rattle.std.specs.Prelude.{◌++◌, Some, List, []};
 ghost use Rattle.s0_crypto.specs.declared.key_pair.Keys.{Keys};
 ghost use Rattle.device_sim.specs.State.{State};
-ghost use Rattle.zw_text.specs.Line.{line_at};
 ghost use Rattle.zw_text.specs.declared.line.Line.{Line};
 ghost use Rattle.zw_machine.specs.State.{Machine, first_machine};
 ghost use Rattle.zw_machine.specs.Events.{Event};
@@ -13,14 +11,12 @@ ghost use Rattle.zw_machine.specs.Fronts.{LinePart};
 ghost use Rattle.world_facts.specs.Restarts.{AllKeepWell};
 ghost use Rattle.line_facts.specs.Host.{AllAskWell};
 ghost use Rattle.line_facts.specs.Line.{AreLines};
-ghost use Rattle.run_facts.specs.Lines.{IsRead, IsInRange, AllAsked};
+ghost use Rattle.run_facts.specs.Lines.{AllAsked};
 
-/// A line that is read from a text names numbers that are in range, and so in every schedule of it, whole or cut short: what the host is asked is in range, an
-/// interview is asked of a node that is joined, and a message of a user's own has at most 46 bytes.
+/// What a line asks, whole or cut short: an interview is asked of a node that is joined, and a message of a user's own has at most 46 bytes.
 pub fn lines_ask_well()
-    ensures text { (text : List ℕ) (line : Line) → line_at text ≡ Ok (Some line) → IsInRange line }
-    ensures line { (line : Line) (m : Machine) (events : List Event) → IsInRange line → LinePart line m events → AllAsked m events }
-    ensures lines { (lines : List Line) (m : Machine) (events : List Event) → AllByRecursion IsInRange lines → AreLines lines m events → AllAsked m events }
+    ensures line { (line : Line) (m : Machine) (events : List Event) → LinePart line m events → AllAsked m events }
+    ensures lines { (lines : List Line) (m : Machine) (events : List Event) → AreLines lines m events → AllAsked m events }
     ensures both { (m : Machine) (a b : List Event) → AllAsked m a → AllAsked (happens_all m a) b → AllAsked m (a ++ b) }
 {}
 
@@ -32,10 +28,10 @@ pub fn runs_keep_and_ask_well()
         AllKeepWell (first_machine keys (Some []) devices) events × AllAskWell (first_machine keys (Some []) devices) events }
 {}
 
-/// So in every run of lines that were read, the last of which want of memory may have cut short, over a keeper that tells its records and has none at first: what the laws of
+/// So in every run of lines, the last of which want of memory may have cut short, over a keeper that tells its records and has none at first: what the laws of
 /// whole runs premise of interviews, payloads and restarts holds.
 pub fn lines_keep_and_ask_well()
-    ensures all { (keys : Keys) (devices : List State) (lines : List Line) (events : List Event) → AllByRecursion IsRead lines →
+    ensures { (keys : Keys) (devices : List State) (lines : List Line) (events : List Event) →
         AreLines lines (first_machine keys (Some []) devices) events → MayAll (first_machine keys (Some []) devices) events →
         AllKeepWell (first_machine keys (Some []) devices) events × AllAskWell (first_machine keys (Some []) devices) events }
 {

@@ -11,7 +11,6 @@ use Rattle.zw_machine.specs.Fronts.{IsLineBefore}
 use Rattle.line_facts.specs.Line.{AreLines}
 use Rattle.scenario_run.specs.declared.running.LinesEnd.{LinesEnd}
 use Rattle.entry_pieces.specs.Lines.{TextLine, listed, lines_in}
-use Rattle.run_facts.specs.Lines.{IsRead}
 use Rattle.sim_laws.specs.Laws.{Ran, events_of, lines_of, AreRun, AreBegun}
 use Rattle.sim_laws.proofs.Stories.{are_front}
 
@@ -38,10 +37,6 @@ plain_lines (ran ∷ more) = ran.line.line ∷ plain_lines more
 -- so of the lines of a story
 abbrev pub AreRead : List Ran → Type 0
 AreRead story = AllByRecursion IsReadAs (lines_of story)
-
-pub lines_read : (story : List Ran) → AreRead story → AllByRecursion IsRead (plain_lines story)
-lines_read [] all = tt
-lines_read (ran ∷ more) all = ((ran.line.text, all.0), lines_read more all.1)
 
 front_read : (a b : List (TextLine Line)) → AllByRecursion IsReadAs (a ++ b) → AllByRecursion IsReadAs a
 front_read [] b all = tt

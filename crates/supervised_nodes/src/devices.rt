@@ -10,15 +10,14 @@ ghost use Rattle.zw_machine.specs.State.{first_machine};
 ghost use Rattle.zw_machine.specs.Events.{Event};
 ghost use Rattle.zw_machine.specs.Did.{happens_all, MayAll};
 ghost use Rattle.line_facts.specs.Line.{AreLines};
-ghost use Rattle.run_facts.specs.Lines.{IsRead};
 ghost use Rattle.supervised_nodes.specs.Supervised.{IsPlainOrLock, IsSupervisedNode};
 
 use crate::lock_nodes::locks_as_made_begin_courses;
 use crate::plain_nodes::{devices_as_made_begin_courses, orders_go_plain};
 
-/// Of devices as their makers left them, over any lines that were read: a node whose device lists Supervision is plain, or one of a lock.
+/// Of devices as their makers left them, over any lines: a node whose device lists Supervision is plain, or one of a lock.
 pub fn supervised_nodes_are_plain_or_locks()
-    ensures { (key : List ℕ) (devices : List State) (lines : List Line) (events : List Event) (node : ℕ) → AllByRecursion (IsAsMade key) devices → AllByRecursion IsRead lines →
+    ensures { (key : List ℕ) (devices : List State) (lines : List Line) (events : List Event) (node : ℕ) → AllByRecursion (IsAsMade key) devices →
         AreLines lines (first_machine (keys_of key) (Some []) devices) events → MayAll (first_machine (keys_of key) (Some []) devices) events →
         IsSupervisedNode devices node → IsPlainOrLock (keys_of key) devices events node }
 {

@@ -15,7 +15,6 @@ ghost use Rattle.zw_machine.specs.State.{first_machine};
 ghost use Rattle.zw_machine.specs.Events.{Event};
 ghost use Rattle.zw_machine.specs.Did.{happens_all, MayAll};
 ghost use Rattle.line_facts.specs.Line.{AreLines};
-ghost use Rattle.run_facts.specs.Lines.{IsRead};
 ghost use Rattle.node_course.specs.World.{OrdersPlain};
 ghost use Rattle.once_facts.specs.Tied.{AreTied};
 ghost use Rattle.said_facts.specs.Spoken.{Spoken, after_all};
@@ -42,10 +41,10 @@ pub fn devices_as_made_begin_courses()
     idle_devices_stay_idle();
 }
 
-/// Over any lines that were read, each order that is accepted for a node whose device is of a plain kind goes unsealed: before an interview the host takes
+/// Over any lines, each order that is accepted for a node whose device is of a plain kind goes unsealed: before an interview the host takes
 /// node 2 for a switch and takes no order for others, and an interview tells what the device lists.
 pub fn orders_go_plain()
-    ensures { (keys : Keys) (devices : List State) (lines : List Line) (events : List Event) (node : ℕ) (device : State) → AllByRecursion IsRead lines →
+    ensures { (keys : Keys) (devices : List State) (lines : List Line) (events : List Event) (node : ℕ) (device : State) →
         AreLines lines (first_machine keys (Some []) devices) events → MayAll (first_machine keys (Some []) devices) events →
         device_of node devices ≡ Some device → IsPlainKind device.kind → AllByRecursion (OrdersPlain node) events }
 {

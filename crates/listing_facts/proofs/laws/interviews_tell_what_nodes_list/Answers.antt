@@ -1,26 +1,18 @@
 -- Units are judged whole, so interviews hear what devices list; they are of joined nodes, and restarts know again.
-use Rattle.std.proofs.Common.{List, [], ◌∷◌, Some, refl}
-use Rattle.std.specs.List.{AllByRecursion}
-use Rattle.zw_text.specs.declared.line.Line.{Line}
+use Rattle.std.proofs.Common.{[], Some, refl}
 use Rattle.zw_laws.specs.Nodes.{listing_of}
 use Rattle.zw_machine.specs.State.{first_machine}
-use Rattle.run_facts.specs.Lines.{IsRead, IsInRange}
 use Rattle.device_facts.proofs.GoingOn.{go_none}
-use Rattle.run_facts.proofs.Reading.{text_in}
 use Rattle.listing_facts.proofs.Hearing.{all_hear_lists, first_down}
 use Rattle.listing_facts.proofs.Listing.{lists_on}
 use Rattle.listing_facts.proofs.Knowing.{all_tell}
 use Rattle.listing_facts.proofs.laws.interviews_tell_what_nodes_list.Goals as goal
 
-all_in : (lines : List Line) → AllByRecursion IsRead lines → AllByRecursion IsInRange lines
-all_in [] read = tt
-all_in (line ∷ lines) read = (text_in read.0.0 line read.0.1, all_in lines read.1)
-
 pub returns-clause-heard : goal.returns-clause-heard
-returns-clause-heard c = λ keys devices lines events read are may.
+returns-clause-heard c = λ keys devices lines events are may.
     let m = first_machine keys (Some []) devices in
     let listing = listing_of devices in
-    let asked = c.lines_ask_well.ensures.lines lines m events (all_in lines read) are in
+    let asked = c.lines_ask_well.ensures.lines lines m events are in
     let short = (c.runs_keep_and_ask_well.ensures keys devices events may asked).1 in
     let written = c.hosts_write_well.ensures.run keys (Some []) devices events may short in
     let rests = c.units_are_judged_whole.ensures.lines keys (Some []) devices lines events are may written in
@@ -28,10 +20,10 @@ returns-clause-heard c = λ keys devices lines events read are may.
     all_hear_lists listing m events may rests.at_rest lists (first_down listing keys (Some []) devices)
 
 pub returns-clause-tell : goal.returns-clause-tell
-returns-clause-tell c = λ keys devices lines events read are may.
+returns-clause-tell c = λ keys devices lines events are may.
     let m = first_machine keys (Some []) devices in
     let listing = listing_of devices in
-    let well = c.lines_keep_and_ask_well.ensures.all keys devices lines events read are may in
+    let well = c.lines_keep_and_ask_well.ensures keys devices lines events are may in
     all_tell listing c.interviews_give_what_is_known.ensures.again c.restarts_go_on.ensures.each c.the_machine_keeps_facts.ensures.each [] m events
     (c.the_machine_keeps_facts.ensures.first keys (Some []) devices) (c.restarts_go_on.ensures.first keys (Some []) refl) may
-    (c.lines_ask_well.ensures.lines lines m events (all_in lines read) are) well.0 (returns-clause-heard c keys devices lines events read are may)
+    (c.lines_ask_well.ensures.lines lines m events are) well.0 (returns-clause-heard c keys devices lines events are may)

@@ -1,4 +1,4 @@
--- The lines of a story that were read, over a keeper that tells its records.
+-- The lines of a story, over a keeper that tells its records.
 use Rattle.std.proofs.Common.{ℕ, List, Option, refl, sym, subst}
 use Rattle.host_core.specs.Network.{keys_of}
 use Rattle.zw_machine.specs.State.{Machine, first_machine}
@@ -8,7 +8,7 @@ use Rattle.world_facts.specs.Restarts.{AllKeepWell, BeginsEmpty}
 use Rattle.sim_laws.specs.Laws.{events_of, first}
 use Rattle.sim_laws.proofs.Stories.{is_begun}
 use Rattle.sim_laws.proofs.Keeping.{may_front}
-use Rattle.sim_laws.proofs.Reading.{plain_lines, lines_read, texts_read, story_lines}
+use Rattle.sim_laws.proofs.Reading.{plain_lines, story_lines}
 use Rattle.sim_laws.proofs.laws.runs_keep_records.Goals as goal
 
 pub returns : goal.returns
@@ -17,8 +17,7 @@ returns c = λ ended key old new quiet story unentered tells none.
     let At : Option (List (List ℕ)) → Machine = λ records. first_machine (keys_of key) records old.devices in
     record {
       empty = subst (λ (records : Option (List (List ℕ))). BeginsEmpty records) (sym none) refl;
-      well = subst (λ (records : Option (List (List ℕ))). AllKeepWell (At records) events) (sym none) ((c.lines_keep_and_ask_well.ensures.all (keys_of key) old.devices (plain_lines story) events
-          (lines_read story (texts_read tells.ran.told.end story _ tells.lines))
+      well = subst (λ (records : Option (List (List ℕ))). AllKeepWell (At records) events) (sym none) ((c.lines_keep_and_ask_well.ensures (keys_of key) old.devices (plain_lines story) events
           (subst (λ (records : Option (List (List ℕ))). AreLines (plain_lines story) (At records) events) none
           (story_lines (first key old) story (is_begun tells.ran.told.end (first key old) story tells.scheduled)))
           (subst (λ (records : Option (List (List ℕ))). MayAll (At records) events) none (may_front (first key old) events unentered tells.may))).0);

@@ -21,7 +21,6 @@ use Rattle.line_facts.specs.Line.{AreLines}
 use Rattle.scenario_run.specs.declared.status.Status.{Status}
 use Rattle.entry_pieces.specs.Pieces.{said_text}
 use Rattle.entry_pieces.specs.Lines.{TextLine}
-use Rattle.run_facts.specs.Lines.{IsRead}
 use Rattle.said_facts.specs.Spoken.{after_all, transcript_of}
 use Rattle.listing_facts.specs.Lines.{AreDone, events_of as events_said}
 use Rattle.supervised_nodes.proofs.PlainTying.{was_there}
@@ -32,7 +31,7 @@ use Rattle.sim_laws.specs.Laws.{Ran, AreBegun, IsFairRun, IsUnentered, Tells, ev
 use Rattle.sim_laws.proofs.Stories.{is_begun, is_unentered}
 use Rattle.sim_laws.proofs.Keeping.{may_front}
 use Rattle.sim_laws.proofs.Unentered.{same_lines, further_may, further_devices, further_host}
-use Rattle.sim_laws.proofs.Reading.{AreRead, IsReadAs, plain_lines, lines_read, story_lines, texts_read}
+use Rattle.sim_laws.proofs.Reading.{AreRead, IsReadAs, plain_lines, story_lines, texts_read}
 use Rattle.sim_laws.proofs.Speaking.{all_done, all_said, same_events, same_machine, same_transcript}
 use Rattle.sim_laws.proofs.laws.stories_have_the_headline.Goals as goal
 
@@ -45,7 +44,7 @@ record Fair (key : List ℕ) (devices : List State) (story : List Ran) (records 
 
 -- which nodes are plain or of a lock, by the keys of the network
 abbrev AreBy : (List ℕ → Keys) → Type 0
-AreBy keys = (key : List ℕ) (devices : List State) (lines : List Line) (events : List Event) (node : ℕ) → AllByRecursion (IsAsMade key) devices → AllByRecursion IsRead lines →
+AreBy keys = (key : List ℕ) (devices : List State) (lines : List Line) (events : List Event) (node : ℕ) → AllByRecursion (IsAsMade key) devices →
     AreLines lines (first_machine (keys key) (Some []) devices) events → MayAll (first_machine (keys key) (Some []) devices) events →
     IsSupervisedNode devices node → IsPlainOrLock (keys key) devices events node
 
@@ -74,7 +73,7 @@ module _ (laws : Laws) (key : List ℕ) (devices : List State) (story : List Ran
 
   plain_or_lock : (node : ℕ) → IsSupervisedNode devices node → IsPlainOrLock (keys_of key) devices (events_said (all_said story)) node
   plain_or_lock node supervised = subst (λ (events : List Event). IsPlainOrLock (keys_of key) devices events node) (sym (same_events story))
-      (as_network laws.are key devices (plain_lines story) (events_of story) node fair.made (lines_read story fair.read) (story_lines begun story fair.schedules) fair.may supervised)
+      (as_network laws.are key devices (plain_lines story) (events_of story) node fair.made (story_lines begun story fair.schedules) fair.may supervised)
 
 -- what `run` was given, and what it left
 fair_of : (key : List ℕ) (old : Around) (story : List Ran) → AreRead story → MayAll (first key old) (events_of story) → AreBegun (first key old) story → IsFairRun key old → Fair key old.devices story (Some [])

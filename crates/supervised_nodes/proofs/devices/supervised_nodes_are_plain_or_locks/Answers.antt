@@ -5,9 +5,9 @@ use Rattle.supervised_nodes.proofs.Sorting.{plain_or_lock}
 use Rattle.supervised_nodes.proofs.devices.supervised_nodes_are_plain_or_locks.Goals as goal
 
 pub returns : goal.returns
-returns c = λ key devices lines events node made read are may it. elim (plain_or_lock it.device.kind it.supervised) [
+returns c = λ key devices lines events node made are may it. elim (plain_or_lock it.device.kind it.supervised) [
   | inl kind ↦
       let begins = c.devices_as_made_begin_courses.ensures.begins key devices node it.device made it.first kind in
-      inl (record { within = begins.0; device = begins.1; orders = c.orders_go_plain.ensures (keys_of key) devices lines events node it.device read are may it.first kind })
+      inl (record { within = begins.0; device = begins.1; orders = c.orders_go_plain.ensures (keys_of key) devices lines events node it.device are may it.first kind })
   | inr kind ↦ inr (c.locks_as_made_begin_courses.ensures key devices node it.device made it.first kind)
 ]

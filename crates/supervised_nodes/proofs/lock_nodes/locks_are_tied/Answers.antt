@@ -16,7 +16,7 @@ returns-clause-tied c = λ keys devices lines node device lock done found.
     let read = all_read m lines done in
     let are = all_lines m lines done in
     let may = all_may m lines done in
-    let well = c.lines_keep_and_ask_well.ensures.all keys devices (lines_of lines) events read are may in
+    let well = c.lines_keep_and_ask_well.ensures keys devices (lines_of lines) events are may in
     let has = c.lines_have_courses.ensures.lines node keys (Some []) devices (lines_of lines) events lock.within lock.device refl (all_name c.lines_ask_plainly.ensures.text (lines_of lines) read) are may well.1 well.0 in
     let at_end : HasCourses node (after_all m lines) = subst (λ (x : Machine). HasCourses node x) (sym (all_after m lines)) has in
     course_ties c.courses_tie_their_ends.ensures node (after_all m lines) device at_end.courses.sessions (lock_at node (after_all m lines) at_end) found
@@ -28,6 +28,6 @@ returns-clause-truth c = λ keys devices lines node lock done.
     let read = all_read m lines done in
     let are = all_lines m lines done in
     let may = all_may m lines done in
-    let well = c.lines_keep_and_ask_well.ensures.all keys devices (lines_of lines) events read are may in
+    let well = c.lines_keep_and_ask_well.ensures keys devices (lines_of lines) events are may in
     lines_true node m lines
     (c.lines_have_courses.ensures.truth node keys (Some []) devices (lines_of lines) events lock.within lock.device refl (all_name c.lines_ask_plainly.ensures.text (lines_of lines) read) are may well.1 well.0)

@@ -11,8 +11,8 @@ use Rattle.supervised_nodes.proofs.Opening.{event_plain, first_open, listing_ope
 use Rattle.supervised_nodes.proofs.plain_nodes.orders_go_plain.Goals as goal
 
 pub returns : goal.returns
-returns c = λ keys devices lines events node device read are may found plain.
+returns c = λ keys devices lines events node device are may found plain.
     let listing : ℕ → List ℕ = listing_of devices in
     all_hold c.a_restart_needs_the_records_alone.ensures.others listing node IsOpenList (listing_open devices node device found plain) (OrdersPlain node) (event_plain node) (first_machine keys (Some []) devices) events may
-    (c.interviews_tell_what_nodes_list.ensures.tell keys devices lines events read are may)
+    (c.interviews_tell_what_nodes_list.ensures.tell keys devices lines events are may)
     (first_open node (classes_of (first_host keys).nodes node) (c.interviews_give_what_is_known.ensures.first listing keys node))

@@ -15,7 +15,7 @@ returns-clause-tied c = λ keys devices lines node device plain done found.
     let read = all_read m lines done in
     let are = all_lines m lines done in
     let may = all_may m lines done in
-    let well = c.lines_keep_and_ask_well.ensures.all keys devices (lines_of lines) events read are may in
+    let well = c.lines_keep_and_ask_well.ensures keys devices (lines_of lines) events are may in
     let course = c.lines_have_a_course.ensures.plain node keys (Some []) devices (lines_of lines) events plain.within plain.device refl (all_name c.lines_ask_plainly.ensures.text (lines_of lines) read) are may well.1 well.0 plain.orders in
     let at_end : HasCourse node (after_all m lines) = subst (λ (x : Machine). HasCourse node x) (sym (all_after m lines)) course in
     course_ties c.courses_tie_their_ends.ensures node (after_all m lines) device at_end.course (plain_at node (after_all m lines) at_end) found
@@ -27,6 +27,6 @@ returns-clause-truth c = λ keys devices lines node plain done.
     let read = all_read m lines done in
     let are = all_lines m lines done in
     let may = all_may m lines done in
-    let well = c.lines_keep_and_ask_well.ensures.all keys devices (lines_of lines) events read are may in
+    let well = c.lines_keep_and_ask_well.ensures keys devices (lines_of lines) events are may in
     lines_true node m lines
     (c.lines_tell_the_truth.ensures.plain node keys (Some []) devices (lines_of lines) events plain.within plain.device refl (all_name c.lines_ask_plainly.ensures.text (lines_of lines) read) are may well.1 well.0 plain.orders)
