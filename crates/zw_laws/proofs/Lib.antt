@@ -1,2 +1,5 @@
 pub mod Comings
 mod Computing
+mod Ciphering
+mod Sealing
+mod Rows

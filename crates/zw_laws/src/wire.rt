@@ -5,7 +5,7 @@ ghost use Rattle.zw_laws.specs.Nodes.{listing_of};
 ghost use Rattle.zw_laws.specs.Carrying.{CarriesUnits, BringsWhatWasHeard};
 ghost use Rattle.zw_laws.specs.Payloads.{SendsWhatIsDue, BeginsWithUnit};
 ghost use Rattle.zw_laws.specs.Causes.{EachHasCause};
-ghost use Rattle.zw_laws.specs.Worked.{plain_exchange, repeated_exchange, lossy_exchange, cancelled_order, restarted_host, sleeping_node, sealed_exchange, long_message, the_switch, the_sensor, the_lock, the_plug};
+ghost use Rattle.zw_laws.specs.Worked.{plain_exchange, repeated_exchange, lossy_exchange, cancelled_order, restarted_host, sleeping_node, sealed_exchange, long_message, the_switch, the_sensor, the_lock, the_plug, network_key};
 ghost use Rattle.zw_laws.specs.WorkedWrongWire.{aired_unasked, aired_twice, brought_unheard, sent_otherwise, begun_silently, begun_elsewhere, told_by_none, told_of_another, told_of_failure, told_of_session, told_openly, woken_by_none, old_from_none, old_otherwise, interviewed_by_none, interviewed_otherwise, reported_by_none, reported_otherwise};
 
 /// In worked transcripts the controller's frames are those that units asked for.
@@ -29,11 +29,16 @@ pub fn worked_begins()
     ensures cancelled { BeginsWithUnit cancelled_order }
 {}
 
-/// In worked transcripts the host sends what is due: messages of sessions, segments of them, No More Information.
+/// In worked transcripts the host sends what is due: messages of sessions, segments of them, sealed ones and what these ask for, No More Information.
 pub fn worked_payloads()
     ensures plain { SendsWhatIsDue (listing_of (the_switch ∷ [])) [] plain_exchange }
     ensures repeated { SendsWhatIsDue (listing_of (the_switch ∷ [])) [] repeated_exchange }
+    ensures lossy { SendsWhatIsDue (listing_of (the_switch ∷ [])) [] lossy_exchange }
     ensures cancelled { SendsWhatIsDue (listing_of (the_switch ∷ [])) [] cancelled_order }
+    ensures restarted { SendsWhatIsDue (listing_of (the_switch ∷ [])) [] restarted_host }
+    ensures sleeping { SendsWhatIsDue (listing_of (the_sensor ∷ [])) [] sleeping_node }
+    ensures sealed { SendsWhatIsDue (listing_of (the_lock ∷ [])) network_key sealed_exchange }
+    ensures cut { SendsWhatIsDue (listing_of (the_plug ∷ [])) [] long_message }
 {}
 
 /// In worked transcripts outcomes, wakings, old reports and interviews have their causes.
