@@ -2,4 +2,4 @@ pub mod Comings
 mod Computing
 mod Ciphering
 mod Sealing
-mod Rows
+mod Entries

@@ -11,20 +11,37 @@ ghost use Rattle.zw_laws.specs.WorkedWrongHost.{unanswered, unanswered_at_last, 
 pub fn worked_answers()
     ensures plain { AnswersLines true (the_switch ∷ []) plain_exchange }
     ensures repeated { AnswersLines true (the_switch ∷ []) repeated_exchange }
+    ensures lossy { AnswersLines true (the_switch ∷ []) lossy_exchange }
     ensures cancelled { AnswersLines true (the_switch ∷ []) cancelled_order }
+    ensures restarted { AnswersLines true (the_switch ∷ []) restarted_host }
+    ensures sleeping { AnswersLines true (the_sensor ∷ []) sleeping_node }
+    ensures sealed { AnswersLines true (the_lock ∷ []) sealed_exchange }
+    ensures cut { AnswersLines true (the_plug ∷ []) long_message }
+    ensures refused { AnswersLines true (the_switch ∷ []) refused_lines }
 {}
 
 /// In worked transcripts a command is taken back where a line asks for it.
 pub fn worked_cancels()
     ensures plain { CancelsWhenAsked plain_exchange }
+    ensures repeated { CancelsWhenAsked repeated_exchange }
+    ensures lossy { CancelsWhenAsked lossy_exchange }
     ensures cancelled { CancelsWhenAsked cancelled_order }
+    ensures restarted { CancelsWhenAsked restarted_host }
+    ensures sleeping { CancelsWhenAsked sleeping_node }
+    ensures sealed { CancelsWhenAsked sealed_exchange }
+    ensures cut { CancelsWhenAsked long_message }
 {}
 
 /// In worked transcripts the values entered as confirmed are those of the successful commands.
 pub fn worked_stores()
     ensures plain { StoresConfirmed true (listing_of (the_switch ∷ [])) plain_exchange }
     ensures repeated { StoresConfirmed true (listing_of (the_switch ∷ [])) repeated_exchange }
+    ensures lossy { StoresConfirmed true (listing_of (the_switch ∷ [])) lossy_exchange }
     ensures cancelled { StoresConfirmed true (listing_of (the_switch ∷ [])) cancelled_order }
+    ensures restarted { StoresConfirmed true (listing_of (the_switch ∷ [])) restarted_host }
+    ensures sleeping { StoresConfirmed true (listing_of (the_sensor ∷ [])) sleeping_node }
+    ensures sealed { StoresConfirmed true (listing_of (the_lock ∷ [])) sealed_exchange }
+    ensures cut { StoresConfirmed true (listing_of (the_plug ∷ [])) long_message }
 {}
 
 /// Each of these breaks one part of the laws: an order without its answer, also as the last line, refused for nothing, with a wrong number, or failed

@@ -12,14 +12,24 @@ ghost use Rattle.zw_laws.specs.WorkedWrong.{begun_twice, begun_ahead, begun_earl
 pub fn worked_sessions()
     ensures plain { KeepsSessions plain_exchange }
     ensures repeated { KeepsSessions repeated_exchange }
+    ensures lossy { KeepsSessions lossy_exchange }
     ensures cancelled { KeepsSessions cancelled_order }
+    ensures restarted { KeepsSessions restarted_host }
+    ensures sleeping { KeepsSessions sleeping_node }
+    ensures sealed { KeepsSessions sealed_exchange }
+    ensures cut { KeepsSessions long_message }
 {}
 
 /// In worked transcripts success is reported after the change.
 pub fn worked_successes()
     ensures plain { SucceedsAfterChange plain_exchange }
     ensures repeated { SucceedsAfterChange repeated_exchange }
+    ensures lossy { SucceedsAfterChange lossy_exchange }
     ensures cancelled { SucceedsAfterChange cancelled_order }
+    ensures restarted { SucceedsAfterChange restarted_host }
+    ensures sleeping { SucceedsAfterChange sleeping_node }
+    ensures sealed { SucceedsAfterChange sealed_exchange }
+    ensures cut { SucceedsAfterChange long_message }
 {}
 
 /// Worked transcripts are once-only: a plain exchange, a message that is heard twice, one whose first attempts are lost, an

@@ -12,21 +12,36 @@ ghost use Rattle.zw_laws.specs.WorkedWrongWire.{aired_unasked, aired_twice, brou
 pub fn worked_units()
     ensures plain { CarriesUnits plain_exchange }
     ensures repeated { CarriesUnits repeated_exchange }
+    ensures lossy { CarriesUnits lossy_exchange }
     ensures cancelled { CarriesUnits cancelled_order }
+    ensures restarted { CarriesUnits restarted_host }
+    ensures sleeping { CarriesUnits sleeping_node }
+    ensures sealed { CarriesUnits sealed_exchange }
+    ensures cut { CarriesUnits long_message }
 {}
 
 /// In worked transcripts the chip brings what was heard.
 pub fn worked_bringing()
     ensures plain { BringsWhatWasHeard plain_exchange }
     ensures repeated { BringsWhatWasHeard repeated_exchange }
+    ensures lossy { BringsWhatWasHeard lossy_exchange }
     ensures cancelled { BringsWhatWasHeard cancelled_order }
+    ensures restarted { BringsWhatWasHeard restarted_host }
+    ensures sleeping { BringsWhatWasHeard sleeping_node }
+    ensures sealed { BringsWhatWasHeard sealed_exchange }
+    ensures cut { BringsWhatWasHeard long_message }
 {}
 
 /// In worked transcripts behind each session that begins stands its unit.
 pub fn worked_begins()
     ensures plain { BeginsWithUnit plain_exchange }
     ensures repeated { BeginsWithUnit repeated_exchange }
+    ensures lossy { BeginsWithUnit lossy_exchange }
     ensures cancelled { BeginsWithUnit cancelled_order }
+    ensures restarted { BeginsWithUnit restarted_host }
+    ensures sleeping { BeginsWithUnit sleeping_node }
+    ensures sealed { BeginsWithUnit sealed_exchange }
+    ensures cut { BeginsWithUnit long_message }
 {}
 
 /// In worked transcripts the host sends what is due: messages of sessions, segments of them, sealed ones and what these ask for, No More Information.
@@ -45,7 +60,12 @@ pub fn worked_payloads()
 pub fn worked_causes()
     ensures plain { EachHasCause (listing_of (the_switch ∷ [])) [] plain_exchange }
     ensures repeated { EachHasCause (listing_of (the_switch ∷ [])) [] repeated_exchange }
+    ensures lossy { EachHasCause (listing_of (the_switch ∷ [])) [] lossy_exchange }
     ensures cancelled { EachHasCause (listing_of (the_switch ∷ [])) [] cancelled_order }
+    ensures restarted { EachHasCause (listing_of (the_switch ∷ [])) [] restarted_host }
+    ensures sleeping { EachHasCause (listing_of (the_sensor ∷ [])) [] sleeping_node }
+    ensures sealed { EachHasCause (listing_of (the_lock ∷ [])) network_key sealed_exchange }
+    ensures cut { EachHasCause (listing_of (the_plug ∷ [])) [] long_message }
 {}
 
 /// Each of these breaks one part of the laws: a frame that no unit asked for, or twice for one unit; a payload brought that was not heard; the message
