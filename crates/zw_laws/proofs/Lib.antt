@@ -3,3 +3,4 @@ mod Computing
 mod Ciphering
 mod Sealing
 mod Entries
+mod Dues

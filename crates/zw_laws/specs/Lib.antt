@@ -22,5 +22,6 @@ pub mod Worked
 pub mod WorkedWrong
 pub mod WorkedWrongHost
 pub mod WorkedWrongWire
+pub mod WorkedWrongPayloads
 pub mod WorkedDevices
 pub mod WorkedRepeats

@@ -34,12 +34,6 @@ brought_unheard =
     Dev 2 (Session 1) (setting 0 names.Switch 255) ∷ Air 2 2 1 [] (bytes (codes "6C0201FF00")) ∷
     Written Chip (bytes (codes "010B00040002056C0201FF0067")) ∷ []
 
--- the host sends the message of another session
-abbrev pub sent_otherwise : List Entry
-sent_otherwise =
-    Said (codes "set 2 on") ∷ Accepted 1 2 ∷ Begin 2 1 1 ∷
-    Written Host (bytes (codes "010E001302076C0102032501FF250174")) ∷ []
-
 -- a session begins without its unit
 abbrev pub begun_silently : List Entry
 begun_silently =
@@ -84,6 +78,19 @@ abbrev pub told_openly : List Entry
 told_openly =
     Written Chip (bytes (codes "010C004984040604000062986CAE")) ∷ Interviewed 4 ∷ Said (codes "set 4 on") ∷ Accepted 1 4 ∷ Begin 4 1 1 ∷
     Written Chip (bytes (codes "010B00040004056C0201FF0061")) ∷ Out 1 endings.Success ∷ []
+
+-- success is reported of a lock whose sealed report is for a nonce that the host has not given
+abbrev pub told_for_none : List Entry
+told_for_none =
+    Written Chip (bytes (codes "010C004984040604000062986CAE")) ∷ Interviewed 4 ∷ Said (codes "set 4 on") ∷ Accepted 1 4 ∷ Begin 4 1 1 ∷
+    Written Chip (bytes (codes "011F000400041998810AED115731C616E72C1D6945BFE201FE761C24E5DCC41E55")) ∷ Out 1 endings.Success ∷ []
+
+-- success is reported of a lock whose sealed report has another code
+abbrev pub told_unopened : List Entry
+told_unopened =
+    Written Chip (bytes (codes "010C004984040604000062986CAE")) ∷ Interviewed 4 ∷ Said (codes "set 4 on") ∷ Accepted 1 4 ∷ Begin 4 1 1 ∷
+    Written Host (bytes (codes "01110013040A9880019E0A1249BB594F2504A9")) ∷
+    Written Chip (bytes (codes "011F000400041998810AED115731C616E72C1D6945BFE201FE761C24E5DCC41F54")) ∷ Out 1 endings.Success ∷ []
 
 -- a node counts as awake though it has not told so
 abbrev pub woken_by_none : List Entry

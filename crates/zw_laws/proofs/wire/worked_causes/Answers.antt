@@ -3,7 +3,7 @@ use Rattle.zw_laws.specs.Nodes.{listing_of}
 use Rattle.zw_laws.specs.Worked.{plain_exchange, repeated_exchange, lossy_exchange, cancelled_order, restarted_host, sleeping_node, sealed_exchange, long_message, refused_lines, the_switch, the_sensor, the_lock, the_plug, network_key}
 use Rattle.zw_laws.proofs.Entries.{each_has_cause}
 use Rattle.class_info.specs.declared.report_status.ReportStatus.TheVariants as statuses
-use Rattle.zw_laws.proofs.Sealing.{opened_report}
+use Rattle.zw_laws.proofs.Sealing.{report_nonce, report_plain, opened_report}
 use Rattle.zw_laws.proofs.Computing.{computing}
 use Rattle.zw_laws.proofs.wire.worked_causes.Goals as goal
 
@@ -40,7 +40,7 @@ returns-clause-sealed c = each_has_cause (listing_of (the_lock ∷ [])) network_
       node = 4;
       wake_request = false;
       carries = refl;
-      reported = inr (inr (inl (record { nonce = 0x01 ∷ 0x9E ∷ 0x0A ∷ 0x12 ∷ 0x49 ∷ 0xBB ∷ 0x59 ∷ 0x4F ∷ []; text = 0x6C ∷ 2 ∷ 1 ∷ 0xFF ∷ 0 ∷ []; eight = refl; opens = opened_report; tells = inl refl })));
+      reported = inr (inr (inl (record { nonce = report_nonce; text = report_plain; given = inr (inr (inr (inl refl))); eight = refl; opens = opened_report; tells = inl refl })));
     },
     tt,
   ),

@@ -2,7 +2,7 @@ use Rattle.std.proofs.Common.{[], ◌∷◌, refl, inl, inr, sym, arith, true, f
 use Rattle.zw_laws.specs.Nodes.{listing_of}
 use Rattle.zw_laws.specs.Worked.{plain_exchange, repeated_exchange, lossy_exchange, cancelled_order, restarted_host, sleeping_node, sealed_exchange, long_message, refused_lines, the_switch, the_sensor, the_lock, the_plug, network_key}
 use Rattle.zw_laws.proofs.Entries.{sends_what_is_due}
-use Rattle.zw_laws.proofs.Sealing.{sealed_set}
+use Rattle.zw_laws.proofs.Sealing.{set_own, set_nonce, report_nonce, sealed_set}
 use Rattle.zw_laws.proofs.Computing.{computing}
 use Rattle.zw_laws.proofs.wire.worked_payloads.Goals as goal
 
@@ -32,7 +32,7 @@ returns-clause-sleeping c = sends_what_is_due (listing_of (the_sensor ∷ [])) [
 
 pub returns-clause-sealed : goal.returns-clause-sealed
 unfolding computing
-returns-clause-sealed c = sends_what_is_due (listing_of (the_lock ∷ [])) network_key sealed_exchange ((inr (inl refl), tt), ((inr (inl refl), tt), ((inl (record { own = 0x6B ∷ 0x71 ∷ 0xE5 ∷ 0x4E ∷ 0x0F ∷ 0x8E ∷ 0xE3 ∷ 0x18 ∷ []; nonce = 0x01 ∷ 0xED ∷ 0x7E ∷ 0x19 ∷ 0x63 ∷ 0x80 ∷ 0x89 ∷ 0xD9 ∷ []; given = inl refl; eight = refl; text = sym sealed_set }), tt), ((inr (inr (inl (record { nonce = 0x01 ∷ 0x9E ∷ 0x0A ∷ 0x12 ∷ 0x49 ∷ 0xBB ∷ 0x59 ∷ 0x4F ∷ []; eight = refl; asked = inr (inl refl); text = refl }))), tt), tt))))
+returns-clause-sealed c = sends_what_is_due (listing_of (the_lock ∷ [])) network_key sealed_exchange ((inr (inl refl), tt), ((inr (inl refl), tt), ((inl (record { own = set_own; nonce = set_nonce; given = inl refl; own_eight = refl; eight = refl; text = sym sealed_set }), tt), ((inr (inr (inl (record { nonce = report_nonce; eight = refl; asked = inr (inl refl); text = refl }))), tt), tt))))
 
 pub returns-clause-cut : goal.returns-clause-cut
 unfolding computing
