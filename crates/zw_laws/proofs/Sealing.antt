@@ -106,7 +106,7 @@ report_ends = record { sender = 4; receiver = 1 }
 abbrev report_text : List ℕ
 report_text = 0x2C ∷ 0x1D ∷ 0x69 ∷ 0x45 ∷ 0xBF ∷ 0xE2 ∷ []
 
-abbrev report_code : List ℕ
+abbrev pub report_code : List ℕ
 report_code = 0xFE ∷ 0x76 ∷ 0x1C ∷ 0x24 ∷ 0xE5 ∷ 0xDC ∷ 0xC4 ∷ 0x1E ∷ []
 
 abbrev report_stream : List ℕ

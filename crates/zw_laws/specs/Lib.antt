@@ -23,5 +23,6 @@ pub mod WorkedWrong
 pub mod WorkedWrongHost
 pub mod WorkedWrongWire
 pub mod WorkedWrongPayloads
+pub mod WorkedWrongLines
 pub mod WorkedDevices
 pub mod WorkedRepeats

@@ -6,7 +6,7 @@ ghost use Rattle.zw_laws.specs.Carrying.{CarriesUnits, BringsWhatWasHeard};
 ghost use Rattle.zw_laws.specs.Payloads.{SendsWhatIsDue, BeginsWithUnit};
 ghost use Rattle.zw_laws.specs.Causes.{EachHasCause};
 ghost use Rattle.zw_laws.specs.Worked.{plain_exchange, repeated_exchange, lossy_exchange, cancelled_order, restarted_host, sleeping_node, sealed_exchange, long_message, the_switch, the_sensor, the_lock, the_plug, network_key};
-ghost use Rattle.zw_laws.specs.WorkedWrongWire.{aired_unasked, aired_twice, brought_unheard, begun_silently, begun_elsewhere, told_by_none, told_of_another, told_of_failure, told_of_session, told_openly, woken_by_none, old_from_none, old_otherwise, interviewed_by_none, interviewed_otherwise, reported_by_none, reported_otherwise, told_for_none, told_unopened};
+ghost use Rattle.zw_laws.specs.WorkedWrongWire.{aired_unasked, aired_twice, aired_backwards, told_of_sealed_failure, interviewed_of_another, brought_unheard, begun_silently, begun_elsewhere, told_by_none, told_of_another, told_of_failure, told_of_session, told_openly, woken_by_none, old_from_none, old_otherwise, interviewed_by_none, interviewed_otherwise, reported_by_none, reported_otherwise, told_for_none, told_unopened};
 ghost use Rattle.zw_laws.specs.WorkedWrongPayloads.{sent_otherwise, sent_unbegun, sealed_unasked, sent_openly, sealed_for_none, sealed_otherwise, sealed_longer, sent_whole, cut_otherwise, cut_past_end, nonce_unasked, nonce_of_another, nonce_shorter, set_unasked, set_otherwise, set_of_another};
 
 /// In worked transcripts the controller's frames are those that units asked for.
@@ -92,17 +92,19 @@ pub fn rejected_payloads()
     ensures set_of_another { SendsWhatIsDue (listing_of (the_switch ∷ [])) [] set_of_another → ⊥ }
 {}
 
-/// Each of these breaks one part of the laws: a frame that no unit asked for, or twice for one unit; a payload brought that was not heard; a session that begins without its unit, or with one for another node; an outcome of a command that no session carries, of which
-/// the report is of another session or tells another status, or that a lock tells unsealed, for no nonce that it was given, or with another code; an old report with another id; an interview with other
-/// classes; another value than was heard; and an outcome, a waking, an old report, an interview and a heard value without a cause.
+/// Each of these breaks one part of the laws: a frame that no unit asked for, twice for one unit, or in another order; a payload brought that was not heard; a session that begins without its unit, or with one for another node; an outcome of a command that no session carries, of which
+/// the report is of another session or tells another status, also sealed, or that a lock tells unsealed, for no nonce that it was given, or with another code; an old report with another id; an interview with other
+/// classes, or by the information of another node; another value than was heard; and an outcome, a waking, an old report, an interview and a heard value without a cause.
 pub fn rejected_wire()
     ensures aired { CarriesUnits aired_unasked → ⊥ }
     ensures twice { CarriesUnits aired_twice → ⊥ }
+    ensures backwards { CarriesUnits aired_backwards → ⊥ }
     ensures brought { BringsWhatWasHeard brought_unheard → ⊥ }
     ensures silently { BeginsWithUnit begun_silently → ⊥ }
     ensures elsewhere { BeginsWithUnit begun_elsewhere → ⊥ }
     ensures another { EachHasCause (listing_of (the_switch ∷ [])) [] told_of_another → ⊥ }
     ensures failure { EachHasCause (listing_of (the_switch ∷ [])) [] told_of_failure → ⊥ }
+    ensures sealed_failure { EachHasCause (listing_of (the_lock ∷ [])) network_key told_of_sealed_failure → ⊥ }
     ensures session { EachHasCause (listing_of (the_switch ∷ [])) [] told_of_session → ⊥ }
     ensures old_id { EachHasCause (listing_of (the_switch ∷ [])) [] old_otherwise → ⊥ }
     ensures other_value { EachHasCause (listing_of (the_switch ∷ [])) [] reported_otherwise → ⊥ }
@@ -114,5 +116,6 @@ pub fn rejected_wire()
     ensures old { EachHasCause (listing_of (the_switch ∷ [])) [] old_from_none → ⊥ }
     ensures interviewed { EachHasCause (listing_of (the_sensor ∷ [])) [] interviewed_by_none → ⊥ }
     ensures other_classes { EachHasCause (listing_of []) [] interviewed_otherwise → ⊥ }
+    ensures other_node { EachHasCause (listing_of (the_sensor ∷ [])) [] interviewed_of_another → ⊥ }
     ensures reported { EachHasCause (listing_of (the_switch ∷ [])) [] reported_by_none → ⊥ }
 {}

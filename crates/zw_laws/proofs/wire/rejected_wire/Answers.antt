@@ -12,18 +12,19 @@ use Rattle.host_orders.specs.Settings.{setting}
 use Rattle.zw_laws.specs.Lists.{Has}
 use Rattle.class_info.specs.declared.report_status.ReportStatus.{ReportStatus}
 use Rattle.class_info.specs.declared.report_status.ReportStatus.TheVariants as statuses
+use Rattle.host_heard.specs.Telling.{heard_at}
 use Rattle.host_heard.specs.declared.told.Told.{Told}
 use Rattle.host_heard.specs.declared.told.Told.TheVariants as told
 use Rattle.device_stack.specs.Sealing.{keys_of, unsealed_at}
 use Rattle.zw_text.specs.declared.entry.Entry.{Entry}
 use Rattle.zw_text.specs.Transcript.{sessions}
-use Rattle.zw_laws.specs.Causes.{IsReported, OneTells, OpensTo, TellsReport}
+use Rattle.zw_laws.specs.Causes.{told_plainly, IsReported, OneTells, OpensTo, TellsReport}
 use Rattle.zw_laws.specs.Nodes.{host_list, listing_of}
 use Rattle.zw_laws.specs.Units.{Carried, payloads_from}
 use Rattle.zw_laws.specs.Worked.{the_lock, network_key}
-use Rattle.zw_laws.specs.WorkedWrongWire.{told_openly, told_for_none, told_unopened}
+use Rattle.zw_laws.specs.WorkedWrongWire.{told_openly, told_for_none, told_unopened, told_of_sealed_failure}
 use Rattle.zw_laws.proofs.Computing.{computing}
-use Rattle.zw_laws.proofs.Sealing.{report_nonce, report_with, other_code, unopened_report}
+use Rattle.zw_laws.proofs.Sealing.{report_nonce, report_plain, report_code, report_with, other_code, opened_report, unopened_report}
 use Rattle.zw_laws.proofs.wire.rejected_wire.Goals as goal
 
 -- the last byte of a payload
@@ -167,18 +168,18 @@ returns-clause-openly c = λ law.
     (λ tells. elim tells [ inl opens ↦ not_sealed _ 4 _ opens | inr never ↦ never ]) cause.reported
 
 -- what a cause of the lock's success has been told
-lock_told : (past : List Entry) (cause : IsReported (listing_of (the_lock ∷ [])) network_key past 1 statuses.Success) → 4 ≡ cause.node
+lock_told : (past : List Entry) (status : ReportStatus) (cause : IsReported (listing_of (the_lock ∷ [])) network_key past 1 status) → 4 ≡ cause.node
     → OneTells (λ payload. TellsReport (lists (host_list (listing_of (the_lock ∷ [])) past 4) 0x98) network_key past 4 payload
-    (told.Report (length (sessions 4 past) % 64) statuses.Success cause.wake_request)) (payloads_from 4 past)
-lock_told past cause of_lock =
+    (told.Report (length (sessions 4 past) % 64) status cause.wake_request)) (payloads_from 4 past)
+lock_told past status cause of_lock =
     subst (λ (node : ℕ). OneTells (λ payload. TellsReport (lists (host_list (listing_of (the_lock ∷ [])) past node) 0x98) network_key past node payload
-    (told.Report (length (sessions node past) % 64) statuses.Success cause.wake_request)) (payloads_from node past)) (sym of_lock) cause.reported
+    (told.Report (length (sessions node past) % 64) status cause.wake_request)) (payloads_from node past)) (sym of_lock) cause.reported
 
 pub returns-clause-for_none : goal.returns-clause-for_none
 unfolding computing
 returns-clause-for_none c = λ law.
     let cause = law.1.1.1.1.1.1.0 in
-    elim (lock_told (take 6 told_for_none) cause (of_lock cause.node (4 == cause.node) refl cause.carries)) [
+    elim (lock_told (take 6 told_for_none) statuses.Success cause (of_lock cause.node (4 == cause.node) refl cause.carries)) [
       | inl opens ↦ opens.given
       | inr never ↦ never
     ]
@@ -194,7 +195,7 @@ pub returns-clause-unopened : goal.returns-clause-unopened
 unfolding computing
 returns-clause-unopened c = λ law.
     let cause = law.1.1.1.1.1.1.1.0 in
-    elim (lock_told (take 7 told_unopened) cause (of_lock cause.node (4 == cause.node) refl cause.carries)) [
+    elim (lock_told (take 7 told_unopened) statuses.Success cause (of_lock cause.node (4 == cause.node) refl cause.carries)) [
       | inl opens ↦ elim opens.given [ inl same ↦ no_opening opens.nonce opens.text (ap (λ (p : List ℕ). drop 2 p) same) opens.opens | inr never ↦ never ]
       | inr never ↦ never
     ]
@@ -264,6 +265,14 @@ returns-clause-other_value c = λ law. elim law.1.0.told_them [
   | inr never ↦ never
 ]
 
+six_five : ◌≡◌ {A = ℕ} 6 5 → ⊥
+six_five e = omega (arith, e)
+
+-- of whom an information tells
+abbrev node_in : Notice → ℕ
+node_in (ApplicationUpdate (Received node basic generic specific classes)) = node
+node_in _ = 0
+
 -- how many classes an information tells
 abbrev classes_in : Notice → ℕ
 classes_in (ApplicationUpdate (Received node basic generic specific classes)) = length classes
@@ -292,3 +301,42 @@ returns-clause-interviewed c = λ law. law.0.came
 pub returns-clause-reported : goal.returns-clause-reported
 unfolding computing
 returns-clause-reported c = λ law. law.0.told_them
+
+-- the frame of the second unit is none of the first
+pub returns-clause-backwards : goal.returns-clause-backwards
+unfolding computing
+returns-clause-backwards c = λ law. elim (law.1.1.1.0) [
+  | inl first ↦ two_one (ap (λ (carried : Carried). last_byte 0 carried.payload) first.0)
+  | inr (inl second) ↦ second.1
+  | inr (inr never) ↦ never
+]
+
+pub returns-clause-other_node : goal.returns-clause-other_node
+unfolding computing
+returns-clause-other_node c = λ law. elim law.1.0.came [ inl same ↦ six_five (ap node_in same) | inr never ↦ never ]
+
+-- the lock's report opens to success alone
+opened_success : (nonce text : List ℕ) (id : ℕ) (wake_request : Bool) → report_nonce ≡ nonce
+    → unsealed_at (keys_of network_key) nonce (record { sender = 4; receiver = 1 }) (report_with report_code) ≡ Some text
+    → Has (told_plainly (heard_at text)) (told.Report id statuses.Fail wake_request) → ⊥
+unfolding computing
+opened_success nonce text id wake_request is opens tells =
+    let opened : Some report_plain ≡ Some text = sym opened_report
+    ∙ ap (λ (nonce : List ℕ). unsealed_at (keys_of network_key) nonce (record { sender = 4; receiver = 1 }) (report_with report_code)) is ∙ opens in
+    let same : report_plain ≡ text = ap (λ (found : Option (List ℕ)). unwrap_or found []) opened in
+    elim (subst (λ (text : List ℕ). Has (told_plainly (heard_at text)) (told.Report id statuses.Fail wake_request)) (sym same) tells) [
+      | inl is ↦ one_none (ap told_tag is)
+      | inr never ↦ never
+    ]
+
+pub returns-clause-sealed_failure : goal.returns-clause-sealed_failure
+unfolding computing
+returns-clause-sealed_failure c = λ law.
+    let cause = law.1.1.1.1.1.1.1.0 in
+    elim (lock_told (take 7 told_of_sealed_failure) statuses.Fail cause (of_lock cause.node (4 == cause.node) refl cause.carries)) [
+      | inl opens ↦ elim opens.given [
+        | inl same ↦ opened_success opens.nonce opens.text _ _ (ap (λ (p : List ℕ). drop 2 p) same) opens.opens opens.tells
+        | inr never ↦ never
+      ]
+      | inr never ↦ never
+    ]
