@@ -1,6 +1,6 @@
 -- What is not due: a payload that is no message of a session, begins as no other text and was asked for by no line.
 use Rattle.std.proofs.Common.{◌≡◌, ◌⊎◌, ℕ, ◌+◌, ◌*◌, ◌==◌, Bool, false, List, [], ◌∷◌, ◌++◌, length, refl, inl, inr, ap, sym, subst, ◌∙◌, arith}
-use Rattle.std.specs.Prelude.{zero, suc, ◌<◌, ◌≤◌, true, take, drop, slice_index, if◌then◌else◌, map}
+use Rattle.std.specs.Prelude.{zero, suc, ◌<◌, ◌≤◌, true, take, drop, slice_index, if◌then◌else◌}
 use Rattle.std.proofs.Math.Seq.{take-append_seam}
 use Rattle.std.proofs.lemmas.List.{length-append}
 use Rattle.std.proofs.lemmas.List.{length-take}

@@ -1,6 +1,5 @@
-use Rattle.std.proofs.Common.{[], ◌∷◌, refl, inl, inr, sym, arith, true, false}
-use Rattle.zw_laws.specs.Nodes.{listing_of}
-use Rattle.zw_laws.specs.Worked.{plain_exchange, repeated_exchange, lossy_exchange, cancelled_order, restarted_host, sleeping_node, sealed_exchange, long_message, refused_lines, the_switch, the_sensor, the_lock, the_plug, network_key}
+use Rattle.std.proofs.Common.{refl, arith}
+use Rattle.zw_laws.specs.Worked.{plain_exchange, repeated_exchange, lossy_exchange, cancelled_order, restarted_host, sleeping_node, sealed_exchange, long_message}
 use Rattle.zw_laws.proofs.Entries.{fares_in_turn}
 use Rattle.zw_laws.proofs.Computing.{computing}
 use Rattle.zw_laws.proofs.air.worked_fates.Goals as goal

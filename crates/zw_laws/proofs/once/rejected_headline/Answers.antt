@@ -1,4 +1,4 @@
-use Rattle.std.proofs.Common.{ℕ, List, [], ◌∷◌, refl, ap, arith}
+use Rattle.std.proofs.Common.{ℕ, List, [], ◌∷◌, refl, ap}
 use Rattle.zw_base.specs.declared.property.Setting.{Setting}
 use Rattle.zw_laws.specs.Worked.{the_switch, with_journal}
 use Rattle.zw_laws.specs.WorkedWrong.{turned_off}

@@ -1,13 +1,7 @@
-use Rattle.std.proofs.Common.{◌≡◌, ◌⊎◌, ℕ, suc, ◌+◌, ◌*◌, ◌<◌, List, [], ◌∷◌, ◌++◌, length, slice_index, refl, inl, inr, ap, sym, subst, ◌∙◌, arith}
+use Rattle.std.proofs.Common.{◌≡◌, ℕ, suc, ◌*◌, List, [], ◌∷◌, length, slice_index, refl, inl, inr, ap, ◌∙◌, arith}
 use Rattle.std.specs.Prelude.{replicate, take, drop, codes, ⊤}
-use Rattle.std.proofs.lemmas.List.{length-append}
 use Rattle.device_stack.specs.Sealing.{sealed_text}
-use Rattle.s0_crypto.specs.Modes.{ofb_from}
-use Rattle.transport_segments.specs.Segment.{segment_text}
-use Rattle.transport_segments.specs.Parts.{slice_at}
-use Rattle.zw_text.specs.declared.entry.Entry.{Entry}
 use Rattle.zw_laws.specs.Nodes.{listing_of}
-use Rattle.zw_laws.specs.Payloads.{IsSealedFor, IsSegmentOf}
 use Rattle.zw_laws.specs.Units.{Carried}
 use Rattle.zw_laws.specs.Worked.{bytes, network_key, the_switch, the_lock, the_plug}
 use Rattle.zw_laws.specs.WorkedWrongPayloads.{sent_otherwise, sent_unbegun, sealed_unasked, sent_openly, sealed_for_none, sealed_otherwise, sealed_longer, sent_whole, cut_otherwise, cut_past_end, nonce_unasked, nonce_of_another, nonce_shorter, set_unasked, set_otherwise, set_of_another}

@@ -1,6 +1,6 @@
-use Rattle.std.proofs.Common.{[], ◌∷◌, refl, inl, inr, sym, arith, true, false}
+use Rattle.std.proofs.Common.{[], ◌∷◌, refl, inl, inr, false}
 use Rattle.zw_laws.specs.Nodes.{listing_of}
-use Rattle.zw_laws.specs.Worked.{plain_exchange, repeated_exchange, lossy_exchange, cancelled_order, restarted_host, sleeping_node, sealed_exchange, long_message, refused_lines, the_switch, the_sensor, the_lock, the_plug, network_key}
+use Rattle.zw_laws.specs.Worked.{plain_exchange, repeated_exchange, lossy_exchange, cancelled_order, restarted_host, sleeping_node, sealed_exchange, long_message, the_switch, the_sensor, the_lock, the_plug, network_key}
 use Rattle.zw_laws.proofs.Entries.{each_has_cause}
 use Rattle.class_info.specs.declared.report_status.ReportStatus.TheVariants as statuses
 use Rattle.zw_laws.proofs.Sealing.{report_nonce, report_plain, opened_report}

@@ -1,6 +1,6 @@
-use Rattle.std.proofs.Common.{[], ◌∷◌, refl, inl, inr, sym, arith, true, false}
+use Rattle.std.proofs.Common.{[], ◌∷◌, refl, inl, inr, sym, arith}
 use Rattle.zw_laws.specs.Nodes.{listing_of}
-use Rattle.zw_laws.specs.Worked.{plain_exchange, repeated_exchange, lossy_exchange, cancelled_order, restarted_host, sleeping_node, sealed_exchange, long_message, refused_lines, the_switch, the_sensor, the_lock, the_plug, network_key}
+use Rattle.zw_laws.specs.Worked.{plain_exchange, repeated_exchange, lossy_exchange, cancelled_order, restarted_host, sleeping_node, sealed_exchange, long_message, the_switch, the_sensor, the_lock, the_plug, network_key}
 use Rattle.zw_laws.proofs.Entries.{sends_what_is_due}
 use Rattle.zw_laws.proofs.Sealing.{set_own, set_nonce, report_nonce, sealed_set}
 use Rattle.zw_laws.proofs.Computing.{computing}
