@@ -2,7 +2,7 @@
 use Rattle.std.specs.Prelude.{ℕ, ◌+◌, List, [], ◌∷◌, ◌++◌, codes, take, drop}
 use Rattle.zw_words.specs.declared.side.Side.TheVariants.{Host, Chip}
 use Rattle.zw_text.specs.declared.entry.Entry.{Entry}
-use Rattle.zw_text.specs.declared.entry.Entry.TheVariants.{Said, Written, Dropped, Garbled, Air, Heard, Lost, Unheard, Forget, ChipFull}
+use Rattle.zw_text.specs.declared.entry.Entry.TheVariants.{Said, Written, Dropped, Garbled, Air, Heard, Lost, Unheard, Time, Forget, ChipFull}
 use Rattle.zw_laws.specs.Worked.{bytes, plain_exchange, lossy_exchange, restarted_host}
 use Rattle.wire_laws.specs.Worked.{rerouted, unroutable, untold, asleep, heard_twice, cut_off, aborted, questions, copied, garbled_frame}
 
@@ -136,6 +136,11 @@ full_of_nothing = changed_at 13 ChipFull plain_exchange
 -- the chip answers a frame that never came
 abbrev pub answered_nothing : List Entry
 answered_nothing = Written Chip (bytes (codes "06")) ∷ []
+
+-- the chip has heard a report and its link is idle, and yet the host is not told
+abbrev pub kept_to_itself : List Entry
+kept_to_itself =
+    Said (codes "local 2 255") ∷ Air 1 2 1 [] (bytes (codes "2503FF")) ∷ Said (codes "tick 1") ∷ Time 1 ∷ Heard 1 ∷ []
 
 -- a unit is lost without a mark, and a marked one is not
 abbrev pub lost_on_the_line : List Entry
