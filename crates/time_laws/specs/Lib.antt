@@ -21,4 +21,5 @@ pub mod WorkedStretches
 pub mod WorkedLate
 pub mod WrongRequests
 pub mod WrongWaits
+pub mod WrongStretches
 pub mod WrongQueue

@@ -8,6 +8,7 @@ ghost use Rattle.time_laws.specs.Calm.{IsCalm, IsStill, is_not_stuck};
 ghost use Rattle.time_laws.specs.Stretches.{are_plain_listeners, IsStretch, is_quiet, is_time, is_alone, answers_all, AnswersInTime};
 ghost use Rattle.time_laws.specs.WorkedStretches.{before_failing, before_repeated, failing_as_success, stretch_of_failing, stretch_over_two, success_as_failing, the_thermostat};
 ghost use Rattle.time_laws.specs.WorkedWaits.{before_two, before_waking, calm_exchange, stretch_of_sleeper, stretch_of_two, stuck_node, the_other_switch};
+ghost use Rattle.time_laws.specs.WrongStretches.{accepted_as_switch, sensors_from, sensors_join, sensors_work, woken_before_order, woken_twice};
 ghost use Rattle.time_laws.specs.WrongWaits.{asleep_not_yet, left_in_time, reported_next, stretch_unwoken, unheard_acknowledgement};
 ghost use Rattle.zw_laws.specs.Nodes.{listing_of};
 ghost use Rattle.zw_laws.specs.Worked.{plain_exchange, sleeping_node, the_sensor, the_switch};
@@ -43,7 +44,8 @@ pub fn rejected_calm()
 {}
 
 /// Stretches that answer in time: of one node, of two that listen, and of one that sleeps; of one that is
-/// reached over another node; and of one whose device does not take the value of its first command, so that this fails.
+/// reached over another node; and of one whose device does not take the value of its first command, so that this fails. Sixteen nodes that sleep
+/// may be at work, and a command may stand that was accepted of a node when the host knew it as it is.
 pub fn worked_stretches()
     ensures one { IsStretch [] (the_switch ∷ []) [] calm_exchange }
     ensures one_in_time { is_time [] calm_exchange ≡ true }
@@ -61,19 +63,28 @@ pub fn worked_stretches()
     ensures repeated_answered { AnswersInTime [] (the_switch ∷ the_other_switch ∷ []) before_repeated stretch_over_two }
     ensures failing { IsStretch [] (the_thermostat ∷ []) before_failing stretch_of_failing }
     ensures failing_in_time { is_time before_failing stretch_of_failing ≡ true }
+    ensures sixteen { is_quiet [] (sensors_from 3 16) (take 32 sensors_join) (take 48 sensors_work) ≡ true }
+    ensures known { is_quiet [] (the_switch ∷ []) accepted_as_switch (Said (codes "tick 500") ∷ []) ≡ true }
     ensures failing_answered { AnswersInTime [] (the_thermostat ∷ []) before_failing stretch_of_failing }
 {}
 
-/// These are none: with a line that loses frames, of a device with another key, of one that the host takes for another, of a node out of
-/// reach, with a node that sleeps and is not woken, and with one woken that has nothing to do. Two ticks are not time enough. And where the
+/// These are none: with a line that loses frames, of more than 16 nodes, without the device, of one with another key, of one that does not listen though
+/// the host takes it to, or lists other classes, now or when its command was accepted, of a node out of reach, with a node that sleeps and is not
+/// woken, before its order or twice, and with one woken that has nothing to do. Two ticks are not time enough. And where the
 /// outcome is missing in time, the promise is broken, of one node and of nodes that listen; and where a command succeeds that its device does not
 /// take, or fails though it does.
 pub fn rejected_stretches()
     ensures lossy { is_quiet [] (the_switch ∷ []) [] (Said (codes "lose 1") ∷ []) ≡ false }
     ensures other_key { is_quiet (1 ∷ []) (the_switch ∷ []) [] calm_exchange ≡ false }
     ensures other_device { is_quiet [] (fresh 2 kinds.Sensor [] ∷ []) [] calm_exchange ≡ false }
+    ensures too_many { is_quiet [] (sensors_from 3 17) sensors_join sensors_work ≡ false }
+    ensures no_device { is_quiet [] [] [] calm_exchange ≡ false }
+    ensures other_classes { is_quiet [] (fresh 2 kinds.Dimmer [] ∷ []) [] calm_exchange ≡ false }
+    ensures other_list { is_quiet [] (fresh 2 kinds.Dimmer [] ∷ []) accepted_as_switch (Said (codes "tick 500") ∷ []) ≡ false }
     ensures out_of_reach { IsStretch [] (the_switch ∷ []) (Said (codes "unlink 1 2") ∷ []) calm_exchange → ⊥ }
     ensures unwoken { is_quiet [] (the_sensor ∷ []) before_waking stretch_unwoken ≡ false }
+    ensures woken_before { is_quiet [] (the_sensor ∷ []) before_waking woken_before_order ≡ false }
+    ensures woken_twice { is_quiet [] (the_sensor ∷ []) before_waking woken_twice ≡ false }
     ensures idly_woken { is_quiet [] (the_switch ∷ []) [] (Said (codes "wake 2") ∷ []) ≡ false }
     ensures too_soon { is_time [] plain_exchange ≡ false }
     ensures missing { AnswersInTime [] (the_switch ∷ []) [] left_in_time → ⊥ }

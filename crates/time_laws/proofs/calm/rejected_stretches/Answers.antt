@@ -95,3 +95,27 @@ returns-clause-failed c = λ law. not_true (law.alone
       );
     })
     refl refl)
+
+pub returns-clause-too_many : goal.returns-clause-too_many
+unfolding computing
+returns-clause-too_many c = refl
+
+pub returns-clause-no_device : goal.returns-clause-no_device
+unfolding computing
+returns-clause-no_device c = refl
+
+pub returns-clause-other_classes : goal.returns-clause-other_classes
+unfolding computing
+returns-clause-other_classes c = refl
+
+pub returns-clause-other_list : goal.returns-clause-other_list
+unfolding computing
+returns-clause-other_list c = refl
+
+pub returns-clause-woken_before : goal.returns-clause-woken_before
+unfolding computing
+returns-clause-woken_before c = refl
+
+pub returns-clause-woken_twice : goal.returns-clause-woken_twice
+unfolding computing
+returns-clause-woken_twice c = refl

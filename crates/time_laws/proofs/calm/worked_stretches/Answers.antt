@@ -91,3 +91,11 @@ returns-clause-repeated_in_time c = refl
 pub returns-clause-repeated_answered : goal.returns-clause-repeated_answered
 unfolding computing
 returns-clause-repeated_answered c = record { alone = λ calm stretch one time. refl; together = λ calm stretch plain time. refl }
+
+pub returns-clause-sixteen : goal.returns-clause-sixteen
+unfolding computing
+returns-clause-sixteen c = refl
+
+pub returns-clause-known : goal.returns-clause-known
+unfolding computing
+returns-clause-known c = refl
