@@ -8,13 +8,20 @@ ghost use Rattle.time_laws.specs.WorkedLate.{late_answer};
 ghost use Rattle.time_laws.specs.WorkedWaits.{answered_errands, silent_request, woken_before_restart};
 ghost use Rattle.time_laws.specs.WrongRequests.{answered_of_another, answered_otherwise, failed_though_informed, interviewed_early, left_unanswered, left_unended, left_unsaid, said_early, said_given_up, said_otherwise, said_refused, said_unasked, silent_early, silent_too_soon};
 ghost use Rattle.zw_laws.specs.Nodes.{listing_of};
-ghost use Rattle.zw_laws.specs.Worked.{plain_exchange, sleeping_node, the_sensor, the_switch};
+ghost use Rattle.zw_laws.specs.Worked.{cancelled_order, long_message, lossy_exchange, plain_exchange, repeated_exchange, restarted_host, sealed_exchange, sleeping_node, the_lock, the_plug, the_sensor, the_switch};
 
 /// In worked transcripts it is said how each Set and Get ended that a line asked for.
 pub fn worked_errands()
     ensures answered { SaysHowDone (listing_of (the_switch ∷ [])) answered_errands }
     ensures silent { SaysHowDone (listing_of (the_switch ∷ [])) silent_request }
     ensures plain { SaysHowDone (listing_of (the_switch ∷ [])) plain_exchange }
+    ensures repeated { SaysHowDone (listing_of (the_switch ∷ [])) repeated_exchange }
+    ensures lossy { SaysHowDone (listing_of (the_switch ∷ [])) lossy_exchange }
+    ensures cancelled { SaysHowDone (listing_of (the_switch ∷ [])) cancelled_order }
+    ensures restarted { SaysHowDone (listing_of (the_switch ∷ [])) restarted_host }
+    ensures sleeping { SaysHowDone (listing_of (the_sensor ∷ [])) sleeping_node }
+    ensures sealed { SaysHowDone (listing_of (the_lock ∷ [])) sealed_exchange }
+    ensures cut { SaysHowDone (listing_of (the_plug ∷ [])) long_message }
 {}
 
 /// In worked transcripts questions are answered as the chip answers them; a response that comes too late answers none.
@@ -22,12 +29,26 @@ pub fn worked_questions()
     ensures answered { AnswersQuestions answered_errands }
     ensures plain { AnswersQuestions plain_exchange }
     ensures late { AnswersQuestions late_answer }
+    ensures repeated { AnswersQuestions repeated_exchange }
+    ensures lossy { AnswersQuestions lossy_exchange }
+    ensures cancelled { AnswersQuestions cancelled_order }
+    ensures restarted { AnswersQuestions restarted_host }
+    ensures sleeping { AnswersQuestions sleeping_node }
+    ensures sealed { AnswersQuestions sealed_exchange }
+    ensures cut { AnswersQuestions long_message }
 {}
 
 /// In worked transcripts interviews end as their second request does.
 pub fn worked_interviews()
     ensures sleeping { EndsInterviews sleeping_node }
     ensures stale { EndsInterviews woken_before_restart }
+    ensures plain { EndsInterviews plain_exchange }
+    ensures repeated { EndsInterviews repeated_exchange }
+    ensures lossy { EndsInterviews lossy_exchange }
+    ensures cancelled { EndsInterviews cancelled_order }
+    ensures restarted { EndsInterviews restarted_host }
+    ensures sealed { EndsInterviews sealed_exchange }
+    ensures cut { EndsInterviews long_message }
 {}
 
 /// Each of these breaks one part of the laws: an end said before it is judged, otherwise than it was, or not at all; the end of
