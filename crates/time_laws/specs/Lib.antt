@@ -23,3 +23,4 @@ pub mod WrongRequests
 pub mod WrongWaits
 pub mod WrongStretches
 pub mod WrongQueue
+pub mod WrongEntries

@@ -6,6 +6,7 @@ ghost use Rattle.time_laws.specs.Interviews.{EndsInterviews};
 ghost use Rattle.time_laws.specs.Questions.{AnswersQuestions};
 ghost use Rattle.time_laws.specs.WorkedLate.{late_answer};
 ghost use Rattle.time_laws.specs.WorkedWaits.{answered_errands, silent_request, woken_before_restart};
+ghost use Rattle.time_laws.specs.WrongEntries.{said_of_another, neighbours_of_another, failed_otherwise, answered_late, interviewed_of_another, failed_unknown, interviewed_unknown};
 ghost use Rattle.time_laws.specs.WrongRequests.{answered_of_another, answered_otherwise, failed_though_informed, interviewed_early, left_unanswered, left_unended, left_unsaid, said_early, said_given_up, said_otherwise, said_refused, said_unasked, silent_early, silent_too_soon};
 ghost use Rattle.zw_laws.specs.Nodes.{listing_of};
 ghost use Rattle.zw_laws.specs.Worked.{cancelled_order, long_message, lossy_exchange, plain_exchange, repeated_exchange, restarted_host, sealed_exchange, sleeping_node, the_lock, the_plug, the_sensor, the_switch};
@@ -38,7 +39,7 @@ pub fn worked_questions()
     ensures cut { AnswersQuestions long_message }
 {}
 
-/// In worked transcripts interviews end as their second request does.
+/// In worked transcripts interviews end as their second request does, and fail where the first one had no response.
 pub fn worked_interviews()
     ensures sleeping { EndsInterviews sleeping_node }
     ensures stale { EndsInterviews woken_before_restart }
@@ -49,12 +50,13 @@ pub fn worked_interviews()
     ensures restarted { EndsInterviews restarted_host }
     ensures sealed { EndsInterviews sealed_exchange }
     ensures cut { EndsInterviews long_message }
+    ensures unknown { EndsInterviews failed_unknown }
 {}
 
-/// Each of these breaks one part of the laws: an end said before it is judged, otherwise than it was, or not at all; the end of
+/// Each of these breaks one part of the laws: an end said before it is judged, otherwise than it was, of another node, or not at all; the end of
 /// a message of a session said as that of a Set; silence before 15 ticks, or before 65 behind a
-/// response; refusal of what was taken; failure after one copy; a question answered otherwise, of another node, or
-/// not; and an interview that succeeds too early, fails though the information came, or does not end.
+/// response; refusal of what was taken; failure after one copy; a question of either kind answered otherwise, of another
+/// node, too late, or not; and an interview that succeeds too early, of another node, or though its first request had no response, fails though the information came, or does not end.
 pub fn rejected_requests()
     ensures early { SaysHowDone (listing_of (the_switch ∷ [])) said_early → ⊥ }
     ensures otherwise { SaysHowDone (listing_of (the_switch ∷ [])) said_otherwise → ⊥ }
@@ -70,4 +72,10 @@ pub fn rejected_requests()
     ensures interviewed_early { EndsInterviews interviewed_early → ⊥ }
     ensures informed { EndsInterviews failed_though_informed → ⊥ }
     ensures unended { EndsInterviews left_unended → ⊥ }
+    ensures said_of_another { SaysHowDone (listing_of (the_switch ∷ [])) said_of_another → ⊥ }
+    ensures neighbours { AnswersQuestions neighbours_of_another → ⊥ }
+    ensures failed { AnswersQuestions failed_otherwise → ⊥ }
+    ensures late { AnswersQuestions answered_late → ⊥ }
+    ensures interviewed_of_another { EndsInterviews interviewed_of_another → ⊥ }
+    ensures unknown { EndsInterviews interviewed_unknown → ⊥ }
 {}

@@ -4,6 +4,7 @@ ghost use Rattle.std.specs.Prelude.{[], ◌∷◌};
 ghost use Rattle.time_laws.specs.Holds.{HoldsAsAsked};
 ghost use Rattle.time_laws.specs.Waking.{WakesAsTold, FallsAsleep};
 ghost use Rattle.time_laws.specs.WorkedWaits.{given_up_asleep, held_node};
+ghost use Rattle.time_laws.specs.WrongEntries.{asleep_though_listening, held_though_listening};
 ghost use Rattle.time_laws.specs.WrongWaits.{asleep_untold, asleep_unwoken, awake_untold, given_up_awake, held_unasked, not_held, sleep_passed_over, waking_passed_over};
 ghost use Rattle.zw_laws.specs.Nodes.{listing_of};
 ghost use Rattle.zw_laws.specs.Worked.{cancelled_order, long_message, lossy_exchange, plain_exchange, repeated_exchange, restarted_host, sealed_exchange, sleeping_node, the_sensor};
@@ -48,7 +49,7 @@ pub fn worked_holds()
 
 /// Each of these breaks one part of the laws: a node that counts as awake though it has not told so, or does not though it has;
 /// one that counts as asleep though it did not count as awake, or was told nothing, or does not though it was told or
-/// given up; and one that is held unasked, or asks and is not.
+/// given up; one that is held unasked, or asks and is not; and one that listens, and counts as asleep or is held.
 pub fn rejected_waking()
     ensures untold { WakesAsTold awake_untold → ⊥ }
     ensures passed { WakesAsTold waking_passed_over → ⊥ }
@@ -58,4 +59,6 @@ pub fn rejected_waking()
     ensures given_up { FallsAsleep given_up_awake → ⊥ }
     ensures unasked { HoldsAsAsked held_unasked → ⊥ }
     ensures not_held { HoldsAsAsked not_held → ⊥ }
+    ensures listening { FallsAsleep asleep_though_listening → ⊥ }
+    ensures held_listening { HoldsAsAsked held_though_listening → ⊥ }
 {}

@@ -49,3 +49,11 @@ returns-clause-awake c = λ calm. not_true calm.still.asleep
 pub returns-clause-working : goal.returns-clause-working
 unfolding computing
 returns-clause-working c = λ calm. not_true calm.still.working
+
+pub returns-clause-restarted : goal.returns-clause-restarted
+unfolding computing
+returns-clause-restarted c = λ calm. not_true calm.still.chip
+
+pub returns-clause-stuck : goal.returns-clause-stuck
+unfolding computing
+returns-clause-stuck c = λ calm. not_true calm.to_come

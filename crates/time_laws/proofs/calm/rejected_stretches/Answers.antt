@@ -119,3 +119,15 @@ returns-clause-woken_before c = refl
 pub returns-clause-woken_twice : goal.returns-clause-woken_twice
 unfolding computing
 returns-clause-woken_twice c = refl
+
+pub returns-clause-not_alone : goal.returns-clause-not_alone
+unfolding computing
+returns-clause-not_alone c = refl
+
+pub returns-clause-not_plain : goal.returns-clause-not_plain
+unfolding computing
+returns-clause-not_plain c = refl
+
+pub returns-clause-sealed : goal.returns-clause-sealed
+unfolding computing
+returns-clause-sealed c = refl

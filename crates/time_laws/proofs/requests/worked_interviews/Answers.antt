@@ -3,6 +3,7 @@ use Rattle.time_laws.specs.Interviews.{may_end}
 use Rattle.time_laws.specs.WorkedWaits.{woken_before_restart}
 use Rattle.zw_laws.specs.Nodes.{listing_of}
 use Rattle.zw_laws.specs.Worked.{cancelled_order, long_message, lossy_exchange, plain_exchange, repeated_exchange, restarted_host, sealed_exchange, sleeping_node}
+use Rattle.time_laws.specs.WrongEntries.{failed_unknown}
 use Rattle.time_laws.proofs.Computing.{computing}
 use Rattle.time_laws.proofs.Keeping.{kept}
 use Rattle.time_laws.proofs.requests.worked_interviews.Goals as goal
@@ -42,3 +43,7 @@ returns-clause-sealed c = kept may_end sealed_exchange refl
 pub returns-clause-cut : goal.returns-clause-cut
 unfolding computing
 returns-clause-cut c = kept may_end long_message refl
+
+pub returns-clause-unknown : goal.returns-clause-unknown
+unfolding computing
+returns-clause-unknown c = kept may_end failed_unknown refl
