@@ -1,7 +1,7 @@
 //! What the law of routes says of worked transcripts, and of others with one thing wrong.
 
 ghost use Rattle.std.specs.Prelude.{[], ◌∷◌, codes};
-ghost use Rattle.zw_laws.specs.Worked.{plain_exchange, the_sensor, the_switch};
+ghost use Rattle.zw_laws.specs.Worked.{cancelled_order, long_message, lossy_exchange, plain_exchange, repeated_exchange, restarted_host, sealed_exchange, sleeping_node, the_lock, the_plug, the_sensor, the_switch};
 ghost use Rattle.zw_text.specs.declared.entry.Entry.TheVariants.{Said};
 ghost use Rattle.route_table.specs.Walk.{Walk};
 ghost use Rattle.wire_laws.specs.Networks.{air_network};
@@ -15,6 +15,13 @@ ghost use Rattle.wire_laws.specs.WorkedWrong.{detoured, second_choice, straight_
 pub fn worked_routes()
     ensures plain { GoesByRoute (the_switch ∷ []) plain_exchange }
     ensures rerouted { GoesByRoute the_switches rerouted }
+    ensures repeated { GoesByRoute (the_switch ∷ []) repeated_exchange }
+    ensures lossy { GoesByRoute (the_switch ∷ []) lossy_exchange }
+    ensures cancelled { GoesByRoute (the_switch ∷ []) cancelled_order }
+    ensures restarted { GoesByRoute (the_switch ∷ []) restarted_host }
+    ensures sleeping { GoesByRoute (the_sensor ∷ []) sleeping_node }
+    ensures sealed { GoesByRoute (the_lock ∷ []) sealed_exchange }
+    ensures cut { GoesByRoute (the_plug ∷ []) long_message }
 {}
 
 /// Each of these breaks one part of the law: a frame of the controller over no walk, or over a walk that is not the first; a frame of a

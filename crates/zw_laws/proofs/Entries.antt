@@ -32,14 +32,14 @@ AllAsked asks May past [] = ⊤
 AllAsked asks May past (entry ∷ rest) = Asked (asks past entry) (May past entry) (AllAsked asks May (past ++ entry ∷ []) rest)
 
 -- of the others it asks nothing
-abbrev Quiet : (List Entry → Entry → Bool) → (List Entry → Entry → Type 0) → Type 0
+abbrev pub Quiet : (List Entry → Entry → Bool) → (List Entry → Entry → Type 0) → Type 0
 Quiet asks May = (past : List Entry) (entry : Entry) → asks past entry ≡ false → May past entry
 
 first_too : (is : Bool) {First Later After : Type 0} → (is ≡ false → First) → (Later → After) → Asked is First Later → First × After
 first_too true quiet onward asked = (asked.0, onward asked.1)
 first_too false quiet onward asked = (quiet refl, onward asked)
 
-each : (asks : List Entry → Entry → Bool) (May : List Entry → Entry → Type 0) → Quiet asks May → (past rest : List Entry)
+pub each : (asks : List Entry → Entry → Bool) (May : List Entry → Entry → Type 0) → Quiet asks May → (past rest : List Entry)
     → AllAsked asks May past rest → EachAfter May past rest
 each asks May quiet past [] asked = tt
 each asks May quiet past (entry ∷ rest) asked =

@@ -1,5 +1,5 @@
 use Rattle.time_laws.proofs.Computing.{computing}
-use Rattle.time_laws.proofs.Keeping.{not_true}
+use Rattle.zw_laws.proofs.Deciding.{not_true}
 use Rattle.time_laws.proofs.calm.rejected_calm.Goals as goal
 
 pub returns-clause-marked : goal.returns-clause-marked

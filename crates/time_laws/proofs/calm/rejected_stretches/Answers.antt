@@ -1,7 +1,7 @@
 use Rattle.std.proofs.Common.{[], refl, ◌∙◌}
 use Rattle.wire_laws.proofs.Walks.{apart, direct, is_linked}
 use Rattle.time_laws.proofs.Computing.{computing}
-use Rattle.time_laws.proofs.Keeping.{not_true}
+use Rattle.zw_laws.proofs.Deciding.{not_true}
 use Rattle.time_laws.proofs.calm.rejected_stretches.Goals as goal
 
 pub returns-clause-lossy : goal.returns-clause-lossy

@@ -7,7 +7,7 @@ use Rattle.zw_laws.specs.Nodes.{listing_of}
 use Rattle.zw_laws.specs.Worked.{the_lock, the_sensor, the_switch}
 use Rattle.time_laws.specs.WrongEntries.{dropped_of_another, refused_for_fewer, sent_behind_end}
 use Rattle.time_laws.proofs.Computing.{computing}
-use Rattle.time_laws.proofs.Keeping.{broken}
+use Rattle.zw_laws.proofs.Deciding.{broken}
 use Rattle.time_laws.proofs.queue.rejected_queue.Goals as goal
 
 pub returns-clause-room : goal.returns-clause-room

@@ -1,11 +1,11 @@
-use Rattle.std.proofs.Common.{[], ◌∷◌, true, false, refl}
+use Rattle.std.proofs.Common.{[], ◌∷◌, refl}
 use Rattle.time_laws.specs.Queue.{may_queue}
 use Rattle.time_laws.specs.WorkedQueue.{dropped_no_more, dropped_nonce}
 use Rattle.time_laws.specs.WorkedWaits.{answered_errands, full_queue}
 use Rattle.zw_laws.specs.Nodes.{listing_of}
 use Rattle.zw_laws.specs.Worked.{cancelled_order, long_message, lossy_exchange, plain_exchange, repeated_exchange, restarted_host, sealed_exchange, sleeping_node, the_lock, the_plug, the_sensor, the_switch}
 use Rattle.time_laws.proofs.Computing.{computing}
-use Rattle.time_laws.proofs.Keeping.{kept}
+use Rattle.zw_laws.proofs.Deciding.{kept}
 use Rattle.time_laws.proofs.queue.worked_queue.Goals as goal
 
 pub returns-clause-full : goal.returns-clause-full

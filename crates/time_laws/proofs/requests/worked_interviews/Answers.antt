@@ -1,11 +1,10 @@
-use Rattle.std.proofs.Common.{[], ◌∷◌, true, false, refl}
+use Rattle.std.proofs.Common.{refl}
 use Rattle.time_laws.specs.Interviews.{may_end}
 use Rattle.time_laws.specs.WorkedWaits.{woken_before_restart}
-use Rattle.zw_laws.specs.Nodes.{listing_of}
 use Rattle.zw_laws.specs.Worked.{cancelled_order, long_message, lossy_exchange, plain_exchange, repeated_exchange, restarted_host, sealed_exchange, sleeping_node}
 use Rattle.time_laws.specs.WrongEntries.{failed_unknown}
 use Rattle.time_laws.proofs.Computing.{computing}
-use Rattle.time_laws.proofs.Keeping.{kept}
+use Rattle.zw_laws.proofs.Deciding.{kept}
 use Rattle.time_laws.proofs.requests.worked_interviews.Goals as goal
 
 pub returns-clause-sleeping : goal.returns-clause-sleeping

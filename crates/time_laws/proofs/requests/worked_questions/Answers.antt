@@ -1,11 +1,10 @@
-use Rattle.std.proofs.Common.{[], ◌∷◌, true, false, refl}
+use Rattle.std.proofs.Common.{refl}
 use Rattle.time_laws.specs.Questions.{may_answer}
 use Rattle.time_laws.specs.WorkedLate.{late_answer}
 use Rattle.time_laws.specs.WorkedWaits.{answered_errands}
-use Rattle.zw_laws.specs.Nodes.{listing_of}
 use Rattle.zw_laws.specs.Worked.{cancelled_order, long_message, lossy_exchange, plain_exchange, repeated_exchange, restarted_host, sealed_exchange, sleeping_node}
 use Rattle.time_laws.proofs.Computing.{computing}
-use Rattle.time_laws.proofs.Keeping.{kept}
+use Rattle.zw_laws.proofs.Deciding.{kept}
 use Rattle.time_laws.proofs.requests.worked_questions.Goals as goal
 
 pub returns-clause-answered : goal.returns-clause-answered

@@ -5,7 +5,7 @@ use Rattle.time_laws.specs.WrongWaits.{left_awake, left_overdue, left_unbegun, l
 use Rattle.zw_laws.specs.Nodes.{listing_of}
 use Rattle.zw_laws.specs.Worked.{the_lock, the_plug, the_sensor, the_switch}
 use Rattle.time_laws.proofs.Computing.{computing}
-use Rattle.time_laws.proofs.Keeping.{broken, not_true}
+use Rattle.zw_laws.proofs.Deciding.{broken, not_true}
 use Rattle.time_laws.proofs.waits.rejected_rests.Goals as goal
 
 pub returns-clause-waiting : goal.returns-clause-waiting

@@ -6,7 +6,7 @@ use Rattle.zw_laws.specs.Nodes.{listing_of}
 use Rattle.zw_laws.specs.Worked.{the_plug, the_switch}
 use Rattle.time_laws.specs.WrongEntries.{given_up_unbegun}
 use Rattle.time_laws.proofs.Computing.{computing}
-use Rattle.time_laws.proofs.Keeping.{broken}
+use Rattle.zw_laws.proofs.Deciding.{broken}
 use Rattle.time_laws.proofs.waits.rejected_waits.Goals as goal
 
 pub returns-clause-two : goal.returns-clause-two

@@ -1,11 +1,11 @@
-use Rattle.std.proofs.Common.{[], ◌∷◌, true, false, refl}
+use Rattle.std.proofs.Common.{[], ◌∷◌, refl}
 use Rattle.time_laws.specs.Unanswered.{may_give_up}
 use Rattle.time_laws.specs.WorkedQueue.{failed_attempts, resent_segments, silent_attempt}
 use Rattle.time_laws.specs.WorkedWaits.{given_up_asleep, given_up_lock, given_up_segments, waited_attempts}
 use Rattle.zw_laws.specs.Nodes.{listing_of}
 use Rattle.zw_laws.specs.Worked.{cancelled_order, long_message, lossy_exchange, plain_exchange, repeated_exchange, restarted_host, sealed_exchange, sleeping_node, the_lock, the_plug, the_sensor, the_switch}
 use Rattle.time_laws.proofs.Computing.{computing}
-use Rattle.time_laws.proofs.Keeping.{kept}
+use Rattle.zw_laws.proofs.Deciding.{kept}
 use Rattle.time_laws.proofs.waits.worked_attempts.Goals as goal
 
 pub returns-clause-lossy : goal.returns-clause-lossy

@@ -1,11 +1,11 @@
-use Rattle.std.proofs.Common.{[], ◌∷◌, true, false, refl}
+use Rattle.std.proofs.Common.{[], ◌∷◌, refl}
 use Rattle.time_laws.specs.Rests.{may_rest}
 use Rattle.time_laws.specs.WorkedQueue.{resent_segments}
 use Rattle.time_laws.specs.WorkedWaits.{answered_errands, the_other_switch, waited_attempts, woken_before_restart}
 use Rattle.zw_laws.specs.Nodes.{listing_of}
 use Rattle.zw_laws.specs.Worked.{cancelled_order, long_message, lossy_exchange, plain_exchange, repeated_exchange, restarted_host, sealed_exchange, sleeping_node, the_lock, the_plug, the_sensor, the_switch}
 use Rattle.time_laws.proofs.Computing.{computing}
-use Rattle.time_laws.proofs.Keeping.{kept}
+use Rattle.zw_laws.proofs.Deciding.{kept}
 use Rattle.time_laws.proofs.waits.worked_rests.Goals as goal
 
 pub returns-clause-plain : goal.returns-clause-plain

@@ -4,7 +4,7 @@ use Rattle.time_laws.specs.Waking.{may_sleep, may_wake}
 use Rattle.time_laws.specs.WrongWaits.{asleep_untold, asleep_unwoken, awake_untold, given_up_awake, held_unasked, not_held, sleep_passed_over, waking_passed_over}
 use Rattle.time_laws.specs.WrongEntries.{asleep_though_listening, held_though_listening}
 use Rattle.time_laws.proofs.Computing.{computing}
-use Rattle.time_laws.proofs.Keeping.{broken}
+use Rattle.zw_laws.proofs.Deciding.{broken}
 use Rattle.time_laws.proofs.waking.rejected_waking.Goals as goal
 
 pub returns-clause-untold : goal.returns-clause-untold

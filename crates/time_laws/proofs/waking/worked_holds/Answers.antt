@@ -1,10 +1,9 @@
-use Rattle.std.proofs.Common.{[], ◌∷◌, true, false, refl}
+use Rattle.std.proofs.Common.{refl}
 use Rattle.time_laws.specs.Holds.{may_hold}
 use Rattle.time_laws.specs.WorkedWaits.{held_node}
-use Rattle.zw_laws.specs.Nodes.{listing_of}
 use Rattle.zw_laws.specs.Worked.{cancelled_order, long_message, lossy_exchange, plain_exchange, repeated_exchange, restarted_host, sealed_exchange, sleeping_node}
 use Rattle.time_laws.proofs.Computing.{computing}
-use Rattle.time_laws.proofs.Keeping.{kept}
+use Rattle.zw_laws.proofs.Deciding.{kept}
 use Rattle.time_laws.proofs.waking.worked_holds.Goals as goal
 
 pub returns-clause-held : goal.returns-clause-held
