@@ -4,7 +4,7 @@ ghost use Rattle.std.specs.Prelude.{[], ◌∷◌, take};
 ghost use Rattle.zw_laws.specs.Worked.{cancelled_order, long_message, lossy_exchange, plain_exchange, repeated_exchange, restarted_host, sealed_exchange, sleeping_node, the_lock, the_plug, the_sensor, the_switch};
 ghost use Rattle.wire_laws.specs.Arriving.{MeetsWhatIsDue, RepeatsWhatIsAsked, ForgetsDeadHops};
 ghost use Rattle.wire_laws.specs.Worked.{rerouted, cut_off, asleep, heard_twice, the_switches};
-ghost use Rattle.wire_laws.specs.WorkedWrong.{lost_for_nothing, unheard_for_nothing, unheard_at_home, heard_over_nothing, heard_without_a_way, heard_in_sleep, heard_though_lost, not_repeated, not_forgotten, forgotten_otherwise, forgotten_freely};
+ghost use Rattle.wire_laws.specs.WorkedWrong.{heard_again_in_sleep, lost_for_nothing, unheard_for_nothing, unheard_at_home, heard_over_nothing, heard_without_a_way, heard_in_sleep, heard_though_lost, not_repeated, not_forgotten, forgotten_otherwise, forgotten_freely};
 
 /// In worked transcripts each frame has the fate that is due: it is heard where its way is live and somebody is awake there, lost by a
 /// mark or where a device has no way, and unheard over a dead link or by a device that sleeps.
@@ -51,7 +51,7 @@ pub fn worked_forgetting()
 {}
 
 /// Each of these breaks one part of the laws: a frame that is lost or unheard for no reason, from either side; one that is heard over a
-/// dead link, without a way, by a device that sleeps, or with a mark; a repeat that nobody hears; and a dead hop that is not forgotten,
+/// dead link, without a way, by a device that sleeps, also when it is repeated, or with a mark; a repeat that nobody hears; and a dead hop that is not forgotten,
 /// or another one that is.
 pub fn rejected_arrivals()
     ensures lost { MeetsWhatIsDue (the_switch ∷ []) lost_for_nothing → ⊥ }
@@ -65,4 +65,5 @@ pub fn rejected_arrivals()
     ensures kept { ForgetsDeadHops not_forgotten → ⊥ }
     ensures other { ForgetsDeadHops forgotten_otherwise → ⊥ }
     ensures freely { ForgetsDeadHops forgotten_freely → ⊥ }
+    ensures again_in_sleep { MeetsWhatIsDue (the_sensor ∷ []) heard_again_in_sleep → ⊥ }
 {}

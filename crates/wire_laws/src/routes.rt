@@ -8,7 +8,7 @@ ghost use Rattle.wire_laws.specs.Networks.{air_network};
 ghost use Rattle.wire_laws.specs.Reach.{CanBeReached};
 ghost use Rattle.wire_laws.specs.Routes.{GoesByRoute};
 ghost use Rattle.wire_laws.specs.Worked.{moved_away, not_learned, over_two, rerouted, the_switches};
-ghost use Rattle.wire_laws.specs.WorkedWrong.{detoured, second_choice, straight_home, from_a_stranger};
+ghost use Rattle.wire_laws.specs.WorkedWrong.{shows_a_way, detoured, second_choice, straight_home, from_a_stranger};
 
 /// In worked transcripts each frame goes over the route of its moment: a direct one, and one of two over a repeater, before and
 /// after the chip has forgotten a link of it.
@@ -25,12 +25,13 @@ pub fn worked_routes()
 {}
 
 /// Each of these breaks one part of the law: a frame of the controller over no walk, or over a walk that is not the first; a frame of a
-/// device over no walk, or of a node that is not joined.
+/// device over no walk, of a node that is not joined, or of one without a way that shows repeaters.
 pub fn rejected_routes()
     ensures detoured { GoesByRoute (the_switch ∷ []) detoured → ⊥ }
     ensures second { GoesByRoute the_switches second_choice → ⊥ }
     ensures straight { GoesByRoute the_switches straight_home → ⊥ }
     ensures stranger { GoesByRoute (the_switch ∷ []) from_a_stranger → ⊥ }
+    ensures shown { GoesByRoute (the_switch ∷ []) shows_a_way → ⊥ }
 {}
 
 /// A node can be reached directly, and over a repeater. The one that moved away, which cannot, has a way over another node.
