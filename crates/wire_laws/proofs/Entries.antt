@@ -1,17 +1,19 @@
 -- Of which entries the laws of the chip and of the air ask something: a law holds where these have what it asks.
-use Rattle.std.proofs.Common.{◌≡◌, ◌||◌, Bool, true, false, List, [], ◌∷◌}
+use Rattle.std.proofs.Common.{◌≡◌, ℕ, ◌||◌, Bool, true, false, List, [], ◌∷◌}
 use Rattle.device_stack.specs.State.{State}
 use Rattle.zw_words.specs.declared.side.Side.TheVariants.{Chip}
 use Rattle.zw_text.specs.declared.line.Line.{Line}
 use Rattle.zw_text.specs.declared.line.Line.TheVariants as lines
 use Rattle.zw_text.specs.declared.entry.Entry.{Entry}
-use Rattle.zw_text.specs.declared.entry.Entry.TheVariants.{Air, Heard, Lost, Unheard, Written, Dropped, Garbled, Forget}
+use Rattle.zw_text.specs.declared.entry.Entry.TheVariants.{Said, Air, Heard, Lost, Unheard, Time, Written, Dropped, Garbled, Forget, ChipFull}
 use Rattle.zw_text.specs.Transcript.{line_last}
 use Rattle.wire_laws.specs.Routes.{MayGo, GoesByRoute}
 use Rattle.wire_laws.specs.Arriving.{Hop, MayMeet, MeetsWhatIsDue, FollowsRepeat, RepeatsWhatIsAsked, IsForgotten, forgets, ForgetsDeadHops}
-use Rattle.wire_laws.specs.Asked.{is_ack}
+use Rattle.wire_laws.specs.Asked.{Course, Sending, is_ack}
+use Rattle.wire_laws.specs.Taking.{goes_on, to_air, IsPassedOver, MayAir, AirsWhatIsTaken}
+use Rattle.wire_laws.specs.Answering.{begins_next, IsNext, MayAnswer, AnswersInOrder, MayWait, DropsWhenFull}
 use Rattle.wire_laws.specs.Marks.{IsMarked, to_stand, MarksUnits, AnswersBy, is_can, MayCollide, CollidesWhenAsked}
-use Rattle.zw_laws.proofs.Entries.{AllAsked, Quiet, each, has_some, is_air}
+use Rattle.zw_laws.proofs.Entries.{AllAsked, Quiet, each, has_some, is_air, none_of}
 
 -- ---- frames
 
@@ -107,3 +109,55 @@ quiet_collisions past _ is = tt
 
 pub collides_when_asked : (transcript : List Entry) → AllAsked is_answer MayCollide [] transcript → CollidesWhenAsked transcript
 collides_when_asked = each is_answer MayCollide quiet_collisions []
+
+-- ---- the chip
+
+-- a frame, and what stands where a SendData that was taken has none yet
+abbrev pub is_airing : Course → List Entry → Entry → Bool
+is_airing course past entry = is_air past entry || has_some (to_air course past)
+
+passed_over : (on : Bool) (devices : List State) (course : Course) (past : List Entry) → has_some (to_air course past) ≡ false → IsPassedOver on devices course past
+passed_over true devices course past none = tt
+passed_over false devices course past none = none_of _ (to_air course past) none
+
+quiet_airing : (devices : List State) (course : Course) → Quiet (is_airing course) (MayAir devices course)
+quiet_airing devices course past (Air frame sender receiver repeaters payload) is = cc
+quiet_airing devices course past entry is = passed_over (goes_on entry) devices course past is
+
+pub airs_what_is_taken : (devices : List State) (course : Course) (transcript : List Entry)
+    → AllAsked (is_airing course) (MayAir devices course) [] transcript → AirsWhatIsTaken devices course transcript
+airs_what_is_taken devices course = each (is_airing course) (MayAir devices course) (quiet_airing devices course) []
+
+-- the first copy of a frame of the chip
+abbrev pub is_beginning : Course → List Entry → Entry → Bool
+is_beginning course past (Written Chip unit) = begins_next course past
+is_beginning course past _ = false
+
+no_next : (begins : Bool) (devices : List State) (course : Course) (past : List Entry) (unit : List ℕ) → begins ≡ false → IsNext begins devices course past unit
+no_next true devices course past unit is = cc
+no_next false devices course past unit is = tt
+
+quiet_beginning : (devices : List State) (course : Course) → Quiet (is_beginning course) (MayAnswer devices course)
+quiet_beginning devices course past (Written Chip unit) is = no_next (begins_next course past) devices course past unit is
+quiet_beginning devices course past _ is = tt
+
+pub answers_in_order : (devices : List State) (course : Course) (transcript : List Entry)
+    → AllAsked (is_beginning course) (MayAnswer devices course) [] transcript → AnswersInOrder devices course transcript
+answers_in_order devices course = each (is_beginning course) (MayAnswer devices course) (quiet_beginning devices course) []
+
+-- a frame that is dropped, and where a line or tick begins
+abbrev pub is_turn : List Entry → Entry → Bool
+is_turn past ChipFull = true
+is_turn past (Said words) = true
+is_turn past (Time tick) = true
+is_turn past _ = false
+
+quiet_turns : (devices : List State) (course : Course) → Quiet is_turn (MayWait devices course)
+quiet_turns devices course past ChipFull is = cc
+quiet_turns devices course past (Said words) is = cc
+quiet_turns devices course past (Time tick) is = cc
+quiet_turns devices course past _ is = tt
+
+pub drops_when_full : (devices : List State) (course : Course) (transcript : List Entry)
+    → AllAsked is_turn (MayWait devices course) [] transcript → DropsWhenFull devices course transcript
+drops_when_full devices course = each is_turn (MayWait devices course) (quiet_turns devices course) []

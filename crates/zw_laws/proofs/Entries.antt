@@ -189,7 +189,7 @@ abbrev pub is_sending : List Entry → Entry → Bool
 is_sending past (Written Host unit) = has_some (sending_in unit)
 is_sending past _ = false
 
-none_of : {A : Type 0} (P : A → Type 0) (items : List A) → has_some items ≡ false → AllByRecursion P items
+pub none_of : {A : Type 0} (P : A → Type 0) (items : List A) → has_some items ≡ false → AllByRecursion P items
 none_of P [] none = tt
 none_of P (item ∷ items) none = cc
 

@@ -1,4 +1,9 @@
-use Rattle.std.proofs.Common.{[], refl, inl, inr}
+use Rattle.std.specs.Prelude.{codes, take}
+use Rattle.std.proofs.Common.{[], refl, inl, inr, ◌∷◌, arith}
+use Rattle.zw_laws.specs.Worked.{bytes, plain_exchange, repeated_exchange, lossy_exchange, cancelled_order, restarted_host, sleeping_node, sealed_exchange, long_message, the_switch, the_sensor, the_lock, the_plug}
+use Rattle.wire_laws.specs.Asked.{sending_of}
+use Rattle.wire_laws.specs.WorkedCourses.{without_copies, passed_in_restarted, passed_in_repeated, passed_in_lossy, passed_in_cancelled, passed_in_sleeping, passed_in_sealed, passed_in_cut}
+use Rattle.wire_laws.proofs.Entries.{answers_in_order}
 use Rattle.wire_laws.proofs.Computing.{reckoning}
 use Rattle.wire_laws.proofs.Plain.{plain_answers}
 use Rattle.wire_laws.proofs.Walks.{direct, cannot_tell}
@@ -503,3 +508,27 @@ returns-clause-copied c = (
     ),
   ),
 )
+
+pub returns-clause-repeated : goal.returns-clause-repeated
+unfolding reckoning
+returns-clause-repeated c = answers_in_order (the_switch ∷ []) (without_copies passed_in_repeated repeated_exchange) repeated_exchange ((refl, tt), ((refl, (refl, tt)), ((refl, (refl, (refl, tt))), ((refl, (refl, (refl, (refl, tt)))), ((refl, (refl, (refl, (refl, (refl, tt))))), ((refl, (refl, (refl, (refl, (refl, (refl, tt)))))), tt))))))
+
+pub returns-clause-lossy : goal.returns-clause-lossy
+unfolding reckoning
+returns-clause-lossy c = answers_in_order (the_switch ∷ []) (without_copies passed_in_lossy lossy_exchange) lossy_exchange ((refl, tt), ((refl, (refl, tt)), ((refl, (refl, (refl, tt))), ((refl, (refl, (refl, (refl, tt)))), ((refl, (refl, (refl, (refl, (refl, tt))))), ((refl, (refl, (refl, (refl, (refl, (refl, tt)))))), ((refl, (refl, (refl, (refl, (refl, (refl, (refl, tt))))))), ((refl, (refl, (refl, (refl, (refl, (refl, (refl, (refl, tt)))))))), ((refl, (refl, (refl, (refl, (refl, (refl, (refl, (refl, (refl, tt))))))))), ((refl, (refl, (refl, (refl, (refl, (refl, (refl, (refl, (refl, (refl, tt)))))))))), ((refl, (refl, (refl, (refl, (refl, (refl, (refl, (refl, (refl, (refl, (refl, tt))))))))))), ((refl, (refl, (refl, (refl, (refl, (refl, (refl, (refl, (refl, (refl, (refl, (refl, tt)))))))))))), tt))))))))))))
+
+pub returns-clause-cancelled : goal.returns-clause-cancelled
+unfolding reckoning
+returns-clause-cancelled c = answers_in_order (the_switch ∷ []) (without_copies passed_in_cancelled cancelled_order) cancelled_order ((refl, tt), ((refl, (refl, tt)), ((refl, (refl, (refl, tt))), tt)))
+
+pub returns-clause-sleeping : goal.returns-clause-sleeping
+unfolding reckoning
+returns-clause-sleeping c = answers_in_order (the_sensor ∷ []) (without_copies passed_in_sleeping sleeping_node) sleeping_node ((refl, tt), ((refl, (refl, tt)), ((refl, (refl, (refl, tt))), ((refl, (refl, (refl, ((inl (record { joined = refl; way = []; route = (direct _ _ 5 refl).walk; awake = refl }, refl)), tt)))), ((refl, (refl, (refl, ((inl (record { joined = refl; way = []; route = (direct _ _ 5 refl).walk; awake = refl }, refl)), (refl, tt))))), ((refl, (refl, (refl, ((inl (record { joined = refl; way = []; route = (direct _ _ 5 refl).walk; awake = refl }, refl)), (refl, (refl, tt)))))), ((refl, (refl, (refl, ((inl (record { joined = refl; way = []; route = (direct _ _ 5 refl).walk; awake = refl }, refl)), (refl, (refl, (refl, tt))))))), ((refl, (refl, (refl, ((inl (record { joined = refl; way = []; route = (direct _ _ 5 refl).walk; awake = refl }, refl)), (refl, (refl, (refl, (refl, tt)))))))), ((refl, (refl, (refl, ((inl (record { joined = refl; way = []; route = (direct _ _ 5 refl).walk; awake = refl }, refl)), (refl, (refl, (refl, (refl, (refl, tt))))))))), ((refl, (refl, (refl, ((inl (record { joined = refl; way = []; route = (direct _ _ 5 refl).walk; awake = refl }, refl)), (refl, (refl, (refl, (refl, (refl, (refl, tt)))))))))), ((refl, (refl, (refl, ((inl (record { joined = refl; way = []; route = (direct _ _ 5 refl).walk; awake = refl }, refl)), (refl, (refl, (refl, (refl, (refl, (refl, (refl, tt))))))))))), ((refl, (refl, (refl, ((inl (record { joined = refl; way = []; route = (direct _ _ 5 refl).walk; awake = refl }, refl)), (refl, (refl, (refl, (refl, (refl, (refl, (refl, (refl, tt)))))))))))), tt))))))))))))
+
+pub returns-clause-sealed : goal.returns-clause-sealed
+unfolding reckoning
+returns-clause-sealed c = answers_in_order (the_lock ∷ []) (without_copies passed_in_sealed sealed_exchange) sealed_exchange ((refl, tt), ((refl, (refl, tt)), ((refl, (refl, ((inl (record { joined = refl; way = []; route = (direct _ _ 4 refl).walk; awake = refl }, refl)), tt))), ((refl, (refl, ((inl (record { joined = refl; way = []; route = (direct _ _ 4 refl).walk; awake = refl }, refl)), (refl, tt)))), ((refl, (refl, ((inl (record { joined = refl; way = []; route = (direct _ _ 4 refl).walk; awake = refl }, refl)), (refl, (refl, tt))))), ((refl, (refl, ((inl (record { joined = refl; way = []; route = (direct _ _ 4 refl).walk; awake = refl }, refl)), (refl, (refl, (refl, tt)))))), ((refl, (refl, ((inl (record { joined = refl; way = []; route = (direct _ _ 4 refl).walk; awake = refl }, refl)), (refl, (refl, (refl, (refl, tt))))))), ((refl, (refl, ((inl (record { joined = refl; way = []; route = (direct _ _ 4 refl).walk; awake = refl }, refl)), (refl, (refl, (refl, (refl, (refl, tt)))))))), ((refl, (refl, ((inl (record { joined = refl; way = []; route = (direct _ _ 4 refl).walk; awake = refl }, refl)), (refl, (refl, (refl, (refl, (refl, (refl, tt))))))))), ((refl, (refl, ((inl (record { joined = refl; way = []; route = (direct _ _ 4 refl).walk; awake = refl }, refl)), (refl, (refl, (refl, (refl, (refl, (refl, (refl, tt)))))))))), ((refl, (refl, ((inl (record { joined = refl; way = []; route = (direct _ _ 4 refl).walk; awake = refl }, refl)), (refl, (refl, (refl, (refl, (refl, (refl, (refl, (refl, tt))))))))))), ((refl, (refl, ((inl (record { joined = refl; way = []; route = (direct _ _ 4 refl).walk; awake = refl }, refl)), (refl, (refl, (refl, (refl, (refl, (refl, (refl, (refl, (refl, tt)))))))))))), ((refl, (refl, ((inl (record { joined = refl; way = []; route = (direct _ _ 4 refl).walk; awake = refl }, refl)), (refl, (refl, (refl, (refl, (refl, (refl, (refl, (refl, (refl, (refl, tt))))))))))))), ((refl, (refl, ((inl (record { joined = refl; way = []; route = (direct _ _ 4 refl).walk; awake = refl }, refl)), (refl, (refl, (refl, (refl, (refl, (refl, (refl, (refl, (refl, (refl, (refl, tt)))))))))))))), tt))))))))))))))
+
+pub returns-clause-cut : goal.returns-clause-cut
+unfolding reckoning
+returns-clause-cut c = answers_in_order (the_plug ∷ []) (without_copies passed_in_cut long_message) long_message ((refl, tt), ((refl, (refl, tt)), ((refl, (refl, ((inl (record { joined = refl; way = []; route = (direct _ _ 8 refl).walk; awake = refl }, refl)), tt))), ((refl, (refl, ((inl (record { joined = refl; way = []; route = (direct _ _ 8 refl).walk; awake = refl }, refl)), (refl, tt)))), ((refl, (refl, ((inl (record { joined = refl; way = []; route = (direct _ _ 8 refl).walk; awake = refl }, refl)), (refl, (refl, tt))))), ((refl, (refl, ((inl (record { joined = refl; way = []; route = (direct _ _ 8 refl).walk; awake = refl }, refl)), (refl, (refl, (refl, tt)))))), ((refl, (refl, ((inl (record { joined = refl; way = []; route = (direct _ _ 8 refl).walk; awake = refl }, refl)), (refl, (refl, (refl, (refl, tt))))))), ((refl, (refl, ((inl (record { joined = refl; way = []; route = (direct _ _ 8 refl).walk; awake = refl }, refl)), (refl, (refl, (refl, (refl, (refl, tt)))))))), ((refl, (refl, ((inl (record { joined = refl; way = []; route = (direct _ _ 8 refl).walk; awake = refl }, refl)), (refl, (refl, (refl, (refl, (refl, (refl, tt))))))))), tt)))))))))
