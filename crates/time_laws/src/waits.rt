@@ -31,7 +31,7 @@ pub fn worked_attempts()
     ensures repeated { GivesUpAfterThree true (listing_of (the_switch ∷ [])) repeated_exchange }
     ensures cancelled { GivesUpAfterThree true (listing_of (the_switch ∷ [])) cancelled_order }
     ensures restarted { GivesUpAfterThree true (listing_of (the_switch ∷ [])) restarted_host }
-    ensures all_of_sleeping { GivesUpAfterThree true (listing_of (the_sensor ∷ [])) sleeping_node }
+    ensures sleeps { GivesUpAfterThree true (listing_of (the_sensor ∷ [])) sleeping_node }
     ensures sealed { GivesUpAfterThree true (listing_of (the_lock ∷ [])) sealed_exchange }
     ensures cut { GivesUpAfterThree true (listing_of (the_plug ∷ [])) long_message }
 {}
@@ -52,7 +52,7 @@ pub fn worked_rests()
     ensures repeated { IsPrompt true (listing_of (the_switch ∷ [])) repeated_exchange }
     ensures lossy { IsPrompt true (listing_of (the_switch ∷ [])) lossy_exchange }
     ensures cancelled { IsPrompt true (listing_of (the_switch ∷ [])) cancelled_order }
-    ensures all_of_restarted { IsPrompt true (listing_of (the_switch ∷ [])) restarted_host }
+    ensures host_restarted { IsPrompt true (listing_of (the_switch ∷ [])) restarted_host }
     ensures cut { IsPrompt true (listing_of (the_plug ∷ [])) long_message }
 {}
 

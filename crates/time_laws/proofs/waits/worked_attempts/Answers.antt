@@ -56,9 +56,9 @@ pub returns-clause-restarted : goal.returns-clause-restarted
 unfolding computing
 returns-clause-restarted c = record { between = kept (may_give_up (listing_of (the_switch ∷ []))) restarted_host refl; in_the_end = λ whole. refl }
 
-pub returns-clause-all_of_sleeping : goal.returns-clause-all_of_sleeping
+pub returns-clause-sleeps : goal.returns-clause-sleeps
 unfolding computing
-returns-clause-all_of_sleeping c = record { between = kept (may_give_up (listing_of (the_sensor ∷ []))) sleeping_node refl; in_the_end = λ whole. refl }
+returns-clause-sleeps c = record { between = kept (may_give_up (listing_of (the_sensor ∷ []))) sleeping_node refl; in_the_end = λ whole. refl }
 
 pub returns-clause-sealed : goal.returns-clause-sealed
 unfolding computing

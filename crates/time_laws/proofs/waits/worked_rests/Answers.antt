@@ -60,9 +60,9 @@ pub returns-clause-cancelled : goal.returns-clause-cancelled
 unfolding computing
 returns-clause-cancelled c = record { between = kept (may_rest (listing_of (the_switch ∷ []))) cancelled_order refl; in_the_end = λ whole. refl }
 
-pub returns-clause-all_of_restarted : goal.returns-clause-all_of_restarted
+pub returns-clause-host_restarted : goal.returns-clause-host_restarted
 unfolding computing
-returns-clause-all_of_restarted c = record { between = kept (may_rest (listing_of (the_switch ∷ []))) restarted_host refl; in_the_end = λ whole. refl }
+returns-clause-host_restarted c = record { between = kept (may_rest (listing_of (the_switch ∷ []))) restarted_host refl; in_the_end = λ whole. refl }
 
 pub returns-clause-cut : goal.returns-clause-cut
 unfolding computing
