@@ -9,7 +9,7 @@ use Rattle.zw_text.specs.declared.entry.Entry.TheVariants.{Said, Air, Heard, Los
 use Rattle.zw_text.specs.Transcript.{line_last}
 use Rattle.wire_laws.specs.Routes.{MayGo, GoesByRoute}
 use Rattle.wire_laws.specs.Arriving.{Hop, MayMeet, MeetsWhatIsDue, FollowsRepeat, RepeatsWhatIsAsked, IsForgotten, forgets, ForgetsDeadHops}
-use Rattle.wire_laws.specs.Asked.{Course, Sending, is_ack}
+use Rattle.wire_laws.specs.Asked.{Course, is_ack}
 use Rattle.wire_laws.specs.Taking.{goes_on, to_air, IsPassedOver, MayAir, AirsWhatIsTaken}
 use Rattle.wire_laws.specs.Answering.{begins_next, IsNext, MayAnswer, AnswersInOrder, MayWait, DropsWhenFull}
 use Rattle.wire_laws.specs.Marks.{IsMarked, to_stand, MarksUnits, AnswersBy, is_can, MayCollide, CollidesWhenAsked}

@@ -1,12 +1,12 @@
 use Rattle.std.specs.Prelude.{codes, take}
-use Rattle.std.proofs.Common.{refl, inl, [], ◌∷◌, inr, arith}
-use Rattle.zw_laws.specs.Worked.{bytes, plain_exchange, repeated_exchange, lossy_exchange, cancelled_order, restarted_host, sleeping_node, sealed_exchange, long_message, the_switch, the_sensor, the_lock, the_plug}
+use Rattle.std.proofs.Common.{refl, inl, [], ◌∷◌}
+use Rattle.zw_laws.specs.Worked.{bytes, repeated_exchange, lossy_exchange, cancelled_order, restarted_host, sleeping_node, sealed_exchange, long_message, the_switch, the_sensor, the_lock, the_plug}
 use Rattle.wire_laws.specs.Asked.{sending_of}
-use Rattle.wire_laws.specs.WorkedCourses.{without_copies, passed_in_restarted, passed_in_repeated, passed_in_lossy, passed_in_cancelled, passed_in_sleeping, passed_in_sealed, passed_in_cut}
+use Rattle.wire_laws.specs.WorkedCourses.{without_copies, passed_in_repeated, passed_in_lossy, passed_in_cancelled, passed_in_sleeping, passed_in_sealed, passed_in_cut}
 use Rattle.wire_laws.proofs.Entries.{airs_what_is_taken}
 use Rattle.wire_laws.proofs.Computing.{reckoning}
 use Rattle.wire_laws.proofs.Plain.{plain_airs}
-use Rattle.wire_laws.proofs.Walks.{apart, direct}
+use Rattle.wire_laws.proofs.Walks.{apart}
 use Rattle.wire_laws.proofs.chip.worked_taking.Goals as goal
 
 pub returns-clause-plain : goal.returns-clause-plain
