@@ -1,5 +1,7 @@
 -- Of which entries the laws of the chip and of the air ask something: a law holds where these have what it asks.
-use Rattle.std.proofs.Common.{◌≡◌, ℕ, ◌||◌, Bool, true, false, List, [], ◌∷◌}
+use Rattle.std.proofs.Common.{◌≡◌, ℕ, suc, ◌||◌, Bool, true, false, List, [], ◌∷◌, ◌++◌, length, refl, sym, ap, subst, ◌∙◌}
+use Rattle.std.specs.Prelude.{⊤, zero, if◌then◌else◌}
+use Rattle.std.proofs.lemmas.List.{append-nil, append_assoc}
 use Rattle.device_stack.specs.State.{State}
 use Rattle.zw_words.specs.declared.side.Side.TheVariants.{Chip}
 use Rattle.zw_text.specs.declared.line.Line.{Line}
@@ -11,9 +13,11 @@ use Rattle.wire_laws.specs.Routes.{MayGo, GoesByRoute}
 use Rattle.wire_laws.specs.Arriving.{Hop, MayMeet, MeetsWhatIsDue, FollowsRepeat, RepeatsWhatIsAsked, IsForgotten, forgets, ForgetsDeadHops}
 use Rattle.wire_laws.specs.Asked.{Course, is_ack}
 use Rattle.wire_laws.specs.Taking.{goes_on, to_air, IsPassedOver, MayAir, AirsWhatIsTaken}
-use Rattle.wire_laws.specs.Answering.{begins_next, IsNext, MayAnswer, AnswersInOrder, MayWait, DropsWhenFull}
+use Rattle.wire_laws.specs.Given.{Given, IsOf, given_at, given}
+use Rattle.wire_laws.specs.Answering.{begins_next, begun_at, begun, drops, AreOf, IsNext, MayAnswer, AnswersInOrder, MayWait, DropsWhenFull}
 use Rattle.wire_laws.specs.Marks.{IsMarked, to_stand, MarksUnits, AnswersBy, is_can, MayCollide, CollidesWhenAsked}
-use Rattle.zw_laws.proofs.Entries.{AllAsked, Quiet, each, has_some, is_air, none_of}
+use Rattle.zw_laws.specs.Lists.{EachAfter, shown_after}
+use Rattle.zw_laws.proofs.Entries.{Asked, AllAsked, Quiet, each, has_some, is_air, none_of}
 
 -- ---- frames
 
@@ -133,18 +137,6 @@ abbrev pub is_beginning : Course → List Entry → Entry → Bool
 is_beginning course past (Written Chip unit) = begins_next course past
 is_beginning course past _ = false
 
-no_next : (begins : Bool) (devices : List State) (course : Course) (past : List Entry) (unit : List ℕ) → begins ≡ false → IsNext begins devices course past unit
-no_next true devices course past unit is = cc
-no_next false devices course past unit is = tt
-
-quiet_beginning : (devices : List State) (course : Course) → Quiet (is_beginning course) (MayAnswer devices course)
-quiet_beginning devices course past (Written Chip unit) is = no_next (begins_next course past) devices course past unit is
-quiet_beginning devices course past _ is = tt
-
-pub answers_in_order : (devices : List State) (course : Course) (transcript : List Entry)
-    → AllAsked (is_beginning course) (MayAnswer devices course) [] transcript → AnswersInOrder devices course transcript
-answers_in_order devices course = each (is_beginning course) (MayAnswer devices course) (quiet_beginning devices course) []
-
 -- a frame that is dropped, and where a line or tick begins
 abbrev pub is_turn : List Entry → Entry → Bool
 is_turn past ChipFull = true
@@ -161,3 +153,121 @@ quiet_turns devices course past _ is = tt
 pub drops_when_full : (devices : List State) (course : Course) (transcript : List Entry)
     → AllAsked is_turn (MayWait devices course) [] transcript → DropsWhenFull devices course transcript
 drops_when_full devices course = each is_turn (MayWait devices course) (quiet_turns devices course) []
+
+-- ---- the frames of the chip, one after another
+
+-- a unit is what the chip has for the host at a place
+abbrev pub IsAt : List State → List ℕ → List Given → ℕ → Type 0
+IsAt devices unit [] place = ⊥
+IsAt devices unit (one ∷ more) zero = IsOf devices unit one
+IsAt devices unit (one ∷ more) (suc place) = IsAt devices unit more place
+
+are_and : (devices : List State) (units : List (List ℕ)) (given : List Given) (unit : List ℕ) → AreOf devices 0 units given
+    → IsAt devices unit given (length units) → AreOf devices 0 (units ++ unit ∷ []) given
+are_and devices [] [] unit are at = at
+are_and devices [] (one ∷ more) unit are at = (at, tt)
+are_and devices (first ∷ units) [] unit are at = are
+are_and devices (first ∷ units) (one ∷ more) unit are at = (are.0, are_and devices units more unit are.1 at)
+
+are_among : (devices : List State) (units : List (List ℕ)) (given later : List Given) → AreOf devices 0 units given → AreOf devices 0 units (given ++ later)
+are_among devices [] given later are = tt
+are_among devices (unit ∷ units) [] later are = absurd are
+are_among devices (unit ∷ units) (one ∷ more) later are = (are.0, are_among devices units more later are.1)
+
+-- the first copy of a frame is the next that the chip has for the host
+abbrev pub IsNextAt : List State → Course → List Entry → Entry → Type 0
+IsNextAt devices course past (Written Chip unit) = IsAt devices unit (given devices course past) (length (begun course past))
+IsNextAt devices course past _ = ⊤
+
+-- nothing is dropped
+abbrev pub drops_nothing : List Entry → Bool
+drops_nothing [] = true
+drops_nothing (ChipFull ∷ entries) = false
+drops_nothing (entry ∷ entries) = drops_nothing entries
+
+-- what a unit that is written makes of what was begun
+begun_so : (begins : Bool) (devices : List State) (course : Course) (past : List Entry) (unit : List ℕ)
+    → AreOf devices 0 (begun course past) (given devices course past) → Asked begins (IsNextAt devices course past (Written Chip unit)) ⊤
+    → AreOf devices 0 (begun course past ++ (if begins then unit ∷ [] else [])) (given devices course past)
+begun_so true devices course past unit are asked = are_and devices (begun course past) (given devices course past) unit are asked.0
+begun_so false devices course past unit are asked = subst (λ (units : List (List ℕ)). AreOf devices 0 units (given devices course past)) (sym (append-nil (begun course past))) are
+
+shown_one : {B : Type 0} (shows : List Entry → Entry → List B) (before past : List Entry) (entry : Entry)
+    → shown_after shows before (past ++ entry ∷ []) ≡ shown_after shows before past ++ shows (before ++ past) entry
+shown_one shows before [] entry = append-nil (shows before entry) ∙ ap (λ past. shows past entry) (sym (append-nil before))
+shown_one shows before (first ∷ past) entry =
+    ap (λ shown. shows before first ++ shown) (shown_one shows (before ++ first ∷ []) past entry)
+    ∙ sym (append_assoc (shows before first) (shown_after shows (before ++ first ∷ []) past) (shows ((before ++ first ∷ []) ++ past) entry))
+    ∙ ap (λ all. shown_after shows before (first ∷ past) ++ shows all entry) (append_assoc before (first ∷ []) past)
+
+-- so of any entry
+begun_with : (devices : List State) (course : Course) (past : List Entry) (entry : Entry) → AreOf devices 0 (begun course past) (given devices course past)
+    → Asked (is_beginning course past entry) (IsNextAt devices course past entry) ⊤
+    → AreOf devices 0 (begun course past ++ begun_at course past entry) (given devices course past)
+begun_with devices course past (Written Chip unit) are asked = begun_so (begins_next course past) devices course past unit are asked
+begun_with devices course past _ are asked = subst (λ (units : List (List ℕ)). AreOf devices 0 units (given devices course past)) (sym (append-nil (begun course past))) are
+
+begun_after : (devices : List State) (course : Course) (past : List Entry) (entry : Entry)
+    → AreOf devices 0 (begun course past ++ begun_at course past entry) (given devices course past)
+    → AreOf devices 0 (begun course (past ++ entry ∷ [])) (given devices course (past ++ entry ∷ []))
+begun_after devices course past entry are =
+    subst (λ (units : List (List ℕ)). AreOf devices 0 units (given devices course (past ++ entry ∷ []))) (sym (shown_one (begun_at course) [] past entry))
+    (subst (λ (all : List Given). AreOf devices 0 (begun course past ++ begun_at course past entry) all) (sym (shown_one (given_at devices course) [] past entry))
+    (are_among devices _ (given devices course past) (given_at devices course past entry) are))
+
+-- nothing was dropped then
+none_dropped : (past : List Entry) → drops_nothing past ≡ true → drops past ≡ 0
+none_dropped [] nothing = refl
+none_dropped (ChipFull ∷ past) nothing = cc
+none_dropped (entry ∷ past) nothing = none_dropped past nothing
+
+nothing_more : (past : List Entry) (entry : Entry) → drops_nothing past ≡ true → drops_nothing (entry ∷ []) ≡ true → drops_nothing (past ++ entry ∷ []) ≡ true
+nothing_more [] entry nothing more = more
+nothing_more (ChipFull ∷ past) entry nothing more = cc
+nothing_more (first ∷ past) entry nothing more = nothing_more past entry nothing more
+
+first_drops : (entry : Entry) (rest : List Entry) → drops_nothing (entry ∷ rest) ≡ true → drops_nothing (entry ∷ []) ≡ true
+first_drops ChipFull rest nothing = cc
+first_drops _ rest nothing = refl
+
+rest_drops : (entry : Entry) (rest : List Entry) → drops_nothing (entry ∷ rest) ≡ true → drops_nothing rest ≡ true
+rest_drops ChipFull rest nothing = cc
+rest_drops _ rest nothing = nothing
+
+answers_by : (begins : Bool) (devices : List State) (course : Course) (past : List Entry) (unit : List ℕ) → drops past ≡ 0
+    → AreOf devices 0 (begun course past) (given devices course past) → Asked begins (IsNextAt devices course past (Written Chip unit)) ⊤
+    → IsNext begins devices course past unit
+answers_by true devices course past unit none are asked =
+    subst (λ (dropped : ℕ). AreOf devices dropped (begun course past ++ unit ∷ []) (given devices course past)) (sym none)
+    (are_and devices (begun course past) (given devices course past) unit are asked.0)
+answers_by false devices course past unit none are asked = tt
+
+answers_here : (devices : List State) (course : Course) (past : List Entry) (entry : Entry) → drops past ≡ 0
+    → AreOf devices 0 (begun course past) (given devices course past) → Asked (is_beginning course past entry) (IsNextAt devices course past entry) ⊤
+    → MayAnswer devices course past entry
+answers_here devices course past (Written Chip unit) none are asked = answers_by (begins_next course past) devices course past unit none are asked
+answers_here devices course past _ none are asked = tt
+
+asked_here : (is : Bool) (First Later : Type 0) → Asked is First Later → Asked is First ⊤
+asked_here true First Later asked = (asked.0, tt)
+asked_here false First Later asked = tt
+
+asked_later : (is : Bool) (First Later : Type 0) → Asked is First Later → Later
+asked_later true First Later asked = asked.1
+asked_later false First Later asked = asked
+
+answers_each : (devices : List State) (course : Course) (past rest : List Entry) → drops_nothing past ≡ true → drops_nothing rest ≡ true
+    → AreOf devices 0 (begun course past) (given devices course past) → AllAsked (is_beginning course) (IsNextAt devices course) past rest
+    → EachAfter (MayAnswer devices course) past rest
+answers_each devices course past [] before behind are asked = tt
+answers_each devices course past (entry ∷ rest) before behind are asked =
+    let here = asked_here (is_beginning course past entry) _ _ asked in (
+      answers_here devices course past entry (none_dropped past before) are here,
+      answers_each devices course (past ++ entry ∷ []) rest (nothing_more past entry before (first_drops entry rest behind)) (rest_drops entry rest behind)
+          (begun_after devices course past entry (begun_with devices course past entry are here)) (asked_later (is_beginning course past entry) _ _ asked),
+    )
+
+-- where nothing is dropped, each frame that the chip begins is what it has for the host at the place of that frame
+pub answers_one_by_one : (devices : List State) (course : Course) (transcript : List Entry) → drops_nothing transcript ≡ true
+    → AllAsked (is_beginning course) (IsNextAt devices course) [] transcript → AnswersInOrder devices course transcript
+answers_one_by_one devices course transcript nothing asked = answers_each devices course [] transcript refl nothing tt asked

@@ -19,7 +19,19 @@ pub returns-clause-two : goal.returns-clause-two
 unfolding computing
 returns-clause-two c = record {
   quiet = refl;
-  reached = (record { repeaters = []; route = direct _ _ _ refl; live = is_linked _ _ 1 2 ∙ refl; back = []; way = (direct _ _ _ refl).walk }, (record { repeaters = []; route = direct _ _ _ refl; live = is_linked _ _ 1 10 ∙ refl; back = []; way = (direct _ _ _ refl).walk }, tt));
+  reached = (
+    record { repeaters = []; route = direct _ _ _ refl; live = is_linked _ _ 1 2 ∙ refl; back = []; way = (direct _ _ _ refl).walk },
+    (
+      record {
+        repeaters = [];
+        route = direct _ _ _ refl;
+        live = is_linked _ _ 1 10 ∙ refl;
+        back = [];
+        way = (direct _ _ _ refl).walk;
+      },
+      tt,
+    ),
+  );
 }
 
 pub returns-clause-two_plain : goal.returns-clause-two_plain

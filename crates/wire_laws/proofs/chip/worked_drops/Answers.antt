@@ -72,15 +72,45 @@ returns-clause-copied c = (
 
 pub returns-clause-repeated : goal.returns-clause-repeated
 unfolding reckoning
-returns-clause-repeated c = drops_when_full (the_switch ∷ []) (without_copies passed_in_repeated repeated_exchange) repeated_exchange (omega arith, (omega arith, (omega arith, (omega arith, (omega arith, (omega arith, tt))))))
+returns-clause-repeated c = drops_when_full (the_switch ∷ []) (without_copies passed_in_repeated repeated_exchange) repeated_exchange (
+  omega arith,
+  (
+    omega arith,
+    (
+      omega arith,
+      (omega arith, (omega arith, (omega arith, tt))),
+    ),
+  ),
+)
 
 pub returns-clause-lossy : goal.returns-clause-lossy
 unfolding reckoning
-returns-clause-lossy c = drops_when_full (the_switch ∷ []) (without_copies passed_in_lossy lossy_exchange) lossy_exchange (omega arith, (omega arith, (omega arith, (omega arith, (omega arith, (omega arith, (omega arith, (omega arith, (omega arith, (omega arith, (omega arith, (omega arith, tt))))))))))))
+returns-clause-lossy c = drops_when_full (the_switch ∷ []) (without_copies passed_in_lossy lossy_exchange) lossy_exchange (
+  omega arith,
+  (
+    omega arith,
+    (
+      omega arith,
+      (
+        omega arith,
+        (omega arith, (omega arith, (omega arith, (omega arith, (omega arith, (omega arith, (omega arith, (omega arith, tt)))))))),
+      ),
+    ),
+  ),
+)
 
 pub returns-clause-cancelled : goal.returns-clause-cancelled
 unfolding reckoning
-returns-clause-cancelled c = drops_when_full (the_switch ∷ []) (without_copies passed_in_cancelled cancelled_order) cancelled_order (omega arith, (omega arith, (omega arith, (omega arith, (omega arith, (omega arith, (omega arith, tt)))))))
+returns-clause-cancelled c = drops_when_full (the_switch ∷ []) (without_copies passed_in_cancelled cancelled_order) cancelled_order (
+  omega arith,
+  (
+    omega arith,
+    (
+      omega arith,
+      (omega arith, (omega arith, (omega arith, (omega arith, tt)))),
+    ),
+  ),
+)
 
 pub returns-clause-restarted : goal.returns-clause-restarted
 unfolding reckoning
@@ -88,12 +118,87 @@ returns-clause-restarted c = drops_when_full (the_switch ∷ []) (without_copies
 
 pub returns-clause-sleeping : goal.returns-clause-sleeping
 unfolding reckoning
-returns-clause-sleeping c = drops_when_full (the_sensor ∷ []) (without_copies passed_in_sleeping sleeping_node) sleeping_node (omega arith, (omega arith, (omega arith, (omega arith, (omega arith, (omega arith, (omega arith, (omega arith, (omega arith, (omega arith, (omega arith, (omega arith, (omega arith, (omega arith, (omega arith, (omega arith, tt))))))))))))))))
+returns-clause-sleeping c = drops_when_full (the_sensor ∷ []) (without_copies passed_in_sleeping sleeping_node) sleeping_node (
+  omega arith,
+  (
+    omega arith,
+    (
+      omega arith,
+      (
+        omega arith,
+        (omega arith, (omega arith, (omega arith, (omega arith, (omega arith, (omega arith, (omega arith, (omega arith, (omega arith, (omega arith, (omega arith, (omega arith, tt)))))))))))),
+      ),
+    ),
+  ),
+)
 
 pub returns-clause-sealed : goal.returns-clause-sealed
 unfolding reckoning
-returns-clause-sealed c = drops_when_full (the_lock ∷ []) (without_copies passed_in_sealed sealed_exchange) sealed_exchange (omega arith, (omega arith, (omega arith, (omega arith, (omega arith, (omega arith, (omega arith, (omega arith, (omega arith, (omega arith, (omega arith, (omega arith, (omega arith, (omega arith, (omega arith, (omega arith, (omega arith, (omega arith, (omega arith, tt)))))))))))))))))))
+returns-clause-sealed c = drops_when_full (the_lock ∷ []) (without_copies passed_in_sealed sealed_exchange) sealed_exchange (
+  omega arith,
+  (
+    omega arith,
+    (
+      omega arith,
+      (
+        omega arith,
+        (
+          omega arith,
+          (
+            omega arith,
+            (
+              omega arith,
+              (
+                omega arith,
+                (
+                  omega arith,
+                  (
+                    omega arith,
+                    (
+                      omega arith,
+                      (
+                        omega arith,
+                        (
+                          omega arith,
+                          (
+                            omega arith,
+                            (
+                              omega arith,
+                              (
+                                omega arith,
+                                (omega arith, (omega arith, (omega arith, tt))),
+                              ),
+                            ),
+                          ),
+                        ),
+                      ),
+                    ),
+                  ),
+                ),
+              ),
+            ),
+          ),
+        ),
+      ),
+    ),
+  ),
+)
 
 pub returns-clause-cut : goal.returns-clause-cut
 unfolding reckoning
-returns-clause-cut c = drops_when_full (the_plug ∷ []) (without_copies passed_in_cut long_message) long_message (omega arith, (omega arith, (omega arith, (omega arith, (omega arith, (omega arith, (omega arith, (omega arith, (omega arith, (omega arith, tt))))))))))
+returns-clause-cut c = drops_when_full (the_plug ∷ []) (without_copies passed_in_cut long_message) long_message (
+  omega arith,
+  (
+    omega arith,
+    (
+      omega arith,
+      (
+        omega arith,
+        (
+          omega arith,
+          (omega arith, (omega arith, (omega arith, (omega arith, (omega arith, tt))))),
+        ),
+      ),
+    ),
+  ),
+)

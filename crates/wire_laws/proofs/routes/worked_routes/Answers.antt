@@ -163,7 +163,19 @@ returns-clause-repeated c = goes_by_route (the_switch ∷ []) repeated_exchange 
 
 pub returns-clause-lossy : goal.returns-clause-lossy
 unfolding reckoning
-returns-clause-lossy c = goes_by_route (the_switch ∷ []) lossy_exchange (direct _ _ _ refl, (direct _ _ _ refl, (direct _ _ _ refl, (direct _ _ _ refl, ((refl, inl (direct _ _ _ refl)), (direct _ _ _ refl, ((refl, inl (direct _ _ _ refl)), tt)))))))
+returns-clause-lossy c = goes_by_route (the_switch ∷ []) lossy_exchange (
+  direct _ _ _ refl,
+  (
+    direct _ _ _ refl,
+    (
+      direct _ _ _ refl,
+      (
+        direct _ _ _ refl,
+        ((refl, inl (direct _ _ _ refl)), (direct _ _ _ refl, ((refl, inl (direct _ _ _ refl)), tt))),
+      ),
+    ),
+  ),
+)
 
 pub returns-clause-cancelled : goal.returns-clause-cancelled
 unfolding reckoning
@@ -175,11 +187,35 @@ returns-clause-restarted c = goes_by_route (the_switch ∷ []) restarted_host (d
 
 pub returns-clause-sleeping : goal.returns-clause-sleeping
 unfolding reckoning
-returns-clause-sleeping c = goes_by_route (the_sensor ∷ []) sleeping_node ((refl, inl (direct _ _ _ refl)), (direct _ _ _ refl, ((refl, inl (direct _ _ _ refl)), (direct _ _ _ refl, ((refl, inl (direct _ _ _ refl)), (direct _ _ _ refl, tt))))))
+returns-clause-sleeping c = goes_by_route (the_sensor ∷ []) sleeping_node (
+  (refl, inl (direct _ _ _ refl)),
+  (
+    direct _ _ _ refl,
+    (
+      (refl, inl (direct _ _ _ refl)),
+      (
+        direct _ _ _ refl,
+        ((refl, inl (direct _ _ _ refl)), (direct _ _ _ refl, tt)),
+      ),
+    ),
+  ),
+)
 
 pub returns-clause-sealed : goal.returns-clause-sealed
 unfolding reckoning
-returns-clause-sealed c = goes_by_route (the_lock ∷ []) sealed_exchange (direct _ _ _ refl, ((refl, inl (direct _ _ _ refl)), (direct _ _ _ refl, ((refl, inl (direct _ _ _ refl)), (direct _ _ _ refl, ((refl, inl (direct _ _ _ refl)), (direct _ _ _ refl, ((refl, inl (direct _ _ _ refl)), tt))))))))
+returns-clause-sealed c = goes_by_route (the_lock ∷ []) sealed_exchange (
+  direct _ _ _ refl,
+  (
+    (refl, inl (direct _ _ _ refl)),
+    (
+      direct _ _ _ refl,
+      (
+        (refl, inl (direct _ _ _ refl)),
+        (direct _ _ _ refl, ((refl, inl (direct _ _ _ refl)), (direct _ _ _ refl, ((refl, inl (direct _ _ _ refl)), tt)))),
+      ),
+    ),
+  ),
+)
 
 pub returns-clause-cut : goal.returns-clause-cut
 unfolding reckoning

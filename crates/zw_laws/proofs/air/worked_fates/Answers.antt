@@ -14,7 +14,43 @@ returns-clause-repeated c = fares_in_turn repeated_exchange (refl, (refl, (refl,
 
 pub returns-clause-lossy : goal.returns-clause-lossy
 unfolding computing
-returns-clause-lossy c = fares_in_turn lossy_exchange (refl, (refl, (refl, (refl, ((refl, omega arith), (refl, ((refl, omega arith), (refl, ((refl, omega arith), (refl, (refl, (refl, ((refl, omega arith), (refl, ((refl, omega arith), (refl, ((refl, omega arith), (refl, ((refl, omega arith), tt)))))))))))))))))))
+returns-clause-lossy c = fares_in_turn lossy_exchange (
+  refl,
+  (
+    refl,
+    (
+      refl,
+      (
+        refl,
+        (
+          (refl, omega arith),
+          (
+            refl,
+            (
+              (refl, omega arith),
+              (
+                refl,
+                (
+                  (refl, omega arith),
+                  (
+                    refl,
+                    (
+                      refl,
+                      (
+                        refl,
+                        ((refl, omega arith), (refl, ((refl, omega arith), (refl, ((refl, omega arith), (refl, ((refl, omega arith), tt))))))),
+                      ),
+                    ),
+                  ),
+                ),
+              ),
+            ),
+          ),
+        ),
+      ),
+    ),
+  ),
+)
 
 pub returns-clause-cancelled : goal.returns-clause-cancelled
 unfolding computing
@@ -26,12 +62,165 @@ returns-clause-restarted c = fares_in_turn restarted_host (refl, (refl, (refl, (
 
 pub returns-clause-sleeping : goal.returns-clause-sleeping
 unfolding computing
-returns-clause-sleeping c = fares_in_turn sleeping_node (refl, (refl, (refl, (refl, (refl, (refl, ((refl, omega arith), (refl, ((refl, omega arith), (refl, (refl, (refl, (refl, ((refl, omega arith), (refl, ((refl, omega arith), (refl, ((refl, omega arith), (refl, (refl, (refl, ((refl, omega arith), tt))))))))))))))))))))))
+returns-clause-sleeping c = fares_in_turn sleeping_node (
+  refl,
+  (
+    refl,
+    (
+      refl,
+      (
+        refl,
+        (
+          refl,
+          (
+            refl,
+            (
+              (refl, omega arith),
+              (
+                refl,
+                (
+                  (refl, omega arith),
+                  (
+                    refl,
+                    (
+                      refl,
+                      (
+                        refl,
+                        (
+                          refl,
+                          ((refl, omega arith), (refl, ((refl, omega arith), (refl, ((refl, omega arith), (refl, (refl, (refl, ((refl, omega arith), tt))))))))),
+                        ),
+                      ),
+                    ),
+                  ),
+                ),
+              ),
+            ),
+          ),
+        ),
+      ),
+    ),
+  ),
+)
 
 pub returns-clause-sealed : goal.returns-clause-sealed
 unfolding computing
-returns-clause-sealed c = fares_in_turn sealed_exchange (refl, (refl, (refl, (refl, (refl, (refl, (refl, (refl, (refl, ((refl, omega arith), (refl, (refl, ((refl, omega arith), (refl, (refl, ((refl, omega arith), (refl, ((refl, omega arith), (refl, ((refl, omega arith), (refl, ((refl, omega arith), (refl, ((refl, omega arith), (refl, ((refl, omega arith), (refl, ((refl, refl), tt))))))))))))))))))))))))))))
+returns-clause-sealed c = fares_in_turn sealed_exchange (
+  refl,
+  (
+    refl,
+    (
+      refl,
+      (
+        refl,
+        (
+          refl,
+          (
+            refl,
+            (
+              refl,
+              (
+                refl,
+                (
+                  refl,
+                  (
+                    (refl, omega arith),
+                    (
+                      refl,
+                      (
+                        refl,
+                        (
+                          (refl, omega arith),
+                          (
+                            refl,
+                            (
+                              refl,
+                              (
+                                (refl, omega arith),
+                                (
+                                  refl,
+                                  (
+                                    (refl, omega arith),
+                                    (
+                                      refl,
+                                      (
+                                        (refl, omega arith),
+                                        (
+                                          refl,
+                                          (
+                                            (refl, omega arith),
+                                            (
+                                              refl,
+                                              (
+                                                (refl, omega arith),
+                                                (
+                                                  refl,
+                                                  (
+                                                    (refl, omega arith),
+                                                    (refl, ((refl, refl), tt)),
+                                                  ),
+                                                ),
+                                              ),
+                                            ),
+                                          ),
+                                        ),
+                                      ),
+                                    ),
+                                  ),
+                                ),
+                              ),
+                            ),
+                          ),
+                        ),
+                      ),
+                    ),
+                  ),
+                ),
+              ),
+            ),
+          ),
+        ),
+      ),
+    ),
+  ),
+)
 
 pub returns-clause-cut : goal.returns-clause-cut
 unfolding computing
-returns-clause-cut c = fares_in_turn long_message (refl, (refl, (refl, (refl, (refl, (refl, (refl, (refl, ((refl, omega arith), (refl, ((refl, omega arith), (refl, ((refl, omega arith), ((refl, omega arith), tt))))))))))))))
+returns-clause-cut c = fares_in_turn long_message (
+  refl,
+  (
+    refl,
+    (
+      refl,
+      (
+        refl,
+        (
+          refl,
+          (
+            refl,
+            (
+              refl,
+              (
+                refl,
+                (
+                  (refl, omega arith),
+                  (
+                    refl,
+                    (
+                      (refl, omega arith),
+                      (
+                        refl,
+                        ((refl, omega arith), ((refl, omega arith), tt)),
+                      ),
+                    ),
+                  ),
+                ),
+              ),
+            ),
+          ),
+        ),
+      ),
+    ),
+  ),
+)

@@ -14,7 +14,13 @@ returns-clause-repeated c = loses_marked repeated_exchange ((λ first has. absur
 
 pub returns-clause-lossy : goal.returns-clause-lossy
 unfolding computing
-returns-clause-lossy c = loses_marked lossy_exchange ((λ first has. not_among (1 ∷ 2 ∷ 3 ∷ []) 4 refl has), ((λ first has. not_among (1 ∷ 2 ∷ 3 ∷ []) 5 refl has), ((λ first has. not_among (1 ∷ 2 ∷ 3 ∷ []) 6 refl has), ((λ first has. not_among (1 ∷ 2 ∷ 3 ∷ []) 7 refl has), tt))))
+returns-clause-lossy c = loses_marked lossy_exchange (
+  (λ first has. not_among (1 ∷ 2 ∷ 3 ∷ []) 4 refl has),
+  (
+    (λ first has. not_among (1 ∷ 2 ∷ 3 ∷ []) 5 refl has),
+    ((λ first has. not_among (1 ∷ 2 ∷ 3 ∷ []) 6 refl has), ((λ first has. not_among (1 ∷ 2 ∷ 3 ∷ []) 7 refl has), tt)),
+  ),
+)
 
 pub returns-clause-cancelled : goal.returns-clause-cancelled
 unfolding computing
@@ -26,11 +32,41 @@ returns-clause-restarted c = loses_marked restarted_host ((λ first has. absurd 
 
 pub returns-clause-sleeping : goal.returns-clause-sleeping
 unfolding computing
-returns-clause-sleeping c = loses_marked sleeping_node ((λ first has. absurd has), ((λ first has. absurd has), ((λ first has. absurd has), ((λ first has. absurd has), ((λ first has. absurd has), ((λ first has. absurd has), tt))))))
+returns-clause-sleeping c = loses_marked sleeping_node (
+  (λ first has. absurd has),
+  (
+    (λ first has. absurd has),
+    (
+      (λ first has. absurd has),
+      (
+        (λ first has. absurd has),
+        ((λ first has. absurd has), ((λ first has. absurd has), tt)),
+      ),
+    ),
+  ),
+)
 
 pub returns-clause-sealed : goal.returns-clause-sealed
 unfolding computing
-returns-clause-sealed c = loses_marked sealed_exchange ((λ first has. absurd has), ((λ first has. not_among (2 ∷ []) 3 refl has), ((λ first has. not_among (2 ∷ []) 4 refl has), ((λ first has. not_among (2 ∷ []) 5 refl has), ((λ first has. not_among (2 ∷ []) 6 refl has), ((λ first has. not_among (2 ∷ []) 7 refl has), ((λ first has. not_among (2 ∷ []) 8 refl has), ((λ first has. absurd first), tt))))))))
+returns-clause-sealed c = loses_marked sealed_exchange (
+  (λ first has. absurd has),
+  (
+    (λ first has. not_among (2 ∷ []) 3 refl has),
+    (
+      (λ first has. not_among (2 ∷ []) 4 refl has),
+      (
+        (λ first has. not_among (2 ∷ []) 5 refl has),
+        (
+          (λ first has. not_among (2 ∷ []) 6 refl has),
+          (
+            (λ first has. not_among (2 ∷ []) 7 refl has),
+            ((λ first has. not_among (2 ∷ []) 8 refl has), ((λ first has. absurd first), tt)),
+          ),
+        ),
+      ),
+    ),
+  ),
+)
 
 pub returns-clause-cut : goal.returns-clause-cut
 unfolding computing

@@ -68,13 +68,19 @@ returns-clause-longer c = λ law.
 pub returns-clause-whole : goal.returns-clause-whole
 unfolding computing sealing
 returns-clause-whole c = λ law.
-    no_other (listing_of (the_plug ∷ [])) [] (take 5 sent_whole) (record { node = 8; payload = bytes (codes "6C01012B70070000250101010101010101010101010101010101010101010101010101010101010101010101010101") }) refl refl refl
+    no_other (listing_of (the_plug ∷ [])) [] (take 5 sent_whole) (record {
+      node = 8;
+      payload = bytes (codes "6C01012B70070000250101010101010101010101010101010101010101010101010101010101010101010101010101");
+    }) refl refl refl
     (λ of. differ 0x6C 85 refl (ap (λ p. slice_index p 0) of.text ∙ is_cut 1 47 (39 * of.place) _)) (λ asked. asked) law.1.1.1.1.1.0.0
 
 pub returns-clause-cut_otherwise : goal.returns-clause-cut_otherwise
 unfolding computing sealing
 returns-clause-cut_otherwise c = λ law.
-    no_other (listing_of (the_plug ∷ [])) [] (take 5 cut_otherwise) (record { node = 8; payload = bytes (codes "55C02F106C01012B7007000025010101010101010201010101010101010101010101010101010101010101E167") }) refl refl refl
+    no_other (listing_of (the_plug ∷ [])) [] (take 5 cut_otherwise) (record {
+      node = 8;
+      payload = bytes (codes "55C02F106C01012B7007000025010101010101010201010101010101010101010101010101010101010101E167");
+    }) refl refl refl
     (λ of. elim (cut_at the_message 1 _ of.place of.within of.text) [ inl first ↦ differ 2 1 refl (ap (λ p. slice_index p 20) first) | inr second ↦ differ 0x55C0 0x55E0 refl (ap head_of second) ]) (λ asked. asked) law.1.1.1.1.1.0.0
 
 pub returns-clause-past_end : goal.returns-clause-past_end

@@ -13,11 +13,22 @@ returns-clause-plain c = each_has_cause (listing_of (the_switch ∷ [])) [] plai
 
 pub returns-clause-repeated : goal.returns-clause-repeated
 unfolding computing
-returns-clause-repeated c = each_has_cause (listing_of (the_switch ∷ [])) [] repeated_exchange (record { node = 2; wake_request = false; carries = refl; reported = inl (inl (inl refl)) }, (record { status = statuses.Success; wake_request = false; told_it = inl (inl (inl refl)) }, tt))
+returns-clause-repeated c = each_has_cause (listing_of (the_switch ∷ [])) [] repeated_exchange (
+  record {
+    node = 2;
+    wake_request = false;
+    carries = refl;
+    reported = inl (inl (inl refl));
+  },
+  (record { status = statuses.Success; wake_request = false; told_it = inl (inl (inl refl)) }, tt),
+)
 
 pub returns-clause-lossy : goal.returns-clause-lossy
 unfolding computing
-returns-clause-lossy c = each_has_cause (listing_of (the_switch ∷ [])) [] lossy_exchange (record { node = 2; wake_request = false; carries = refl; reported = inl (inl (inl refl)) }, (record { node = 2; wake_request = false; carries = refl; reported = inr (inl (inl (inl refl))) }, tt))
+returns-clause-lossy c = each_has_cause (listing_of (the_switch ∷ [])) [] lossy_exchange (
+  record { node = 2; wake_request = false; carries = refl; reported = inl (inl (inl refl)) },
+  (record { node = 2; wake_request = false; carries = refl; reported = inr (inl (inl (inl refl))) }, tt),
+)
 
 pub returns-clause-cancelled : goal.returns-clause-cancelled
 unfolding computing
@@ -29,7 +40,18 @@ returns-clause-restarted c = each_has_cause (listing_of (the_switch ∷ [])) [] 
 
 pub returns-clause-sleeping : goal.returns-clause-sleeping
 unfolding computing
-returns-clause-sleeping c = each_has_cause (listing_of (the_sensor ∷ [])) [] sleeping_node (inl (inl (inl refl)), (record { basic = 4; generic = 0; specific = 0; came = inr (inl refl) }, (inl (inl (inl refl)), (record { node = 5; wake_request = false; carries = refl; reported = inr (inr (inl (inl (inl refl)))) }, tt))))
+returns-clause-sleeping c = each_has_cause (listing_of (the_sensor ∷ [])) [] sleeping_node (
+  inl (inl (inl refl)),
+  (
+    record {
+      basic = 4;
+      generic = 0;
+      specific = 0;
+      came = inr (inl refl);
+    },
+    (inl (inl (inl refl)), (record { node = 5; wake_request = false; carries = refl; reported = inr (inr (inl (inl (inl refl)))) }, tt)),
+  ),
+)
 
 pub returns-clause-sealed : goal.returns-clause-sealed
 unfolding computing
@@ -48,4 +70,15 @@ returns-clause-sealed c = each_has_cause (listing_of (the_lock ∷ [])) network_
 
 pub returns-clause-cut : goal.returns-clause-cut
 unfolding computing
-returns-clause-cut c = each_has_cause (listing_of (the_plug ∷ [])) [] long_message (record { basic = 4; generic = 0; specific = 0; came = inl refl }, (record { node = 8; wake_request = false; carries = refl; reported = inr (inl (inl (inl refl))) }, tt))
+returns-clause-cut c = each_has_cause (listing_of (the_plug ∷ [])) [] long_message (
+  record { basic = 4; generic = 0; specific = 0; came = inl refl },
+  (
+    record {
+      node = 8;
+      wake_request = false;
+      carries = refl;
+      reported = inr (inl (inl (inl refl)));
+    },
+    tt,
+  ),
+)

@@ -32,8 +32,51 @@ returns-clause-sleeping c = sends_what_is_due (listing_of (the_sensor ∷ [])) [
 
 pub returns-clause-sealed : goal.returns-clause-sealed
 unfolding computing
-returns-clause-sealed c = sends_what_is_due (listing_of (the_lock ∷ [])) network_key sealed_exchange ((inr (inl refl), tt), ((inr (inl refl), tt), ((inl (record { own = set_own; nonce = set_nonce; given = inl refl; own_eight = refl; eight = refl; text = sym sealed_set }), tt), ((inr (inr (inl (record { nonce = report_nonce; eight = refl; asked = inr (inl refl); text = refl }))), tt), tt))))
+returns-clause-sealed c = sends_what_is_due (listing_of (the_lock ∷ [])) network_key sealed_exchange (
+  (inr (inl refl), tt),
+  (
+    (inr (inl refl), tt),
+    (
+      (
+        inl (record {
+          own = set_own;
+          nonce = set_nonce;
+          given = inl refl;
+          own_eight = refl;
+          eight = refl;
+          text = sym sealed_set;
+        }),
+        tt,
+      ),
+      (
+        (
+          inr (inr (inl (record {
+            nonce = report_nonce;
+            eight = refl;
+            asked = inr (inl refl);
+            text = refl;
+          }))),
+          tt,
+        ),
+        tt,
+      ),
+    ),
+  ),
+)
 
 pub returns-clause-cut : goal.returns-clause-cut
 unfolding computing
-returns-clause-cut c = sends_what_is_due (listing_of (the_plug ∷ [])) [] long_message ((inl (record { place = 0; within = omega arith; text = refl }), tt), ((inl (record { place = 1; within = omega arith; text = refl }), tt), tt))
+returns-clause-cut c = sends_what_is_due (listing_of (the_plug ∷ [])) [] long_message (
+  (inl (record { place = 0; within = omega arith; text = refl }), tt),
+  (
+    (
+      inl (record {
+        place = 1;
+        within = omega arith;
+        text = refl;
+      }),
+      tt,
+    ),
+    tt,
+  ),
+)

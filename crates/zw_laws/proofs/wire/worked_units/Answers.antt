@@ -14,7 +14,25 @@ returns-clause-repeated c = carries_units repeated_exchange (inl (refl, tt), (in
 
 pub returns-clause-lossy : goal.returns-clause-lossy
 unfolding computing
-returns-clause-lossy c = carries_units lossy_exchange (inl (refl, tt), (inl (refl, inl (refl, tt)), (inl (refl, inl (refl, inl (refl, tt))), (inl (refl, inl (refl, inl (refl, inl (refl, tt)))), (inl (refl, inl (refl, inl (refl, inl (refl, tt)))), (inl (refl, inl (refl, inl (refl, inl (refl, inl (refl, tt))))), (inl (refl, inl (refl, inl (refl, inl (refl, inl (refl, tt))))), tt)))))))
+returns-clause-lossy c = carries_units lossy_exchange (
+  inl (refl, tt),
+  (
+    inl (refl, inl (refl, tt)),
+    (
+      inl (refl, inl (refl, inl (refl, tt))),
+      (
+        inl (refl, inl (refl, inl (refl, inl (refl, tt)))),
+        (
+          inl (refl, inl (refl, inl (refl, inl (refl, tt)))),
+          (
+            inl (refl, inl (refl, inl (refl, inl (refl, inl (refl, tt))))),
+            (inl (refl, inl (refl, inl (refl, inl (refl, inl (refl, tt))))), tt),
+          ),
+        ),
+      ),
+    ),
+  ),
+)
 
 pub returns-clause-cancelled : goal.returns-clause-cancelled
 unfolding computing
@@ -30,7 +48,28 @@ returns-clause-sleeping c = carries_units sleeping_node (tt, (inl (refl, tt), (i
 
 pub returns-clause-sealed : goal.returns-clause-sealed
 unfolding computing
-returns-clause-sealed c = carries_units sealed_exchange (inl (refl, tt), (inl (refl, tt), (inl (refl, inl (refl, tt)), (inl (refl, inl (refl, tt)), (inl (refl, inl (refl, inl (refl, tt))), (inl (refl, inl (refl, inl (refl, tt))), (inl (refl, inl (refl, inl (refl, inl (refl, tt)))), (inl (refl, inl (refl, inl (refl, inl (refl, tt)))), tt))))))))
+returns-clause-sealed c = carries_units sealed_exchange (
+  inl (refl, tt),
+  (
+    inl (refl, tt),
+    (
+      inl (refl, inl (refl, tt)),
+      (
+        inl (refl, inl (refl, tt)),
+        (
+          inl (refl, inl (refl, inl (refl, tt))),
+          (
+            inl (refl, inl (refl, inl (refl, tt))),
+            (
+              inl (refl, inl (refl, inl (refl, inl (refl, tt)))),
+              (inl (refl, inl (refl, inl (refl, inl (refl, tt)))), tt),
+            ),
+          ),
+        ),
+      ),
+    ),
+  ),
+)
 
 pub returns-clause-cut : goal.returns-clause-cut
 unfolding computing
