@@ -1,6 +1,6 @@
 -- How the last request of the host ends (Serial API: a request, its response and its callback; the waits of 15 and 65 ticks are this
 -- project's own rule).
-use Rattle.std.specs.Prelude.{ℕ, ◌+◌, ◌==◌, ◌&&◌, ◌||◌, not, nat_le, nat_lt, Bool, true, false, if◌then◌else◌, List, [], ◌∷◌, filter, length, slice_index}
+use Rattle.std.specs.Prelude.{ℕ, ◌+◌, ◌==◌, ◌&&◌, ◌||◌, not, nat_le, nat_lt, Bool, true, false, if◌then◌else◌, List, [], ◌∷◌, filter, slice_index}
 use Rattle.std.specs.List.{flat_map, list_any, list_all}
 use Rattle.chip_functions.specs.declared.request.Request.{Request}
 use Rattle.chip_functions.specs.declared.request.Request.TheVariants.{SendData, SendDataAbort, RequestNodeInfo}

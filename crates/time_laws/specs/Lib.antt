@@ -21,4 +21,6 @@ pub mod WorkedStretches
 pub mod WorkedLate
 pub mod WrongRequests
 pub mod WrongWaits
+pub mod WrongStretches
 pub mod WrongQueue
+pub mod WrongEntries

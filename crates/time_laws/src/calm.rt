@@ -1,6 +1,6 @@
 //! What calm moments and answers in time are, by worked transcripts, and by others with one thing wrong.
 
-ghost use Rattle.std.specs.Prelude.{◌≡◌, true, false, [], ◌∷◌, take, codes};
+ghost use Rattle.std.specs.Prelude.{◌≡◌, true, false, [], ◌∷◌, drop, take, codes};
 ghost use Rattle.device_stack.specs.State.{fresh};
 ghost use Rattle.device_stack.specs.declared.kind.Kind.TheVariants as kinds;
 ghost use Rattle.std.specs.List.{list_all};
@@ -8,9 +8,10 @@ ghost use Rattle.time_laws.specs.Calm.{IsCalm, IsStill, is_not_stuck};
 ghost use Rattle.time_laws.specs.Stretches.{are_plain_listeners, IsStretch, is_quiet, is_time, is_alone, answers_all, AnswersInTime};
 ghost use Rattle.time_laws.specs.WorkedStretches.{before_failing, before_repeated, failing_as_success, stretch_of_failing, stretch_over_two, success_as_failing, the_thermostat};
 ghost use Rattle.time_laws.specs.WorkedWaits.{before_two, before_waking, calm_exchange, stretch_of_sleeper, stretch_of_two, stuck_node, the_other_switch};
+ghost use Rattle.time_laws.specs.WrongStretches.{accepted_as_switch, sensors_from, sensors_join, sensors_work, woken_before_order, woken_twice};
 ghost use Rattle.time_laws.specs.WrongWaits.{asleep_not_yet, left_in_time, reported_next, stretch_unwoken, unheard_acknowledgement};
 ghost use Rattle.zw_laws.specs.Nodes.{listing_of};
-ghost use Rattle.zw_laws.specs.Worked.{plain_exchange, sleeping_node, the_sensor, the_switch};
+ghost use Rattle.zw_laws.specs.Worked.{plain_exchange, sealed_exchange, sleeping_node, the_lock, the_sensor, the_switch};
 ghost use Rattle.zw_text.specs.Transcript.{joined};
 ghost use Rattle.zw_text.specs.declared.entry.Entry.TheVariants.{Said};
 
@@ -26,7 +27,7 @@ pub fn worked_calm()
 
 /// A moment is not calm while a frame, an acknowledgement or a unit is to be lost, changed or answered by CAN, bytes are stalled, a request is
 /// under way, the chip waits for an acknowledgement, a frame is on the air,
-/// a series runs, a node that does not listen is kept awake, or a device is at work on a change.
+/// a series runs, a node that does not listen is kept awake, a device is at work on a change, the host has just restarted, or a node is stuck.
 pub fn rejected_calm()
     ensures marked { IsCalm (listing_of (the_switch ∷ [])) (the_switch ∷ []) (Said (codes "lose 1") ∷ []) 0 → ⊥ }
     ensures acknowledgement { IsCalm (listing_of (the_switch ∷ [])) (the_switch ∷ []) (Said (codes "loseack 1") ∷ []) 0 → ⊥ }
@@ -40,10 +41,13 @@ pub fn rejected_calm()
     ensures running { IsCalm (listing_of (the_switch ∷ [])) (the_switch ∷ []) reported_next 1 → ⊥ }
     ensures awake { IsCalm (listing_of (the_sensor ∷ [])) (the_sensor ∷ []) asleep_not_yet 4 → ⊥ }
     ensures working { IsCalm (listing_of (the_switch ∷ [])) (record the_switch { work_left = 3 } ∷ []) [] 0 → ⊥ }
+    ensures restarted { IsCalm (listing_of (the_switch ∷ [])) (the_switch ∷ []) (Said (codes "restart") ∷ []) 0 → ⊥ }
+    ensures stuck { IsCalm (listing_of (the_switch ∷ the_sensor ∷ the_other_switch ∷ [])) (the_switch ∷ the_sensor ∷ the_other_switch ∷ []) stuck_node 104 → ⊥ }
 {}
 
 /// Stretches that answer in time: of one node, of two that listen, and of one that sleeps; of one that is
-/// reached over another node; and of one whose device does not take the value of its first command, so that this fails.
+/// reached over another node; and of one whose device does not take the value of its first command, so that this fails. Sixteen nodes that sleep
+/// may be at work, and a command may stand that was accepted of a node when the host knew it as it is.
 pub fn worked_stretches()
     ensures one { IsStretch [] (the_switch ∷ []) [] calm_exchange }
     ensures one_in_time { is_time [] calm_exchange ≡ true }
@@ -61,25 +65,38 @@ pub fn worked_stretches()
     ensures repeated_answered { AnswersInTime [] (the_switch ∷ the_other_switch ∷ []) before_repeated stretch_over_two }
     ensures failing { IsStretch [] (the_thermostat ∷ []) before_failing stretch_of_failing }
     ensures failing_in_time { is_time before_failing stretch_of_failing ≡ true }
+    ensures sixteen { is_quiet [] (sensors_from 3 16) (take 32 sensors_join) (take 48 sensors_work) ≡ true }
+    ensures known { is_quiet [] (the_switch ∷ []) accepted_as_switch (Said (codes "tick 500") ∷ []) ≡ true }
     ensures failing_answered { AnswersInTime [] (the_thermostat ∷ []) before_failing stretch_of_failing }
 {}
 
-/// These are none: with a line that loses frames, of a device with another key, of one that the host takes for another, of a node out of
-/// reach, with a node that sleeps and is not woken, and with one woken that has nothing to do. Two ticks are not time enough. And where the
+/// These are none: with a line that loses frames, of more than 16 nodes, without the device, of one with another key, of one that does not listen though
+/// the host takes it to, or lists other classes, now or when its command was accepted, of a node out of reach, with a node that sleeps and is not
+/// woken, before its order or twice, and with one woken that has nothing to do. Two nodes are not one, a node that
+/// sleeps and a lock are no plain listeners, and two ticks are not time enough. And where the
 /// outcome is missing in time, the promise is broken, of one node and of nodes that listen; and where a command succeeds that its device does not
 /// take, or fails though it does.
 pub fn rejected_stretches()
     ensures lossy { is_quiet [] (the_switch ∷ []) [] (Said (codes "lose 1") ∷ []) ≡ false }
     ensures other_key { is_quiet (1 ∷ []) (the_switch ∷ []) [] calm_exchange ≡ false }
     ensures other_device { is_quiet [] (fresh 2 kinds.Sensor [] ∷ []) [] calm_exchange ≡ false }
+    ensures too_many { is_quiet [] (sensors_from 3 17) sensors_join sensors_work ≡ false }
+    ensures no_device { is_quiet [] [] [] calm_exchange ≡ false }
+    ensures other_classes { is_quiet [] (fresh 2 kinds.Dimmer [] ∷ []) [] calm_exchange ≡ false }
+    ensures other_list { is_quiet [] (fresh 2 kinds.Dimmer [] ∷ []) accepted_as_switch (Said (codes "tick 500") ∷ []) ≡ false }
     ensures out_of_reach { IsStretch [] (the_switch ∷ []) (Said (codes "unlink 1 2") ∷ []) calm_exchange → ⊥ }
     ensures unwoken { is_quiet [] (the_sensor ∷ []) before_waking stretch_unwoken ≡ false }
+    ensures woken_before { is_quiet [] (the_sensor ∷ []) before_waking woken_before_order ≡ false }
+    ensures woken_twice { is_quiet [] (the_sensor ∷ []) before_waking woken_twice ≡ false }
     ensures idly_woken { is_quiet [] (the_switch ∷ []) [] (Said (codes "wake 2") ∷ []) ≡ false }
     ensures too_soon { is_time [] plain_exchange ≡ false }
     ensures missing { AnswersInTime [] (the_switch ∷ []) [] left_in_time → ⊥ }
     ensures succeeded { AnswersInTime [] (the_thermostat ∷ []) before_failing failing_as_success → ⊥ }
     ensures failed { AnswersInTime [] (the_thermostat ∷ []) before_failing success_as_failing → ⊥ }
     ensures missing_together { AnswersInTime [] (the_switch ∷ []) [] left_in_time → ⊥ }
+    ensures not_alone { is_alone before_two stretch_of_two ≡ false }
+    ensures not_plain { are_plain_listeners (the_sensor ∷ []) before_waking stretch_of_sleeper ≡ false }
+    ensures sealed { are_plain_listeners (the_lock ∷ []) (take 14 sealed_exchange) (drop 14 sealed_exchange) ≡ false }
 {}
 
 /// A node that is stuck: all is still and the node is ready, and its command is never answered, since nothing makes a new series due. So

@@ -6,15 +6,23 @@ ghost use Rattle.time_laws.specs.Interviews.{EndsInterviews};
 ghost use Rattle.time_laws.specs.Questions.{AnswersQuestions};
 ghost use Rattle.time_laws.specs.WorkedLate.{late_answer};
 ghost use Rattle.time_laws.specs.WorkedWaits.{answered_errands, silent_request, woken_before_restart};
+ghost use Rattle.time_laws.specs.WrongEntries.{said_of_another, neighbours_of_another, failed_otherwise, answered_late, interviewed_of_another, failed_unknown, interviewed_unknown};
 ghost use Rattle.time_laws.specs.WrongRequests.{answered_of_another, answered_otherwise, failed_though_informed, interviewed_early, left_unanswered, left_unended, left_unsaid, said_early, said_given_up, said_otherwise, said_refused, said_unasked, silent_early, silent_too_soon};
 ghost use Rattle.zw_laws.specs.Nodes.{listing_of};
-ghost use Rattle.zw_laws.specs.Worked.{plain_exchange, sleeping_node, the_sensor, the_switch};
+ghost use Rattle.zw_laws.specs.Worked.{cancelled_order, long_message, lossy_exchange, plain_exchange, repeated_exchange, restarted_host, sealed_exchange, sleeping_node, the_lock, the_plug, the_sensor, the_switch};
 
 /// In worked transcripts it is said how each Set and Get ended that a line asked for.
 pub fn worked_errands()
     ensures answered { SaysHowDone (listing_of (the_switch ∷ [])) answered_errands }
     ensures silent { SaysHowDone (listing_of (the_switch ∷ [])) silent_request }
     ensures plain { SaysHowDone (listing_of (the_switch ∷ [])) plain_exchange }
+    ensures repeated { SaysHowDone (listing_of (the_switch ∷ [])) repeated_exchange }
+    ensures lossy { SaysHowDone (listing_of (the_switch ∷ [])) lossy_exchange }
+    ensures cancelled { SaysHowDone (listing_of (the_switch ∷ [])) cancelled_order }
+    ensures restarted { SaysHowDone (listing_of (the_switch ∷ [])) restarted_host }
+    ensures sleeping { SaysHowDone (listing_of (the_sensor ∷ [])) sleeping_node }
+    ensures sealed { SaysHowDone (listing_of (the_lock ∷ [])) sealed_exchange }
+    ensures cut { SaysHowDone (listing_of (the_plug ∷ [])) long_message }
 {}
 
 /// In worked transcripts questions are answered as the chip answers them; a response that comes too late answers none.
@@ -22,18 +30,33 @@ pub fn worked_questions()
     ensures answered { AnswersQuestions answered_errands }
     ensures plain { AnswersQuestions plain_exchange }
     ensures late { AnswersQuestions late_answer }
+    ensures repeated { AnswersQuestions repeated_exchange }
+    ensures lossy { AnswersQuestions lossy_exchange }
+    ensures cancelled { AnswersQuestions cancelled_order }
+    ensures restarted { AnswersQuestions restarted_host }
+    ensures sleeping { AnswersQuestions sleeping_node }
+    ensures sealed { AnswersQuestions sealed_exchange }
+    ensures cut { AnswersQuestions long_message }
 {}
 
-/// In worked transcripts interviews end as their second request does.
+/// In worked transcripts interviews end as their second request does, and fail where the first one had no response.
 pub fn worked_interviews()
     ensures sleeping { EndsInterviews sleeping_node }
     ensures stale { EndsInterviews woken_before_restart }
+    ensures plain { EndsInterviews plain_exchange }
+    ensures repeated { EndsInterviews repeated_exchange }
+    ensures lossy { EndsInterviews lossy_exchange }
+    ensures cancelled { EndsInterviews cancelled_order }
+    ensures restarted { EndsInterviews restarted_host }
+    ensures sealed { EndsInterviews sealed_exchange }
+    ensures cut { EndsInterviews long_message }
+    ensures unknown { EndsInterviews failed_unknown }
 {}
 
-/// Each of these breaks one part of the laws: an end said before it is judged, otherwise than it was, or not at all; the end of
+/// Each of these breaks one part of the laws: an end said before it is judged, otherwise than it was, of another node, or not at all; the end of
 /// a message of a session said as that of a Set; silence before 15 ticks, or before 65 behind a
-/// response; refusal of what was taken; failure after one copy; a question answered otherwise, of another node, or
-/// not; and an interview that succeeds too early, fails though the information came, or does not end.
+/// response; refusal of what was taken; failure after one copy; a question of either kind answered otherwise, of another
+/// node, too late, or not; and an interview that succeeds too early, of another node, or though its first request had no response, fails though the information came, or does not end.
 pub fn rejected_requests()
     ensures early { SaysHowDone (listing_of (the_switch ∷ [])) said_early → ⊥ }
     ensures otherwise { SaysHowDone (listing_of (the_switch ∷ [])) said_otherwise → ⊥ }
@@ -49,4 +72,10 @@ pub fn rejected_requests()
     ensures interviewed_early { EndsInterviews interviewed_early → ⊥ }
     ensures informed { EndsInterviews failed_though_informed → ⊥ }
     ensures unended { EndsInterviews left_unended → ⊥ }
+    ensures said_of_another { SaysHowDone (listing_of (the_switch ∷ [])) said_of_another → ⊥ }
+    ensures neighbours { AnswersQuestions neighbours_of_another → ⊥ }
+    ensures failed { AnswersQuestions failed_otherwise → ⊥ }
+    ensures late { AnswersQuestions answered_late → ⊥ }
+    ensures interviewed_of_another { EndsInterviews interviewed_of_another → ⊥ }
+    ensures unknown { EndsInterviews interviewed_unknown → ⊥ }
 {}

@@ -1,4 +1,5 @@
 mod Computing
+mod Entries
 mod Halting
 mod Keeping
 mod Plain

@@ -83,6 +83,38 @@ passed_in_restarted =
 abbrev pub passed_in_aborted : List FrameParts
 passed_in_aborted = switching_on ∷ request 0x16 [] ∷ []
 
+-- in the worked transcripts of hosts and nodes
+abbrev pub passed_in_repeated : List FrameParts
+passed_in_repeated =
+    request 0x13 (codes "02076C0101032501FF2501") ∷ request 0x13 (codes "02076C0101032501FF2502") ∷ []
+
+abbrev pub passed_in_lossy : List FrameParts
+passed_in_lossy =
+    request 0x13 (codes "02076C0101032501FF2501") ∷ request 0x13 (codes "02076C0101032501FF2502")
+    ∷ request 0x13 (codes "02076C0101032501FF2503") ∷ request 0x13 (codes "02076C0101032501FF2504")
+    ∷ request 0x13 (codes "02076C0102032501002505") ∷ []
+
+abbrev pub passed_in_cancelled : List FrameParts
+passed_in_cancelled =
+    request 0x13 (codes "02076C0101032501FF2501") ∷ []
+
+abbrev pub passed_in_sleeping : List FrameParts
+passed_in_sleeping =
+    request 0x41 (codes "05") ∷ request 0x60 (codes "05") ∷ request 0x13 (codes "050284082501")
+    ∷ request 0x13 (codes "050A6C010106840400012C012502") ∷ request 0x13 (codes "050284082503") ∷ []
+
+abbrev pub passed_in_sealed : List FrameParts
+passed_in_sealed =
+    request 0x41 (codes "04") ∷ request 0x60 (codes "04") ∷ request 0x13 (codes "040298402501") ∷ request 0x13 (codes "040298402502")
+    ∷ request 0x13 (codes "041B98816B71E54E0F8EE3186CCEA9D132AB2C95018A573A88D6BE287E2503")
+    ∷ request 0x13 (codes "040A9880019E0A1249BB594F2504") ∷ []
+
+abbrev pub passed_in_cut : List FrameParts
+passed_in_cut =
+    request 0x41 (codes "08") ∷ request 0x60 (codes "08")
+    ∷ request 0x13 (codes "082D55C02F106C01012B70070000250101010101010101010101010101010101010101010101010101010101014E7A2501")
+    ∷ request 0x13 (codes "080F55E02F102701010101010101018A772502") ∷ []
+
 -- where the chip is asked what it knows
 abbrev pub passed_in_questions : List FrameParts
 passed_in_questions =

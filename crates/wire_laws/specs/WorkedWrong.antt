@@ -2,7 +2,7 @@
 use Rattle.std.specs.Prelude.{ℕ, ◌+◌, List, [], ◌∷◌, ◌++◌, codes, take, drop}
 use Rattle.zw_words.specs.declared.side.Side.TheVariants.{Host, Chip}
 use Rattle.zw_text.specs.declared.entry.Entry.{Entry}
-use Rattle.zw_text.specs.declared.entry.Entry.TheVariants.{Said, Written, Dropped, Garbled, Air, Heard, Lost, Unheard, Forget, ChipFull}
+use Rattle.zw_text.specs.declared.entry.Entry.TheVariants.{Said, Written, Dropped, Garbled, Air, Heard, Lost, Unheard, Time, Forget, ChipFull}
 use Rattle.zw_laws.specs.Worked.{bytes, plain_exchange, lossy_exchange, restarted_host}
 use Rattle.wire_laws.specs.Worked.{rerouted, unroutable, untold, asleep, heard_twice, cut_off, aborted, questions, copied, garbled_frame}
 
@@ -32,6 +32,10 @@ straight_home = changed_at 42 (Air 3 10 1 [] (bytes (codes "6C0201FF00"))) rerou
 abbrev pub from_a_stranger : List Entry
 from_a_stranger = changed_at 12 (Air 2 3 1 [] (bytes (codes "6C0201FF00"))) plain_exchange
 
+-- a frame of a device that has no way, and shows a repeater
+abbrev pub shows_a_way : List Entry
+shows_a_way = Said (codes "join 5") ∷ Air 1 5 1 (2 ∷ []) (bytes (codes "8407")) ∷ []
+
 -- ---- fates
 
 -- a frame is lost without a mark, and unheard with its way live and its device awake
@@ -59,6 +63,10 @@ heard_in_sleep = changed_at 40 (Heard 3) asleep
 abbrev pub heard_though_lost : List Entry
 heard_though_lost = changed_at 11 (Heard 1) (take 12 lossy_exchange)
 
+-- a frame is repeated to a sensor that sleeps, and heard
+abbrev pub heard_again_in_sleep : List Entry
+heard_again_in_sleep = asleep ++ Said (codes "repeat 3") ∷ Heard 3 ∷ []
+
 -- a frame that is repeated is not heard
 abbrev pub not_repeated : List Entry
 not_repeated = changed_at 26 (Said (codes "tick 1")) heard_twice
@@ -81,6 +89,10 @@ held_back = without_at 6 plain_exchange
 
 abbrev pub aired_otherwise : List Entry
 aired_otherwise = changed_at 6 (Air 1 1 2 [] (bytes (codes "6C010103250100"))) plain_exchange
+
+-- to another node
+abbrev pub aired_to_another : List Entry
+aired_to_another = changed_at 6 (Air 1 1 3 [] (bytes (codes "6C0101032501FF"))) plain_exchange
 
 abbrev pub aired_again : List Entry
 aired_again = with_more_at 7 (Air 2 1 2 [] (bytes (codes "6C0101032501FF"))) plain_exchange
@@ -136,6 +148,15 @@ full_of_nothing = changed_at 13 ChipFull plain_exchange
 -- the chip answers a frame that never came
 abbrev pub answered_nothing : List Entry
 answered_nothing = Written Chip (bytes (codes "06")) ∷ []
+
+-- so does the host
+abbrev pub host_answered_nothing : List Entry
+host_answered_nothing = Written Host (bytes (codes "06")) ∷ []
+
+-- the chip has heard a report and its link is idle, and yet the host is not told
+abbrev pub kept_to_itself : List Entry
+kept_to_itself =
+    Said (codes "local 2 255") ∷ Air 1 2 1 [] (bytes (codes "2503FF")) ∷ Said (codes "tick 1") ∷ Time 1 ∷ Heard 1 ∷ []
 
 -- a unit is lost without a mark, and a marked one is not
 abbrev pub lost_on_the_line : List Entry

@@ -4,7 +4,7 @@ ghost use Rattle.std.specs.Prelude.{[], ◌∷◌};
 ghost use Rattle.zw_laws.specs.Links.{KeepsLinks};
 ghost use Rattle.zw_laws.specs.Worked.{plain_exchange, the_switch};
 ghost use Rattle.wire_laws.specs.Answering.{ServesHost};
-ghost use Rattle.wire_laws.specs.WorkedWrong.{answered_nothing};
+ghost use Rattle.wire_laws.specs.WorkedWrong.{host_answered_nothing, answered_nothing, kept_to_itself};
 
 /// In a plain exchange both sides of the serial link obey its rules, and the chip serves the host.
 pub fn worked_links()
@@ -12,7 +12,9 @@ pub fn worked_links()
     ensures serves { ServesHost (the_switch ∷ []) plain_exchange }
 {}
 
-/// An answer to a frame that never came breaks the law.
+/// An answer of either side to a frame that never came breaks the law of links, and a frame that waits while the link is idle that of the chip.
 pub fn rejected_links()
     ensures nothing { KeepsLinks answered_nothing → ⊥ }
+    ensures kept { ServesHost (the_switch ∷ []) kept_to_itself → ⊥ }
+    ensures host { KeepsLinks host_answered_nothing → ⊥ }
 {}

@@ -3,7 +3,7 @@
 ghost use Rattle.std.specs.Prelude.{◌≡◌, ◌∷◌, ◌++◌, [], codes, false, true};
 ghost use Rattle.zw_words.specs.declared.side.Side.TheVariants.{Host};
 ghost use Rattle.zw_text.specs.declared.entry.Entry.TheVariants.{Dropped, Overrun, Said};
-ghost use Rattle.zw_laws.specs.Worked.{plain_exchange};
+ghost use Rattle.zw_laws.specs.Worked.{cancelled_order, long_message, lossy_exchange, plain_exchange, repeated_exchange, restarted_host, sealed_exchange, sleeping_node};
 ghost use Rattle.wire_laws.specs.Pipes.{OverrunsWhenFull, may_overrun};
 ghost use Rattle.wire_laws.specs.WorkedPipes.{first_taken, last_changed, stalled_with};
 
@@ -16,6 +16,13 @@ pub fn worked_pipes()
     ensures lost { may_overrun (stalled_with 75 5) (Dropped Host) ≡ true }
     ensures taken { may_overrun first_taken (Said (codes "tick 1")) ≡ true }
     ensures fits { may_overrun (stalled_with 75 4) (Said (codes "tick 1")) ≡ true }
+    ensures repeated { OverrunsWhenFull repeated_exchange }
+    ensures lossy { OverrunsWhenFull lossy_exchange }
+    ensures cancelled { OverrunsWhenFull cancelled_order }
+    ensures restarted { OverrunsWhenFull restarted_host }
+    ensures sleeping { OverrunsWhenFull sleeping_node }
+    ensures sealed { OverrunsWhenFull sealed_exchange }
+    ensures cut { OverrunsWhenFull long_message }
 {}
 
 /// Each of these breaks one part of the law: a unit that is overrun though it has just room, or behind a frame that was answered, or

@@ -1,29 +1,37 @@
 //! What the law of routes says of worked transcripts, and of others with one thing wrong.
 
 ghost use Rattle.std.specs.Prelude.{[], ◌∷◌, codes};
-ghost use Rattle.zw_laws.specs.Worked.{plain_exchange, the_sensor, the_switch};
+ghost use Rattle.zw_laws.specs.Worked.{cancelled_order, long_message, lossy_exchange, plain_exchange, repeated_exchange, restarted_host, sealed_exchange, sleeping_node, the_lock, the_plug, the_sensor, the_switch};
 ghost use Rattle.zw_text.specs.declared.entry.Entry.TheVariants.{Said};
 ghost use Rattle.route_table.specs.Walk.{Walk};
 ghost use Rattle.wire_laws.specs.Networks.{air_network};
 ghost use Rattle.wire_laws.specs.Reach.{CanBeReached};
 ghost use Rattle.wire_laws.specs.Routes.{GoesByRoute};
 ghost use Rattle.wire_laws.specs.Worked.{moved_away, not_learned, over_two, rerouted, the_switches};
-ghost use Rattle.wire_laws.specs.WorkedWrong.{detoured, second_choice, straight_home, from_a_stranger};
+ghost use Rattle.wire_laws.specs.WorkedWrong.{shows_a_way, detoured, second_choice, straight_home, from_a_stranger};
 
 /// In worked transcripts each frame goes over the route of its moment: a direct one, and one of two over a repeater, before and
 /// after the chip has forgotten a link of it.
 pub fn worked_routes()
     ensures plain { GoesByRoute (the_switch ∷ []) plain_exchange }
     ensures rerouted { GoesByRoute the_switches rerouted }
+    ensures repeated { GoesByRoute (the_switch ∷ []) repeated_exchange }
+    ensures lossy { GoesByRoute (the_switch ∷ []) lossy_exchange }
+    ensures cancelled { GoesByRoute (the_switch ∷ []) cancelled_order }
+    ensures restarted { GoesByRoute (the_switch ∷ []) restarted_host }
+    ensures sleeping { GoesByRoute (the_sensor ∷ []) sleeping_node }
+    ensures sealed { GoesByRoute (the_lock ∷ []) sealed_exchange }
+    ensures cut { GoesByRoute (the_plug ∷ []) long_message }
 {}
 
 /// Each of these breaks one part of the law: a frame of the controller over no walk, or over a walk that is not the first; a frame of a
-/// device over no walk, or of a node that is not joined.
+/// device over no walk, of a node that is not joined, or of one without a way that shows repeaters.
 pub fn rejected_routes()
     ensures detoured { GoesByRoute (the_switch ∷ []) detoured → ⊥ }
     ensures second { GoesByRoute the_switches second_choice → ⊥ }
     ensures straight { GoesByRoute the_switches straight_home → ⊥ }
     ensures stranger { GoesByRoute (the_switch ∷ []) from_a_stranger → ⊥ }
+    ensures shown { GoesByRoute (the_switch ∷ []) shows_a_way → ⊥ }
 {}
 
 /// A node can be reached directly, and over a repeater. The one that moved away, which cannot, has a way over another node.

@@ -21,7 +21,8 @@ use Rattle.zw_text.specs.declared.entry.Entry.TheVariants.{Out, Report, Awake, O
 use Rattle.zw_text.specs.Transcript.{sessions}
 use Rattle.zw_laws.specs.Lists.{EachAfter, Has}
 use Rattle.zw_laws.specs.Nodes.{controller, host_list}
-use Rattle.zw_laws.specs.Units.{payloads_from, notices}
+use Rattle.zw_laws.specs.Payloads.{nonce_report}
+use Rattle.zw_laws.specs.Units.{payloads_from, payloads_to, notices}
 
 -- ---- what a node told
 
@@ -31,22 +32,23 @@ told_plainly (Messages messages) = messages
 told_plainly Sealed = []
 told_plainly Unread = []
 
--- a sealed payload of a node opens to a text that tells this, for a nonce of the host
-pub record OpensTo (key : List ℕ) (node : ℕ) (payload : List ℕ) (message : Told) : Type 0 where
+-- a sealed payload of a node opens to a text that tells this, for a nonce that the host has given the node
+pub record OpensTo (key : List ℕ) (past : List Entry) (node : ℕ) (payload : List ℕ) (message : Told) : Type 0 where
   pub nonce : List ℕ
   pub text : List ℕ
+  pub given : Has (payloads_to node past) (nonce_report nonce)
   pub eight : length nonce ≡ 8
   pub opens : unsealed_at (keys_of key) nonce (record { sender = node; receiver = controller }) payload ≡ Some text
   pub tells : Has (told_plainly (heard_at text)) message
 
 -- a payload of a node tells this, plainly or sealed
-abbrev pub Tells : List ℕ → ℕ → List ℕ → Told → Type 0
-Tells key node payload message = Has (told_plainly (heard_at payload)) message ⊎ OpensTo key node payload message
+abbrev pub Tells : List ℕ → List Entry → ℕ → List ℕ → Told → Type 0
+Tells key past node payload message = Has (told_plainly (heard_at payload)) message ⊎ OpensTo key past node payload message
 
 -- a report is told plainly, and sealed by a node that lists Security 0
-abbrev pub TellsReport : Bool → List ℕ → ℕ → List ℕ → Told → Type 0
-TellsReport false key node payload message = Tells key node payload message
-TellsReport true key node payload message = OpensTo key node payload message
+abbrev pub TellsReport : Bool → List ℕ → List Entry → ℕ → List ℕ → Told → Type 0
+TellsReport false key past node payload message = Tells key past node payload message
+TellsReport true key past node payload message = OpensTo key past node payload message
 
 -- one of these payloads does
 abbrev pub OneTells : (List ℕ → Type 0) → List (List ℕ) → Type 0
@@ -55,7 +57,7 @@ OneTells Told (payload ∷ payloads) = Told payload ⊎ OneTells Told payloads
 
 -- a node has told the host this before
 abbrev pub HasTold : List ℕ → List Entry → ℕ → Told → Type 0
-HasTold key past node message = OneTells (λ payload. Tells key node payload message) (payloads_from node past)
+HasTold key past node message = OneTells (λ payload. Tells key past node payload message) (payloads_from node past)
 
 -- ---- outcomes
 
@@ -72,7 +74,7 @@ pub record IsReported (listing : ℕ → List ℕ) (key : List ℕ) (past : List
   pub wake_request : Bool
   pub carries : command_at (sessions node past) (length (sessions node past)) ≡ Some number
   pub reported : OneTells
-      (λ payload. TellsReport (lists (host_list listing past node) 0x98) key node payload
+      (λ payload. TellsReport (lists (host_list listing past node) 0x98) key past node payload
       (told.Report (length (sessions node past) % 64) status wake_request))
       (payloads_from node past)
 

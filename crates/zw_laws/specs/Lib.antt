@@ -22,5 +22,7 @@ pub mod Worked
 pub mod WorkedWrong
 pub mod WorkedWrongHost
 pub mod WorkedWrongWire
+pub mod WorkedWrongPayloads
+pub mod WorkedWrongLines
 pub mod WorkedDevices
 pub mod WorkedRepeats

@@ -42,11 +42,12 @@ pub record IsSegmentOf (message : List ℕ) (session : ℕ) (payload : List ℕ)
   pub within : 39 * place < length message
   pub text : payload ≡ segment_text (session % 16) (length message) (39 * place) (slice_at message place)
 
--- the message sealed for a nonce that the node has given
+-- the message sealed under a nonce of the host's own for one that the node has given, of eight bytes each
 pub record IsSealedFor (key : List ℕ) (past : List Entry) (node : ℕ) (message payload : List ℕ) : Type 0 where
   pub own : List ℕ
   pub nonce : List ℕ
   pub given : Has (payloads_from node past) (nonce_report nonce)
+  pub own_eight : length own ≡ 8
   pub eight : length nonce ≡ 8
   pub text : payload ≡ sealed_text (keys_of key) own nonce (record { sender = controller; receiver = node }) message
 

@@ -89,9 +89,14 @@ bringings transcript = flat_map bringing_in (arrived Chip transcript)
 abbrev pub notices : List Entry → List Notice
 notices transcript = flat_map notice_in (arrived Chip transcript)
 
--- the payloads that came from a node
+-- the payload, where it is to or from that node
 abbrev pub from_node : ℕ → Carried → List (List ℕ)
 from_node node carried = if carried.node == node then carried.payload ∷ [] else []
 
+-- the payloads that came from a node
 abbrev pub payloads_from : ℕ → List Entry → List (List ℕ)
 payloads_from node transcript = flat_map (from_node node) (bringings transcript)
+
+-- the payloads that the host asked to be sent to a node
+abbrev pub payloads_to : ℕ → List Entry → List (List ℕ)
+payloads_to node transcript = flat_map (from_node node) (sendings transcript)

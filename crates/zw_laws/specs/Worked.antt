@@ -141,7 +141,7 @@ sleeping_node =
     Written Host (bytes (codes "06")) ∷ Said (codes "interval 5 600") ∷ Accepted 2 5 ∷ Said (codes "tick 2") ∷
     Time 8 ∷ Heard 6 ∷ Written Chip (bytes (codes "010500130300EA")) ∷ Written Host (bytes (codes "06")) ∷ Asleep 5 ∷ []
 
--- `link 1 4`, `join 4`, `interview 4`, `tick 2`, `set 4 on`, `lose 1`, `tick 1`, `tick 110`, `repeat 5`: a lock; what is drawn or sealed stands here as 0
+-- `link 1 4`, `join 4`, `interview 4`, `tick 2`, `set 4 on`, `lose 1`, `tick 1`, `tick 110`, `repeat 5`: a lock
 abbrev pub sealed_exchange : List Entry
 sealed_exchange =
     Said (codes "link 1 4") ∷ Said (codes "join 4") ∷ Said (codes "interview 4") ∷
@@ -153,26 +153,26 @@ sealed_exchange =
     Said (codes "set 4 on") ∷ Accepted 1 4 ∷ Begin 4 1 1 ∷ Written Host (bytes (codes "010900130402984025011F")) ∷
     Written Chip (bytes (codes "06")) ∷ Written Chip (bytes (codes "0104011301E8")) ∷
     Air 1 1 4 [] (bytes (codes "9840")) ∷ Written Host (bytes (codes "06")) ∷ Said (codes "lose 1") ∷
-    Said (codes "tick 1") ∷ Time 3 ∷ Heard 1 ∷ Air 2 4 1 [] (bytes (codes "98800100000000000000")) ∷
+    Said (codes "tick 1") ∷ Time 3 ∷ Heard 1 ∷ Air 2 4 1 [] (bytes (codes "988001ED7E19638089D9")) ∷
     Written Chip (bytes (codes "010500130100E8")) ∷ Written Host (bytes (codes "06")) ∷ Said (codes "tick 110") ∷
     Time 4 ∷ Lost 2 ∷ Time 103 ∷ Written Host (bytes (codes "010900130402984025021C")) ∷
     Written Chip (bytes (codes "06")) ∷ Written Chip (bytes (codes "0104011301E8")) ∷
     Air 3 1 4 [] (bytes (codes "9840")) ∷ Written Host (bytes (codes "06")) ∷ Time 104 ∷ Heard 3 ∷
-    Air 4 4 1 [] (bytes (codes "98800100000000000000")) ∷ Written Chip (bytes (codes "010500130200EB")) ∷
+    Air 4 4 1 [] (bytes (codes "988001ED7E19638089D9")) ∷ Written Chip (bytes (codes "010500130200EB")) ∷
     Written Host (bytes (codes "06")) ∷ Time 105 ∷ Heard 4 ∷
-    Written Chip (bytes (codes "0110000400040A9880010000000000000000")) ∷ Written Host (bytes (codes "06")) ∷
-    Written Host (bytes (codes "01220013041B988100000000000000000000000000000000010000000000000000250300")) ∷
+    Written Chip (bytes (codes "0110000400040A988001ED7E19638089D9C5")) ∷ Written Host (bytes (codes "06")) ∷
+    Written Host (bytes (codes "01220013041B98816B71E54E0F8EE3186CCEA9D132AB2C95018A573A88D6BE287E25038F")) ∷
     Written Chip (bytes (codes "06")) ∷ Written Chip (bytes (codes "0104011301E8")) ∷
-    Air 5 1 4 [] (bytes (codes "988100000000000000000000000000000000010000000000000000")) ∷
+    Air 5 1 4 [] (bytes (codes "98816B71E54E0F8EE3186CCEA9D132AB2C95018A573A88D6BE287E")) ∷
     Written Host (bytes (codes "06")) ∷ Time 106 ∷ Heard 5 ∷ Dev 4 (Session 1) (setting 0 names.Lock 255) ∷
     Air 6 4 1 [] (bytes (codes "9840")) ∷ Written Chip (bytes (codes "010500130300EA")) ∷
     Written Host (bytes (codes "06")) ∷ Time 107 ∷ Heard 6 ∷ Written Chip (bytes (codes "0108000400040298402D")) ∷
-    Written Host (bytes (codes "06")) ∷ Written Host (bytes (codes "01110013040A98800100000000000000250400")) ∷
+    Written Host (bytes (codes "06")) ∷ Written Host (bytes (codes "01110013040A9880019E0A1249BB594F2504A9")) ∷
     Written Chip (bytes (codes "06")) ∷ Written Chip (bytes (codes "0104011301E8")) ∷
-    Air 7 1 4 [] (bytes (codes "98800100000000000000")) ∷ Written Host (bytes (codes "06")) ∷ Time 108 ∷ Heard 7 ∷
-    Air 8 4 1 [] (bytes (codes "98810000000000000000000000000000010000000000000000")) ∷
+    Air 7 1 4 [] (bytes (codes "9880019E0A1249BB594F")) ∷ Written Host (bytes (codes "06")) ∷ Time 108 ∷ Heard 7 ∷
+    Air 8 4 1 [] (bytes (codes "98810AED115731C616E72C1D6945BFE201FE761C24E5DCC41E")) ∷
     Written Chip (bytes (codes "010500130400ED")) ∷ Written Host (bytes (codes "06")) ∷ Time 109 ∷ Heard 8 ∷
-    Written Chip (bytes (codes "011F00040004199881000000000000000000000000000001000000000000000000")) ∷
+    Written Chip (bytes (codes "011F000400041998810AED115731C616E72C1D6945BFE201FE761C24E5DCC41E55")) ∷
     Written Host (bytes (codes "06")) ∷ Out 1 endings.Success ∷ Store 4 (setting 0 names.Lock 255) ∷
     Said (codes "repeat 5") ∷ Heard 5 ∷ []
 
@@ -245,6 +245,10 @@ long_message =
     Store 8 (setting 0 (names.Config 31) 1) ∷ Store 8 (setting 0 (names.Config 32) 1) ∷
     Store 8 (setting 0 (names.Config 33) 1) ∷ Store 8 (setting 0 (names.Config 34) 1) ∷
     Store 8 (setting 0 (names.Config 35) 1) ∷ Store 8 (setting 0 (names.Config 36) 1) ∷ []
+
+-- the network key of these runs
+abbrev pub network_key : List ℕ
+network_key = bytes (codes "000102030405060708090A0B0C0D0E0F")
 
 -- the devices of these runs, as their makers leave them
 abbrev pub the_switch : State

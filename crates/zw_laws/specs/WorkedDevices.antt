@@ -28,6 +28,25 @@ hear digits = Hears (bytes digits) []
 abbrev pub switch_events : List DeviceEvent
 switch_events = hear (codes "6C0101032501FF") ∷ tick ∷ tick ∷ []
 
+-- the switch hears the message twice; it hears two messages; and it hears one, in a run of four ticks
+abbrev pub repeated_events : List DeviceEvent
+repeated_events =
+    hear (codes "6C0101032501FF") ∷ tick ∷ hear (codes "6C0101032501FF") ∷ tick ∷ tick ∷ tick ∷ []
+
+abbrev pub lossy_events : List DeviceEvent
+lossy_events =
+    tick ∷ tick ∷ tick ∷ tick ∷ tick ∷ hear (codes "6C0101032501FF") ∷ tick ∷ tick ∷ hear (codes "6C010203250100") ∷ tick ∷ tick ∷ tick ∷ []
+
+abbrev pub restarted_events : List DeviceEvent
+restarted_events =
+    hear (codes "6C0101032501FF") ∷ tick ∷ tick ∷ tick ∷ tick ∷ []
+
+-- a configurable device hears a message in two segments
+abbrev pub cut_events : List DeviceEvent
+cut_events =
+    tick ∷ tick ∷ hear (codes "55C02F106C01012B70070000250101010101010101010101010101010101010101010101010101010101014E7A") ∷ tick
+    ∷ hear (codes "55E02F102701010101010101018A77") ∷ tick ∷ tick ∷ tick ∷ []
+
 -- the sensor is woken twice, told twice that there is no more, and set once, in nine ticks
 abbrev pub sensor_events : List DeviceEvent
 sensor_events =

@@ -73,6 +73,15 @@ told_otherwise =
     Written Chip (bytes (codes "010B00040002056C0201FF0067")) ∷ Written Host (bytes (codes "06")) ∷
     Out 1 endings.Fail ∷ Store 2 (setting 0 names.Switch 255) ∷ []
 
+-- the command is not supported, or was taken back, and yet the change is there
+abbrev pub told_unsupported : List Entry
+told_unsupported =
+    Said (codes "set 2 on") ∷ Accepted 1 2 ∷ Begin 2 1 1 ∷ Out 1 endings.NoSupport ∷ []
+
+abbrev pub taken_back_late : List Entry
+taken_back_late =
+    Said (codes "set 2 on") ∷ Accepted 1 2 ∷ Begin 2 1 1 ∷ Out 1 endings.Cancelled ∷ []
+
 -- the command waits, and yet the change is there
 abbrev pub not_begun : List Entry
 not_begun =

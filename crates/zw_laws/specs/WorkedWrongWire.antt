@@ -24,6 +24,12 @@ aired_twice =
     Written Chip (bytes (codes "0104011301E8")) ∷ Air 1 1 2 [] (bytes (codes "6C0101032501FF")) ∷
     Air 2 1 2 [] (bytes (codes "6C0101032501FF")) ∷ []
 
+-- the frames of two units in another order
+abbrev pub aired_backwards : List Entry
+aired_backwards =
+    Written Host (bytes (codes "01090013020225012501E5")) ∷ Written Host (bytes (codes "01090013020225022502E5")) ∷
+    Air 1 1 2 [] (bytes (codes "2502")) ∷ Air 2 1 2 [] (bytes (codes "2501")) ∷ []
+
 -- the chip brings a payload that it has not heard
 abbrev pub brought_unheard : List Entry
 brought_unheard =
@@ -33,12 +39,6 @@ brought_unheard =
     Written Host (bytes (codes "06")) ∷ Said (codes "tick 2") ∷ Time 1 ∷ Heard 1 ∷
     Dev 2 (Session 1) (setting 0 names.Switch 255) ∷ Air 2 2 1 [] (bytes (codes "6C0201FF00")) ∷
     Written Chip (bytes (codes "010B00040002056C0201FF0067")) ∷ []
-
--- the host sends the message of another session
-abbrev pub sent_otherwise : List Entry
-sent_otherwise =
-    Said (codes "set 2 on") ∷ Accepted 1 2 ∷ Begin 2 1 1 ∷
-    Written Host (bytes (codes "010E001302076C0102032501FF250174")) ∷ []
 
 -- a session begins without its unit
 abbrev pub begun_silently : List Entry
@@ -79,11 +79,31 @@ told_of_session =
     Said (codes "set 2 on") ∷ Accepted 1 2 ∷ Begin 2 1 1 ∷ Written Chip (bytes (codes "010B00040002056C0202FF0064")) ∷
     Out 1 endings.Success ∷ []
 
+-- failure is reported of a lock though its sealed report tells of success
+abbrev pub told_of_sealed_failure : List Entry
+told_of_sealed_failure =
+    Written Chip (bytes (codes "010C004984040604000062986CAE")) ∷ Interviewed 4 ∷ Said (codes "set 4 on") ∷ Accepted 1 4 ∷ Begin 4 1 1 ∷
+    Written Host (bytes (codes "01110013040A9880019E0A1249BB594F2504A9")) ∷
+    Written Chip (bytes (codes "011F000400041998810AED115731C616E72C1D6945BFE201FE761C24E5DCC41E55")) ∷ Out 1 endings.Fail ∷ []
+
 -- success is reported of a lock whose report is not sealed
 abbrev pub told_openly : List Entry
 told_openly =
     Written Chip (bytes (codes "010C004984040604000062986CAE")) ∷ Interviewed 4 ∷ Said (codes "set 4 on") ∷ Accepted 1 4 ∷ Begin 4 1 1 ∷
     Written Chip (bytes (codes "010B00040004056C0201FF0061")) ∷ Out 1 endings.Success ∷ []
+
+-- success is reported of a lock whose sealed report is for a nonce that the host has not given
+abbrev pub told_for_none : List Entry
+told_for_none =
+    Written Chip (bytes (codes "010C004984040604000062986CAE")) ∷ Interviewed 4 ∷ Said (codes "set 4 on") ∷ Accepted 1 4 ∷ Begin 4 1 1 ∷
+    Written Chip (bytes (codes "011F000400041998810AED115731C616E72C1D6945BFE201FE761C24E5DCC41E55")) ∷ Out 1 endings.Success ∷ []
+
+-- success is reported of a lock whose sealed report has another code
+abbrev pub told_unopened : List Entry
+told_unopened =
+    Written Chip (bytes (codes "010C004984040604000062986CAE")) ∷ Interviewed 4 ∷ Said (codes "set 4 on") ∷ Accepted 1 4 ∷ Begin 4 1 1 ∷
+    Written Host (bytes (codes "01110013040A9880019E0A1249BB594F2504A9")) ∷
+    Written Chip (bytes (codes "011F000400041998810AED115731C616E72C1D6945BFE201FE761C24E5DCC41F54")) ∷ Out 1 endings.Success ∷ []
 
 -- a node counts as awake though it has not told so
 abbrev pub woken_by_none : List Entry
@@ -109,6 +129,11 @@ interviewed_by_none =
 abbrev pub interviewed_otherwise : List Entry
 interviewed_otherwise =
     Written Chip (bytes (codes "010D00498405070400003180846C60")) ∷ Interviewed 5 ∷ []
+
+-- an interview succeeds by the information of another node
+abbrev pub interviewed_of_another : List Entry
+interviewed_of_another =
+    Written Chip (bytes (codes "010D00498406070400003180846C63")) ∷ Interviewed 5 ∷ []
 
 -- another value is entered as heard than was told
 abbrev pub reported_otherwise : List Entry

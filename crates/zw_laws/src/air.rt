@@ -13,21 +13,36 @@ ghost use Rattle.zw_laws.specs.WorkedRepeats.{message_sent, segment_sent, sealed
 pub fn worked_frames()
     ensures plain { NumbersFrames plain_exchange }
     ensures repeated { NumbersFrames repeated_exchange }
+    ensures lossy { NumbersFrames lossy_exchange }
     ensures cancelled { NumbersFrames cancelled_order }
+    ensures restarted { NumbersFrames restarted_host }
+    ensures sleeping { NumbersFrames sleeping_node }
+    ensures sealed { NumbersFrames sealed_exchange }
+    ensures cut { NumbersFrames long_message }
 {}
 
 /// In worked transcripts each frame has its fate in its turn, and what is repeated is fresh.
 pub fn worked_fates()
     ensures plain { FaresInTurn plain_exchange }
     ensures repeated { FaresInTurn repeated_exchange }
+    ensures lossy { FaresInTurn lossy_exchange }
     ensures cancelled { FaresInTurn cancelled_order }
+    ensures restarted { FaresInTurn restarted_host }
+    ensures sleeping { FaresInTurn sleeping_node }
+    ensures sealed { FaresInTurn sealed_exchange }
+    ensures cut { FaresInTurn long_message }
 {}
 
 /// In worked transcripts the frames that are marked are lost.
 pub fn worked_losses()
     ensures plain { LosesMarked plain_exchange }
     ensures repeated { LosesMarked repeated_exchange }
+    ensures lossy { LosesMarked lossy_exchange }
     ensures cancelled { LosesMarked cancelled_order }
+    ensures restarted { LosesMarked restarted_host }
+    ensures sleeping { LosesMarked sleeping_node }
+    ensures sealed { LosesMarked sealed_exchange }
+    ensures cut { LosesMarked long_message }
 {}
 
 /// Each of these breaks one part of the laws: a frame without the next number, or from no end at the controller; a frame heard

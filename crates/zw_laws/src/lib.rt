@@ -19,8 +19,14 @@ mod wire;
 
 pub use air::{rejected_fates, worked_fates, worked_frames, worked_freshness, worked_losses};
 pub use device::{rejected_devices, rejected_records, worked_devices, worked_table};
-pub use host::{rejected_answers, worked_answers, worked_cancels, worked_stores};
-pub use once::{rejected_once, worked_once, worked_sessions, worked_successes, worked_values};
+pub use host::{
+    rejected_answers, rejected_lines, worked_answers, worked_cancels, worked_heard, worked_stores,
+};
+pub use once::{
+    rejected_headline, rejected_once, worked_headline, worked_once, worked_sessions,
+    worked_successes, worked_values,
+};
 pub use wire::{
-    rejected_wire, worked_begins, worked_bringing, worked_causes, worked_payloads, worked_units,
+    rejected_payloads, rejected_wire, worked_begins, worked_bringing, worked_causes,
+    worked_payloads, worked_units,
 };

@@ -1,5 +1,5 @@
 use Rattle.time_laws.proofs.Computing.{computing}
-use Rattle.time_laws.proofs.Keeping.{not_true}
+use Rattle.zw_laws.proofs.Deciding.{not_true}
 use Rattle.time_laws.proofs.calm.rejected_calm.Goals as goal
 
 pub returns-clause-marked : goal.returns-clause-marked
@@ -49,3 +49,11 @@ returns-clause-awake c = λ calm. not_true calm.still.asleep
 pub returns-clause-working : goal.returns-clause-working
 unfolding computing
 returns-clause-working c = λ calm. not_true calm.still.working
+
+pub returns-clause-restarted : goal.returns-clause-restarted
+unfolding computing
+returns-clause-restarted c = λ calm. not_true calm.still.chip
+
+pub returns-clause-stuck : goal.returns-clause-stuck
+unfolding computing
+returns-clause-stuck c = λ calm. not_true calm.to_come

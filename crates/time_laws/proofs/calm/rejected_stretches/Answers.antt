@@ -1,7 +1,7 @@
 use Rattle.std.proofs.Common.{[], refl, ◌∙◌}
 use Rattle.wire_laws.proofs.Walks.{apart, direct, is_linked}
 use Rattle.time_laws.proofs.Computing.{computing}
-use Rattle.time_laws.proofs.Keeping.{not_true}
+use Rattle.zw_laws.proofs.Deciding.{not_true}
 use Rattle.time_laws.proofs.calm.rejected_stretches.Goals as goal
 
 pub returns-clause-lossy : goal.returns-clause-lossy
@@ -95,3 +95,39 @@ returns-clause-failed c = λ law. not_true (law.alone
       );
     })
     refl refl)
+
+pub returns-clause-too_many : goal.returns-clause-too_many
+unfolding computing
+returns-clause-too_many c = refl
+
+pub returns-clause-no_device : goal.returns-clause-no_device
+unfolding computing
+returns-clause-no_device c = refl
+
+pub returns-clause-other_classes : goal.returns-clause-other_classes
+unfolding computing
+returns-clause-other_classes c = refl
+
+pub returns-clause-other_list : goal.returns-clause-other_list
+unfolding computing
+returns-clause-other_list c = refl
+
+pub returns-clause-woken_before : goal.returns-clause-woken_before
+unfolding computing
+returns-clause-woken_before c = refl
+
+pub returns-clause-woken_twice : goal.returns-clause-woken_twice
+unfolding computing
+returns-clause-woken_twice c = refl
+
+pub returns-clause-not_alone : goal.returns-clause-not_alone
+unfolding computing
+returns-clause-not_alone c = refl
+
+pub returns-clause-not_plain : goal.returns-clause-not_plain
+unfolding computing
+returns-clause-not_plain c = refl
+
+pub returns-clause-sealed : goal.returns-clause-sealed
+unfolding computing
+returns-clause-sealed c = refl

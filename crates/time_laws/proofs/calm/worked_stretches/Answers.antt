@@ -19,7 +19,19 @@ pub returns-clause-two : goal.returns-clause-two
 unfolding computing
 returns-clause-two c = record {
   quiet = refl;
-  reached = (record { repeaters = []; route = direct _ _ _ refl; live = is_linked _ _ 1 2 ∙ refl; back = []; way = (direct _ _ _ refl).walk }, (record { repeaters = []; route = direct _ _ _ refl; live = is_linked _ _ 1 10 ∙ refl; back = []; way = (direct _ _ _ refl).walk }, tt));
+  reached = (
+    record { repeaters = []; route = direct _ _ _ refl; live = is_linked _ _ 1 2 ∙ refl; back = []; way = (direct _ _ _ refl).walk },
+    (
+      record {
+        repeaters = [];
+        route = direct _ _ _ refl;
+        live = is_linked _ _ 1 10 ∙ refl;
+        back = [];
+        way = (direct _ _ _ refl).walk;
+      },
+      tt,
+    ),
+  );
 }
 
 pub returns-clause-two_plain : goal.returns-clause-two_plain
@@ -91,3 +103,11 @@ returns-clause-repeated_in_time c = refl
 pub returns-clause-repeated_answered : goal.returns-clause-repeated_answered
 unfolding computing
 returns-clause-repeated_answered c = record { alone = λ calm stretch one time. refl; together = λ calm stretch plain time. refl }
+
+pub returns-clause-sixteen : goal.returns-clause-sixteen
+unfolding computing
+returns-clause-sixteen c = refl
+
+pub returns-clause-known : goal.returns-clause-known
+unfolding computing
+returns-clause-known c = refl

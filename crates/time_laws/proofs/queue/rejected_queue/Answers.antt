@@ -5,8 +5,9 @@ use Rattle.time_laws.specs.WrongRequests.{sent_out_of_turn, sent_unasked}
 use Rattle.time_laws.specs.WrongWaits.{told_while_waiting}
 use Rattle.zw_laws.specs.Nodes.{listing_of}
 use Rattle.zw_laws.specs.Worked.{the_lock, the_sensor, the_switch}
+use Rattle.time_laws.specs.WrongEntries.{dropped_of_another, refused_for_fewer, sent_behind_end}
 use Rattle.time_laws.proofs.Computing.{computing}
-use Rattle.time_laws.proofs.Keeping.{broken}
+use Rattle.zw_laws.proofs.Deciding.{broken}
 use Rattle.time_laws.proofs.queue.rejected_queue.Goals as goal
 
 pub returns-clause-room : goal.returns-clause-room
@@ -52,3 +53,15 @@ returns-clause-before_abort c = broken (may_send (listing_of (the_switch ∷ [])
 pub returns-clause-aborted : goal.returns-clause-aborted
 unfolding computing
 returns-clause-aborted c = broken (may_send (listing_of (the_switch ∷ []))) aborted_unasked refl
+
+pub returns-clause-fewer : goal.returns-clause-fewer
+unfolding computing
+returns-clause-fewer c = broken (may_queue (listing_of (the_switch ∷ []))) refused_for_fewer refl
+
+pub returns-clause-dropped_of_another : goal.returns-clause-dropped_of_another
+unfolding computing
+returns-clause-dropped_of_another c = broken (may_queue (listing_of (the_switch ∷ the_sensor ∷ []))) dropped_of_another refl
+
+pub returns-clause-behind_end : goal.returns-clause-behind_end
+unfolding computing
+returns-clause-behind_end c = broken (may_send (listing_of (the_switch ∷ []))) sent_behind_end refl

@@ -5,8 +5,9 @@ use Rattle.time_laws.specs.Questions.{may_answer}
 use Rattle.time_laws.specs.WrongRequests.{answered_of_another, answered_otherwise, failed_though_informed, interviewed_early, left_unanswered, left_unended, left_unsaid, said_early, said_given_up, said_otherwise, said_refused, said_unasked, silent_early, silent_too_soon}
 use Rattle.zw_laws.specs.Nodes.{listing_of}
 use Rattle.zw_laws.specs.Worked.{the_switch}
+use Rattle.time_laws.specs.WrongEntries.{said_of_another, neighbours_of_another, failed_otherwise, answered_late, interviewed_of_another, interviewed_unknown}
 use Rattle.time_laws.proofs.Computing.{computing}
-use Rattle.time_laws.proofs.Keeping.{broken}
+use Rattle.zw_laws.proofs.Deciding.{broken}
 use Rattle.time_laws.proofs.requests.rejected_requests.Goals as goal
 
 pub returns-clause-early : goal.returns-clause-early
@@ -64,3 +65,27 @@ returns-clause-informed c = broken may_end failed_though_informed refl
 pub returns-clause-unended : goal.returns-clause-unended
 unfolding computing
 returns-clause-unended c = broken may_end left_unended refl
+
+pub returns-clause-said_of_another : goal.returns-clause-said_of_another
+unfolding computing
+returns-clause-said_of_another c = broken (may_say_done (listing_of (the_switch ∷ []))) said_of_another refl
+
+pub returns-clause-neighbours : goal.returns-clause-neighbours
+unfolding computing
+returns-clause-neighbours c = broken may_answer neighbours_of_another refl
+
+pub returns-clause-failed : goal.returns-clause-failed
+unfolding computing
+returns-clause-failed c = broken may_answer failed_otherwise refl
+
+pub returns-clause-late : goal.returns-clause-late
+unfolding computing
+returns-clause-late c = broken may_answer answered_late refl
+
+pub returns-clause-interviewed_of_another : goal.returns-clause-interviewed_of_another
+unfolding computing
+returns-clause-interviewed_of_another c = broken may_end interviewed_of_another refl
+
+pub returns-clause-unknown : goal.returns-clause-unknown
+unfolding computing
+returns-clause-unknown c = broken may_end interviewed_unknown refl

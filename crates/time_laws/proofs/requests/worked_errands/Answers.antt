@@ -2,9 +2,9 @@ use Rattle.std.proofs.Common.{[], ◌∷◌, refl}
 use Rattle.time_laws.specs.Errands.{may_say_done}
 use Rattle.time_laws.specs.WorkedWaits.{answered_errands, silent_request}
 use Rattle.zw_laws.specs.Nodes.{listing_of}
-use Rattle.zw_laws.specs.Worked.{plain_exchange, the_switch}
+use Rattle.zw_laws.specs.Worked.{cancelled_order, long_message, lossy_exchange, plain_exchange, repeated_exchange, restarted_host, sealed_exchange, sleeping_node, the_lock, the_plug, the_sensor, the_switch}
 use Rattle.time_laws.proofs.Computing.{computing}
-use Rattle.time_laws.proofs.Keeping.{kept}
+use Rattle.zw_laws.proofs.Deciding.{kept}
 use Rattle.time_laws.proofs.requests.worked_errands.Goals as goal
 
 pub returns-clause-answered : goal.returns-clause-answered
@@ -18,3 +18,31 @@ returns-clause-silent c = kept (may_say_done (listing_of (the_switch ∷ []))) s
 pub returns-clause-plain : goal.returns-clause-plain
 unfolding computing
 returns-clause-plain c = kept (may_say_done (listing_of (the_switch ∷ []))) plain_exchange refl
+
+pub returns-clause-repeated : goal.returns-clause-repeated
+unfolding computing
+returns-clause-repeated c = kept (may_say_done (listing_of (the_switch ∷ []))) repeated_exchange refl
+
+pub returns-clause-lossy : goal.returns-clause-lossy
+unfolding computing
+returns-clause-lossy c = kept (may_say_done (listing_of (the_switch ∷ []))) lossy_exchange refl
+
+pub returns-clause-cancelled : goal.returns-clause-cancelled
+unfolding computing
+returns-clause-cancelled c = kept (may_say_done (listing_of (the_switch ∷ []))) cancelled_order refl
+
+pub returns-clause-restarted : goal.returns-clause-restarted
+unfolding computing
+returns-clause-restarted c = kept (may_say_done (listing_of (the_switch ∷ []))) restarted_host refl
+
+pub returns-clause-sleeping : goal.returns-clause-sleeping
+unfolding computing
+returns-clause-sleeping c = kept (may_say_done (listing_of (the_sensor ∷ []))) sleeping_node refl
+
+pub returns-clause-sealed : goal.returns-clause-sealed
+unfolding computing
+returns-clause-sealed c = kept (may_say_done (listing_of (the_lock ∷ []))) sealed_exchange refl
+
+pub returns-clause-cut : goal.returns-clause-cut
+unfolding computing
+returns-clause-cut c = kept (may_say_done (listing_of (the_plug ∷ []))) long_message refl

@@ -1,9 +1,10 @@
 use Rattle.std.proofs.Common.{refl}
 use Rattle.time_laws.specs.Interviews.{may_end}
 use Rattle.time_laws.specs.WorkedWaits.{woken_before_restart}
-use Rattle.zw_laws.specs.Worked.{sleeping_node}
+use Rattle.zw_laws.specs.Worked.{cancelled_order, long_message, lossy_exchange, plain_exchange, repeated_exchange, restarted_host, sealed_exchange, sleeping_node}
+use Rattle.time_laws.specs.WrongEntries.{failed_unknown}
 use Rattle.time_laws.proofs.Computing.{computing}
-use Rattle.time_laws.proofs.Keeping.{kept}
+use Rattle.zw_laws.proofs.Deciding.{kept}
 use Rattle.time_laws.proofs.requests.worked_interviews.Goals as goal
 
 pub returns-clause-sleeping : goal.returns-clause-sleeping
@@ -13,3 +14,35 @@ returns-clause-sleeping c = kept may_end sleeping_node refl
 pub returns-clause-stale : goal.returns-clause-stale
 unfolding computing
 returns-clause-stale c = kept may_end woken_before_restart refl
+
+pub returns-clause-plain : goal.returns-clause-plain
+unfolding computing
+returns-clause-plain c = kept may_end plain_exchange refl
+
+pub returns-clause-repeated : goal.returns-clause-repeated
+unfolding computing
+returns-clause-repeated c = kept may_end repeated_exchange refl
+
+pub returns-clause-lossy : goal.returns-clause-lossy
+unfolding computing
+returns-clause-lossy c = kept may_end lossy_exchange refl
+
+pub returns-clause-cancelled : goal.returns-clause-cancelled
+unfolding computing
+returns-clause-cancelled c = kept may_end cancelled_order refl
+
+pub returns-clause-restarted : goal.returns-clause-restarted
+unfolding computing
+returns-clause-restarted c = kept may_end restarted_host refl
+
+pub returns-clause-sealed : goal.returns-clause-sealed
+unfolding computing
+returns-clause-sealed c = kept may_end sealed_exchange refl
+
+pub returns-clause-cut : goal.returns-clause-cut
+unfolding computing
+returns-clause-cut c = kept may_end long_message refl
+
+pub returns-clause-unknown : goal.returns-clause-unknown
+unfolding computing
+returns-clause-unknown c = kept may_end failed_unknown refl

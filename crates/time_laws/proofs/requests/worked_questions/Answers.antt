@@ -2,9 +2,9 @@ use Rattle.std.proofs.Common.{refl}
 use Rattle.time_laws.specs.Questions.{may_answer}
 use Rattle.time_laws.specs.WorkedLate.{late_answer}
 use Rattle.time_laws.specs.WorkedWaits.{answered_errands}
-use Rattle.zw_laws.specs.Worked.{plain_exchange}
+use Rattle.zw_laws.specs.Worked.{cancelled_order, long_message, lossy_exchange, plain_exchange, repeated_exchange, restarted_host, sealed_exchange, sleeping_node}
 use Rattle.time_laws.proofs.Computing.{computing}
-use Rattle.time_laws.proofs.Keeping.{kept}
+use Rattle.zw_laws.proofs.Deciding.{kept}
 use Rattle.time_laws.proofs.requests.worked_questions.Goals as goal
 
 pub returns-clause-answered : goal.returns-clause-answered
@@ -18,3 +18,31 @@ returns-clause-plain c = kept may_answer plain_exchange refl
 pub returns-clause-late : goal.returns-clause-late
 unfolding computing
 returns-clause-late c = kept may_answer late_answer refl
+
+pub returns-clause-repeated : goal.returns-clause-repeated
+unfolding computing
+returns-clause-repeated c = kept may_answer repeated_exchange refl
+
+pub returns-clause-lossy : goal.returns-clause-lossy
+unfolding computing
+returns-clause-lossy c = kept may_answer lossy_exchange refl
+
+pub returns-clause-cancelled : goal.returns-clause-cancelled
+unfolding computing
+returns-clause-cancelled c = kept may_answer cancelled_order refl
+
+pub returns-clause-restarted : goal.returns-clause-restarted
+unfolding computing
+returns-clause-restarted c = kept may_answer restarted_host refl
+
+pub returns-clause-sleeping : goal.returns-clause-sleeping
+unfolding computing
+returns-clause-sleeping c = kept may_answer sleeping_node refl
+
+pub returns-clause-sealed : goal.returns-clause-sealed
+unfolding computing
+returns-clause-sealed c = kept may_answer sealed_exchange refl
+
+pub returns-clause-cut : goal.returns-clause-cut
+unfolding computing
+returns-clause-cut c = kept may_answer long_message refl

@@ -5,7 +5,7 @@ use Rattle.time_laws.specs.WrongWaits.{left_awake, left_overdue, left_unbegun, l
 use Rattle.zw_laws.specs.Nodes.{listing_of}
 use Rattle.zw_laws.specs.Worked.{the_lock, the_plug, the_sensor, the_switch}
 use Rattle.time_laws.proofs.Computing.{computing}
-use Rattle.time_laws.proofs.Keeping.{broken}
+use Rattle.zw_laws.proofs.Deciding.{broken, not_true}
 use Rattle.time_laws.proofs.waits.rejected_rests.Goals as goal
 
 pub returns-clause-waiting : goal.returns-clause-waiting
@@ -39,3 +39,11 @@ returns-clause-unresent c = λ law. broken (may_rest (listing_of (the_plug ∷ [
 pub returns-clause-unaborted : goal.returns-clause-unaborted
 unfolding computing
 returns-clause-unaborted c = λ law. broken (may_rest (listing_of (the_switch ∷ []))) left_unaborted refl law.between
+
+pub returns-clause-unsaid : goal.returns-clause-unsaid
+unfolding computing
+returns-clause-unsaid c = λ law. not_true (law.in_the_end refl)
+
+pub returns-clause-unended : goal.returns-clause-unended
+unfolding computing
+returns-clause-unended c = λ law. not_true (law.in_the_end refl)

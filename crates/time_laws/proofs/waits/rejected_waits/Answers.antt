@@ -4,8 +4,9 @@ use Rattle.time_laws.specs.WrongQueue.{given_up_before_failing, given_up_before_
 use Rattle.time_laws.specs.WrongWaits.{given_up_after_two, given_up_before_time, given_up_inside, given_up_under_way, gone_on_after_three}
 use Rattle.zw_laws.specs.Nodes.{listing_of}
 use Rattle.zw_laws.specs.Worked.{the_plug, the_switch}
+use Rattle.time_laws.specs.WrongEntries.{given_up_unbegun}
 use Rattle.time_laws.proofs.Computing.{computing}
-use Rattle.time_laws.proofs.Keeping.{broken}
+use Rattle.zw_laws.proofs.Deciding.{broken}
 use Rattle.time_laws.proofs.waits.rejected_waits.Goals as goal
 
 pub returns-clause-two : goal.returns-clause-two
@@ -55,3 +56,7 @@ returns-clause-before_failing c = λ law. broken (may_give_up (listing_of (the_s
 pub returns-clause-before_silence : goal.returns-clause-before_silence
 unfolding computing
 returns-clause-before_silence c = λ law. broken (may_give_up (listing_of (the_switch ∷ []))) given_up_before_silence refl law.between
+
+pub returns-clause-unbegun : goal.returns-clause-unbegun
+unfolding computing
+returns-clause-unbegun c = λ law. broken (may_give_up (listing_of (the_switch ∷ []))) given_up_unbegun refl law.between

@@ -3,9 +3,9 @@ use Rattle.time_laws.specs.Unanswered.{may_give_up}
 use Rattle.time_laws.specs.WorkedQueue.{failed_attempts, resent_segments, silent_attempt}
 use Rattle.time_laws.specs.WorkedWaits.{given_up_asleep, given_up_lock, given_up_segments, waited_attempts}
 use Rattle.zw_laws.specs.Nodes.{listing_of}
-use Rattle.zw_laws.specs.Worked.{lossy_exchange, the_lock, the_plug, the_sensor, the_switch}
+use Rattle.zw_laws.specs.Worked.{cancelled_order, long_message, lossy_exchange, plain_exchange, repeated_exchange, restarted_host, sealed_exchange, sleeping_node, the_lock, the_plug, the_sensor, the_switch}
 use Rattle.time_laws.proofs.Computing.{computing}
-use Rattle.time_laws.proofs.Keeping.{kept}
+use Rattle.zw_laws.proofs.Deciding.{kept}
 use Rattle.time_laws.proofs.waits.worked_attempts.Goals as goal
 
 pub returns-clause-lossy : goal.returns-clause-lossy
@@ -39,3 +39,31 @@ returns-clause-failed c = record { between = kept (may_give_up (listing_of (the_
 pub returns-clause-silent : goal.returns-clause-silent
 unfolding computing
 returns-clause-silent c = record { between = kept (may_give_up (listing_of (the_switch ∷ []))) silent_attempt refl; in_the_end = λ whole. refl }
+
+pub returns-clause-plain : goal.returns-clause-plain
+unfolding computing
+returns-clause-plain c = record { between = kept (may_give_up (listing_of (the_switch ∷ []))) plain_exchange refl; in_the_end = λ whole. refl }
+
+pub returns-clause-repeated : goal.returns-clause-repeated
+unfolding computing
+returns-clause-repeated c = record { between = kept (may_give_up (listing_of (the_switch ∷ []))) repeated_exchange refl; in_the_end = λ whole. refl }
+
+pub returns-clause-cancelled : goal.returns-clause-cancelled
+unfolding computing
+returns-clause-cancelled c = record { between = kept (may_give_up (listing_of (the_switch ∷ []))) cancelled_order refl; in_the_end = λ whole. refl }
+
+pub returns-clause-restarted : goal.returns-clause-restarted
+unfolding computing
+returns-clause-restarted c = record { between = kept (may_give_up (listing_of (the_switch ∷ []))) restarted_host refl; in_the_end = λ whole. refl }
+
+pub returns-clause-sleeps : goal.returns-clause-sleeps
+unfolding computing
+returns-clause-sleeps c = record { between = kept (may_give_up (listing_of (the_sensor ∷ []))) sleeping_node refl; in_the_end = λ whole. refl }
+
+pub returns-clause-sealed : goal.returns-clause-sealed
+unfolding computing
+returns-clause-sealed c = record { between = kept (may_give_up (listing_of (the_lock ∷ []))) sealed_exchange refl; in_the_end = λ whole. refl }
+
+pub returns-clause-cut : goal.returns-clause-cut
+unfolding computing
+returns-clause-cut c = record { between = kept (may_give_up (listing_of (the_plug ∷ []))) long_message refl; in_the_end = λ whole. refl }

@@ -3,9 +3,9 @@ use Rattle.time_laws.specs.Rests.{may_rest}
 use Rattle.time_laws.specs.WorkedQueue.{resent_segments}
 use Rattle.time_laws.specs.WorkedWaits.{answered_errands, the_other_switch, waited_attempts, woken_before_restart}
 use Rattle.zw_laws.specs.Nodes.{listing_of}
-use Rattle.zw_laws.specs.Worked.{plain_exchange, sealed_exchange, sleeping_node, the_lock, the_plug, the_sensor, the_switch}
+use Rattle.zw_laws.specs.Worked.{cancelled_order, long_message, lossy_exchange, plain_exchange, repeated_exchange, restarted_host, sealed_exchange, sleeping_node, the_lock, the_plug, the_sensor, the_switch}
 use Rattle.time_laws.proofs.Computing.{computing}
-use Rattle.time_laws.proofs.Keeping.{kept}
+use Rattle.zw_laws.proofs.Deciding.{kept}
 use Rattle.time_laws.proofs.waits.worked_rests.Goals as goal
 
 pub returns-clause-plain : goal.returns-clause-plain
@@ -47,3 +47,23 @@ returns-clause-not_up c = refl
 pub returns-clause-waits : goal.returns-clause-waits
 unfolding computing
 returns-clause-waits c = refl
+
+pub returns-clause-repeated : goal.returns-clause-repeated
+unfolding computing
+returns-clause-repeated c = record { between = kept (may_rest (listing_of (the_switch ∷ []))) repeated_exchange refl; in_the_end = λ whole. refl }
+
+pub returns-clause-lossy : goal.returns-clause-lossy
+unfolding computing
+returns-clause-lossy c = record { between = kept (may_rest (listing_of (the_switch ∷ []))) lossy_exchange refl; in_the_end = λ whole. refl }
+
+pub returns-clause-cancelled : goal.returns-clause-cancelled
+unfolding computing
+returns-clause-cancelled c = record { between = kept (may_rest (listing_of (the_switch ∷ []))) cancelled_order refl; in_the_end = λ whole. refl }
+
+pub returns-clause-host_restarted : goal.returns-clause-host_restarted
+unfolding computing
+returns-clause-host_restarted c = record { between = kept (may_rest (listing_of (the_switch ∷ []))) restarted_host refl; in_the_end = λ whole. refl }
+
+pub returns-clause-cut : goal.returns-clause-cut
+unfolding computing
+returns-clause-cut c = record { between = kept (may_rest (listing_of (the_plug ∷ []))) long_message refl; in_the_end = λ whole. refl }

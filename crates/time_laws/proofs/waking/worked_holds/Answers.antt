@@ -1,9 +1,9 @@
 use Rattle.std.proofs.Common.{refl}
 use Rattle.time_laws.specs.Holds.{may_hold}
 use Rattle.time_laws.specs.WorkedWaits.{held_node}
-use Rattle.zw_laws.specs.Worked.{sleeping_node}
+use Rattle.zw_laws.specs.Worked.{cancelled_order, long_message, lossy_exchange, plain_exchange, repeated_exchange, restarted_host, sealed_exchange, sleeping_node}
 use Rattle.time_laws.proofs.Computing.{computing}
-use Rattle.time_laws.proofs.Keeping.{kept}
+use Rattle.zw_laws.proofs.Deciding.{kept}
 use Rattle.time_laws.proofs.waking.worked_holds.Goals as goal
 
 pub returns-clause-held : goal.returns-clause-held
@@ -13,3 +13,31 @@ returns-clause-held c = kept may_hold held_node refl
 pub returns-clause-sleeping : goal.returns-clause-sleeping
 unfolding computing
 returns-clause-sleeping c = kept may_hold sleeping_node refl
+
+pub returns-clause-plain : goal.returns-clause-plain
+unfolding computing
+returns-clause-plain c = kept may_hold plain_exchange refl
+
+pub returns-clause-repeated : goal.returns-clause-repeated
+unfolding computing
+returns-clause-repeated c = kept may_hold repeated_exchange refl
+
+pub returns-clause-lossy : goal.returns-clause-lossy
+unfolding computing
+returns-clause-lossy c = kept may_hold lossy_exchange refl
+
+pub returns-clause-cancelled : goal.returns-clause-cancelled
+unfolding computing
+returns-clause-cancelled c = kept may_hold cancelled_order refl
+
+pub returns-clause-restarted : goal.returns-clause-restarted
+unfolding computing
+returns-clause-restarted c = kept may_hold restarted_host refl
+
+pub returns-clause-sealed : goal.returns-clause-sealed
+unfolding computing
+returns-clause-sealed c = kept may_hold sealed_exchange refl
+
+pub returns-clause-cut : goal.returns-clause-cut
+unfolding computing
+returns-clause-cut c = kept may_hold long_message refl

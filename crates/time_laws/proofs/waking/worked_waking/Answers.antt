@@ -1,19 +1,38 @@
 use Rattle.std.proofs.Common.{refl}
-use Rattle.time_laws.specs.Waking.{may_sleep, may_wake}
-use Rattle.time_laws.specs.WorkedWaits.{given_up_asleep}
-use Rattle.zw_laws.specs.Worked.{sleeping_node}
+use Rattle.time_laws.specs.Waking.{may_wake}
+use Rattle.zw_laws.specs.Worked.{cancelled_order, long_message, lossy_exchange, plain_exchange, repeated_exchange, restarted_host, sealed_exchange, sleeping_node}
 use Rattle.time_laws.proofs.Computing.{computing}
-use Rattle.time_laws.proofs.Keeping.{kept}
+use Rattle.zw_laws.proofs.Deciding.{kept}
 use Rattle.time_laws.proofs.waking.worked_waking.Goals as goal
 
 pub returns-clause-wakes : goal.returns-clause-wakes
 unfolding computing
 returns-clause-wakes c = kept may_wake sleeping_node refl
 
-pub returns-clause-sleeps : goal.returns-clause-sleeps
+pub returns-clause-plain : goal.returns-clause-plain
 unfolding computing
-returns-clause-sleeps c = kept may_sleep sleeping_node refl
+returns-clause-plain c = kept may_wake plain_exchange refl
 
-pub returns-clause-given_up : goal.returns-clause-given_up
+pub returns-clause-repeated : goal.returns-clause-repeated
 unfolding computing
-returns-clause-given_up c = kept may_sleep given_up_asleep refl
+returns-clause-repeated c = kept may_wake repeated_exchange refl
+
+pub returns-clause-lossy : goal.returns-clause-lossy
+unfolding computing
+returns-clause-lossy c = kept may_wake lossy_exchange refl
+
+pub returns-clause-cancelled : goal.returns-clause-cancelled
+unfolding computing
+returns-clause-cancelled c = kept may_wake cancelled_order refl
+
+pub returns-clause-restarted : goal.returns-clause-restarted
+unfolding computing
+returns-clause-restarted c = kept may_wake restarted_host refl
+
+pub returns-clause-sealed : goal.returns-clause-sealed
+unfolding computing
+returns-clause-sealed c = kept may_wake sealed_exchange refl
+
+pub returns-clause-cut : goal.returns-clause-cut
+unfolding computing
+returns-clause-cut c = kept may_wake long_message refl

@@ -1,4 +1,4 @@
-use Rattle.std.proofs.Common.{◌≡◌, ℕ, List, [], ◌∷◌, refl, ap, arith}
+use Rattle.std.proofs.Common.{◌≡◌, ℕ, true, false, List, [], ◌∷◌, refl, ap, arith}
 use Rattle.zw_words.specs.declared.side.Side.TheVariants.{Chip}
 use Rattle.zw_text.specs.declared.entry.Entry.{Entry}
 use Rattle.zw_text.specs.declared.entry.Entry.TheVariants.{Said, Written, Forget, Heard}
@@ -79,3 +79,10 @@ returns-clause-marked c = λ law. lost_heard law.1.1.1.1.1.1.1.1.1.1.1.0
 pub returns-clause-repeated : goal.returns-clause-repeated
 unfolding reckoning
 returns-clause-repeated c = λ law. said_heard _ 1 (law.1.1.1.1.1.1.1.1.1.1.1.1.1.1.1.1.1.1.1.1.1.1.1.1.1.1.0 refl refl)
+
+not_true : false ≡ true → ⊥
+not_true e = cc
+
+pub returns-clause-again_in_sleep : goal.returns-clause-again_in_sleep
+unfolding reckoning
+returns-clause-again_in_sleep c = λ law. not_true law.1.1.1.1.1.1.1.1.1.1.1.1.1.1.1.1.1.1.1.1.1.1.1.1.1.1.1.1.1.1.1.1.1.1.1.1.1.1.1.1.1.1.1.1.1.0

@@ -1,16 +1,12 @@
-use Rattle.std.proofs.Common.{refl}
+use Rattle.std.proofs.Common.{refl, [], ◌∷◌}
+use Rattle.zw_laws.specs.Worked.{plain_exchange, repeated_exchange, lossy_exchange, cancelled_order, restarted_host, sleeping_node, sealed_exchange, long_message, the_lock, the_plug, the_sensor, the_switch}
+use Rattle.wire_laws.proofs.Entries.{meets_what_is_due}
+use Rattle.std.specs.Prelude.{take}
+use Rattle.transport_segments.specs.Places.{written, IsFull}
+use Rattle.transport_segments.specs.Taking.{taken_at, kept_after}
+use Rattle.device_stack.specs.Hearing.{hears_in_segments, hears_sealed, hears_securely, hears_segment}
 use Rattle.wire_laws.proofs.Computing.{reckoning}
 use Rattle.wire_laws.proofs.arriving.worked_arrivals.Goals as goal
-
-pub returns-clause-plain : goal.returns-clause-plain
-unfolding reckoning
-returns-clause-plain c =
-    (tt, (tt, (tt, (tt, (tt, (tt, (tt, (tt, (tt, (tt, (refl, (tt, (tt, (tt, (tt, (tt, (refl, (tt, (tt, (tt, (tt, tt)))))))))))))))))))))
-
-pub returns-clause-lossy : goal.returns-clause-lossy
-unfolding reckoning
-returns-clause-lossy c =
-    (tt, (tt, (tt, (tt, (tt, (tt, (tt, (tt, (tt, (tt, (tt, (refl, tt))))))))))))
 
 pub returns-clause-rerouted : goal.returns-clause-rerouted
 unfolding reckoning
@@ -349,3 +345,35 @@ returns-clause-twice c = (
     ),
   ),
 )
+
+pub returns-clause-plain : goal.returns-clause-plain
+unfolding reckoning
+returns-clause-plain c = meets_what_is_due (the_switch ∷ []) plain_exchange (refl, (refl, tt))
+
+pub returns-clause-repeated : goal.returns-clause-repeated
+unfolding reckoning
+returns-clause-repeated c = meets_what_is_due (the_switch ∷ []) repeated_exchange (refl, (refl, (refl, (refl, tt))))
+
+pub returns-clause-lossy : goal.returns-clause-lossy
+unfolding reckoning
+returns-clause-lossy c = meets_what_is_due (the_switch ∷ []) lossy_exchange (refl, (refl, (refl, (refl, (refl, (refl, (refl, tt)))))))
+
+pub returns-clause-cancelled : goal.returns-clause-cancelled
+unfolding reckoning
+returns-clause-cancelled c = meets_what_is_due (the_switch ∷ []) cancelled_order (refl, (refl, tt))
+
+pub returns-clause-restarted : goal.returns-clause-restarted
+unfolding reckoning
+returns-clause-restarted c = meets_what_is_due (the_switch ∷ []) restarted_host (refl, (refl, tt))
+
+pub returns-clause-sleeping : goal.returns-clause-sleeping
+unfolding reckoning
+returns-clause-sleeping c = meets_what_is_due (the_sensor ∷ []) sleeping_node (refl, (refl, (refl, (refl, (refl, (refl, tt))))))
+
+pub returns-clause-sealed : goal.returns-clause-sealed
+unfolding reckoning hears_securely hears_sealed
+returns-clause-sealed c = meets_what_is_due (the_lock ∷ []) (take 70 sealed_exchange) (refl, (refl, (refl, (refl, (refl, (refl, tt))))))
+
+pub returns-clause-cut : goal.returns-clause-cut
+unfolding reckoning hears_in_segments hears_segment taken_at kept_after written IsFull
+returns-clause-cut c = meets_what_is_due (the_plug ∷ []) long_message (refl, (refl, (refl, (refl, tt))))

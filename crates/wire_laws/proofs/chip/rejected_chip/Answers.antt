@@ -105,3 +105,13 @@ five_eleven e = omega (arith, e)
 pub returns-clause-anew : goal.returns-clause-anew
 unfolding reckoning
 returns-clause-anew c = λ law. five_eleven (ap (byte_at 1) law.1.1.1.1.1.1.1.1.1.1.1.1.1.1.1.1.1.1.1.1.0.1.1.0)
+
+two_three : ◌≡◌ {A = ℕ} 2 3 → ⊥
+two_three e = omega (arith, e)
+
+pub returns-clause-to_another : goal.returns-clause-to_another
+unfolding reckoning
+returns-clause-to_another c = λ law. elim law.1.1.1.1.1.1.0.taken [
+  | inl same ↦ two_three (ap (λ (sending : Sending). sending.node) same ∙ law.1.1.1.1.1.1.0.to_node)
+  | inr never ↦ never
+]

@@ -1,10 +1,9 @@
 use Rattle.std.proofs.Common.{refl}
+use Rattle.zw_laws.specs.Worked.{plain_exchange, repeated_exchange, lossy_exchange, cancelled_order, restarted_host, sleeping_node, sealed_exchange, long_message}
+use Rattle.wire_laws.specs.Pipes.{may_overrun}
+use Rattle.zw_laws.proofs.Deciding.{kept}
 use Rattle.wire_laws.proofs.Computing.{reckoning}
 use Rattle.wire_laws.proofs.pipes.worked_pipes.Goals as goal
-
-pub returns-clause-plain : goal.returns-clause-plain
-unfolding reckoning
-returns-clause-plain c = (refl, (refl, (refl, (refl, (refl, (refl, (refl, (refl, (refl, (refl, (refl, (refl, (refl, (refl, (refl, (refl, (refl, (refl, (refl, (refl, (refl, tt)))))))))))))))))))))
 
 pub returns-clause-full : goal.returns-clause-full
 unfolding reckoning
@@ -25,3 +24,35 @@ returns-clause-taken c = refl
 pub returns-clause-fits : goal.returns-clause-fits
 unfolding reckoning
 returns-clause-fits c = refl
+
+pub returns-clause-plain : goal.returns-clause-plain
+unfolding reckoning
+returns-clause-plain c = kept may_overrun plain_exchange refl
+
+pub returns-clause-repeated : goal.returns-clause-repeated
+unfolding reckoning
+returns-clause-repeated c = kept may_overrun repeated_exchange refl
+
+pub returns-clause-lossy : goal.returns-clause-lossy
+unfolding reckoning
+returns-clause-lossy c = kept may_overrun lossy_exchange refl
+
+pub returns-clause-cancelled : goal.returns-clause-cancelled
+unfolding reckoning
+returns-clause-cancelled c = kept may_overrun cancelled_order refl
+
+pub returns-clause-restarted : goal.returns-clause-restarted
+unfolding reckoning
+returns-clause-restarted c = kept may_overrun restarted_host refl
+
+pub returns-clause-sleeping : goal.returns-clause-sleeping
+unfolding reckoning
+returns-clause-sleeping c = kept may_overrun sleeping_node refl
+
+pub returns-clause-sealed : goal.returns-clause-sealed
+unfolding reckoning
+returns-clause-sealed c = kept may_overrun sealed_exchange refl
+
+pub returns-clause-cut : goal.returns-clause-cut
+unfolding reckoning
+returns-clause-cut c = kept may_overrun long_message refl

@@ -1,4 +1,4 @@
-use Rattle.std.proofs.Common.{◌≡◌, ℕ, true, false, [], ◌∷◌, refl, sym, ◌∙◌, inl, inr, arith}
+use Rattle.std.proofs.Common.{◌≡◌, ℕ, true, false, [], ◌∷◌, refl, sym, ap, length, ◌∙◌, inl, inr, arith}
 use Rattle.wire_laws.proofs.Computing.{reckoning}
 use Rattle.wire_laws.proofs.Walks.{over_one, is_linked, is_repeater}
 use Rattle.wire_laws.proofs.routes.rejected_routes.Goals as goal
@@ -39,3 +39,13 @@ returns-clause-straight c = λ law. elim law.1.1.1.1.1.1.1.1.1.1.1.1.1.1.1.1.1.1
 pub returns-clause-stranger : goal.returns-clause-stranger
 unfolding reckoning
 returns-clause-stranger c = λ law. true_false (sym law.1.1.1.1.1.1.1.1.1.1.1.1.0.0)
+
+one_none : ◌≡◌ {A = ℕ} 1 0 → ⊥
+one_none e = omega (arith, e)
+
+pub returns-clause-shown : goal.returns-clause-shown
+unfolding reckoning
+returns-clause-shown c = λ law. elim law.1.0.1 [
+  | inl route ↦ true_false (sym route.walk.hops.1 ∙ is_linked _ _ 2 5)
+  | inr none ↦ one_none (ap length none.1)
+]

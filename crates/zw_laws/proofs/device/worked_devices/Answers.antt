@@ -3,8 +3,13 @@ use Rattle.zw_base.specs.declared.property.Name.TheVariants as names
 use Rattle.zw_base.specs.declared.property.By.TheVariants.{Local}
 use Rattle.host_orders.specs.Settings.{setting}
 use Rattle.device_sim.specs.Event.DeviceEvent.{Wakes}
-use Rattle.zw_laws.specs.Worked.{turned_on, set_apart}
-use Rattle.zw_laws.specs.WorkedDevices.{tick, switch_events, sensor_events, hand_events}
+use Rattle.zw_laws.specs.Worked.{turned_on, turned_on_and_off, set_apart, configured}
+use Rattle.zw_laws.specs.WorkedDevices.{tick, switch_events, repeated_events, lossy_events, restarted_events, cut_events, sensor_events, hand_events}
+use Rattle.transport_segments.specs.Places.{written, IsFull}
+use Rattle.transport_segments.specs.Taking.{taken_at, kept_after}
+use Rattle.device_stack.specs.Hearing.{hears_in_segments, hears_segment}
+use Rattle.class_core.specs.MessageReading.{configuration_bulk_at}
+use Rattle.class_fields.specs.Reading.{size_at, numbers_at}
 use Rattle.zw_laws.proofs.Computing.{computing_devices}
 use Rattle.zw_laws.proofs.device.worked_devices.Goals as goal
 
@@ -83,4 +88,69 @@ returns-clause-apart c = record {
   changed = refl;
   entered = refl;
   answered = λ came idle. absurd (one_none _ came);
+}
+
+pub returns-clause-repeated : goal.returns-clause-repeated
+unfolding computing_devices
+returns-clause-repeated c = record {
+  events = repeated_events;
+  changes = turned_on;
+  runs = refl;
+  came = refl;
+  ticked = refl;
+  changed = refl;
+  entered = refl;
+  answered = λ came idle. refl;
+}
+
+pub returns-clause-lossy : goal.returns-clause-lossy
+unfolding computing_devices
+returns-clause-lossy c = record {
+  events = lossy_events;
+  changes = turned_on_and_off;
+  runs = refl;
+  came = refl;
+  ticked = refl;
+  changed = refl;
+  entered = refl;
+  answered = λ came idle. refl;
+}
+
+pub returns-clause-cancelled : goal.returns-clause-cancelled
+unfolding computing_devices
+returns-clause-cancelled c = record {
+  events = switch_events;
+  changes = turned_on;
+  runs = refl;
+  came = refl;
+  ticked = refl;
+  changed = refl;
+  entered = refl;
+  answered = λ came idle. refl;
+}
+
+pub returns-clause-restarted : goal.returns-clause-restarted
+unfolding computing_devices
+returns-clause-restarted c = record {
+  events = restarted_events;
+  changes = turned_on;
+  runs = refl;
+  came = refl;
+  ticked = refl;
+  changed = refl;
+  entered = refl;
+  answered = λ came idle. refl;
+}
+
+pub returns-clause-cut : goal.returns-clause-cut
+unfolding computing_devices hears_in_segments hears_segment taken_at kept_after written IsFull configuration_bulk_at size_at numbers_at
+returns-clause-cut c = record {
+  events = cut_events;
+  changes = configured;
+  runs = refl;
+  came = refl;
+  ticked = refl;
+  changed = refl;
+  entered = refl;
+  answered = λ came idle. refl;
 }

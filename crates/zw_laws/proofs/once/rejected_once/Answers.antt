@@ -71,3 +71,11 @@ returns-clause-begun_ahead c = λ law. omega (arith, law.1.1.0.0)
 pub returns-clause-none : goal.returns-clause-none
 unfolding computing
 returns-clause-none c = λ law. omega (arith, law.sessions_begun.0.0)
+
+pub returns-clause-unsupported : goal.returns-clause-unsupported
+unfolding computing
+returns-clause-unsupported c = λ law. law.undone.0 tt (inl refl)
+
+pub returns-clause-taken_back : goal.returns-clause-taken_back
+unfolding computing
+returns-clause-taken_back c = λ law. law.undone.0 tt (inl refl)

@@ -1,5 +1,5 @@
-use Rattle.std.proofs.Common.{◌≡◌, ℕ, Bool, true, false, List, [], ◌∷◌, ◌++◌, Option, Some, length, unwrap_or, refl, sym, ap, subst, inl, inr, arith}
-use Rattle.std.specs.Prelude.{◌==◌, ◌%◌, if◌then◌else◌, take}
+use Rattle.std.proofs.Common.{◌≡◌, ℕ, Bool, true, false, List, [], ◌∷◌, ◌++◌, Option, Some, length, unwrap_or, refl, sym, ap, ◌∙◌, subst, inl, inr, arith}
+use Rattle.std.specs.Prelude.{◌==◌, ◌%◌, if◌then◌else◌, take, drop}
 use Rattle.std.proofs.lemmas.Bool.Decides.{nat_tests}
 use Rattle.supervision.specs.Host.{command_at}
 use Rattle.chip_functions.specs.declared.notice.Notice.{Notice}
@@ -12,16 +12,19 @@ use Rattle.host_orders.specs.Settings.{setting}
 use Rattle.zw_laws.specs.Lists.{Has}
 use Rattle.class_info.specs.declared.report_status.ReportStatus.{ReportStatus}
 use Rattle.class_info.specs.declared.report_status.ReportStatus.TheVariants as statuses
+use Rattle.host_heard.specs.Telling.{heard_at}
 use Rattle.host_heard.specs.declared.told.Told.{Told}
 use Rattle.host_heard.specs.declared.told.Told.TheVariants as told
-use Rattle.device_stack.specs.Sealing.{unsealed_at}
+use Rattle.device_stack.specs.Sealing.{keys_of, unsealed_at}
+use Rattle.zw_text.specs.declared.entry.Entry.{Entry}
 use Rattle.zw_text.specs.Transcript.{sessions}
-use Rattle.zw_laws.specs.Causes.{OneTells, OpensTo, TellsReport}
+use Rattle.zw_laws.specs.Causes.{told_plainly, IsReported, OneTells, OpensTo, TellsReport}
 use Rattle.zw_laws.specs.Nodes.{host_list, listing_of}
 use Rattle.zw_laws.specs.Units.{Carried, payloads_from}
-use Rattle.zw_laws.specs.Worked.{the_lock}
-use Rattle.zw_laws.specs.WorkedWrongWire.{told_openly}
+use Rattle.zw_laws.specs.Worked.{the_lock, network_key}
+use Rattle.zw_laws.specs.WorkedWrongWire.{told_openly, told_for_none, told_unopened, told_of_sealed_failure}
 use Rattle.zw_laws.proofs.Computing.{computing}
+use Rattle.zw_laws.proofs.Sealing.{report_nonce, report_plain, report_code, report_with, other_code, opened_report, unopened_report}
 use Rattle.zw_laws.proofs.wire.rejected_wire.Goals as goal
 
 -- the last byte of a payload
@@ -55,16 +58,6 @@ no_nonce e = omega (arith, e)
 
 no_wake : ◌≡◌ {A = ℕ} 0x6C 0x84 → ⊥
 no_wake e = omega (arith, e)
-
-pub returns-clause-otherwise : goal.returns-clause-otherwise
-unfolding computing
-returns-clause-otherwise c = λ law. elim law.1.1.1.0.0 [
-  | inl said ↦ two_one (ap third_byte said)
-  | inr (inl nonce) ↦ no_nonce (ap first_byte nonce)
-  | inr (inr (inl report)) ↦ report.asked
-  | inr (inr (inr (inl more))) ↦ no_wake (ap first_byte more)
-  | inr (inr (inr (inr asked))) ↦ asked
-]
 
 pub returns-clause-aired : goal.returns-clause-aired
 unfolding computing
@@ -133,16 +126,16 @@ none_one : ◌≡◌ {A = ℕ} 0 1 → ⊥
 none_one e = omega (arith, e)
 
 -- it is too short to be sealed, and does not tell of failure
-not_sealed : (node : ℕ) (message : Told) → OpensTo [] node report message → ⊥
+not_sealed : (past : List Entry) (node : ℕ) (message : Told) → OpensTo [] past node report message → ⊥
 unfolding computing unsealed_at
-not_sealed node message opens = none_one (ap opened_tag opens.opens)
+not_sealed past node message opens = none_one (ap opened_tag opens.opens)
 
-no_failure : (sealed : Bool) (node id : ℕ) (wake_request : Bool) → TellsReport sealed [] node report (told.Report id statuses.Fail wake_request) → ⊥
+no_failure : (sealed : Bool) (past : List Entry) (node id : ℕ) (wake_request : Bool) → TellsReport sealed [] past node report (told.Report id statuses.Fail wake_request) → ⊥
 unfolding computing
-no_failure false node id wake_request (inl (inl same)) = one_none (ap told_tag same)
-no_failure false node id wake_request (inl (inr never)) = never
-no_failure false node id wake_request (inr opens) = not_sealed node _ opens
-no_failure true node id wake_request opens = not_sealed node _ opens
+no_failure false past node id wake_request (inl (inl same)) = one_none (ap told_tag same)
+no_failure false past node id wake_request (inl (inr never)) = never
+no_failure false past node id wake_request (inr opens) = not_sealed past node _ opens
+no_failure true past node id wake_request opens = not_sealed past node _ opens
 
 -- nor does any other payload, of whichever node
 abbrev came_if : Bool → List (List ℕ)
@@ -156,7 +149,7 @@ nobody_tells Tells not false never = never
 pub returns-clause-failure : goal.returns-clause-failure
 unfolding computing
 returns-clause-failure c = λ law.
-    let cause = law.1.1.1.1.0 in nobody_tells _ (no_failure _ cause.node _ cause.wake_request) (2 == cause.node) cause.reported
+    let cause = law.1.1.1.1.0 in nobody_tells _ (no_failure _ _ cause.node _ cause.wake_request) (2 == cause.node) cause.reported
 
 -- the session of the one command is of the lock
 of_lock : (node : ℕ) (is : Bool) → (4 == node) ≡ is → command_at (begun_if is) (length (begun_if is)) ≡ Some 1 → 4 ≡ node
@@ -169,10 +162,43 @@ returns-clause-openly c = λ law.
     let cause = law.1.1.1.1.1.1.0 in
     let past = take 6 told_openly in
     subst
-    (λ (node : ℕ). OneTells (λ payload. TellsReport (lists (host_list (listing_of (the_lock ∷ [])) past node) 0x98) [] node payload
+    (λ (node : ℕ). OneTells (λ payload. TellsReport (lists (host_list (listing_of (the_lock ∷ [])) past node) 0x98) [] past node payload
     (told.Report (length (sessions node past) % 64) statuses.Success cause.wake_request)) (payloads_from node past) → ⊥)
     (of_lock cause.node (4 == cause.node) refl cause.carries)
-    (λ tells. elim tells [ inl opens ↦ not_sealed 4 _ opens | inr never ↦ never ]) cause.reported
+    (λ tells. elim tells [ inl opens ↦ not_sealed _ 4 _ opens | inr never ↦ never ]) cause.reported
+
+-- what a cause of the lock's success has been told
+lock_told : (past : List Entry) (status : ReportStatus) (cause : IsReported (listing_of (the_lock ∷ [])) network_key past 1 status) → 4 ≡ cause.node
+    → OneTells (λ payload. TellsReport (lists (host_list (listing_of (the_lock ∷ [])) past 4) 0x98) network_key past 4 payload
+    (told.Report (length (sessions 4 past) % 64) status cause.wake_request)) (payloads_from 4 past)
+lock_told past status cause of_lock =
+    subst (λ (node : ℕ). OneTells (λ payload. TellsReport (lists (host_list (listing_of (the_lock ∷ [])) past node) 0x98) network_key past node payload
+    (told.Report (length (sessions node past) % 64) status cause.wake_request)) (payloads_from node past)) (sym of_lock) cause.reported
+
+pub returns-clause-for_none : goal.returns-clause-for_none
+unfolding computing
+returns-clause-for_none c = λ law.
+    let cause = law.1.1.1.1.1.1.0 in
+    elim (lock_told (take 6 told_for_none) statuses.Success cause (of_lock cause.node (4 == cause.node) refl cause.carries)) [
+      | inl opens ↦ opens.given
+      | inr never ↦ never
+    ]
+
+-- the lock's report with another code opens for no nonce
+no_opening : (nonce : List ℕ) (text : List ℕ) → report_nonce ≡ nonce
+    → unsealed_at (keys_of network_key) nonce (record { sender = 4; receiver = 1 }) (report_with other_code) ≡ Some text → ⊥
+no_opening nonce text is opens =
+    none_one (ap opened_tag (sym unopened_report
+    ∙ ap (λ (nonce : List ℕ). unsealed_at (keys_of network_key) nonce (record { sender = 4; receiver = 1 }) (report_with other_code)) is ∙ opens))
+
+pub returns-clause-unopened : goal.returns-clause-unopened
+unfolding computing
+returns-clause-unopened c = λ law.
+    let cause = law.1.1.1.1.1.1.1.0 in
+    elim (lock_told (take 7 told_unopened) statuses.Success cause (of_lock cause.node (4 == cause.node) refl cause.carries)) [
+      | inl opens ↦ elim opens.given [ inl same ↦ no_opening opens.nonce opens.text (ap (λ (p : List ℕ). drop 2 p) same) opens.opens | inr never ↦ never ]
+      | inr never ↦ never
+    ]
 
 -- the report of another session
 abbrev second_report : List ℕ
@@ -186,13 +212,13 @@ two_never : (is : Bool) → 2 ≡ length (begun_if is) % 64 → ⊥
 two_never true same = two_one same
 two_never false same = two_none same
 
-other_session : (sealed is : Bool) (node : ℕ) (wake_request : Bool)
-    → TellsReport sealed [] node second_report (told.Report (length (begun_if is) % 64) statuses.Success wake_request) → ⊥
+other_session : (sealed is : Bool) (past : List Entry) (node : ℕ) (wake_request : Bool)
+    → TellsReport sealed [] past node second_report (told.Report (length (begun_if is) % 64) statuses.Success wake_request) → ⊥
 unfolding computing unsealed_at
-other_session false is node wake_request (inl (inl same)) = two_never is (ap id_of same)
-other_session false is node wake_request (inl (inr never)) = never
-other_session false is node wake_request (inr opens) = none_one (ap opened_tag opens.opens)
-other_session true is node wake_request opens = none_one (ap opened_tag opens.opens)
+other_session false is past node wake_request (inl (inl same)) = two_never is (ap id_of same)
+other_session false is past node wake_request (inl (inr never)) = never
+other_session false is past node wake_request (inr opens) = none_one (ap opened_tag opens.opens)
+other_session true is past node wake_request opens = none_one (ap opened_tag opens.opens)
 
 abbrev second_if : Bool → List (List ℕ)
 second_if is = (if is then second_report ∷ [] else []) ++ []
@@ -206,14 +232,14 @@ pub returns-clause-session : goal.returns-clause-session
 unfolding computing
 returns-clause-session c = λ law.
     let cause = law.1.1.1.1.0 in
-    nobody_tells_second _ (other_session _ (2 == cause.node) cause.node cause.wake_request) (2 == cause.node) cause.reported
+    nobody_tells_second _ (other_session _ (2 == cause.node) _ cause.node cause.wake_request) (2 == cause.node) cause.reported
 
 pub returns-clause-old_id : goal.returns-clause-old_id
 unfolding computing
 returns-clause-old_id c = λ law. elim law.1.0.told_it [
   | inl (inl (inl same)) ↦ one_two (ap id_of same)
   | inl (inl (inr never)) ↦ never
-  | inl (inr opens) ↦ not_sealed 2 _ opens
+  | inl (inr opens) ↦ not_sealed _ 2 _ opens
   | inr never ↦ never
 ]
 
@@ -238,6 +264,14 @@ returns-clause-other_value c = λ law. elim law.1.0.told_them [
   | inl (inr opens) ↦ none_one (ap opened_tag opens.opens)
   | inr never ↦ never
 ]
+
+six_five : ◌≡◌ {A = ℕ} 6 5 → ⊥
+six_five e = omega (arith, e)
+
+-- of whom an information tells
+abbrev node_in : Notice → ℕ
+node_in (ApplicationUpdate (Received node basic generic specific classes)) = node
+node_in _ = 0
 
 -- how many classes an information tells
 abbrev classes_in : Notice → ℕ
@@ -267,3 +301,42 @@ returns-clause-interviewed c = λ law. law.0.came
 pub returns-clause-reported : goal.returns-clause-reported
 unfolding computing
 returns-clause-reported c = λ law. law.0.told_them
+
+-- the frame of the second unit is none of the first
+pub returns-clause-backwards : goal.returns-clause-backwards
+unfolding computing
+returns-clause-backwards c = λ law. elim (law.1.1.1.0) [
+  | inl first ↦ two_one (ap (λ (carried : Carried). last_byte 0 carried.payload) first.0)
+  | inr (inl second) ↦ second.1
+  | inr (inr never) ↦ never
+]
+
+pub returns-clause-other_node : goal.returns-clause-other_node
+unfolding computing
+returns-clause-other_node c = λ law. elim law.1.0.came [ inl same ↦ six_five (ap node_in same) | inr never ↦ never ]
+
+-- the lock's report opens to success alone
+opened_success : (nonce text : List ℕ) (id : ℕ) (wake_request : Bool) → report_nonce ≡ nonce
+    → unsealed_at (keys_of network_key) nonce (record { sender = 4; receiver = 1 }) (report_with report_code) ≡ Some text
+    → Has (told_plainly (heard_at text)) (told.Report id statuses.Fail wake_request) → ⊥
+unfolding computing
+opened_success nonce text id wake_request is opens tells =
+    let opened : Some report_plain ≡ Some text = sym opened_report
+    ∙ ap (λ (nonce : List ℕ). unsealed_at (keys_of network_key) nonce (record { sender = 4; receiver = 1 }) (report_with report_code)) is ∙ opens in
+    let same : report_plain ≡ text = ap (λ (found : Option (List ℕ)). unwrap_or found []) opened in
+    elim (subst (λ (text : List ℕ). Has (told_plainly (heard_at text)) (told.Report id statuses.Fail wake_request)) (sym same) tells) [
+      | inl is ↦ one_none (ap told_tag is)
+      | inr never ↦ never
+    ]
+
+pub returns-clause-sealed_failure : goal.returns-clause-sealed_failure
+unfolding computing
+returns-clause-sealed_failure c = λ law.
+    let cause = law.1.1.1.1.1.1.1.0 in
+    elim (lock_told (take 7 told_of_sealed_failure) statuses.Fail cause (of_lock cause.node (4 == cause.node) refl cause.carries)) [
+      | inl opens ↦ elim opens.given [
+        | inl same ↦ opened_success opens.nonce opens.text _ _ (ap (λ (p : List ℕ). drop 2 p) same) opens.opens opens.tells
+        | inr never ↦ never
+      ]
+      | inr never ↦ never
+    ]

@@ -1,237 +1,82 @@
-use Rattle.std.proofs.Common.{refl, inl}
+use Rattle.std.proofs.Common.{[], ◌∷◌, refl, inl, inr, sym, arith}
+use Rattle.zw_laws.specs.Nodes.{listing_of}
+use Rattle.zw_laws.specs.Worked.{plain_exchange, repeated_exchange, lossy_exchange, cancelled_order, restarted_host, sleeping_node, sealed_exchange, long_message, the_switch, the_sensor, the_lock, the_plug, network_key}
+use Rattle.zw_laws.proofs.Entries.{sends_what_is_due}
+use Rattle.zw_laws.proofs.Sealing.{set_own, set_nonce, report_nonce, sealed_set}
 use Rattle.zw_laws.proofs.Computing.{computing}
 use Rattle.zw_laws.proofs.wire.worked_payloads.Goals as goal
 
 pub returns-clause-plain : goal.returns-clause-plain
 unfolding computing
-returns-clause-plain c = (
-  tt,
-  (
-    tt,
-    (
-      tt,
-      (
-        (inl refl, tt),
-        (
-          tt,
-          (
-            tt,
-            (
-              tt,
-              (
-                tt,
-                (
-                  tt,
-                  (
-                    tt,
-                    (
-                      tt,
-                      (
-                        tt,
-                        (
-                          tt,
-                          (
-                            tt,
-                            (
-                              tt,
-                              (
-                                tt,
-                                (
-                                  tt,
-                                  (
-                                    tt,
-                                    (
-                                      tt,
-                                      (tt, (tt, tt)),
-                                    ),
-                                  ),
-                                ),
-                              ),
-                            ),
-                          ),
-                        ),
-                      ),
-                    ),
-                  ),
-                ),
-              ),
-            ),
-          ),
-        ),
-      ),
-    ),
-  ),
-)
+returns-clause-plain c = sends_what_is_due (listing_of (the_switch ∷ [])) [] plain_exchange ((inl refl, tt), tt)
 
 pub returns-clause-repeated : goal.returns-clause-repeated
 unfolding computing
-returns-clause-repeated c = (
-  tt,
+returns-clause-repeated c = sends_what_is_due (listing_of (the_switch ∷ [])) [] repeated_exchange ((inl refl, tt), ((inl refl, tt), tt))
+
+pub returns-clause-lossy : goal.returns-clause-lossy
+unfolding computing
+returns-clause-lossy c = sends_what_is_due (listing_of (the_switch ∷ [])) [] lossy_exchange ((inl refl, tt), ((inl refl, tt), ((inl refl, tt), ((inl refl, tt), ((inl refl, tt), tt)))))
+
+pub returns-clause-cancelled : goal.returns-clause-cancelled
+unfolding computing
+returns-clause-cancelled c = sends_what_is_due (listing_of (the_switch ∷ [])) [] cancelled_order ((inl refl, tt), tt)
+
+pub returns-clause-restarted : goal.returns-clause-restarted
+unfolding computing
+returns-clause-restarted c = sends_what_is_due (listing_of (the_switch ∷ [])) [] restarted_host ((inl refl, tt), ((inl refl, tt), ((inl refl, tt), ((inl refl, tt), tt))))
+
+pub returns-clause-sleeping : goal.returns-clause-sleeping
+unfolding computing
+returns-clause-sleeping c = sends_what_is_due (listing_of (the_sensor ∷ [])) [] sleeping_node ((inr (inr (inr (inl refl))), tt), ((inl refl, tt), ((inr (inr (inr (inl refl))), tt), tt)))
+
+pub returns-clause-sealed : goal.returns-clause-sealed
+unfolding computing
+returns-clause-sealed c = sends_what_is_due (listing_of (the_lock ∷ [])) network_key sealed_exchange (
+  (inr (inl refl), tt),
   (
-    tt,
+    (inr (inl refl), tt),
     (
-      tt,
       (
+        inl (record {
+          own = set_own;
+          nonce = set_nonce;
+          given = inl refl;
+          own_eight = refl;
+          eight = refl;
+          text = sym sealed_set;
+        }),
         tt,
+      ),
+      (
         (
-          (inl refl, tt),
-          (
-            tt,
-            (
-              tt,
-              (
-                tt,
-                (
-                  tt,
-                  (
-                    tt,
-                    (
-                      tt,
-                      (
-                        tt,
-                        (
-                          tt,
-                          (
-                            tt,
-                            (
-                              tt,
-                              (
-                                tt,
-                                (
-                                  (inl refl, tt),
-                                  (
-                                    tt,
-                                    (
-                                      tt,
-                                      (
-                                        tt,
-                                        (
-                                          tt,
-                                          (
-                                            tt,
-                                            (
-                                              tt,
-                                              (
-                                                tt,
-                                                (
-                                                  tt,
-                                                  (
-                                                    tt,
-                                                    (
-                                                      tt,
-                                                      (
-                                                        tt,
-                                                        (
-                                                          tt,
-                                                          (
-                                                            tt,
-                                                            (
-                                                              tt,
-                                                              (
-                                                                tt,
-                                                                (
-                                                                  tt,
-                                                                  (
-                                                                    tt,
-                                                                    (
-                                                                      tt,
-                                                                      (
-                                                                        tt,
-                                                                        tt,
-                                                                      ),
-                                                                    ),
-                                                                  ),
-                                                                ),
-                                                              ),
-                                                            ),
-                                                          ),
-                                                        ),
-                                                      ),
-                                                    ),
-                                                  ),
-                                                ),
-                                              ),
-                                            ),
-                                          ),
-                                        ),
-                                      ),
-                                    ),
-                                  ),
-                                ),
-                              ),
-                            ),
-                          ),
-                        ),
-                      ),
-                    ),
-                  ),
-                ),
-              ),
-            ),
-          ),
+          inr (inr (inl (record {
+            nonce = report_nonce;
+            eight = refl;
+            asked = inr (inl refl);
+            text = refl;
+          }))),
+          tt,
         ),
+        tt,
       ),
     ),
   ),
 )
 
-pub returns-clause-cancelled : goal.returns-clause-cancelled
+pub returns-clause-cut : goal.returns-clause-cut
 unfolding computing
-returns-clause-cancelled c = (
-  tt,
+returns-clause-cut c = sends_what_is_due (listing_of (the_plug ∷ [])) [] long_message (
+  (inl (record { place = 0; within = omega arith; text = refl }), tt),
   (
-    tt,
     (
+      inl (record {
+        place = 1;
+        within = omega arith;
+        text = refl;
+      }),
       tt,
-      (
-        (inl refl, tt),
-        (
-          tt,
-          (
-            tt,
-            (
-              tt,
-              (
-                tt,
-                (
-                  tt,
-                  (
-                    tt,
-                    (
-                      tt,
-                      (
-                        tt,
-                        (
-                          tt,
-                          (
-                            tt,
-                            (
-                              tt,
-                              (
-                                tt,
-                                (
-                                  tt,
-                                  (
-                                    tt,
-                                    (
-                                      tt,
-                                      (tt, (tt, (tt, (tt, (tt, (tt, (tt, (tt, tt)))))))),
-                                    ),
-                                  ),
-                                ),
-                              ),
-                            ),
-                          ),
-                        ),
-                      ),
-                    ),
-                  ),
-                ),
-              ),
-            ),
-          ),
-        ),
-      ),
     ),
+    tt,
   ),
 )

@@ -1,0 +1,75 @@
+use Rattle.std.proofs.Common.{ℕ, List, [], ◌∷◌, refl, ap, inl, inr}
+use Rattle.zw_text.specs.declared.entry.Entry.{Entry}
+use Rattle.zw_text.specs.declared.entry.Entry.TheVariants.{Refused}
+use Rattle.zw_laws.proofs.Computing.{computing}
+use Rattle.zw_laws.proofs.Dues.{differ}
+use Rattle.zw_laws.proofs.host.rejected_lines.Goals as goal
+
+-- whether an entry refuses
+abbrev refuses : Entry → ℕ
+refuses (Refused refusal) = 1
+refuses _ = 0
+
+abbrev first_refuses : List Entry → ℕ
+first_refuses [] = 0
+first_refuses (entry ∷ rest) = refuses entry
+
+pub returns-clause-joined : goal.returns-clause-joined
+unfolding computing
+returns-clause-joined c = λ law. elim (law.between.1.0) [ inl same ↦ differ 1 0 refl (ap first_refuses same) | inr kept ↦ kept.0 ]
+
+pub returns-clause-known : goal.returns-clause-known
+unfolding computing
+returns-clause-known c = λ law. elim (law.between.1.1.0) [ inl same ↦ differ 1 0 refl (ap first_refuses same) | inr kept ↦ kept.0 ]
+
+pub returns-clause-value : goal.returns-clause-value
+unfolding computing
+returns-clause-value c = λ law. elim (law.between.1.0) [ inl same ↦ differ 1 0 refl (ap first_refuses same) | inr kept ↦ kept.0 ]
+
+pub returns-clause-full : goal.returns-clause-full
+unfolding computing
+returns-clause-full c = λ law. elim (law.between.1.1.1.1.1.1.1.1.1.1.1.1.1.1.1.1.1.1.1.1.1.1.1.1.1.1.1.1.1.1.1.1.1.0) [ inl same ↦ differ 1 0 refl (ap first_refuses same) | inr kept ↦ kept.0 ]
+
+pub returns-clause-cancel : goal.returns-clause-cancel
+unfolding computing
+returns-clause-cancel c = λ law. differ 1 0 refl (ap refuses law.between.1.0)
+
+pub returns-clause-send : goal.returns-clause-send
+unfolding computing
+returns-clause-send c = λ law. differ 1 0 refl (ap refuses law.between.1.0)
+
+pub returns-clause-get : goal.returns-clause-get
+unfolding computing
+returns-clause-get c = λ law. differ 1 0 refl (ap refuses law.between.1.0)
+
+pub returns-clause-interview : goal.returns-clause-interview
+unfolding computing
+returns-clause-interview c = λ law. differ 1 0 refl (ap refuses law.between.1.0)
+
+pub returns-clause-repeat : goal.returns-clause-repeat
+unfolding computing
+returns-clause-repeat c = λ law. differ 1 0 refl (ap refuses law.between.1.0)
+
+pub returns-clause-wake : goal.returns-clause-wake
+unfolding computing
+returns-clause-wake c = λ law. differ 1 0 refl (ap refuses law.between.1.0)
+
+pub returns-clause-local : goal.returns-clause-local
+unfolding computing
+returns-clause-local c = λ law. differ 1 0 refl (ap refuses law.between.1.0)
+
+pub returns-clause-show : goal.returns-clause-show
+unfolding computing
+returns-clause-show c = λ law. differ 1 0 refl (ap refuses law.between.1.0)
+
+pub returns-clause-queue : goal.returns-clause-queue
+unfolding computing
+returns-clause-queue c = λ law. differ 63 64 refl law.between.1.0
+
+pub returns-clause-keeper : goal.returns-clause-keeper
+unfolding computing
+returns-clause-keeper c = λ law. law.between.1.0
+
+pub returns-clause-bad : goal.returns-clause-bad
+unfolding computing
+returns-clause-bad c = λ law. law.between.1.0
