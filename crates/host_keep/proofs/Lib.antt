@@ -1,5 +1,5 @@
 mod RowTexts
-mod RowsBack
+pub mod RowsBack
 mod BytesSoFar
 mod NumbersFound
-mod Going
+pub mod Going

@@ -7,8 +7,6 @@ ghost use Rattle.zw_laws.specs.Worked.{plain_exchange};
 ghost use Rattle.zw_laws.specs.WorkedDevices.{plain_records};
 ghost use Rattle.wire_laws.specs.WorkedRecords.{still_begun, begun_records, taken_back, cancelling_records, ordered_otherwise, spent_ungiven, taken_back_late, given_up};
 
-use host_keep::{a_text_is_of_one_record, texts_give_one_thing};
-
 /// The records of a plain exchange, of a session that has not ended and of a command that is taken back give what is shown, of all nodes.
 pub fn worked_records()
     ensures plain { KeepsRecords plain_exchange (map record_text plain_records) }
@@ -25,7 +23,4 @@ pub fn rejected_records()
     ensures unread { KeepsRecords plain_exchange ([] ∷ map record_text plain_records) → ⊥ }
     ensures unkept { KeepsRecords taken_back_late (map record_text begun_records) → ⊥ }
     ensures unshown { KeepsRecords given_up (map record_text cancelling_records) → ⊥ }
-{
-    texts_give_one_thing();
-    a_text_is_of_one_record();
-}
+{}

@@ -11,6 +11,8 @@ use Rattle.host_keep.specs.declared.record.Record.{Record}
 use Rattle.host_keep.specs.declared.record.Record.TheVariants as records
 use Rattle.host_keep.specs.declared.final_status.FinalStatus.{FinalStatus}
 use Rattle.host_keep.specs.declared.final_status.FinalStatus.TheVariants.{Success}
+use Rattle.host_keep.proofs.Going.{give_one}
+use Rattle.host_keep.proofs.RowsBack.{one_record}
 use Rattle.zw_laws.specs.WorkedDevices.{plain_records}
 use Rattle.wire_laws.specs.WorkedRecords.{spent_ungiven}
 use Rattle.wire_laws.proofs.Computing.{reckoning}
@@ -73,16 +75,16 @@ not_text (one ∷ more) are = none_bracket (ap first_byte are.0.text)
 pub returns-clause-lacking : goal.returns-clause-lacking
 unfolding reckoning endings
 returns-clause-lacking c = λ law.
-    none_success (sym (ap endings (c.texts_give_one_thing.ensures.one _ _ _ law.gives gives_begun)) ∙ (law.shows.nodes 2).ended)
+    none_success (sym (ap endings (give_one _ _ _ law.gives gives_begun)) ∙ (law.shows.nodes 2).ended)
 
 pub returns-clause-ordered : goal.returns-clause-ordered
 unfolding reckoning
 returns-clause-ordered c = λ law.
-    none_one (sym (ap (λ (kept : Kept). first_on (map (λ (taken : Taken). taken.order) kept.commands)) (c.texts_give_one_thing.ensures.one _ _ _ law.gives gives_otherwise))
+    none_one (sym (ap (λ (kept : Kept). first_on (map (λ (taken : Taken). taken.order) kept.commands)) (give_one _ _ _ law.gives gives_otherwise))
     ∙ ap first_on law.shows.orders)
 
 pub returns-clause-illegal : goal.returns-clause-illegal
-returns-clause-illegal c = λ law. not_legal c.a_text_is_of_one_record.ensures law.gives.records law.gives.are law.gives.legal
+returns-clause-illegal c = λ law. not_legal one_record law.gives.records law.gives.are law.gives.legal
 
 pub returns-clause-unread : goal.returns-clause-unread
 returns-clause-unread c = λ law. not_text law.gives.records law.gives.are
@@ -90,9 +92,9 @@ returns-clause-unread c = λ law. not_text law.gives.records law.gives.are
 pub returns-clause-unkept : goal.returns-clause-unkept
 unfolding reckoning
 returns-clause-unkept c = λ law.
-    none_one (sym (ap taken_back (c.texts_give_one_thing.ensures.one _ _ _ law.gives gives_begun)) ∙ ap length law.shows.cancelled)
+    none_one (sym (ap taken_back (give_one _ _ _ law.gives gives_begun)) ∙ ap length law.shows.cancelled)
 
 pub returns-clause-unshown : goal.returns-clause-unshown
 unfolding reckoning
 returns-clause-unshown c = λ law.
-    one_none (sym (ap taken_back (c.texts_give_one_thing.ensures.one _ _ _ law.gives gives_cancelling)) ∙ ap length law.shows.cancelled)
+    one_none (sym (ap taken_back (give_one _ _ _ law.gives gives_cancelling)) ∙ ap length law.shows.cancelled)
