@@ -1,4 +1,4 @@
-//! What interviews tell: in every run of lines that were read, an interview that ends well is of a joined node and tells what the first device of that node
+//! What interviews tell: in every run of lines, an interview that ends well is of a joined node and tells what the first device of that node
 //! lists, and a host that starts again knows what the one before knew.
 //!
 //! Each law is the contract of a function that does nothing, over the definitions of `said_facts` and `run_facts`: it is the premise `LinesTell` of the headline.
