@@ -101,13 +101,18 @@ fn counts(bytes: &[u8]) -> bool {
 
 /// What a segment is answered by, in a word. A datagram is whole where it counts from 0.
 fn word_of(alloc: Global, taken: Taken) -> Option<String> {
-    let word = match taken {
-        Taken::Kept => " kept",
-        Taken::Need(at) => return format!(in alloc; " {at}").ok(),
-        Taken::Whole(whole) if counts(whole.as_slice()) => " whole",
-        Taken::Whole(_) => " other",
-    };
-    String::from_str(alloc, word).ok()
+    match taken {
+        Taken::Kept => String::from_str(alloc, " kept").ok(),
+        Taken::Need(at) => format!(in alloc; " {at}").ok(),
+        Taken::Whole(whole) => {
+            let word = if counts(whole.as_slice()) {
+                " whole"
+            } else {
+                " other"
+            };
+            String::from_str(alloc, word).ok()
+        }
+    }
 }
 
 fn take(alloc: Global, assembler: &mut Assembler, segment: &[u8]) -> Option<String> {
