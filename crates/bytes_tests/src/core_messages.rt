@@ -3,10 +3,10 @@
 mod tables;
 
 use crate::parts::{pair, part};
+use crate::rows::check_row;
 use class_core::{read, write};
 use class_fields::ClassFault;
 use std::alloc::Global;
-use std::test::*;
 use tables::{FAULTS, LOOSE, ROWS};
 use zw_base::Bytes;
 
@@ -27,46 +27,59 @@ fn fault(told: &[u8]) -> Option<ClassFault> {
     }
 }
 
-#[test]
-fn rows_both_ways(rt: HostRuntime) -> Result<(), Fail> {
-    let mut table: &[u8] = ROWS;
-    for _ in 0..ROWS.len() {
-        let Some((row, rest)) = part(table) else {
-            break;
-        };
-        let form = again(rt.alloc(), row)?;
-        assert!(rt; form.as_slice() == row, "{row:?}");
-        table = rest;
+/// Whether the bytes are read and written as that form.
+fn is_written_as(alloc: Global, bytes: &[u8], form: &[u8]) -> bool {
+    match again(alloc, bytes) {
+        Ok(written) => written.as_slice() == form,
+        Err(_) => false,
     }
-    assert!(rt; table.is_empty());
-    Ok(())
+}
+
+/// The fault of the bytes.
+fn fault_of(alloc: Global, bytes: &[u8]) -> Option<ClassFault> {
+    read(alloc, bytes).err()
+}
+
+/// Whether the bytes are refused as a row tells.
+fn is_refused(alloc: Global, bytes: &[u8], told: &[u8]) -> bool {
+    let found = fault_of(alloc, bytes);
+    found.is_some() && found == fault(told)
 }
 
 #[test]
-fn what_is_ignored(rt: HostRuntime) -> Result<(), Fail> {
-    let mut table: &[u8] = LOOSE;
-    for _ in 0..LOOSE.len() {
-        let Some((row, form, rest)) = pair(table) else {
+fn rows_both_ways(rt: HostRuntime) {
+    let mut table: &[u8] = ROWS;
+    for row in 0..ROWS.len() {
+        let Some((text, rest)) = part(table) else {
             break;
         };
-        let written = again(rt.alloc(), row)?;
-        assert!(rt; written.as_slice() == form, "{row:?}");
+        check_row(&rt, is_written_as(rt.alloc(), text, text), row);
         table = rest;
     }
     assert!(rt; table.is_empty());
-    Ok(())
+}
+
+#[test]
+fn what_is_ignored(rt: HostRuntime) {
+    let mut table: &[u8] = LOOSE;
+    for row in 0..LOOSE.len() {
+        let Some((text, form, rest)) = pair(table) else {
+            break;
+        };
+        check_row(&rt, is_written_as(rt.alloc(), text, form), row);
+        table = rest;
+    }
+    assert!(rt; table.is_empty());
 }
 
 #[test]
 fn first_fault(rt: HostRuntime) {
     let mut table: &[u8] = FAULTS;
-    for _ in 0..FAULTS.len() {
-        let Some((row, told, rest)) = pair(table) else {
+    for row in 0..FAULTS.len() {
+        let Some((text, told, rest)) = pair(table) else {
             break;
         };
-        let found = read(rt.alloc(), row).err();
-        assert!(rt; found.is_some());
-        assert!(rt; found == fault(told), "{row:?}");
+        check_row(&rt, is_refused(rt.alloc(), text, told), row);
         table = rest;
     }
     assert!(rt; table.is_empty());
@@ -82,15 +95,12 @@ fn bulk() -> [u8; 1026] {
 /// The fault of the bytes without the last one.
 fn fault_of_front(alloc: Global, bytes: &[u8]) -> Option<ClassFault> {
     let (_last, front) = bytes.split_last()?;
-    read(alloc, front).err()
+    fault_of(alloc, front)
 }
 
 #[test]
-fn greatest_bulk(rt: HostRuntime) -> Result<(), Fail> {
+fn greatest_bulk(rt: HostRuntime) {
     let bulk = bulk();
-    let form = again(rt.alloc(), &bulk)?;
-    assert!(rt; form.as_slice() == bulk.as_slice());
-    let short = fault_of_front(rt.alloc(), &bulk);
-    assert!(rt; short == Some(ClassFault::Short(1026)));
-    Ok(())
+    assert!(rt; is_written_as(rt.alloc(), &bulk, &bulk));
+    assert!(rt; fault_of_front(rt.alloc(), &bulk) == Some(ClassFault::Short(1026)));
 }

@@ -1,34 +1,50 @@
 //! The texts of faults, and the lists that grow.
 
+use crate::rows::check_row;
 use class_fields::*;
-use std::test::*;
+use std::alloc::Global;
 use zw_base::read_node;
 
-#[test]
-fn names_of_faults(rt: HostRuntime) -> Result<(), Fail> {
-    let faults = [
-        (ClassFault::Empty, "empty"),
-        (ClassFault::UnknownClass(1), "unknownclass"),
-        (ClassFault::UnknownCommand(1, 2), "unknowncommand"),
-        (ClassFault::Short(3), "short"),
-        (ClassFault::BadValue(4), "badvalue"),
-        (ClassFault::NoMemory, "nomemory"),
-    ];
-    for (fault, name) in faults {
-        let text = format!(in rt.alloc(); "{fault}")?;
-        assert!(rt; text.as_str() == name);
+const NAMES: &[(ClassFault, &str)] = &[
+    (ClassFault::Empty, "empty"),
+    (ClassFault::UnknownClass(1), "unknownclass"),
+    (ClassFault::UnknownCommand(1, 2), "unknowncommand"),
+    (ClassFault::Short(3), "short"),
+    (ClassFault::BadValue(4), "badvalue"),
+    (ClassFault::NoMemory, "nomemory"),
+];
+
+fn is_named(alloc: Global, fault: ClassFault, name: &str) -> bool {
+    match format!(in alloc; "{fault}") {
+        Ok(text) => text.as_str() == name,
+        Err(_) => false,
     }
-    Ok(())
 }
 
 #[test]
-fn lists_grow(rt: HostRuntime) -> Result<(), Fail> {
-    let mut nodes = NodeList::new(rt.alloc());
-    let node = read_node(232).ok_or("a node")?;
-    nodes.push(node)?;
-    assert!(rt; nodes.as_slice() == [node].as_slice());
-    let mut numbers = NumberList::new(rt.alloc(), Size::Two);
-    numbers.push(65535)?;
-    assert!(rt; numbers.as_slice() == [65535].as_slice());
-    Ok(())
+fn names_of_faults(rt: HostRuntime) {
+    for (row, (fault, name)) in NAMES.iter().enumerate() {
+        check_row(&rt, is_named(rt.alloc(), *fault, name), row);
+    }
+}
+
+/// Whether a list takes the last node.
+fn nodes_grow(alloc: Global) -> bool {
+    let mut nodes = NodeList::new(alloc);
+    match read_node(232) {
+        Some(node) => nodes.push(node).is_ok() && nodes.as_slice() == [node].as_slice(),
+        None => false,
+    }
+}
+
+/// Whether a list of numbers of two bytes takes the greatest.
+fn numbers_grow(alloc: Global) -> bool {
+    let mut numbers = NumberList::new(alloc, Size::Two);
+    numbers.push(65535).is_ok() && numbers.as_slice() == [65535].as_slice()
+}
+
+#[test]
+fn lists_grow(rt: HostRuntime) {
+    assert!(rt; nodes_grow(rt.alloc()));
+    assert!(rt; numbers_grow(rt.alloc()));
 }

@@ -1,8 +1,8 @@
 //! Streams with the items that they are, worked by hand, in all pieces.
 
+use crate::rows::check_row;
 use serial_frame::*;
 use std::alloc::Global;
-use std::process::Abort;
 use std::test::Fail;
 use zw_base::{Bytes, List, NoMemory};
 
@@ -147,37 +147,56 @@ fn feed(decoder: &mut Decoder, piece: &[u8], items: &mut List<Item>) -> Result<(
     decoder.feed(piece, items)
 }
 
-/// Feeds the stream of a row in three pieces.
-fn check(
-    rt: &impl Abort,
-    alloc: Global,
-    row: &Row,
+/// Feeds a stream in three pieces. True where there was memory.
+fn feed_three(
+    decoder: &mut Decoder,
+    items: &mut List<Item>,
+    stream: &[u8],
     from: usize,
     to: usize,
-) -> Result<(), NoMemory> {
+) -> bool {
+    if from > to || to > stream.len() {
+        return false;
+    }
+    feed(decoder, &stream[..from], items).is_ok()
+        && feed(decoder, &stream[from..to], items).is_ok()
+        && feed(decoder, &stream[to..], items).is_ok()
+}
+
+/// Whether the stream of a row has its items where it is cut so.
+fn is_so(alloc: Global, row: &Row, from: usize, to: usize) -> bool {
     let mut decoder = Decoder::new(alloc);
     let mut items = List::new(alloc);
-    let stream = row.stream;
-    if from <= to && to <= stream.len() {
-        feed(&mut decoder, &stream[..from], &mut items)?;
-        feed(&mut decoder, &stream[from..to], &mut items)?;
-        feed(&mut decoder, &stream[to..], &mut items)?;
-        let same = are_wanted(items.as_slice(), row.items) && decoder.rest() == row.rest;
-        assert!(rt; same, "cut at {from} and {to}");
+    feed_three(&mut decoder, &mut items, row.stream, from, to)
+        && are_wanted(items.as_slice(), row.items)
+        && decoder.rest() == row.rest
+}
+
+/// Whether the stream of a row has its items where the second cut is anywhere behind the first.
+fn is_so_from(alloc: Global, row: &Row, from: usize) -> bool {
+    for to in from..=row.stream.len() {
+        if !is_so(alloc, row, from, to) {
+            return false;
+        }
     }
-    Ok(())
+    true
+}
+
+/// Whether the stream of a row has its items wherever it is cut.
+fn is_so_in_all(alloc: Global, row: &Row) -> bool {
+    for from in 0..=row.stream.len() {
+        if !is_so_from(alloc, row, from) {
+            return false;
+        }
+    }
+    true
 }
 
 #[test]
-fn streams_in_all_pieces(rt: HostRuntime) -> Result<(), Fail> {
-    for row in ROWS.iter() {
-        for from in 0..=row.stream.len() {
-            for to in from..=row.stream.len() {
-                check(&rt, rt.alloc(), row, from, to)?;
-            }
-        }
+fn streams_in_all_pieces(rt: HostRuntime) {
+    for (at, row) in ROWS.iter().enumerate() {
+        check_row(&rt, is_so_in_all(rt.alloc(), row), at);
     }
-    Ok(())
 }
 
 /// The largest frame without its sum, which is 0x13.
@@ -187,52 +206,90 @@ fn largest(alloc: Global) -> Result<Bytes, NoMemory> {
     Ok(stream)
 }
 
+/// Feeds the largest frame without its sum.
+fn feed_largest(
+    alloc: Global,
+    decoder: &mut Decoder,
+    items: &mut List<Item>,
+) -> Result<(), NoMemory> {
+    feed(decoder, largest(alloc)?.as_slice(), items)
+}
+
+fn is_largest(items: &[Item]) -> bool {
+    matches!(items, [Item::Good(Unit::Framed(frame))] if is_frame(frame, Kind::Request, 0x13, &[0; MAX_BODY]))
+}
+
 #[test]
 fn largest_frame(rt: HostRuntime) -> Result<(), Fail> {
     let mut decoder = Decoder::new(rt.alloc());
     let mut items = List::new(rt.alloc());
-    feed(&mut decoder, largest(rt.alloc())?.as_slice(), &mut items)?;
+    feed_largest(rt.alloc(), &mut decoder, &mut items)?;
     assert!(rt; items.is_empty() && decoder.rest() == 256);
     feed(&mut decoder, &[0x13], &mut items)?;
-    let is_whole =
-        matches!(items.as_slice(), [Item::Good(Unit::Framed(frame))] if is_frame(frame, Kind::Request, 0x13, &[0; MAX_BODY]));
-    assert!(rt; is_whole);
+    assert!(rt; is_largest(items.as_slice()));
     Ok(())
+}
+
+/// Whether the fifteenth tick aborts, and no tick before it.
+fn aborts_at_fifteen(decoder: &mut Decoder) -> bool {
+    for tick in 1..=15 {
+        if decoder.tick() != (tick == 15) {
+            return false;
+        }
+    }
+    true
+}
+
+fn is_answer(items: &[Item]) -> bool {
+    matches!(items, [Item::Good(Unit::Ack)])
 }
 
 #[test]
 fn an_unfinished_frame_is_forgotten(rt: HostRuntime) -> Result<(), Fail> {
     let mut decoder = Decoder::new(rt.alloc());
     let mut items = List::new(rt.alloc());
-    feed(&mut decoder, largest(rt.alloc())?.as_slice(), &mut items)?;
-    for tick in 1..=15 {
-        let aborts = decoder.tick();
-        assert!(rt; aborts == (tick == 15), "at tick {tick}");
-    }
+    feed_largest(rt.alloc(), &mut decoder, &mut items)?;
+    assert!(rt; aborts_at_fifteen(&mut decoder));
     feed(&mut decoder, &[ACK], &mut items)?;
-    let is_answer = matches!(items.as_slice(), [Item::Good(Unit::Ack)]);
-    assert!(rt; is_answer && decoder.rest() == 0 && !decoder.tick());
+    assert!(rt; is_answer(items.as_slice()) && decoder.rest() == 0 && !decoder.tick());
     Ok(())
 }
 
-#[test]
-fn units_are_written(rt: HostRuntime) -> Result<(), Fail> {
+/// Whether the unit is written so.
+fn is_encoded(alloc: Global, unit: &Unit, text: &[u8]) -> bool {
+    match encode(alloc, unit) {
+        Ok(bytes) => bytes.as_slice() == text,
+        Err(_) => false,
+    }
+}
+
+/// The copy of a response of one byte.
+fn copy_of_response(alloc: Global) -> Option<Frame> {
     let frame = Frame {
         kind: Kind::Response,
         func: 0x13,
-        body: Bytes::from_slice(rt.alloc(), &[0x01])?,
+        body: Bytes::from_slice(alloc, &[0x01]).ok()?,
     };
-    let copy = frame.copy(rt.alloc())?;
-    for (unit, text) in [
-        (Unit::Ack, [0x06].as_slice()),
-        (Unit::Nak, [0x15].as_slice()),
-        (Unit::Can, [0x18].as_slice()),
-        (
-            Unit::Framed(copy),
-            [0x01, 0x04, 0x01, 0x13, 0x01, 0xe8].as_slice(),
+    frame.copy(alloc).ok()
+}
+
+/// Whether that copy is written so.
+fn is_frame_encoded(alloc: Global) -> bool {
+    match copy_of_response(alloc) {
+        Some(copy) => is_encoded(
+            alloc,
+            &Unit::Framed(copy),
+            &[0x01, 0x04, 0x01, 0x13, 0x01, 0xe8],
         ),
-    ] {
-        assert!(rt; encode(rt.alloc(), &unit)?.as_slice() == text);
+        None => false,
     }
-    Ok(())
+}
+
+#[test]
+fn units_are_written(rt: HostRuntime) {
+    let alloc = rt.alloc();
+    assert!(rt; is_encoded(alloc, &Unit::Ack, &[0x06]));
+    assert!(rt; is_encoded(alloc, &Unit::Nak, &[0x15]));
+    assert!(rt; is_encoded(alloc, &Unit::Can, &[0x18]));
+    assert!(rt; is_frame_encoded(alloc));
 }

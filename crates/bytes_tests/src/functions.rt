@@ -7,10 +7,10 @@ mod nodes;
 mod tables;
 
 use crate::parts::{pair, part};
+use crate::rows::check_row;
 use chip_functions::*;
 use serial_frame::{Frame, Kind, MAX_BODY};
 use std::alloc::Global;
-use std::test::*;
 use tables::{FAULTS, ROWS, TAILS};
 
 /// The frame of the request that a body is.
@@ -92,71 +92,83 @@ fn fault(told: &[u8]) -> Option<BodyFault> {
 }
 
 /// Whether that part is read and written as this one.
-fn is_written_as(alloc: Global, line: &[u8], form: &[u8]) -> Result<bool, BodyFault> {
-    match (again(alloc, line)?, line) {
-        (Some(frame), [way, ..]) => Ok(matches_part(*way, &frame, form)),
-        _ => Ok(false),
+fn is_written_as(alloc: Global, line: &[u8], form: &[u8]) -> bool {
+    match (again(alloc, line), line) {
+        (Ok(Some(frame)), [way, ..]) => matches_part(*way, &frame, form),
+        _ => false,
     }
 }
 
+/// Whether a part is refused as a row tells.
+fn is_refused(alloc: Global, line: &[u8], told: &[u8]) -> bool {
+    let fault = fault(told);
+    fault.is_some() && found(alloc, line) == fault
+}
+
 #[test]
-fn rows_both_ways(rt: HostRuntime) -> Result<(), Fail> {
+fn rows_both_ways(rt: HostRuntime) {
     let mut table: &[u8] = ROWS;
-    for _ in 0..ROWS.len() {
-        let Some((row, rest)) = part(table) else {
+    for row in 0..ROWS.len() {
+        let Some((line, rest)) = part(table) else {
             break;
         };
-        let same = is_written_as(rt.alloc(), row, row)?;
-        assert!(rt; same, "{row:?}");
+        check_row(&rt, is_written_as(rt.alloc(), line, line), row);
         table = rest;
     }
     assert!(rt; table.is_empty());
-    Ok(())
 }
 
 #[test]
-fn tails_are_ignored(rt: HostRuntime) -> Result<(), Fail> {
+fn tails_are_ignored(rt: HostRuntime) {
     let mut table: &[u8] = TAILS;
-    for _ in 0..TAILS.len() {
-        let Some((row, form, rest)) = pair(table) else {
+    for row in 0..TAILS.len() {
+        let Some((line, form, rest)) = pair(table) else {
             break;
         };
-        let same = is_written_as(rt.alloc(), row, form)?;
-        assert!(rt; same, "{row:?}");
+        check_row(&rt, is_written_as(rt.alloc(), line, form), row);
         table = rest;
     }
     assert!(rt; table.is_empty());
-    Ok(())
 }
 
 #[test]
 fn first_fault(rt: HostRuntime) {
     let mut table: &[u8] = FAULTS;
-    for _ in 0..FAULTS.len() {
-        let Some((row, told, rest)) = pair(table) else {
+    for row in 0..FAULTS.len() {
+        let Some((line, told, rest)) = pair(table) else {
             break;
         };
-        let fault = fault(told);
-        assert!(rt; fault.is_some());
-        assert!(rt; found(rt.alloc(), row) == fault, "{row:?}");
+        check_row(&rt, is_refused(rt.alloc(), line, told), row);
         table = rest;
     }
     assert!(rt; table.is_empty());
 }
 
+/// Whether the body of a request is written as it was read.
+fn keeps_request(alloc: Global, func: u8, body: &[u8; MAX_BODY]) -> bool {
+    match request_again(alloc, func, body) {
+        Ok(frame) => frame.body.as_slice() == body.as_slice(),
+        Err(_) => false,
+    }
+}
+
+/// Whether the body of a notice is written as it was read.
+fn keeps_notice(alloc: Global, func: u8, body: &[u8; MAX_BODY]) -> bool {
+    match notice_again(alloc, func, body) {
+        Ok(frame) => frame.body.as_slice() == body.as_slice(),
+        Err(_) => false,
+    }
+}
+
 /// The longest bodies that a frame holds.
 #[test]
-fn full_frames(rt: HostRuntime) -> Result<(), Fail> {
+fn full_frames(rt: HostRuntime) {
     let mut request = [1; MAX_BODY];
     request[1] = 248;
-    let frame = request_again(rt.alloc(), SEND_DATA, &request)?;
-    assert!(rt; frame.body.as_slice() == request.as_slice());
+    assert!(rt; keeps_request(rt.alloc(), SEND_DATA, &request));
     let mut handler = [1; MAX_BODY];
     handler[2] = 249;
-    let frame = notice_again(rt.alloc(), APPLICATION_COMMAND_HANDLER, &handler)?;
-    assert!(rt; frame.body.as_slice() == handler.as_slice());
+    assert!(rt; keeps_notice(rt.alloc(), APPLICATION_COMMAND_HANDLER, &handler));
     handler[0] = UPDATE_RECEIVED;
-    let frame = notice_again(rt.alloc(), APPLICATION_UPDATE, &handler)?;
-    assert!(rt; frame.body.as_slice() == handler.as_slice());
-    Ok(())
+    assert!(rt; keeps_notice(rt.alloc(), APPLICATION_UPDATE, &handler));
 }

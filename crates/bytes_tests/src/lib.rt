@@ -22,6 +22,8 @@ mod links;
 #[cfg(test)]
 mod parts;
 #[cfg(test)]
+mod rows;
+#[cfg(test)]
 mod segments;
 #[cfg(test)]
 mod wraps;

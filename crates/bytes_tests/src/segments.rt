@@ -1,5 +1,6 @@
 //! The segments of whole datagrams, against an implementation outside this project.
 
+use crate::rows::check_row;
 use std::alloc::Global;
 use std::test::Fail;
 use transport_segments::{Assembler, SegmentFault, Taken, cut, ends_datagram, segment_id};
@@ -43,14 +44,20 @@ fn is_part(text: &[u8], front: &[u8], check: u16) -> bool {
         && ends_datagram(text) == Some(check == 0x48A8)
 }
 
+/// Whether the segments are so.
+fn are_parts(segments: &[Bytes]) -> bool {
+    let mut same = segments.len() == PARTS.len();
+    for (segment, (front, check)) in segments.iter().zip(PARTS) {
+        same = is_part(segment.as_slice(), front, *check) && same;
+    }
+    same
+}
+
 #[test]
 fn cuts_a_bulk_set(rt: HostRuntime) -> Result<(), Fail> {
     let segments = segments(rt.alloc(), 1, &bulk_set())?;
     assert!(rt; segments.len() == 6);
-    for (segment, (front, check)) in segments.as_slice().iter().zip(PARTS) {
-        let same = is_part(segment.as_slice(), front, *check);
-        assert!(rt; same, "with check {check}");
-    }
+    assert!(rt; are_parts(segments.as_slice()));
     Ok(())
 }
 
@@ -93,42 +100,61 @@ fn counts(bytes: &[u8]) -> bool {
 }
 
 /// What a segment is answered by, in a word. A datagram is whole where it counts from 0.
-fn word_of(alloc: Global, taken: Taken) -> Result<String, Fail> {
+fn word_of(alloc: Global, taken: Taken) -> Option<String> {
     match taken {
-        Taken::Kept => Ok(String::from_str(alloc, " kept")?),
-        Taken::Need(at) => Ok(format!(in alloc; " {at}")?),
+        Taken::Kept => String::from_str(alloc, " kept").ok(),
+        Taken::Need(at) => format!(in alloc; " {at}").ok(),
         Taken::Whole(whole) => {
             let word = if counts(whole.as_slice()) {
                 " whole"
             } else {
                 " other"
             };
-            Ok(String::from_str(alloc, word)?)
+            String::from_str(alloc, word).ok()
         }
     }
 }
 
-fn take(alloc: Global, assembler: &mut Assembler, segment: &[u8]) -> Result<String, Fail> {
-    word_of(alloc, assembler.take(segment)?)
+fn take(alloc: Global, assembler: &mut Assembler, segment: &[u8]) -> Option<String> {
+    word_of(alloc, assembler.take(segment).ok()?)
 }
 
 /// The segments in this order, and behind it what they are answered by.
-fn joined(alloc: Global, segments: &[Bytes], order: &str) -> Result<String, Fail> {
-    let mut assembler = Assembler::new(alloc)?;
-    let mut text = String::from_str(alloc, order)?;
+fn joined(alloc: Global, segments: &[Bytes], order: &str) -> Option<String> {
+    let mut assembler = Assembler::new(alloc).ok()?;
+    let mut text = String::from_str(alloc, order).ok()?;
     for digit in order.bytes() {
-        let at = usize::from(digit.saturating_sub(b'0'));
-        let segment = segments.get(at).ok_or("no such segment")?;
-        let word = take(alloc, &mut assembler, segment.as_slice())?;
-        text.push_str(word.as_str())?;
+        if !join(alloc, segments, digit, &mut assembler, &mut text) {
+            return None;
+        }
     }
-    Ok(text)
+    Some(text)
+}
+
+/// Joins the segment of a digit, and puts behind the text what it is answered by. True where there was memory.
+fn join(
+    alloc: Global,
+    segments: &[Bytes],
+    digit: u8,
+    assembler: &mut Assembler,
+    text: &mut String,
+) -> bool {
+    let Some(segment) = segments.get(usize::from(digit.saturating_sub(b'0'))) else {
+        return false;
+    };
+    match take(alloc, assembler, segment.as_slice()) {
+        Some(word) => text.push_str(word.as_str()).is_ok(),
+        None => false,
+    }
 }
 
 /// Whether a line is so.
-fn is_so(alloc: Global, segments: &[Bytes], line: &str) -> Result<bool, Fail> {
+fn is_so(alloc: Global, segments: &[Bytes], line: &str) -> bool {
     let (order, _) = line.split_once(' ').unwrap_or((line, ""));
-    Ok(joined(alloc, segments, order)?.as_str() == line)
+    match joined(alloc, segments, order) {
+        Some(text) => text.as_str() == line,
+        None => false,
+    }
 }
 
 /// The bytes 0 to 129.
@@ -144,9 +170,8 @@ fn counted() -> [u8; 130] {
 fn joins_four_segments_in_any_order(rt: HostRuntime) -> Result<(), Fail> {
     let segments = segments(rt.alloc(), 9, &counted())?;
     assert!(rt; segments.len() == 4);
-    for line in ORDERS.lines() {
-        let same = is_so(rt.alloc(), segments.as_slice(), line)?;
-        assert!(rt; same, "{line}");
+    for (row, line) in ORDERS.lines().enumerate() {
+        check_row(&rt, is_so(rt.alloc(), segments.as_slice(), line), row);
     }
     Ok(())
 }
@@ -200,27 +225,32 @@ fn refused(assembler: &mut Assembler, segment: &[u8]) -> Option<SegmentFault> {
 #[test]
 fn refuses_segments_at_fault(rt: HostRuntime) -> Result<(), Fail> {
     let mut assembler = Assembler::new(rt.alloc())?;
-    for (bytes, want) in FAULTS {
-        let fault = refused(&mut assembler, bytes);
-        assert!(rt; fault == Some(*want), "{bytes:?}");
+    for (row, (bytes, want)) in FAULTS.iter().enumerate() {
+        check_row(&rt, refused(&mut assembler, bytes) == Some(*want), row);
     }
     assembler.clear();
     Ok(())
 }
 
-#[test]
-fn faults_have_names(rt: HostRuntime) -> Result<(), Fail> {
-    let table = [
-        (SegmentFault::BadCrc { want: 1, got: 2 }, "badcrc"),
-        (SegmentFault::BadSize(513), "badsize"),
-        (SegmentFault::BadOffset(40), "badoffset"),
-        (SegmentFault::Extension, "extension"),
-        (SegmentFault::Short, "short"),
-        (SegmentFault::NoMemory, "nomemory"),
-    ];
-    for (fault, want) in table {
-        let text = format!(in rt.alloc(); "{fault}")?;
-        assert!(rt; text.as_str() == want);
+const NAMES: &[(SegmentFault, &str)] = &[
+    (SegmentFault::BadCrc { want: 1, got: 2 }, "badcrc"),
+    (SegmentFault::BadSize(513), "badsize"),
+    (SegmentFault::BadOffset(40), "badoffset"),
+    (SegmentFault::Extension, "extension"),
+    (SegmentFault::Short, "short"),
+    (SegmentFault::NoMemory, "nomemory"),
+];
+
+fn is_named(alloc: Global, fault: SegmentFault, name: &str) -> bool {
+    match format!(in alloc; "{fault}") {
+        Ok(text) => text.as_str() == name,
+        Err(_) => false,
     }
-    Ok(())
+}
+
+#[test]
+fn faults_have_names(rt: HostRuntime) {
+    for (row, (fault, name)) in NAMES.iter().enumerate() {
+        check_row(&rt, is_named(rt.alloc(), *fault, name), row);
+    }
 }

@@ -1,9 +1,8 @@
 //! Wrapped messages, against bytes that were made outside this project.
 
+use crate::rows::check_row;
 use encap::{Ends, Opened, Outer, Plan, Supervised, WrapFault, is_wrappable, unpack, wrap};
 use std::alloc::Global;
-use std::process::Abort;
-use std::test::Fail;
 use zw_base::{Bytes, List, NoMemory, read_end};
 
 /// A plan of a session with its bit for updates, and of the end points of source and target.
@@ -31,16 +30,35 @@ fn list(alloc: Global, texts: &[&[u8]]) -> Result<List<Bytes>, NoMemory> {
     Ok(commands)
 }
 
-/// What `wrap` makes of these commands.
-fn wrapped(
-    rt: &impl Abort,
+/// What `wrap` makes of these commands. None where they are not wrappable, or without memory.
+fn wrapped(alloc: Global, plan: &Plan, texts: &[&[u8]]) -> Option<Result<Bytes, WrapFault>> {
+    wrapped_list(alloc, plan, &list(alloc, texts).ok()?)
+}
+
+/// What `wrap` makes of a list. None where it is not wrappable.
+fn wrapped_list(
     alloc: Global,
     plan: &Plan,
-    texts: &[&[u8]],
-) -> Result<Bytes, WrapFault> {
-    let commands = list(alloc, texts)?;
-    assert!(rt; is_wrappable(plan, &commands));
-    wrap(alloc, plan, &commands)
+    commands: &List<Bytes>,
+) -> Option<Result<Bytes, WrapFault>> {
+    if is_wrappable(plan, commands) {
+        Some(wrap(alloc, plan, commands))
+    } else {
+        None
+    }
+}
+
+/// Whether the plan and the commands are written as the bytes.
+fn is_written(alloc: Global, plan: &Plan, texts: &[&[u8]], bytes: &[u8]) -> bool {
+    match wrapped(alloc, plan, texts) {
+        Some(Ok(got)) => got.as_slice() == bytes,
+        _ => false,
+    }
+}
+
+/// Why the commands are not wrapped.
+fn fault_of(alloc: Global, plan: &Plan, texts: &[&[u8]]) -> Option<WrapFault> {
+    wrapped(alloc, plan, texts)?.err()
 }
 
 /// Switch Binary Set.
@@ -152,15 +170,30 @@ static IN_ORDER: [Row; 12] = [
     ),
 ];
 
-/// What is opened.
-fn open(rt: &impl Abort, alloc: Global, bytes: &[u8]) -> Result<Opened, WrapFault> {
-    assert!(rt; bytes.len() <= 65534);
-    unpack(alloc, bytes)
+/// What is opened. None where there are too many bytes.
+fn open(alloc: Global, bytes: &[u8]) -> Option<Result<Opened, WrapFault>> {
+    if bytes.len() > 65534 {
+        return None;
+    }
+    Some(unpack(alloc, bytes))
 }
 
 /// Why bytes are not opened.
-fn refused(rt: &impl Abort, alloc: Global, bytes: &[u8]) -> Option<WrapFault> {
-    open(rt, alloc, bytes).err()
+fn refused(alloc: Global, bytes: &[u8]) -> Option<WrapFault> {
+    open(alloc, bytes)?.err()
+}
+
+/// Whether bytes are not opened for that fault.
+fn is_refused(alloc: Global, bytes: &[u8], want: WrapFault) -> bool {
+    refused(alloc, bytes) == Some(want)
+}
+
+/// Whether the bytes are opened as the plan and the commands.
+fn is_opened(alloc: Global, plan: &Plan, texts: &[&[u8]], bytes: &[u8]) -> bool {
+    match open(alloc, bytes) {
+        Some(Ok(opened)) => opened.plan == *plan && are(opened.commands.as_slice(), texts),
+        _ => false,
+    }
 }
 
 fn are(commands: &[Bytes], texts: &[&[u8]]) -> bool {
@@ -171,42 +204,44 @@ fn are(commands: &[Bytes], texts: &[&[u8]]) -> bool {
             .all(|(command, text)| command.as_slice() == *text)
 }
 
-/// Whether the plan and the commands are written as the bytes, and these opened as them.
-fn go_both_ways(
-    rt: &impl Abort,
-    alloc: Global,
-    plan: &Plan,
-    texts: &[&[u8]],
-    bytes: &[u8],
-) -> Result<bool, WrapFault> {
-    let is_written = wrapped(rt, alloc, plan, texts)?.as_slice() == bytes;
-    let opened = open(rt, alloc, bytes)?;
-    Ok(is_written && opened.plan == *plan && are(opened.commands.as_slice(), texts))
+/// Whether the plan and the commands of a row are written as the bytes, and these opened as them.
+fn goes_both_ways(alloc: Global, row: &Row) -> bool {
+    let (batch, session, channel, outer, texts, bytes) = row;
+    let plan = plan(*batch, *session, *channel, *outer);
+    is_written(alloc, &plan, texts, bytes) && is_opened(alloc, &plan, texts, bytes)
 }
 
 #[test]
-fn writes_and_opens_what_is_in_order(rt: HostRuntime) -> Result<(), Fail> {
-    for (batch, session, channel, outer, texts, bytes) in &IN_ORDER {
-        let plan = plan(*batch, *session, *channel, *outer);
-        let same = go_both_ways(&rt, rt.alloc(), &plan, texts, bytes)?;
-        assert!(rt; same, "{bytes:?}");
+fn writes_and_opens_what_is_in_order(rt: HostRuntime) {
+    for (at, row) in IN_ORDER.iter().enumerate() {
+        check_row(&rt, goes_both_ways(rt.alloc(), row), at);
     }
-    Ok(())
 }
 
 /// Configuration Bulk Set of 200 parameters, as `transport_segments` cuts it.
-#[test]
-fn supervises_206_bytes(rt: HostRuntime) -> Result<(), Fail> {
+fn bulk_set() -> [u8; 206] {
     let mut command = [1; 206];
     command[..6].copy_from_slice(b"\x70\x07\x00\x00\xC8\x01");
+    command
+}
+
+/// Whether that command is supervised so.
+fn is_supervised(alloc: Global, command: &[u8]) -> bool {
     let supervised = plan(false, Some((false, 1)), None, Outer::Transport);
-    let got = wrapped(&rt, rt.alloc(), &supervised, &[&command])?;
-    assert!(rt; got.len() == 210);
-    assert!(rt;
-        got.as_slice()
-            .starts_with(b"\x6C\x01\x01\xCE\x70\x07\x00\x00\xC8\x01")
-    );
-    Ok(())
+    match wrapped(alloc, &supervised, &[command]) {
+        Some(Ok(got)) => {
+            got.len() == 210
+                && got
+                    .as_slice()
+                    .starts_with(b"\x6C\x01\x01\xCE\x70\x07\x00\x00\xC8\x01")
+        }
+        _ => false,
+    }
+}
+
+#[test]
+fn supervises_206_bytes(rt: HostRuntime) {
+    assert!(rt; is_supervised(rt.alloc(), &bulk_set()));
 }
 
 /// A command that no length byte counts.
@@ -216,39 +251,45 @@ const LONG: &[u8] = &[7; 256];
 const ALMOST_LONG: &[u8] = &[7; 250];
 
 /// Whether it is a batch, its session, its commands, and the length that does not fit.
-static TOO_LONG: [(bool, Option<(bool, u8)>, &[&[u8]], u16); 4] = [
+type Long = (bool, Option<(bool, u8)>, &'static [&'static [u8]], u16);
+
+static TOO_LONG: [Long; 4] = [
     (false, Some((false, 63)), &[LONG], 256),
     (true, None, &[ON, LONG], 256),
     (true, Some((false, 0)), &[LONG, ALMOST_LONG], 256),
     (true, Some((false, 0)), &[ALMOST_LONG, ON], 258),
 ];
 
+/// Whether a row is too long by that length.
+fn is_too_long(alloc: Global, row: &Long) -> bool {
+    let (batch, session, texts, want) = row;
+    let plan = plan(*batch, *session, None, Outer::None);
+    fault_of(alloc, &plan, texts) == Some(WrapFault::TooLong(*want))
+}
+
 #[test]
 fn says_what_is_too_long(rt: HostRuntime) {
-    for (batch, session, texts, want) in &TOO_LONG {
-        let plan = plan(*batch, *session, None, Outer::None);
-        let fault = wrapped(&rt, rt.alloc(), &plan, texts).err();
-        assert!(rt; fault == Some(WrapFault::TooLong(*want)), "{want}");
+    for (at, row) in TOO_LONG.iter().enumerate() {
+        check_row(&rt, is_too_long(rt.alloc(), row), at);
+    }
+}
+
+/// Whether the bytes are opened by that plan, with so many commands.
+fn is_opened_by(alloc: Global, bytes: &[u8], plan: &Plan, count: usize) -> bool {
+    match open(alloc, bytes) {
+        Some(Ok(opened)) => opened.plan == *plan && opened.commands.len() == count,
+        _ => false,
     }
 }
 
 /// Bytes that are opened, but written otherwise: bits that are not looked at, and a batch without commands.
 #[test]
-fn opens_what_is_written_otherwise(rt: HostRuntime) -> Result<(), Fail> {
-    let table: [(&[u8], Plan, usize); 2] = [
-        (
-            b"\x60\x0D\x85\x02\x6C\x01\xC5\x03\x25\x01\xFF",
-            plan(false, Some((true, 5)), Some((5, 2)), Outer::None),
-            1,
-        ),
-        (b"\x8F\x01\x00", plan(true, None, None, Outer::None), 0),
-    ];
-    for (bytes, want, count) in table {
-        let opened = open(&rt, rt.alloc(), bytes)?;
-        assert!(rt; opened.plan == want);
-        assert!(rt; opened.commands.len() == count);
-    }
-    Ok(())
+fn opens_what_is_written_otherwise(rt: HostRuntime) {
+    let ends = plan(false, Some((true, 5)), Some((5, 2)), Outer::None);
+    let bits = b"\x60\x0D\x85\x02\x6C\x01\xC5\x03\x25\x01\xFF";
+    assert!(rt; is_opened_by(rt.alloc(), bits, &ends, 1));
+    let batch = plan(true, None, None, Outer::None);
+    assert!(rt; is_opened_by(rt.alloc(), b"\x8F\x01\x00", &batch, 0));
 }
 
 /// Each wrap inside each wrap that it may not stand in, and what other crates open inside each; then deeper ones.
@@ -299,9 +340,9 @@ static OUT_OF_ORDER: [(&[u8], u8); 27] = [
 
 #[test]
 fn refuses_what_is_out_of_order(rt: HostRuntime) {
-    for (bytes, class) in &OUT_OF_ORDER {
-        let fault = refused(&rt, rt.alloc(), bytes);
-        assert!(rt; fault == Some(WrapFault::OutOfOrder(*class)), "{bytes:?}");
+    for (row, (bytes, class)) in OUT_OF_ORDER.iter().enumerate() {
+        let want = WrapFault::OutOfOrder(*class);
+        check_row(&rt, is_refused(rt.alloc(), bytes, want), row);
     }
 }
 
@@ -326,47 +367,51 @@ static WRONG_LENGTHS: [(&[u8], u16, u16); 15] = [
 
 #[test]
 fn refuses_wrong_lengths(rt: HostRuntime) {
-    for (bytes, said, got) in &WRONG_LENGTHS {
-        let want = WrapFault::Length {
-            said: *said,
-            got: *got,
-        };
-        let fault = refused(&rt, rt.alloc(), bytes);
-        assert!(rt; fault == Some(want), "{bytes:?}");
+    for (row, (bytes, said, got)) in WRONG_LENGTHS.iter().enumerate() {
+        let (said, got) = (*said, *got);
+        let want = WrapFault::Length { said, got };
+        check_row(&rt, is_refused(rt.alloc(), bytes, want), row);
     }
 }
+
+/// A set of end points, and another check.
+static OTHER_FAULTS: [(&[u8], WrapFault); 2] = [
+    (b"\x60\x0D\x00\x81\x25\x01\xFF", WrapFault::BitAddress),
+    (
+        b"\x56\x01\x25\x01\xFE\x1F\x3A",
+        WrapFault::BadCrc {
+            want: 0x0F1B,
+            got: 0x1F3A,
+        },
+    ),
+];
 
 #[test]
 fn refuses_another_check_and_a_set_of_ends(rt: HostRuntime) {
-    let table: [(&[u8], WrapFault); 2] = [
-        (b"\x60\x0D\x00\x81\x25\x01\xFF", WrapFault::BitAddress),
-        (
-            b"\x56\x01\x25\x01\xFE\x1F\x3A",
-            WrapFault::BadCrc {
-                want: 0x0F1B,
-                got: 0x1F3A,
-            },
-        ),
-    ];
-    for (bytes, want) in table {
-        let fault = refused(&rt, rt.alloc(), bytes);
-        assert!(rt; fault == Some(want), "{bytes:?}");
+    for (row, (bytes, want)) in OTHER_FAULTS.iter().enumerate() {
+        check_row(&rt, is_refused(rt.alloc(), bytes, *want), row);
+    }
+}
+
+const NAMES: &[(WrapFault, &str)] = &[
+    (WrapFault::OutOfOrder(0x60), "outoforder"),
+    (WrapFault::Length { said: 1, got: 0 }, "length"),
+    (WrapFault::BadCrc { want: 1, got: 2 }, "badcrc"),
+    (WrapFault::TooLong(256), "toolong"),
+    (WrapFault::BitAddress, "bitaddress"),
+    (WrapFault::NoMemory, "nomemory"),
+];
+
+fn is_named(alloc: Global, fault: WrapFault, name: &str) -> bool {
+    match format!(in alloc; "{fault}") {
+        Ok(text) => text.as_str() == name,
+        Err(_) => false,
     }
 }
 
 #[test]
-fn names_of_faults(rt: HostRuntime) -> Result<(), Fail> {
-    let table = [
-        (WrapFault::OutOfOrder(0x60), "outoforder"),
-        (WrapFault::Length { said: 1, got: 0 }, "length"),
-        (WrapFault::BadCrc { want: 1, got: 2 }, "badcrc"),
-        (WrapFault::TooLong(256), "toolong"),
-        (WrapFault::BitAddress, "bitaddress"),
-        (WrapFault::NoMemory, "nomemory"),
-    ];
-    for (fault, want) in table {
-        let text = format!(in rt.alloc(); "{fault}")?;
-        assert!(rt; text.as_str() == want);
+fn names_of_faults(rt: HostRuntime) {
+    for (row, (fault, name)) in NAMES.iter().enumerate() {
+        check_row(&rt, is_named(rt.alloc(), *fault, name), row);
     }
-    Ok(())
 }

@@ -1,5 +1,6 @@
 //! Vectors of the standards.
 
+use crate::rows::check_row;
 use aes_block::Aes128;
 
 /// A key, a block, and its cipher text: FIPS 197, appendices B and C.1, and NIST SP 800-38A, section F.1.1.
@@ -97,8 +98,7 @@ fn is_enciphered(key: [u8; 16], block: [u8; 16], cipher_text: &[u8; 16]) -> bool
 
 #[test]
 fn standard_vectors(rt: HostRuntime) {
-    for (key, block, cipher_text) in VECTORS {
-        let same = is_enciphered(*key, *block, cipher_text);
-        assert!(rt; same, "of {block:?}");
+    for (row, (key, block, cipher_text)) in VECTORS.iter().enumerate() {
+        check_row(&rt, is_enciphered(*key, *block, cipher_text), row);
     }
 }

@@ -1,13 +1,14 @@
 //! An evening of one node, step by step, with ample memory.
 
+use crate::rows::{check_row, node};
 use host_node::{AttemptEnd, Begun, Moment, NoMore, Node, Plan, Series};
-use s0_crypto::{SealEnds, keys, seal};
+use s0_crypto::{Keys, SealEnds, keys, seal};
 use std::alloc::Global;
 use std::process::Abort;
 use std::test::Fail;
 use supervision::{FAIL, SUCCESS, Told, WORKING};
 use wake_mailbox::NotWaiting;
-use zw_base::{Bytes, NoMemory, NodeId, Payload, read_node};
+use zw_base::{Bytes, NodeId, Payload, read_node};
 
 const NETWORK: [u8; 16] = [7; 16];
 
@@ -196,191 +197,274 @@ const SLEEPING: &[Row] = &[
     Row(Accept, Nothing, Due, true),
 ];
 
-fn node(rt: &impl Abort, number: u8) -> NodeId {
-    read_node(number).expect(rt, "a node")
+/// Whether the message for a nonce is what the seal alone makes of the plain text.
+fn is_sealed(alloc: Global, keys: &Keys, ends: &SealEnds, text: &Payload) -> bool {
+    match seal(alloc, keys, DRAWN, NONCE, ends, &PLAIN) {
+        Ok(want) => text.bytes() == want.as_slice(),
+        Err(_) => false,
+    }
 }
 
-/// Whether the message for a nonce is what the seal alone makes of the plain text.
-fn is_sealed(alloc: Global, receiver: NodeId, text: &Payload) -> Result<bool, Fail> {
-    let ends = SealEnds {
-        sender: read_node(1).ok_or("no node")?,
-        receiver,
-    };
-    let want = seal(alloc, &keys(NETWORK), DRAWN, NONCE, &ends, &PLAIN)?;
-    Ok(text.bytes() == want.as_slice())
+/// The ends of what the controller seals for a node.
+fn ends_of(receiver: NodeId) -> Option<SealEnds> {
+    let sender = read_node(1)?;
+    Some(SealEnds { sender, receiver })
 }
 
 /// Whether the nonces with that first byte stand there in the node's count.
-fn counts(one: &Node, first: u8, want: Option<u64>) -> Result<bool, NoMemory> {
-    Ok(one.count_at(first)? == want)
+fn counts(one: &Node, first: u8, want: Option<u64>) -> bool {
+    one.count_at(first) == Ok(want)
 }
 
-/// The message for a nonce of the node. None where no plain text waits, or sealing took it.
-fn sealed(one: &Node) -> Result<Option<Payload>, NoMemory> {
+/// The message for a nonce of the node. None where no plain text waits, or sealing took it, or it is not the plain text.
+fn sealed(alloc: Global, one: &Node) -> Option<Payload> {
     if !one.is_pending() {
-        return Ok(None);
+        return None;
     }
-    Ok(Some(one.seal_text(&keys(NETWORK), NONCE, DRAWN)?))
+    let keys = keys(NETWORK);
+    let text = one.seal_text(&keys, NONCE, DRAWN).ok()?;
+    let ends = ends_of(one.node())?;
+    if is_sealed(alloc, &keys, &ends, &text) {
+        Some(text)
+    } else {
+        None
+    }
 }
 
 /// The message for a nonce of the node, which the attempt then has to give.
-fn take_nonce(alloc: Global, rt: &impl Abort, one: &mut Node) -> Result<(), Fail> {
-    assert!(rt; counts(one, 2, None)? && counts(one, 1, Some(1))?);
-    let text = sealed(one)?.expect(rt, "a message");
-    assert!(rt; is_sealed(alloc, one.node(), &text)?);
-    assert!(rt; one.is_pending());
+fn take_nonce(alloc: Global, one: &mut Node) -> Option<Answer> {
+    if !counts(one, 2, None) || !counts(one, 1, Some(1)) {
+        return None;
+    }
+    let text = sealed(alloc, one)?;
+    spend(one, text)
+}
+
+/// The nonce is seen, and counts no more.
+fn spend(one: &mut Node, text: Payload) -> Option<Answer> {
+    if !one.is_pending() {
+        return None;
+    }
     one.take_nonce(1, text);
-    assert!(rt; one.seen() == 1 && counts(one, 1, None)?);
-    Ok(())
+    nothing_if(one.seen() == 1 && counts(one, 1, None))
+}
+
+/// The answer of an event that tells nothing, where it was right.
+fn nothing_if(right: bool) -> Option<Answer> {
+    if right { Some(Nothing) } else { None }
+}
+
+fn put(one: &mut Node, command: u32) -> Option<Answer> {
+    nothing_if(one.waiting() < 16 && one.put(command).is_ok())
+}
+
+fn cancel(one: &mut Node, command: u32) -> Option<Answer> {
+    let waited = one.waits(command);
+    if one.cancel(command).is_ok() == waited {
+        Some(Waited(waited))
+    } else {
+        None
+    }
+}
+
+fn begin(one: &mut Node) -> Option<Answer> {
+    if one.waiting() == 0 || one.current().is_some() {
+        return None;
+    }
+    let Begun { command, session } = one.begin();
+    Some(Began(command, session))
 }
 
 /// What happens to its commands.
-fn order(rt: &impl Abort, one: &mut Node, act: Act) -> Result<Answer, Fail> {
+fn order(one: &mut Node, act: Act) -> Option<Answer> {
     match act {
-        Put(command) => {
-            assert!(rt; one.waiting() < 16);
-            one.put(command)?;
-        }
+        Put(command) => return put(one, command),
+        Cancel(command) => return cancel(one, command),
+        Begin => return begin(one),
         TakeBack => one.take_back(),
         Accept => one.accept(),
-        Cancel(command) => {
-            let waited = one.waits(command);
-            assert!(rt; one.cancel(command).is_ok() == waited);
-            return Ok(Waited(waited));
-        }
-        Block => one.block(),
-        _ => {
-            assert!(rt; one.waiting() > 0);
-            assert!(rt; one.current().is_none());
-            let Begun { command, session } = one.begin();
-            return Ok(Began(command, session));
-        }
+        _ => one.block(),
     }
-    Ok(Nothing)
+    Some(Nothing)
+}
+
+fn segment(one: &mut Node) -> Option<Answer> {
+    if one.has_segment() {
+        Some(Given(one.give_segment()))
+    } else {
+        None
+    }
+}
+
+fn text(one: &mut Node) -> Option<Answer> {
+    nothing_if(one.text().is_some() && one.give_text().is_some())
+}
+
+fn start_whole(one: &mut Node) -> Option<Answer> {
+    if one.series() != Due {
+        return None;
+    }
+    one.start_attempt(Plan::Whole);
+    Some(Nothing)
+}
+
+fn start_segments(one: &mut Node, count: u8) -> Option<Answer> {
+    if count == 0 || one.series() != Due {
+        return None;
+    }
+    one.start_attempt(Plan::Segments(count));
+    Some(Nothing)
+}
+
+fn start_sealed(alloc: Global, one: &mut Node) -> Option<Answer> {
+    let plain = Bytes::from_slice(alloc, &PLAIN).ok()?;
+    if one.series() != Due {
+        return None;
+    }
+    one.start_attempt(Plan::Sealed(plain));
+    Some(Nothing)
 }
 
 /// What an attempt gives.
-fn attempt(alloc: Global, rt: &impl Abort, one: &mut Node, act: Act) -> Result<Answer, Fail> {
+fn attempt(alloc: Global, one: &mut Node, act: Act) -> Option<Answer> {
     match act {
-        Segment => {
-            assert!(rt; one.has_segment());
-            return Ok(Given(one.give_segment()));
-        }
-        Text => {
-            assert!(rt; one.text().is_some());
-            assert!(rt; one.give_text().is_some());
-        }
-        Act::Nonce => take_nonce(alloc, rt, one)?,
-        _ => {
-            assert!(rt; one.series() == Due);
-            let plan = match act {
-                StartSegments(count) => {
-                    assert!(rt; count > 0);
-                    Plan::Segments(count)
-                }
-                StartSealed => {
-                    let plain = Bytes::from_slice(alloc, &PLAIN)?;
-                    Plan::Sealed(plain)
-                }
-                _ => Plan::Whole,
-            };
-            one.start_attempt(plan);
-        }
+        Segment => segment(one),
+        Text => text(one),
+        Act::Nonce => take_nonce(alloc, one),
+        StartSegments(count) => start_segments(one, count),
+        StartSealed => start_sealed(alloc, one),
+        _ => start_whole(one),
     }
-    Ok(Nothing)
 }
 
-/// What ends, wakes or sleeps.
-fn change(alloc: Global, rt: &impl Abort, one: &mut Node, act: Act) -> Result<Answer, Fail> {
-    match act {
-        Interview(listens) => {
-            one.interviewed(listens, Bytes::from_slice(alloc, &CLASSES)?);
-        }
-        Succeed => one.succeeded(),
-        End(moment) => return Ok(Ended(one.end_attempt(moment))),
-        Notify => one.notified(),
-        Hold => one.hold(),
-        Sleep => return Ok(Slept(one.sleep())),
-        EndNoMore => return Ok(Slept(one.end_no_more())),
-        Restart => one.restart(),
-        _ => {
-            assert!(rt; one.wants_no_more());
-            if matches!(act, DropNoMore) {
-                one.drop_no_more();
-                assert!(rt; one.no_more() == NoMore::Dropped);
-            } else {
-                one.queue_no_more();
-                assert!(rt; one.no_more() == NoMore::Queued);
-            }
-            assert!(rt; !one.wants_no_more());
-        }
+fn interview(alloc: Global, one: &mut Node, listens: bool) -> Option<Answer> {
+    let classes = Bytes::from_slice(alloc, &CLASSES).ok()?;
+    one.interviewed(listens, classes);
+    Some(Nothing)
+}
+
+fn report(one: &mut Node, id: u8, status: u8) -> Option<Answer> {
+    if id < 64 && (status == WORKING || status == FAIL || status == SUCCESS) {
+        Some(Answer::Told(one.report(id, status)))
+    } else {
+        None
     }
-    Ok(Nothing)
+}
+
+/// No More Information is dropped.
+fn drop_no_more(one: &mut Node) -> Option<Answer> {
+    if !one.wants_no_more() {
+        return None;
+    }
+    one.drop_no_more();
+    nothing_if(one.no_more() == NoMore::Dropped && !one.wants_no_more())
+}
+
+/// No More Information is queued.
+fn queue_no_more(one: &mut Node) -> Option<Answer> {
+    if !one.wants_no_more() {
+        return None;
+    }
+    one.queue_no_more();
+    nothing_if(one.no_more() == NoMore::Queued && !one.wants_no_more())
 }
 
 /// So many ticks. Those before the last end nothing.
-fn ticks(rt: &impl Abort, one: &mut Node, count: u8) -> Answer {
+fn ticks(one: &mut Node, count: u8) -> Option<Answer> {
     for _ in 1..count {
-        assert!(rt; one.tick() == NoneRan);
+        if one.tick() != NoneRan {
+            return None;
+        }
     }
-    Ended(one.tick())
+    Some(Ended(one.tick()))
 }
 
-fn perform(alloc: Global, rt: &impl Abort, one: &mut Node, act: Act) -> Result<Answer, Fail> {
+/// What ends, wakes or sleeps.
+fn change(one: &mut Node, act: Act) -> Option<Answer> {
     match act {
-        Put(_) | TakeBack | Accept | Cancel(_) | Block | Begin => order(rt, one, act),
+        End(moment) => return Some(Ended(one.end_attempt(moment))),
+        Sleep => return Some(Slept(one.sleep())),
+        EndNoMore => return Some(Slept(one.end_no_more())),
+        Succeed => one.succeeded(),
+        Notify => one.notified(),
+        Hold => one.hold(),
+        _ => one.restart(),
+    }
+    Some(Nothing)
+}
+
+/// What the event answers. None where it cannot come, or something else is wrong.
+fn perform(alloc: Global, one: &mut Node, act: Act) -> Option<Answer> {
+    match act {
+        Put(_) | TakeBack | Accept | Cancel(_) | Block | Begin => order(one, act),
         StartWhole | StartSegments(_) | StartSealed | Segment | Text | Act::Nonce => {
-            attempt(alloc, rt, one, act)
+            attempt(alloc, one, act)
         }
-        Report(id, status) => {
-            assert!(rt; id < 64);
-            assert!(rt; status == WORKING || status == FAIL || status == SUCCESS);
-            Ok(Answer::Told(one.report(id, status)))
-        }
-        Ticks(count) => Ok(ticks(rt, one, count)),
-        _ => change(alloc, rt, one, act),
+        Interview(listens) => interview(alloc, one, listens),
+        Report(id, status) => report(one, id, status),
+        Ticks(count) => ticks(one, count),
+        DropNoMore => drop_no_more(one),
+        QueueNoMore => queue_no_more(one),
+        _ => change(one, act),
     }
 }
 
 /// Whether a row is so.
-fn is_so(alloc: Global, rt: &impl Abort, one: &mut Node, row: &Row) -> Result<bool, Fail> {
+fn is_so(alloc: Global, one: &mut Node, row: &Row) -> bool {
     let Row(act, answer, series, has_work) = row;
-    let answered = perform(alloc, rt, one, *act)?;
-    Ok(answered == *answer && one.series() == *series && one.has_work() == *has_work)
+    match perform(alloc, one, *act) {
+        Some(answered) => {
+            answered == *answer && one.series() == *series && one.has_work() == *has_work
+        }
+        None => false,
+    }
+}
+
+fn joined(alloc: Global) -> Result<Node, Fail> {
+    let mut one = Node::new(alloc, node(7)?)?;
+    one.join();
+    Ok(one)
 }
 
 fn play(alloc: Global, rt: &impl Abort, rows: &[Row]) -> Result<Node, Fail> {
-    let mut one = Node::new(alloc, node(rt, 7))?;
-    one.join();
+    let mut one = joined(alloc)?;
     for (at, row) in rows.iter().enumerate() {
-        let same = is_so(alloc, rt, &mut one, row)?;
-        assert!(rt; same, "at {at}");
+        check_row(rt, is_so(alloc, &mut one, row), at);
     }
     Ok(one)
+}
+
+/// What a listening node is after its evening.
+fn listened(one: &Node) -> bool {
+    one.is_joined() && one.lists(0x6C) && !one.lists(0x98) && !one.needs_tick()
+}
+
+/// The commands of a listening node after its evening.
+fn has_commands(one: &Node) -> bool {
+    one.commands() == [1, 2, 3].as_slice() && one.command_of(2) == Some(2)
 }
 
 #[test]
 fn an_evening_of_a_listening_node(rt: HostRuntime) -> Result<(), Fail> {
     let one = play(rt.alloc(), &rt, LISTENING)?;
-    assert!(rt; one.is_joined());
-    assert!(rt; one.lists(0x6C));
-    assert!(rt; !one.lists(0x98));
+    assert!(rt; listened(&one) && has_commands(&one));
     assert!(rt; matches!(one.classes(), Some(classes) if classes.len() == 2));
-    assert!(rt; one.commands() == [1, 2, 3].as_slice());
-    assert!(rt; one.command_of(2) == Some(2));
-    assert!(rt; !one.needs_tick());
     Ok(())
+}
+
+/// What a sleeping node is after its evening.
+fn slept(one: &Node) -> bool {
+    one.listens() && !one.is_awake() && one.is_up() && one.attempts() == 0
+}
+
+/// The sessions of a sleeping node after its evening.
+fn has_sessions(one: &Node) -> bool {
+    one.current() == Some(2) && one.sessions() == 2 && one.oldest() == Some(6)
 }
 
 #[test]
 fn an_evening_of_a_sleeping_node(rt: HostRuntime) -> Result<(), Fail> {
     let one = play(rt.alloc(), &rt, SLEEPING)?;
-    assert!(rt; one.listens());
-    assert!(rt; !one.is_awake());
-    assert!(rt; one.is_up());
-    assert!(rt; one.attempts() == 0);
-    assert!(rt; one.current() == Some(2));
-    assert!(rt; one.sessions() == 2);
-    assert!(rt; one.oldest() == Some(6));
+    assert!(rt; slept(&one) && has_sessions(&one));
     Ok(())
 }

@@ -12,8 +12,6 @@ mod evenings;
 #[cfg(test)]
 mod mailbox;
 #[cfg(test)]
-mod nodes;
-#[cfg(test)]
 mod nonces;
 #[cfg(test)]
 mod orders;
@@ -25,6 +23,8 @@ mod records;
 mod requests;
 #[cfg(test)]
 mod routes;
+#[cfg(test)]
+mod rows;
 #[cfg(test)]
 mod seals;
 #[cfg(test)]

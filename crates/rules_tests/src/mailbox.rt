@@ -1,5 +1,6 @@
 //! Rows of the mailbox, with ample memory.
 
+use crate::rows::check_row;
 use std::test::Fail;
 use wake_mailbox::{CAPACITY, Mailbox};
 
@@ -56,25 +57,35 @@ const ROWS: &[Call] = &[
 #[test]
 fn commands_wait_in_order(rt: HostRuntime) -> Result<(), Fail> {
     let mut mailbox = Mailbox::new(rt.alloc())?;
-    for (call, row) in ROWS.iter().zip(1..100u8) {
-        let same = answers(&mut mailbox, call);
-        assert!(rt; same, "row {row}");
+    for (row, call) in ROWS.iter().enumerate() {
+        check_row(&rt, answers(&mut mailbox, call), row);
     }
     Ok(())
+}
+
+/// Whether of seventeen commands the first sixteen are taken.
+fn takes_sixteen(mailbox: &mut Mailbox) -> bool {
+    for command in 1..=17u32 {
+        if !answers(mailbox, &Call::Put(command, command <= 16)) {
+            return false;
+        }
+    }
+    answers(mailbox, &Call::Len(16)) && CAPACITY == 16
+}
+
+/// Whether sixteen commands come out in order.
+fn gives_sixteen(mailbox: &mut Mailbox) -> bool {
+    for command in 1..=16u32 {
+        if !answers(mailbox, &Call::Pop(Some(command))) {
+            return false;
+        }
+    }
+    true
 }
 
 #[test]
 fn sixteen_commands_wait(rt: HostRuntime) -> Result<(), Fail> {
     let mut mailbox = Mailbox::new(rt.alloc())?;
-    for command in 1..=17u32 {
-        let same = answers(&mut mailbox, &Call::Put(command, command <= 16));
-        assert!(rt; same, "{command}");
-    }
-    let same = answers(&mut mailbox, &Call::Len(16)) && CAPACITY == 16;
-    assert!(rt; same);
-    for command in 1..=16u32 {
-        let same = answers(&mut mailbox, &Call::Pop(Some(command)));
-        assert!(rt; same, "{command}");
-    }
+    assert!(rt; takes_sixteen(&mut mailbox) && gives_sixteen(&mut mailbox));
     Ok(())
 }

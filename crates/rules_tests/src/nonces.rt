@@ -1,11 +1,11 @@
 //! Each call once, with the answers of a dialogue of two sides.
 
-use crate::nodes::node;
+use crate::rows::{check_row, node};
 use s0_crypto::{Keys, SealEnds, keys, seal};
 use s0_session::{NonceBook, Sender};
 use std::alloc::Global;
 use std::test::Fail;
-use zw_base::{Bytes, NodeId};
+use zw_base::{Bytes, NoMemory, NodeId, read_node};
 
 const NETWORK: [u8; 16] = [7; 16];
 
@@ -36,6 +36,14 @@ fn answers(book: &mut NonceBook, peer: NodeId, call: &Call) -> bool {
     }
 }
 
+/// Whether a row is so.
+fn is_so(book: &mut NonceBook, peer: u8, call: &Call) -> bool {
+    match read_node(peer) {
+        Some(peer) => answers(book, peer, call),
+        None => false,
+    }
+}
+
 const BOOK: &[(u8, Call)] = &[
     (232, Call::Given(0)),
     (232, Call::Give(DRAWN, FIRST)),
@@ -51,9 +59,8 @@ const BOOK: &[(u8, Call)] = &[
 #[test]
 fn a_nonce_is_given_again_until_it_is_spent(rt: HostRuntime) -> Result<(), Fail> {
     let mut book = NonceBook::new(rt.alloc())?;
-    for ((peer, call), row) in BOOK.iter().zip(1..100u8) {
-        let same = answers(&mut book, node(*peer)?, call);
-        assert!(rt; same, "row {row}");
+    for (row, (peer, call)) in BOOK.iter().enumerate() {
+        check_row(&rt, is_so(&mut book, *peer, call), row);
     }
     Ok(())
 }
@@ -77,13 +84,10 @@ enum Asked {
     Drop,
 }
 
-fn ask(alloc: Global, sender: &mut Sender, asked: &Asked) -> Result<(), Fail> {
+fn ask(alloc: Global, sender: &mut Sender, asked: &Asked) -> Result<(), NoMemory> {
     match asked {
         Asked::Nothing => {}
-        Asked::Seal => {
-            let plain = Bytes::from_slice(alloc, &PLAIN)?;
-            sender.ask(plain);
-        }
+        Asked::Seal => sender.ask(Bytes::from_slice(alloc, &PLAIN)?),
         Asked::Drop => sender.drop_pending(),
     }
     Ok(())
@@ -97,7 +101,7 @@ fn is_sealed(
     nonce: [u8; 8],
     offered: Option<Bytes>,
     seals: bool,
-) -> Result<bool, Fail> {
+) -> Result<bool, NoMemory> {
     let Some(bytes) = offered else {
         return Ok(!seals);
     };
@@ -105,19 +109,41 @@ fn is_sealed(
     Ok(seals && bytes.as_slice() == want.as_slice())
 }
 
-#[test]
-fn a_sender_seals_for_the_next_nonce_and_the_last(rt: HostRuntime) -> Result<(), Fail> {
-    let ends = SealEnds {
+/// What a sender offers for a nonce.
+fn offer(sender: &mut Sender, keys: &Keys, nonce: [u8; 8]) -> Result<Option<Bytes>, NoMemory> {
+    sender.offer(keys, nonce, DRAWN)
+}
+
+/// Whether a row is so.
+fn is_kept(
+    alloc: Global,
+    sender: &mut Sender,
+    keys: &Keys,
+    ends: &SealEnds,
+    row: &(Asked, [u8; 8], bool),
+) -> Result<bool, NoMemory> {
+    let (asked, nonce, seals) = row;
+    ask(alloc, sender, asked)?;
+    let offered = offer(sender, keys, *nonce)?;
+    is_sealed(alloc, keys, ends, *nonce, offered, *seals)
+}
+
+/// What the sender and the receiver are.
+fn ends() -> Result<SealEnds, Fail> {
+    Ok(SealEnds {
         sender: node(4)?,
         receiver: node(1)?,
-    };
+    })
+}
+
+#[test]
+fn a_sender_seals_for_the_next_nonce_and_the_last(rt: HostRuntime) -> Result<(), Fail> {
+    let ends = ends()?;
     let keys = keys(NETWORK);
     let mut sender = Sender::new(rt.alloc(), ends);
-    for (asked, nonce, seals) in SENDER {
-        ask(rt.alloc(), &mut sender, asked)?;
-        let offered = sender.offer(&keys, *nonce, DRAWN)?;
-        let same = is_sealed(rt.alloc(), &keys, &ends, *nonce, offered, *seals)?;
-        assert!(rt; same, "at {nonce:?}");
+    for (at, row) in SENDER.iter().enumerate() {
+        let kept = is_kept(rt.alloc(), &mut sender, &keys, &ends, row);
+        check_row(&rt, kept == Ok(true), at);
     }
     Ok(())
 }

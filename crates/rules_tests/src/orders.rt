@@ -1,14 +1,13 @@
 //! Orders for nodes and what is sent for them, with ample memory. The bytes are written out by hand from the tables of
 //! docs/ORDERS.md.
 
+use crate::rows::check_row;
 use Want::{No, Sent};
 use host_orders::{
     Actuator, Form, Gettable, Refused, get_payload, judge, send_payload, settings, write_message,
 };
 use std::alloc::Global;
-use std::process::Abort;
-use std::test::Fail;
-use zw_base::{Bytes, EndPoint, Name, Property, Setting, read_end, read_node};
+use zw_base::{Bytes, EndPoint, List, Name, Payload, Property, Setting, read_end, read_node};
 use zw_order::{Order, What, Word};
 use zw_text::{Line, read_line};
 
@@ -173,13 +172,13 @@ const ROWS: &[(&str, u8, &str, u64, Want)] = &[
 ];
 
 /// The text with so many bytes 01 where a star says so.
-fn spelled(alloc: Global, text: &str) -> Result<String, Fail> {
+fn spelled(alloc: Global, text: &str) -> Option<String> {
     let (front, count) = text.split_once('*').unwrap_or((text, "0"));
-    let mut whole = String::from_str(alloc, front)?;
-    for _ in 0..count.parse::<u16>()? {
-        whole.push_str("01")?;
+    let mut whole = String::from_str(alloc, front).ok()?;
+    for _ in 0..count.parse::<u16>().ok()? {
+        whole.push_str("01").ok()?;
     }
-    Ok(whole)
+    Some(whole)
 }
 
 /// The end point and the order of a text that is no line, where it is one of these.
@@ -198,94 +197,188 @@ fn unsaid(alloc: Global, text: &str) -> Option<(u8, What)> {
     }
 }
 
-fn line_of(alloc: Global, text: &str) -> Result<Line, Fail> {
-    if let Some((end, what)) = unsaid(alloc, text) {
-        let node = read_node(2).ok_or("no node")?;
-        let end = read_end(end).ok_or("no end point")?;
-        let order = Order { node, end, what };
-        return Ok(Line::Command { order });
-    }
-    let whole = spelled(alloc, text)?;
-    let read = read_line(alloc, whole.as_str().as_bytes()).ok().flatten();
-    Ok(read.ok_or("no line")?)
+/// An order for node 2.
+fn order_of(end: u8, what: What) -> Option<Line> {
+    let (Some(node), Some(end)) = (read_node(2), read_end(end)) else {
+        return None;
+    };
+    let order = Order { node, end, what };
+    Some(Line::Command { order })
 }
 
-/// Whether the node is joined, and what it lists.
-fn classes_of(alloc: Global, text: &str) -> Result<(bool, Option<Bytes>), Fail> {
-    let listed = match text {
-        NEW => return Ok((true, None)),
+fn read_text(alloc: Global, text: &str) -> Option<Line> {
+    read_line(alloc, text.as_bytes()).ok().flatten()
+}
+
+fn line_of(alloc: Global, text: &str) -> Option<Line> {
+    match unsaid(alloc, text) {
+        Some((end, what)) => order_of(end, what),
+        None => read_text(alloc, spelled(alloc, text)?.as_str()),
+    }
+}
+
+fn classes_in(alloc: Global, digits: &str) -> Option<Bytes> {
+    let classes = hex::decode(alloc, digits.as_bytes()).ok()?;
+    Bytes::from_slice(alloc, classes.as_slice()).ok()
+}
+
+/// A node to be asked: whether it is joined, and what it lists.
+#[derive(Drop)]
+struct Asked {
+    is_joined: bool,
+    classes: Option<Bytes>,
+}
+
+fn node_of(alloc: Global, text: &str) -> Option<Asked> {
+    let digits = match text {
+        NEW => {
+            return Some(Asked {
+                is_joined: true,
+                classes: None,
+            });
+        }
         LEFT => RELAY,
         _ => text,
     };
-    let classes = hex::decode(alloc, listed.as_bytes())?;
-    let classes = Bytes::from_slice(alloc, classes.as_slice())?;
-    Ok((text != LEFT, Some(classes)))
+    Some(Asked {
+        is_joined: text != LEFT,
+        classes: Some(classes_in(alloc, digits)?),
+    })
 }
 
-fn is_sent(alloc: Global, form: Form, bytes: &[u8], want: &Want) -> Result<bool, Fail> {
-    let Sent(wanted, text) = want else {
-        return Ok(false);
-    };
-    let bytes = hex::encode_upper(alloc, bytes)?;
-    let text = spelled(alloc, text)?;
-    Ok(form == *wanted && bytes.as_str() == text.as_str())
+/// Whether the bytes are those of a text.
+fn are_spelled(alloc: Global, bytes: &[u8], text: &str) -> bool {
+    match (hex::encode_upper(alloc, bytes), spelled(alloc, text)) {
+        (Ok(bytes), Some(text)) => bytes.as_str() == text.as_str(),
+        _ => false,
+    }
+}
+
+fn is_sent(alloc: Global, form: Form, bytes: &[u8], want: &Want) -> bool {
+    match want {
+        Sent(wanted, text) => form == *wanted && are_spelled(alloc, bytes, text),
+        No(_) => false,
+    }
 }
 
 fn is_refused(refused: Refused, want: &Want) -> bool {
     matches!(want, No(wanted) if refused == *wanted)
 }
 
-/// Whether a row is so.
-fn is_so(alloc: Global, row: &(&str, u8, &str, u64, Want)) -> Result<bool, Fail> {
-    let (classes, count, text, session, want) = row;
-    let (is_joined, classes) = classes_of(alloc, classes)?;
-    let sent = match line_of(alloc, text)? {
-        Line::Command { order } => match judge(is_joined, &classes, *count, &order) {
-            Ok(carriage) => {
-                let bytes = write_message(alloc, carriage, &order, *session)?;
-                return is_sent(alloc, carriage.form(), bytes.as_slice(), want);
-            }
-            Err(refused) => Err(refused),
-        },
-        Line::Send { word, .. } => send_payload(alloc, is_joined, &classes, *count, word),
-        Line::Get { end, .. } => get_payload(alloc, is_joined, &classes, *count, end),
-        _ => return Err("no order".into()),
-    };
+/// The message of an order and its form, or why it is refused. None without memory.
+fn written(
+    alloc: Global,
+    node: &Asked,
+    count: u8,
+    order: &Order,
+    session: u64,
+) -> Option<Result<(Form, Bytes), Refused>> {
+    match judge(node.is_joined, &node.classes, count, order) {
+        Ok(carriage) => {
+            let bytes = write_message(alloc, carriage, order, session).ok()?;
+            Some(Ok((carriage.form(), bytes)))
+        }
+        Err(refused) => Some(Err(refused)),
+    }
+}
+
+/// Whether that comes of an order.
+fn is_judged(
+    alloc: Global,
+    node: &Asked,
+    count: u8,
+    order: &Order,
+    session: u64,
+    want: &Want,
+) -> bool {
+    match written(alloc, node, count, order, session) {
+        Some(Ok((form, bytes))) => is_sent(alloc, form, bytes.as_slice(), want),
+        Some(Err(refused)) => is_refused(refused, want),
+        None => false,
+    }
+}
+
+fn send(alloc: Global, node: &Asked, count: u8, word: Word) -> Result<Payload, Refused> {
+    send_payload(alloc, node.is_joined, &node.classes, count, word)
+}
+
+fn get(alloc: Global, node: &Asked, count: u8, end: EndPoint) -> Result<Payload, Refused> {
+    get_payload(alloc, node.is_joined, &node.classes, count, end)
+}
+
+/// Whether that comes of what is sent without a session.
+fn goes(alloc: Global, sent: Result<Payload, Refused>, want: &Want) -> bool {
     match sent {
         Ok(payload) => is_sent(alloc, Form::Plain, payload.bytes(), want),
-        Err(refused) => Ok(is_refused(refused, want)),
+        Err(refused) => is_refused(refused, want),
+    }
+}
+
+/// Whether that comes of a line.
+fn comes(alloc: Global, node: &Asked, count: u8, line: &Line, session: u64, want: &Want) -> bool {
+    match line {
+        Line::Command { order } => is_judged(alloc, node, count, order, session, want),
+        Line::Send { word, .. } => goes(alloc, send(alloc, node, count, *word), want),
+        Line::Get { end, .. } => goes(alloc, get(alloc, node, count, *end), want),
+        _ => false,
+    }
+}
+
+/// Whether a row is so.
+fn is_so(alloc: Global, row: &(&str, u8, &str, u64, Want)) -> bool {
+    let (classes, count, text, session, want) = row;
+    match (node_of(alloc, classes), line_of(alloc, text)) {
+        (Some(node), Some(line)) => comes(alloc, &node, *count, &line, *session, want),
+        _ => false,
     }
 }
 
 #[test]
-fn orders_are_judged_and_written(rt: HostRuntime) -> Result<(), Fail> {
-    for (row, at) in ROWS.iter().zip(1..99u8) {
-        let so = is_so(rt.alloc(), row)?;
-        assert!(rt; so, "row {at}");
+fn orders_are_judged_and_written(rt: HostRuntime) {
+    for (at, row) in ROWS.iter().enumerate() {
+        check_row(&rt, is_so(rt.alloc(), row), at);
     }
-    Ok(())
 }
 
-#[test]
-fn settings_are_in_the_order_of_properties(rt: HostRuntime) -> Result<(), Fail> {
-    let alloc = rt.alloc();
-    let Line::Command { order } = line_of(alloc, "comfort 2 1 1 215")? else {
-        return Err("no order".into());
-    };
-    let (_, classes) = classes_of(alloc, THERMOSTAT)?;
-    let carriage = judge(true, &classes, 0, &order).ok().ok_or("refused")?;
-    let made = settings(alloc, carriage.actuator, &order)?;
-    let of = |name: Name, value: u32| Setting {
+/// What an order sets at a node that lists these classes, and what its values are for the node.
+fn set_by(alloc: Global, node: &Asked, order: &Order) -> Option<(Actuator, List<Setting>)> {
+    let carriage = judge(node.is_joined, &node.classes, 0, order).ok()?;
+    let made = settings(alloc, carriage.actuator, order).ok()?;
+    Some((carriage.actuator, made))
+}
+
+/// What a line sets at a node that lists these classes.
+fn set_by_line(alloc: Global, classes: &str, text: &str) -> Option<(Actuator, List<Setting>)> {
+    let node = node_of(alloc, classes)?;
+    match line_of(alloc, text)? {
+        Line::Command { order } => set_by(alloc, &node, &order),
+        _ => None,
+    }
+}
+
+fn of_root(name: Name, value: u32) -> Setting {
+    Setting {
         property: Property {
             end: EndPoint::root(),
             name,
         },
         value,
-    };
-    let want = [of(Name::Mode, 1), of(Name::Setpoint(1), 215)];
-    assert!(rt; made.as_slice() == want.as_slice());
-    assert!(rt;
-        carriage.actuator == Actuator::Binary && Gettable::of(&[0x31, 0x80]) == Gettable::Sensor
-    );
-    Ok(())
+    }
+}
+
+/// Whether a comfort order sets its mode and its setpoint.
+fn sets_both(alloc: Global) -> bool {
+    match set_by_line(alloc, THERMOSTAT, "comfort 2 1 1 215") {
+        Some((actuator, made)) => {
+            let want = [of_root(Name::Mode, 1), of_root(Name::Setpoint(1), 215)];
+            actuator == Actuator::Binary && made.as_slice() == want.as_slice()
+        }
+        None => false,
+    }
+}
+
+#[test]
+fn settings_are_in_the_order_of_properties(rt: HostRuntime) {
+    assert!(rt; sets_both(rt.alloc()));
+    assert!(rt; Gettable::of(&[0x31, 0x80]) == Gettable::Sensor);
 }

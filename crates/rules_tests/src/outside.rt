@@ -49,14 +49,19 @@ fn reads<S: Source>(source: &mut S, into: &mut [u8], want: Result<usize, Failed>
     source.read(into) == want
 }
 
+/// Whether the second read of three fails, and the others give a byte.
+fn reads_flakily<S: Source>(source: &mut S) -> bool {
+    let mut into = [0; 4];
+    reads(source, &mut into, Ok(1))
+        && into == [9, 0, 0, 0]
+        && reads(source, &mut into, Err(Failed))
+        && reads(source, &mut into, Ok(1))
+}
+
 #[test]
 fn std_source_counts_failed_reads(rt: HostRuntime) {
     let mut source = StdSource::new(Flaky { calls: 0 });
-    let mut into = [0; 4];
-    assert!(rt; reads(&mut source, &mut into, Ok(1)));
-    assert!(rt; into[0] == 9);
-    assert!(rt; reads(&mut source, &mut into, Err(Failed)));
-    assert!(rt; reads(&mut source, &mut into, Ok(1)));
+    assert!(rt; reads_flakily(&mut source));
 }
 
 /// Whether a write answers so.
@@ -85,20 +90,27 @@ fn a_sink_that_takes_nothing_fails(rt: HostRuntime) {
     assert!(rt; writes(&mut sink, b"", Ok(0)));
 }
 
+/// Whether the second write of three fails, and the first takes a byte.
+fn writes_flakily<S: Sink>(sink: &mut S) -> bool {
+    writes(sink, b"ab", Ok(1)) && writes(sink, b"ab", Err(Failed)) && writes(sink, b"", Ok(0))
+}
+
 #[test]
 fn std_sink_counts_failed_writes(rt: HostRuntime) {
     let mut sink = StdSink::new(Flaky { calls: 0 });
-    assert!(rt; writes(&mut sink, b"ab", Ok(1)));
-    assert!(rt; writes(&mut sink, b"ab", Err(Failed)));
-    assert!(rt; writes(&mut sink, b"", Ok(0)));
+    assert!(rt; writes_flakily(&mut sink));
+}
+
+/// Whether the two bytes of a source are read at once.
+fn reads_both<S: Source>(source: &mut S) -> bool {
+    let mut into = [0; 2];
+    reads(source, &mut into, Ok(2)) && into == *b"xy"
 }
 
 #[test]
 fn plain_ones_never_fail(rt: HostRuntime) -> Result<(), Fail> {
     let mut plain = PlainSource::new(rt.alloc(), b"xy")?;
-    let mut into = [0; 2];
-    assert!(rt; reads(&mut plain, &mut into, Ok(2)));
-    assert!(rt; into == [b'x', b'y']);
+    assert!(rt; reads_both(&mut plain));
     assert!(rt; writes(&mut PlainSink::new(), b"abc", Ok(3)));
     Ok(())
 }

@@ -1,14 +1,14 @@
 //! Records written out by hand from the description in docs/RECORDS.md, texts that are of none, and keepers whose calls
 //! fail. With ample memory.
 
-use crate::nodes::node;
+use crate::rows::check_line;
 use host_keep::{
     FinalStatus, KeepFault, Keeper, MemoryKeeper, PlainKeeper, Record, RecordFault, keep,
     read_record, write_record,
 };
 use std::alloc::Global;
 use std::test::Fail;
-use zw_base::{Bytes, NoMemory, read_end};
+use zw_base::{Bytes, NoMemory, read_end, read_node};
 use zw_order::{Order, What, Word};
 
 /// One of each row, and its text.
@@ -112,19 +112,18 @@ const BAD: &str = "\
 ";
 
 /// An order for node 2, as command 1.
-fn accepted(end: u8, what: What) -> Result<Record, Fail> {
-    let order = Order {
-        node: node(2)?,
-        end: read_end(end).ok_or("no such end point")?,
-        what,
+fn accepted(end: u8, what: What) -> Option<Record> {
+    let (Some(node), Some(end)) = (read_node(2), read_end(end)) else {
+        return None;
     };
-    Ok(Record::Accepted { command: 1, order })
+    let order = Order { node, end, what };
+    Some(Record::Accepted { command: 1, order })
 }
 
 /// The records of node 2 that begin and end a session.
-fn session(status: Option<FinalStatus>) -> Result<Record, Fail> {
-    let node = node(2)?;
-    Ok(match status {
+fn session(status: Option<FinalStatus>) -> Option<Record> {
+    let node = read_node(2)?;
+    Some(match status {
         None => Record::Begun {
             node,
             session: 1,
@@ -139,23 +138,23 @@ fn session(status: Option<FinalStatus>) -> Result<Record, Fail> {
 }
 
 /// A Configuration Bulk Set for the last end point.
-fn bulk(alloc: Global) -> Result<Record, Fail> {
-    let values = Bytes::from_slice(alloc, &[5, 6])?;
+fn bulk(alloc: Global) -> Option<Record> {
+    let values = Bytes::from_slice(alloc, &[5, 6]).ok()?;
     accepted(127, What::Bulk { offset: 9, values })
 }
 
-fn classes(alloc: Global) -> Result<Record, Fail> {
-    Ok(Record::Classes {
-        node: node(2)?,
+fn classes(alloc: Global) -> Option<Record> {
+    Some(Record::Classes {
+        node: read_node(2)?,
         listens: true,
-        classes: Bytes::from_slice(alloc, &[37, 108])?,
+        classes: Bytes::from_slice(alloc, &[37, 108]).ok()?,
     })
 }
 
 /// The records of node 2 that have numbers alone.
-fn numbers(row: usize) -> Result<Record, Fail> {
-    let node = node(2)?;
-    Ok(match row {
+fn numbers(row: usize) -> Option<Record> {
+    let node = read_node(2)?;
+    Some(match row {
         2 => Record::Joined { node },
         7 => Record::Cancelled { command: 7 },
         8 => Record::Given {
@@ -172,7 +171,7 @@ fn numbers(row: usize) -> Result<Record, Fail> {
 }
 
 /// The record of that row.
-fn by_hand(alloc: Global, row: usize) -> Result<Record, Fail> {
+fn by_hand(alloc: Global, row: usize) -> Option<Record> {
     match row {
         0 => accepted(0, What::Value(Word::On)),
         1 => bulk(alloc),
@@ -185,35 +184,42 @@ fn by_hand(alloc: Global, row: usize) -> Result<Record, Fail> {
 }
 
 /// The text is read, and what was read is written as that text.
-fn goes_both_ways(alloc: Global, text: &str) -> Result<bool, Fail> {
+fn goes_both_ways(alloc: Global, text: &str) -> bool {
     match read_record(alloc, text.as_bytes()) {
-        Ok(found) => Ok(write_record(alloc, &found)?.as_slice() == text.as_bytes()),
-        Err(_) => Ok(false),
+        Ok(found) => has_text(alloc, &found, text),
+        Err(_) => false,
+    }
+}
+
+/// Whether the record is written as the text.
+fn has_text(alloc: Global, record: &Record, text: &str) -> bool {
+    match write_record(alloc, record) {
+        Ok(written) => written.as_slice() == text.as_bytes(),
+        Err(_) => false,
     }
 }
 
 /// Whether the record of that row is written as the text.
-fn is_written(alloc: Global, row: usize, text: &str) -> Result<bool, Fail> {
-    let written = write_record(alloc, &by_hand(alloc, row)?)?;
-    Ok(written.as_slice() == text.as_bytes())
+fn is_written(alloc: Global, row: usize, text: &str) -> bool {
+    match by_hand(alloc, row) {
+        Some(record) => has_text(alloc, &record, text),
+        None => false,
+    }
 }
 
 #[test]
-fn records_and_their_texts(rt: HostRuntime) -> Result<(), Fail> {
+fn records_and_their_texts(rt: HostRuntime) {
     for (row, text) in ROWS.lines().enumerate() {
-        let same = is_written(rt.alloc(), row, text)? && goes_both_ways(rt.alloc(), text)?;
-        assert!(rt; same, "{text}");
+        let same = is_written(rt.alloc(), row, text) && goes_both_ways(rt.alloc(), text);
+        check_line(&rt, same, text);
     }
-    Ok(())
 }
 
 #[test]
-fn ranges_at_their_ends(rt: HostRuntime) -> Result<(), Fail> {
+fn ranges_at_their_ends(rt: HostRuntime) {
     for text in ENDS.lines() {
-        let same = goes_both_ways(rt.alloc(), text)?;
-        assert!(rt; same, "{text}");
+        check_line(&rt, goes_both_ways(rt.alloc(), text), text);
     }
-    Ok(())
 }
 
 /// Whether the text is refused as one of no record.
@@ -224,8 +230,7 @@ fn is_bad(alloc: Global, text: &str) -> bool {
 #[test]
 fn texts_of_no_record(rt: HostRuntime) {
     for text in BAD.lines() {
-        let same = is_bad(rt.alloc(), text);
-        assert!(rt; same, "{text}");
+        check_line(&rt, is_bad(rt.alloc(), text), text);
     }
 }
 
@@ -253,15 +258,24 @@ fn fails<K: Keeper>(alloc: Global, keeper: &mut K, at: u64) -> bool {
     matches!(read(alloc, keeper, at), Some(Err(KeepFault::Failed)))
 }
 
+/// Whether the second call of three fails, and two records are kept.
+fn keeps_two(keeper: &mut MemoryKeeper) -> bool {
+    keeps(keeper, b"[2,3]") == Ok(true)
+        && keeps(keeper, b"[2,4]") == Ok(false)
+        && keeps(keeper, b"[2,5]") == Ok(true)
+        && keeper.count() == 2
+}
+
+/// Whether the fourth call fails, and the fifth reads the second record.
+fn gives_two(alloc: Global, keeper: &mut MemoryKeeper) -> bool {
+    fails(alloc, keeper, 1) && holds(alloc, keeper, 1, b"[2,5]")
+}
+
 #[test]
 fn a_keeper_keeps_all_but_the_calls_that_fail(rt: HostRuntime) -> Result<(), Fail> {
     let mut keeper = MemoryKeeper::new(rt.alloc(), &[2, 4])?;
-    assert!(rt; keeps(&mut keeper, b"[2,3]")?);
-    assert!(rt; !keeps(&mut keeper, b"[2,4]")?);
-    assert!(rt; keeps(&mut keeper, b"[2,5]")?);
-    assert!(rt; keeper.count() == 2);
-    assert!(rt; fails(rt.alloc(), &mut keeper, 1));
-    assert!(rt; holds(rt.alloc(), &mut keeper, 1, b"[2,5]"));
+    assert!(rt; keeps_two(&mut keeper));
+    assert!(rt; gives_two(rt.alloc(), &mut keeper));
     Ok(())
 }
 

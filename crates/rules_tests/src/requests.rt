@@ -3,14 +3,15 @@
 mod acts;
 mod courses;
 
+use crate::rows::check_row;
 use acts::{Act, Ask, At, is_at, payload, perform, push};
-use courses::COURSES;
+use courses::{COURSES, Row};
 use host_requests::{QUEUE_CAPACITY, Requests, Task};
 use serial_frame::{Frame, Unit, encode};
 use std::alloc::Global;
 use std::process::Abort;
 use std::test::Fail;
-use zw_base::{NoMemory, read_node};
+use zw_base::{NoMemory, Payload, read_node};
 
 /// What asks for the units below.
 const ASKS: [Ask; 9] = [
@@ -58,6 +59,18 @@ fn next_frame(rt: &impl Abort, requests: &mut Requests, alloc: Global) -> Result
     Ok(frame)
 }
 
+/// Whether that is the unit of the task that waited longest.
+fn is_next(rt: &impl Abort, requests: &mut Requests, alloc: Global, unit: &[u8]) -> bool {
+    match next_frame(rt, requests, alloc) {
+        Ok(frame) => has_bytes(alloc, frame, unit) == Ok(true),
+        Err(_) => false,
+    }
+}
+
+fn has_no_front(alloc: Global, requests: &Requests) -> bool {
+    matches!(requests.front_frame(alloc), Ok(None))
+}
+
 #[test]
 fn each_task_has_its_unit(rt: HostRuntime) -> Result<(), Fail> {
     let mut requests = Requests::new(rt.alloc())?;
@@ -65,26 +78,47 @@ fn each_task_has_its_unit(rt: HostRuntime) -> Result<(), Fail> {
         push(&rt, &mut requests, ask);
     }
     assert!(rt; requests.len() == 12);
-    for unit in UNITS.iter() {
-        let frame = next_frame(&rt, &mut requests, rt.alloc())?;
-        let same = has_bytes(rt.alloc(), frame, unit)?;
-        assert!(rt; same, "{unit:?}");
+    for (row, unit) in UNITS.iter().enumerate() {
+        check_row(&rt, is_next(&rt, &mut requests, rt.alloc(), unit), row);
     }
-    assert!(rt; requests.front_frame(rt.alloc())?.is_none());
+    assert!(rt; has_no_front(rt.alloc(), &requests));
     Ok(())
+}
+
+/// The frame of an attempt for node 10.
+fn attempt_frame(alloc: Global, requests: &Requests, payload: &Payload) -> Option<Frame> {
+    let node = read_node(10)?;
+    if payload.bytes().len() == 0 {
+        return None;
+    }
+    requests.attempt_frame(alloc, node, payload).ok()
 }
 
 #[test]
 fn attempts_and_aborts_have_their_units(rt: HostRuntime) -> Result<(), Fail> {
     let requests = Requests::new(rt.alloc())?;
-    let node = read_node(10).expect(&rt, "a node");
     let get = payload(&rt, b"\x98\x40");
-    assert!(rt; get.bytes().len() > 0);
-    let frame = requests.attempt_frame(rt.alloc(), node, &get)?;
-    assert!(rt; has_bytes(rt.alloc(), frame, NONCE_GET)?);
-    let frame = requests.abort_frame(rt.alloc())?;
-    assert!(rt; has_bytes(rt.alloc(), frame, ABORT)?);
+    let attempt = attempt_frame(rt.alloc(), &requests, &get).ok_or("no frame")?;
+    assert!(rt; has_bytes(rt.alloc(), attempt, NONCE_GET) == Ok(true));
+    let abort = requests.abort_frame(rt.alloc())?;
+    assert!(rt; has_bytes(rt.alloc(), abort, ABORT) == Ok(true));
     Ok(())
+}
+
+/// The first row of a course that is not so.
+fn first_wrong(
+    rt: &impl Abort,
+    requests: &mut Requests,
+    alloc: Global,
+    rows: &[Row],
+) -> Option<usize> {
+    for (row, (act, at)) in rows.iter().enumerate() {
+        let end = perform(rt, requests, alloc, act);
+        if !is_at(requests, &end, at) {
+            return Some(row);
+        }
+    }
+    None
 }
 
 #[test]
@@ -92,13 +126,19 @@ fn each_course(rt: HostRuntime) -> Result<(), Fail> {
     let mut requests = Requests::new(rt.alloc())?;
     for (course, rows) in COURSES.iter().enumerate() {
         requests.forget();
-        for (row, (act, at)) in rows.iter().enumerate() {
-            let end = perform(&rt, &mut requests, rt.alloc(), act);
-            let right = is_at(&requests, &end, at);
-            assert!(rt; right, "course {course} row {row}");
-        }
+        let wrong = first_wrong(&rt, &mut requests, rt.alloc(), rows);
+        assert!(rt; wrong.is_none(), "course {course} row {wrong:?}");
     }
     Ok(())
+}
+
+/// Whether so many tasks wait, and one more is taken.
+fn takes_one(requests: &mut Requests, waiting: u8) -> bool {
+    let goes = requests.len() == waiting && !requests.is_full() && waiting < QUEUE_CAPACITY;
+    if goes {
+        requests.push(Task::Version);
+    }
+    goes
 }
 
 #[test]
@@ -108,18 +148,26 @@ fn sixty_four_tasks_wait_in_order(rt: HostRuntime) -> Result<(), Fail> {
         push(&rt, &mut requests, &Ask::NoMore);
         push(&rt, &mut requests, &Ask::Members);
     }
-    for waiting in 62..64u8 {
-        assert!(rt; requests.len() == waiting);
-        assert!(rt; !requests.is_full());
-        assert!(rt; requests.len() < QUEUE_CAPACITY);
-        requests.push(Task::Version);
-    }
+    assert!(rt; takes_one(&mut requests, 62) && takes_one(&mut requests, 63));
     assert!(rt; requests.is_full());
     assert!(rt; matches!(requests.front(), Some(Task::NoMore { .. })));
     requests.forget();
-    assert!(rt; requests.is_empty());
-    assert!(rt; requests.front().is_none());
+    assert!(rt; requests.is_empty() && requests.front().is_none());
     Ok(())
+}
+
+/// Whether that is the id of the task that waited longest.
+fn is_next_id(alloc: Global, requests: &Requests, id: u8) -> bool {
+    match requests.front_frame(alloc) {
+        Ok(Some(frame)) => frame.body.as_slice().last() == Some(&id),
+        _ => false,
+    }
+}
+
+/// Whether that task begins, and ends with a callback of that id.
+fn goes_with(rt: &impl Abort, requests: &mut Requests, alloc: Global, id: u8) -> bool {
+    perform(rt, requests, alloc, &Act::Front).is_none()
+        && perform(rt, requests, alloc, &Act::Callback(id, 0)).is_some()
 }
 
 #[test]
@@ -128,14 +176,11 @@ fn callback_ids_go_round(rt: HostRuntime) -> Result<(), Fail> {
     for count in 0..300u16 {
         let id = (count % 255 + 1) as u8;
         push(&rt, &mut requests, &Ask::Plain);
-        let frame = requests
-            .front_frame(rt.alloc())?
-            .expect(&rt, "a task waits");
-        assert!(rt; frame.body.as_slice().last() == Some(&id));
-        assert!(rt; perform(&rt, &mut requests, rt.alloc(), &Act::Front).is_none());
-        assert!(rt;
-            perform(&rt, &mut requests, rt.alloc(), &Act::Callback(id, 0)).is_some(),
-            "{id}"
+        let is_next = is_next_id(rt.alloc(), &requests, id);
+        check_row(
+            &rt,
+            is_next && goes_with(&rt, &mut requests, rt.alloc(), id),
+            usize::from(id),
         );
     }
     Ok(())

@@ -1,9 +1,9 @@
 //! Routes on small graphs, with the answers that a separate search by enumeration gave.
 
-use crate::nodes::node;
+use crate::rows::check_line;
 use route_table::RouteTable;
 use std::alloc::Global;
-use std::test::Fail;
+use zw_base::{NoMemory, NodeId, read_node};
 
 /// For each graph its links as pairs of nodes, its repeaters, and the route to a node: the node, then the repeaters.
 /// In turn: direct links, ties and silent nodes at each of the four places, chains of four and five, cycles, drawn ones, and
@@ -156,71 +156,121 @@ cuts 1 10\n\
 none 10\n\
 ";
 
-fn numbers(alloc: Global, words: &str) -> Result<Vec<u8>, Fail> {
+fn numbers(alloc: Global, words: &str) -> Result<Vec<u8>, NoMemory> {
     let mut found = Vec::new(alloc);
     for word in words.split(' ') {
         if let Ok(n) = word.parse::<u8>() {
-            found.push(n)?;
+            push(&mut found, n)?;
         }
     }
     Ok(found)
 }
 
-/// Changes the table as a line says.
-fn change(table: &mut RouteTable, kind: &str, a: u8, b: u8) -> Result<(), Fail> {
-    match kind {
-        "links" => table.set_link(node(a)?, node(b)?, true),
-        "cuts" => table.set_link(node(a)?, node(b)?, false),
-        "forgets" => table.forget_hop(node(a)?, node(b)?),
-        _ => return Err("no such line".into()),
-    }
+fn push(found: &mut Vec<u8>, n: u8) -> Result<(), NoMemory> {
+    found.push(n)?;
     Ok(())
+}
+
+/// Changes the table as a line says of two nodes. True where there is such a line.
+fn change(table: &mut RouteTable, kind: &str, a: NodeId, b: NodeId) -> bool {
+    match kind {
+        "links" => table.set_link(a, b, true),
+        "cuts" => table.set_link(a, b, false),
+        "forgets" => table.forget_hop(a, b),
+        _ => return false,
+    }
+    true
+}
+
+/// Does what a line says of pairs of nodes.
+fn change_all(table: &mut RouteTable, kind: &str, numbers: &[u8]) -> bool {
+    let mut goes = true;
+    for pair in numbers.chunks(2) {
+        if let [a, b] = pair {
+            goes = change_pair(table, kind, *a, *b) && goes;
+        }
+    }
+    goes
+}
+
+fn change_pair(table: &mut RouteTable, kind: &str, a: u8, b: u8) -> bool {
+    match (read_node(a), read_node(b)) {
+        (Some(a), Some(b)) => change(table, kind, a, b),
+        _ => false,
+    }
 }
 
 /// Whether the route to a node goes by these.
-fn goes_by(table: &RouteTable, to: u8, via: &[u8]) -> Result<bool, Fail> {
-    match table.route(node(to)?) {
-        Some(route) => Ok(route.repeaters() == via && route.count as usize == via.len()),
-        None => Ok(false),
+fn goes_by(table: &RouteTable, to: NodeId, via: &[u8]) -> bool {
+    match table.route(to) {
+        Some(route) => route.repeaters() == via && route.count as usize == via.len(),
+        None => false,
     }
+}
+
+/// Whether the route to the node of a number goes by these.
+fn goes_to(table: &RouteTable, to: u8, via: &[u8]) -> bool {
+    match read_node(to) {
+        Some(to) => goes_by(table, to, via),
+        None => false,
+    }
+}
+
+/// Whether there is such a node, and no route to it.
+fn has_no_route(table: &RouteTable, to: u8) -> bool {
+    match read_node(to) {
+        Some(to) => table.route(to).is_none(),
+        None => false,
+    }
+}
+
+/// Whether two nodes are linked. None where there are no such nodes.
+fn linked(table: &RouteTable, a: u8, b: u8) -> Option<bool> {
+    Some(table.linked(read_node(a)?, read_node(b)?))
+}
+
+/// Says whether the nodes repeat. True where there are such nodes.
+fn set_repeaters(table: &mut RouteTable, numbers: &[u8], repeats: bool) -> bool {
+    for n in numbers {
+        match read_node(*n) {
+            Some(node) => table.set_repeater(node, repeats),
+            None => return false,
+        }
+    }
+    true
 }
 
 /// Does what a line says to the table, or answers whether what it says holds.
-fn holds(table: &mut RouteTable, kind: &str, numbers: &[u8]) -> Result<bool, Fail> {
+fn holds(table: &mut RouteTable, kind: &str, numbers: &[u8]) -> bool {
     match (kind, numbers) {
-        ("route", [to, via @ ..]) => return goes_by(table, *to, via),
-        ("none", [to]) => return Ok(table.route(node(*to)?).is_none()),
-        ("linked", [a, b]) => return Ok(table.linked(node(*a)?, node(*b)?)),
-        ("apart", [a, b]) => return Ok(!table.linked(node(*a)?, node(*b)?)),
-        ("repeaters", _) => {
-            for &n in numbers {
-                table.set_repeater(node(n)?, true);
-            }
-        }
-        ("silent", [n]) => table.set_repeater(node(*n)?, false),
-        _ => {
-            for pair in numbers.chunks(2) {
-                if let [a, b] = pair {
-                    change(table, kind, *a, *b)?;
-                }
-            }
-        }
+        ("route", [to, via @ ..]) => goes_to(table, *to, via),
+        ("none", [to]) => has_no_route(table, *to),
+        ("linked", [a, b]) => linked(table, *a, *b) == Some(true),
+        ("apart", [a, b]) => linked(table, *a, *b) == Some(false),
+        ("repeaters", _) => set_repeaters(table, numbers, true),
+        ("silent", [_]) => set_repeaters(table, numbers, false),
+        _ => change_all(table, kind, numbers),
     }
-    Ok(true)
+}
+
+/// Whether a line is so: one without numbers begins another table.
+fn is_so(alloc: Global, table: &mut RouteTable, line: &str) -> bool {
+    match line.split_once(' ') {
+        None => {
+            *table = RouteTable::new();
+            true
+        }
+        Some((kind, words)) => match numbers(alloc, words) {
+            Ok(found) => holds(table, kind, &found),
+            Err(_) => false,
+        },
+    }
 }
 
 #[test]
-fn routes(rt: HostRuntime) -> Result<(), Fail> {
+fn routes(rt: HostRuntime) {
     let mut table = RouteTable::new();
     for line in GRAPHS.lines() {
-        match line.split_once(' ') {
-            None => table = RouteTable::new(),
-            Some((kind, words)) => {
-                let found = numbers(rt.alloc(), words)?;
-                let same = holds(&mut table, kind, &found)?;
-                assert!(rt; same, "{line}");
-            }
-        }
+        check_line(&rt, is_so(rt.alloc(), &mut table, line), line);
     }
-    Ok(())
 }

@@ -1,10 +1,10 @@
 //! Vectors of an independent implementation (OpenSSL, by Python's `cryptography`), and each refusal once.
 
-use crate::nodes::node;
+use crate::rows::check_row;
 use s0_crypto::{Keys, SealEnds, SealFault, keys, seal, unseal};
 use std::alloc::Global;
 use std::test::Fail;
-use zw_base::{Bytes, NoMemory};
+use zw_base::{Bytes, NoMemory, read_node};
 
 /// The network key, the nonces and the plain text of the tables.
 const NETWORK: [u8; 16] = [
@@ -124,24 +124,50 @@ fn is_opened(alloc: Global, keys: &Keys, ends: &SealEnds, len: usize, message: &
     }
 }
 
-fn ends(sender: u8, receiver: u8) -> Result<SealEnds, Fail> {
-    Ok(SealEnds {
-        sender: node(sender)?,
-        receiver: node(receiver)?,
+fn ends(sender: u8, receiver: u8) -> Option<SealEnds> {
+    Some(SealEnds {
+        sender: read_node(sender)?,
+        receiver: read_node(receiver)?,
     })
 }
 
-#[test]
-fn sealed_messages(rt: HostRuntime) -> Result<(), Fail> {
-    let keys = keys(NETWORK);
-    for &(sender, receiver, len, message) in &SEALED {
-        let ends = ends(sender, receiver)?;
-        let sealed = is_sealed(rt.alloc(), &keys, &ends, len, message)?;
-        let opened = is_opened(rt.alloc(), &keys, &ends, len, message);
-        assert!(rt; sealed && opened, "of {len} bytes");
+/// Whether a row is so, both ways.
+fn is_so(alloc: Global, keys: &Keys, row: &(u8, u8, usize, &[u8])) -> bool {
+    let &(sender, receiver, len, message) = row;
+    match ends(sender, receiver) {
+        Some(ends) => {
+            is_sealed(alloc, keys, &ends, len, message) == Ok(true)
+                && is_opened(alloc, keys, &ends, len, message)
+        }
+        None => false,
     }
-    Ok(())
 }
+
+#[test]
+fn sealed_messages(rt: HostRuntime) {
+    let keys = keys(NETWORK);
+    for (at, row) in SEALED.iter().enumerate() {
+        check_row(&rt, is_so(rt.alloc(), &keys, row), at);
+    }
+}
+
+const BAD_CODE: SealFault = SealFault::BadCode {
+    want: WANT,
+    got: GOT,
+};
+
+/// The front of the changed message, which is short.
+const SHORT: [u8; 19] = [
+    0x98, 0x81, 0xA0, 0xA1, 0xA2, 0xA3, 0xA4, 0xA5, 0xA6, 0xA7, 0x4D, 0x7A, 0x00, 0xE4, 0x01, 0xC1,
+    0x26, 0xA5, 0xAF,
+];
+
+/// Messages that are refused, and the fault.
+const REFUSED: &[(&[u8], SealFault)] = &[
+    (&SHORT, SealFault::Short),
+    (&CHANGED, BAD_CODE),
+    (&OTHER_SEQUENCE, SealFault::Sequence(1)),
+];
 
 /// Whether the message is refused for this fault.
 fn is_refused(
@@ -159,41 +185,35 @@ fn is_refused(
 
 #[test]
 fn refusals(rt: HostRuntime) -> Result<(), Fail> {
-    let ends = ends(1, 4)?;
+    let ends = ends(1, 4).ok_or("no ends")?;
     let keys = keys(NETWORK);
-    let bad_code = SealFault::BadCode {
-        want: WANT,
-        got: GOT,
-    };
-    let rows: [(&[u8], SealFault); 3] = [
-        (&CHANGED[..19], SealFault::Short),
-        (&CHANGED, bad_code),
-        (&OTHER_SEQUENCE, SealFault::Sequence(1)),
-    ];
-    for (message, fault) in rows {
-        let refused = is_refused(rt.alloc(), &keys, &ends, message, fault);
-        assert!(rt; refused, "{fault}");
+    for (row, (message, fault)) in REFUSED.iter().enumerate() {
+        check_row(
+            &rt,
+            is_refused(rt.alloc(), &keys, &ends, message, *fault),
+            row,
+        );
     }
     Ok(())
 }
 
-#[test]
-fn names_of_faults(rt: HostRuntime) -> Result<(), Fail> {
-    let rows = [
-        (SealFault::Short, "short"),
-        (
-            SealFault::BadCode {
-                want: WANT,
-                got: GOT,
-            },
-            "badcode",
-        ),
-        (SealFault::Sequence(1), "sequence"),
-        (SealFault::NoMemory, "nomemory"),
-    ];
-    for (fault, name) in rows {
-        let text = format!(in rt.alloc(); "{fault}")?;
-        assert!(rt; text.as_str() == name);
+const NAMES: &[(SealFault, &str)] = &[
+    (SealFault::Short, "short"),
+    (BAD_CODE, "badcode"),
+    (SealFault::Sequence(1), "sequence"),
+    (SealFault::NoMemory, "nomemory"),
+];
+
+fn is_named(alloc: Global, fault: SealFault, name: &str) -> bool {
+    match format!(in alloc; "{fault}") {
+        Ok(text) => text.as_str() == name,
+        Err(_) => false,
     }
-    Ok(())
+}
+
+#[test]
+fn names_of_faults(rt: HostRuntime) {
+    for (row, (fault, name)) in NAMES.iter().enumerate() {
+        check_row(&rt, is_named(rt.alloc(), *fault, name), row);
+    }
 }

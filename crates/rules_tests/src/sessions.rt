@@ -1,5 +1,6 @@
 //! Rows of both ends, with ample memory.
 
+use crate::rows::check_row;
 use std::test::Fail;
 use supervision::{
     BeginFault, DeviceBook, FAIL, Heard, HostNode, MAX_ATTEMPTS, SUCCESS, Told, WORKING, session_id,
@@ -7,9 +8,9 @@ use supervision::{
 
 #[test]
 fn ids_have_six_bits(rt: HostRuntime) {
-    let rows: [(u64, u8); 6] = [(1, 1), (63, 63), (64, 0), (65, 1), (128, 0), (u64::MAX, 63)];
-    for (session, id) in rows {
-        assert!(rt; session_id(session) == id, "of {session}");
+    let rows: &[(u64, u8)] = &[(1, 1), (63, 63), (64, 0), (65, 1), (128, 0), (u64::MAX, 63)];
+    for (row, (session, id)) in rows.iter().enumerate() {
+        check_row(&rt, session_id(*session) == *id, row);
     }
 }
 
@@ -79,9 +80,8 @@ const HOST: &[Call] = &[
 fn a_session_stays_begun_until_its_final_report(rt: HostRuntime) -> Result<(), Fail> {
     let mut node = HostNode::new(rt.alloc());
     node.reserve()?;
-    for (call, row) in HOST.iter().zip(1..100u8) {
-        let same = answers(&mut node, call);
-        assert!(rt; same, "row {row}");
+    for (row, call) in HOST.iter().enumerate() {
+        check_row(&rt, answers(&mut node, call), row);
     }
     Ok(())
 }
@@ -95,28 +95,34 @@ fn hears(book: &mut DeviceBook, id: u8) -> Option<Heard> {
     }
 }
 
-/// Ids that come to the device's end, and its answers; the one at work is finished after the third.
+/// Ids that come to the device's end, and its answers; then the one at work is finished.
 const DEVICE: &[(u8, Heard)] = &[
     (0, Heard::Old),
     (1, Heard::New(1)),
     (1, Heard::Again(WORKING)),
     (2, Heard::Old),
-    (1, Heard::Again(FAIL)),
-    (3, Heard::Old),
-    (2, Heard::New(2)),
 ];
+
+/// What it answers behind these.
+const FINISHED: &[(u8, Heard)] = &[(1, Heard::Again(FAIL)), (3, Heard::Old), (2, Heard::New(2))];
+
+/// Whether the device's end answers all these so.
+fn hears_all(book: &mut DeviceBook, rows: &[(u8, Heard)]) -> bool {
+    for (id, want) in rows {
+        if hears(book, *id) != Some(*want) {
+            return false;
+        }
+    }
+    true
+}
 
 #[test]
 fn a_device_takes_each_session_once(rt: HostRuntime) {
     let mut book = DeviceBook::new();
     assert!(rt; book.status() == SUCCESS);
-    for ((id, want), row) in DEVICE.iter().zip(1..100u8) {
-        if row == 5 {
-            book.finish(FAIL);
-        }
-        let heard = hears(&mut book, *id);
-        assert!(rt; heard == Some(*want), "row {row}");
-    }
+    assert!(rt; hears_all(&mut book, DEVICE));
+    book.finish(FAIL);
+    assert!(rt; hears_all(&mut book, FINISHED));
     assert!(rt; book.taken() == 2);
 }
 
@@ -128,16 +134,26 @@ fn completes(node: &mut HostNode, book: &mut DeviceBook, session: u64) -> bool {
     is_new && node.report(id, SUCCESS) == Told::Final(session)
 }
 
+/// Whether an old id 1 says nothing before this session.
+fn is_old(book: &mut DeviceBook, session: u64) -> bool {
+    session < 63 || session == 65 || hears(book, 1) == Some(Heard::Old)
+}
+
+/// Whether sixty-five sessions are complete.
+fn all_complete(node: &mut HostNode, book: &mut DeviceBook) -> bool {
+    for session in 1..=65u64 {
+        if !is_old(book, session) || !completes(node, book, session) {
+            return false;
+        }
+    }
+    true
+}
+
 /// Sixty-five sessions: the 64th has id 0 and the 65th id 1. An old id 1 says nothing after 62 sessions, and would be a
 /// new session after 64.
 #[test]
 fn ids_come_round(rt: HostRuntime) {
     let mut node = HostNode::new(rt.alloc());
     let mut book = DeviceBook::new();
-    for session in 1..=65u64 {
-        let is_old = session < 63 || session == 65 || hears(&mut book, 1) == Some(Heard::Old);
-        assert!(rt; is_old, "before {session}");
-        let is_complete = completes(&mut node, &mut book, session);
-        assert!(rt; is_complete, "of {session}");
-    }
+    assert!(rt; all_complete(&mut node, &mut book));
 }

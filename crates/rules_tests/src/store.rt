@@ -1,10 +1,10 @@
 //! Rows of the store, with ample memory. The JSON texts are written out by hand from the description in docs/STORE.md.
 
-use crate::nodes::node;
+use crate::rows::{check_row, node};
 use std::alloc::Global;
 use std::test::Fail;
 use value_store::{Held, MAX_PROPERTIES, Store, StoreFault, Stored};
-use zw_base::{EndPoint, Name, NodeId, Property, read_end};
+use zw_base::{EndPoint, Name, NodeId, Property, read_end, read_node};
 
 fn of_root(name: Name) -> Property {
     Property {
@@ -26,25 +26,53 @@ enum Call {
     None,
 }
 
-/// Whether the call answers so.
-fn answers(
+fn reserve(store: &mut Store, node: NodeId, property: &Property) -> Result<(), StoreFault> {
+    store.reserve(node, &[*property])
+}
+
+fn confirm(
     store: &mut Store,
     node: NodeId,
     property: &Property,
-    call: &Call,
-) -> Result<bool, StoreFault> {
+    value: u32,
+) -> Result<(), StoreFault> {
+    store.reserve(node, &[*property])?;
+    store.confirm(node, *property, value);
+    Ok(())
+}
+
+fn hear(
+    store: &mut Store,
+    node: NodeId,
+    property: &Property,
+    value: u32,
+) -> Result<(), StoreFault> {
+    store.hear_report(node, *property, value)
+}
+
+fn get(store: &Store, node: NodeId, property: &Property) -> Option<Stored> {
+    store.get(node, *property)
+}
+
+/// Whether the call answers so.
+fn answers(store: &mut Store, node: NodeId, property: &Property, call: &Call) -> bool {
     match call {
-        Call::Reserve(want) => Ok(store.reserve(node, &[*property]) == *want),
-        Call::Confirm(value) => {
-            store.reserve(node, &[*property])?;
-            store.confirm(node, *property, *value);
-            Ok(true)
-        }
-        Call::Hear(value, want) => Ok(store.hear_report(node, *property, *value) == *want),
+        Call::Reserve(want) => reserve(store, node, property) == *want,
+        Call::Confirm(value) => confirm(store, node, property, *value).is_ok(),
+        Call::Hear(value, want) => hear(store, node, property, *value) == *want,
         Call::Get(confirmed, heard) => {
-            Ok(store.get(node, *property) == Some(values(*confirmed, *heard)))
+            get(store, node, property) == Some(values(*confirmed, *heard))
         }
-        Call::None => Ok(store.get(node, *property).is_none()),
+        Call::None => get(store, node, property).is_none(),
+    }
+}
+
+/// Whether a row is so.
+fn is_so(store: &mut Store, row: &(u8, Name, Call)) -> bool {
+    let (number, name, call) = row;
+    match read_node(*number) {
+        Some(node) => answers(store, node, &of_root(*name), call),
+        None => false,
     }
 }
 
@@ -83,37 +111,53 @@ fn lists_both(alloc: Global, store: &Store) -> Result<bool, Fail> {
 #[test]
 fn values_are_kept_apart(rt: HostRuntime) -> Result<(), Fail> {
     let mut store = Store::new(rt.alloc());
-    for ((number, name, call), row) in APART.iter().zip(1..100u8) {
-        let same = answers(&mut store, node(*number)?, &of_root(*name), call)?;
-        assert!(rt; same, "row {row}");
+    for (at, row) in APART.iter().enumerate() {
+        check_row(&rt, is_so(&mut store, row), at);
     }
-    let listed = lists_both(rt.alloc(), &store)?;
-    assert!(rt; listed);
+    assert!(rt; lists_both(rt.alloc(), &store)?);
     Ok(())
 }
 
-/// Whether a switch is confirmed, and a member of an association of the last end point is heard.
-fn takes_both(store: &mut Store, two: NodeId) -> Result<bool, Fail> {
-    let member = Property {
-        end: read_end(127).ok_or("no end point")?,
-        name: Name::Member(3, node(232)?),
-    };
-    let heard = answers(store, two, &member, &Call::Hear(u32::MAX, Ok(())))?;
-    Ok(answers(store, two, &of_root(Name::Switch), &Call::Confirm(255))? && heard)
+/// A member of an association of the last end point.
+fn member() -> Option<Property> {
+    Some(Property {
+        end: read_end(127)?,
+        name: Name::Member(3, read_node(232)?),
+    })
 }
+
+/// Whether a switch is confirmed, and that member is heard.
+fn takes_both(store: &mut Store, two: NodeId) -> bool {
+    match member() {
+        Some(member) => {
+            hear(store, two, &member, u32::MAX).is_ok()
+                && confirm(store, two, &of_root(Name::Switch), 255).is_ok()
+        }
+        None => false,
+    }
+}
+
+/// Whether the values of the node are printed so.
+fn is_printed(alloc: Global, store: &Store, two: NodeId, want: &str) -> bool {
+    match store.to_json(alloc, two) {
+        Ok(text) => text.as_slice() == want.as_bytes(),
+        Err(_) => false,
+    }
+}
+
+const EMPTY: &str = "{\"node\":2,\"values\":[]}";
+
+const BOTH: &str =
+    "{\"node\":2,\"values\":[{\"confirmed\":255,\"heard\":null,\"property\":\"0/switch\"},\
+     {\"confirmed\":null,\"heard\":4294967295,\"property\":\"127/member:3:232\"}]}";
 
 #[test]
 fn values_are_printed(rt: HostRuntime) -> Result<(), Fail> {
     let two = node(2)?;
     let mut store = Store::new(rt.alloc());
-    let empty = store.to_json(rt.alloc(), two)?;
-    assert!(rt; empty.as_slice() == b"{\"node\":2,\"values\":[]}".as_slice());
-    assert!(rt; takes_both(&mut store, two)?);
-    let text = store.to_json(rt.alloc(), two)?;
-    let want =
-        "{\"node\":2,\"values\":[{\"confirmed\":255,\"heard\":null,\"property\":\"0/switch\"},\
-         {\"confirmed\":null,\"heard\":4294967295,\"property\":\"127/member:3:232\"}]}";
-    assert!(rt; text.as_slice() == want.as_bytes());
+    assert!(rt; is_printed(rt.alloc(), &store, two, EMPTY));
+    assert!(rt; takes_both(&mut store, two));
+    assert!(rt; is_printed(rt.alloc(), &store, two, BOTH));
     Ok(())
 }
 
@@ -126,20 +170,42 @@ const FULL: [(u8, Name, Call); 5] = [
     (3, Name::Switch, Call::Hear(1, Ok(()))),
 ];
 
+fn config_of(end: EndPoint, n: u8) -> Property {
+    Property {
+        end,
+        name: Name::Config(n),
+    }
+}
+
+/// Reserves a parameter of a node and of an end point of it, and the first again. True where all are taken.
+fn reserves(store: &mut Store, node: NodeId, end: EndPoint, n: u8) -> bool {
+    let properties = [
+        of_root(Name::Config(n)),
+        config_of(end, n),
+        of_root(Name::Config(n)),
+    ];
+    store.reserve(node, &properties).is_ok()
+}
+
+/// Reserves 512 properties of node 2. True where all are taken.
+fn fills(store: &mut Store) -> bool {
+    let (Some(node), Some(end)) = (read_node(2), read_end(1)) else {
+        return false;
+    };
+    for n in 0..=255u8 {
+        if !reserves(store, node, end, n) {
+            return false;
+        }
+    }
+    true
+}
+
 #[test]
 fn a_node_has_at_most_512_properties(rt: HostRuntime) -> Result<(), Fail> {
     let mut store = Store::new(rt.alloc());
-    let end = read_end(1).ok_or("no end point")?;
-    for n in 0..=255u8 {
-        let name = Name::Config(n);
-        store.reserve(
-            node(2)?,
-            &[of_root(name), Property { end, name }, of_root(name)],
-        )?;
-    }
-    for ((number, name, call), row) in FULL.iter().zip(1..100u8) {
-        let same = answers(&mut store, node(*number)?, &of_root(*name), call)?;
-        assert!(rt; same, "row {row}");
+    assert!(rt; fills(&mut store));
+    for (at, row) in FULL.iter().enumerate() {
+        check_row(&rt, is_so(&mut store, row), at);
     }
     assert!(rt; MAX_PROPERTIES == 512);
     Ok(())

@@ -1,8 +1,8 @@
 //! Fields by their names, the greatest lengths, and the texts of faults.
 
+use crate::rows::check_row;
 use chip_functions::*;
 use std::alloc::Global;
-use std::test::*;
 
 fn request(alloc: Global, func: u8, body: &[u8]) -> Result<Request, BodyFault> {
     read_request(alloc, func, body)
@@ -16,18 +16,25 @@ fn notice(alloc: Global, func: u8, body: &[u8]) -> Result<Notice, BodyFault> {
     read_notice(alloc, func, body)
 }
 
+fn request_fault(alloc: Global, func: u8, body: &[u8]) -> Option<BodyFault> {
+    request(alloc, func, body).err()
+}
+
+fn notice_fault(alloc: Global, func: u8, body: &[u8]) -> Option<BodyFault> {
+    notice(alloc, func, body).err()
+}
+
 /// The longest SendData that is read, which no frame holds.
 #[test]
 fn greatest_request(rt: HostRuntime) {
     let mut body = [1; 259];
     body[1] = 255;
     assert!(rt; request(rt.alloc(), SEND_DATA, &body).is_ok());
-    let fault = request(rt.alloc(), SEND_DATA, &body[..258]).err();
     let want = BodyFault::Short {
         need: 259,
         got: 258,
     };
-    assert!(rt; fault == Some(want));
+    assert!(rt; request_fault(rt.alloc(), SEND_DATA, &body[..258]) == Some(want));
 }
 
 /// The longest notices that are read, which no frame holds.
@@ -38,12 +45,11 @@ fn greatest_notices(rt: HostRuntime) {
     assert!(rt; notice(rt.alloc(), APPLICATION_COMMAND_HANDLER, &body).is_ok());
     body[0] = UPDATE_RECEIVED;
     assert!(rt; notice(rt.alloc(), APPLICATION_UPDATE, &body).is_ok());
-    let fault = notice(rt.alloc(), APPLICATION_UPDATE, &body[..257]).err();
     let want = BodyFault::Short {
         need: 258,
         got: 257,
     };
-    assert!(rt; fault == Some(want));
+    assert!(rt; notice_fault(rt.alloc(), APPLICATION_UPDATE, &body[..257]) == Some(want));
 }
 
 /// Each field by its name, where no two fields have the same value.
@@ -78,19 +84,24 @@ fn is_known_request(func: u8, value: &Request) -> bool {
     }
 }
 
-#[test]
-fn request_fields(rt: HostRuntime) -> Result<(), Fail> {
-    let rows: [(u8, &[u8]); 3] = [
-        (SEND_DATA, &[2, 1, 3, 4, 5]),
-        (GET_ROUTING_INFO, &[1, 2, 3, 4]),
-        (ADD_NODE, &[5, 7]),
-    ];
-    for (func, body) in rows {
-        let value = request(rt.alloc(), func, body)?;
-        let known = is_known_request(func, &value);
-        assert!(rt; known, "of {func}");
+const REQUESTS: &[(u8, &[u8])] = &[
+    (SEND_DATA, &[2, 1, 3, 4, 5]),
+    (GET_ROUTING_INFO, &[1, 2, 3, 4]),
+    (ADD_NODE, &[5, 7]),
+];
+
+fn reads_request(alloc: Global, func: u8, body: &[u8]) -> bool {
+    match request(alloc, func, body) {
+        Ok(value) => is_known_request(func, &value),
+        Err(_) => false,
     }
-    Ok(())
+}
+
+#[test]
+fn request_fields(rt: HostRuntime) {
+    for (row, (func, body)) in REQUESTS.iter().enumerate() {
+        check_row(&rt, reads_request(rt.alloc(), *func, body), row);
+    }
 }
 
 /// The same of responses.
@@ -156,22 +167,20 @@ fn capabilities() -> [u8; 40] {
     body
 }
 
-#[test]
-fn response_fields(rt: HostRuntime) -> Result<(), Fail> {
-    let init_data = init_data();
-    let capabilities = capabilities();
-    let rows: [(u8, &[u8]); 4] = [
-        (GET_INIT_DATA, &init_data),
-        (MEMORY_GET_ID, &[1, 2, 3, 4, 5]),
-        (GET_NODE_PROTOCOL_INFO, &[1, 2, 3, 4, 5, 6]),
-        (GET_CAPABILITIES, &capabilities),
-    ];
-    for (func, body) in rows {
-        let value = response(rt.alloc(), func, body)?;
-        let known = is_known_response(func, &value);
-        assert!(rt; known, "of {func}");
+fn reads_response(alloc: Global, func: u8, body: &[u8]) -> bool {
+    match response(alloc, func, body) {
+        Ok(value) => is_known_response(func, &value),
+        Err(_) => false,
     }
-    Ok(())
+}
+
+#[test]
+fn response_fields(rt: HostRuntime) {
+    let alloc = rt.alloc();
+    assert!(rt; reads_response(alloc, GET_INIT_DATA, &init_data()));
+    assert!(rt; reads_response(alloc, MEMORY_GET_ID, &[1, 2, 3, 4, 5]));
+    assert!(rt; reads_response(alloc, GET_NODE_PROTOCOL_INFO, &[1, 2, 3, 4, 5, 6]));
+    assert!(rt; reads_response(alloc, GET_CAPABILITIES, &capabilities()));
 }
 
 /// The same of notices.
@@ -222,33 +231,44 @@ fn is_known_notice(func: u8, value: &Notice) -> bool {
     }
 }
 
-#[test]
-fn notice_fields(rt: HostRuntime) -> Result<(), Fail> {
-    let rows: [(u8, &[u8]); 4] = [
-        (APPLICATION_COMMAND_HANDLER, &[3, 2, 1, 4]),
-        (SEND_DATA, &[1, 4]),
-        (APPLICATION_UPDATE, &[0x84, 2, 4, 5, 6, 7, 8]),
-        (ADD_NODE, &[9, 3, 2, 4, 5, 6, 7, 8]),
-    ];
-    for (func, body) in rows {
-        let value = notice(rt.alloc(), func, body)?;
-        let known = is_known_notice(func, &value);
-        assert!(rt; known, "of {func}");
+const NOTICES: &[(u8, &[u8])] = &[
+    (APPLICATION_COMMAND_HANDLER, &[3, 2, 1, 4]),
+    (SEND_DATA, &[1, 4]),
+    (APPLICATION_UPDATE, &[0x84, 2, 4, 5, 6, 7, 8]),
+    (ADD_NODE, &[9, 3, 2, 4, 5, 6, 7, 8]),
+];
+
+fn reads_notice(alloc: Global, func: u8, body: &[u8]) -> bool {
+    match notice(alloc, func, body) {
+        Ok(value) => is_known_notice(func, &value),
+        Err(_) => false,
     }
-    Ok(())
 }
 
 #[test]
-fn names_of_faults(rt: HostRuntime) -> Result<(), Fail> {
-    let faults = [
-        (BodyFault::UnknownFunction(4), "unknownfunction"),
-        (BodyFault::Short { need: 2, got: 1 }, "short"),
-        (BodyFault::BadField(3), "badfield"),
-        (BodyFault::NoMemory, "nomemory"),
-    ];
-    for (fault, name) in faults {
-        let text = format!(in rt.alloc(); "{fault}")?;
-        assert!(rt; text.as_str() == name);
+fn notice_fields(rt: HostRuntime) {
+    for (row, (func, body)) in NOTICES.iter().enumerate() {
+        check_row(&rt, reads_notice(rt.alloc(), *func, body), row);
     }
-    Ok(())
+}
+
+const NAMES: &[(BodyFault, &str)] = &[
+    (BodyFault::UnknownFunction(4), "unknownfunction"),
+    (BodyFault::Short { need: 2, got: 1 }, "short"),
+    (BodyFault::BadField(3), "badfield"),
+    (BodyFault::NoMemory, "nomemory"),
+];
+
+fn is_named(alloc: Global, fault: BodyFault, name: &str) -> bool {
+    match format!(in alloc; "{fault}") {
+        Ok(text) => text.as_str() == name,
+        Err(_) => false,
+    }
+}
+
+#[test]
+fn names_of_faults(rt: HostRuntime) {
+    for (row, (fault, name)) in NAMES.iter().enumerate() {
+        check_row(&rt, is_named(rt.alloc(), *fault, name), row);
+    }
 }

@@ -85,32 +85,70 @@ fn ten(rt: &impl Abort) -> NodeId {
     read_node(10).expect(rt, "a node")
 }
 
+fn push_plain(requests: &mut Requests, node: NodeId, payload: Payload) -> bool {
+    let goes = requests.len() < 64 && payload.bytes().len() > 0;
+    if goes {
+        requests.push(Task::Plain { node, payload });
+    }
+    goes
+}
+
+fn push_segment(requests: &mut Requests, node: NodeId, payload: Payload) -> bool {
+    let goes = requests.len() < 64 && payload.bytes().len() > 0;
+    if goes {
+        requests.push(Task::Segment { node, payload });
+    }
+    goes
+}
+
+fn push_offer(requests: &mut Requests, node: NodeId) -> bool {
+    let goes = requests.len() < 64;
+    if goes {
+        requests.push(Task::Offer {
+            node,
+            nonce: [1, 2, 3, 4, 5, 6, 7, 8],
+        });
+    }
+    goes
+}
+
+/// Puts what has no number but the node behind what waits.
+fn push_short(requests: &mut Requests, node: NodeId, ask: &Ask) -> bool {
+    let goes = requests.len() < 64;
+    if goes {
+        match ask {
+            Ask::NoMore => requests.push(Task::NoMore { node }),
+            Ask::Members => requests.push(Task::Members),
+            Ask::Neighbours => requests.push(Task::Neighbours { node }),
+            _ => requests.push(Task::IsFailed { node }),
+        }
+    }
+    goes
+}
+
+/// Puts an interview or a probe behind what waits.
+fn push_several(requests: &mut Requests, node: NodeId, ask: &Ask) -> bool {
+    let goes = requests.len() <= 61;
+    if goes {
+        match ask {
+            Ask::Interview => requests.push_interview(node),
+            _ => requests.push_probe(),
+        }
+    }
+    goes
+}
+
 /// Puts what is asked for behind what waits.
 pub fn push(rt: &impl Abort, requests: &mut Requests, ask: &Ask) {
     let node = ten(rt);
-    assert!(rt; requests.len() <= 61);
-    match ask {
-        Ask::Plain => {
-            let payload = payload(rt, b"\x25\x02");
-            assert!(rt; payload.bytes().len() > 0);
-            requests.push(Task::Plain { node, payload });
-        }
-        Ask::Segment => {
-            let payload = payload(rt, b"\x55\xe0\x4f");
-            assert!(rt; payload.bytes().len() > 0);
-            requests.push(Task::Segment { node, payload });
-        }
-        Ask::Offer => requests.push(Task::Offer {
-            node,
-            nonce: [1, 2, 3, 4, 5, 6, 7, 8],
-        }),
-        Ask::NoMore => requests.push(Task::NoMore { node }),
-        Ask::Interview => requests.push_interview(node),
-        Ask::Members => requests.push(Task::Members),
-        Ask::Neighbours => requests.push(Task::Neighbours { node }),
-        Ask::IsFailed => requests.push(Task::IsFailed { node }),
-        Ask::Probe => requests.push_probe(),
-    }
+    let goes = match ask {
+        Ask::Plain => push_plain(requests, node, payload(rt, b"\x25\x02")),
+        Ask::Segment => push_segment(requests, node, payload(rt, b"\x55\xe0\x4f")),
+        Ask::Offer => push_offer(requests, node),
+        Ask::Interview | Ask::Probe => push_several(requests, node, ask),
+        _ => push_short(requests, node, ask),
+    };
+    assert!(rt; goes);
 }
 
 fn begin_front(rt: &impl Abort, requests: &mut Requests) {
@@ -206,6 +244,16 @@ fn update(rt: &impl Abort, requests: &mut Requests, update: Update) -> Option<En
     end
 }
 
+/// Whether nothing ends at so many ticks.
+fn ends_nothing(requests: &mut Requests, count: u8) -> bool {
+    for _ in 0..count {
+        if requests.tick().is_some() {
+            return false;
+        }
+    }
+    true
+}
+
 pub fn perform(rt: &impl Abort, requests: &mut Requests, alloc: Global, act: &Act) -> Option<End> {
     match act {
         Act::Ask(ask) => {
@@ -236,9 +284,7 @@ pub fn perform(rt: &impl Abort, requests: &mut Requests, alloc: Global, act: &Ac
         Act::NoUpdate => update(rt, requests, Update::RequestFailed),
         Act::Tick => requests.tick(),
         Act::Ticks(count) => {
-            for _ in 0..*count {
-                assert!(rt; requests.tick().is_none());
-            }
+            assert!(rt; ends_nothing(requests, *count));
             None
         }
     }

@@ -5,7 +5,7 @@ use chip_functions::TransmitStatus;
 use host_requests::Progress;
 
 /// What is done, and where the requests are then.
-type Row = (Act, At);
+pub type Row = (Act, At);
 
 const SUBMITTED: At = At::Goes(Progress::Submitted);
 
