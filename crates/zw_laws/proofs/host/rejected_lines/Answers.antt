@@ -26,6 +26,26 @@ pub returns-clause-value : goal.returns-clause-value
 unfolding computing
 returns-clause-value c = λ law. elim (law.between.1.0) [ inl same ↦ differ 1 0 refl (ap first_refuses same) | inr kept ↦ kept.0 ]
 
+pub returns-clause-unsupported : goal.returns-clause-unsupported
+unfolding computing
+returns-clause-unsupported c = λ law. elim (law.between.1.0) [ inl same ↦ differ 1 0 refl (ap first_refuses same) | inr kept ↦ kept.0 ]
+
+pub returns-clause-unsupervised : goal.returns-clause-unsupervised
+unfolding computing
+returns-clause-unsupervised c = λ law. elim (law.between.1.1.1.0) [ inl same ↦ differ 1 0 refl (ap first_refuses same) | inr kept ↦ kept.0 ]
+
+pub returns-clause-long : goal.returns-clause-long
+unfolding computing
+returns-clause-long c = λ law. elim (law.between.1.1.1.0) [ inl same ↦ differ 1 0 refl (ap first_refuses same) | inr kept ↦ kept.0 ]
+
+pub returns-clause-send_secured : goal.returns-clause-send_secured
+unfolding computing
+returns-clause-send_secured c = λ law. differ 1 0 refl (ap refuses law.between.1.1.1.0)
+
+pub returns-clause-get_secured : goal.returns-clause-get_secured
+unfolding computing
+returns-clause-get_secured c = λ law. differ 1 0 refl (ap refuses law.between.1.1.1.0)
+
 pub returns-clause-full : goal.returns-clause-full
 unfolding computing
 returns-clause-full c = λ law. elim (law.between.1.1.1.1.1.1.1.1.1.1.1.1.1.1.1.1.1.1.1.1.1.1.1.1.1.1.1.1.1.1.1.1.1.0) [ inl same ↦ differ 1 0 refl (ap first_refuses same) | inr kept ↦ kept.0 ]
