@@ -9,8 +9,8 @@ ghost use Rattle.zw_laws.specs.Nodes.{listing_of};
 ghost use Rattle.zw_laws.specs.Devices.{RanAsShown, after_events};
 ghost use Rattle.zw_laws.specs.Records.{ShowsNode};
 ghost use Rattle.zw_laws.specs.Table.{table_of};
-ghost use Rattle.zw_laws.specs.Worked.{plain_exchange, repeated_exchange, lossy_exchange, cancelled_order, restarted_host, sleeping_node, long_message, the_switch, the_sensor, the_plug, with_journal, turned_on, set_apart};
-ghost use Rattle.zw_laws.specs.WorkedDevices.{tick, switch_events, repeated_events, lossy_events, restarted_events, cut_events, sensor_events, hand_events, plain_kept, kept_apart, kept_unknown, kept_waiting, kept_otherwise, kept_failed, by_hand, one_tick, woken_apart, gone_asleep, not_by_hand, unshown, kept_silent};
+ghost use Rattle.zw_laws.specs.Worked.{plain_exchange, repeated_exchange, lossy_exchange, cancelled_order, restarted_host, sleeping_node, sealed_exchange, long_message, the_switch, the_sensor, the_plug, with_journal, turned_on, set_apart, secured};
+ghost use Rattle.zw_laws.specs.WorkedDevices.{tick, switch_events, repeated_events, lossy_events, restarted_events, cut_events, sensor_events, the_keyed_lock, lock_events, hand_events, plain_kept, kept_apart, kept_unknown, kept_waiting, kept_otherwise, kept_failed, by_hand, one_tick, woken_apart, gone_asleep, not_by_hand, unshown, kept_silent};
 
 /// The devices of worked transcripts did what these show, and changed as the once-only law was shown them. A device that was woken before it
 /// joined did what is shown too, though what it said then is on no air.
@@ -24,6 +24,8 @@ pub fn worked_devices()
     ensures cancelled { RanAsShown 2 cancelled_order the_switch (after_events the_switch switch_events) }
     ensures restarted { RanAsShown 2 restarted_host the_switch (after_events the_switch restarted_events) }
     ensures cut { RanAsShown 8 long_message the_plug (after_events the_plug cut_events) }
+    ensures sealed { RanAsShown 4 sealed_exchange the_keyed_lock (after_events the_keyed_lock lock_events) }
+    ensures secured { (after_events the_keyed_lock lock_events).journal ≡ secured }
     ensures by_hand { RanAsShown 2 by_hand the_switch (after_events the_switch hand_events) }
     ensures ticked { RanAsShown 2 one_tick the_switch (after_events the_switch (tick ∷ [])) }
     ensures apart { RanAsShown 5 woken_apart the_sensor (after_events the_sensor (Wakes ∷ [])) }
