@@ -1,6 +1,7 @@
 -- What happened to the devices of worked transcripts, the records of a plain exchange, small transcripts of devices, and others with one thing wrong.
-use Rattle.std.specs.Prelude.{ℕ, false, List, [], ◌∷◌, ◌++◌, codes, replicate, take, drop, Some, None}
+use Rattle.std.specs.Prelude.{ℕ, false, List, [], ◌∷◌, ◌++◌, map, codes, replicate, take, drop, Some, None}
 use Rattle.zw_base.specs.declared.property.Name.TheVariants as names
+use Rattle.zw_base.specs.declared.property.Setting.{Setting}
 use Rattle.zw_base.specs.declared.property.By.TheVariants.{Local}
 use Rattle.zw_order.specs.declared.order.Word.TheVariants.{On}
 use Rattle.zw_order.specs.declared.order.What.TheVariants.{Value}
@@ -13,7 +14,7 @@ use Rattle.host_keep.specs.declared.record.Record.{Record}
 use Rattle.host_keep.specs.declared.record.Record.TheVariants as records
 use Rattle.host_keep.specs.Kept.{KeptNode, kept_of, node_of}
 use Rattle.zw_text.specs.declared.entry.Entry.{Entry}
-use Rattle.zw_text.specs.declared.entry.Entry.TheVariants.{Said, Air, Dev}
+use Rattle.zw_text.specs.declared.entry.Entry.TheVariants.{Said, Air, Dev, TableEnd, TableNode, TableValue, Device}
 use Rattle.zw_laws.specs.Devices.{after_events}
 use Rattle.zw_laws.specs.Worked.{bytes, plain_exchange, network_key, the_switch, the_lock}
 
@@ -82,6 +83,20 @@ plain_records =
 -- what is kept of the switch by these records
 abbrev pub plain_kept : KeptNode
 plain_kept = node_of (kept_of plain_records) 2
+
+-- ---- tables
+
+-- the table with the switch alone: the clock, the commands of its sessions, and its value, which is confirmed
+abbrev pub switch_table : ℕ → List ℕ → ℕ → List Entry
+switch_table clock commands value =
+    TableEnd clock ∷ TableNode 2 commands ∷ TableValue 2 (record { end = 0; name = names.Switch }) (Some value) None
+    ∷ Device 2 (setting 0 names.Switch value) ∷ []
+
+-- the table with the device of another node alone, which had one command: what was confirmed of it, and what it shows; node 2 has no device
+abbrev pub table_with : ℕ → ℕ → List Setting → List Setting → List Entry
+table_with clock node confirmed shown =
+    TableEnd clock ∷ TableNode 2 [] ∷ TableNode node (1 ∷ [])
+    ∷ (map (λ setting. TableValue node setting.property (Some setting.value) None) confirmed ++ map (Device node) shown)
 
 -- ---- by lines alone
 
