@@ -66,7 +66,7 @@ returns-clause-full c = λ law. elim (law.between.1.1.1.1.1.1.1.1.1.1.1.1.1.1.1.
 pub returns-clause-store : goal.returns-clause-store
 unfolding computing
 returns-clause-store c = λ law. elim (behind (MayAnswer (the_switch ∷ [])) [] (many_reported 512) (Said (codes "set 2 on")) (Accepted 1 2) law.between)
-  [ inl same ↦ differ 1 0 refl (ap first_refuses same) | inr kept ↦ kept.0 ]
+    [ inl same ↦ differ 1 0 refl (ap first_refuses same) | inr kept ↦ kept.0 ]
 
 pub returns-clause-cancel : goal.returns-clause-cancel
 unfolding computing
