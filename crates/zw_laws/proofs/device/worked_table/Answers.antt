@@ -34,6 +34,14 @@ pub returns-clause-cut : goal.returns-clause-cut
 unfolding computing_devices
 returns-clause-cut c = refl
 
+pub returns-clause-heard : goal.returns-clause-heard
+unfolding computing_devices
+returns-clause-heard c = refl
+
+pub returns-clause-two : goal.returns-clause-two
+unfolding computing_devices
+returns-clause-two c = refl
+
 pub returns-clause-records : goal.returns-clause-records
 unfolding computing_devices
 returns-clause-records c = record { joined = refl; interviewed = refl; waits = refl; begun = refl; ended = refl }
