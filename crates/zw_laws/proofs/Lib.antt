@@ -5,3 +5,4 @@ pub mod Entries
 mod Dues
 mod Ciphering
 mod Sealing
+mod Headlines

@@ -1,5 +1,5 @@
 -- The sealed messages of the worked lock: their keys, and of each the key stream and the code.
-use Rattle.std.proofs.Common.{◌≡◌, List, ℕ, [], ◌∷◌, ◌++◌, ◌+◌, refl, ap, ◌∙◌, bit_xor}
+use Rattle.std.proofs.Common.{◌≡◌, List, ℕ, [], ◌∷◌, ◌++◌, ◌+◌, ◌-◌, length, refl, ap, ◌∙◌, bit_xor}
 use Rattle.std.specs.Prelude.{Some, None, Option, take, replicate, slice_index, map, if◌then◌else◌, ◌&&◌, ◌==◌, ⊤}
 use Rattle.std.specs.List.{range_with_len}
 use Rattle.std.specs.Str.{bytes_eq}
@@ -41,6 +41,12 @@ pub keys_are : keys_of network_key ≡ the_keys
 unfolding keys_of
 keys_are = rw (encrypting_is, coding_is) refl
 
+-- what a message with this cipher text and code opens to, by the code that it should have and its key stream
+abbrev opened_by : List ℕ → List ℕ → List ℕ → List ℕ → Option (List ℕ)
+opened_by text said code block =
+    if bytes_eq code said && (bit_xor (slice_index text 0) (slice_index block 0) == 0)
+    then Some (map (λ j. bit_xor (slice_index text (1 + j)) (slice_index block (1 + j))) (range_with_len 0 (length text - 1))) else None
+
 -- ---- what the host sealed
 
 abbrev pub set_own : List ℕ
@@ -58,7 +64,7 @@ set_ends = record { sender = 1; receiver = 4 }
 abbrev set_text : List ℕ
 set_text = 0x6C ∷ 0xCE ∷ 0xA9 ∷ 0xD1 ∷ 0x32 ∷ 0xAB ∷ 0x2C ∷ 0x95 ∷ []
 
-abbrev set_code : List ℕ
+abbrev pub set_code : List ℕ
 set_code = 0x8A ∷ 0x57 ∷ 0x3A ∷ 0x88 ∷ 0xD6 ∷ 0xBE ∷ 0x28 ∷ 0x7E ∷ []
 
 abbrev set_stream : List ℕ
@@ -88,6 +94,14 @@ sealed_set =
     ∙ ap (λ (text : List ℕ). 0x98 ∷ 0x81 ∷ set_own ++ (text ++ 0x01 ∷ code_of the_keys (set_own ++ set_nonce) set_ends text))
     (ap (λ (block : List ℕ). map (λ j. bit_xor (slice_index (0 ∷ set_plain) j) (slice_index block j)) (range_with_len 0 8)) set_stream_is)
     ∙ ap set_with set_code_is
+
+-- and opens to it
+pub opened_set : unsealed_at (keys_of network_key) set_nonce set_ends (set_with set_code) ≡ Some set_plain
+unfolding unsealed_at ofb_from key_block
+opened_set =
+    ap (λ (keys : Keys). unsealed_at keys set_nonce set_ends (set_with set_code)) keys_are
+    ∙ ap (λ (code : List ℕ). opened_by set_text set_code code (aes encrypting (set_own ++ set_nonce))) set_code_is
+    ∙ ap (λ (block : List ℕ). opened_by set_text set_code set_code block) set_stream_is
 
 -- ---- what the lock sealed
 
@@ -128,19 +142,22 @@ report_code_is =
     (enciphered coding (sum_of_blocks (replicate 16 0) (block_at covers 0)) refl)
     ∙ ap (λ (block : List ℕ). take 8 block) (enciphered coding _ refl) ∙ refl
 
--- what the message with this code opens to, by the code that it should have and its key stream
-abbrev opened_by : List ℕ → List ℕ → List ℕ → Option (List ℕ)
-opened_by said code block =
-    if bytes_eq code said && (bit_xor (slice_index report_text 0) (slice_index block 0) == 0)
-    then Some (map (λ j. bit_xor (slice_index report_text (1 + j)) (slice_index block (1 + j))) (range_with_len 0 5)) else None
+-- its text seals to it
+pub sealed_report : sealed_text (keys_of network_key) report_own report_nonce report_ends report_plain ≡ report_with report_code
+unfolding sealed_text ofb_from key_block
+sealed_report =
+    ap (λ (keys : Keys). sealed_text keys report_own report_nonce report_ends report_plain) keys_are
+    ∙ ap (λ (text : List ℕ). 0x98 ∷ 0x81 ∷ report_own ++ (text ++ 0x01 ∷ code_of the_keys (report_own ++ report_nonce) report_ends text))
+    (ap (λ (block : List ℕ). map (λ j. bit_xor (slice_index (0 ∷ report_plain) j) (slice_index block j)) (range_with_len 0 6)) report_stream_is)
+    ∙ ap report_with report_code_is
 
--- it opens to its text
+-- and opens to it
 pub opened_report : unsealed_at (keys_of network_key) report_nonce report_ends (report_with report_code) ≡ Some report_plain
 unfolding unsealed_at ofb_from key_block
 opened_report =
     ap (λ (keys : Keys). unsealed_at keys report_nonce report_ends (report_with report_code)) keys_are
-    ∙ ap (λ (code : List ℕ). opened_by report_code code (aes encrypting (report_own ++ report_nonce))) report_code_is
-    ∙ ap (λ (block : List ℕ). opened_by report_code report_code block) report_stream_is
+    ∙ ap (λ (code : List ℕ). opened_by report_text report_code code (aes encrypting (report_own ++ report_nonce))) report_code_is
+    ∙ ap (λ (block : List ℕ). opened_by report_text report_code report_code block) report_stream_is
 
 -- with another code it does not
 abbrev pub other_code : List ℕ
@@ -150,4 +167,4 @@ pub unopened_report : unsealed_at (keys_of network_key) report_nonce report_ends
 unfolding unsealed_at ofb_from key_block
 unopened_report =
     ap (λ (keys : Keys). unsealed_at keys report_nonce report_ends (report_with other_code)) keys_are
-    ∙ ap (λ (code : List ℕ). opened_by other_code code (aes encrypting (report_own ++ report_nonce))) report_code_is
+    ∙ ap (λ (code : List ℕ). opened_by report_text other_code code (aes encrypting (report_own ++ report_nonce))) report_code_is

@@ -250,7 +250,7 @@ long_message =
 abbrev pub network_key : List ℕ
 network_key = bytes (codes "000102030405060708090A0B0C0D0E0F")
 
--- the devices of these runs, as their makers leave them
+-- the devices of these runs, as their makers leave them; the lock without its key, of which most laws say nothing
 abbrev pub the_switch : State
 the_switch = fresh 2 kinds.Switch []
 

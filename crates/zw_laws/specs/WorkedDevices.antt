@@ -1,6 +1,7 @@
 -- What happened to the devices of worked transcripts, the records of a plain exchange, small transcripts of devices, and others with one thing wrong.
-use Rattle.std.specs.Prelude.{ℕ, false, List, [], ◌∷◌, ◌++◌, codes, take, drop, Some, None}
+use Rattle.std.specs.Prelude.{ℕ, false, List, [], ◌∷◌, ◌++◌, map, codes, replicate, take, drop, Some, None}
 use Rattle.zw_base.specs.declared.property.Name.TheVariants as names
+use Rattle.zw_base.specs.declared.property.Setting.{Setting}
 use Rattle.zw_base.specs.declared.property.By.TheVariants.{Local}
 use Rattle.zw_order.specs.declared.order.Word.TheVariants.{On}
 use Rattle.zw_order.specs.declared.order.What.TheVariants.{Value}
@@ -13,9 +14,9 @@ use Rattle.host_keep.specs.declared.record.Record.{Record}
 use Rattle.host_keep.specs.declared.record.Record.TheVariants as records
 use Rattle.host_keep.specs.Kept.{KeptNode, kept_of, node_of}
 use Rattle.zw_text.specs.declared.entry.Entry.{Entry}
-use Rattle.zw_text.specs.declared.entry.Entry.TheVariants.{Said, Air, Dev}
+use Rattle.zw_text.specs.declared.entry.Entry.TheVariants.{Said, Air, Dev, TableEnd, TableNode, TableValue, Device}
 use Rattle.zw_laws.specs.Devices.{after_events}
-use Rattle.zw_laws.specs.Worked.{bytes, plain_exchange, the_switch}
+use Rattle.zw_laws.specs.Worked.{bytes, plain_exchange, network_key, the_switch, the_lock}
 
 -- a tick, and a payload that is heard; nothing is drawn
 abbrev pub tick : DeviceEvent
@@ -53,6 +54,27 @@ sensor_events =
     Wakes ∷ tick ∷ hear (codes "8408") ∷ tick ∷ tick ∷ tick ∷ Wakes ∷ tick ∷ hear (codes "6C010106840400012C01") ∷ tick ∷ tick
     ∷ hear (codes "8408") ∷ tick ∷ tick ∷ []
 
+-- the lock of these runs, which has the network key
+abbrev pub the_keyed_lock : State
+the_keyed_lock = record the_lock { key = network_key }
+
+-- what the host sealed for it
+abbrev pub sealed_set : List ℕ
+sealed_set = bytes (codes "98816B71E54E0F8EE3186CCEA9D132AB2C95018A573A88D6BE287E")
+
+-- it is asked for a nonce, which it draws, and again, where it gives the same one; up to what the host sealed
+abbrev pub lock_begins : List DeviceEvent
+lock_begins =
+    replicate 2 tick ++ (Hears (bytes (codes "9840")) (bytes (codes "01ED7E19638089D9")) ∷ replicate 101 tick) ++ (hear (codes "9840") ∷ replicate 2 tick)
+
+-- and behind that: it is given a nonce, for which it seals its report under one that it draws, and hears again what was sealed
+abbrev pub lock_goes_on : List DeviceEvent
+lock_goes_on =
+    replicate 2 tick ++ (Hears (bytes (codes "9880019E0A1249BB594F")) (bytes (codes "0AED115731C616E7")) ∷ replicate 6 tick) ++ Hears sealed_set [] ∷ []
+
+abbrev pub lock_events : List DeviceEvent
+lock_events = lock_begins ++ Hears sealed_set [] ∷ lock_goes_on
+
 -- the records of the plain exchange
 abbrev pub plain_records : List Record
 plain_records =
@@ -61,6 +83,20 @@ plain_records =
 -- what is kept of the switch by these records
 abbrev pub plain_kept : KeptNode
 plain_kept = node_of (kept_of plain_records) 2
+
+-- ---- tables
+
+-- the table with the switch alone: the clock, the commands of its sessions, and its value, which is confirmed
+abbrev pub switch_table : ℕ → List ℕ → ℕ → List Entry
+switch_table clock commands value =
+    TableEnd clock ∷ TableNode 2 commands ∷ TableValue 2 (record { end = 0; name = names.Switch }) (Some value) None
+    ∷ Device 2 (setting 0 names.Switch value) ∷ []
+
+-- the table with the device of another node alone, which had one command: what was confirmed of it, and what it shows; node 2 has no device
+abbrev pub table_with : ℕ → ℕ → List Setting → List Setting → List Entry
+table_with clock node confirmed shown =
+    TableEnd clock ∷ TableNode 2 [] ∷ TableNode node (1 ∷ [])
+    ∷ (map (λ setting. TableValue node setting.property (Some setting.value) None) confirmed ++ map (Device node) shown)
 
 -- ---- by lines alone
 

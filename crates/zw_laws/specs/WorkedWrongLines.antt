@@ -1,11 +1,14 @@
 -- Lines that pass though they are to be refused, or are refused otherwise than they may be, and the heard values of lines that follow.
-use Rattle.std.specs.Prelude.{ℕ, zero, suc, List, [], ◌∷◌, ◌++◌, codes}
+use Rattle.std.specs.Prelude.{ℕ, zero, suc, ◌*◌, ◌/◌, ◌%◌, List, [], ◌∷◌, ◌++◌, map, replicate, codes}
+use Rattle.std.specs.List.{range_with_len}
+use Rattle.device_stack.specs.declared.kind.Kind.TheVariants as kinds
+use Rattle.device_stack.specs.State.{State, fresh}
 use Rattle.zw_base.specs.declared.property.Name.TheVariants as names
 use Rattle.host_orders.specs.Settings.{setting}
 use Rattle.zw_text.specs.declared.entry.Refusal.{Refusal}
 use Rattle.zw_text.specs.declared.entry.Refusal.TheVariants as refusals
 use Rattle.zw_text.specs.declared.entry.Entry.{Entry}
-use Rattle.zw_text.specs.declared.entry.Entry.TheVariants.{Said, Accepted, Refused, Report, Time}
+use Rattle.zw_text.specs.declared.entry.Entry.TheVariants.{Said, Accepted, Refused, Interviewed, Report, Time}
 
 -- a line passes
 abbrev pub passes : List ℕ → List Entry
@@ -22,6 +25,22 @@ lets_in words node = Said words ∷ Accepted 1 node ∷ []
 -- node 3 has joined, and was not interviewed; an order for it is let in
 abbrev pub let_in_unknown : List Entry
 let_in_unknown = Said (codes "join 3") ∷ lets_in (codes "set 3 on") 3
+
+-- a node has joined and was interviewed, and then
+abbrev pub when_known : List ℕ → ℕ → List Entry → List Entry
+when_known join node rest = Said join ∷ Interviewed node ∷ rest
+
+-- a switch without Supervision
+abbrev pub the_relay : State
+the_relay = fresh 3 kinds.Relay []
+
+-- `bulk 8 0 ..`: so many values, each of which is 0
+abbrev pub bulk_of : ℕ → List ℕ
+bulk_of count = codes "bulk 8 0 " ++ replicate (2 * count) 48
+
+-- so many values of the switch are reported, each of another property
+abbrev pub many_reported : ℕ → List Entry
+many_reported count = map (λ place. Report 2 (setting (place / 256) (names.Config (place % 256)) 0)) (range_with_len 0 count)
 
 -- so many orders for the switch are let in, from this number on, and none begins
 abbrev pub wait_from : ℕ → ℕ → List Entry

@@ -1,16 +1,17 @@
 //! What the laws of devices, of the table and of records say of worked transcripts.
 
-ghost use Rattle.std.specs.Prelude.{◌≡◌, true, [], ◌∷◌, Some, None};
+ghost use Rattle.std.specs.Prelude.{◌≡◌, true, [], ◌∷◌, replicate, Some, None};
 ghost use Rattle.zw_base.specs.declared.property.Name.TheVariants as names;
-ghost use Rattle.host_orders.specs.Settings.{setting};
+ghost use Rattle.host_orders.specs.Settings.{setting, config_settings};
 ghost use Rattle.device_sim.specs.Event.DeviceEvent.{Wakes};
 ghost use Rattle.zw_text.specs.declared.entry.Entry.TheVariants.{TableEnd, TableNode, TableValue, Device};
 ghost use Rattle.zw_laws.specs.Nodes.{listing_of};
 ghost use Rattle.zw_laws.specs.Devices.{RanAsShown, after_events};
 ghost use Rattle.zw_laws.specs.Records.{ShowsNode};
 ghost use Rattle.zw_laws.specs.Table.{table_of};
-ghost use Rattle.zw_laws.specs.Worked.{plain_exchange, repeated_exchange, lossy_exchange, cancelled_order, restarted_host, sleeping_node, long_message, the_switch, the_sensor, the_plug, with_journal, turned_on, set_apart};
-ghost use Rattle.zw_laws.specs.WorkedDevices.{tick, switch_events, repeated_events, lossy_events, restarted_events, cut_events, sensor_events, hand_events, plain_kept, kept_apart, kept_unknown, kept_waiting, kept_otherwise, kept_failed, by_hand, one_tick, woken_apart, gone_asleep, not_by_hand, unshown, kept_silent};
+ghost use Rattle.zw_laws.specs.Worked.{plain_exchange, repeated_exchange, lossy_exchange, cancelled_order, restarted_host, sleeping_node, sealed_exchange, long_message, the_switch, the_sensor, the_plug, with_journal, turned_on, turned_on_and_off, set_apart, secured, configured};
+ghost use Rattle.zw_laws.specs.WorkedWrongLines.{reported_twice};
+ghost use Rattle.zw_laws.specs.WorkedDevices.{tick, switch_events, repeated_events, lossy_events, restarted_events, cut_events, sensor_events, the_keyed_lock, lock_events, hand_events, switch_table, table_with, plain_kept, kept_apart, kept_unknown, kept_waiting, kept_otherwise, kept_failed, by_hand, one_tick, woken_apart, gone_asleep, not_by_hand, unshown, kept_silent};
 
 /// The devices of worked transcripts did what these show, and changed as the once-only law was shown them. A device that was woken before it
 /// joined did what is shown too, though what it said then is on no air.
@@ -24,6 +25,8 @@ pub fn worked_devices()
     ensures cancelled { RanAsShown 2 cancelled_order the_switch (after_events the_switch switch_events) }
     ensures restarted { RanAsShown 2 restarted_host the_switch (after_events the_switch restarted_events) }
     ensures cut { RanAsShown 8 long_message the_plug (after_events the_plug cut_events) }
+    ensures sealed { RanAsShown 4 sealed_exchange the_keyed_lock (after_events the_keyed_lock lock_events) }
+    ensures secured { (after_events the_keyed_lock lock_events).journal ≡ secured }
     ensures by_hand { RanAsShown 2 by_hand the_switch (after_events the_switch hand_events) }
     ensures ticked { RanAsShown 2 one_tick the_switch (after_events the_switch (tick ∷ [])) }
     ensures apart { RanAsShown 5 woken_apart the_sensor (after_events the_sensor (Wakes ∷ [])) }
@@ -39,11 +42,23 @@ pub fn rejected_devices()
     ensures silent { RanAsShown 2 kept_silent the_switch (after_events the_switch hand_events) → ⊥ }
 {}
 
-/// The table of a plain exchange, and what its records give of the node.
+/// The tables of worked transcripts, each with its one device; one with a value that was heard, and one with a device of each joined node. And what
+/// the records of the plain exchange give of the node.
 pub fn worked_table()
-    ensures table { table_of (listing_of (the_switch ∷ [])) 2 plain_exchange (with_journal the_switch turned_on ∷ []) ≡
-        TableEnd 2 ∷ TableNode 2 (1 ∷ []) ∷ TableValue 2 (record { end = 0; name = names.Switch }) (Some 255) None
-        ∷ Device 2 (setting 0 names.Switch 255) ∷ [] }
+    ensures plain { table_of (listing_of (the_switch ∷ [])) 2 plain_exchange (with_journal the_switch turned_on ∷ []) ≡ switch_table 2 (1 ∷ []) 255 }
+    ensures repeated { table_of (listing_of (the_switch ∷ [])) 4 repeated_exchange (with_journal the_switch turned_on ∷ []) ≡ switch_table 4 (1 ∷ []) 255 }
+    ensures lossy { table_of (listing_of (the_switch ∷ [])) 10 lossy_exchange (with_journal the_switch turned_on_and_off ∷ []) ≡ switch_table 10 (1 ∷ 2 ∷ []) 0 }
+    ensures cancelled { table_of (listing_of (the_switch ∷ [])) 2 cancelled_order (with_journal the_switch turned_on ∷ []) ≡ switch_table 2 (1 ∷ []) 255 }
+    ensures restarted { table_of (listing_of (the_switch ∷ [])) 4 restarted_host (with_journal the_switch turned_on ∷ []) ≡ switch_table 4 (1 ∷ []) 255 }
+    ensures sleeping { table_of (listing_of (the_sensor ∷ [])) 9 sleeping_node (with_journal the_sensor set_apart ∷ []) ≡ table_with 9 5 (setting 0 names.Interval 300 ∷ []) (setting 0 names.Interval 300 ∷ setting 0 names.Sensor 0 ∷ []) }
+    ensures sealed { table_of (listing_of (the_keyed_lock ∷ [])) 113 sealed_exchange (with_journal the_keyed_lock secured ∷ []) ≡ table_with 113 4 (setting 0 names.Lock 255 ∷ []) (setting 0 names.Lock 255 ∷ []) }
+    ensures cut { table_of (listing_of (the_plug ∷ [])) 6 long_message (with_journal the_plug configured ∷ []) ≡ table_with 6 8 (config_settings 0 0 (replicate 37 1)) (config_settings 0 0 (replicate 37 1)) }
+    ensures heard { table_of (listing_of (the_switch ∷ [])) 0 reported_twice (the_switch ∷ []) ≡
+        TableEnd 0 ∷ TableNode 2 [] ∷ TableValue 2 (record { end = 0; name = names.Switch }) None (Some 0) ∷ Device 2 (setting 0 names.Switch 0) ∷ [] }
+    ensures two { table_of (listing_of (the_sensor ∷ the_switch ∷ [])) 9 sleeping_node (with_journal the_sensor set_apart ∷ the_switch ∷ []) ≡
+        TableEnd 9 ∷ TableNode 2 [] ∷ Device 2 (setting 0 names.Switch 0) ∷ TableNode 5 (1 ∷ [])
+        ∷ TableValue 5 (record { end = 0; name = names.Interval }) (Some 300) None
+        ∷ Device 5 (setting 0 names.Interval 300) ∷ Device 5 (setting 0 names.Sensor 0) ∷ [] }
     ensures records { ShowsNode plain_exchange 2 plain_kept }
 {}
 

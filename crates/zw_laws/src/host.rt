@@ -1,6 +1,6 @@
 //! What the laws of answers and of stored values say of worked transcripts, and of others with one thing wrong.
 
-ghost use Rattle.std.specs.Prelude.{◌≡◌, true, false, [], ◌∷◌, Some, None, codes};
+ghost use Rattle.std.specs.Prelude.{◌≡◌, true, false, [], ◌∷◌, ◌++◌, Some, None, codes};
 ghost use Rattle.zw_base.specs.declared.property.Name.TheVariants as names;
 ghost use Rattle.zw_text.specs.declared.entry.Refusal.TheVariants as refusals;
 ghost use Rattle.zw_laws.specs.Nodes.{listing_of};
@@ -8,7 +8,7 @@ ghost use Rattle.zw_laws.specs.Answers.{AnswersLines, CancelsWhenAsked};
 ghost use Rattle.zw_laws.specs.Stores.{StoresConfirmed, heard_value};
 ghost use Rattle.zw_laws.specs.Worked.{plain_exchange, repeated_exchange, lossy_exchange, cancelled_order, restarted_host, sleeping_node, sealed_exchange, refused_lines, long_message, the_switch, the_sensor, the_lock, the_plug};
 ghost use Rattle.zw_laws.specs.WorkedWrongHost.{unanswered, unanswered_at_last, failed_for_nothing, line_refused, line_numbered, refused_freely, numbered_wrongly, answered_unasked, joined_again, cancelled_unasked, cancelled_late, cancelled_another, passed_over, not_stored, stored_otherwise, stored_before};
-ghost use Rattle.zw_laws.specs.WorkedWrongLines.{passes, refused_so, lets_in, let_in_unknown, wait_from, reported_twice, reported_before_restart, reported_before_fault};
+ghost use Rattle.zw_laws.specs.WorkedWrongLines.{passes, refused_so, lets_in, let_in_unknown, when_known, the_relay, bulk_of, many_reported, wait_from, reported_twice, reported_before_restart, reported_before_fault};
 
 /// In worked transcripts each line has the answer that is due.
 pub fn worked_answers()
@@ -79,13 +79,30 @@ pub fn worked_heard()
     ensures refused { heard_value reported_before_fault 2 (record { end = 0; name = names.Switch }) ≡ Some 0 }
 {}
 
-/// A line of each kind that is to be refused does not pass: an order for a node that has not joined, is not known, with a bad value, or where 16
-/// wait; and the other lines. None is refused for a queue in which fewer than 64 wait, for a keeper that it does not ask, or for its records.
+/// A line that is to be refused is refused as the first rule that applies says: for a class or Supervision that the node does not list, for a message
+/// that is too long, and for a node that takes sealed messages alone. One byte less is let in.
+pub fn worked_refusals()
+    ensures unsupported { AnswersLines true (the_switch ∷ []) (refused_so (codes "mode 2 1") (refusals.Unsupported 0x40)) }
+    ensures unsupervised { AnswersLines true (the_relay ∷ []) (when_known (codes "join 3") 3 (refused_so (codes "set 3 on") refusals.Unsupervised)) }
+    ensures long { AnswersLines true (the_plug ∷ []) (when_known (codes "join 8") 8 (refused_so (bulk_of 250) (refusals.TooLong 256))) }
+    ensures longest { AnswersLines true (the_plug ∷ []) (when_known (codes "join 8") 8 (lets_in (bulk_of 249) 8)) }
+    ensures send_secured { AnswersLines true (the_lock ∷ []) (when_known (codes "join 4") 4 (refused_so (codes "send 4 on") refusals.Secured)) }
+    ensures get_secured { AnswersLines true (the_lock ∷ []) (when_known (codes "join 4") 4 (refused_so (codes "get 4") refusals.Secured)) }
+{}
+
+/// A line of each kind that is to be refused does not pass: an order for a node that has not joined, is not known, does not list its class or
+/// Supervision, with a bad value, too long a message, where 16 wait, or with a 513th property; and the other lines. None is refused for a queue in which fewer than 64 wait, for a keeper that it does not ask, or for its records.
 pub fn rejected_lines()
     ensures joined { AnswersLines true (the_switch ∷ []) (lets_in (codes "set 3 on") 3) → ⊥ }
     ensures known { AnswersLines true (the_switch ∷ []) let_in_unknown → ⊥ }
     ensures value { AnswersLines true (the_switch ∷ []) (lets_in (codes "set 2 40") 2) → ⊥ }
+    ensures unsupported { AnswersLines true (the_switch ∷ []) (lets_in (codes "mode 2 1") 2) → ⊥ }
+    ensures unsupervised { AnswersLines true (the_relay ∷ []) (when_known (codes "join 3") 3 (lets_in (codes "set 3 on") 3)) → ⊥ }
+    ensures long { AnswersLines true (the_plug ∷ []) (when_known (codes "join 8") 8 (lets_in (bulk_of 250) 8)) → ⊥ }
     ensures full { AnswersLines true (the_switch ∷ []) (wait_from 1 17) → ⊥ }
+    ensures store { AnswersLines true (the_switch ∷ []) (many_reported 512 ++ lets_in (codes "set 2 on") 2) → ⊥ }
+    ensures send_secured { AnswersLines true (the_lock ∷ []) (when_known (codes "join 4") 4 (passes (codes "send 4 on"))) → ⊥ }
+    ensures get_secured { AnswersLines true (the_lock ∷ []) (when_known (codes "join 4") 4 (passes (codes "get 4"))) → ⊥ }
     ensures cancel { AnswersLines true (the_switch ∷ []) (passes (codes "cancel 1")) → ⊥ }
     ensures send { AnswersLines true (the_switch ∷ []) (passes (codes "send 3 on")) → ⊥ }
     ensures get { AnswersLines true (the_switch ∷ []) (passes (codes "get 3")) → ⊥ }

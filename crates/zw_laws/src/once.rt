@@ -82,9 +82,16 @@ pub fn rejected_once()
     ensures value { ConfirmsLast (listing_of (the_switch ∷ [])) 2 plain_exchange (with_journal the_switch turned_off) → ⊥ }
 {}
 
-/// The headline holds of the plain exchange, with the switch as its maker leaves it.
+/// The headline holds of the worked transcripts, each with its device as its maker leaves it.
 pub fn worked_headline()
     ensures plain { Headline (the_switch ∷ []) (with_journal the_switch turned_on ∷ []) plain_exchange }
+    ensures repeated { Headline (the_switch ∷ []) (with_journal the_switch turned_on ∷ []) repeated_exchange }
+    ensures lossy { Headline (the_switch ∷ []) (with_journal the_switch turned_on_and_off ∷ []) lossy_exchange }
+    ensures cancelled { Headline (the_switch ∷ []) (with_journal the_switch turned_on ∷ []) cancelled_order }
+    ensures restarted { Headline (the_switch ∷ []) (with_journal the_switch turned_on ∷ []) restarted_host }
+    ensures sleeping { Headline (the_sensor ∷ []) (with_journal the_sensor set_apart ∷ []) sleeping_node }
+    ensures sealed { Headline (the_lock ∷ []) (with_journal the_lock secured ∷ []) sealed_exchange }
+    ensures cut { Headline (the_plug ∷ []) (with_journal the_plug configured ∷ []) long_message }
 {}
 
 /// Each of these breaks one part of the headline: a session that begins early, success before the change, and a change that was

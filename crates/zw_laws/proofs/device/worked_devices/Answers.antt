@@ -1,16 +1,26 @@
-use Rattle.std.proofs.Common.{◌≡◌, [], ◌∷◌, length, refl, ap, arith}
+use Rattle.std.proofs.Common.{◌≡◌, ℕ, List, [], ◌∷◌, ◌++◌, ◌∙◌, length, refl, ap, sym, arith}
+use Rattle.std.specs.Prelude.{Some, None, codes}
+use Rattle.std.specs.List.{flat_map}
+use Rattle.std.proofs.lemmas.List.{append_assoc}
 use Rattle.zw_base.specs.declared.property.Name.TheVariants as names
 use Rattle.zw_base.specs.declared.property.By.TheVariants.{Local}
 use Rattle.host_orders.specs.Settings.{setting}
-use Rattle.device_sim.specs.Event.DeviceEvent.{Wakes}
-use Rattle.zw_laws.specs.Worked.{turned_on, turned_on_and_off, set_apart, configured}
-use Rattle.zw_laws.specs.WorkedDevices.{tick, switch_events, repeated_events, lossy_events, restarted_events, cut_events, sensor_events, hand_events}
+use Rattle.device_sim.specs.State.{State, Outcome}
+use Rattle.device_sim.specs.Event.{DeviceEvent, outcome_of, device_after, device_replies}
+use Rattle.device_sim.specs.Event.DeviceEvent.{Hears, Wakes}
+use Rattle.zw_text.specs.Transcript.{made, lines_run}
+use Rattle.zw_laws.specs.Devices.{after_events, replies_in, comings, brought, ticks_lived, made_by, sent_from}
+use Rattle.zw_laws.specs.Restarts.{ticks_asked}
+use Rattle.zw_laws.proofs.Sealing.{set_plain, report_with, report_code, opened_set, sealed_report}
+use Rattle.zw_laws.specs.Worked.{bytes, sealed_exchange, turned_on, turned_on_and_off, set_apart, secured, configured}
+use Rattle.zw_laws.specs.WorkedDevices.{tick, switch_events, repeated_events, lossy_events, restarted_events, cut_events, sensor_events, the_keyed_lock, sealed_set, lock_begins, lock_goes_on, lock_events, hand_events}
 use Rattle.transport_segments.specs.Places.{written, IsFull}
 use Rattle.transport_segments.specs.Taking.{taken_at, kept_after}
-use Rattle.device_stack.specs.Hearing.{hears_in_segments, hears_segment}
+use Rattle.device_stack.specs.Hearing.{hears_in_segments, hears_segment, hears_plain, hears_sealed, hears_securely, active}
 use Rattle.class_core.specs.MessageReading.{configuration_bulk_at}
 use Rattle.class_fields.specs.Reading.{size_at, numbers_at}
-use Rattle.zw_laws.proofs.Computing.{computing_devices}
+use Rattle.class_info.specs.InfoReading.{nonce_at}
+use Rattle.zw_laws.proofs.Computing.{computing, computing_devices}
 use Rattle.zw_laws.proofs.device.worked_devices.Goals as goal
 
 pub returns-clause-plain : goal.returns-clause-plain
@@ -154,3 +164,91 @@ returns-clause-cut c = record {
   entered = refl;
   answered = λ came idle. refl;
 }
+
+-- ---- the lock
+
+-- events behind others, of which one has this outcome
+after_joined : (device : State) (before : List DeviceEvent) (event : DeviceEvent) (behind : List DeviceEvent) (outcome : Outcome)
+    → outcome_of (after_events device before) event ≡ outcome → after_events device (before ++ event ∷ behind) ≡ after_events outcome.device behind
+unfolding device_after
+after_joined device [] event behind outcome is = ap (λ (outcome : Outcome). after_events outcome.device behind) is
+after_joined device (first ∷ before) event behind outcome is = after_joined (device_after device first) before event behind outcome is
+
+replies_joined : (device : State) (before : List DeviceEvent) (event : DeviceEvent) (behind : List DeviceEvent) (outcome : Outcome)
+    → outcome_of (after_events device before) event ≡ outcome
+    → replies_in device (before ++ event ∷ behind) ≡ replies_in device before ++ (outcome.replies ++ replies_in outcome.device behind)
+unfolding device_after device_replies
+replies_joined device [] event behind outcome is = ap (λ (outcome : Outcome). outcome.replies ++ replies_in outcome.device behind) is
+replies_joined device (first ∷ before) event behind outcome is =
+    ap (λ (replies : List (List ℕ)). device_replies device first ++ replies) (replies_joined (device_after device first) before event behind outcome is)
+    ∙ sym (append_assoc (device_replies device first) _ _)
+
+-- the lock when it hears what the host sealed, and its nonce is spent
+abbrev asked : State
+asked = after_events the_keyed_lock lock_begins
+
+abbrev spent : State
+spent = record (active asked) { given = record asked.given { live = None } }
+
+-- what that makes of it
+abbrev opened : Outcome
+opened = hears_plain spent (Some set_plain)
+
+opening : outcome_of asked (Hears sealed_set []) ≡ opened
+unfolding computing_devices hears_securely hears_sealed nonce_at
+opening = ap (hears_plain spent) opened_set
+
+-- and what is behind it
+journal_behind : (after_events opened.device lock_goes_on).journal ≡ secured
+unfolding computing_devices hears_securely hears_sealed nonce_at
+journal_behind = refl
+
+replies_before : replies_in the_keyed_lock lock_begins ≡ bytes (codes "988001ED7E19638089D9") ∷ bytes (codes "988001ED7E19638089D9") ∷ []
+unfolding computing_devices hears_securely hears_sealed nonce_at
+replies_before = refl
+
+replies_behind : opened.replies ++ replies_in opened.device lock_goes_on ≡ bytes (codes "9840") ∷ report_with report_code ∷ []
+unfolding computing_devices hears_securely hears_sealed nonce_at
+replies_behind = ap (λ (report : List ℕ). bytes (codes "9840") ∷ report ∷ []) sealed_report
+
+journal_is : (after_events the_keyed_lock lock_events).journal ≡ secured
+journal_is = ap (λ (device : State). device.journal) (after_joined the_keyed_lock lock_begins (Hears sealed_set []) lock_goes_on opened opening) ∙ journal_behind
+
+replies_are : replies_in the_keyed_lock lock_events ≡ replies_in the_keyed_lock lock_begins ++ (bytes (codes "9840") ∷ report_with report_code ∷ [])
+replies_are =
+    replies_joined the_keyed_lock lock_begins (Hears sealed_set []) lock_goes_on opened opening
+    ∙ ap (λ (replies : List (List ℕ)). replies_in the_keyed_lock lock_begins ++ replies) replies_behind
+
+-- by the transcript
+lock_came : comings lock_events ≡ brought 4 sealed_exchange
+unfolding computing
+lock_came = refl
+
+lock_ticked : ticks_lived lock_events ≡ ticks_asked (lines_run sealed_exchange)
+unfolding computing
+lock_ticked = refl
+
+lock_entered : made 4 sealed_exchange ≡ flat_map made_by secured
+unfolding computing
+lock_entered = refl
+
+lock_sent : sent_from 4 sealed_exchange
+    ≡ (bytes (codes "988001ED7E19638089D9") ∷ bytes (codes "988001ED7E19638089D9") ∷ []) ++ (bytes (codes "9840") ∷ report_with report_code ∷ [])
+unfolding computing
+lock_sent = refl
+
+pub returns-clause-sealed : goal.returns-clause-sealed
+returns-clause-sealed c = record {
+  events = lock_events;
+  changes = secured;
+  runs = refl;
+  came = lock_came;
+  ticked = lock_ticked;
+  changed = journal_is;
+  entered = lock_entered;
+  answered = λ came idle. lock_sent ∙ sym (replies_are
+      ∙ ap (λ (replies : List (List ℕ)). replies ++ (bytes (codes "9840") ∷ report_with report_code ∷ [])) replies_before);
+}
+
+pub returns-clause-secured : goal.returns-clause-secured
+returns-clause-secured c = journal_is

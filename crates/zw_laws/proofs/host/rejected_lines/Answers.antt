@@ -1,6 +1,12 @@
-use Rattle.std.proofs.Common.{ℕ, List, [], ◌∷◌, refl, ap, inl, inr}
+use Rattle.std.proofs.Common.{ℕ, List, [], ◌∷◌, ◌++◌, refl, ap, sym, subst, inl, inr}
+use Rattle.std.specs.Prelude.{codes}
+use Rattle.std.proofs.lemmas.List.{append-nil, append_assoc}
 use Rattle.zw_text.specs.declared.entry.Entry.{Entry}
-use Rattle.zw_text.specs.declared.entry.Entry.TheVariants.{Refused}
+use Rattle.zw_text.specs.declared.entry.Entry.TheVariants.{Said, Accepted, Refused}
+use Rattle.zw_laws.specs.Answers.{MayAnswer}
+use Rattle.zw_laws.specs.Lists.{EachAfter}
+use Rattle.zw_laws.specs.Worked.{the_switch}
+use Rattle.zw_laws.specs.WorkedWrongLines.{many_reported}
 use Rattle.zw_laws.proofs.Computing.{computing}
 use Rattle.zw_laws.proofs.Dues.{differ}
 use Rattle.zw_laws.proofs.host.rejected_lines.Goals as goal
@@ -14,6 +20,13 @@ abbrev first_refuses : List Entry → ℕ
 first_refuses [] = 0
 first_refuses (entry ∷ rest) = refuses entry
 
+-- what stands behind one entry that comes behind others may stand there
+behind : {A : Type 0} (May : List A → A → Type 0) (past front : List A) (first second : A) → EachAfter May past (front ++ first ∷ second ∷ [])
+    → May ((past ++ front) ++ first ∷ []) second
+behind {A} May past [] first second after = subst (λ (before : List A). May (before ++ first ∷ []) second) (sym (append-nil past)) after.1.0
+behind {A} May past (item ∷ front) first second after =
+    subst (λ (before : List A). May (before ++ first ∷ []) second) (append_assoc past (item ∷ []) front) (behind May (past ++ item ∷ []) front first second after.1)
+
 pub returns-clause-joined : goal.returns-clause-joined
 unfolding computing
 returns-clause-joined c = λ law. elim (law.between.1.0) [ inl same ↦ differ 1 0 refl (ap first_refuses same) | inr kept ↦ kept.0 ]
@@ -26,9 +39,34 @@ pub returns-clause-value : goal.returns-clause-value
 unfolding computing
 returns-clause-value c = λ law. elim (law.between.1.0) [ inl same ↦ differ 1 0 refl (ap first_refuses same) | inr kept ↦ kept.0 ]
 
+pub returns-clause-unsupported : goal.returns-clause-unsupported
+unfolding computing
+returns-clause-unsupported c = λ law. elim (law.between.1.0) [ inl same ↦ differ 1 0 refl (ap first_refuses same) | inr kept ↦ kept.0 ]
+
+pub returns-clause-unsupervised : goal.returns-clause-unsupervised
+unfolding computing
+returns-clause-unsupervised c = λ law. elim (law.between.1.1.1.0) [ inl same ↦ differ 1 0 refl (ap first_refuses same) | inr kept ↦ kept.0 ]
+
+pub returns-clause-long : goal.returns-clause-long
+unfolding computing
+returns-clause-long c = λ law. elim (law.between.1.1.1.0) [ inl same ↦ differ 1 0 refl (ap first_refuses same) | inr kept ↦ kept.0 ]
+
+pub returns-clause-send_secured : goal.returns-clause-send_secured
+unfolding computing
+returns-clause-send_secured c = λ law. differ 1 0 refl (ap refuses law.between.1.1.1.0)
+
+pub returns-clause-get_secured : goal.returns-clause-get_secured
+unfolding computing
+returns-clause-get_secured c = λ law. differ 1 0 refl (ap refuses law.between.1.1.1.0)
+
 pub returns-clause-full : goal.returns-clause-full
 unfolding computing
 returns-clause-full c = λ law. elim (law.between.1.1.1.1.1.1.1.1.1.1.1.1.1.1.1.1.1.1.1.1.1.1.1.1.1.1.1.1.1.1.1.1.1.0) [ inl same ↦ differ 1 0 refl (ap first_refuses same) | inr kept ↦ kept.0 ]
+
+pub returns-clause-store : goal.returns-clause-store
+unfolding computing
+returns-clause-store c = λ law. elim (behind (MayAnswer (the_switch ∷ [])) [] (many_reported 512) (Said (codes "set 2 on")) (Accepted 1 2) law.between)
+    [ inl same ↦ differ 1 0 refl (ap first_refuses same) | inr kept ↦ kept.0 ]
 
 pub returns-clause-cancel : goal.returns-clause-cancel
 unfolding computing

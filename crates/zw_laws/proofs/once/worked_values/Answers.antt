@@ -1,175 +1,26 @@
-use Rattle.std.proofs.Common.{refl}
-use Rattle.zw_laws.proofs.Computing.{computing}
+use Rattle.zw_laws.proofs.Headlines.{plain_device, repeated_device, lossy_device, cancelled_device, restarted_device, sleeping_device, sealed_device, cut_device}
 use Rattle.zw_laws.proofs.once.worked_values.Goals as goal
 
 pub returns-clause-plain : goal.returns-clause-plain
-unfolding computing
-returns-clause-plain c = ((λ success. refl, tt), tt)
+returns-clause-plain c = plain_device.confirms
 
 pub returns-clause-repeated : goal.returns-clause-repeated
-unfolding computing
-returns-clause-repeated c = ((λ success. refl, tt), tt)
+returns-clause-repeated c = repeated_device.confirms
 
 pub returns-clause-lossy : goal.returns-clause-lossy
-unfolding computing
-returns-clause-lossy c = ((λ success. refl, tt), ((λ success. refl, tt), tt))
+returns-clause-lossy c = lossy_device.confirms
 
 pub returns-clause-cancelled : goal.returns-clause-cancelled
-unfolding computing
-returns-clause-cancelled c = ((λ success. refl, tt), tt)
+returns-clause-cancelled c = cancelled_device.confirms
 
 pub returns-clause-restarted : goal.returns-clause-restarted
-unfolding computing
-returns-clause-restarted c = ((λ success. refl, tt), tt)
+returns-clause-restarted c = restarted_device.confirms
 
 pub returns-clause-sleeping : goal.returns-clause-sleeping
-unfolding computing
-returns-clause-sleeping c = ((λ success. refl, tt), tt)
+returns-clause-sleeping c = sleeping_device.confirms
 
 pub returns-clause-sealed : goal.returns-clause-sealed
-unfolding computing
-returns-clause-sealed c = ((λ success. refl, tt), tt)
+returns-clause-sealed c = sealed_device.confirms
 
 pub returns-clause-cut : goal.returns-clause-cut
-unfolding computing
-returns-clause-cut c = (
-  (λ success. refl, tt),
-  (
-    (λ success. refl, tt),
-    (
-      (λ success. refl, tt),
-      (
-        (λ success. refl, tt),
-        (
-          (
-            λ success.
-                refl,
-            tt,
-          ),
-          (
-            (λ success. refl, tt),
-            (
-              (λ success. refl, tt),
-              (
-                (λ success. refl, tt),
-                (
-                  (λ success. refl, tt),
-                  (
-                    (
-                      λ
-                          success. refl,
-                      tt,
-                    ),
-                    (
-                      (λ success. refl, tt),
-                      (
-                        (λ success. refl, tt),
-                        (
-                          (λ success. refl, tt),
-                          (
-                            (
-                              λ success. refl,
-                              tt,
-                            ),
-                            (
-                              (λ success. refl, tt),
-                              (
-                                (λ success. refl, tt),
-                                (
-                                  (λ success. refl, tt),
-                                  (
-                                    (λ success. refl, tt),
-                                    (
-                                      (
-                                        λ
-                                            success. refl,
-                                        tt,
-                                      ),
-                                      (
-                                        (λ success. refl, tt),
-                                        (
-                                          (λ success. refl, tt),
-                                          (
-                                            (λ success. refl, tt),
-                                            (
-                                              (
-                                                λ success. refl,
-                                                tt,
-                                              ),
-                                              (
-                                                (λ success. refl, tt),
-                                                (
-                                                  (λ success. refl, tt),
-                                                  (
-                                                    (λ success. refl, tt),
-                                                    (
-                                                      (λ success. refl, tt),
-                                                      (
-                                                        (
-                                                          λ
-                                                              success. refl,
-                                                          tt,
-                                                        ),
-                                                        (
-                                                          (λ success. refl, tt),
-                                                          (
-                                                            (λ success. refl, tt),
-                                                            (
-                                                              (λ success. refl, tt),
-                                                              (
-                                                                (
-                                                                  λ success. refl,
-                                                                  tt,
-                                                                ),
-                                                                (
-                                                                  (λ success. refl, tt),
-                                                                  (
-                                                                    (λ success. refl, tt),
-                                                                    (
-                                                                      (λ success. refl, tt),
-                                                                      (
-                                                                        (λ success. refl, tt),
-                                                                        (
-                                                                          (
-                                                                            λ
-                                                                                success. refl,
-                                                                            tt,
-                                                                          ),
-                                                                          tt,
-                                                                        ),
-                                                                      ),
-                                                                    ),
-                                                                  ),
-                                                                ),
-                                                              ),
-                                                            ),
-                                                          ),
-                                                        ),
-                                                      ),
-                                                    ),
-                                                  ),
-                                                ),
-                                              ),
-                                            ),
-                                          ),
-                                        ),
-                                      ),
-                                    ),
-                                  ),
-                                ),
-                              ),
-                            ),
-                          ),
-                        ),
-                      ),
-                    ),
-                  ),
-                ),
-              ),
-            ),
-          ),
-        ),
-      ),
-    ),
-  ),
-)
+returns-clause-cut c = cut_device.confirms
