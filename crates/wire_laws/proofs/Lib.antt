@@ -4,5 +4,6 @@ mod Halting
 mod Keeping
 mod Moves
 mod Plain
+mod Serving
 mod Silence
 pub mod Walks

@@ -6,7 +6,7 @@ use Rattle.std.proofs.lemmas.Bool.Decides.{nat_tests}
 use Rattle.std.proofs.lemmas.List.{append-nil}
 use Rattle.serial_frame.specs.Frame.{FrameParts, checksum}
 use Rattle.serial_frame.specs.Items.{counted_of, unit_text}
-use Rattle.serial_frame.specs.Stream.{Signal, byte, marks_of, bytes_of, piece_of, Spans, Splits, no_rest}
+use Rattle.serial_frame.specs.Stream.{byte, piece_of, Spans, Splits, no_rest}
 use Rattle.serial_frame.specs.declared.frame.Kind.TheVariants.{Request, Response}
 use Rattle.serial_frame.specs.declared.item.Item.TheVariants.{Good}
 use Rattle.serial_frame.specs.declared.unit.Unit.TheVariants.{Ack, Framed}
