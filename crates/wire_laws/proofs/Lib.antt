@@ -3,6 +3,7 @@ mod Entries
 mod Halting
 mod Keeping
 mod Moves
+mod Overspeaking
 mod Plain
 mod Serving
 mod Silence

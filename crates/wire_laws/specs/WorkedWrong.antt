@@ -153,6 +153,13 @@ answered_nothing = Written Chip (bytes (codes "06")) ∷ []
 abbrev pub host_answered_nothing : List Entry
 host_answered_nothing = Written Host (bytes (codes "06")) ∷ []
 
+-- a side begins a second frame though its first waits for an answer
+abbrev pub spoken_over : List Entry
+spoken_over = Written Chip (bytes (codes "010500130100E8")) ∷ Written Chip (bytes (codes "0104011301E8")) ∷ []
+
+abbrev pub host_spoke_over : List Entry
+host_spoke_over = Written Host (bytes (codes "01030002FE")) ∷ Written Host (bytes (codes "0104004105BF")) ∷ []
+
 -- the callback of a SendData is left out, and what was heard after it is not
 abbrev pub callback_left_out : List Entry
 callback_left_out = without_at 13 (without_at 13 plain_exchange)

@@ -4,7 +4,7 @@ ghost use Rattle.std.specs.Prelude.{[], ◌∷◌};
 ghost use Rattle.zw_laws.specs.Links.{KeepsLinks};
 ghost use Rattle.zw_laws.specs.Worked.{plain_exchange, repeated_exchange, lossy_exchange, cancelled_order, restarted_host, sleeping_node, sealed_exchange, long_message, the_switch, the_sensor, the_lock, the_plug};
 ghost use Rattle.wire_laws.specs.Answering.{ServesHost};
-ghost use Rattle.wire_laws.specs.WorkedWrong.{host_answered_nothing, answered_nothing, kept_to_itself};
+ghost use Rattle.wire_laws.specs.WorkedWrong.{spoken_over, host_spoke_over, host_answered_nothing, answered_nothing, kept_to_itself};
 
 /// In worked transcripts both sides of the serial link obey its rules.
 pub fn worked_links()
@@ -30,9 +30,11 @@ pub fn worked_service()
     ensures cut { ServesHost (the_plug ∷ []) long_message }
 {}
 
-/// An answer of either side to a frame that never came breaks the law of links, and a frame that waits while the link is idle that of the chip.
+/// An answer of either side to a frame that never came breaks the law of links, a second frame of either side while its first waits does, and a frame that waits while the link is idle that of the chip.
 pub fn rejected_links()
     ensures nothing { KeepsLinks answered_nothing → ⊥ }
     ensures kept { ServesHost (the_switch ∷ []) kept_to_itself → ⊥ }
     ensures host { KeepsLinks host_answered_nothing → ⊥ }
+    ensures over { KeepsLinks spoken_over → ⊥ }
+    ensures host_over { KeepsLinks host_spoke_over → ⊥ }
 {}
