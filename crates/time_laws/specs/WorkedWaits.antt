@@ -1,4 +1,4 @@
--- Worked transcripts of waits, in the form in which the program prints them, before the table at the end.
+-- Worked transcripts of waits, in the form in which the program prints them, before the table at the end; those by hand say so.
 use Rattle.std.specs.Prelude.{true, List, [], ◌∷◌, ◌++◌, codes, take}
 use Rattle.zw_base.specs.declared.property.Name.TheVariants as names
 use Rattle.zw_base.specs.declared.property.By.TheVariants.{Session}
