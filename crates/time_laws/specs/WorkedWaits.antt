@@ -1,5 +1,5 @@
--- Worked transcripts of waits, in the form in which the program prints them, before the table at the end.
-use Rattle.std.specs.Prelude.{true, List, [], ◌∷◌, codes}
+-- Worked transcripts of waits, in the form in which the program prints them, before the table at the end; those by hand say so.
+use Rattle.std.specs.Prelude.{true, List, [], ◌∷◌, ◌++◌, codes, take}
 use Rattle.zw_base.specs.declared.property.Name.TheVariants as names
 use Rattle.zw_base.specs.declared.property.By.TheVariants.{Session}
 use Rattle.zw_words.specs.declared.side.Side.TheVariants.{Host, Chip}
@@ -26,6 +26,19 @@ answered_errands =
     Written Chip (bytes (codes "0120018001000000000000000000000000000000000000000000000000000000005F")) ∷ Written Host (bytes (codes "06")) ∷
     Neighbours 2 (1 ∷ []) ∷ Said (codes "failed 2") ∷ Written Host (bytes (codes "01040062029B")) ∷ Written Chip (bytes (codes "06")) ∷
     Written Chip (bytes (codes "010401620199")) ∷ Written Host (bytes (codes "06")) ∷ Failed 2 true ∷ []
+
+-- by hand: a Set for which the chip has no route, one that the chip calls back as not idle, and one that it refuses
+abbrev pub unrouted_errand : List Entry
+unrouted_errand =
+    Said (codes "send 2 on") ∷ Written Host (bytes (codes "010A001302032501FF250118")) ∷ Written Chip (bytes (codes "06")) ∷
+    Written Chip (bytes (codes "0104011301E8")) ∷ Written Host (bytes (codes "06")) ∷ Said (codes "tick 1") ∷ Time 1 ∷
+    Written Chip (bytes (codes "010500130104EC")) ∷ Written Host (bytes (codes "06")) ∷ Done 2 done.NoRoute ∷ []
+
+abbrev pub not_idle_errand : List Entry
+not_idle_errand = take 7 unrouted_errand ++ Written Chip (bytes (codes "010500130103EB")) ∷ Written Host (bytes (codes "06")) ∷ Done 2 done.NotIdle ∷ []
+
+abbrev pub refused_errand : List Entry
+refused_errand = take 3 unrouted_errand ++ Written Chip (bytes (codes "0104011300E9")) ∷ Written Host (bytes (codes "06")) ∷ Done 2 done.Refused ∷ []
 
 -- `drop c` three times, `get 2`, `tick 17`, .., `tick 100`: a Get is acknowledged, and its response and callback do not come
 abbrev pub silent_request : List Entry

@@ -11,13 +11,24 @@ use Rattle.zw_laws.specs.Worked.{bytes, lossy_exchange, plain_exchange, sleeping
 use Rattle.time_laws.specs.WorkedLate.{late_answer}
 use Rattle.time_laws.specs.WorkedQueue.{dropped_no_more}
 use Rattle.time_laws.specs.WorkedStretches.{with_other}
-use Rattle.time_laws.specs.WorkedWaits.{answered_errands, full_queue}
+use Rattle.time_laws.specs.WorkedWaits.{answered_errands, full_queue, not_idle_errand, refused_errand, unrouted_errand}
 
 -- ---- how requests end
 
 -- it is said of another node how a Set ended
 abbrev pub said_of_another : List Entry
 said_of_another = with_other 11 (Done 3 done.Delivered) answered_errands
+
+-- a Set without a route is said to have found the chip not idle; so is one that was refused; and one that was called back as not idle is
+-- said to have had no route
+abbrev pub said_not_idle : List Entry
+said_not_idle = with_other 9 (Done 2 done.NotIdle) unrouted_errand
+
+abbrev pub refused_as_not_idle : List Entry
+refused_as_not_idle = with_other 5 (Done 2 done.NotIdle) refused_errand
+
+abbrev pub said_unrouted : List Entry
+said_unrouted = with_other 9 (Done 2 done.NoRoute) not_idle_errand
 
 -- the neighbours of another node are told, and a node is said not to have failed that has
 abbrev pub neighbours_of_another : List Entry

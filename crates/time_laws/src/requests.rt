@@ -5,8 +5,8 @@ ghost use Rattle.time_laws.specs.Errands.{SaysHowDone};
 ghost use Rattle.time_laws.specs.Interviews.{EndsInterviews};
 ghost use Rattle.time_laws.specs.Questions.{AnswersQuestions};
 ghost use Rattle.time_laws.specs.WorkedLate.{late_answer};
-ghost use Rattle.time_laws.specs.WorkedWaits.{answered_errands, silent_request, woken_before_restart};
-ghost use Rattle.time_laws.specs.WrongEntries.{said_of_another, neighbours_of_another, failed_otherwise, answered_late, interviewed_of_another, failed_unknown, interviewed_unknown};
+ghost use Rattle.time_laws.specs.WorkedWaits.{answered_errands, not_idle_errand, refused_errand, unrouted_errand, silent_request, woken_before_restart};
+ghost use Rattle.time_laws.specs.WrongEntries.{said_of_another, said_not_idle, refused_as_not_idle, said_unrouted, neighbours_of_another, failed_otherwise, answered_late, interviewed_of_another, failed_unknown, interviewed_unknown};
 ghost use Rattle.time_laws.specs.WrongRequests.{answered_of_another, answered_otherwise, failed_though_informed, interviewed_early, left_unanswered, left_unended, left_unsaid, said_early, said_given_up, said_otherwise, said_refused, said_unasked, silent_early, silent_too_soon};
 ghost use Rattle.zw_laws.specs.Nodes.{listing_of};
 ghost use Rattle.zw_laws.specs.Worked.{cancelled_order, long_message, lossy_exchange, plain_exchange, repeated_exchange, restarted_host, sealed_exchange, sleeping_node, the_lock, the_plug, the_sensor, the_switch};
@@ -15,6 +15,9 @@ ghost use Rattle.zw_laws.specs.Worked.{cancelled_order, long_message, lossy_exch
 pub fn worked_errands()
     ensures answered { SaysHowDone (listing_of (the_switch ∷ [])) answered_errands }
     ensures silent { SaysHowDone (listing_of (the_switch ∷ [])) silent_request }
+    ensures unrouted { SaysHowDone (listing_of (the_switch ∷ [])) unrouted_errand }
+    ensures not_idle { SaysHowDone (listing_of (the_switch ∷ [])) not_idle_errand }
+    ensures refused { SaysHowDone (listing_of (the_switch ∷ [])) refused_errand }
     ensures plain { SaysHowDone (listing_of (the_switch ∷ [])) plain_exchange }
     ensures repeated { SaysHowDone (listing_of (the_switch ∷ [])) repeated_exchange }
     ensures lossy { SaysHowDone (listing_of (the_switch ∷ [])) lossy_exchange }
@@ -55,7 +58,7 @@ pub fn worked_interviews()
 
 /// Each of these breaks one part of the laws: an end said before it is judged, otherwise than it was, of another node, or not at all; the end of
 /// a message of a session said as that of a Set; silence before 15 ticks, or before 65 behind a
-/// response; refusal of what was taken; failure after one copy; a question of either kind answered otherwise, of another
+/// response; refusal of what was taken; a chip that was not idle where there was no route or a refusal, and no route where it was not idle; failure after one copy; a question of either kind answered otherwise, of another
 /// node, too late, or not; and an interview that succeeds too early, of another node, or though its first request had no response, fails though the information came, or does not end.
 pub fn rejected_requests()
     ensures early { SaysHowDone (listing_of (the_switch ∷ [])) said_early → ⊥ }
@@ -73,6 +76,9 @@ pub fn rejected_requests()
     ensures informed { EndsInterviews failed_though_informed → ⊥ }
     ensures unended { EndsInterviews left_unended → ⊥ }
     ensures said_of_another { SaysHowDone (listing_of (the_switch ∷ [])) said_of_another → ⊥ }
+    ensures said_not_idle { SaysHowDone (listing_of (the_switch ∷ [])) said_not_idle → ⊥ }
+    ensures refused_as_not_idle { SaysHowDone (listing_of (the_switch ∷ [])) refused_as_not_idle → ⊥ }
+    ensures said_unrouted { SaysHowDone (listing_of (the_switch ∷ [])) said_unrouted → ⊥ }
     ensures neighbours { AnswersQuestions neighbours_of_another → ⊥ }
     ensures failed { AnswersQuestions failed_otherwise → ⊥ }
     ensures late { AnswersQuestions answered_late → ⊥ }

@@ -2,6 +2,9 @@ mod Computing
 mod Entries
 mod Halting
 mod Keeping
+mod Moves
+mod Overspeaking
 mod Plain
+mod Serving
 mod Silence
 pub mod Walks

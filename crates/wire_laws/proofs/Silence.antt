@@ -16,7 +16,7 @@ use Rattle.std.proofs.lemmas.List.Concat.{flat_map-append}
 use Rattle.zw_laws.specs.Links.{text_of}
 
 -- no list begins with an item and is empty
-not_empty : {A : Type 0} (item : A) (items : List A) → item ∷ items ≡ [] → ⊥
+pub not_empty : {A : Type 0} (item : A) (items : List A) → item ∷ items ≡ [] → ⊥
 not_empty item items e = cc
 
 -- signals that begin with a byte have bytes
@@ -30,7 +30,7 @@ pub front_none : {A : Type 0} (first second : List A) → first ++ second ≡ []
 front_none [] second e = refl
 front_none (item ∷ first) second e = absurd (not_empty item (first ++ second) e)
 
-rest_none : {A : Type 0} (first second : List A) → first ++ second ≡ [] → second ≡ []
+pub rest_none : {A : Type 0} (first second : List A) → first ++ second ≡ [] → second ≡ []
 rest_none [] second e = e
 rest_none (item ∷ first) second e = absurd (not_empty item (first ++ second) e)
 
@@ -63,7 +63,7 @@ all_append P [] second one two = two
 all_append P (item ∷ first) second one two = (one.0, all_append P first second one.1 two)
 
 -- an event at which nothing is heard is answered by nothing
-unanswered : (collision : Bool) (event : Event) (more : List Item) → item_of event ++ more ≡ [] → answer_due collision event ≡ []
+pub unanswered : (collision : Bool) (event : Event) (more : List Item) → item_of event ++ more ≡ [] → answer_due collision event ≡ []
 unanswered collision (heard item) more none = absurd (not_empty item more none)
 unanswered collision ticked more none = refl
 unanswered collision (submitted f) more none = refl

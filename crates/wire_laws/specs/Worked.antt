@@ -139,6 +139,13 @@ garbled_frame =
     Written Host (bytes (codes "06")) ∷ Time 3 ∷ Heard 2 ∷ Written Chip (bytes (codes "010B00040002056C0201FF0067")) ∷
     Written Host (bytes (codes "06")) ∷ Out 1 endings.Success ∷ Store 2 (setting 0 names.Switch 255) ∷ []
 
+-- by hand: two changes are asked for, and two frames are changed, by the older first
+abbrev pub changed_in_turn : List Entry
+changed_in_turn =
+    Said (codes "garble h 3 1") ∷ Said (codes "garble h 3 2") ∷ Written Host (bytes (codes "010E001302076C0101032501FF250177")) ∷
+    Garbled Host (bytes (codes "010E001302066C0101032501FF250177")) ∷ Written Host (bytes (codes "010E001302076C0101032501FF250177")) ∷
+    Garbled Host (bytes (codes "010E001302056C0101032501FF250177")) ∷ []
+
 -- by hand: the host takes back a SendData of which the frame is on the air
 abbrev pub aborted : List Entry
 aborted =

@@ -43,16 +43,11 @@ calling_back = request 0x13 (codes "0100")
 abbrev pub reporting : FrameParts
 reporting = request 0x04 (codes "0002056C0201FF00")
 
--- the two links in the plain exchange
+-- the chip's link in the plain exchange
 abbrev pub chip_history : List Step
 chip_history =
     hears_frame switching_on ∷ submit_step taking_it ∷ hears_ack ∷ submit_step calling_back ∷ quiet_tick ∷ hears_ack
     ∷ submit_step reporting ∷ quiet_tick ∷ hears_ack ∷ []
-
-abbrev pub host_history : List Step
-host_history =
-    submit_step switching_on ∷ hears_ack ∷ hears_frame taking_it ∷ quiet_tick ∷ hears_frame calling_back ∷ quiet_tick
-    ∷ hears_frame reporting ∷ []
 
 -- ---- courses in which no frame of the chip is written twice
 

@@ -4,7 +4,7 @@ use Rattle.zw_words.specs.declared.side.Side.TheVariants.{Host, Chip}
 use Rattle.zw_text.specs.declared.entry.Entry.{Entry}
 use Rattle.zw_text.specs.declared.entry.Entry.TheVariants.{Said, Written, Dropped, Garbled, Air, Heard, Lost, Unheard, Time, Forget, ChipFull}
 use Rattle.zw_laws.specs.Worked.{bytes, plain_exchange, lossy_exchange, restarted_host}
-use Rattle.wire_laws.specs.Worked.{rerouted, unroutable, untold, asleep, heard_twice, cut_off, aborted, questions, copied, garbled_frame}
+use Rattle.wire_laws.specs.Worked.{rerouted, unroutable, untold, asleep, heard_twice, cut_off, aborted, questions, copied, garbled_frame, changed_in_turn}
 
 -- a transcript with another entry at a place, without the one there, or with one more before it; places count from 0
 abbrev pub changed_at : ℕ → Entry → List Entry → List Entry
@@ -153,6 +153,17 @@ answered_nothing = Written Chip (bytes (codes "06")) ∷ []
 abbrev pub host_answered_nothing : List Entry
 host_answered_nothing = Written Host (bytes (codes "06")) ∷ []
 
+-- a side begins a second frame though its first waits for an answer
+abbrev pub spoken_over : List Entry
+spoken_over = Written Chip (bytes (codes "010500130100E8")) ∷ Written Chip (bytes (codes "0104011301E8")) ∷ []
+
+abbrev pub host_spoke_over : List Entry
+host_spoke_over = Written Host (bytes (codes "01030002FE")) ∷ Written Host (bytes (codes "0104004105BF")) ∷ []
+
+-- the callback of a SendData is left out, and what was heard after it is not
+abbrev pub callback_left_out : List Entry
+callback_left_out = without_at 13 (without_at 13 plain_exchange)
+
 -- the chip has heard a report and its link is idle, and yet the host is not told
 abbrev pub kept_to_itself : List Entry
 kept_to_itself =
@@ -171,6 +182,13 @@ changed_otherwise = changed_at 5 (Garbled Host (bytes (codes "010E001302056C0101
 
 abbrev pub not_changed : List Entry
 not_changed = without_at 5 garbled_frame
+
+-- the newer change is taken first, and a frame is changed by a mark that has been used
+abbrev pub changed_out_of_turn : List Entry
+changed_out_of_turn = changed_at 3 (Garbled Host (bytes (codes "010E001302056C0101032501FF250177"))) changed_in_turn
+
+abbrev pub changed_twice : List Entry
+changed_twice = without_at 1 changed_in_turn
 
 -- a frame is answered CAN though no line asks for it, and ACK though one does
 abbrev pub collided_freely : List Entry

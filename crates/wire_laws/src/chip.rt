@@ -9,7 +9,7 @@ ghost use Rattle.wire_laws.specs.Answering.{AnswersInOrder, DropsWhenFull};
 ghost use Rattle.wire_laws.specs.Worked.{unroutable, untold, asleep, aborted, questions, copied, tellable, the_switches};
 ghost use Rattle.wire_laws.specs.WorkedCourses.{chip_history, without_copies, passed_in_unroutable, passed_in_untold, passed_in_asleep, passed_in_restarted, passed_in_repeated, passed_in_lossy, passed_in_cancelled, passed_in_sleeping, passed_in_sealed, passed_in_cut, passed_in_aborted, passed_in_questions, copied_course, switching_on};
 ghost use Rattle.wire_laws.specs.WorkedHalted.{sleeper};
-ghost use Rattle.wire_laws.specs.WorkedWrong.{aired_to_another, without_at, held_back, aired_otherwise, aired_again, refused_though_idle, called_otherwise, called_early, brought_otherwise, routed_nowhere, told_from_afar, not_told, taken_though_busy, called_twice, neighbours_otherwise, failed_for_nothing, full_of_nothing};
+ghost use Rattle.wire_laws.specs.WorkedWrong.{aired_to_another, without_at, held_back, aired_otherwise, aired_again, refused_though_idle, called_otherwise, called_early, callback_left_out, brought_otherwise, routed_nowhere, told_from_afar, not_told, taken_though_busy, called_twice, neighbours_otherwise, failed_for_nothing, full_of_nothing};
 
 /// In worked transcripts the frames on the air are those of the SendData that the chip takes and has a route for.
 pub fn worked_taking()
@@ -56,7 +56,7 @@ pub fn worked_drops()
 {}
 
 /// Each of these breaks one part of the laws: a SendData that is taken and has no frame, another frame, one to another node, or two; one that is refused
-/// though the chip is idle; a callback with another status, or before the fate; what was not heard; a callback of a frame where there
+/// though the chip is idle; a callback with another status, before the fate, or left out; what was not heard; a callback of a frame where there
 /// was no route; information of a node that cannot tell it, or none of one that can; a SendData taken while another is under way; a second
 /// callback of one that was aborted; other neighbours than the table has, or a node that failed without a callback; a callback given anew
 /// where it was to be a copy; and a frame dropped though none waits.
@@ -67,6 +67,7 @@ pub fn rejected_chip()
     ensures refused { AnswersInOrder (the_switch ∷ []) (course_of chip_history) refused_though_idle → ⊥ }
     ensures called { AnswersInOrder (the_switch ∷ []) (course_of chip_history) called_otherwise → ⊥ }
     ensures early { AnswersInOrder (the_switch ∷ []) (course_of chip_history) called_early → ⊥ }
+    ensures left_out { AnswersInOrder (the_switch ∷ []) (course_of chip_history) callback_left_out → ⊥ }
     ensures brought { AnswersInOrder (the_switch ∷ []) (course_of chip_history) brought_otherwise → ⊥ }
     ensures nowhere { AnswersInOrder (the_switch ∷ []) (without_copies passed_in_unroutable unroutable) routed_nowhere → ⊥ }
     ensures afar { AnswersInOrder (the_sensor ∷ []) (without_copies passed_in_untold untold) told_from_afar → ⊥ }

@@ -24,7 +24,7 @@ pub use chip::{
 };
 pub use full::worked_full;
 pub use halted::{rejected_halted, worked_halted};
-pub use links::{rejected_links, worked_links};
+pub use links::{rejected_links, worked_links, worked_service};
 pub use marks::{rejected_marks, worked_collisions, worked_marks};
 pub use pipes::{rejected_pipes, worked_pipes};
 pub use records::{rejected_records, worked_records};

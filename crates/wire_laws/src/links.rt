@@ -1,20 +1,40 @@
-//! What the laws of the serial link and of the chip as a whole say of a plain exchange.
+//! What the laws of the serial link and of the chip as a whole say of worked transcripts, and of others with one thing wrong.
 
 ghost use Rattle.std.specs.Prelude.{[], ◌∷◌};
 ghost use Rattle.zw_laws.specs.Links.{KeepsLinks};
-ghost use Rattle.zw_laws.specs.Worked.{plain_exchange, the_switch};
+ghost use Rattle.zw_laws.specs.Worked.{plain_exchange, repeated_exchange, lossy_exchange, cancelled_order, restarted_host, sleeping_node, sealed_exchange, long_message, the_switch, the_sensor, the_lock, the_plug};
 ghost use Rattle.wire_laws.specs.Answering.{ServesHost};
-ghost use Rattle.wire_laws.specs.WorkedWrong.{host_answered_nothing, answered_nothing, kept_to_itself};
+ghost use Rattle.wire_laws.specs.WorkedWrong.{spoken_over, host_spoke_over, host_answered_nothing, answered_nothing, kept_to_itself};
 
-/// In a plain exchange both sides of the serial link obey its rules, and the chip serves the host.
+/// In worked transcripts both sides of the serial link obey its rules.
 pub fn worked_links()
     ensures plain { KeepsLinks plain_exchange }
-    ensures serves { ServesHost (the_switch ∷ []) plain_exchange }
+    ensures repeated { KeepsLinks repeated_exchange }
+    ensures lossy { KeepsLinks lossy_exchange }
+    ensures cancelled { KeepsLinks cancelled_order }
+    ensures restarted { KeepsLinks restarted_host }
+    ensures sleeping { KeepsLinks sleeping_node }
+    ensures sealed { KeepsLinks sealed_exchange }
+    ensures cut { KeepsLinks long_message }
 {}
 
-/// An answer of either side to a frame that never came breaks the law of links, and a frame that waits while the link is idle that of the chip.
+/// In worked transcripts the chip serves the host.
+pub fn worked_service()
+    ensures plain { ServesHost (the_switch ∷ []) plain_exchange }
+    ensures repeated { ServesHost (the_switch ∷ []) repeated_exchange }
+    ensures lossy { ServesHost (the_switch ∷ []) lossy_exchange }
+    ensures cancelled { ServesHost (the_switch ∷ []) cancelled_order }
+    ensures restarted { ServesHost (the_switch ∷ []) restarted_host }
+    ensures sleeping { ServesHost (the_sensor ∷ []) sleeping_node }
+    ensures sealed { ServesHost (the_lock ∷ []) sealed_exchange }
+    ensures cut { ServesHost (the_plug ∷ []) long_message }
+{}
+
+/// An answer of either side to a frame that never came breaks the law of links, a second frame of either side while its first waits does, and a frame that waits while the link is idle that of the chip.
 pub fn rejected_links()
     ensures nothing { KeepsLinks answered_nothing → ⊥ }
     ensures kept { ServesHost (the_switch ∷ []) kept_to_itself → ⊥ }
     ensures host { KeepsLinks host_answered_nothing → ⊥ }
+    ensures over { KeepsLinks spoken_over → ⊥ }
+    ensures host_over { KeepsLinks host_spoke_over → ⊥ }
 {}

@@ -5,7 +5,7 @@ use Rattle.time_laws.specs.Questions.{may_answer}
 use Rattle.time_laws.specs.WrongRequests.{answered_of_another, answered_otherwise, failed_though_informed, interviewed_early, left_unanswered, left_unended, left_unsaid, said_early, said_given_up, said_otherwise, said_refused, said_unasked, silent_early, silent_too_soon}
 use Rattle.zw_laws.specs.Nodes.{listing_of}
 use Rattle.zw_laws.specs.Worked.{the_switch}
-use Rattle.time_laws.specs.WrongEntries.{said_of_another, neighbours_of_another, failed_otherwise, answered_late, interviewed_of_another, interviewed_unknown}
+use Rattle.time_laws.specs.WrongEntries.{said_of_another, said_not_idle, refused_as_not_idle, said_unrouted, neighbours_of_another, failed_otherwise, answered_late, interviewed_of_another, interviewed_unknown}
 use Rattle.time_laws.proofs.Computing.{computing}
 use Rattle.zw_laws.proofs.Deciding.{broken}
 use Rattle.time_laws.proofs.requests.rejected_requests.Goals as goal
@@ -89,3 +89,15 @@ returns-clause-interviewed_of_another c = broken may_end interviewed_of_another 
 pub returns-clause-unknown : goal.returns-clause-unknown
 unfolding computing
 returns-clause-unknown c = broken may_end interviewed_unknown refl
+
+pub returns-clause-said_not_idle : goal.returns-clause-said_not_idle
+unfolding computing
+returns-clause-said_not_idle c = broken (may_say_done (listing_of (the_switch ∷ []))) said_not_idle refl
+
+pub returns-clause-refused_as_not_idle : goal.returns-clause-refused_as_not_idle
+unfolding computing
+returns-clause-refused_as_not_idle c = broken (may_say_done (listing_of (the_switch ∷ []))) refused_as_not_idle refl
+
+pub returns-clause-said_unrouted : goal.returns-clause-said_unrouted
+unfolding computing
+returns-clause-said_unrouted c = broken (may_say_done (listing_of (the_switch ∷ []))) said_unrouted refl

@@ -1,6 +1,6 @@
 use Rattle.std.proofs.Common.{[], ◌∷◌, refl}
 use Rattle.time_laws.specs.Errands.{may_say_done}
-use Rattle.time_laws.specs.WorkedWaits.{answered_errands, silent_request}
+use Rattle.time_laws.specs.WorkedWaits.{answered_errands, not_idle_errand, refused_errand, silent_request, unrouted_errand}
 use Rattle.zw_laws.specs.Nodes.{listing_of}
 use Rattle.zw_laws.specs.Worked.{cancelled_order, long_message, lossy_exchange, plain_exchange, repeated_exchange, restarted_host, sealed_exchange, sleeping_node, the_lock, the_plug, the_sensor, the_switch}
 use Rattle.time_laws.proofs.Computing.{computing}
@@ -46,3 +46,15 @@ returns-clause-sealed c = kept (may_say_done (listing_of (the_lock ∷ []))) sea
 pub returns-clause-cut : goal.returns-clause-cut
 unfolding computing
 returns-clause-cut c = kept (may_say_done (listing_of (the_plug ∷ []))) long_message refl
+
+pub returns-clause-unrouted : goal.returns-clause-unrouted
+unfolding computing
+returns-clause-unrouted c = kept (may_say_done (listing_of (the_switch ∷ []))) unrouted_errand refl
+
+pub returns-clause-not_idle : goal.returns-clause-not_idle
+unfolding computing
+returns-clause-not_idle c = kept (may_say_done (listing_of (the_switch ∷ []))) not_idle_errand refl
+
+pub returns-clause-refused : goal.returns-clause-refused
+unfolding computing
+returns-clause-refused c = kept (may_say_done (listing_of (the_switch ∷ []))) refused_errand refl

@@ -115,3 +115,7 @@ returns-clause-to_another c = λ law. elim law.1.1.1.1.1.1.0.taken [
   | inl same ↦ two_three (ap (λ (sending : Sending). sending.node) same ∙ law.1.1.1.1.1.1.0.to_node)
   | inr never ↦ never
 ]
+
+pub returns-clause-left_out : goal.returns-clause-left_out
+unfolding reckoning
+returns-clause-left_out c = λ law. five_eleven (sym (ap (byte_at 1) law.1.1.1.1.1.1.1.1.1.1.1.1.1.1.1.0.1.0))

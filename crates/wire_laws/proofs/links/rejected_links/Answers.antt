@@ -1,9 +1,11 @@
-use Rattle.std.proofs.Common.{◌≡◌, ℕ, [], sym, subst, arith}
+use Rattle.std.proofs.Common.{◌≡◌, ℕ, List, [], sym, ap, subst, arith}
+use Rattle.std.specs.Prelude.{slice_index}
 use Rattle.std.specs.List.{AllByRecursion}
 use Rattle.zw_words.specs.declared.side.Side.TheVariants.{Chip, Host}
 use Rattle.zw_laws.specs.Links.{KeepsLink}
-use Rattle.wire_laws.specs.WorkedWrong.{host_answered_nothing, answered_nothing}
+use Rattle.wire_laws.specs.WorkedWrong.{spoken_over, host_spoke_over, host_answered_nothing, answered_nothing}
 use Rattle.wire_laws.proofs.Computing.{reckoning}
+use Rattle.wire_laws.proofs.Overspeaking.{AreTwins, writes_twins}
 use Rattle.wire_laws.proofs.Silence.{BeginsFrame, front_none, idle, none_heard, silent}
 use Rattle.wire_laws.proofs.links.rejected_links.Goals as goal
 
@@ -36,3 +38,33 @@ host_answers_nothing link =
 pub returns-clause-host : goal.returns-clause-host
 unfolding reckoning
 returns-clause-host c = λ law. host_answers_nothing law.host.0
+
+-- a second frame while the first waits is no copy of it
+five_four : ◌≡◌ {A = ℕ} 5 4 → ⊥
+five_four e = omega (arith, e)
+
+three_four : ◌≡◌ {A = ℕ} 3 4 → ⊥
+three_four e = omega (arith, e)
+
+abbrev second_byte : List ℕ → ℕ
+second_byte bytes = slice_index bytes 1
+
+over : KeepsLink Chip spoken_over → ⊥
+unfolding reckoning
+over link =
+    let unheard = none_heard link.signals _ link.rest link.heard (front_none _ link.came.0 (sym link.came.1)) in
+    five_four (ap second_byte (subst AreTwins link.wrote (writes_twins link.history link.end.turn link.obeys.answers link.obeys.turns unheard)))
+
+host_over : KeepsLink Host host_spoke_over → ⊥
+unfolding reckoning
+host_over link =
+    let unheard = none_heard link.signals _ link.rest link.heard (front_none _ link.came.0 (sym link.came.1)) in
+    three_four (ap second_byte (subst AreTwins link.wrote (writes_twins link.history link.end.turn link.obeys.answers link.obeys.turns unheard)))
+
+pub returns-clause-over : goal.returns-clause-over
+unfolding reckoning
+returns-clause-over c = λ law. over law.chip
+
+pub returns-clause-host_over : goal.returns-clause-host_over
+unfolding reckoning
+returns-clause-host_over c = λ law. host_over law.host.0

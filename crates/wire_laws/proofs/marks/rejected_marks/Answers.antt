@@ -46,3 +46,11 @@ returns-clause-freely c = λ law. omega (arith, law.1.1.1.1.0)
 pub returns-clause-acknowledged : goal.returns-clause-acknowledged
 unfolding reckoning
 returns-clause-acknowledged c = λ law. zero_one law.1.1.1.1.1.0
+
+pub returns-clause-out_of_turn : goal.returns-clause-out_of_turn
+unfolding reckoning
+returns-clause-out_of_turn c = λ law. five_six (ap sixth_of law.1.1.1.0)
+
+pub returns-clause-twice : goal.returns-clause-twice
+unfolding reckoning
+returns-clause-twice c = λ law. law.1.1.1.1.0

@@ -1,7 +1,6 @@
 use Rattle.std.proofs.Common.{refl, arith}
-use Rattle.zw_laws.specs.Worked.{repeated_exchange, lossy_exchange, cancelled_order, restarted_host, sleeping_node, sealed_exchange, long_message}
-use Rattle.wire_laws.proofs.Entries.{collides_when_asked}
 use Rattle.wire_laws.proofs.Computing.{reckoning}
+use Rattle.wire_laws.proofs.Serving.{repeated_collides, lossy_collides, cancelled_collides, restarted_collides, sleeping_collides, sealed_collides, cut_collides}
 use Rattle.wire_laws.proofs.Plain.{plain_collides}
 use Rattle.wire_laws.proofs.marks.worked_collisions.Goals as goal
 
@@ -94,29 +93,22 @@ returns-clause-twice c = (
 )
 
 pub returns-clause-repeated : goal.returns-clause-repeated
-unfolding reckoning
-returns-clause-repeated c = collides_when_asked repeated_exchange (refl, (refl, tt))
+returns-clause-repeated c = repeated_collides
 
 pub returns-clause-lossy : goal.returns-clause-lossy
-unfolding reckoning
-returns-clause-lossy c = collides_when_asked lossy_exchange (refl, (refl, (refl, (refl, (refl, tt)))))
+returns-clause-lossy c = lossy_collides
 
 pub returns-clause-cancelled : goal.returns-clause-cancelled
-unfolding reckoning
-returns-clause-cancelled c = collides_when_asked cancelled_order (refl, tt)
+returns-clause-cancelled c = cancelled_collides
 
 pub returns-clause-restarted : goal.returns-clause-restarted
-unfolding reckoning
-returns-clause-restarted c = collides_when_asked restarted_host (refl, (refl, (refl, (refl, tt))))
+returns-clause-restarted c = restarted_collides
 
 pub returns-clause-sleeping : goal.returns-clause-sleeping
-unfolding reckoning
-returns-clause-sleeping c = collides_when_asked sleeping_node (refl, (refl, (refl, (refl, (refl, tt)))))
+returns-clause-sleeping c = sleeping_collides
 
 pub returns-clause-sealed : goal.returns-clause-sealed
-unfolding reckoning
-returns-clause-sealed c = collides_when_asked sealed_exchange (refl, (refl, (refl, (refl, (refl, (refl, tt))))))
+returns-clause-sealed c = sealed_collides
 
 pub returns-clause-cut : goal.returns-clause-cut
-unfolding reckoning
-returns-clause-cut c = collides_when_asked long_message (refl, (refl, (refl, (refl, tt))))
+returns-clause-cut c = cut_collides

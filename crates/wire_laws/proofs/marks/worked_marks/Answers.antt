@@ -1,5 +1,6 @@
 use Rattle.std.proofs.Common.{refl}
 use Rattle.zw_laws.specs.Worked.{plain_exchange, repeated_exchange, lossy_exchange, cancelled_order, restarted_host, sleeping_node, sealed_exchange, long_message}
+use Rattle.wire_laws.specs.Worked.{changed_in_turn}
 use Rattle.wire_laws.proofs.Entries.{marks_units}
 use Rattle.wire_laws.proofs.Computing.{reckoning}
 use Rattle.wire_laws.proofs.marks.worked_marks.Goals as goal
@@ -199,3 +200,7 @@ returns-clause-sealed c = marks_units sealed_exchange tt
 pub returns-clause-cut : goal.returns-clause-cut
 unfolding reckoning
 returns-clause-cut c = marks_units long_message tt
+
+pub returns-clause-in_turn : goal.returns-clause-in_turn
+unfolding reckoning
+returns-clause-in_turn c = marks_units changed_in_turn (refl, (refl, tt))
