@@ -2,6 +2,7 @@ mod Computing
 mod Entries
 mod Halting
 mod Keeping
+mod Listening
 mod Moves
 mod Overspeaking
 mod Plain

@@ -1,7 +1,8 @@
 //! What the laws of fates, of repeats and of forgotten links say of worked transcripts, and of others with one thing wrong.
 
-ghost use Rattle.std.specs.Prelude.{[], ◌∷◌, take};
+ghost use Rattle.std.specs.Prelude.{[], ◌∷◌};
 ghost use Rattle.zw_laws.specs.Worked.{cancelled_order, long_message, lossy_exchange, plain_exchange, repeated_exchange, restarted_host, sealed_exchange, sleeping_node, the_lock, the_plug, the_sensor, the_switch};
+ghost use Rattle.zw_laws.specs.WorkedDevices.{the_keyed_lock};
 ghost use Rattle.wire_laws.specs.Arriving.{MeetsWhatIsDue, RepeatsWhatIsAsked, ForgetsDeadHops};
 ghost use Rattle.wire_laws.specs.Worked.{rerouted, cut_off, asleep, heard_twice, the_switches};
 ghost use Rattle.wire_laws.specs.WorkedWrong.{heard_again_in_sleep, lost_for_nothing, unheard_for_nothing, unheard_at_home, heard_over_nothing, heard_without_a_way, heard_in_sleep, heard_though_lost, not_repeated, not_forgotten, forgotten_otherwise, forgotten_freely};
@@ -19,7 +20,7 @@ pub fn worked_arrivals()
     ensures cancelled { MeetsWhatIsDue (the_switch ∷ []) cancelled_order }
     ensures restarted { MeetsWhatIsDue (the_switch ∷ []) restarted_host }
     ensures sleeping { MeetsWhatIsDue (the_sensor ∷ []) sleeping_node }
-    ensures sealed { MeetsWhatIsDue (the_lock ∷ []) (take 70 sealed_exchange) }
+    ensures sealed { MeetsWhatIsDue (the_keyed_lock ∷ []) sealed_exchange }
     ensures cut { MeetsWhatIsDue (the_plug ∷ []) long_message }
 {}
 

@@ -1,10 +1,14 @@
 use Rattle.std.proofs.Common.{refl, [], ◌∷◌}
-use Rattle.zw_laws.specs.Worked.{plain_exchange, repeated_exchange, lossy_exchange, cancelled_order, restarted_host, sleeping_node, sealed_exchange, long_message, the_lock, the_plug, the_sensor, the_switch}
+use Rattle.zw_laws.specs.Worked.{plain_exchange, repeated_exchange, lossy_exchange, cancelled_order, restarted_host, sleeping_node, sealed_exchange, long_message, the_plug, the_sensor, the_switch}
 use Rattle.wire_laws.proofs.Entries.{meets_what_is_due}
 use Rattle.std.specs.Prelude.{take}
+use Rattle.zw_text.specs.declared.entry.Entry.TheVariants.{Heard}
+use Rattle.zw_laws.specs.WorkedDevices.{the_keyed_lock}
+use Rattle.wire_laws.specs.Arriving.{MayMeet}
+use Rattle.wire_laws.proofs.Listening.{IsUp, lock_hears, lock_hears_again}
 use Rattle.transport_segments.specs.Places.{written, IsFull}
 use Rattle.transport_segments.specs.Taking.{taken_at, kept_after}
-use Rattle.device_stack.specs.Hearing.{hears_in_segments, hears_sealed, hears_securely, hears_segment}
+use Rattle.device_stack.specs.Hearing.{hears_in_segments, hears_segment}
 use Rattle.wire_laws.proofs.Computing.{reckoning}
 use Rattle.wire_laws.proofs.arriving.worked_arrivals.Goals as goal
 
@@ -370,9 +374,35 @@ pub returns-clause-sleeping : goal.returns-clause-sleeping
 unfolding reckoning
 returns-clause-sleeping c = meets_what_is_due (the_sensor ∷ []) sleeping_node (refl, (refl, (refl, (refl, (refl, (refl, tt))))))
 
+-- the lock hears whatever has come to it before, and whatever that opened to
+lock_is_up : IsUp the_keyed_lock
+lock_is_up = record { kind = refl; awake = refl }
+
+heard_1 : MayMeet (the_keyed_lock ∷ []) (take 27 sealed_exchange) (Heard 1)
+unfolding reckoning
+heard_1 = lock_hears (the_keyed_lock ∷ []) (take 27 sealed_exchange) 1 _ the_keyed_lock refl refl refl refl refl lock_is_up
+
+heard_3 : MayMeet (the_keyed_lock ∷ []) (take 41 sealed_exchange) (Heard 3)
+unfolding reckoning
+heard_3 = lock_hears (the_keyed_lock ∷ []) (take 41 sealed_exchange) 3 _ the_keyed_lock refl refl refl refl refl lock_is_up
+
+heard_5 : MayMeet (the_keyed_lock ∷ []) (take 55 sealed_exchange) (Heard 5)
+unfolding reckoning
+heard_5 = lock_hears (the_keyed_lock ∷ []) (take 55 sealed_exchange) 5 _ the_keyed_lock refl refl refl refl refl lock_is_up
+
+heard_7 : MayMeet (the_keyed_lock ∷ []) (take 70 sealed_exchange) (Heard 7)
+unfolding reckoning
+heard_7 = lock_hears (the_keyed_lock ∷ []) (take 70 sealed_exchange) 7 _ the_keyed_lock refl refl refl refl refl lock_is_up
+
+repeat_heard : MayMeet (the_keyed_lock ∷ []) (take 81 sealed_exchange) (Heard 5)
+unfolding reckoning
+repeat_heard = lock_hears_again (the_keyed_lock ∷ []) (take 81 sealed_exchange) 5 _ the_keyed_lock refl refl refl lock_is_up
+
 pub returns-clause-sealed : goal.returns-clause-sealed
-unfolding reckoning hears_securely hears_sealed
-returns-clause-sealed c = meets_what_is_due (the_lock ∷ []) (take 70 sealed_exchange) (refl, (refl, (refl, (refl, (refl, (refl, tt))))))
+unfolding reckoning
+returns-clause-sealed c =
+    meets_what_is_due (the_keyed_lock ∷ []) sealed_exchange
+    (heard_1, (refl, (heard_3, (refl, (heard_5, (refl, (heard_7, (refl, (repeat_heard, tt)))))))))
 
 pub returns-clause-cut : goal.returns-clause-cut
 unfolding reckoning hears_in_segments hears_segment taken_at kept_after written IsFull
