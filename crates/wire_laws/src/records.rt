@@ -3,14 +3,20 @@
 ghost use Rattle.std.specs.Prelude.{[], ◌∷◌, map};
 ghost use Rattle.host_keep.specs.RecordText.{record_text};
 ghost use Rattle.zw_laws.specs.Records.{KeepsRecords};
-ghost use Rattle.zw_laws.specs.Worked.{plain_exchange, restarted_host};
+ghost use Rattle.zw_laws.specs.Worked.{plain_exchange, repeated_exchange, lossy_exchange, cancelled_order, restarted_host, sleeping_node, sealed_exchange, long_message};
 ghost use Rattle.zw_laws.specs.WorkedDevices.{plain_records};
-ghost use Rattle.wire_laws.specs.WorkedRecords.{still_begun, begun_records, taken_back, cancelling_records, ordered_otherwise, spent_ungiven, taken_back_late, given_up};
+ghost use Rattle.wire_laws.specs.WorkedRecords.{still_begun, begun_records, taken_back, cancelling_records, lossy_records, cancelled_records, sleeping_records, sealed_records, cut_records, ordered_otherwise, spent_ungiven, taken_back_late, given_up};
 
-/// The records of a plain exchange, of one with a restart, of a session that has not ended and of a command that is taken back give what is shown, of all nodes.
+/// The records of the worked transcripts, of a session that has not ended and of a command that is taken back give what is shown, of all nodes.
 pub fn worked_records()
     ensures plain { KeepsRecords plain_exchange (map record_text plain_records) }
     ensures restarted { KeepsRecords restarted_host (map record_text plain_records) }
+    ensures twice { KeepsRecords repeated_exchange (map record_text plain_records) }
+    ensures lossy { KeepsRecords lossy_exchange (map record_text lossy_records) }
+    ensures cancelled { KeepsRecords cancelled_order (map record_text cancelled_records) }
+    ensures sleeping { KeepsRecords sleeping_node (map record_text sleeping_records) }
+    ensures sealed { KeepsRecords sealed_exchange (map record_text sealed_records) }
+    ensures cut { KeepsRecords long_message (map record_text cut_records) }
     ensures begun { KeepsRecords still_begun (map record_text begun_records) }
     ensures taken_back { KeepsRecords taken_back (map record_text cancelling_records) }
 {}
