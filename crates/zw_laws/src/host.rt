@@ -80,12 +80,13 @@ pub fn worked_heard()
 {}
 
 /// A line that is to be refused is refused as the first rule that applies says: for a class or Supervision that the node does not list, for a message
-/// that is too long, and for a node that takes sealed messages alone. One byte less is let in.
+/// that is too long, and for a node that takes sealed messages alone. One byte less is let in, and so is a 512th property.
 pub fn worked_refusals()
     ensures unsupported { AnswersLines true (the_switch ∷ []) (refused_so (codes "mode 2 1") (refusals.Unsupported 0x40)) }
     ensures unsupervised { AnswersLines true (the_relay ∷ []) (when_known (codes "join 3") 3 (refused_so (codes "set 3 on") refusals.Unsupervised)) }
     ensures long { AnswersLines true (the_plug ∷ []) (when_known (codes "join 8") 8 (refused_so (bulk_of 250) (refusals.TooLong 256))) }
     ensures longest { AnswersLines true (the_plug ∷ []) (when_known (codes "join 8") 8 (lets_in (bulk_of 249) 8)) }
+    ensures stored { AnswersLines true (the_switch ∷ []) (many_reported 511 ++ lets_in (codes "set 2 on") 2) }
     ensures send_secured { AnswersLines true (the_lock ∷ []) (when_known (codes "join 4") 4 (refused_so (codes "send 4 on") refusals.Secured)) }
     ensures get_secured { AnswersLines true (the_lock ∷ []) (when_known (codes "join 4") 4 (refused_so (codes "get 4") refusals.Secured)) }
 {}
