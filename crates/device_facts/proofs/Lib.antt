@@ -7,3 +7,5 @@ pub mod HostOuts
 pub mod Telling
 pub mod Told
 pub mod Showing
+pub mod Having
+mod Among

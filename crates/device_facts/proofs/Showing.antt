@@ -77,7 +77,7 @@ module _ (adds : Adds) where
       let long : length (device_after device event).journal ≡ length device.journal + length more = ap length added ∙ length-append device.journal more in
       omega (arith, long)
 
-  new_are : (device : State) (event : DeviceEvent) → (device_after device event).journal ≡ device.journal ++ new_changes device event
+  pub new_are : (device : State) (event : DeviceEvent) → (device_after device event).journal ≡ device.journal ++ new_changes device event
   new_are device event =
       let (more, added) = adds device event in
       added ∙ ap (λ (l : List Change). device.journal ++ l) (sym (ap (λ (l : List Change). drop (length device.journal) l) added ∙ drop-append_seam device.journal more))
@@ -113,7 +113,7 @@ show_rest T node [] elsewhere apart = tt
 show_rest T node (d ∷ devices) elsewhere apart =
     (record { changes = []; changed = sym (append-nil d.journal); entered = elsewhere d.node apart.0 }, show_rest T node devices elsewhere apart.1)
 
-node_at : (P : State → Type 0) (devices : List State) (place : ℕ) (device : State) → AllByRecursion P devices → slice_get devices place ≡ Some device → P device
+pub node_at : (P : State → Type 0) (devices : List State) (place : ℕ) (device : State) → AllByRecursion P devices → slice_get devices place ≡ Some device → P device
 node_at P [] place device all at = absurd cc
 node_at P (d ∷ devices) zero device all at = let is : d ≡ device = cc in subst P is all.0
 node_at P (d ∷ devices) (suc place) device all at = node_at P devices place device all.1 at
@@ -141,7 +141,7 @@ apart_node [] (y ∷ new) n n' e same all = absurd same
 apart_node (x ∷ old) [] n n' e same all = absurd same
 apart_node (x ∷ old) (y ∷ new) n n' e same all = ((λ at. all.0 (sym same.0.node ∙ (at ∙ e))), apart_node old new n n' e same.1 all.1)
 
-pub stay_apart : (old new : List State) → AreSame old new → AreApart old → AreApart new
+stay_apart : (old new : List State) → AreSame old new → AreApart old → AreApart new
 stay_apart [] [] same apart = tt
 stay_apart [] (y ∷ new) same apart = absurd same
 stay_apart (x ∷ old) [] same apart = absurd same
@@ -157,6 +157,31 @@ taken_still : (w : Outside) (count : ℕ) → (happens_outside w (host_takes cou
 unfolding devices_after
 taken_still w count = refl
 
+-- where nothing is shown, and the devices are as they were
+unmoved : (T : List Entry) (old new : List State) → new ≡ old → Others T → TellsOne (λ n. made n T) old new
+unmoved T old new e others = inl (e, λ n. none_made n T others)
+
+-- an event shows the changes of the one device that it moves, and no others
+pub event_tells : Adds → (m : Machine) (event : Event) → May m event → TellsOne (λ n. made n (entries m event)) m.outside.devices (happens m event).outside.devices
+unfolding happens entries May
+event_tells adds m (Outside_does event) may = own_told (grows adds) m.outside event may.0
+event_tells adds m (Host_does event) may =
+    unmoved (answer_entries m event) m.outside.devices (happens m (Host_does event)).outside.devices
+    (devices_host-all m (event ∷ []))
+    (all-append IsOther (host_entries m (event ∷ [])) _ (host_other m.outside m.host.state (event ∷ [])) (answered_other (host_does m (event ∷ [])).outside m.host.state event))
+event_tells adds m (Host_takes count rest items events) may =
+    unmoved (host_entries (fed m count rest) events) m.outside.devices (happens m (Host_takes count rest items events)).outside.devices
+    (routed_still (fed m count rest).outside (outs_all m.host.state events) ∙ taken_still m.outside count)
+    (host_other (fed m count rest).outside m.host.state events)
+event_tells adds m Decoder_ticks may = inl (refl, λ n. refl)
+event_tells adds m (Refuses line refusal) may =
+    unmoved (entries_outside m.outside (Host_notes (Refused refusal))) m.outside.devices (happens m (Refuses line refusal)).outside.devices
+    (note_still m.outside (Refused refusal)) (note_other m.outside (Refused refusal) tt)
+event_tells adds m (Shows_values node) may =
+    unmoved (entries_outside m.outside (Host_notes (shown_values m.host.state node))) m.outside.devices (happens m (Shows_values node)).outside.devices
+    (note_still m.outside (shown_values m.host.state node)) (note_other m.outside (shown_values m.host.state node) tt)
+event_tells adds m (Restarts state) may = inl (refl, λ n. refl)
+
 module _ (adds : Adds) (goes : (m : Machine) (event : Event) → GoOn m.outside.devices (happens m event).outside.devices)
     (same : (old new : List State) → GoOn old new → AreSame old new) where
   show_one : (T : List Entry) (old new : List State) → AreApart old → TellsOne (λ n. made n T) old new → AllShow T old new
@@ -166,30 +191,8 @@ module _ (adds : Adds) (goes : (m : Machine) (event : Event) → GoOn m.outside.
       (show_set T old tells.place tells.device (device_after tells.device tells.event) apart tells.stood
       (record { changes = new_changes tells.device tells.event; changed = new_are adds tells.device tells.event; entered = tells.here }) tells.elsewhere)
 
-  -- where nothing is shown, and the devices are as they were
-  unmoved : (T : List Entry) (old new : List State) → new ≡ old → Others T → AllShow T old new
-  unmoved T old new e others = subst (λ (l : List State). AllShow T old l) (sym e) (show_none T old (λ n. none_made n T others))
-
   pub event_shows : (m : Machine) (event : Event) → May m event → AreApart m.outside.devices → AllShow (entries m event) m.outside.devices (happens m event).outside.devices
-  unfolding happens entries May
-  event_shows m (Outside_does event) may apart =
-      show_one (entries_outside m.outside event) m.outside.devices (happens_outside m.outside event).devices apart (own_told (grows adds) m.outside event may.0)
-  event_shows m (Host_does event) may apart =
-      unmoved (answer_entries m event) m.outside.devices (happens m (Host_does event)).outside.devices
-      (devices_host-all m (event ∷ []))
-      (all-append IsOther (host_entries m (event ∷ [])) _ (host_other m.outside m.host.state (event ∷ [])) (answered_other (host_does m (event ∷ [])).outside m.host.state event))
-  event_shows m (Host_takes count rest items events) may apart =
-      unmoved (host_entries (fed m count rest) events) m.outside.devices (happens m (Host_takes count rest items events)).outside.devices
-      (routed_still (fed m count rest).outside (outs_all m.host.state events) ∙ taken_still m.outside count)
-      (host_other (fed m count rest).outside m.host.state events)
-  event_shows m Decoder_ticks may apart = show_none [] m.outside.devices (λ n. refl)
-  event_shows m (Refuses line refusal) may apart =
-      unmoved (entries_outside m.outside (Host_notes (Refused refusal))) m.outside.devices (happens m (Refuses line refusal)).outside.devices
-      (note_still m.outside (Refused refusal)) (note_other m.outside (Refused refusal) tt)
-  event_shows m (Shows_values node) may apart =
-      unmoved (entries_outside m.outside (Host_notes (shown_values m.host.state node))) m.outside.devices (happens m (Shows_values node)).outside.devices
-      (note_still m.outside (shown_values m.host.state node)) (note_other m.outside (shown_values m.host.state node) tt)
-  event_shows m (Restarts state) may apart = show_none [] m.outside.devices (λ n. refl)
+  event_shows m event may apart = show_one (entries m event) m.outside.devices (happens m event).outside.devices apart (event_tells adds m event may)
 
   pub run_shows : (m : Machine) (events : List Event) → MayAll m events → AreApart m.outside.devices → AllShow (entries_all m events) m.outside.devices (happens_all m events).outside.devices
   run_shows m [] may apart = show_none [] m.outside.devices (λ n. refl)

@@ -4,8 +4,9 @@ use Rattle.std.specs.List.{AllByRecursion, AllZip, flat_map}
 use Rattle.device_stack.specs.declared.change.Change.{Change}
 use Rattle.device_sim.specs.State.{State}
 use Rattle.zw_text.specs.declared.entry.Entry.{Entry}
-use Rattle.zw_text.specs.Transcript.{made}
+use Rattle.zw_text.specs.Transcript.{Made, made}
 use Rattle.zw_laws.specs.Devices.{made_by}
+use Rattle.zw_laws.specs.Lists.{Has}
 
 -- no two devices are of one node
 abbrev pub AreApart : List State → Type 0
@@ -29,6 +30,10 @@ AreUnchanged devices = AllByRecursion (λ (device : State). device.journal ≡ [
 -- what a transcript shows of a device is its journal, from the first change on
 abbrev pub IsShown : List Entry → State → Type 0
 IsShown transcript device = made device.node transcript ≡ flat_map made_by device.journal
+
+-- each setting of its journal is shown, perhaps among those of other devices of its node
+abbrev pub IsShownAmong : List Entry → State → Type 0
+IsShownAmong transcript device = (one : Made) → Has (flat_map made_by device.journal) one → Has (made device.node transcript) one
 
 -- numbers of which none is above a later one: equal ones stand together
 abbrev pub NeverFalls : List ℕ → Type 0

@@ -1,6 +1,6 @@
 //! What becomes of the devices at the events of the machine.
 
-ghost use Rattle.std.specs.Prelude.{List};
+ghost use Rattle.std.specs.Prelude.{List, ◌++◌};
 ghost use Rattle.std.specs.List.{AllByRecursion};
 ghost use Rattle.device_sim.specs.State.{State};
 ghost use Rattle.device_sim.specs.Event.{DeviceEvent, device_after};
@@ -13,7 +13,7 @@ ghost use Rattle.zw_text.specs.Transcript.{applied};
 ghost use Rattle.zw_machine.specs.Events.{Event, happens, entries, May};
 ghost use Rattle.zw_machine.specs.Did.{happens_all, entries_all, MayAll};
 ghost use Rattle.device_facts.specs.GoingOn.{MovesOne, GoOn, IsSame, AreSame, AreInOrder, TakesOnce, TakeOnce};
-ghost use Rattle.device_facts.specs.Showing.{AreApart, AllShow, AreUnchanged, IsShown, NeverFalls};
+ghost use Rattle.device_facts.specs.Showing.{AreApart, AllShow, AreUnchanged, IsShown, IsShownAmong, NeverFalls};
 
 use device_sim::{sessions_rise, when_changes_come};
 
@@ -43,12 +43,14 @@ pub fn devices_take_once()
 
 /// Where no two devices are of one node, the `dev` entries of a node are the settings of the changes that its device made, in order: of an
 /// event, of a run, and of a whole journal where the transcript begins with devices that have not changed. So the sessions on those lines
-/// never fall: equal ones stand together, since a session has changed its device at most once.
+/// never fall: equal ones stand together, since a session has changed its device at most once. Whatever devices are of one node, each setting of a
+/// device's journal is shown.
 pub fn changes_are_shown()
     ensures each { (m : Machine) (event : Event) → May m event → AreApart m.outside.devices → AllShow (entries m event) m.outside.devices (happens m event).outside.devices }
     ensures all { (m : Machine) (events : List Event) → MayAll m events → AreApart m.outside.devices →
         AllShow (entries_all m events) m.outside.devices (happens_all m events).outside.devices }
-    ensures apart { (old new : List State) → GoOn old new → AreApart old → AreApart new }
+    ensures among { (past : List Entry) (m : Machine) (event : Event) → May m event → AllByRecursion (IsShownAmong past) m.outside.devices →
+        AllByRecursion (IsShownAmong (past ++ entries m event)) (happens m event).outside.devices }
     ensures whole { (transcript : List Entry) (old new : List State) → GoOn old new → AreUnchanged old → AllShow transcript old new → AllByRecursion (IsShown transcript) new }
     ensures groups { (transcript : List Entry) (device : State) → IsShown transcript device → TakesOnce device → NeverFalls (applied device.node transcript) }
 {

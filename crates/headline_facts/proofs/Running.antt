@@ -1,14 +1,13 @@
 -- Over lines each success stands behind the change.
-use Rattle.std.proofs.Common.{ℕ, List, [], ◌∷◌, ◌++◌, flat_map, sym, ap, subst, append_assoc, append-nil}
+use Rattle.std.proofs.Common.{ℕ, List, [], ◌∷◌, ◌++◌, flat_map, sym, subst, append_assoc, append-nil}
 use Rattle.std.specs.List.{AllByRecursion}
 use Rattle.device_stack.specs.declared.change.Change.{Change}
 use Rattle.device_sim.specs.State.{State}
-use Rattle.device_facts.specs.GoingOn.{GoOn}
-use Rattle.device_facts.specs.Showing.{AreApart, AreUnchanged, IsShown}
+use Rattle.device_facts.specs.Showing.{AreUnchanged, IsShownAmong}
 use Rattle.zw_text.specs.declared.entry.Entry.{Entry}
 use Rattle.zw_text.specs.declared.entry.Entry.TheVariants.{Said}
 use Rattle.zw_laws.specs.Devices.{made_by}
-use Rattle.zw_laws.specs.Lists.{EachAfter}
+use Rattle.zw_laws.specs.Lists.{EachAfter, Has}
 use Rattle.host_events.specs.State.{HostState}
 use Rattle.host_facts.specs.Entries.{IsAside}
 use Rattle.host_facts.specs.Facts.{Facts}
@@ -26,29 +25,25 @@ use Rattle.headline_facts.proofs.Succeeding.{Frees}
 -- what goes on from event to event
 pub record IsSo (Ends : List Entry → Entry → Type 0) (past : List Entry) (m : Machine) : Type 0 where
   pub facts : Facts past m.host.state
-  pub apart : AreApart m.outside.devices
-  pub shown : AllByRecursion (IsShown past) m.outside.devices
+  pub shown : AllByRecursion (IsShownAmong past) m.outside.devices
   pub succeeded : EachAfter Ends [] past
 
 -- devices that have not changed
-pub first_shown : (devices : List State) → AreUnchanged devices → AllByRecursion (IsShown []) devices
+pub first_shown : (devices : List State) → AreUnchanged devices → AllByRecursion (IsShownAmong []) devices
 first_shown [] are = tt
-first_shown (device ∷ devices) are = (ap (λ (l : List Change). flat_map made_by l) (sym are.0), first_shown devices are.1)
+first_shown (device ∷ devices) are = ((λ one has. absurd (subst (λ (l : List Change). Has (flat_map made_by l) one) are.0 has)), first_shown devices are.1)
 
 module _ (keeps : (past : List Entry) (m : Machine) (event : Event) → Facts past m.host.state → May m event → StartsWell m event → Facts (past ++ entries m event) (happens m event).host.state)
     (aside : (past : List Entry) (h : HostState) (entry : Entry) → Facts past h → IsAside entry → Facts (past ++ entry ∷ []) h)
-    (goes : (m : Machine) (event : Event) → GoOn m.outside.devices (happens m event).outside.devices)
-    (apart_still : (old new : List State) → GoOn old new → AreApart old → AreApart new)
-    (shows : (past : List Entry) (m : Machine) (event : Event) → AreApart m.outside.devices → AllByRecursion (IsShown past) m.outside.devices → May m event
-    → AllByRecursion (IsShown (past ++ entries m event)) (happens m event).outside.devices)
+    (shows : (past : List Entry) (m : Machine) (event : Event) → May m event → AllByRecursion (IsShownAmong past) m.outside.devices
+    → AllByRecursion (IsShownAmong (past ++ entries m event)) (happens m event).outside.devices)
     (Ends : List Entry → Entry → Type 0) (free : Frees Ends) (Of : ℕ → Type 0)
-    (succeeds : (past : List Entry) (m : Machine) (event : Event) → Facts past m.host.state → AllByRecursion (IsShown past) m.outside.devices → May m event → ((node : ℕ) → Of node → IsTrue node m event)
+    (succeeds : (past : List Entry) (m : Machine) (event : Event) → Facts past m.host.state → AllByRecursion (IsShownAmong past) m.outside.devices → May m event → ((node : ℕ) → Of node → IsTrue node m event)
     → EachAfter Ends [] past → EachAfter Ends [] (past ++ entries m event)) where
   event_so : (past : List Entry) (m : Machine) (event : Event) → May m event → StartsWell m event → ((node : ℕ) → Of node → IsTrue node m event) → IsSo Ends past m → IsSo Ends (past ++ entries m event) (happens m event)
   event_so past m event may well true so = record {
     facts = keeps past m event so.facts may well;
-    apart = apart_still m.outside.devices (happens m event).outside.devices (goes m event) so.apart;
-    shown = shows past m event so.apart so.shown may;
+    shown = shows past m event may so.shown;
     succeeded = succeeds past m event so.facts so.shown may true so.succeeded;
   }
 
@@ -63,7 +58,6 @@ module _ (keeps : (past : List Entry) (m : Machine) (event : Event) → Facts pa
   line_so past m spoken more is true so =
       let begun : IsSo Ends (past ++ Said spoken.words ∷ []) m = record {
         facts = aside past m.host.state (Said spoken.words) so.facts tt;
-        apart = so.apart;
         shown = said_shown past spoken.words m.outside.devices so.shown;
         succeeded = each-append Ends [] past (Said spoken.words ∷ []) so.succeeded (free past (Said spoken.words) tt, tt);
       } in

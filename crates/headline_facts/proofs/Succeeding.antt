@@ -6,7 +6,7 @@ use Rattle.supervision.specs.declared.session.TheConstants.{SUCCESS}
 use Rattle.supervision.proofs.OnceLemmas.{All-slice_get}
 use Rattle.device_sim.specs.State.{State}
 use Rattle.device_course.specs.Ending.{HasEnded}
-use Rattle.device_facts.specs.Showing.{IsShown}
+use Rattle.device_facts.specs.Showing.{IsShownAmong}
 use Rattle.zw_text.specs.declared.entry.Ended.TheVariants as ended
 use Rattle.zw_text.specs.declared.entry.Entry.{Entry}
 use Rattle.zw_text.specs.declared.entry.Entry.TheVariants.{Out, Refused}
@@ -37,7 +37,7 @@ use Rattle.zw_machine.proofs.Silence.{judged_silent}
 use Rattle.world_facts.proofs.Aside.{Asides, own_aside, stamp_aside}
 use Rattle.world_facts.proofs.Notes.{Behind, event_behind}
 use Rattle.once_facts.specs.Tied.{MakesWhatIsTaken}
-use Rattle.once_facts.proofs.Having.{all_has}
+use Rattle.device_facts.proofs.Having.{all_has}
 use Rattle.once_facts.specs.Truly.{IsDoneBy, IsTrue, TellTruly, TellsTruly}
 use Rattle.headline_facts.specs.Truly.{MayEndOf}
 use Rattle.said_facts.proofs.Noting.{AreRoutine, IsRoutine, behind_routine, event_routine}
@@ -93,7 +93,7 @@ since_more past now es since = record { more = since.more ++ es; is = ap (λ (l 
 -- ---- the end of a session
 
 abbrev pub EndingsShown : Type 0
-EndingsShown = (past more : List Entry) (h : HostState) (device : State) (finals : List ℕ) (session number : ℕ) → Facts (past ++ more) h → IsShown past device → HasEnded device finals
+EndingsShown = (past more : List Entry) (h : HostState) (device : State) (finals : List ℕ) (session number : ℕ) → Facts (past ++ more) h → IsShownAmong past device → HasEnded device finals
     → AllByRecursion (MakesWhatIsTaken h.commands (node_of h.nodes device.node).book.commands) device.journal
     → session_at (node_of h.nodes device.node).book.commands session ≡ Some number → session_at finals session ≡ Some SUCCESS → Has (commands_shown device.node (past ++ more)) number
 
@@ -109,7 +109,7 @@ accepted_once now h n session command facts carried =
 
 -- where a success of one of these nodes is true, it may end so
 abbrev pub MayFinish : (List Entry → Entry → Type 0) → (ℕ → Type 0) → Type 0
-MayFinish Ends Of = (past now : List Entry) (h : HostState) (devices : List State) (n session command : ℕ) → IsSince past now → Facts now h → AllByRecursion (IsShown past) devices
+MayFinish Ends Of = (past now : List Entry) (h : HostState) (devices : List State) (n session command : ℕ) → IsSince past now → Facts now h → AllByRecursion (IsShownAmong past) devices
     → session_at (node_of h.nodes n).book.commands session ≡ Some command → (Of n → IsDoneBy h devices n session) → Ends now (Out command ended.Success)
 
 -- any node
@@ -117,12 +117,12 @@ abbrev pub IsAny : ℕ → Type 0
 IsAny n = Unit {0}
 
 module _ (endings : EndingsShown) where
-  done_shown : (past now : List Entry) (h : HostState) (devices : List State) (node session number : ℕ) → IsSince past now → Facts now h → AllByRecursion (IsShown past) devices
+  done_shown : (past now : List Entry) (h : HostState) (devices : List State) (node session number : ℕ) → IsSince past now → Facts now h → AllByRecursion (IsShownAmong past) devices
       → IsDoneBy h devices node session → session_at (node_of h.nodes node).book.commands session ≡ Some number → Has (commands_shown node now) number
   done_shown past now h devices node session number since facts shown done carried =
       subst (λ (n : ℕ). Has (commands_shown n now) number) done.of_node
       (subst (λ (l : List Entry). Has (commands_shown done.device.node l) number) (sym since.is)
-      (endings past since.more h done.device done.finals session number (subst (λ (l : List Entry). Facts l h) since.is facts) (all_has (IsShown past) devices done.device shown done.among) done.ended
+      (endings past since.more h done.device done.finals session number (subst (λ (l : List Entry). Facts l h) since.is facts) (all_has (IsShownAmong past) devices done.device shown done.among) done.ended
       (subst (λ (n : ℕ). AllByRecursion (MakesWhatIsTaken h.commands (node_of h.nodes n).book.commands) done.device.journal) (sym done.of_node) done.made)
       (subst (λ (n : ℕ). session_at (node_of h.nodes n).book.commands session ≡ Some number) (sym done.of_node) carried) done.success))
 
@@ -147,7 +147,7 @@ module _ (each : (past : List Entry) (h : HostState) (event : HostEvent) → Fac
 
   -- ---- one event of a host
 
-  event_ends : (past now : List Entry) (h : HostState) (devices : List State) (event : HostEvent) → IsSince past now → Facts now h → AllByRecursion (IsShown past) devices → MayHost h event
+  event_ends : (past now : List Entry) (h : HostState) (devices : List State) (event : HostEvent) → IsSince past now → Facts now h → AllByRecursion (IsShownAmong past) devices → MayHost h event
       → ((node : ℕ) → Of node → TellsTruly node h devices event) → EachAfter Ends now (entries_at h event)
   event_ends past now h devices (Finishes n session id command final.Success wake_request) since facts shown may true = (
     finish past now h devices n session command since facts shown may.carried (λ of. true n of refl),
@@ -156,7 +156,7 @@ module _ (each : (past : List Entry) (h : HostState) (event : HostEvent) → Fac
   event_ends past now h devices (Interviews n listens classes update) since facts shown may true = frees Ends free now (entries_at h (Interviews n listens classes update)) (tt, tt)
   event_ends past now h devices event since facts shown may true = routines Ends free now (entries_at h event) (event_routine h event tt)
 
-  behind_ends : (past now all : List Entry) (h : HostState) (devices : List State) (event : HostEvent) → IsSince past now → Facts now h → AllByRecursion (IsShown past) devices → MayHost h event
+  behind_ends : (past now all : List Entry) (h : HostState) (devices : List State) (event : HostEvent) → IsSince past now → Facts now h → AllByRecursion (IsShownAmong past) devices → MayHost h event
       → ((node : ℕ) → Of node → TellsTruly node h devices event) → Behind (entries_at h event) all → EachAfter Ends now all
   behind_ends past now all h devices event since facts shown may true behind =
       subst (λ (l : List Entry). EachAfter Ends now l) (sym behind.are)
@@ -179,7 +179,7 @@ module _ (each : (past : List Entry) (h : HostState) (event : HostEvent) → Fac
       ∙ ap (λ (l : List HostOut). entries_all_outside m.outside (routed l)) (sym (append-nil (outs h event)))))
       (event_behind m.outside m.outside h event)
 
-  events_end : (past now : List Entry) (m : Machine) (devices : List State) (events : List HostEvent) → IsSince past now → Facts now m.host.state → AllByRecursion (IsShown past) devices
+  events_end : (past now : List Entry) (m : Machine) (devices : List State) (events : List HostEvent) → IsSince past now → Facts now m.host.state → AllByRecursion (IsShownAmong past) devices
       → MayAllHost m.host.state events → Silent events → ((node : ℕ) → Of node → TellTruly node m.host.state devices events) → EachAfter Ends now (host_entries m events)
   events_end past now m devices [] since facts shown may silent true = tt
   events_end past now m devices (event ∷ events) since facts shown may silent true =
@@ -196,7 +196,7 @@ module _ (each : (past : List Entry) (h : HostState) (event : HostEvent) → Fac
   unfolding outcome
   note_ends past m entry is = asides_end Ends free past _ (stamp_aside m.outside.outer (entry ∷ []) (is, tt))
 
-  machine_ends : (past : List Entry) (m : Machine) (event : Event) → Facts past m.host.state → AllByRecursion (IsShown past) m.outside.devices → May m event → ((node : ℕ) → Of node → IsTrue node m event)
+  machine_ends : (past : List Entry) (m : Machine) (event : Event) → Facts past m.host.state → AllByRecursion (IsShownAmong past) m.outside.devices → May m event → ((node : ℕ) → Of node → IsTrue node m event)
       → EachAfter Ends past (entries m event)
   unfolding entries May
   machine_ends past m (Outside_does event) facts shown may true = asides_end Ends free past (entries_outside m.outside event) (own_aside m.outside event may.0)
@@ -214,6 +214,6 @@ module _ (each : (past : List Entry) (h : HostState) (event : HostEvent) → Fac
   machine_ends past m (Shows_values node) facts shown may true = note_ends past m (shown_values m.host.state node) tt
   machine_ends past m (Restarts state) facts shown may true = tt
 
-  pub event_succeeds : (past : List Entry) (m : Machine) (event : Event) → Facts past m.host.state → AllByRecursion (IsShown past) m.outside.devices → May m event → ((node : ℕ) → Of node → IsTrue node m event)
+  pub event_succeeds : (past : List Entry) (m : Machine) (event : Event) → Facts past m.host.state → AllByRecursion (IsShownAmong past) m.outside.devices → May m event → ((node : ℕ) → Of node → IsTrue node m event)
       → EachAfter Ends [] past → EachAfter Ends [] (past ++ entries m event)
   event_succeeds past m event facts shown may true before = each-append Ends [] past (entries m event) before (machine_ends past m event facts shown may true)

@@ -4,14 +4,14 @@ ghost use Rattle.std.specs.Prelude.{◌≡◌, ℕ, true, Option, Some, List, []
 ghost use Rattle.std.specs.List.{AllByRecursion};
 ghost use Rattle.s0_crypto.specs.declared.key_pair.Keys.{Keys};
 ghost use Rattle.device_sim.specs.State.{State};
-ghost use Rattle.device_facts.specs.Showing.{AreApart, AreUnchanged, IsShown};
+ghost use Rattle.device_facts.specs.Showing.{AreUnchanged, IsShownAmong};
 ghost use Rattle.zw_text.specs.declared.entry.Entry.{Entry};
 ghost use Rattle.zw_laws.specs.Headline.{Headline, HeadlineOf};
 ghost use Rattle.zw_laws.specs.Nodes.{device_of, is_supervised, listing_of};
 ghost use Rattle.zw_laws.specs.Once.{SucceedsAfterChange};
 ghost use Rattle.host_facts.specs.Facts.{Facts};
 ghost use Rattle.zw_machine.specs.State.{Machine, first_machine};
-ghost use Rattle.zw_machine.specs.Events.{Event, happens, entries, May};
+ghost use Rattle.zw_machine.specs.Events.{Event, entries, May};
 ghost use Rattle.once_facts.specs.Tied.{AllTied, AreTied};
 ghost use Rattle.once_facts.specs.Truly.{IsTrue};
 ghost use Rattle.said_facts.specs.Said.{LinesTell};
@@ -19,7 +19,7 @@ ghost use Rattle.said_facts.specs.Spoken.{Spoken, AreSpoken, after_all, transcri
 ghost use Rattle.listing_facts.specs.Lines.{AreDone};
 ghost use Rattle.headline_facts.specs.Truly.{IsAskable, LinesAreTrue, SucceedsAfterChangeOf};
 
-use device_facts::{changes_are_shown, devices_go_on, devices_stay_the_same};
+use device_facts::{changes_are_shown, devices_go_on};
 use host_facts::{asides_keep_facts, events_keep_facts};
 use listing_facts::lines_tell_what_nodes_list;
 use once_facts::{devices_change_in_sessions, endings_are_shown, headlines_follow};
@@ -28,35 +28,28 @@ use said_facts::{
 };
 use world_facts::the_machine_keeps_facts;
 
-/// Where reports of success of a node are true, an event enters each success of its commands behind the change, and where those of all nodes are, each success; and the changes that the transcript
-/// shows are those of the devices' journals after it.
+/// Where reports of success of a node are true, an event enters each success of its commands behind the change, and where those of all nodes are, each success.
 pub fn successes_follow_changes()
-    ensures one { (past : List Entry) (m : Machine) (event : Event) (node : ℕ) → Facts past m.host.state → AllByRecursion (IsShown past) m.outside.devices →
+    ensures one { (past : List Entry) (m : Machine) (event : Event) (node : ℕ) → Facts past m.host.state → AllByRecursion (IsShownAmong past) m.outside.devices →
         May m event → IsTrue node m event → SucceedsAfterChangeOf node past → SucceedsAfterChangeOf node (past ++ entries m event) }
-    ensures all { (past : List Entry) (m : Machine) (event : Event) → Facts past m.host.state → AllByRecursion (IsShown past) m.outside.devices →
+    ensures all { (past : List Entry) (m : Machine) (event : Event) → Facts past m.host.state → AllByRecursion (IsShownAmong past) m.outside.devices →
         May m event → ((node : ℕ) → IsTrue node m event) → SucceedsAfterChange past → SucceedsAfterChange (past ++ entries m event) }
-    ensures shown { (past : List Entry) (m : Machine) (event : Event) → AreApart m.outside.devices → AllByRecursion (IsShown past) m.outside.devices → May m event →
-        AllByRecursion (IsShown (past ++ entries m event)) (happens m event).outside.devices }
 {
-    changes_are_shown();
-    devices_go_on();
-    devices_stay_the_same();
     events_keep_facts();
     asides_keep_facts();
     endings_are_shown();
 }
 
-/// So over any lines from the beginning on, the last of which want of memory may have cut short, with devices that have not changed yet, of which no two are of one node.
+/// So over any lines from the beginning on, the last of which want of memory may have cut short, with devices that have not changed yet, whatever devices are of one node.
 pub fn runs_report_after_the_change()
-    ensures one { (keys : Keys) (records : Option (List (List ℕ))) (devices : List State) (lines : List Spoken) (node : ℕ) → AreUnchanged devices → AreApart devices →
+    ensures one { (keys : Keys) (records : Option (List (List ℕ))) (devices : List State) (lines : List Spoken) (node : ℕ) → AreUnchanged devices →
         AreSpoken (first_machine keys records devices) lines → LinesAreTrue node (first_machine keys records devices) lines →
         SucceedsAfterChangeOf node (transcript_of (first_machine keys records devices) lines) }
-    ensures all { (keys : Keys) (records : Option (List (List ℕ))) (devices : List State) (lines : List Spoken) → AreUnchanged devices → AreApart devices →
+    ensures all { (keys : Keys) (records : Option (List (List ℕ))) (devices : List State) (lines : List Spoken) → AreUnchanged devices →
         AreSpoken (first_machine keys records devices) lines → ((node : ℕ) → LinesAreTrue node (first_machine keys records devices) lines) →
         SucceedsAfterChange (transcript_of (first_machine keys records devices) lines) }
 {
     changes_are_shown();
-    devices_go_on();
     asides_keep_facts();
     the_machine_keeps_facts();
     successes_follow_changes();
@@ -75,14 +68,14 @@ pub fn others_are_told_nothing()
 
 /// The headline, over any such lines, with devices that have not changed yet, where each interview that ends well tells what the node's device lists: of
 /// each device that knows Supervision, is the first of its node and is tied to the host in the end. And the whole, where all those are, each report of
-/// success is true of the first node and of those, and no two devices are of one node. The devices may be those after further lines, of which nothing is entered.
+/// success is true of the first node and of those. The devices may be those after further lines, of which nothing is entered.
 pub fn runs_have_the_headline()
     ensures one { (keys : Keys) (records : Option (List (List ℕ))) (devices : List State) (lines further : List Spoken) (node : ℕ) (device : State) → AreUnchanged devices →
         AreSpoken (first_machine keys records devices) lines → LinesTell (listing_of devices) (first_machine keys records devices) lines →
         device_of node (after_all (first_machine keys records devices) further).outside.devices ≡ Some device → is_supervised device ≡ true →
         AreTied (after_all (first_machine keys records devices) lines).host.state node device →
         HeadlineOf (listing_of devices) node (transcript_of (first_machine keys records devices) lines) device }
-    ensures whole { (keys : Keys) (records : Option (List (List ℕ))) (devices : List State) (lines further : List Spoken) → AreUnchanged devices → AreApart devices →
+    ensures whole { (keys : Keys) (records : Option (List (List ℕ))) (devices : List State) (lines further : List Spoken) → AreUnchanged devices →
         AreSpoken (first_machine keys records devices) lines → ((node : ℕ) → IsAskable devices node → LinesAreTrue node (first_machine keys records devices) lines) →
         LinesTell (listing_of devices) (first_machine keys records devices) lines →
         AllTied (after_all (first_machine keys records devices) lines).host.state (after_all (first_machine keys records devices) further).outside.devices →
@@ -106,7 +99,7 @@ pub fn lines_have_the_headline()
         device_of node (after_all (first_machine keys (Some []) devices) further).outside.devices ≡ Some device → is_supervised device ≡ true →
         AreTied (after_all (first_machine keys (Some []) devices) lines).host.state node device →
         HeadlineOf (listing_of devices) node (transcript_of (first_machine keys (Some []) devices) lines) device }
-    ensures whole { (keys : Keys) (devices : List State) (lines further : List Spoken) → AreUnchanged devices → AreApart devices → AreDone (first_machine keys (Some []) devices) lines →
+    ensures whole { (keys : Keys) (devices : List State) (lines further : List Spoken) → AreUnchanged devices → AreDone (first_machine keys (Some []) devices) lines →
         ((node : ℕ) → IsAskable devices node → LinesAreTrue node (first_machine keys (Some []) devices) lines) →
         AllTied (after_all (first_machine keys (Some []) devices) lines).host.state (after_all (first_machine keys (Some []) devices) further).outside.devices →
         Headline devices (after_all (first_machine keys (Some []) devices) further).outside.devices (transcript_of (first_machine keys (Some []) devices) lines) }

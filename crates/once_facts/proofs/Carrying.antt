@@ -11,7 +11,7 @@ use Rattle.device_sim.specs.Laws.{numbers, with_number}
 use Rattle.zw_text.specs.Transcript.{by_session}
 use Rattle.zw_laws.specs.Lists.{Has, listed}
 use Rattle.zw_laws.specs.Once.{carried_by, sessions_by}
-use Rattle.once_facts.proofs.Having.{has_shown, shown_has}
+use Rattle.device_facts.proofs.Having.{has_shown, shown_has}
 
 -- ---- places of lists
 

@@ -28,7 +28,7 @@ use Rattle.host_facts.specs.Tables.{taken_at}
 use Rattle.host_facts.proofs.Lists.{all-right}
 use Rattle.once_facts.specs.Tied.{IsTied, MakesWhatIsTaken, settings_taken}
 use Rattle.once_facts.specs.ByTable.{ConfirmsByTable}
-use Rattle.once_facts.proofs.Having.{above_behind, all_has, all_of}
+use Rattle.device_facts.proofs.Having.{above_behind, all_has, all_of}
 use Rattle.once_facts.proofs.Carrying.{carried_has, has_carried, has_change, sessions_by-append}
 use Rattle.once_facts.proofs.Succeeding.{successes_rise}
 use Rattle.once_facts.proofs.Once.{changed, succeeded, success_in}

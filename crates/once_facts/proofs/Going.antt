@@ -27,7 +27,7 @@ use Rattle.host_facts.specs.Laws.{HostLaws, IsOver}
 use Rattle.host_facts.specs.Tables.{outcome_in, recorded, taken_at}
 use Rattle.host_facts.proofs.Lists.{all-append}
 use Rattle.once_facts.specs.Tied.{AreOutcomes, IsTaken, IsToldAs, KeepsOrders, MakesWhatIsTaken, settings_taken}
-use Rattle.once_facts.proofs.Having.{all_has, all_of, has_shown}
+use Rattle.device_facts.proofs.Having.{all_has, all_of, has_shown}
 use Rattle.once_facts.proofs.Carrying.{carried_has, has_carried, numbers_are, session_has, session_within, stands_front}
 use Rattle.once_facts.proofs.Succeeding.{successes_within}
 

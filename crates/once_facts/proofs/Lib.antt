@@ -1,4 +1,3 @@
-pub mod Having
 mod Carrying
 mod Succeeding
 pub mod Starting

@@ -29,7 +29,7 @@ use Rattle.host_facts.specs.Laws.{HostLaws, IsUnderWay, numbers_for}
 use Rattle.host_facts.specs.Tables.{outcome_in, recorded}
 use Rattle.once_facts.specs.Tied.{IsTied, MakesWhatIsTaken}
 use Rattle.once_facts.specs.ByTable.{OnceByTable}
-use Rattle.once_facts.proofs.Having.{all_has, all_of}
+use Rattle.device_facts.proofs.Having.{all_has, all_of}
 use Rattle.once_facts.proofs.Carrying.{carried_has, has_carried, has_session, numbers_are, session_has, session_within, stands_front}
 use Rattle.once_facts.proofs.Succeeding.{has_success, successes_rise, successes_within, success_has}
 use Rattle.once_facts.proofs.Starting.{IsStarted, started_has}

@@ -15,7 +15,7 @@ use Rattle.supervision.proofs.OnceLemmas.{All-slice_get}
 use Rattle.device_stack.specs.declared.change.Change.{Change}
 use Rattle.device_sim.specs.State.{State}
 use Rattle.device_course.specs.Ending.{HasEnded}
-use Rattle.device_facts.specs.Showing.{IsShown}
+use Rattle.device_facts.specs.Showing.{IsShownAmong}
 use Rattle.zw_text.specs.declared.entry.Entry.{Entry}
 use Rattle.zw_text.specs.Transcript.{Made, applied, by_session, made, made_at}
 use Rattle.zw_text.proofs.Views.{shown-append}
@@ -32,7 +32,7 @@ use Rattle.host_events.specs.Facts.{IsCommandOf, IsSound}
 use Rattle.host_facts.specs.Facts.{Facts}
 use Rattle.host_facts.specs.Tables.{taken_at, taken_by}
 use Rattle.once_facts.specs.Tied.{MakesWhatIsTaken, settings_taken}
-use Rattle.once_facts.proofs.Having.{all_has, has_left, has_shown}
+use Rattle.device_facts.proofs.Having.{all_has, has_left, has_shown}
 use Rattle.once_facts.proofs.Carrying.{carried_has, has_change, numbers_are, session_has}
 use Rattle.once_facts.proofs.Succeeding.{success_has}
 
@@ -86,12 +86,12 @@ made_has [] by setting has = absurd has
 made_has (first ∷ sets) by setting (inl e) = inl (ap (made_of by) e)
 made_has (first ∷ sets) by setting (inr has) = inr (made_has sets by setting has)
 
-change_shown : (past : List Entry) (device : State) (change : Change) (session : ℕ) → IsShown past device → Has device.journal change → change.by ≡ Session session → IsSome change.settings
+change_shown : (past : List Entry) (device : State) (change : Change) (session : ℕ) → IsShownAmong past device → Has device.journal change → change.by ≡ Session session → IsSome change.settings
     → Has (applied device.node past) session
 change_shown past device change session shown among is some =
     let one = made_of change.by some.item in
     let entered : Has (made device.node past) one
-    = subst (λ (l : List Made). Has l one) (sym shown) (has_shown made_by device.journal change one among (made_has change.settings change.by some.item some.among)) in
+    = shown one (has_shown made_by device.journal change one among (made_has change.settings change.by some.item some.among)) in
     has_shown (λ (made : Made). by_session made.by) (made device.node past) one session entered (subst (λ (b : By). Has (by_session b) session) (sym is) (inl refl))
 
 -- and stays so
@@ -102,7 +102,7 @@ applied_more past more node session has =
     ∙ flat_map-append (λ (made : Made). by_session made.by) (made node past) (made node more)))
     (has_left (applied node past) (applied node more) session has)
 
-module _ (past more : List Entry) (h : HostState) (device : State) (finals : List ℕ) (session number : ℕ) (facts : Facts (past ++ more) h) (shown : IsShown past device) (ended : HasEnded device finals)
+module _ (past more : List Entry) (h : HostState) (device : State) (finals : List ℕ) (session number : ℕ) (facts : Facts (past ++ more) h) (shown : IsShownAmong past device) (ended : HasEnded device finals)
     (all : AllByRecursion (MakesWhatIsTaken h.commands (node_of h.nodes device.node).book.commands) device.journal)
     (at : session_at (node_of h.nodes device.node).book.commands session ≡ Some number) (success : session_at finals session ≡ Some SUCCESS) where
   pub ending_shown : Has (commands_shown device.node (past ++ more)) number

@@ -14,7 +14,7 @@ use Rattle.zw_laws.specs.Stores.{node_at}
 use Rattle.host_events.specs.State.{Command, command_at}
 use Rattle.host_facts.specs.Laws.{IsUnderWay, MayCarry, MayEnd, MayStand, accepted_for, number_for, numbers_for}
 use Rattle.host_facts.specs.Tables.{nodes_by}
-use Rattle.once_facts.proofs.Having.{has_left, has_right, has_shown, shown_has}
+use Rattle.device_facts.proofs.Having.{has_left, has_right, has_shown, shown_has}
 
 -- a command of which a session began
 abbrev pub IsStarted : Outcome → Type 0

@@ -9,7 +9,7 @@ use Rattle.supervision.specs.declared.session.TheConstants.{SUCCESS}
 use Rattle.courses.specs.Parts.{successes}
 use Rattle.zw_laws.specs.Lists.{Has, Rises}
 use Rattle.host_facts.proofs.Lists.{all-weaker}
-use Rattle.once_facts.proofs.Having.{all_of}
+use Rattle.device_facts.proofs.Having.{all_of}
 
 -- ---- which they are
 

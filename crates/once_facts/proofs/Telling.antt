@@ -20,7 +20,7 @@ use Rattle.host_facts.specs.Stores.{StoresLaw, given_by}
 use Rattle.host_facts.specs.Tables.{taken_at}
 use Rattle.once_facts.specs.Tied.{MakesWhatIsTaken, settings_taken}
 use Rattle.once_facts.specs.ByTable.{ConfirmsByTable, IsTable, OnceByTable}
-use Rattle.once_facts.proofs.Having.{all_has, all_of}
+use Rattle.device_facts.proofs.Having.{all_has, all_of}
 use Rattle.once_facts.proofs.Carrying.{has_carried, session_has}
 use Rattle.once_facts.proofs.Confirming.{value_settings}
 

@@ -13,7 +13,7 @@ ghost use Rattle.device_sim.specs.State.{State};
 ghost use Rattle.device_sim.specs.Event.{DeviceEvent, device_after};
 ghost use Rattle.device_course.specs.Ending.{HasEnded};
 ghost use Rattle.device_facts.specs.GoingOn.{GoOn};
-ghost use Rattle.device_facts.specs.Showing.{AreUnchanged, IsShown};
+ghost use Rattle.device_facts.specs.Showing.{AreUnchanged, IsShownAmong};
 ghost use Rattle.zw_text.specs.declared.entry.Entry.{Entry};
 ghost use Rattle.zw_laws.specs.Lists.{Has};
 ghost use Rattle.zw_laws.specs.Headline.{Headline, HeadlineOf};
@@ -101,7 +101,7 @@ pub fn ties_confirm_what_was_set()
 /// The command of a session that a device ended with success is shown to have changed it, once the transcript has shown the device's changes,
 /// whatever was entered since.
 pub fn endings_are_shown()
-    ensures { (past more : List Entry) (h : HostState) (device : State) (finals : List ℕ) (session number : ℕ) → Facts (past ++ more) h → IsShown past device → HasEnded device finals →
+    ensures { (past more : List Entry) (h : HostState) (device : State) (finals : List ℕ) (session number : ℕ) → Facts (past ++ more) h → IsShownAmong past device → HasEnded device finals →
         AllByRecursion (MakesWhatIsTaken h.commands (node_of h.nodes device.node).book.commands) device.journal →
         session_at (node_of h.nodes device.node).book.commands session ≡ Some number → session_at finals session ≡ Some SUCCESS →
         Has (commands_shown device.node (past ++ more)) number }

@@ -25,7 +25,7 @@ use Rattle.host_facts.specs.Tables.{nodes_by, taken_at}
 use Rattle.host_facts.proofs.Lists.{all-append}
 use Rattle.once_facts.specs.ByTable.{IsTable}
 use Rattle.once_facts.specs.Tied.{settings_taken}
-use Rattle.once_facts.proofs.Having.{all_of, has_left, has_right, has_shown, shown_has}
+use Rattle.device_facts.proofs.Having.{all_of, has_left, has_right, has_shown, shown_has}
 use Rattle.once_facts.proofs.Starting.{accepted_here}
 use Rattle.said_facts.specs.Said.{AreSaid, IsSaid, MayAnswer}
 

@@ -206,13 +206,13 @@ abbrev pub HasHeadline : Status → List ℕ → Around → Around → Type 0
 HasHeadline ended key old new = InFairRuns ended key old new
     (λ story. (node : ℕ) (device : State) → device_of node new.devices ≡ Some device → is_supervised device ≡ true → HeadlineOf (listing_of old.devices) node (transcript key old story) device)
 
--- where no two devices are of one node, success of a command of such a node is reported after its change
+-- success of a command of such a node is reported after its change
 abbrev pub ReportsAfterChange : Status → List ℕ → Around → Around → Type 0
-ReportsAfterChange ended key old new = InFairRuns ended key old new (λ story. AreApart old.devices → (node : ℕ) → IsSupervisedNode old.devices node → SucceedsAfterChangeOf node (transcript key old story))
+ReportsAfterChange ended key old new = InFairRuns ended key old new (λ story. (node : ℕ) → IsSupervisedNode old.devices node → SucceedsAfterChangeOf node (transcript key old story))
 
--- The whole headline, where no two devices are of one node and node 2 has one whose kind lists Supervision. The host takes node 2 for a switch from the start, so it may be asked whatever its device is; of all other nodes no more is premised.
+-- The whole headline, where node 2 has a device whose kind lists Supervision. The host takes node 2 for a switch from the start, so it may be asked whatever its device is; of all other nodes no more is premised.
 abbrev pub HasWholeHeadline : Status → List ℕ → Around → Around → Type 0
-HasWholeHeadline ended key old new = InFairRuns ended key old new (λ story. AreApart old.devices → IsSupervisedNode old.devices first_node → Headline old.devices new.devices (transcript key old story))
+HasWholeHeadline ended key old new = InFairRuns ended key old new (λ story. IsSupervisedNode old.devices first_node → Headline old.devices new.devices (transcript key old story))
 
 -- ---- all of them
 

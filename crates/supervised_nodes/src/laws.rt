@@ -3,7 +3,7 @@
 ghost use Rattle.std.specs.Prelude.{◌≡◌, ℕ, true, Some, List, []};
 ghost use Rattle.s0_crypto.specs.declared.key_pair.Keys.{Keys};
 ghost use Rattle.device_sim.specs.State.{State};
-ghost use Rattle.device_facts.specs.Showing.{AreApart, AreUnchanged};
+ghost use Rattle.device_facts.specs.Showing.{AreUnchanged};
 ghost use Rattle.zw_laws.specs.Headline.{Headline, HeadlineOf};
 ghost use Rattle.zw_laws.specs.Nodes.{device_of, is_supervised, listing_of};
 ghost use Rattle.zw_machine.specs.State.{first_machine};
@@ -48,9 +48,9 @@ pub fn nodes_have_the_headline()
     lines_have_the_headline();
 }
 
-/// And each success of a command of such a node is reported after the change, where no two devices are of one node.
+/// And each success of a command of such a node is reported after the change.
 pub fn nodes_report_after_the_change()
-    ensures { (keys : Keys) (devices : List State) (lines : List Spoken) (node : ℕ) → IsPlainOrLock keys devices (events_of lines) node → AreUnchanged devices → AreApart devices →
+    ensures { (keys : Keys) (devices : List State) (lines : List Spoken) (node : ℕ) → IsPlainOrLock keys devices (events_of lines) node → AreUnchanged devices →
         AreDone (first_machine keys (Some []) devices) lines → SucceedsAfterChangeOf node (transcript_of (first_machine keys (Some []) devices) lines) }
 {
     nodes_are_tied();
@@ -61,7 +61,7 @@ pub fn nodes_report_after_the_change()
 /// So where the first node and each that has a device which knows Supervision are such, the whole headline holds, of the devices after further lines likewise.
 pub fn runs_have_the_headline()
     ensures { (keys : Keys) (devices : List State) (lines further : List Spoken) → ((node : ℕ) → IsAskable devices node → IsPlainOrLock keys devices (events_of lines) node) →
-        ((node : ℕ) → IsAskable devices node → IsPlainOrLock keys devices (events_of further) node) → AreUnchanged devices → AreApart devices →
+        ((node : ℕ) → IsAskable devices node → IsPlainOrLock keys devices (events_of further) node) → AreUnchanged devices →
         AreDone (first_machine keys (Some []) devices) lines → AreDone (first_machine keys (Some []) devices) further →
         (after_all (first_machine keys (Some []) devices) further).host.state ≡ (after_all (first_machine keys (Some []) devices) lines).host.state →
         Headline devices (after_all (first_machine keys (Some []) devices) further).outside.devices (transcript_of (first_machine keys (Some []) devices) lines) }

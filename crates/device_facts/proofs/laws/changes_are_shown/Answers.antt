@@ -1,5 +1,6 @@
 -- What one event shows, many show.
-use Rattle.device_facts.proofs.Showing.{adds_by, event_shows, run_shows, stay_apart, shown_all, groups}
+use Rattle.device_facts.proofs.Among.{event_among}
+use Rattle.device_facts.proofs.Showing.{adds_by, event_shows, run_shows, shown_all, groups}
 use Rattle.device_facts.proofs.laws.changes_are_shown.Goals as goal
 
 pub returns-clause-each : goal.returns-clause-each
@@ -14,8 +15,11 @@ returns-clause-all c =
     (adds_by c.when_changes_come.ensures.heard c.when_changes_come.ensures.ticked c.when_changes_come.ensures.woken c.when_changes_come.ensures.by_hand)
     c.devices_go_on.ensures.each c.devices_stay_the_same.ensures.all
 
-pub returns-clause-apart : goal.returns-clause-apart
-returns-clause-apart c = λ old new go. stay_apart old new (c.devices_stay_the_same.ensures.all old new go)
+pub returns-clause-among : goal.returns-clause-among
+returns-clause-among c =
+    event_among
+    (adds_by c.when_changes_come.ensures.heard c.when_changes_come.ensures.ticked c.when_changes_come.ensures.woken c.when_changes_come.ensures.by_hand)
+    c.devices_stay_the_same.ensures.event
 
 pub returns-clause-whole : goal.returns-clause-whole
 returns-clause-whole c = λ T old new go none shows. shown_all T old new (c.devices_stay_the_same.ensures.all old new go) none shows

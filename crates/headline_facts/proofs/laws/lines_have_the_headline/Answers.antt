@@ -8,6 +8,6 @@ returns-clause-one c = λ keys devices lines further node device unchanged are i
     c.runs_have_the_headline.ensures.one keys (Some []) devices lines further node device unchanged (lists.spoken keys devices lines are) (lists.tell keys devices lines are) is knows tied
 
 pub returns-clause-whole : goal.returns-clause-whole
-returns-clause-whole c = λ keys devices lines further unchanged apart are true tied.
+returns-clause-whole c = λ keys devices lines further unchanged are true tied.
     let lists = c.lines_tell_what_nodes_list.ensures in
-    c.runs_have_the_headline.ensures.whole keys (Some []) devices lines further unchanged apart (lists.spoken keys devices lines are) true (lists.tell keys devices lines are) tied
+    c.runs_have_the_headline.ensures.whole keys (Some []) devices lines further unchanged (lists.spoken keys devices lines are) true (lists.tell keys devices lines are) tied

@@ -20,7 +20,7 @@ returns-clause-one c = λ keys records devices lines further node device unchang
     (c.runs_have_their_tables.ensures (listing_of devices) keys records devices lines node are tells)
 
 pub returns-clause-whole : goal.returns-clause-whole
-returns-clause-whole c = λ keys records devices lines further unchanged apart are true tells tied.
+returns-clause-whole c = λ keys records devices lines further unchanged are true tells tied.
     let m = first_machine keys records devices in
     let end = after_all m lines in
     let all_true : (node : ℕ) → LinesAreTrue node m lines = λ node. elim (askable_or devices node) [
@@ -30,6 +30,6 @@ returns-clause-whole c = λ keys records devices lines further unchanged apart a
     let knows = c.interviews_give_what_is_known.ensures.lines (listing_of devices) [] m lines are tells (c.interviews_give_what_is_known.ensures.first (listing_of devices) keys) in
     let (facts, said) = c.answers_stand_behind_their_lines.ensures.lines (listing_of devices) [] m lines (c.the_machine_keeps_facts.ensures.first keys records devices) tt knows are in
     c.headlines_follow.ensures.whole (transcript_of m lines) end.host.state devices (after_all m further).outside.devices facts
-    (c.runs_report_after_the_change.ensures.all keys records devices lines unchanged apart are all_true) tied
+    (c.runs_report_after_the_change.ensures.all keys records devices lines unchanged are all_true) tied
     (lines_still c.devices_go_on.ensures.all c.devices_change_in_sessions.ensures.all m further (c.devices_change_in_sessions.ensures.unchanged devices unchanged))
     (λ node. c.runs_have_their_tables.ensures (listing_of devices) keys records devices lines node are tells)

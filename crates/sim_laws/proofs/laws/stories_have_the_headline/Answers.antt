@@ -145,7 +145,7 @@ returns-clause-one c = λ ended key old new fair quiet story unentered tells nod
     (subst (λ (l : List State). device_of node l ≡ Some device) (devices_are ended key old new fair quiet story unentered tells) found) knows)
 
 pub returns-clause-after_change : goal.returns-clause-after_change
-returns-clause-after_change c = λ ended key old new fair quiet story unentered tells apart node supervised.
+returns-clause-after_change c = λ ended key old new fair quiet story unentered tells node supervised.
     let laws : Laws = record {
       again = c.lines_are_read_as_said.ensures;
       unchanged = c.devices_as_made_begin_courses.ensures.unchanged;
@@ -154,11 +154,11 @@ returns-clause-after_change c = λ ended key old new fair quiet story unentered 
     let d = old.devices in
     let f = fairly ended key old new fair quiet story unentered tells in
     subst (λ (l : List Entry). SucceedsAfterChangeOf node l) (reads_as key old story fair)
-    (c.nodes_report_after_the_change.ensures (keys_of key) d (all_said story) node (plain_or_lock laws key d story f node supervised) (laws.unchanged key d fair.made) apart
+    (c.nodes_report_after_the_change.ensures (keys_of key) d (all_said story) node (plain_or_lock laws key d story f node supervised) (laws.unchanged key d fair.made)
     (done laws key d story f))
 
 pub returns-clause-whole : goal.returns-clause-whole
-returns-clause-whole c = λ ended key old new fair quiet story unentered tells apart first_is.
+returns-clause-whole c = λ ended key old new fair quiet story unentered tells first_is.
     let laws : Laws = record {
       again = c.lines_are_read_as_said.ensures;
       unchanged = c.devices_as_made_begin_courses.ensures.unchanged;
@@ -171,5 +171,5 @@ returns-clause-whole c = λ ended key old new fair quiet story unentered tells a
     subst (λ (l : List State). Headline d l (transcript_from (first key old) story)) (sym (devices_are ended key old new fair quiet story unentered tells))
     (subst (λ (l : List Entry). Headline d (after_all (first_machine (keys_of key) (Some []) d) (all_said on)).outside.devices l) (reads_as key old story fair)
     (c.runs_have_the_headline.ensures (keys_of key) d (all_said story) (all_said on) (λ node askable. plain_or_lock laws key d story f node (askable_supervised d node first_is askable))
-    (λ node askable. plain_or_lock laws key d on g node (askable_supervised d node first_is askable)) (laws.unchanged key d fair.made) apart
+    (λ node askable. plain_or_lock laws key d on g node (askable_supervised d node first_is askable)) (laws.unchanged key d fair.made)
     (done laws key d story f) (done laws key d on g) (host_is ended key old new fair quiet story unentered tells)))

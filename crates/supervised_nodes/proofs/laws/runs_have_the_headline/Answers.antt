@@ -14,11 +14,11 @@ use Rattle.supervised_nodes.proofs.PlainTying.{was_there}
 use Rattle.supervised_nodes.proofs.laws.runs_have_the_headline.Goals as goal
 
 pub returns : goal.returns
-returns c = λ keys devices lines further is is_further unchanged apart done on same.
+returns c = λ keys devices lines further is is_further unchanged done on same.
     let m = first_machine keys (Some []) devices in
     let end : List State = (after_all m further).outside.devices in
     let goes : GoOn devices end = subst (λ (x : Machine). GoOn devices x.outside.devices) (sym (all_after m further)) (c.devices_go_on.ensures.all m (events_of further)) in
-    c.lines_have_the_headline.ensures.whole keys devices lines further unchanged apart done
+    c.lines_have_the_headline.ensures.whole keys devices lines further unchanged done
     (λ node askable. c.nodes_are_tied.ensures.truth keys devices lines node (is node askable) done)
     (λ node device found knows.
     let was = was_there node devices end device (c.devices_stay_the_same.ensures.all devices end goes) found in
