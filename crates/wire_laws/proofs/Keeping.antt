@@ -21,6 +21,7 @@ use Rattle.zw_laws.specs.Commands.{numbers_of, is_waiting}
 use Rattle.zw_laws.specs.Records.{ShowsNode, final_of}
 use Rattle.zw_laws.specs.WorkedDevices.{plain_records}
 use Rattle.wire_laws.specs.WorkedRecords.{begun_records, cancelling_records, ordered_otherwise, lossy_records, cancelled_records, sleeping_records, sealed_records, cut_records}
+use Rattle.zw_laws.proofs.Deciding.{first_of, second_of}
 use Rattle.wire_laws.proofs.Computing.{reckoning}
 
 -- ---- later nodes
@@ -65,14 +66,6 @@ shows_below bound _ = true
 abbrev pub all_below : ℕ → List Entry → Bool
 all_below bound [] = true
 all_below bound (entry ∷ entries) = shows_below bound entry && all_below bound entries
-
-first_of : (a b : Bool) → (a && b) ≡ true → a ≡ true
-first_of true b both = refl
-first_of false b both = both
-
-second_of : (a b : Bool) → (a && b) ≡ true → b ≡ true
-second_of true b both = both
-second_of false b both = cc
 
 -- a node below the bound is none above it
 is_other : (bound more node : ℕ) → nat_lt node bound ≡ true → (node == above bound more) ≡ false

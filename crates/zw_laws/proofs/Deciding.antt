@@ -12,11 +12,11 @@ abbrev pub each_keeps : (List Entry → Entry → Bool) → List Entry → List 
 each_keeps may past [] = true
 each_keeps may past (entry ∷ rest) = may past entry && each_keeps may (past ++ entry ∷ []) rest
 
-first_of : (a b : Bool) → (a && b) ≡ true → a ≡ true
+pub first_of : (a b : Bool) → (a && b) ≡ true → a ≡ true
 first_of true b both = refl
 first_of false b both = both
 
-second_of : (a b : Bool) → (a && b) ≡ true → b ≡ true
+pub second_of : (a b : Bool) → (a && b) ≡ true → b ≡ true
 second_of true b both = both
 second_of false b both = cc
 
