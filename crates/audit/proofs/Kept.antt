@@ -35,7 +35,7 @@ use Rattle.audit.specs.Keeping.{IsKeptOf, Kept, KeepsTables}
 use Rattle.zw_text.proofs.Views.{folded-append}
 use Rattle.audit_frames.proofs.Flies.{air-begins, goes-air, judges-air}
 use Rattle.audit_payloads.proofs.Picks.{goes-payload, judges-payload, payloads-begin}
-use Rattle.audit_table.proofs.Closes.{closing-begins, goes-closing, judges-table}
+use Rattle.audit_table.proofs.Closes.{closing-begins, goes-closing, judges-table, none-some}
 
 -- ---- judging
 
@@ -62,16 +62,9 @@ rest-is kept past entry air payload store table are fits a p s t =
     (a ∙ air-judged kept past entry are) (p ∙ judges-payload kept.payloads past entry are.payloads) (s ∙ store-judged kept past entry are)
     (t ∙ judges-table kept.closing past entry are.closing fits)
 
-some-none : {A : Type 0} {x : A} → Some x ≡ None → ⊥
-some-none {A} {x} e = subst G e tt
-  where
-    G : Option A → Type 0
-    G None = ⊥
-    G (Some y) = Unit {0}
-
 keeps-two : (air payload : Bool) (rest : Option Break) → cond air (Some Air) (cond payload (Some Payload) rest) ≡ None → (air ≡ false) × (payload ≡ false)
-keeps-two true payload rest none = absurd (some-none none)
-keeps-two false true rest none = absurd (some-none none)
+keeps-two true payload rest none = absurd (none-some none)
+keeps-two false true rest none = absurd (none-some none)
 keeps-two false false rest none = (refl, refl)
 
 pub rest-keeps : (past : List Entry) (entry : Entry) → first_of_rest past entry ≡ None → (breaks_air past entry ≡ false) × (breaks_payload past entry ≡ false)

@@ -1,5 +1,5 @@
 -- What is kept for the table goes with the transcript, and judges the next entry as the rule of the table.
-use Rattle.std.proofs.Common.{◌≡◌, ℕ, zero, suc, ◌<◌, ◌≤◌, ◌+◌, cond, eqb, not, Bool, true, false, List, [], ◌∷◌, ◌++◌, length, get_or, replicate, Option, Some, None, arith, ap, ap₂, refl, sym, subst, ◌∙◌, append-nil, ⊎_elim}
+use Rattle.std.proofs.Common.{◌≡◌, ℕ, ◌<◌, ◌≤◌, ◌+◌, cond, eqb, not, Bool, true, false, List, [], ◌∷◌, ◌++◌, length, replicate, Option, Some, None, arith, ap, ap₂, refl, sym, subst, ◌∙◌, append-nil, ⊎_elim}
 use Rattle.std.specs.Prelude.{◌||◌, ◌&&◌, filter, slice_index_or, slice_get, unwrap_or}
 use Rattle.std.specs.List.{flat_map, list_any, AllByRecursion}
 use Rattle.std.proofs.Math.Bool.{and-true, or-false}
@@ -21,6 +21,7 @@ use Rattle.transcript_books.specs.declared.endings.Ending.{Ending}
 use Rattle.transcript_books.specs.Beginning.{sessions_of}
 use Rattle.transcript_books.specs.Ending.{no_ending}
 use Rattle.transcript_books.specs.Keeping.{ending_from, lines_of}
+use Rattle.transcript_books.proofs.Views.{same-at}
 use Rattle.audit_table.specs.OrdersGiven.{accepting_at}
 use Rattle.audit_table.specs.TableRule.{before_end, behind_end, breaks_end, breaks_row, breaks_table, has_end, is_end, is_row, next_row, rows, settings_made}
 use Rattle.audit_table.specs.Knowing.{Closing, IsWithin, Knowns, after_line, all_rows, breaks_closing, breaks_closing_by, breaks_due, closing_after, closing_shown, counts_row, ends_with, first_joined, line_done, no_closing, no_values, values_of, values_with, with_last}
@@ -158,11 +159,6 @@ since-from (entry ∷ xs) s =
 
 since-is : (past : List Entry) → resolved (since past) ≡ since_restart past
 since-is past = since-from past (record { entries = []; line = [] })
-
-same-at : {A : Type 0} (d : A) (k n : ℕ) → get_or (replicate k d) n d ≡ d
-same-at d zero n = refl
-same-at d (suc k) zero = refl
-same-at d (suc k) (suc n) = same-at d k n
 
 blank-values : (n : ℕ) → values_of no_values n ≡ []
 unfolding no_values
@@ -400,7 +396,7 @@ after-heard-places : (closing : Closing) (line : Option Line) (entry : Entry) �
 after-heard-places closing line (Refused refusal) places = places
 after-heard-places closing line other places = line-heard-places closing line places
 
-none-some : {A : Type 0} {x : A} → Some x ≡ None → ⊥
+pub none-some : {A : Type 0} {x : A} → Some x ≡ None → ⊥
 none-some {A} {x} e = subst G e tt
   where
     G : Option A → Type 0

@@ -3,6 +3,7 @@ use Rattle.std.proofs.Common.{◌≡◌, ◌≢◌, ℕ, ◌+◌, ◌<◌, ◌�
 use Rattle.std.specs.Prelude.{max, slice_get, ◌&&◌, ◌%◌, not, ◌==◌}
 use Rattle.std.specs.List.{AllByRecursion, remove}
 use Rattle.std.proofs.lemmas.Bool.{eqb-true}
+use Rattle.list_lemmas.proofs.Each.{all-append, all-both, all-get, all-weaker}
 use Rattle.s0_session.specs.Sending.{seen_after}
 use Rattle.courses.specs.Ways.{doubled, NeverFalls, NoneAhead}
 use Rattle.courses.specs.Flying.{Flight, hosts, one_of, KeepsUp}
@@ -11,7 +12,7 @@ use Rattle.courses.specs.NodeNonceFacts.{itself}
 use Rattle.courses.specs.HostNonces.{Nonces, Cargo, Offer, Of_host, Sealed, Of_node, is_of_host, gives, flies, answers, hears, sends, lands, repeats, seals, judges, first_nonces, Step, Gives, Offers, Waits, Up_loses, Up_doubles, Sends, Flies, Lands, Repeats, Down_loses, Down_doubles, Judges, MayFly, MayRepeat, May, MayAll, after, after_all}
 use Rattle.courses.specs.HostNonceFacts.{IsDue, FitsBy, Fits, IsOnTime, NonceFacts}
 use Rattle.courses.specs.NonceLaws.{TakesOffer, NamesGiven}
-use Rattle.courses.proofs.Lists.{all-append, all-weaker, all-both, all-get, all-remove, all-doubled, never-remove, never-doubled, never-push, none-remove, none-doubled, none-push, none-begin}
+use Rattle.courses.proofs.Lists.{all-remove, all-doubled, never-remove, never-doubled, never-push, none-remove, none-doubled, none-push, none-begin}
 use Rattle.courses.proofs.NonceNumbers.{same_of_256, first_byte_of, IsTakenFor, is_taken_for, seen_grows, where_waits}
 use Rattle.courses.proofs.Moving.{hosts-push, keeps-push, keeps-raise}
 

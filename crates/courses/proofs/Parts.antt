@@ -2,10 +2,10 @@
 use Rattle.std.proofs.Common.{◌≡◌, ℕ, zero, suc, ◌+◌, ◌<◌, ◌≤◌, inl, inr, Bool, true, false, if◌then◌else◌, List, [], ◌∷◌, ◌++◌, Some, refl, ap, sym, subst, arith}
 use Rattle.std.specs.Prelude.{◌==◌, slice_get}
 use Rattle.std.specs.List.{AllByRecursion}
+use Rattle.list_lemmas.proofs.Each.{all-weaker}
 use Rattle.supervision.specs.Host.{command_at}
 use Rattle.supervision.specs.declared.session.TheConstants.{SUCCESS}
 use Rattle.courses.specs.Parts.{IsPart, Has, Rises, numbered, picked, successes}
-use Rattle.courses.proofs.Lists.{all-weaker}
 
 -- ---- what is picked
 

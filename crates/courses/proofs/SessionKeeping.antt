@@ -2,6 +2,7 @@
 use Rattle.std.proofs.Common.{◌≡◌, ◌≢◌, ℕ, zero, suc, ◌+◌, ◌≤◌, ◌⊎◌, Bool, true, false, List, [], ◌∷◌, length, Option, Some, None, refl, sym, ap, subst, ◌∙◌, inl, inr, arith}
 use Rattle.std.specs.Prelude.{slice_get}
 use Rattle.std.specs.List.{AllByRecursion}
+use Rattle.list_lemmas.proofs.Each.{all-get}
 use Rattle.supervision.specs.Host.{HostBook, begun_of, open_session}
 use Rattle.supervision.specs.Device.{Taken, after_get}
 use Rattle.supervision.specs.Session.{wire_id}
@@ -12,7 +13,6 @@ use Rattle.courses.specs.Sessions.{Course, Message, Cargo, Command, Of_host, Ans
 use Rattle.courses.specs.Flying.{Flight, hosts, KeepsUp}
 use Rattle.courses.specs.SessionFacts.{FitsBy, Fits, IsOnTime, IsOfNext, CourseFacts}
 use Rattle.courses.specs.SessionLaws.{NamesOne, TellsOne, TakesNext, IsDone, IsApplied}
-use Rattle.courses.proofs.Lists.{all-get}
 use Rattle.courses.proofs.Parts.{successes_part, told_success}
 use Rattle.courses.proofs.SessionEnds.{message-cases, get-cases}
 use Rattle.courses.proofs.SessionSteps.{begins-step, attempts-step, writes-step, up_loses-step, up_doubles-step, other-step, reports-step, sends-step, leaves-step, message-step, finishes-step, down_loses-step, down_doubles-step, report-step, judges-step}

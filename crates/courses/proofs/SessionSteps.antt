@@ -3,6 +3,7 @@ use Rattle.std.proofs.Common.{◌≡◌, ◌≢◌, ℕ, zero, suc, ◌+◌, ◌
 use Rattle.std.specs.Prelude.{max, slice_get, ◌&&◌, ◌%◌, if◌then◌else◌}
 use Rattle.std.proofs.lemmas.Bool.{eqb-true}
 use Rattle.std.specs.List.{AllByRecursion, remove}
+use Rattle.list_lemmas.proofs.Each.{all-append, all-both, all-weaker}
 use Rattle.supervision.specs.Session.{wire_id}
 use Rattle.supervision.specs.Host.{HostBook, begun_of, open_session, command_at, begins, with_attempts, told_of, after_report}
 use Rattle.supervision.specs.Device.{Taken, heard_of, is_new, finished}
@@ -15,7 +16,7 @@ use Rattle.courses.specs.Sessions.{Course, Message, Cargo, Command, Answer, sess
 use Rattle.courses.specs.Ways.{doubled, NeverFalls, NoneAhead}
 use Rattle.courses.specs.Flying.{Flight, hosts, one_of, KeepsUp}
 use Rattle.courses.specs.SessionFacts.{IsDue, IsTrueReport, FitsBy, Fits, IsOnTime, IsOfNext, CourseFacts, reported}
-use Rattle.courses.proofs.Lists.{all-append, all-weaker, all-both, all-remove, all-doubled, never-remove, never-doubled, never-push, none-remove, none-doubled, none-push, none-begin}
+use Rattle.courses.proofs.Lists.{all-remove, all-doubled, never-remove, never-doubled, never-push, none-remove, none-doubled, none-push, none-begin}
 use Rattle.courses.proofs.Moving.{hosts-push, keeps-begin, keeps-push, keeps-send}
 use Rattle.courses.proofs.SessionEnds.{one_more, true-begin, fits-begin, fits-sent, taking, fits-taking, on_time-taking, same_of_16, new_heard, command_at-last, fits-finish, on_time-finish, report-cases}
 

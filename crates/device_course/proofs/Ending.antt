@@ -1,5 +1,5 @@
 -- Event by event.
-use Rattle.std.proofs.Common.{◌≡◌, ◌≢◌, ℕ, zero, suc, ◌+◌, ◌-◌, ◌<◌, ◌≤◌, ◌==◌, ◌⊎◌, inl, inr, if◌then◌else◌, Bool, true, false, List, [], ◌∷◌, ◌++◌, length, refl, ap, sym, ◌∙◌, subst, append-nil, arith}
+use Rattle.std.proofs.Common.{◌≡◌, ◌≢◌, ℕ, zero, suc, ◌+◌, ◌-◌, ◌<◌, ◌==◌, inl, inr, if◌then◌else◌, Bool, true, false, List, [], ◌∷◌, ◌++◌, length, refl, ap, sym, ◌∙◌, subst, append-nil, arith}
 use Rattle.std.proofs.lemmas.List.{length-append}
 use Rattle.std.proofs.lemmas.Bool.Decides.{nat_tests}
 use Rattle.zw_base.specs.declared.property.By.{By}
@@ -10,17 +10,17 @@ use Rattle.supervision.specs.declared.session.TheConstants.{WORKING, SUCCESS}
 use Rattle.courses.specs.Parts.{numbered, successes}
 use Rattle.class_info.specs.declared.message.InfoMessage.TheVariants.{WakeUpNotification}
 use Rattle.class_info.specs.InfoSpelling.{form}
-use Rattle.device_stack.specs.declared.change.Change.{Change}
-use Rattle.device_stack.specs.declared.kind.Kind.{Kind}
-use Rattle.device_stack.specs.declared.verdict.Verdict.{Verdict}
-use Rattle.device_stack.specs.declared.verdict.Verdict.TheVariants.{NoSupport, Fails, Makes, Works}
-use Rattle.device_stack.specs.Kind.{listens, main_name_of}
-use Rattle.device_stack.specs.Effects.{work_ticks}
+use Rattle.device_kinds.specs.declared.change.Change.{Change}
+use Rattle.device_kinds.specs.declared.kind.Kind.{Kind}
+use Rattle.device_kinds.specs.declared.verdict.Verdict.{Verdict}
+use Rattle.device_kinds.specs.declared.verdict.Verdict.TheVariants.{NoSupport, Fails, Makes, Works}
+use Rattle.device_kinds.specs.Kind.{listens, main_name_of}
 use Rattle.device_stack.specs.State.{State, silent, fresh}
-use Rattle.device_stack.specs.Judging.{setting_of, status_of}
+use Rattle.device_kinds.specs.Judging.{setting_of, status_of}
 use Rattle.device_stack.specs.Ticking.{aged, works_out, ticked, woken, by_hand, set_by_hand}
 use Rattle.device_sim.specs.Event.{DeviceEvent, Hears, Ticks, Wakes, Sets, outcome_of, device_after}
 use Rattle.device_sim.specs.Laws.{IsChanged, IsUntaken, IsMade, IsHeard, with_number, numbers}
+use Rattle.device_sim.proofs.OrderLemmas.{numbers_append}
 use Rattle.device_course.specs.Ending.{one_at_work, HasEnded}
 
 -- ---- parts of what is said
@@ -40,15 +40,6 @@ whole device finals is = record { count = is.count; at_work = is.at_work; at_res
 
 -- ---- numbers of changes
 
-number_then : (by : By) (ms ns : List ℕ) → with_number by ms ++ ns ≡ with_number by (ms ++ ns)
-number_then (Session number) ms ns = refl
-number_then Plain ms ns = refl
-number_then Local ms ns = refl
-
-numbers_then : (changes more : List Change) → numbers (changes ++ more) ≡ numbers changes ++ numbers more
-numbers_then [] more = refl
-numbers_then (change ∷ changes) more = ap (with_number change.by) (numbers_then changes more) ∙ sym (number_then change.by (numbers changes) (numbers more))
-
 -- ---- statuses that are added
 
 choose_then : (b : Bool) (n : ℕ) (xs ys zs : List ℕ) → zs ≡ xs ++ ys → (if b then n ∷ zs else zs) ≡ (if b then n ∷ xs else xs) ++ ys
@@ -62,7 +53,7 @@ successes_then n (status ∷ finals) more =
     (successes_then (n + 1) finals more
     ∙ ap (λ (k : ℕ). successes (n + 1) finals ++ successes k more) (let e : n + 1 + length finals ≡ n + suc (length finals) = omega arith in e))
 
-numbered_last : (finals : List ℕ) (status : ℕ) → numbered (finals ++ status ∷ []) (suc (length finals)) ≡ status ∷ []
+pub numbered_last : (finals : List ℕ) (status : ℕ) → numbered (finals ++ status ∷ []) (suc (length finals)) ≡ status ∷ []
 numbered_last [] status = refl
 numbered_last (x ∷ finals) status = numbered_last finals status
 
@@ -108,7 +99,7 @@ by_none journal journal' sessions left finals by settings none e is = record {
   at_rest = is.at_rest;
   told = is.told;
   changed = ap numbers e
-      ∙ (numbers_then journal (record { by = by; settings = settings } ∷ [])
+      ∙ (numbers_append journal (record { by = by; settings = settings } ∷ [])
       ∙ (ap (λ (l : List ℕ). numbers journal ++ l) none ∙ (append-nil (numbers journal) ∙ is.changed)));
 }
 
@@ -120,7 +111,7 @@ idle_now journal sessions (suc left) finals is free = absurd (free (is.at_work (
 
 by_session : (journal journal' : List Change) (number : ℕ) (settings : List Setting) → IsChanged journal (Session number) settings journal'
     → numbers journal' ≡ numbers journal ++ number ∷ []
-by_session journal journal' number settings e = ap numbers e ∙ numbers_then journal (record { by = Session number; settings = settings } ∷ [])
+by_session journal journal' number settings e = ap numbers e ∙ numbers_append journal (record { by = Session number; settings = settings } ∷ [])
 
 same_numbers : (journal journal' : List Change) → journal' ≡ journal → numbers journal' ≡ numbers journal ++ []
 same_numbers journal journal' e = ap numbers e ∙ sym (append-nil (numbers journal))

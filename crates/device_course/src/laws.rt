@@ -1,7 +1,7 @@
 //! The law of a device's sessions.
 
 ghost use Rattle.std.specs.Prelude.{ℕ, List, [], ◌++◌};
-ghost use Rattle.device_stack.specs.declared.kind.Kind.{Kind};
+ghost use Rattle.device_kinds.specs.declared.kind.Kind.{Kind};
 ghost use Rattle.device_sim.specs.State.{State, fresh};
 ghost use Rattle.device_sim.specs.Event.{DeviceEvent, device_after};
 ghost use Rattle.device_course.specs.Ending.{HasEnded};

@@ -3,7 +3,7 @@ use Rattle.std.proofs.Common.{◌≡◌, ℕ, zero, suc, inl, inr, List, [], ◌
 use Rattle.std.specs.Prelude.{slice_set}
 use Rattle.std.specs.List.{AllByRecursion, flat_map}
 use Rattle.std.proofs.lemmas.Grind.{flat_map-append}
-use Rattle.device_stack.specs.declared.change.Change.{Change}
+use Rattle.device_kinds.specs.declared.change.Change.{Change}
 use Rattle.device_sim.specs.State.{State}
 use Rattle.device_sim.specs.Event.{DeviceEvent, device_after}
 use Rattle.outer_events.specs.Devices.{new_changes}
@@ -15,7 +15,7 @@ use Rattle.zw_laws.specs.Devices.{made_by}
 use Rattle.zw_laws.specs.Lists.{Has}
 use Rattle.device_facts.specs.GoingOn.{IsSame}
 use Rattle.device_facts.specs.Showing.{IsShownAmong}
-use Rattle.device_facts.proofs.Having.{has_either, has_left, has_right}
+use Rattle.zw_laws.proofs.Having.{has_either, has_left, has_right}
 use Rattle.device_facts.proofs.Others.{made_both}
 use Rattle.device_facts.proofs.Showing.{Adds, event_tells, new_are, node_at}
 use Rattle.device_facts.proofs.Telling.{TellsOne}

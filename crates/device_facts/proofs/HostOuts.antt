@@ -1,6 +1,7 @@
 -- What a host puts out speaks of no change of a device either.
 use Rattle.std.proofs.Common.{ℕ, Bool, true, false, Option, Some, None, List, [], ◌∷◌, ◌++◌, sym, subst}
 use Rattle.std.specs.List.{AllByRecursion}
+use Rattle.list_lemmas.proofs.Each.{all-append}
 use Rattle.zw_base.specs.declared.property.Setting.{Setting}
 use Rattle.zw_text.specs.declared.entry.Entry.{Entry}
 use Rattle.zw_text.specs.declared.entry.Entry.TheVariants as entry
@@ -38,7 +39,7 @@ use Rattle.outer_events.specs.Did.{happens_all, entries_all}
 use Rattle.outer_events.proofs.Doing.{entries_all-append}
 use Rattle.zw_machine.specs.State.{begun_in, noted_by, routed, routed_one}
 use Rattle.zw_machine.specs.Events.{answers, notes}
-use Rattle.device_facts.proofs.Others.{IsOther, Others, all-append, stamp_other, write_other}
+use Rattle.device_facts.proofs.Others.{IsOther, Others, stamp_other, write_other}
 
 -- ---- ends of requests and attempts
 

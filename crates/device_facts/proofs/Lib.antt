@@ -7,5 +7,4 @@ pub mod HostOuts
 pub mod Telling
 pub mod Told
 pub mod Showing
-pub mod Having
 mod Among

@@ -3,7 +3,7 @@ use Rattle.std.proofs.Common.{◌≡◌, ℕ, ◌<◌, ◌≤◌, List, [], ◌�
 use Rattle.std.specs.List.{AllByRecursion}
 use Rattle.zw_base.specs.declared.property.By.{By}
 use Rattle.zw_base.specs.declared.property.By.TheVariants.{Session, Plain, Local}
-use Rattle.device_stack.specs.declared.change.Change.{Change}
+use Rattle.device_kinds.specs.declared.change.Change.{Change}
 use Rattle.device_sim.specs.State.{State}
 use Rattle.device_sim.specs.Laws.{numbers, with_number, Rises as RisesTo, done, IsInOrder}
 use Rattle.zw_text.specs.Transcript.{by_session}
@@ -11,12 +11,12 @@ use Rattle.zw_laws.specs.Lists.{Rises}
 use Rattle.zw_laws.specs.Once.{sessions_by}
 use Rattle.device_facts.specs.GoingOn.{TakesOnce, AreInOrder, TakeOnce}
 
-number_is : (by : By) (more : List ℕ) → with_number by more ≡ by_session by ++ more
+pub number_is : (by : By) (more : List ℕ) → with_number by more ≡ by_session by ++ more
 number_is (Session number) more = refl
 number_is Plain more = refl
 number_is Local more = refl
 
-numbers_are : (journal : List Change) → numbers journal ≡ sessions_by journal
+pub numbers_are : (journal : List Change) → numbers journal ≡ sessions_by journal
 numbers_are [] = refl
 numbers_are (change ∷ journal) = number_is change.by (numbers journal) ∙ ap (λ (l : List ℕ). by_session change.by ++ l) (numbers_are journal)
 

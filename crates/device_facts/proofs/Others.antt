@@ -3,6 +3,7 @@ use Rattle.std.proofs.Common.{◌≡◌, ℕ, zero, suc, ◌&&◌, not, Bool, tr
 use Rattle.std.specs.List.{AllByRecursion, flat_map}
 use Rattle.std.specs.Option.{unwrap_or}
 use Rattle.std.proofs.lemmas.Grind.{flat_map-append}
+use Rattle.list_lemmas.proofs.Each.{all-append}
 use Rattle.zw_base.specs.declared.property.Setting.{Setting}
 use Rattle.zw_words.specs.declared.side.Side.{Side}
 use Rattle.zw_words.specs.declared.side.Side.TheVariants.{Host as by_host}
@@ -44,10 +45,6 @@ abbrev pub Others : List Entry → Type 0
 Others entries = AllByRecursion IsOther entries
 
 -- ---- lists
-
-pub all-append : {A : Type 0} (P : A → Type 0) (xs ys : List A) → AllByRecursion P xs → AllByRecursion P ys → AllByRecursion P (xs ++ ys)
-all-append P [] ys first later = later
-all-append P (x ∷ xs) ys first later = (first.0, all-append P xs ys first.1 later)
 
 pub then_other : (first : Outcome) (next : OuterState → Outcome) → Others first.entries → ((o : OuterState) → Others (next o).entries) → Others (and_then first next).entries
 then_other first next before later = all-append IsOther first.entries (next first.outer).entries before (later first.outer)

@@ -5,18 +5,19 @@ use Rattle.std.specs.List.{AllByRecursion, flat_map}
 use Rattle.std.proofs.Math.Seq.{drop-append_seam}
 use Rattle.std.proofs.lemmas.List.{length-append}
 use Rattle.std.proofs.lemmas.Grind.{flat_map-append}
+use Rattle.list_lemmas.proofs.Each.{all-append}
 use Rattle.zw_base.specs.declared.property.By.{By}
 use Rattle.zw_base.specs.declared.property.By.TheVariants.{Session, Plain, Local}
 use Rattle.zw_base.specs.declared.property.Setting.{Setting}
 use Rattle.zw_text.specs.declared.entry.Entry.{Entry}
 use Rattle.zw_text.specs.declared.entry.Entry.TheVariants.{Refused}
 use Rattle.zw_text.specs.Transcript.{Made, made, applied, by_session}
-use Rattle.device_stack.specs.declared.change.Change.{Change}
+use Rattle.device_kinds.specs.declared.change.Change.{Change}
 use Rattle.device_sim.specs.State.{State}
 use Rattle.device_sim.specs.Event.{DeviceEvent, Hears, Ticks, Wakes, Sets, device_after}
 use Rattle.device_sim.specs.Laws.{IsHeard, IsTicked, IsChanged, IsMade}
-use Rattle.device_stack.specs.declared.verdict.Verdict.{Verdict}
-use Rattle.device_stack.specs.declared.verdict.Verdict.TheVariants.{NoSupport, Fails, Makes, Works}
+use Rattle.device_kinds.specs.declared.verdict.Verdict.{Verdict}
+use Rattle.device_kinds.specs.declared.verdict.Verdict.TheVariants.{NoSupport, Fails, Makes, Works}
 use Rattle.host_events.specs.Did.{outs_all}
 use Rattle.outer_events.specs.State.{Outside}
 use Rattle.outer_events.specs.Devices.{new_changes}
@@ -30,7 +31,7 @@ use Rattle.zw_laws.specs.Lists.{Rises}
 use Rattle.zw_laws.specs.Once.{sessions_by}
 use Rattle.device_facts.specs.GoingOn.{IsSame, AreSame, GoOn, TakesOnce}
 use Rattle.device_facts.specs.Showing.{AreApart, Shows, AllShow, AreUnchanged, IsShown, NeverFalls}
-use Rattle.device_facts.proofs.Others.{Others, all-append, IsOther, none_made, made_both}
+use Rattle.device_facts.proofs.Others.{Others, IsOther, none_made, made_both}
 use Rattle.device_facts.proofs.HostOuts.{note_other, host_other, answered_other}
 use Rattle.device_facts.proofs.Telling.{TellsOne, Grows}
 use Rattle.device_facts.proofs.Told.{own_told}

@@ -16,13 +16,13 @@ use Rattle.transport_segments.specs.Segment.{id_of}
 use Rattle.transport_segments.specs.Taking.{is_segment, ends_its_datagram, taken_at}
 use Rattle.transport_segments.specs.declared.assembler.Taken.{Taken as Segment}
 use Rattle.transport_segments.specs.declared.assembler.Taken.TheVariants.{Kept, Need, Whole}
-use Rattle.device_stack.specs.declared.kind.Kind.{Kind}
-use Rattle.device_stack.specs.declared.kind.Kind.TheVariants.{Relay, Switch, Dimmer, Lock, Sensor, Thermostat, Strip, Configurable}
+use Rattle.device_kinds.specs.declared.kind.Kind.{Kind}
+use Rattle.device_kinds.specs.declared.kind.Kind.TheVariants.{Relay, Switch, Dimmer, Lock, Sensor, Thermostat, Strip, Configurable}
 use Rattle.device_stack.specs.declared.effect.Effect.{Effect}
 use Rattle.device_stack.specs.declared.effect.Effect.TheVariants.{Ignores, Sleeps, Tells, Sets, Repeats, Takes}
-use Rattle.device_stack.specs.declared.verdict.Verdict.{Verdict}
-use Rattle.device_stack.specs.declared.verdict.Verdict.TheVariants.{NoSupport, Fails, Makes, Works}
-use Rattle.device_stack.specs.Kind.{listens}
+use Rattle.device_kinds.specs.declared.verdict.Verdict.{Verdict}
+use Rattle.device_kinds.specs.declared.verdict.Verdict.TheVariants.{NoSupport, Fails, Makes, Works}
+use Rattle.device_kinds.specs.Kind.{listens}
 use Rattle.device_stack.specs.State.{State, silent}
 use Rattle.device_stack.specs.Sealing.{keys_of, unsealed_at}
 use Rattle.device_stack.specs.Effects.{effect_of, takes, after_effect}

@@ -11,7 +11,7 @@ use Rattle.zw_base.specs.declared.property.By.{By}
 use Rattle.zw_text.specs.declared.entry.Entry.TheVariants as entry
 use Rattle.zw_text.specs.Transcript.{Made, made, where_same}
 use Rattle.route_table.specs.declared.route.Route.{Route}
-use Rattle.device_stack.specs.declared.change.Change.{Change}
+use Rattle.device_kinds.specs.declared.change.Change.{Change}
 use Rattle.device_sim.specs.State.{State}
 use Rattle.device_sim.specs.Event.{DeviceEvent, device_after, device_replies}
 use Rattle.air_frames.specs.declared.frame.Heading.{Heading}
@@ -158,7 +158,7 @@ place_is node [] place device found at = absurd cc
 place_is node (first ∷ devices) place device found at =
     place_by node first devices place device (place_of node devices) (eqb_tells first.node node) (λ k e at. place_is node devices k device e at) refl found at
 
-place_set : (node : ℕ) (devices : List State) (place : ℕ) (device other : State) → slice_get devices place ≡ Some device → other.node ≡ device.node
+pub place_set : (node : ℕ) (devices : List State) (place : ℕ) (device other : State) → slice_get devices place ≡ Some device → other.node ≡ device.node
     → place_of node (slice_set devices place other) ≡ place_of node devices
 place_set node [] place device other at same = refl
 place_set node (first ∷ devices) zero device other at same =
@@ -167,7 +167,7 @@ place_set node (first ∷ devices) zero device other at same =
 place_set node (first ∷ devices) (suc place) device other at same =
     ap (λ (o : Option ℕ). if first.node == node then Some 0 else option_map suc o) (place_set node devices place device other at same)
 
-get_set : (devices : List State) (place : ℕ) (device other : State) → slice_get devices place ≡ Some device → slice_get (slice_set devices place other) place ≡ Some other
+pub get_set : (devices : List State) (place : ℕ) (device other : State) → slice_get devices place ≡ Some device → slice_get (slice_set devices place other) place ≡ Some other
 get_set [] place device other at = absurd cc
 get_set (first ∷ devices) zero device other at = refl
 get_set (first ∷ devices) (suc place) device other at = get_set devices place device other at

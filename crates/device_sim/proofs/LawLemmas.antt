@@ -22,16 +22,16 @@ use Rattle.transport_segments.specs.Taking.{is_segment, ends_its_datagram, taken
 use Rattle.transport_segments.specs.Kept.{Empty}
 use Rattle.transport_segments.specs.declared.assembler.Taken.{Taken as Segment}
 use Rattle.transport_segments.specs.declared.assembler.Taken.TheVariants.{Kept, Need, Whole}
-use Rattle.device_stack.specs.declared.kind.Kind.{Kind}
-use Rattle.device_stack.specs.declared.kind.Kind.TheVariants.{Relay, Switch, Dimmer, Lock, Sensor, Thermostat, Strip, Configurable}
+use Rattle.device_kinds.specs.declared.kind.Kind.{Kind}
+use Rattle.device_kinds.specs.declared.kind.Kind.TheVariants.{Relay, Switch, Dimmer, Lock, Sensor, Thermostat, Strip, Configurable}
 use Rattle.device_stack.specs.declared.effect.Effect.{Effect}
 use Rattle.device_stack.specs.declared.effect.Effect.TheVariants.{Ignores, Sleeps, Tells, Sets, Repeats, Takes}
-use Rattle.device_stack.specs.declared.verdict.Verdict.{Verdict}
-use Rattle.device_stack.specs.declared.verdict.Verdict.TheVariants.{NoSupport, Fails, Makes, Works}
-use Rattle.device_stack.specs.Kind.{listens, lists, has_end}
+use Rattle.device_kinds.specs.declared.verdict.Verdict.{Verdict}
+use Rattle.device_kinds.specs.declared.verdict.Verdict.TheVariants.{NoSupport, Fails, Makes, Works}
+use Rattle.device_kinds.specs.Kind.{listens, lists, has_end}
 use Rattle.device_stack.specs.State.{State, silent, value_of, last_level_of}
-use Rattle.device_stack.specs.Judging.{judged_set}
-use Rattle.device_stack.specs.Telling.{told}
+use Rattle.device_kinds.specs.Judging.{judged_set}
+use Rattle.device_kinds.specs.Telling.{told}
 use Rattle.device_stack.specs.Sealing.{keys_of, unsealed_at}
 use Rattle.device_stack.specs.Effects.{end_of, set_plainly, effect_untold, telling, effect_alone, effect_in_session, effect_by, effect_of, takes, after_effect}
 use Rattle.device_stack.specs.Hearing.{Answered, answers, answers_opened, answers_bytes, hears_openly, nonce_named, sent_sealed, hears_inside, hears_plain, hears_for, hears_sealed, seals_for, hears_nonces, hears_securely, segment_session, assembles, repeats_segment, hears_segment, hears_in_segments, hears_by, active, hears}
@@ -49,11 +49,11 @@ IsFree device (Tells report) = Unit {0}
 IsFree device (Sets settings) = lists device.kind 0x6C ≡ false
 IsFree device (Repeats status) = Unit {0}
 
-never : (b : Bool) → b && false ≡ true → ⊥
+pub never : (b : Bool) → b && false ≡ true → ⊥
 never true e = let bad : false ≡ true = e in absurd (cc)
 never false e = let bad : false ≡ true = e in absurd (cc)
 
-not_working : (sessions : Taken) (id : ℕ) → is_new sessions id ≡ true → sessions.status ≢ WORKING
+pub not_working : (sessions : Taken) (id : ℕ) → is_new sessions id ≡ true → sessions.status ≢ WORKING
 not_working sessions id e working =
     never (id == wire_id (sessions.taken + 1)) (subst (λ (s : ℕ). (id == wire_id (sessions.taken + 1)) && not (s == WORKING) ≡ true) working e)
 

@@ -8,13 +8,13 @@ use Rattle.zw_base.specs.declared.property.By.{By}
 use Rattle.zw_base.specs.declared.property.By.TheVariants.{Session, Plain, Local}
 use Rattle.zw_base.specs.declared.property.Setting.{Setting}
 use Rattle.supervision.specs.declared.session.TheConstants.{WORKING}
-use Rattle.device_stack.specs.declared.change.Change.{Change}
-use Rattle.device_stack.specs.declared.kind.Kind.{Kind}
-use Rattle.device_stack.specs.declared.verdict.Verdict.{Verdict}
-use Rattle.device_stack.specs.declared.verdict.Verdict.TheVariants.{NoSupport, Fails, Makes, Works}
-use Rattle.device_stack.specs.Kind.{listens, main_name_of}
+use Rattle.device_kinds.specs.declared.change.Change.{Change}
+use Rattle.device_kinds.specs.declared.kind.Kind.{Kind}
+use Rattle.device_kinds.specs.declared.verdict.Verdict.{Verdict}
+use Rattle.device_kinds.specs.declared.verdict.Verdict.TheVariants.{NoSupport, Fails, Makes, Works}
+use Rattle.device_kinds.specs.Kind.{listens, main_name_of}
 use Rattle.device_stack.specs.State.{State, silent, fresh}
-use Rattle.device_stack.specs.Judging.{setting_of, status_of}
+use Rattle.device_kinds.specs.Judging.{setting_of, status_of}
 use Rattle.device_stack.specs.Ticking.{aged, works_out, ticked, woken, by_hand, set_by_hand}
 use Rattle.device_sim.specs.Event.{DeviceEvent, Hears, Ticks, Wakes, Sets, outcome_of, device_after}
 use Rattle.device_sim.specs.Laws.{IsChanged, IsUntaken, IsMade, IsHeard, IsTicked, with_number, numbers, Rises, done, IsInOrder}
@@ -60,12 +60,12 @@ rises_on : (low : ℕ) (ns : List ℕ) (high number : ℕ) → Rises low ns high
 rises_on low [] high number is more = (omega arith, omega arith)
 rises_on low (n ∷ ns) high number is more = (is.0, rises_on n ns high number is.1 more)
 
-with_number_append : (by : By) (ms ns : List ℕ) → with_number by ms ++ ns ≡ with_number by (ms ++ ns)
+pub with_number_append : (by : By) (ms ns : List ℕ) → with_number by ms ++ ns ≡ with_number by (ms ++ ns)
 with_number_append (Session number) ms ns = refl
 with_number_append Plain ms ns = refl
 with_number_append Local ms ns = refl
 
-numbers_append : (changes more : List Change) → numbers (changes ++ more) ≡ numbers changes ++ numbers more
+pub numbers_append : (changes more : List Change) → numbers (changes ++ more) ≡ numbers changes ++ numbers more
 numbers_append [] more = refl
 numbers_append (change ∷ changes) more =
     ap (with_number change.by) (numbers_append changes more) ∙ sym (with_number_append change.by (numbers changes) (numbers more))

@@ -4,7 +4,8 @@
 //! `Device` is the trait of all kinds. Its contract says each answer and each new state exactly, as a function of the
 //! state before. A call that finds no memory leaves the device as it was. The eight kinds are made by `make_switch` to
 //! `make_relay`; `Starved` and `Recorder` own a device of any kind and are devices themselves.
-//! The definitions stand in `specs/`: `Kind` and `State` are those of `device_stack`, `Event` says what may happen.
+//! The definitions stand in `specs/`: `Kind` is that of `device_kinds`, `State` that of `device_stack`; `Event` says what
+//! may happen.
 //! The laws that follow from them alone are in `laws`.
 #![tactic(auto)]
 
@@ -16,7 +17,7 @@ mod simulated;
 mod starved;
 
 pub use device::Device;
-pub use device_stack::{Change, Kind};
+pub use device_kinds::{Change, Kind};
 pub use kinds::{
     Configurable, Dimmer, Lock, Relay, Sensor, Strip, Switch, Thermostat, make_config, make_dimmer,
     make_lock, make_relay, make_sensor, make_strip, make_switch, make_thermostat,

@@ -1,7 +1,4 @@
-pub mod ListLemmas
-pub mod CacheLemmas
-pub mod PlaceLemmas
+pub mod ShowingLemmas
 pub mod WordedLemmas
 pub mod SizeLemmas
 pub mod SealingLemmas
-pub mod JudgingLemmas

@@ -12,7 +12,7 @@ use Rattle.encap.specs.Written.{written_form}
 use Rattle.encap.specs.declared.plan.Plan.{Plan}
 use Rattle.encap.specs.declared.plan.Ends.{Ends}
 use Rattle.encap.specs.declared.plan.Supervised.{Supervised}
-use Rattle.device_stack.specs.Kind.{listens}
+use Rattle.device_kinds.specs.Kind.{listens}
 use Rattle.device_stack.specs.State.{State}
 
 -- the status that a device keeps, as a report carries it

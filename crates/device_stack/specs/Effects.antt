@@ -16,15 +16,15 @@ use Rattle.encap.specs.declared.plan.Plan.{Plan}
 use Rattle.encap.specs.declared.plan.Ends.{Ends}
 use Rattle.encap.specs.declared.plan.Supervised.{Supervised}
 use Rattle.transport_segments.specs.Kept.{Empty}
-use Rattle.device_stack.specs.declared.kind.Kind.{Kind}
+use Rattle.device_kinds.specs.declared.kind.Kind.{Kind}
 use Rattle.device_stack.specs.declared.effect.Effect.{Effect}
 use Rattle.device_stack.specs.declared.effect.Effect.TheVariants.{Ignores, Sleeps, Tells, Sets, Repeats, Takes}
-use Rattle.device_stack.specs.declared.verdict.Verdict.{Verdict}
-use Rattle.device_stack.specs.declared.verdict.Verdict.TheVariants.{NoSupport, Fails, Makes, Works}
-use Rattle.device_stack.specs.Kind.{listens, lists, has_end}
+use Rattle.device_kinds.specs.declared.verdict.Verdict.{Verdict}
+use Rattle.device_kinds.specs.declared.verdict.Verdict.TheVariants.{NoSupport, Fails, Makes, Works}
+use Rattle.device_kinds.specs.Kind.{listens, lists, has_end}
 use Rattle.device_stack.specs.State.{State, value_of, last_level_of, with_change}
-use Rattle.device_stack.specs.Judging.{judged_message, judged_set, status_of}
-use Rattle.device_stack.specs.Telling.{told}
+use Rattle.device_kinds.specs.Judging.{judged_message, judged_set, status_of}
+use Rattle.device_kinds.specs.Telling.{told}
 use Rattle.device_stack.specs.Answers.{status_report}
 
 -- the end point that a message is for

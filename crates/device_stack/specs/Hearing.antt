@@ -18,8 +18,8 @@ use Rattle.transport_segments.specs.Taking.{is_segment, ends_its_datagram, taken
 use Rattle.transport_segments.specs.Kept.{Empty}
 use Rattle.transport_segments.specs.declared.assembler.Taken.{Taken}
 use Rattle.transport_segments.specs.declared.assembler.Taken.TheVariants.{Kept, Need, Whole}
-use Rattle.device_stack.specs.declared.kind.Kind.{Kind}
-use Rattle.device_stack.specs.declared.kind.Kind.TheVariants.{Lock, Configurable}
+use Rattle.device_kinds.specs.declared.kind.Kind.{Kind}
+use Rattle.device_kinds.specs.declared.kind.Kind.TheVariants.{Lock, Configurable}
 use Rattle.device_stack.specs.declared.sealing.Nonces.{Nonces}
 use Rattle.device_stack.specs.declared.sealing.Nonces.TheVariants.{Asked, Told, Unsaid}
 use Rattle.device_stack.specs.State.{State, Outcome, silent}

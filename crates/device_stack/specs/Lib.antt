@@ -1,11 +1,4 @@
-pub mod Kind
-pub mod Values
-pub mod Cache
 pub mod State
-pub mod Settings
-pub mod Places
-pub mod Judging
-pub mod Telling
 pub mod Answers
 pub mod Effects
 pub mod Worded

@@ -4,7 +4,7 @@ use Rattle.std.specs.List.{range_with_len, filter_map}
 use Rattle.zw_base.specs.PropertyOrder.{same_property}
 use Rattle.zw_base.specs.declared.property.Property.{Property}
 use Rattle.zw_base.specs.declared.property.Setting.{Setting}
-use Rattle.device_stack.specs.Kind.{main_property_of, property_count, property_at}
+use Rattle.device_kinds.specs.Kind.{main_property_of, property_count, property_at}
 use Rattle.device_stack.specs.State.{State, value_of}
 
 -- a property with its value, if it is the main one or is not 0

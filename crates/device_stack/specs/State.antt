@@ -8,14 +8,11 @@ use Rattle.s0_session.specs.declared.account.Account.{Account}
 use Rattle.s0_session.specs.Nonces.{unused}
 use Rattle.s0_session.specs.Sending.{Sending}
 use Rattle.transport_segments.specs.Kept.{Reassembly, Empty}
-use Rattle.device_stack.specs.declared.kind.Kind.{Kind}
-use Rattle.device_stack.specs.declared.change.Change.{Change}
+use Rattle.device_kinds.specs.declared.kind.Kind.{Kind}
+use Rattle.device_kinds.specs.declared.change.Change.{Change}
 use Rattle.device_stack.specs.declared.work.Work.{Work}
-use Rattle.device_stack.specs.Values.{value_after, level_after}
-
--- the node of the host, which alone speaks to the devices
-abbrev pub host_node : ℕ
-host_node = 1
+use Rattle.device_kinds.specs.Kind.{host_node}
+use Rattle.device_kinds.specs.Values.{value_after, level_after}
 
 -- no work
 abbrev pub idle : Work

@@ -5,7 +5,8 @@ ghost use Rattle.std.specs.Option.{option_to_list};
 ghost use Rattle.supervision.specs.Session.{wire_id};
 ghost use Rattle.class_info.specs.InfoSpelling.{form};
 ghost use Rattle.device_stack.specs.Answers.{report_status, asks_to_wake, status_report, final_report, swapped, answer_plan, worded};
-ghost use Rattle.device_stack.specs.Worded.{IsAnswer, IsShort, IsPayload};
+ghost use Rattle.device_kinds.specs.Telling.{IsAnswer};
+ghost use Rattle.device_stack.specs.Worded.{IsShort, IsPayload};
 
 use crate::Stack;
 use class_info::{InfoMessage, ReportStatus, SessionId};

@@ -1,7 +1,7 @@
 //! What a message does to a device.
 
-use crate::verdict::Verdict;
 use class_info::InfoMessage;
+use device_kinds::Verdict;
 use zw_base::{Sequence, Setting};
 
 /// What a message out of its wraps does to a device.

@@ -6,9 +6,10 @@ ghost use Rattle.encap.specs.Opening.{Message, opened_at};
 ghost use Rattle.device_stack.specs.Hearing.{answers, answers_bytes, hears_openly, hears_by, hears};
 ghost use Rattle.device_stack.specs.Worded.{IsShort, IsPayload};
 
+use crate::Stack;
 use crate::answers::send;
 use crate::sealing::MOST;
-use crate::{Kind, Stack};
+use device_kinds::Kind;
 use encap::{Opened, WrapFault, unpack};
 use std::alloc::Global;
 use zw_base::{Bytes, NoMemory, Replies};

@@ -1,7 +1,7 @@
 //! How a lock opens and seals messages.
 
-ghost use Rattle.std.specs.Prelude.{◌≡◌, ◌-◌, ◌≤◌, [], length, slice_index, IfOk, OnOk, OnErr, All, Some, Ok, ◌∷◌, if◌then◌else◌};
-ghost use Rattle.encap.specs.Opening.{opened_at};
+ghost use Rattle.std.specs.Prelude.{◌≡◌, ◌-◌, ◌≤◌, [], length, slice_index, IfOk, OnOk, OnErr, All, Some, Ok, ◌∷◌, if◌then◌else◌, IsTrue};
+ghost use Rattle.encap.specs.Opening.{opened_at, begins_with};
 ghost use Rattle.class_info.specs.InfoReading.{info_at};
 ghost use Rattle.class_info.specs.InfoSpelling.{form};
 ghost use Rattle.device_stack.specs.Sealing.{keys_of, unsealed_at};
@@ -10,10 +10,9 @@ ghost use Rattle.device_stack.specs.Worded.{IsPayload};
 
 use crate::Stack;
 use crate::answers::payload;
-use crate::kind::{SECURITY, node};
-use crate::stack::HOST;
 use class_core::ClassFault;
 use class_info::InfoMessage;
+use device_kinds::{HOST, SECURITY, node};
 use encap::{Opened, Outer, WrapFault};
 use s0_crypto::{SealEnds, SealFault, keys, unseal};
 use std::alloc::Global;
@@ -43,6 +42,15 @@ pub enum Nonces {
     Told([u8; 8]),
     /// Nothing.
     Unsaid,
+}
+
+/// Whether these bytes begin a Security message.
+fn is_sealed(bytes: &[u8]) -> bool
+    ensures value { result ≡ begins_with bytes.now 0x98 0x81 }
+    ensures class { IsTrue result → slice_index bytes.now 0 ≡ 0x98 }
+    ensures command { IsTrue result → slice_index bytes.now 1 ≡ 0x81 }
+{
+    bytes.len() >= 2 && bytes[0] == SECURITY && bytes[1] == MESSAGE
 }
 
 /// What a message says of nonces.
@@ -106,7 +114,7 @@ impl Stack {
         ensures err { OnErr result (self.new ≡ self.old) }
         ensures err_replies { OnErr result (out.new ≡ []) }
     {
-        if payload.len() >= 2 && payload[0] == SECURITY && payload[1] == MESSAGE {
+        if is_sealed(payload) {
             return self.hear_sealed(payload, out);
         }
         match nonces_in(self.alloc, payload)? {

@@ -1,19 +1,19 @@
 //! How a device hears in segments.
 
-ghost use Rattle.std.specs.Prelude.{◌≡◌, ◌+◌, ◌<◌, ◌^◌, false, [], ℕ, List, IfOk, IfSome, OnOk, OnErr, All, Some, IsTrue};
+ghost use Rattle.std.specs.Prelude.{◌≡◌, ◌+◌, ◌<◌, ◌^◌, false, [], ℕ, List, IfOk, IfSome, OnOk, OnErr, All, Some, IsTrue, nat_lt, ◌&&◌, ◌==◌};
 ghost use Rattle.std.specs.Option.{option_map, option_to_list};
 ghost use Rattle.supervision.specs.Session.{wire_id};
 ghost use Rattle.class_info.specs.InfoSpelling.{form};
 ghost use Rattle.transport_segments.specs.Segment.{id_of, IsSegment};
-ghost use Rattle.transport_segments.specs.Taking.{taken_at};
+ghost use Rattle.transport_segments.specs.Taking.{taken_at, ends_its_datagram};
 ghost use Rattle.device_stack.specs.Hearing.{segment_session as session_of_segments, hears_in_segments, hears_segment, assembles, acknowledged, repeats_segment, hears_openly};
 ghost use Rattle.device_stack.specs.Answers.{status_report};
 ghost use Rattle.device_stack.specs.Worded.{IsPayload, IsShort};
 
 use crate::Stack;
 use crate::answers::{bare, payload as payload_of};
-use crate::kind::TRANSPORT_SERVICE;
 use class_info::InfoMessage;
+use device_kinds::TRANSPORT_SERVICE;
 use encap::Supervised;
 use supervision::session_id;
 use transport_segments::{SegmentFault, Taken, ends_datagram, segment_id};
@@ -34,6 +34,14 @@ fn segment_session(session: u64) -> u8
     ensures range { result < 16 }
 {
     (session % TRANSPORT_IDS) as u8
+}
+
+/// Whether a segment of that id ends the datagram of a session.
+fn is_last_of(session: u64, id: u8, segment: &[u8]) -> bool
+    requires { IsSegment segment.now }
+    ensures { result ≡ (nat_lt 0 session && (id == session_of_segments session) && ends_its_datagram segment.now) }
+{
+    session > 0 && id == segment_session(session) && ends_datagram(segment) == Some(true)
 }
 
 /// That a datagram is whole.
@@ -100,7 +108,7 @@ impl Stack {
         if id == segment_session(taken + 1) {
             return self.assemble(id, segment, out);
         }
-        if taken > 0 && id == segment_session(taken) && ends_datagram(segment) == Some(true) {
+        if is_last_of(taken, id, segment) {
             return self.repeat_segment(id, out);
         }
         Ok(())

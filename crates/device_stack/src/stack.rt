@@ -3,10 +3,8 @@
 ghost use Rattle.std.specs.Prelude.{◌≡◌, ℕ, length, slice_get, IfOk, OnOk, OnErr};
 ghost use Rattle.device_stack.specs.State.{fresh};
 
-use crate::journal::Journal;
-use crate::kind::node as node_of;
 use crate::work::Work;
-use crate::{Change, Kind};
+use device_kinds::{Change, HOST, Journal, Kind, node as node_of};
 use s0_crypto::SealEnds;
 use s0_session::{Account, Sender};
 use std::alloc::Global;
@@ -14,9 +12,6 @@ use std::marker::Model;
 use supervision::DeviceBook;
 use transport_segments::Assembler;
 use zw_base::{NoMemory, NodeId};
-
-/// The node of the host, which alone speaks to the devices.
-pub(crate) const HOST: u8 = 1;
 
 /// A device of any kind: its sessions and its work, the nonces that it gives and what it seals, the datagram that comes in
 /// segments, its clock in ticks of 100 ms, and its journal. Contracts see all that it is.

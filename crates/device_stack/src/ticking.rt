@@ -3,21 +3,18 @@
 ghost use Rattle.std.specs.Prelude.{◌≡◌, ◌+◌, ◌<◌, ◌^◌, ◌&&◌, [], ◌∷◌, IfOk, IfSome, OnOk, OnErr, All};
 ghost use Rattle.std.specs.Option.{option_map};
 ghost use Rattle.class_info.specs.InfoSpelling.{form};
-ghost use Rattle.device_stack.specs.Kind.{main_name_of, tells};
+ghost use Rattle.device_kinds.specs.Kind.{main_name_of, tells};
 ghost use Rattle.device_stack.specs.State.{with_change};
-ghost use Rattle.device_stack.specs.Judging.{setting_of};
+ghost use Rattle.device_kinds.specs.Judging.{setting_of};
 ghost use Rattle.device_stack.specs.Answers.{worded, answer_plan, final_report};
 ghost use Rattle.device_stack.specs.Ticking.{aged, works_out, ticked, woken, by_hand, tells_by_hand, main_told, set_by_hand};
 ghost use Rattle.device_stack.specs.Showing.{shown_of, shown_at};
 ghost use Rattle.device_stack.specs.Worded.{IsShort, IsPayload};
 
+use crate::Stack;
 use crate::answers::{answered, bare, payload as payload_of, send};
-use crate::judging::one;
-use crate::kind::{WAKE_UP, root};
-use crate::settings::is_same;
-use crate::telling::report;
 use crate::work::Work;
-use crate::{Change, Kind, Stack};
+use device_kinds::{Change, Kind, WAKE_UP, is_same, one_setting, report, root};
 use std::alloc::Global;
 use supervision::SUCCESS;
 use zw_base::{By, Bytes, EndPoint, List, Name, NoMemory, Property, Replies, Sequence, Setting};
@@ -192,7 +189,7 @@ impl Stack {
         ensures ok { OnOk result (self.new ≡ with_change self.old By.Local (setting_of 0 (main_name_of self.old.kind) value ∷ [])) }
         ensures err { OnErr result (self.new ≡ self.old) }
     {
-        let settings = one(self.alloc, EndPoint::root(), self.kind.main_name(), value)?;
+        let settings = one_setting(self.alloc, EndPoint::root(), self.kind.main_name(), value)?;
         self.journal.make(Change {
             by: By::Local,
             settings,

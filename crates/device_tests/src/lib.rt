@@ -1,8 +1,8 @@
 //! Tests of the simulated devices: each kind called through its bound, with payloads that were written out by hand or by
 //! implementations outside this project; hostile payloads; the wrappers.
 //!
-//! A crate that has tests is proved once with them and once without. So `device_stack` and `device_sim` have none, and this
-//! one, which promises nothing, has theirs.
+//! A crate that has tests is proved once with them and once without. So `device_kinds`, `device_stack` and `device_sim` have
+//! none, and this one, which promises nothing, has theirs.
 #![tactic(auto)]
 
 #[cfg(test)]

@@ -1,7 +1,7 @@
 -- Over lines each success stands behind the change.
 use Rattle.std.proofs.Common.{ℕ, List, [], ◌∷◌, ◌++◌, flat_map, sym, subst, append_assoc, append-nil}
 use Rattle.std.specs.List.{AllByRecursion}
-use Rattle.device_stack.specs.declared.change.Change.{Change}
+use Rattle.device_kinds.specs.declared.change.Change.{Change}
 use Rattle.device_sim.specs.State.{State}
 use Rattle.device_facts.specs.Showing.{AreUnchanged, IsShownAmong}
 use Rattle.zw_text.specs.declared.entry.Entry.{Entry}

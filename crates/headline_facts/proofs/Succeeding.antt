@@ -1,6 +1,7 @@
 -- Each success stands behind the change.
 use Rattle.std.proofs.Common.{◌≡◌, ℕ, zero, suc, List, [], ◌∷◌, ◌++◌, All, map, Some, refl, sym, ap, subst, ◌∙◌, append_assoc, append-nil, arith}
 use Rattle.std.specs.List.{AllByRecursion}
+use Rattle.list_lemmas.proofs.Each.{all-weaker}
 use Rattle.supervision.specs.Host.{command_at as session_at}
 use Rattle.supervision.specs.declared.session.TheConstants.{SUCCESS}
 use Rattle.supervision.proofs.OnceLemmas.{All-slice_get}
@@ -27,7 +28,7 @@ use Rattle.host_facts.specs.Entries.{IsAside, entries_at}
 use Rattle.host_facts.specs.Facts.{Facts}
 use Rattle.host_facts.specs.Laws.{accepted_for}
 use Rattle.host_facts.specs.Tables.{nodes_by}
-use Rattle.host_facts.proofs.Lists.{all-weaker, each-append, each-anywhere}
+use Rattle.host_facts.proofs.Lists.{each-append, each-anywhere}
 use Rattle.outer_events.specs.Events.{Host_notes, entries as entries_outside, outcome}
 use Rattle.outer_events.specs.Did.{entries_all as entries_all_outside}
 use Rattle.zw_machine.specs.State.{Machine, host_does, host_entries, routed}
@@ -37,7 +38,7 @@ use Rattle.zw_machine.proofs.Silence.{judged_silent}
 use Rattle.world_facts.proofs.Aside.{Asides, own_aside, stamp_aside}
 use Rattle.world_facts.proofs.Notes.{Behind, event_behind}
 use Rattle.once_facts.specs.Tied.{MakesWhatIsTaken}
-use Rattle.device_facts.proofs.Having.{all_has}
+use Rattle.zw_laws.proofs.Having.{all_has}
 use Rattle.once_facts.specs.Truly.{IsDoneBy, IsTrue, TellTruly, TellsTruly}
 use Rattle.headline_facts.specs.Truly.{MayEndOf}
 use Rattle.said_facts.proofs.Noting.{AreRoutine, IsRoutine, behind_routine, event_routine}

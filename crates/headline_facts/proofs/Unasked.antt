@@ -4,8 +4,8 @@ use Rattle.std.proofs.lemmas.Bool.{eqb-true}
 use Rattle.std.specs.Prelude.{not, is_some}
 use Rattle.std.specs.List.{AllByRecursion}
 use Rattle.zw_order.specs.declared.order.Order.{Order}
-use Rattle.device_stack.specs.declared.kind.Kind.TheVariants.{Switch}
-use Rattle.device_stack.specs.Kind.{classes_of as kind_classes}
+use Rattle.device_kinds.specs.declared.kind.Kind.TheVariants.{Switch}
+use Rattle.device_kinds.specs.Kind.{classes_of as kind_classes}
 use Rattle.device_sim.specs.State.{State}
 use Rattle.zw_text.specs.declared.entry.Entry.{Entry}
 use Rattle.zw_text.specs.declared.entry.Outcome.TheVariants.{Waiting}
@@ -26,6 +26,7 @@ use Rattle.host_events.specs.Events.{HostEvent, Accepts, Finishes}
 use Rattle.host_events.specs.After.{after}
 use Rattle.host_events.specs.May.{IsAccepted, known_of, May as MayHost}
 use Rattle.host_events.specs.Did.{MayAll as MayAllHost}
+use Rattle.host_events.proofs.Accepted.{holds}
 use Rattle.host_facts.specs.Entries.{entries_at}
 use Rattle.host_facts.specs.Facts.{Facts}
 use Rattle.host_facts.specs.Tables.{taken_at, taken_by}
@@ -51,10 +52,6 @@ first_none : (first : Option Refused) (more : List (Option Refused)) → first_s
 first_none None more e = (refl, e)
 first_none (Some refused) more e = absurd cc
 
-unless_none : (holds : Bool) (refused : Refused) → unless holds refused ≡ None → holds ≡ true
-unless_none true refused e = refl
-unless_none false refused e = absurd cc
-
 -- the rules of the classes are the third of all
 known_none : (known : Known) (order : Order) → first_refusal known order ≡ None → known_refusal (classes_of known) known.waiting order ≡ None
 unfolding first_refusal
@@ -71,7 +68,7 @@ supervision_listed classes waiting order e =
     let last = too_long classes (length (supervised_text (actuator_of classes) order)) (wrapped_len (actuator_of classes) order) ∷ mailbox_full waiting ∷ [] in
     let supported = first_none (unsupported classes (classes_needed (actuator_of classes) order.what order.end)) (unless (not (is_bad (actuator_of classes) order.what)) BadValue ∷ unless (lists classes 0x6C) Unsupervised ∷ last) e in
     let good = first_none (unless (not (is_bad (actuator_of classes) order.what)) BadValue) (unless (lists classes 0x6C) Unsupervised ∷ last) supported.1 in
-    unless_none (lists classes 0x6C) Unsupervised (first_none (unless (lists classes 0x6C) Unsupervised) last good.1).0
+    holds (lists classes 0x6C) Unsupervised (first_none (unless (lists classes 0x6C) Unsupervised) last good.1).0
 
 -- ---- what a node lists
 

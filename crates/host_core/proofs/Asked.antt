@@ -13,8 +13,8 @@ use Rattle.host_events.specs.Did.{Shelf}
 use Rattle.host_events.specs.After.{after}
 use Rattle.host_core.specs.Orders.{question_event}
 use Rattle.host_core.specs.declared.orders.Question.{Question}
-use Rattle.host_core.specs.Calls.{beside, Does, DoesAlone, Are}
-use Rattle.host_core.proofs.Doing.{does_one, one_alone}
+use Rattle.host_taking.specs.Calls.{beside, Does, DoesAlone, Are}
+use Rattle.host_taking.proofs.Doing.{does_one, one_alone}
 use Rattle.zw_order.specs.declared.order.Word.{Word}
 use Rattle.zw_order.specs.declared.order.Order.{Order}
 use Rattle.class_core.specs.Spelling.{form}
@@ -33,7 +33,7 @@ use Rattle.host_node.specs.State.{NodeState}
 use Rattle.host_events.specs.State.{HostState, HostParts, node_of}
 use Rattle.host_events.specs.May.{IsAccepted, known_of}
 use Rattle.host_events.specs.Asking.{carriage_for, refusal_for}
-use Rattle.host_state.specs.Choices.{Judges}
+use Rattle.host_effects.specs.Choices.{Judges}
 use Rattle.host_orders.specs.declared.refused.Refused.{Refused}
 use Rattle.host_orders.specs.declared.refused.Refused.TheVariants.{NotJoined, QueueFull, StoreFull}
 use Rattle.host_orders.specs.Refusals.{Known, classes_of, first_some, unless, first_refusal, refusal_or, store_full}

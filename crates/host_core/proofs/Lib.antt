@@ -1,15 +1,5 @@
 mod Asked
-mod Doing
-mod Followed
 mod Loops
-mod OneMessage
-mod OneNonce
-mod OneValue
 mod Opened
-mod Pieces
-mod Reported
 mod Served
 mod Submitted
-mod Taken
-mod Told
-mod Unsealed

@@ -17,9 +17,9 @@ use Rattle.host_events.specs.Did.{after_all, is_unkept, Shelf}
 use Rattle.host_events.specs.Pumping.{no_more_event, LetsSome, LetsSleep}
 use Rattle.host_events.specs.Ticking.{first_ticks, tick_events, ticking_nodes, TickedTo}
 use Rattle.host_events.specs.declared.out.HostOut.{HostOut}
-use Rattle.host_events.proofs.Doing.{after_all-append, did_both}
-use Rattle.host_core.specs.Calls.{beside, Does, Stops, DoesAlone, StopsAlone, Are}
-use Rattle.host_core.proofs.Doing.{nothing_alone, one_alone, does_as}
+use Rattle.host_events.proofs.Doing.{after_all-append}
+use Rattle.host_taking.specs.Calls.{beside, Does, Stops, DoesAlone, StopsAlone, Are}
+use Rattle.host_taking.proofs.Doing.{nothing_alone, one_alone, alone_then, does_as}
 
 -- ---- ticks of nodes
 
@@ -32,27 +32,6 @@ pub record TicksSoFar (first : HostState) (before : List HostOut) (now : HostSta
 
 pub none_so_far : (h : HostState) (outs : List HostOut) → TickedTo h h 0 [] → TicksSoFar h outs h outs 0
 none_so_far h outs none = record { events = []; ticked = none; did = nothing_alone (Are []) h h outs outs refl refl refl; low = omega arith }
-
--- ---- events of no keeper one after another
-
-pub alone_then : (First Later Whole : List HostEvent → Type 0) (h mid new : HostState) (before some all : List HostOut) → DoesAlone First h before mid some → DoesAlone Later mid some new all
-    → ((x y : List HostEvent) → mid ≡ after_all h x → First x → Later y → Whole (x ++ y)) → DoesAlone Whole h before new all
-alone_then First Later Whole h mid new before some all first later both =
-    λ shelf.
-    let one = first shelf in
-    let two = later shelf in
-    record {
-      events = one.events ++ two.events;
-      are = both one.events two.events one.did.state one.are two.are;
-      did = did_both one.events two.events h mid new before some all shelf shelf shelf one.did two.did;
-    }
-
-pub alone_then_stops : (First : List HostEvent → Type 0) (h mid new : HostState) (before some all : List HostOut) → DoesAlone First h before mid some → StopsAlone mid some new all → StopsAlone h before new all
-alone_then_stops First h mid new before some all first later =
-    λ shelf.
-    let one = first shelf in
-    let two = later shelf in
-    record { events = one.events ++ two.events; did = did_both one.events two.events h mid new before some all shelf shelf shelf one.did two.did }
 
 -- these events and then those are both
 pub are_both : (a b x y : List HostEvent) → x ≡ a → y ≡ b → x ++ y ≡ a ++ b

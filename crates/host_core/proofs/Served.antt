@@ -19,8 +19,8 @@ use Rattle.host_events.specs.Facts.{HostFacts}
 use Rattle.host_events.specs.May.{May, IsFree, IsServed}
 use Rattle.host_events.specs.Pumping.{IsNext, IsServedBy, GivesNext}
 use Rattle.host_events.specs.declared.out.HostOut.{HostOut}
-use Rattle.host_core.specs.Calls.{Scene, Does, DoesAlone, One}
-use Rattle.host_core.proofs.Doing.{does_one, does_kept, one_alone}
+use Rattle.host_taking.specs.Calls.{Scene, Does, DoesAlone, One}
+use Rattle.host_taking.proofs.Doing.{does_one, does_kept, one_alone}
 use Rattle.host_core.proofs.Submitted.{served_is_next, abort_is_next, front_is_next}
 
 pub some_unless_none : {X : Type 0} (o : Option X) → (o ≡ None → ⊥) → IsSome o

@@ -8,8 +8,8 @@ use Rattle.host_events.specs.Events.{HostEvent, Submits_abort, Submits_front}
 use Rattle.host_events.specs.Did.{after_all}
 use Rattle.host_events.specs.May.{IsFree, IsServed}
 use Rattle.host_events.specs.Pumping.{IsNext, IsNextOf, IsNextOfNodes, IsServedBy, IsPumped, SubmitsSome, Submits, LetsSleep, Pumps}
-use Rattle.host_core.specs.Calls.{Scene, Does, Are, One, Turns}
-use Rattle.host_core.proofs.Doing.{then_does}
+use Rattle.host_taking.specs.Calls.{Scene, Does, Are, One, Turns}
+use Rattle.host_taking.proofs.Doing.{then_does}
 
 -- what a node that is served gives is next
 pub served_is_next : (h : HostState) (n : ℕ) (event : HostEvent) → IsServed h n → IsServedBy h n (node_of h n).series event → IsNext h event

@@ -1,5 +1,3 @@
-pub mod Calls
 pub mod Orders
 pub mod Network
-pub mod Updates
 pub mod Opening

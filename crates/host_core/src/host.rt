@@ -10,10 +10,9 @@ ghost use Rattle.host_events.specs.State.{first_host, node_of, command_at};
 ghost use Rattle.host_events.specs.Pumping.{Pumps};
 ghost use Rattle.host_events.specs.Taking.{Fed, FedFront};
 ghost use Rattle.host_events.specs.Ticking.{tick_events};
-ghost use Rattle.host_core.specs.Calls.{scene, Are, Does, Stops};
+ghost use Rattle.host_taking.specs.Calls.{scene, Are, Does, Stops};
 ghost use Rattle.host_core.specs.Orders.{outcome_at};
 
-use crate::judging::feed;
 use crate::pumping::pump;
 use crate::ticking::tick;
 use host_events::HostOut;
@@ -80,7 +79,7 @@ impl Host {
         ensures ok { OnOk result (Fed self.old piece.now self.new out.old.items out.new.items (scene self.old.state out.old.items (P.records keeper.old) (P.faults keeper.old)).shelf (scene self.new.state out.new.items (P.records keeper.new) (P.faults keeper.new)).shelf) }
         ensures err { OnErr result (FedFront self.old piece.now self.new out.old.items out.new.items (scene self.old.state out.old.items (P.records keeper.old) (P.faults keeper.old)).shelf (scene self.new.state out.new.items (P.records keeper.new) (P.faults keeper.new)).shelf) }
     {
-        feed(&mut self.core, piece, draw, out, keeper)
+        host_taking::feed(&mut self.core, piece, draw, out, keeper)
     }
 
     /// A tick of 100 ms passes: of the line, of the request under way, and of the nodes that have a wait. It asks no keeper.

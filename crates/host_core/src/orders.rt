@@ -8,11 +8,11 @@ ghost use Rattle.host_orders.specs.Refusals.{Refuses, classes_of};
 ghost use Rattle.host_requests.specs.Frames.{StandsAlone};
 ghost use Rattle.host_requests.specs.declared.task.Task.TheVariants.{Plain};
 ghost use Rattle.host_events.specs.Asking.{carriage_for, refusal_for, join_refusal, interview_refusal, places_refusal, Waits};
-ghost use Rattle.host_state.specs.Choices.{Judges};
+ghost use Rattle.host_effects.specs.Choices.{Judges};
 ghost use Rattle.host_events.specs.State.{node_of};
 ghost use Rattle.host_events.specs.May.{known_of};
 ghost use Rattle.host_events.specs.Events.{Accepts, Cancels, Joins, Queues, Queues_interview};
-ghost use Rattle.host_core.specs.Calls.{scene, Are, Does, DoesAlone};
+ghost use Rattle.host_taking.specs.Calls.{scene, Are, Does, DoesAlone};
 ghost use Rattle.host_core.specs.Orders.{places_of, question_event, KeptOrRefused, CancelsOrNot};
 
 use crate::Host;

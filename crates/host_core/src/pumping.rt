@@ -7,7 +7,7 @@ ghost use Rattle.host_events.specs.State.{node_of};
 ghost use Rattle.host_events.specs.Facts.{HostFacts};
 ghost use Rattle.host_events.specs.May.{IsServed, IsFree};
 ghost use Rattle.host_events.specs.Pumping.{Pumps, Submits, IsNext, IsPumped, HasNothing, IsServedBy, GivesNext, turns_left};
-ghost use Rattle.host_core.specs.Calls.{scene, Does, Stops, DoesAlone, StopsAlone, One, Turns};
+ghost use Rattle.host_taking.specs.Calls.{scene, Does, Stops, DoesAlone, StopsAlone, One, Turns};
 
 use crate::sleeping::let_sleep;
 use host_events::{HostOut, a_pump_ends, attempts_have_what_they_give, turns_of_a_pump_go_on};

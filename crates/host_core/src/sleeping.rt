@@ -5,7 +5,7 @@ ghost use Rattle.host_nodes.specs.Search.{first_wanting};
 ghost use Rattle.host_events.specs.After.{after};
 ghost use Rattle.host_events.specs.Outs.{outs};
 ghost use Rattle.host_events.specs.Pumping.{LetsSleep, no_more_event};
-ghost use Rattle.host_core.specs.Calls.{DoesAlone, StopsAlone};
+ghost use Rattle.host_taking.specs.Calls.{DoesAlone, StopsAlone};
 
 use host_events::{HostOut, nodes_are_told_in_few_turns, turns_of_a_pump_go_on};
 use host_state::Core;

@@ -4,7 +4,7 @@ ghost use Rattle.std.specs.Prelude.{◌≡◌, map, OnOk, OnErr};
 ghost use Rattle.serial_frame.specs.Stream.{after_tick};
 ghost use Rattle.host_events.specs.Events.{Node_ticks};
 ghost use Rattle.host_events.specs.Ticking.{tick_events, ticking_nodes};
-ghost use Rattle.host_core.specs.Calls.{Are, DoesAlone, StopsAlone};
+ghost use Rattle.host_taking.specs.Calls.{Are, DoesAlone, StopsAlone};
 
 use host_events::{HostOut, ticks_of_nodes_go_on};
 use host_state::Core;

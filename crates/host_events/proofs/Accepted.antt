@@ -26,11 +26,11 @@ none_later : (o : Option Refused) (more : List (Option Refused)) → first_some 
 none_later None more e = e
 none_later (Some refused) more e = cc
 
-holds : (b : Bool) (refused : Refused) → unless b refused ≡ None → b ≡ true
+pub holds : (b : Bool) (refused : Refused) → unless b refused ≡ None → b ≡ true
 holds true refused e = refl
 holds false refused e = cc
 
-not_so : (b : Bool) → not b ≡ true → b ≡ false
+pub not_so : (b : Bool) → not b ≡ true → b ≡ false
 not_so true e = cc
 not_so false e = refl
 

@@ -1,5 +1,5 @@
 -- Each event keeps the facts of a host.
-use Rattle.std.proofs.Common.{◌≡◌, ℕ, zero, suc, ◌+◌, ◌≤◌, Bool, true, false, if◌then◌else◌, Option, Some, None, IsSome, unwrap_or, List, [], ◌∷◌, ◌++◌, length, All, set, inl, refl, sym, ap, ◌∙◌, subst, arith}
+use Rattle.std.proofs.Common.{◌≡◌, ℕ, zero, suc, ◌+◌, ◌≤◌, Bool, true, false, if◌then◌else◌, Option, Some, None, unwrap_or, List, [], ◌∷◌, ◌++◌, length, All, set, inl, refl, sym, ap, ◌∙◌, subst, arith}
 use Rattle.std.specs.Option.{option_or}
 use Rattle.std.proofs.lemmas.List.{length-set}
 use Rattle.std.proofs.lemmas.List.Elements.{All-nil, All-push}
@@ -36,6 +36,7 @@ use Rattle.host_nodes.specs.Facts.{NodesFacts}
 use Rattle.host_nodes.specs.Search.{least_above, next_of, first_wanting}
 use Rattle.host_nodes.proofs.Searches.{what_is_least}
 use Rattle.host_nodes.proofs.Lists.{unknown_facts}
+use Rattle.host_nodes.proofs.Words.{is_some_of}
 use Rattle.host_keep.specs.declared.final_status.FinalStatus.{FinalStatus}
 use Rattle.host_keep.specs.Status.{status_byte}
 use Rattle.host_orders.specs.Refusals.{classes_of, IsFit}
@@ -140,10 +141,6 @@ starts_bring h n (Segments count) more payload s =
       count = is.1;
     }
 starts_bring h n (seals plain) more payload s = tt
-
-is_some_of : {X : Type 0} (o : Option X) (x : X) → o ≡ Some x → IsSome o
-is_some_of None x e = cc
-is_some_of (Some y) x e = refl
 
 sealed_has_bytes : (n : NodeState) (keys : Keys) (own nonce text : List ℕ) → SealsText n keys own nonce text → 1 ≤ length text
 sealed_has_bytes n keys own nonce text s = omega (arith, ap (λ (l : List ℕ). length l) s.seals.layout)

@@ -1,10 +1,10 @@
 pub mod Doing
 pub mod Feeding
-mod Numbered
-mod Owning
+pub mod Numbered
+pub mod Owning
 mod Storing
 pub mod Accepted
 mod Keeping
-mod Pumps
+pub mod Pumps
 mod Rounds
 mod Payloads

@@ -45,7 +45,7 @@ outcome_stays commands zero outcome (suc k) command e = here commands k command 
 outcome_stays commands (suc at) outcome zero command e = cc
 outcome_stays commands (suc at) outcome (suc k) command e = set_stays commands at outcome k command e
 
-set_sound : (store : Values) (commands : List Command) (at : ℕ) (outcome : Outcome) → All (IsSound store) commands → All (IsSound store) (set_at commands at outcome)
+pub set_sound : (store : Values) (commands : List Command) (at : ℕ) (outcome : Outcome) → All (IsSound store) commands → All (IsSound store) (set_at commands at outcome)
 set_sound store [] at outcome all = all
 set_sound store (first ∷ rest) zero outcome all =
     let s : IsSound store first = All-head (IsSound store) first rest all in
@@ -67,7 +67,7 @@ pub push_stays : (commands : List Command) (one : Command) → AllStay commands 
 push_stays commands one zero command e = cc
 push_stays commands one (suc k) command e = record { command = command; found = pushed_stays commands one k command e; order = refl; carriage = refl }
 
-last_of : (commands : List Command) (one : Command) → slice_get (commands ++ one ∷ []) (length commands) ≡ Some one
+pub last_of : (commands : List Command) (one : Command) → slice_get (commands ++ one ∷ []) (length commands) ≡ Some one
 last_of [] one = refl
 last_of (first ∷ rest) one = last_of rest one
 

@@ -134,7 +134,7 @@ All-without P (first ∷ rest) command all =
     taken_or false a b p q = q
 
 -- no session is open, so that no segments are left
-none_left : (commands : List Command) (n : NodeState) → open_session n.book ≡ None → (n.segments ≡ 0) ⊎ HasSegments commands n → n.segments ≡ 0
+pub none_left : (commands : List Command) (n : NodeState) → open_session n.book ≡ None → (n.segments ≡ 0) ⊎ HasSegments commands n → n.segments ≡ 0
 none_left commands n closed one = elim one [ inl none ↦ none | inr has ↦ impossible (open_session n.book) closed has.opened ]
   where
     impossible : {X : Type 0} {session : ℕ} (o : Option ℕ) → o ≡ None → o ≡ Some session → X

@@ -53,7 +53,7 @@ other_holds : (a b : Bool) → (a || b) ≡ true → a ≡ false → b ≡ true
 other_holds true b e none = cc
 other_holds false b e none = e
 
-none_of : {X : Type 0} (o : Option X) → is_none o ≡ true → o ≡ None
+pub none_of : {X : Type 0} (o : Option X) → is_none o ≡ true → o ≡ None
 none_of None e = refl
 none_of (Some x) e = cc
 

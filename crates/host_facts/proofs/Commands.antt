@@ -23,7 +23,7 @@ outcome_other commands zero outcome number other = refl
 outcome_other commands (suc at) outcome zero other = refl
 outcome_other commands (suc at) outcome (suc k) other = set_other commands at outcome k (λ e. other (ap suc e))
 
-set_same : (commands : List Command) (at : ℕ) (outcome : Outcome) (command : Command) → slice_get commands at ≡ Some command → outcome_by (slice_get (set_at commands at outcome) at) ≡ outcome
+pub set_same : (commands : List Command) (at : ℕ) (outcome : Outcome) (command : Command) → slice_get commands at ≡ Some command → outcome_by (slice_get (set_at commands at outcome) at) ≡ outcome
 set_same [] at outcome command e = cc
 set_same (first ∷ rest) zero outcome command e = refl
 set_same (first ∷ rest) (suc at) outcome command e = set_same rest at outcome command e
@@ -44,7 +44,7 @@ nodes_set commands zero outcome number = refl
 nodes_set commands (suc at) outcome zero = refl
 nodes_set commands (suc at) outcome (suc k) = set_nodes commands at outcome k
 
-set_taken : (commands : List Command) (at : ℕ) (outcome : Outcome) (k : ℕ) → taken_by (slice_get (set_at commands at outcome) k) ≡ taken_by (slice_get commands k)
+pub set_taken : (commands : List Command) (at : ℕ) (outcome : Outcome) (k : ℕ) → taken_by (slice_get (set_at commands at outcome) k) ≡ taken_by (slice_get commands k)
 set_taken [] at outcome k = refl
 set_taken (first ∷ rest) zero outcome zero = refl
 set_taken (first ∷ rest) zero outcome (suc k) = refl
@@ -56,7 +56,7 @@ taken_set commands zero outcome number = refl
 taken_set commands (suc at) outcome zero = refl
 taken_set commands (suc at) outcome (suc k) = set_taken commands at outcome k
 
-length_set_at : (commands : List Command) (at : ℕ) (outcome : Outcome) → length (set_at commands at outcome) ≡ length commands
+pub length_set_at : (commands : List Command) (at : ℕ) (outcome : Outcome) → length (set_at commands at outcome) ≡ length commands
 length_set_at [] at outcome = refl
 length_set_at (first ∷ rest) zero outcome = refl
 length_set_at (first ∷ rest) (suc at) outcome = ap suc (length_set_at rest at outcome)

@@ -2,6 +2,7 @@
 use Rattle.std.proofs.Common.{◌≡◌, ℕ, ◌+◌, ◌<◌, Bool, false, if◌then◌else◌, List, [], ◌∷◌, ◌++◌, length, Option, Some, None, inl, inr, refl, sym, ap, ap₂, subst, ◌∙◌, arith}
 use Rattle.std.specs.List.{AllByRecursion}
 use Rattle.std.proofs.lemmas.Bool.{cases_eq}
+use Rattle.list_lemmas.proofs.Each.{all-weaker}
 use Rattle.zw_base.specs.declared.property.Property.{Property}
 use Rattle.zw_base.specs.declared.property.Setting.{Setting}
 use Rattle.zw_text.specs.declared.entry.Entry.{Entry}
@@ -24,13 +25,14 @@ use Rattle.host_facts.specs.Laws.{IsUnderWay}
 use Rattle.host_facts.specs.Tables.{outcome_in, taken_at, taken_by, recorded}
 use Rattle.host_facts.specs.Stores.{given_by, AreConfirmed}
 use Rattle.host_facts.specs.Facts.{IsInOrder}
-use Rattle.host_facts.proofs.Lists.{all-weaker, rises-left, below_later}
+use Rattle.host_facts.proofs.Lists.{rises-left, below_later}
 use Rattle.host_facts.proofs.Commands.{outcome_other, outcome_same, outcome_pushed, outcome_past, taken_set, taken_pushed}
 use Rattle.host_facts.proofs.Owned.{apart, opened_ends}
 use Rattle.host_facts.proofs.Effect.{SameConfirmed, Begins, Finishes, Effect, Leaving, Unanswering, Accepting, Cancelling, Beginning, Finishing}
 use Rattle.host_facts.proofs.Values.{AreDistinct, confirming_here, confirming_other, settings_distinct}
 use Rattle.host_facts.proofs.InOrder.{opened_is, waiting_is, oldest_is, waiting_waits, oldest_waits}
 use Rattle.host_facts.proofs.Ending.{same_sessions, one_sessions}
+use Rattle.host_records.proofs.Confirmed.{either_first}
 
 -- ---- what commands give
 
@@ -77,7 +79,7 @@ given_pushed cs one waits p k = elim (cases_eq k (length cs + 1)) [
 
 -- ---- the last of them
 
-last_agree : (g g' : ℕ → Option ℕ) (l : List ℕ) → AllByRecursion (λ k. g' k ≡ g k) l → last_given g' l ≡ last_given g l
+pub last_agree : (g g' : ℕ → Option ℕ) (l : List ℕ) → AllByRecursion (λ k. g' k ≡ g k) l → last_given g' l ≡ last_given g l
 last_agree g g' [] all = refl
 last_agree g g' (x ∷ l) all = ap₂ (λ (a b : Option ℕ). or_else a b) (last_agree g g' l all.1) all.0
 
@@ -85,17 +87,13 @@ all_agree : (g g' : ℕ → Option ℕ) → ((k : ℕ) → g' k ≡ g k) → (l 
 all_agree g g' same [] = tt
 all_agree g g' same (x ∷ l) = (same x, all_agree g g' same l)
 
-or_else-assoc : (a b c : Option ℕ) → or_else (or_else a b) c ≡ or_else a (or_else b c)
-or_else-assoc None b c = refl
-or_else-assoc (Some v) b c = refl
-
 or_else-none : (a : Option ℕ) → or_else a None ≡ a
 or_else-none None = refl
 or_else-none (Some v) = refl
 
 last_push : (g : ℕ → Option ℕ) (l : List ℕ) (c : ℕ) → last_given g (l ++ c ∷ []) ≡ or_else (g c) (last_given g l)
 last_push g [] c = sym (or_else-none (g c))
-last_push g (x ∷ l) c = ap (λ (o : Option ℕ). or_else o (g x)) (last_push g l c) ∙ or_else-assoc (g c) (last_given g l) (g x)
+last_push g (x ∷ l) c = ap (λ (o : Option ℕ). or_else o (g x)) (last_push g l c) ∙ either_first (g c) (last_given g l) (g x)
 
 -- ---- where no value is confirmed
 

@@ -238,7 +238,7 @@ held_same : (h : HostState) (n : ℕ) (held : Bool) → SameNodes h.nodes (holdi
 held_same h n true = same_set h.nodes n _ refl
 held_same h n false = λ m. refl
 
-held_commands : (h : HostState) (n : ℕ) (held : Bool) → (holding h n held).commands ≡ h.commands
+pub held_commands : (h : HostState) (n : ℕ) (held : Bool) → (holding h n held).commands ≡ h.commands
 held_commands h n true = refl
 held_commands h n false = refl
 

@@ -2,6 +2,7 @@
 use Rattle.std.proofs.Common.{◌≡◌, ℕ, List, [], ◌∷◌, Some, inl, inr, refl, sym, ap, ◌∙◌}
 use Rattle.std.specs.List.{AllByRecursion}
 use Rattle.std.proofs.lemmas.Bool.{cases_eq}
+use Rattle.list_lemmas.proofs.Each.{all-append, all-weaker}
 use Rattle.zw_base.specs.declared.property.Setting.{Setting}
 use Rattle.zw_text.specs.declared.entry.Ended.{Ended}
 use Rattle.zw_text.specs.declared.entry.Ended.TheVariants as ended
@@ -21,7 +22,6 @@ use Rattle.host_facts.specs.Entries.{IsAside}
 use Rattle.host_facts.specs.Laws.{IsUnderWay, MayEnd}
 use Rattle.host_facts.specs.Tables.{outcome_in}
 use Rattle.host_facts.specs.Facts.{AreAccepted, AreEntered, IsInOrder}
-use Rattle.host_facts.proofs.Lists.{all-append, all-weaker}
 use Rattle.host_facts.proofs.Commands.{waits_so, under_way_so}
 use Rattle.host_facts.proofs.Views.{IsSilent, silent}
 use Rattle.host_facts.proofs.Owned.{node_found}

@@ -4,6 +4,7 @@ use Rattle.std.specs.Prelude.{Contains}
 use Rattle.std.specs.List.{AllByRecursion}
 use Rattle.std.proofs.lemmas.Bool.{cases_eq}
 use Rattle.std.proofs.lemmas.List.Elements.{All-from_recursion, recursion_from_All, All-contains, All-get_or}
+use Rattle.list_lemmas.proofs.Each.{all-append, all-both, all-right, all-weaker}
 use Rattle.zw_text.specs.declared.entry.Outcome.{Outcome}
 use Rattle.zw_text.specs.declared.entry.Outcome.TheVariants as outcome
 use Rattle.zw_laws.specs.Lists.{Rises}
@@ -23,7 +24,7 @@ use Rattle.zw_text.specs.declared.entry.Entry.{Entry}
 use Rattle.host_facts.specs.Laws.{IsUnderWay}
 use Rattle.host_facts.specs.Tables.{outcome_in}
 use Rattle.host_facts.specs.Facts.{AreInOrder, IsInOrder}
-use Rattle.host_facts.proofs.Lists.{all-append, all-right, all-weaker, all-both, rises-right, below_later, rises-push, rises-without, others_left}
+use Rattle.host_facts.proofs.Lists.{rises-right, below_later, rises-push, rises-without, others_left}
 use Rattle.host_facts.proofs.Commands.{outcome_other, outcome_same, outcome_pushed, outcome_past}
 use Rattle.host_facts.proofs.Owned.{apart, number_within, of_opened, closed_none, opened_last}
 use Rattle.host_facts.proofs.Effect.{only_commands, OneNode, Unanswers, Accepts, Cancels, Begins, Finishes, Effect, Leaving, Unanswering, Accepting, Cancelling, Beginning, Finishing}

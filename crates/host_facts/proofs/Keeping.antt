@@ -9,6 +9,7 @@ use Rattle.zw_laws.specs.Commands.{is_waiting}
 use Rattle.zw_laws.specs.Lists.{EachAfter, Has, Rises}
 use Rattle.zw_laws.specs.Sessions.{MayBegin}
 use Rattle.zw_laws.specs.Values.{last_given}
+use Rattle.zw_laws.proofs.Having.{has_left, has_right}
 use Rattle.std.specs.FinMap as finmap
 use Rattle.std.specs.Prelude.{Option, unwrap_or}
 use Rattle.value_store.specs.declared.stored.Stored.{Stored}
@@ -29,9 +30,10 @@ use Rattle.host_facts.specs.Entries.{IsAside, entries_at, entries_all}
 use Rattle.host_facts.specs.Laws.{MayAccept, MayCarry, MayEnd, MayStand, HostLaws}
 use Rattle.host_facts.specs.Tables.{outcome_in, nodes_by, recorded}
 use Rattle.host_facts.specs.Facts.{AreAccepted, AreBegun, AreEntered, AreWaiting, IsInOrder, Facts}
-use Rattle.host_facts.proofs.Lists.{all-weaker, each-weaker, rises-left}
+use Rattle.host_facts.proofs.Lists.{each-weaker, rises-left}
 use Rattle.std.proofs.lemmas.Bool.{eq-eqb, eqb-true}
 use Rattle.std.proofs.lemmas.List.Elements.{recursion_from_All}
+use Rattle.list_lemmas.proofs.Each.{all-weaker}
 use Rattle.zw_text.specs.declared.entry.Entry.TheVariants.{Accepted}
 use Rattle.zw_text.specs.Transcript.{where_same}
 use Rattle.host_facts.specs.Laws.{accepted_for, numbers_for}
@@ -197,15 +199,6 @@ first_kept keys host = record {
 -- ---- what follows
 
 -- a command that was accepted for a node is one of its commands
-has_left : {A : Type 0} (xs ys : List A) (x : A) → Has xs x → Has (xs ++ ys) x
-has_left [] ys x has = absurd has
-has_left (y ∷ xs) ys x (inl here) = inl here
-has_left (y ∷ xs) ys x (inr later) = inr (has_left xs ys x later)
-
-has_right : {A : Type 0} (xs ys : List A) (x : A) → Has ys x → Has (xs ++ ys) x
-has_right [] ys x has = has
-has_right (y ∷ xs) ys x has = inr (has_right xs ys x has)
-
 one_or_rest : (c k n m : ℕ) (rest : List ℕ) → Has (where_same c k n ++ rest) m → ((c ≡ k) × (n ≡ m)) ⊎ Has rest m
 one_or_rest c k n m rest has = by (c == k) refl has
   where

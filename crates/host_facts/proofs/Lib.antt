@@ -1,16 +1,16 @@
 pub mod Lists
-mod Commands
-mod Views
+pub mod Commands
+pub mod Views
 mod Owned
 mod Effect
 mod Values
-mod Effects
+pub mod Effects
 mod InOrder
 mod Ending
 mod Waiting
 mod Shown
 mod Stored
-mod Confirmed
+pub mod Confirmed
 mod Standing
 mod Keeping
 mod Restarting

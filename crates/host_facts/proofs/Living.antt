@@ -1,5 +1,5 @@
 -- A host that starts from records has what the one before recorded.
-use Rattle.std.proofs.Common.{◌≡◌, ℕ, zero, suc, Bool, true, false, if◌then◌else◌, List, [], ◌∷◌, ◌++◌, length, map, Option, Some, None, refl, sym, ap, ap₂, subst, ◌∙◌, append_assoc, append-nil}
+use Rattle.std.proofs.Common.{◌≡◌, ℕ, zero, suc, Bool, true, if◌then◌else◌, List, [], ◌∷◌, ◌++◌, length, map, Option, Some, None, refl, sym, ap, ap₂, subst, ◌∙◌, append_assoc, append-nil}
 use Rattle.std.specs.Prelude.{slice_get, option_map}
 use Rattle.std.proofs.lemmas.List.{length-map}
 use Rattle.s0_crypto.specs.declared.key_pair.Keys.{Keys}
@@ -18,6 +18,7 @@ use Rattle.host_events.specs.Facts.{HostFacts}
 use Rattle.host_records.specs.Opening.{opened}
 use Rattle.host_records.specs.Recording.{AllOfJoined}
 use Rattle.host_records.specs.Holding.{Holds, HoldsAlone, taken_as, as_kept, outcome_kept}
+use Rattle.host_records.proofs.Fold.{step_none}
 use Rattle.host_facts.specs.Entries.{entries_all}
 use Rattle.host_facts.specs.Tables.{outcome_by, recorded, taken_at, taken_by}
 use Rattle.host_facts.specs.Facts.{Facts, StartsAs}
@@ -77,11 +78,6 @@ starts_as old new kept f g host =
 
 -- ---- records one after another
 
-legal_parts : (b : Bool) (o : Option ℕ) → (if b then option_map suc o else Some 0) ≡ None → (b ≡ true) × (o ≡ None)
-legal_parts true None e = (refl, refl)
-legal_parts true (Some k) e = cc
-legal_parts false o e = cc
-
 legal_whole : (b : Bool) (o : Option ℕ) → b ≡ true → o ≡ None → (if b then option_map suc o else Some 0) ≡ None
 legal_whole b o e f = ap₂ (λ (c : Bool) (p : Option ℕ). if c then option_map suc p else Some 0) e f
 
@@ -89,7 +85,7 @@ pub legal_both : (kept : Kept) (a b : List Record) → first_illegal kept a ≡ 
 unfolding first_illegal kept_after_all
 legal_both kept [] b first later = later
 legal_both kept (one ∷ a) b first later =
-    let parts = legal_parts (is_legal kept one) (first_illegal (kept_after kept one) a) first in
+    let parts = step_none (is_legal kept one) (first_illegal (kept_after kept one) a) first in
     legal_whole (is_legal kept one) (first_illegal (kept_after kept one) (a ++ b)) parts.0 (legal_both (kept_after kept one) a b parts.1 later)
 
 pub nothing_kept : kept_of [] ≡ first_kept

@@ -3,13 +3,13 @@ use Rattle.std.proofs.Common.{◌≡◌, ℕ, zero, suc, ◌+◌, ◌<◌, List,
 use Rattle.std.specs.Prelude.{slice_get}
 use Rattle.std.specs.List.{AllByRecursion}
 use Rattle.std.proofs.lemmas.List.Elements.{recursion_from_All}
+use Rattle.list_lemmas.proofs.Each.{all-weaker}
 use Rattle.supervision.specs.Host.{open_session, command_at as command_of_session}
 use Rattle.host_node.specs.State.{NodeState}
 use Rattle.host_events.specs.State.{Command, command_at}
 use Rattle.host_events.specs.Sessions.{command_by, open_command}
 use Rattle.host_events.specs.Facts.{IsCommandOf}
 use Rattle.host_facts.specs.Tables.{nodes_by}
-use Rattle.host_facts.proofs.Lists.{all-weaker}
 
 -- ---- commands of nodes
 

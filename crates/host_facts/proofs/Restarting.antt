@@ -10,6 +10,7 @@ use Rattle.zw_laws.specs.Sessions.{IsFinal}
 use Rattle.zw_laws.specs.Values.{last_given}
 use Rattle.value_store.specs.Values.{Values}
 use Rattle.std.proofs.lemmas.List.Elements.{filter_agree}
+use Rattle.list_lemmas.proofs.Each.{all-weaker}
 use Rattle.supervision.specs.Host.{open_session, command_at as command_of_session}
 use Rattle.host_node.specs.State.{NodeState}
 use Rattle.host_node.specs.Steps.{oldest}
@@ -25,7 +26,6 @@ use Rattle.host_facts.specs.Laws.{numbers_for}
 use Rattle.host_facts.specs.Tables.{outcome_in, recorded, taken_at}
 use Rattle.host_facts.specs.Stores.{given_by, IsKnown, AreStored, StoresLaw}
 use Rattle.host_facts.specs.Facts.{AreInOrder, Facts, AreShown, AreTold, StartsAs, Run, AreRuns, entries_of_runs, last_of_runs}
-use Rattle.host_facts.proofs.Lists.{all-weaker}
 use Rattle.host_facts.proofs.Stored.{asked_alike}
 use Rattle.host_facts.proofs.Confirmed.{given_alike, taken_alike}
 use Rattle.host_facts.proofs.Commands.{nodes_alike, final_so, under_way_so, waits_so}

@@ -1,6 +1,7 @@
 -- The entries of each event may stand after those before it.
 use Rattle.std.proofs.Common.{◌≡◌, ℕ, ◌+◌, List, [], ◌∷◌, ◌++◌, length, Option, Some, None, sym, ap, subst, ◌∙◌}
 use Rattle.std.specs.List.{AllByRecursion}
+use Rattle.list_lemmas.proofs.Each.{all-weaker}
 use Rattle.zw_text.specs.declared.entry.Entry.{Entry}
 use Rattle.zw_text.specs.declared.entry.Entry.TheVariants.{Accepted, Begin, Out}
 use Rattle.zw_text.specs.declared.entry.Outcome.TheVariants.{Waiting}
@@ -17,7 +18,7 @@ use Rattle.host_events.specs.Facts.{IsCommandOf}
 use Rattle.host_facts.specs.Laws.{MayStand}
 use Rattle.host_facts.specs.Tables.{outcome_in}
 use Rattle.host_facts.specs.Facts.{AreAccepted, AreBegun, AreEntered, IsInOrder}
-use Rattle.host_facts.proofs.Lists.{each-append, each-anywhere, all-weaker}
+use Rattle.host_facts.proofs.Lists.{each-append, each-anywhere}
 use Rattle.host_facts.proofs.Commands.{waits_so, final_so}
 use Rattle.host_facts.proofs.Views.{IsSilent}
 use Rattle.host_facts.proofs.Owned.{node_found, closed_none}

@@ -2,6 +2,7 @@
 use Rattle.std.proofs.Common.{◌≡◌, ℕ, ◌+◌, ◌<◌, ◌≤◌, List, [], ◌∷◌, ◌++◌, length, Option, Some, None, refl, sym, ap, ap₂, subst, ◌∙◌, arith}
 use Rattle.std.specs.List.{AllByRecursion}
 use Rattle.std.proofs.lemmas.List.{length_push}
+use Rattle.list_lemmas.proofs.Each.{all-append, all-weaker}
 use Rattle.zw_base.specs.declared.property.Setting.{Setting}
 use Rattle.zw_text.specs.declared.entry.Ended.{Ended}
 use Rattle.zw_text.specs.declared.entry.Ended.TheVariants as ended
@@ -30,7 +31,7 @@ use Rattle.host_facts.specs.Entries.{IsAside}
 use Rattle.host_facts.specs.Tables.{taken_at, taken_by}
 use Rattle.host_facts.specs.Stores.{stores_by, stores_at, IsKnown, AreStored}
 use Rattle.host_facts.specs.Facts.{IsInOrder}
-use Rattle.host_facts.proofs.Lists.{all-append, all-weaker, each-append, each-anywhere}
+use Rattle.host_facts.proofs.Lists.{each-append, each-anywhere}
 use Rattle.host_facts.proofs.Commands.{taken_set, taken_pushed, length-outcome}
 use Rattle.host_facts.proofs.Owned.{number_within}
 use Rattle.host_facts.proofs.Effect.{Finishes, Effect, Leaving, Unanswering, Accepting, Cancelling, Beginning, Finishing}

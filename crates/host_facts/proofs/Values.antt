@@ -1,16 +1,15 @@
 -- What values are confirmed once some are reserved, heard or confirmed.
 use Rattle.std.proofs.Common.{◌≡◌, ℕ, ◌<◌, ◌==◌, Bool, true, false, cond, if◌then◌else◌, List, [], ◌∷◌, Option, Some, None, unwrap_or, inl, inr, ◌⊎◌, suc, refl, sym, ap, ap₂, subst, ◌∙◌, true≢false, arith}
 use Rattle.std.specs.List.{AllByRecursion}
-use Rattle.std.specs.Ordering.{eq_by_cmp, is_eq, nat_cmp, ordering_then}
+use Rattle.std.specs.Ordering.{eq_by_cmp, nat_cmp, ordering_then}
 use Rattle.std.proofs.lemmas.Bool.{eq-eqb, le-ltb, lt-ltb}
 use Rattle.zw_laws.specs.Table.{compare_properties}
 use Rattle.host_facts.specs.Stores.{AreSorted}
-use Rattle.std.specs.Cmp.Lexicographic.{slice_cmp}
 use Rattle.std.specs.declared.cmp.Ordering.{Ordering}
 use Rattle.std.specs.declared.cmp.Ordering.TheVariants.{Less, Equal, Greater}
 use Rattle.std.specs.FinMap as finmap
 use Rattle.std.proofs.lemmas.Cmp.{eq_by_cmp_equiv}
-use Rattle.zw_base.specs.PropertyOrder.{rank_of, same_property}
+use Rattle.zw_base.specs.PropertyOrder.{same_property}
 use Rattle.zw_base.specs.declared.property.Name.TheVariants as names
 use Rattle.zw_base.specs.declared.property.Property.{Property}
 use Rattle.zw_base.specs.declared.property.Setting.{Setting}
@@ -19,20 +18,16 @@ use Rattle.zw_order.specs.declared.order.What.TheVariants as what
 use Rattle.zw_order.specs.declared.order.Order.{Order}
 use Rattle.value_store.specs.declared.stored.Stored.{Stored}
 use Rattle.value_store.specs.Values.{Key, Values, key_cmp, no_value, reserving, stored_of}
-use Rattle.value_store.proofs.Keys.{key_exact, key_total, property_exact, same_property_laws}
+use Rattle.value_store.proofs.Keys.{key_exact, key_total, same_property_laws}
 use Rattle.host_orders.specs.Settings.{config_settings, settings, settings_by}
 use Rattle.host_orders.specs.declared.actuator.Actuator.{Actuator}
 use Rattle.host_orders.specs.declared.actuator.Actuator.TheVariants.{Binary, Multilevel, Lock}
 use Rattle.host_keep.specs.Kept.{or_else, value_among}
 use Rattle.host_events.specs.After.{confirming, hearing}
 use Rattle.host_facts.proofs.Effect.{SameConfirmed}
+use Rattle.host_records.proofs.Values.{one_property, tie}
 
 -- ---- equal keys and properties
-
-equal_so : (o : Ordering) → is_eq o ≡ true → o ≡ Equal
-equal_so Less e = cc
-equal_so Equal e = refl
-equal_so Greater e = cc
 
 by_test : (b : Bool) (P : Type 0) → (b ≡ true → P) → (P → b ≡ true) → P ⊎ (P → ⊥)
 by_test true P yes_is from = inl (yes_is refl)
@@ -40,7 +35,7 @@ by_test false P yes_is from = inr (λ p. true≢false (sym (from p)))
 
 pub cases_key : (a b : Key) → (a ≡ b) ⊎ (a ≡ b → ⊥)
 cases_key a b =
-    by_test (eq_by_cmp key_cmp a b) (a ≡ b) (λ e. key_exact a b (equal_so (key_cmp a b) e))
+    by_test (eq_by_cmp key_cmp a b) (a ≡ b) (λ e. key_exact a b (tie (key_cmp a b) e))
     (λ e. subst (λ (k : Key). eq_by_cmp key_cmp a k ≡ true) e ((eq_by_cmp_equiv key_total).refl a))
 
 key_found : (a b : Key) → a ≡ b → eq_by_cmp key_cmp a b ≡ true
@@ -51,13 +46,10 @@ no_key true P yes_is not = absurd (not (yes_is refl))
 no_key false P yes_is not = refl
 
 key_other : (a b : Key) → (a ≡ b → ⊥) → eq_by_cmp key_cmp a b ≡ false
-key_other a b other = no_key (eq_by_cmp key_cmp a b) (a ≡ b) (λ e. key_exact a b (equal_so (key_cmp a b) e)) other
-
-pub property_same : (a b : Property) → same_property a b ≡ true → a ≡ b
-property_same a b e = property_exact a b (equal_so (slice_cmp nat_cmp (rank_of a) (rank_of b)) e)
+key_other a b other = no_key (eq_by_cmp key_cmp a b) (a ≡ b) (λ e. key_exact a b (tie (key_cmp a b) e)) other
 
 pub property_other : (a b : Property) → (a ≡ b → ⊥) → same_property a b ≡ false
-property_other a b other = no_key (same_property a b) (a ≡ b) (property_same a b) other
+property_other a b other = no_key (same_property a b) (a ≡ b) (one_property a b) other
 
 -- ---- one insert
 
@@ -112,7 +104,7 @@ confirming_here store n (s ∷ more) p distinct =
     let v : Stored = record (stored_of store n s.property) { confirmed = Some s.value } in
     let store' = finmap.insert store (n, s.property) v in
     confirming_here store' n more p distinct.1
-    ∙ elim (by_test (same_property s.property p) (s.property ≡ p) (property_same s.property p) (λ e. subst (λ (q : Property). same_property s.property q ≡ true) e (same_property_laws.refl s.property))) [
+    ∙ elim (by_test (same_property s.property p) (s.property ≡ p) (one_property s.property p) (λ e. subst (λ (q : Property). same_property s.property q ≡ true) e (same_property_laws.refl s.property))) [
       | inl same ↦
           ap₂ (λ (a b : Option ℕ). or_else a b)
           (none_among more p (subst (λ (q : Property). AllByRecursion (λ t. t.property ≡ q → ⊥) more) same distinct.0))

@@ -81,7 +81,7 @@ module _ (T es : List Entry) (all : AllByRecursion IsSilent es) where
       (shown-none (carried_at number) T es (none_shown (carried_at number) (silent_carried number) es all))
       (shown-none (ended_at number) T es (none_shown (ended_at number) (silent_endings number) es all))
 
-last_is : (o : Outcome) (es : List Ended) (e : Ended) → last_outcome o (es ++ e ∷ []) ≡ outcome_of e
+pub last_is : (o : Outcome) (es : List Ended) (e : Ended) → last_outcome o (es ++ e ∷ []) ≡ outcome_of e
 last_is o [] e = refl
 last_is o (first ∷ es) e = last_is (outcome_of first) es e
 

@@ -4,6 +4,7 @@ use Rattle.std.specs.Prelude.{filter, not}
 use Rattle.std.specs.List.{AllByRecursion}
 use Rattle.std.proofs.lemmas.Bool.{cases_eq, eq-eqb, ne_eqb, eqb-true}
 use Rattle.std.proofs.lemmas.List.Elements.{filter_agree, filter-append}
+use Rattle.list_lemmas.proofs.Each.{all-append}
 use Rattle.zw_text.specs.declared.entry.Entry.{Entry}
 use Rattle.zw_text.specs.declared.entry.Entry.TheVariants.{Accepted, Begin, Out}
 use Rattle.zw_text.specs.declared.entry.Ended.TheVariants as ended
@@ -28,7 +29,7 @@ use Rattle.host_events.specs.Facts.{IsCommandOf, OwnsCommands}
 use Rattle.host_facts.specs.Laws.{numbers_for, waiting_for}
 use Rattle.host_facts.specs.Tables.{outcome_in, recorded}
 use Rattle.host_facts.specs.Facts.{AreEntered, AreWaiting, IsInOrder}
-use Rattle.host_facts.proofs.Lists.{rises-right, all-append}
+use Rattle.host_facts.proofs.Lists.{rises-right}
 use Rattle.host_facts.proofs.Commands.{outcome_other, outcome_same, outcome_pushed, outcome_past}
 use Rattle.host_facts.proofs.Views.{IsSilent, for-silent, for-ended, for-begun, for-accepted, for-accepted_other}
 use Rattle.host_facts.proofs.Owned.{apart}

@@ -4,7 +4,6 @@ use Rattle.host_keep.specs.declared.record.Record.{Record}
 use Rattle.host_keep.specs.declared.record.Record.TheVariants.{Accepted, Begun, Final, Given}
 use Rattle.host_keep.specs.Legal.{is_first}
 use Rattle.supervision.specs.Host.{begun_of, open_session, command_at as command_of_session}
-use Rattle.host_records.specs.Restoring.{is_session}
 use Rattle.host_events.specs.State.{HostState, node_of}
 use Rattle.host_events.specs.Facts.{HostFacts}
 use Rattle.host_events.specs.Asking.{refusal_for}
@@ -62,13 +61,6 @@ may_give_says h n given nonce e =
     inside live f = cc
 
 -- ---- a session that ends
-
-pub open_is_session : (o : Option ℕ) (session : ℕ) → o ≡ Some session → is_session o session ≡ true
-open_is_session None session e = cc
-open_is_session (Some current) session e = eq-eqb session current (same e)
-  where
-    same : Some current ≡ Some session → session ≡ current
-    same f = cc
 
 pub final_kept : ((h : HostState) (one : Record) → HostFacts h → may_restore h one ≡ true → HostFacts (restored h one)) → (h : HostState) (n session command : ℕ) (status : FinalStatus) → HostFacts h → may_restore h (Final n session status) ≡ true
     → command_of_session (node_of h n).book.commands session ≡ Some command → HostFacts (finishing h n (wire_id session) command status)

@@ -1,7 +1,7 @@
 -- Which commands wait, by a test and by a fact.
-use Rattle.std.proofs.Common.{◌≡◌, ℕ, suc, ◌==◌, ◌||◌, Bool, true, false, List, [], ◌∷◌, get_or, Option, Some, None, refl, arith}
+use Rattle.std.proofs.Common.{◌≡◌, ℕ, ◌==◌, ◌||◌, Bool, true, false, List, [], ◌∷◌, get_or, Option, Some, None, refl}
 use Rattle.std.specs.Prelude.{Contains}
-use Rattle.std.proofs.lemmas.Bool.{eqb-true, eq-eqb}
+use Rattle.std.proofs.lemmas.Bool.{eq-eqb}
 use Rattle.std.proofs.lemmas.List.Elements.{All-contains}
 use Rattle.std.proofs.lemmas.List.Folds.{list_any_at}
 use Rattle.host_keep.specs.Kept.{is_among}
@@ -10,17 +10,10 @@ use Rattle.host_events.specs.State.{HostState, Command, node_of, command_at}
 use Rattle.host_events.specs.After.{node_for}
 use Rattle.host_events.specs.Facts.{HostFacts, IsCommandOf}
 use Rattle.host_records.specs.Restoring.{may_restore}
+use Rattle.host_records.proofs.RestoredFacts.{from_among}
 
 contained : (l : List ℕ) (number : ℕ) → Contains l number → is_among l number ≡ true
 contained l number c = list_any_at (λ other. other == number) l c.0 number c.1 (eq-eqb (get_or l c.0 number) number c.2)
-
-from_among : (l : List ℕ) (number : ℕ) → is_among l number ≡ true → Contains l number
-from_among [] number e = cc
-from_among (first ∷ rest) number e = by (first == number) refl e (from_among rest number)
-  where
-    by : (b : Bool) → (first == number) ≡ b → (b || is_among rest number) ≡ true → (is_among rest number ≡ true → Contains rest number) → Contains (first ∷ rest) number
-    by true f g later = (0, omega arith, eqb-true first number f)
-    by false f g later = let c = later g in (suc c.0, omega (arith, c.1), c.2)
 
 -- a command that waits may be cancelled
 pub may_be_cancelled : (h : HostState) (command : ℕ) → Contains (node_of h (node_for h command)).waiting command → may_restore h (Cancelled command) ≡ true

@@ -17,7 +17,7 @@ confirmed_in-push commands (first ∷ rest) command p =
 abbrev pub last_value : List Taken → FinalStatus → ℕ → Property → Option ℕ
 last_value commands status command p = value_ended (Some status) (value_by (command_of commands command) p)
 
-either_first : (a b c : Option ℕ) → or_else (or_else a b) c ≡ or_else a (or_else b c)
+pub either_first : (a b c : Option ℕ) → or_else (or_else a b) c ≡ or_else a (or_else b c)
 either_first None b c = refl
 either_first (Some v) b c = refl
 

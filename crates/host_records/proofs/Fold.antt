@@ -29,11 +29,11 @@ unfolding restored_all
 restored_all-append h [] more = refl
 restored_all-append h (one ∷ records) more = restored_all-append (restored h one) records more
 
-none_of : (o : Option ℕ) → option_map suc o ≡ None → o ≡ None
+pub none_of : (o : Option ℕ) → option_map suc o ≡ None → o ≡ None
 none_of None e = refl
 none_of (Some n) e = cc
 
-step_none : (b : Bool) (rest : Option ℕ) → (if b then option_map suc rest else Some 0) ≡ None → (b ≡ true) × (rest ≡ None)
+pub step_none : (b : Bool) (rest : Option ℕ) → (if b then option_map suc rest else Some 0) ≡ None → (b ≡ true) × (rest ≡ None)
 step_none true rest e = (refl, none_of rest e)
 step_none false rest e = absurd cc
 

@@ -4,11 +4,11 @@ mod Opened
 mod Places
 mod Numbered
 mod Outcomes
-mod Values
+pub mod Values
 mod Once
-mod Confirmed
+pub mod Confirmed
 mod Counts
-mod Going
+pub mod Going
 mod Removed
 mod Steps
 mod Begun
@@ -18,10 +18,10 @@ mod Taken
 mod Events
 mod AllEvents
 mod Beginning
-mod Tests
+pub mod Tests
 mod Restarted
-mod RestoredFacts
+pub mod RestoredFacts
 mod Restores
 mod Legal
-mod Fold
-mod Recorded
+pub mod Fold
+pub mod Recorded

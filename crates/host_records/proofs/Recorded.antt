@@ -36,6 +36,7 @@ use Rattle.host_records.proofs.Outcomes.{apart_is}
 use Rattle.host_records.proofs.Legal.{same_known, same_count, fewer_kept, NoOrder, others_test}
 use Rattle.host_records.proofs.Events.{contained}
 use Rattle.host_records.proofs.Tests.{unrefused_so}
+use Rattle.host_records.proofs.Fold.{step_none}
 
 -- ---- one record
 
@@ -79,7 +80,7 @@ accepts_legal h kept order carriage may x =
     (eq-eqb (length h.commands + 1) (length kept.commands + 1) (ap (λ (k : ℕ). k + 1) (same_count h kept x)))
     (is_nothing (refusal_of known (kept_properties_with kept order) order) (unrefused_so known (kept_properties_with kept order) order unrefused (omega (arith, few, fewer))))
 
-opened_so : (o : Option ℕ) (session : ℕ) → o ≡ Some session → is_session o session ≡ true
+pub opened_so : (o : Option ℕ) (session : ℕ) → o ≡ Some session → is_session o session ≡ true
 opened_so None session e = cc
 opened_so (Some current) session e = eq-eqb session current (same e)
   where
@@ -148,19 +149,11 @@ legal_by h kept event may so x = refl
 
 -- ---- and of events one after another
 
-none_more : (o : Option ℕ) → option_map suc o ≡ None → o ≡ None
-none_more None e = refl
-none_more (Some n) e = cc
-
-steps : (b : Bool) (rest : Option ℕ) → (if b then option_map suc rest else Some 0) ≡ None → (b ≡ true) × (rest ≡ None)
-steps true rest e = (refl, none_more rest e)
-steps false rest e = absurd cc
-
 legal-append : (kept : Kept) (records more : List Record) → first_illegal kept records ≡ None → first_illegal (kept_after_all kept records) more ≡ None → first_illegal kept (records ++ more) ≡ None
 unfolding first_illegal kept_after_all
 legal-append kept [] more e f = f
 legal-append kept (one ∷ records) more e f =
-    let both = steps (is_legal kept one) (first_illegal (kept_after kept one) records) e in
+    let both = step_none (is_legal kept one) (first_illegal (kept_after kept one) records) e in
     ap (λ (b : Bool). if b then option_map suc (first_illegal (kept_after kept one) (records ++ more)) else Some 0) both.0
     ∙ ap (λ (o : Option ℕ). option_map suc o) (legal-append (kept_after kept one) records more both.1 f)
 

@@ -1,15 +1,14 @@
 -- A host that takes up a record keeps its facts.
-use Rattle.std.proofs.Common.{◌≡◌, ℕ, zero, suc, ◌+◌, ◌<◌, ◌==◌, ◌||◌, Bool, true, false, not, is_none, unwrap_or, List, [], ◌∷◌, length, drop, get_or, Option, Some, None, option_map, All, ◌⊎◌, inl, inr, refl, sym, ap, ◌∙◌, subst, arith}
+use Rattle.std.proofs.Common.{◌≡◌, ℕ, suc, ◌+◌, ◌<◌, ◌==◌, ◌||◌, Bool, true, false, not, is_none, unwrap_or, List, [], ◌∷◌, length, drop, get_or, Option, Some, None, option_map, ◌⊎◌, inl, inr, refl, sym, ap, ◌∙◌, subst, arith}
 use Rattle.std.specs.Prelude.{Contains}
 use Rattle.std.proofs.lemmas.Bool.{cases_eq, eqb-true, eq-eqb}
 use Rattle.std.proofs.lemmas.List.{length-set}
-use Rattle.std.proofs.lemmas.List.Elements.{All-cons, All-head, All-tail, All-push, All-drop, All-weaker, All-get_or}
+use Rattle.std.proofs.lemmas.List.Elements.{All-push, All-drop, All-weaker, All-get_or}
 use Rattle.zw_order.specs.declared.order.Order.{Order}
 use Rattle.zw_text.specs.declared.entry.Outcome.{Outcome}
 use Rattle.zw_text.specs.declared.entry.Outcome.TheVariants as outcome
 use Rattle.supervision.specs.Host.{open_session, begun_of}
 use Rattle.supervision.specs.Session.{wire_id}
-use Rattle.value_store.specs.Values.{Values}
 use Rattle.host_orders.specs.Refusals.{refusal_of}
 use Rattle.host_orders.specs.Wrapping.{carriage_of, form_of, message_of}
 use Rattle.host_orders.specs.declared.carriage.Carriage.{Carriage}
@@ -22,17 +21,21 @@ use Rattle.host_keep.specs.Kept.{is_among}
 use Rattle.host_keep.specs.Legal.{is_first}
 use Rattle.host_keep.specs.declared.record.Record.{Record}
 use Rattle.host_keep.specs.declared.record.Record.TheVariants.{Accepted, Joined, Classes, Begun, Final, Cancelled, Given, Spent, Seen}
-use Rattle.host_events.specs.State.{HostState, Command, node_of, command_at, set_at, with_outcome}
+use Rattle.host_events.specs.State.{HostState, Command, node_of, command_at, with_outcome}
 use Rattle.host_events.specs.Sessions.{segment_count}
 use Rattle.host_events.specs.After.{after, node_does, node_for}
 use Rattle.host_events.specs.Events.{HostEvent, Accepts, Cancels, Joins, Finishes, Spends}
 use Rattle.host_events.specs.May.{May, known_of}
-use Rattle.host_events.specs.Facts.{HostFacts, IsSound, IsCommandOf, HasSegments, OwnsCommands}
+use Rattle.host_events.specs.Facts.{HostFacts, IsCommandOf, HasSegments, OwnsCommands}
+use Rattle.host_events.proofs.Numbered.{outcome_sound}
+use Rattle.host_events.proofs.Owning.{none_left}
 use Rattle.host_records.specs.Restoring.{restored, may_restore, carriage_for, properties_with, ending}
 use Rattle.host_records.proofs.Going.{told_session}
 use Rattle.host_records.proofs.Places.{one_set}
 use Rattle.host_records.proofs.Numbered.{changed, with_same, with_other}
-use Rattle.host_records.proofs.Tests.{both_true, all_true, not_true, is_nothing, unrefused_is, first_is, session_is, open_command_is}
+use Rattle.host_events.proofs.Accepted.{not_so}
+use Rattle.host_events.proofs.Pumps.{none_of}
+use Rattle.host_records.proofs.Tests.{both_true, all_true, unrefused_is, first_is, session_is, open_command_is}
 
 -- ---- one command has another outcome
 
@@ -82,18 +85,6 @@ owns_still commands which what n state owns = record {
   text = owns.text;
 }
 
-set_sound : (store : Values) (commands : List Command) (at : ℕ) (what : Outcome) → All (IsSound store) commands → All (IsSound store) (set_at commands at what)
-set_sound store [] at what all = all
-set_sound store (first ∷ rest) zero what all =
-    let s : IsSound store first = All-head (IsSound store) first rest all in
-    All-cons (IsSound store) (record first { outcome = what }) rest (record { fit = s.fit; form = s.form; kept = s.kept }) (All-tail (IsSound store) first rest all)
-set_sound store (first ∷ rest) (suc at) what all =
-    All-cons (IsSound store) first (set_at rest at what) (All-head (IsSound store) first rest all) (set_sound store rest at what (All-tail (IsSound store) first rest all))
-
-sound_still : (store : Values) (commands : List Command) (number : ℕ) (what : Outcome) → All (IsSound store) commands → All (IsSound store) (with_outcome commands number what)
-sound_still store commands zero what all = all
-sound_still store commands (suc at) what all = set_sound store commands at what all
-
 -- ---- nodes
 
 same_owns : (commands : List Command) (m : ℕ) (state : NodeState) (listens : Bool) (classes : Option (List ℕ)) (seen : ℕ) → OwnsCommands commands m state
@@ -108,17 +99,11 @@ same_owns commands m state listens classes seen o = record {
   text = o.text;
 }
 
-no_segments : (commands : List Command) (state : NodeState) → open_session state.book ≡ None → (state.segments ≡ 0) ⊎ HasSegments commands state → state.segments ≡ 0
-no_segments commands state closed one = elim one [ inl none ↦ none | inr has ↦ never (open_session state.book) closed has.opened ]
-  where
-    never : {X : Type 0} {session : ℕ} (o : Option ℕ) → o ≡ None → o ≡ Some session → X
-    never o e f = cc
-
 begun_owns : (commands : List Command) (n : ℕ) (state : NodeState) → 0 < length state.waiting → open_session state.book ≡ None → OwnsCommands commands n state → OwnsCommands commands n (after_node state node_begins)
 begun_owns commands n state some closed o = record {
   waiting = All-drop (IsCommandOf commands n) 1 state.waiting o.waiting;
   sessions = All-push (IsCommandOf commands n) state.book.commands (get_or state.waiting 0 0) o.sessions (All-get_or (IsCommandOf commands n) state.waiting 0 0 some o.waiting);
-  segments = inl (no_segments commands state closed o.segments);
+  segments = inl (none_left commands state closed o.segments);
   text = o.text;
 }
 
@@ -150,7 +135,7 @@ module _ (each : (h : HostState) (event : HostEvent) → HostFacts h → May h e
       let g = node_restored h n node_begins (some, closed) (begun_owns h.commands n (node_of h n) some closed (f.owns n)) f in
       record {
         nodes = g.nodes;
-        commands = sound_still h.store h.commands command outcome.Begun g.commands;
+        commands = outcome_sound h.store h.commands command outcome.Begun g.commands;
         owns = λ m. owns_still h.commands command outcome.Begun m (node_of (node_does h n node_begins) m) (g.owns m);
         nonces = g.nonces;
         served = g.served;
@@ -159,7 +144,7 @@ module _ (each : (h : HostState) (event : HostEvent) → HostFacts h → May h e
   pub restored_facts : (h : HostState) (one : Record) → HostFacts h → may_restore h one ≡ true → HostFacts (restored h one)
   restored_facts h (Accepted command order) f e =
       let both = both_true (command == length h.commands + 1) (is_none (refusal_of (known_of (node_of h order.node)) (properties_with h order) order)) e in
-      let u = unrefused_is (known_of (node_of h order.node)) (properties_with h order) order (is_nothing (refusal_of (known_of (node_of h order.node)) (properties_with h order) order) both.1) in
+      let u = unrefused_is (known_of (node_of h order.node)) (properties_with h order) order (none_of (refusal_of (known_of (node_of h order.node)) (properties_with h order) order) both.1) in
       each h (Accepts order (carriage_for h order)) f (record {
         unrefused = u.unrefused;
         classes = u.classes;
@@ -169,7 +154,7 @@ module _ (each : (h : HostState) (event : HostEvent) → HostFacts h → May h e
       })
   restored_facts h (Joined n) f e =
       let both = both_true (not (node_of h n).joined) (not (n == 1)) e in
-      each h (Joins n) f (not_true (node_of h n).joined both.0, apart (not_true (n == 1) both.1))
+      each h (Joins n) f (not_so (node_of h n).joined both.0, apart (not_so (n == 1) both.1))
     where
       apart : (n == 1) ≡ false → n ≡ 1 → ⊥
       apart not_one same = let one = eq-eqb n 1 same in cc
@@ -177,7 +162,7 @@ module _ (each : (h : HostState) (event : HostEvent) → HostFacts h → May h e
       node_restored h n (node_interviews listens classes) tt (same_owns h.commands n (node_of h n) listens (Some classes) (node_of h n).seen (f.owns n)) f
   restored_facts h (Begun n session command) f e =
       let all = all_true (session == begun_of (node_of h n).book + 1) (is_none (open_session (node_of h n).book)) (is_first (node_of h n).waiting command) e in
-      begun_facts h n session command all.2 (is_nothing (open_session (node_of h n).book) all.1) f
+      begun_facts h n session command all.2 (none_of (open_session (node_of h n).book) all.1) f
   restored_facts h (Final n session status) f e =
       let opened = session_is (open_session (node_of h n).book) session e in
       let there = open_command_is (node_of h n).book session opened in

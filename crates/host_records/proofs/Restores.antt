@@ -39,7 +39,8 @@ use Rattle.host_records.proofs.Finished.{finished, finished_outcomes, reserved_n
 use Rattle.host_records.proofs.Taken.{taken_outcomes, taken_alone, waiting_as}
 use Rattle.host_records.proofs.Events.{session_owned, classes_are, listed_within, spent, accepted}
 use Rattle.host_records.proofs.RestoredFacts.{from_among}
-use Rattle.host_records.proofs.Tests.{both_true, all_true, is_nothing, unrefused_is, first_is, session_is, open_command_is}
+use Rattle.host_events.proofs.Pumps.{none_of}
+use Rattle.host_records.proofs.Tests.{both_true, all_true, unrefused_is, first_is, session_is, open_command_is}
 
 abbrev same : Outcome → Outcome
 same what = what
@@ -131,7 +132,7 @@ module _ (others : (n : NodeState) (event : NodeEvent) → is_recorded n event �
   pub restored_alone : (h : HostState) (kept : Kept) (one : Record) → HostFacts h → may_restore h one ≡ true → HoldsAlone h kept → HoldsAlone (restored h one) (kept_after kept one)
   restored_alone h kept (Accepted command order) f e x =
       let both = both_true (command == length h.commands + 1) (is_none (refusal_of (known_of (node_of h order.node)) (properties_with h order) order)) e in
-      let u = unrefused_is (known_of (node_of h order.node)) (properties_with h order) order (is_nothing (refusal_of (known_of (node_of h order.node)) (properties_with h order) order) both.1) in
+      let u = unrefused_is (known_of (node_of h order.node)) (properties_with h order) order (none_of (refusal_of (known_of (node_of h order.node)) (properties_with h order) order) both.1) in
       subst (λ (number : ℕ). HoldsAlone (accepting h order (carriage_for h order)) (taking kept number order)) (sym (eqb-true command (length h.commands + 1) both.0))
       (accepted_alone h kept order u.classes u.listed (ap (λ (o : Option (List ℕ)). carriage_of (unwrap_or o []) order) u.listed) f.owns x)
   restored_alone h kept (Joined n) f e x =

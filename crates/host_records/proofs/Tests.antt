@@ -1,5 +1,5 @@
 -- What the tests by which a record may be taken up say.
-use Rattle.std.proofs.Common.{◌≡◌, ℕ, zero, suc, ◌≤◌, ◌&&◌, nat_lt, Bool, true, false, not, if◌then◌else◌, is_some, is_none, List, [], ◌∷◌, length, drop, Option, Some, None, refl, sym, ap, ◌∙◌, arith}
+use Rattle.std.proofs.Common.{◌≡◌, ℕ, zero, suc, ◌≤◌, ◌&&◌, nat_lt, Bool, true, false, if◌then◌else◌, is_some, List, [], ◌∷◌, length, drop, Option, Some, None, refl, sym, ap, ◌∙◌, arith}
 use Rattle.std.specs.Prelude.{slice_get}
 use Rattle.std.proofs.lemmas.Bool.{eqb-true}
 use Rattle.std.proofs.lemmas.Bool.Decides.{nat_tests}
@@ -24,14 +24,6 @@ all_true false true true e = absurd cc
 all_true false true false e = absurd cc
 all_true false false true e = absurd cc
 all_true false false false e = absurd cc
-
-pub not_true : (b : Bool) → not b ≡ true → b ≡ false
-not_true true e = cc
-not_true false e = refl
-
-pub is_nothing : {X : Type 0} (o : Option X) → is_none o ≡ true → o ≡ None
-is_nothing None e = refl
-is_nothing (Some x) e = cc
 
 pub is_there : {X : Type 0} (o : Option X) → is_some o ≡ true → (x : X) × (o ≡ Some x)
 is_there None e = absurd cc

@@ -26,7 +26,7 @@ pub same_key : (n m : ℕ) (p q : Property) → is_eq (key_cmp (n, p) (m, q)) �
 unfolding key_cmp
 same_key n m p q = same_and n m (slice_cmp nat_cmp (rank_of p) (rank_of q))
 
-tie : (o : Ordering) → is_eq o ≡ true → o ≡ Equal
+pub tie : (o : Ordering) → is_eq o ≡ true → o ≡ Equal
 tie Less h = cc
 tie Equal h = refl
 tie Greater h = cc

@@ -1,5 +1,5 @@
 -- What an answer that came says.
-use Rattle.std.proofs.Common.{◌≡◌, sym, ap, ◌∙◌}
+use Rattle.std.proofs.Common.{◌≡◌, sym, ◌∙◌}
 use Rattle.std.specs.Prelude.{Option, Some, None, Result, Ok, Err, IsOk, OnOk}
 use Rattle.std.specs.Option.{SomeIff}
 
@@ -12,8 +12,3 @@ on_ok (Err fault) P is promised = cc
 pub some_is : {A : Type 0} (o : Option A) (P : Type 0) (v x : A) → SomeIff o P v → o ≡ Some x → x ≡ v
 some_is None P v x known found = cc
 some_is (Some y) P v x known found = let same : y ≡ x = cc in sym same ∙ known.1
-
--- and a Some that stands where a condition holds is there where it does
-pub some_there : {A : Type 0} (o : Option A) (P : Type 0) (v : A) → SomeIff o P v → P → o ≡ Some v
-some_there None P v known holds = absurd (known holds)
-some_there (Some x) P v known holds = ap Some known.1

@@ -30,12 +30,6 @@ same_facts a b f nodes commands nonces store served = record {
 pub kept : Keeps → (mine was : HostParts) (new : HostState) (e : HostEvent) → mine ≡ was → HostFacts mine.state → May was.state e → (after mine.state e).nodes ≡ new.nodes → (after mine.state e).commands ≡ new.commands → (after mine.state e).nonces ≡ new.nonces → (after mine.state e).store ≡ new.store → (after mine.state e).served ≡ new.served → HostFacts new
 kept keeps mine was new e view f may = same_facts (after mine.state e) new (keeps mine.state e f (subst (λ (s : HostParts). May s.state e) (sym view) may))
 
--- the same where the host after the event is first said otherwise
-pub kept_as : Keeps → (mine was : HostParts) (same new : HostState) (e : HostEvent) → mine ≡ was → HostFacts mine.state → May was.state e → after mine.state e ≡ same
-    → same.nodes ≡ new.nodes → same.commands ≡ new.commands → same.nonces ≡ new.nonces → same.store ≡ new.store → same.served ≡ new.served → HostFacts new
-kept_as keeps mine was same new e view f may is =
-    same_facts same new (subst (λ (h : HostState). HostFacts h) is (keeps mine.state e f (subst (λ (s : HostParts). May s.state e) (sym view) may)))
-
 -- the whole host after an event, where the rest of it is so
 pub whole_is : (mine was : HostParts) (new : HostState) (e : HostEvent) → mine ≡ was → new ≡ after mine.state e
     → (let p : HostParts = record mine { state = new } in p ≡ record was { state = after was.state e })

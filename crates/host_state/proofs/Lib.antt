@@ -1,11 +1,6 @@
 pub mod Kept
-pub mod Ending
-pub mod Outcomes
+pub mod Done
+pub mod Finished
 pub mod Found
 pub mod Answered
-pub mod Starting
-pub mod Cut
 pub mod First
-pub mod Front
-pub mod Judged
-pub mod Restarted

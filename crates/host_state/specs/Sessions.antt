@@ -4,7 +4,7 @@ use Rattle.supervision.specs.Host.{open_session, command_at as command_of_sessio
 use Rattle.host_node.specs.Events.{FitsPlan}
 use Rattle.host_events.specs.State.{HostState, Command, node_of, command_at}
 use Rattle.host_events.specs.May.{IsStart}
-use Rattle.host_state.specs.declared.sessions.Start.{Start}
+use Rattle.host_effects.specs.declared.starts.Start.{Start}
 
 -- the command of a number, where there is one
 abbrev pub command_in : HostState → Option ℕ → Option Command

@@ -9,18 +9,15 @@ ghost use Rattle.host_node.specs.Events.NodeEvent.{Joins, Interviews, Restores_s
 ghost use Rattle.host_requests.specs.Events.RequestsEvent.{Updates};
 ghost use Rattle.host_events.specs.State.{HostState, node_of, command_at};
 ghost use Rattle.host_events.specs.Sessions.{settings_with};
-ghost use Rattle.host_events.specs.After.{node_does, requests_do, confirming, finishing, holding, giving, outcome_of, spending};
+ghost use Rattle.host_events.specs.After.{node_does, requests_do, finishing, holding, giving, spending};
 ghost use Rattle.host_events.specs.Facts.{HostFacts};
 ghost use Rattle.host_records.specs.Restoring.{given_again};
 ghost use Rattle.host_state.specs.Changes.{beginning, cancelling};
 
 use crate::Core;
-use crate::command::set_outcome;
 use chip_functions::Update;
+use host_effects::{confirm, hold, outcome_of, set_outcome};
 use host_keep::FinalStatus;
-use host_nodes::Nodes;
-use host_orders::settings;
-use value_store::Store;
 use zw_base::{Bytes, List, NoMemory, NodeId, Payload, Setting};
 use zw_text::Outcome;
 
@@ -79,9 +76,7 @@ impl Core {
         ensures { IfOk result (λ made. made.items ≡ settings_with status (command_at self.now.state.commands command)) }
     {
         match (status, self.command_at(command)) {
-            (FinalStatus::Success, Some(found)) => {
-                settings(self.alloc, found.carriage.actuator, &found.order)
-            }
+            (FinalStatus::Success, Some(found)) => { found.settings(self.alloc) }
             (FinalStatus::Success, None) | (FinalStatus::NoSupport, _) | (FinalStatus::Fail, _) => {
                 Ok(List::new(self.alloc))
             }
@@ -163,36 +158,5 @@ impl Core {
         ensures { self.new ≡ record self.old { state = node_does self.old.state node (Restores_seen seen) } }
     {
         self.nodes.restore_seen(node, seen);
-    }
-}
-
-// Values of a node are confirmed.
-fn confirm(store: &mut Store, node: NodeId, confirmed: &[Setting])
-    requires { AllByRecursion (λ setting. IsReserved store.old node setting.property) confirmed.now }
-    ensures { store.new ≡ confirming store.old node confirmed.now }
-{
-    if let [setting, more @ ..] = confirmed {
-        store.confirm(node, setting.property, setting.value);
-        confirm(store, node, more);
-    }
-}
-
-// A node is held awake, where it is to be.
-fn hold(nodes: &mut Nodes, node: NodeId, is_held: bool)
-    ensures { (h : HostState) → record h { nodes = nodes.new } ≡ holding (record h { nodes = nodes.old }) node is_held }
-{
-    if is_held {
-        nodes.hold(node);
-    }
-}
-
-// What a final status is to its command.
-fn outcome_of(status: FinalStatus) -> Outcome
-    ensures { result ≡ outcome_of status }
-{
-    match status {
-        FinalStatus::NoSupport => Outcome::NoSupport,
-        FinalStatus::Fail => Outcome::Fail,
-        FinalStatus::Success => Outcome::Success,
     }
 }

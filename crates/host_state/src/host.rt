@@ -11,7 +11,7 @@ ghost use Rattle.host_events.specs.State.{first_host, node_of, command_at as the
 ghost use Rattle.host_events.specs.After.{is_busy as busy, is_full as full};
 ghost use Rattle.host_events.specs.Facts.{HostFacts};
 
-use crate::Command;
+use host_effects::{Command, is_busy};
 use host_events::facts_are_kept;
 use host_node::Node;
 use host_nodes::Nodes;
@@ -236,11 +236,4 @@ impl Core {
     {
         self.link.next_item(piece)
     }
-}
-
-/// True while the frame of the link's own is neither acknowledged nor given up.
-pub(crate) fn is_busy(link: &Link) -> bool
-    ensures { result ≡ busy link.now.side.turn }
-{
-    link.is_busy()
 }

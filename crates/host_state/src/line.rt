@@ -1,19 +1,20 @@
 //! What the line brings: an item that is judged, and what the request under way makes of it.
 
-ghost use Rattle.std.specs.Prelude.{◌≡◌, ◌++◌, ◌≤◌, OnOk, OnErr};
+ghost use Rattle.std.specs.Prelude.{◌≡◌, ◌++◌, OnOk, OnErr};
 ghost use Rattle.host_requests.specs.Events.RequestsEvent.{IsSent, Fails, Responds, CallsBack, Updates, Ticks};
 ghost use Rattle.host_node.specs.declared.attempt.Moment.TheVariants.{BetweenTicks, BeforeItsTick};
 ghost use Rattle.host_events.specs.Events.{Hears, Requests_do};
 ghost use Rattle.host_events.specs.After.{after};
-ghost use Rattle.host_events.specs.Outs.{outs, answer_to};
+ghost use Rattle.host_events.specs.Outs.{outs};
+ghost use Rattle.host_effects.specs.Heard.{heard_as};
 
 use crate::Core;
-use crate::ends::{MOST_ENTRIES, end_request, nodes_in};
 use chip_functions::{Response, TransmitStatus, Update};
+use host_effects::{Heard, answer, request_hears};
 use host_events::{HostOut, facts_are_kept};
 use host_node::Moment;
-use serial_frame::{Item, Refusal, Unit};
-use zw_base::{List, NoMemory, Sequence};
+use serial_frame::Item;
+use zw_base::{List, NoMemory};
 
 impl Core {
     /// An item of the chip is judged: a unit answers it where one is due.
@@ -34,19 +35,7 @@ impl Core {
         ensures outs { OnOk result (out.new.items ≡ out.old.items ++ outs self.old.state (Requests_do IsSent BetweenTicks)) }
         ensures err { OnErr result ((self.new ≡ self.old) × (out.new.items ≡ out.old.items)) }
     {
-        facts_are_kept();
-        out.reserve(MOST_ENTRIES)?;
-        let list = Sequence::new(self.alloc);
-        let end = self.requests.sent();
-        end_request(
-            &mut self.nodes,
-            &mut self.commands,
-            end,
-            list,
-            Moment::BetweenTicks,
-            out,
-        );
-        Ok(())
+        self.request_hears(Heard::Sent, Moment::BetweenTicks, out)
     }
 
     /// It was not acknowledged in any of its copies.
@@ -55,19 +44,7 @@ impl Core {
         ensures outs { OnOk result (out.new.items ≡ out.old.items ++ outs self.old.state (Requests_do Fails BetweenTicks)) }
         ensures err { OnErr result ((self.new ≡ self.old) × (out.new.items ≡ out.old.items)) }
     {
-        facts_are_kept();
-        out.reserve(MOST_ENTRIES)?;
-        let list = Sequence::new(self.alloc);
-        let end = self.requests.failed();
-        end_request(
-            &mut self.nodes,
-            &mut self.commands,
-            end,
-            list,
-            Moment::BetweenTicks,
-            out,
-        );
-        Ok(())
+        self.request_hears(Heard::Failed, Moment::BetweenTicks, out)
     }
 
     /// The chip sent a response.
@@ -76,19 +53,7 @@ impl Core {
         ensures outs { OnOk result (out.new.items ≡ out.old.items ++ outs self.old.state (Requests_do (Responds response) BetweenTicks)) }
         ensures err { OnErr result ((self.new ≡ self.old) × (out.new.items ≡ out.old.items)) }
     {
-        facts_are_kept();
-        out.reserve(MOST_ENTRIES)?;
-        let list = nodes_in(self.alloc, &response)?;
-        let end = self.requests.response(response);
-        end_request(
-            &mut self.nodes,
-            &mut self.commands,
-            end,
-            list,
-            Moment::BetweenTicks,
-            out,
-        );
-        Ok(())
+        self.request_hears(Heard::Responded(response), Moment::BetweenTicks, out)
     }
 
     /// The chip sent the callback of the SendData with this id.
@@ -102,19 +67,7 @@ impl Core {
         ensures outs { OnOk result (out.new.items ≡ out.old.items ++ outs self.old.state (Requests_do (CallsBack id status) BetweenTicks)) }
         ensures err { OnErr result ((self.new ≡ self.old) × (out.new.items ≡ out.old.items)) }
     {
-        facts_are_kept();
-        out.reserve(MOST_ENTRIES)?;
-        let list = Sequence::new(self.alloc);
-        let end = self.requests.callback(id, status);
-        end_request(
-            &mut self.nodes,
-            &mut self.commands,
-            end,
-            list,
-            Moment::BetweenTicks,
-            out,
-        );
-        Ok(())
+        self.request_hears(Heard::CalledBack { id, status }, Moment::BetweenTicks, out)
     }
 
     /// The chip sent an ApplicationUpdate with which no interview ends well.
@@ -123,19 +76,7 @@ impl Core {
         ensures outs { OnOk result (out.new.items ≡ out.old.items ++ outs self.old.state (Requests_do (Updates update) BetweenTicks)) }
         ensures err { OnErr result ((self.new ≡ self.old) × (out.new.items ≡ out.old.items)) }
     {
-        facts_are_kept();
-        out.reserve(MOST_ENTRIES)?;
-        let list = Sequence::new(self.alloc);
-        let end = self.requests.update(update);
-        end_request(
-            &mut self.nodes,
-            &mut self.commands,
-            end,
-            list,
-            Moment::BetweenTicks,
-            out,
-        );
-        Ok(())
+        self.request_hears(Heard::Updated(update), Moment::BetweenTicks, out)
     }
 
     /// The request under way counts a tick.
@@ -144,40 +85,29 @@ impl Core {
         ensures outs { OnOk result (out.new.items ≡ out.old.items ++ outs self.old.state (Requests_do Ticks BeforeItsTick)) }
         ensures err { OnErr result ((self.new ≡ self.old) × (out.new.items ≡ out.old.items)) }
     {
+        self.request_hears(Heard::Ticked, Moment::BeforeItsTick, out)
+    }
+
+    // The request under way hears this, and what ends with it is done.
+    fn request_hears(
+        &mut self,
+        heard: Heard,
+        moment: Moment,
+        out: &mut List<HostOut>,
+    ) -> Result<(), NoMemory>
+        ensures state { OnOk result (self.new ≡ record self.old { state = after self.old.state (Requests_do (heard_as heard) moment) }) }
+        ensures outs { OnOk result (out.new.items ≡ out.old.items ++ outs self.old.state (Requests_do (heard_as heard) moment)) }
+        ensures err { OnErr result ((self.new ≡ self.old) × (out.new.items ≡ out.old.items)) }
+    {
         facts_are_kept();
-        out.reserve(MOST_ENTRIES)?;
-        let list = Sequence::new(self.alloc);
-        let end = self.requests.tick();
-        end_request(
+        request_hears(
+            self.alloc,
+            &mut self.requests,
             &mut self.nodes,
             &mut self.commands,
-            end,
-            list,
-            Moment::BeforeItsTick,
+            heard,
+            moment,
             out,
-        );
-        Ok(())
-    }
-}
-
-// The unit that answers an item.
-fn answer(item: &Item, out: &mut List<HostOut>)
-    requires { 1 ≤ out.old.room }
-    ensures { out.new.items ≡ out.old.items ++ answer_to item.now }
-{
-    match item {
-        Item::Good(Unit::Framed(_)) => out.put(HostOut::Write(Unit::Ack)),
-        Item::Good(Unit::Ack) | Item::Good(Unit::Nak) | Item::Good(Unit::Can) => {}
-        Item::Refused(refusal) => answer_refusal(*refusal, out),
-    }
-}
-
-// A whole frame that is not good is answered NAK.
-fn answer_refusal(refusal: Refusal, out: &mut List<HostOut>)
-    requires { 1 ≤ out.old.room }
-    ensures { out.new.items ≡ out.old.items ++ answer_to (Item.Refused refusal) }
-{
-    if matches!(refusal, Refusal::BadSum { .. } | Refusal::BadKind(_)) {
-        out.put(HostOut::Write(Unit::Nak));
+        )
     }
 }

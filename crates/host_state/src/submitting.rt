@@ -1,23 +1,16 @@
 //! What the host does of itself: it lets nodes sleep, and submits a request.
 
-ghost use Rattle.std.specs.Prelude.{◌≡◌, ◌≢◌, ◌++◌, ◌≤◌, ◌∷◌, [], length, IfOk, OnOk, OnErr};
-ghost use Rattle.host_requests.specs.Frames.{frame_of};
-ghost use Rattle.host_requests.specs.State.{next_id};
+ghost use Rattle.std.specs.Prelude.{◌≡◌, ◌++◌, ◌≤◌, length, OnOk, OnErr};
 ghost use Rattle.host_events.specs.Events.{Queues_no_more, Drops_no_more, Submits_abort, Submits_front, Starts, Gives_text, Gives_segment};
-ghost use Rattle.host_events.specs.After.{after, front_purpose};
+ghost use Rattle.host_events.specs.After.{after};
 ghost use Rattle.host_events.specs.Outs.{outs};
-ghost use Rattle.host_events.specs.declared.out.HostOut.TheVariants.{Write};
-ghost use Rattle.serial_link.specs.State.{IsBusy, submitted_link};
-ghost use Rattle.serial_frame.specs.declared.unit.Unit.TheVariants.{Framed};
 ghost use Rattle.host_events.specs.May.{May};
 
-use crate::{Core, Start};
+use crate::Core;
+use host_effects::{Start, front_frame, put_on_line, submit_attempt};
 use host_events::{HostOut, facts_are_kept};
 use host_nodes::the_least_is_found;
-use host_requests::{Requests, Task};
-use serial_frame::{Frame, Unit};
-use serial_link::Link;
-use std::alloc::Global;
+use host_requests::Task;
 use zw_base::{List, NoMemory, NodeId, Payload};
 use zw_text::Entry;
 
@@ -93,9 +86,15 @@ impl Core {
             payload,
             more,
         } = start;
-        let frame = self.requests.attempt_frame(self.alloc, node, &payload)?;
-        put_on_line(self.alloc, &mut self.link, frame, out)?;
-        self.requests.begin_attempt(node, more, payload);
+        submit_attempt(
+            self.alloc,
+            &mut self.link,
+            &mut self.requests,
+            node,
+            more,
+            payload,
+            out,
+        )?;
         self.served = node.number();
         self.nodes.start_attempt(node, plan);
         Ok(())
@@ -115,9 +114,15 @@ impl Core {
         ensures err { OnErr result ((self.new ≡ self.old) × (out.new.items ≡ out.old.items)) }
     {
         facts_are_kept();
-        let frame = self.requests.attempt_frame(self.alloc, node, &payload)?;
-        put_on_line(self.alloc, &mut self.link, frame, out)?;
-        self.requests.begin_attempt(node, false, payload);
+        submit_attempt(
+            self.alloc,
+            &mut self.link,
+            &mut self.requests,
+            node,
+            false,
+            payload,
+            out,
+        )?;
         self.served = node.number();
         let _ = self.nodes.give_text(node);
         Ok(())
@@ -138,39 +143,17 @@ impl Core {
         ensures err { OnErr result ((self.new ≡ self.old) × (out.new.items ≡ out.old.items)) }
     {
         facts_are_kept();
-        let frame = self.requests.attempt_frame(self.alloc, node, &payload)?;
-        put_on_line(self.alloc, &mut self.link, frame, out)?;
-        self.requests.begin_attempt(node, more, payload);
+        submit_attempt(
+            self.alloc,
+            &mut self.link,
+            &mut self.requests,
+            node,
+            more,
+            payload,
+            out,
+        )?;
         self.served = node.number();
         let _ = self.nodes.give_segment(node);
         Ok(())
     }
-}
-
-// The frame of the task that has waited longest.
-fn front_frame(requests: &Requests, alloc: Global) -> Result<Frame, NoMemory>
-    requires { requests.now.queue ≢ [] }
-    ensures { IfOk result (λ frame. frame ≡ frame_of (front_purpose requests.now.queue) (next_id requests.now.last_id)) }
-{
-    let found = requests.front_frame(alloc)?;
-    Ok(found.unwrap())
-}
-
-// A frame goes to the line, and its first copy is put out.
-fn put_on_line(
-    alloc: Global,
-    link: &mut Link,
-    frame: Frame,
-    out: &mut List<HostOut>,
-) -> Result<(), NoMemory>
-    requires { ¬ IsBusy link.old.side.turn }
-    ensures link { OnOk result (link.new ≡ submitted_link link.old frame) }
-    ensures outs { OnOk result (out.new.items ≡ out.old.items ++ Write (Framed frame) ∷ []) }
-    ensures err { OnErr result ((link.new ≡ link.old) × (out.new.items ≡ out.old.items)) }
-{
-    out.reserve(1)?;
-    let copy = frame.copy(alloc)?;
-    link.begin(frame);
-    out.put(HostOut::Write(Unit::Framed(copy)));
-    Ok(())
 }

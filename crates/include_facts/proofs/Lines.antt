@@ -14,7 +14,7 @@ use Rattle.include_text.specs.declared.entry.IncludeEntry.{IncludeEntry}
 use Rattle.include_text.specs.declared.entry.IncludeRefusal.TheVariants.{Secure as HostSecure}
 use Rattle.include_world.specs.declared.flight.Pair.{Pair}
 use Rattle.include_world.specs.declared.flight.Heading.TheVariants.{Outward}
-use Rattle.include_world.specs.Air.{AirState, pair_of, flight, departing, first_air, no_counts}
+use Rattle.include_world.specs.Air.{AirState, pair_of, departing, first_air, no_counts}
 use Rattle.include_world.specs.World.{WorldState, Doing, IncludeEvent, Says, does, adds, begins, refused, joiner_of, first_world, first_joiner, after_all, entries_all, AllDrawn, Did}
 use Rattle.include_world.specs.Line.{IsLine}
 use Rattle.include_world.specs.Added.{IsSecure, last_word}
@@ -25,10 +25,10 @@ use Rattle.include_world.proofs.Events.{Holds, holds_all, first_holds, secure_sa
 use Rattle.include_world.proofs.HostShows.{seen_of}
 use Rattle.include_world.proofs.NearFacts.{Way}
 use Rattle.include_world.proofs.ShowFacts.{Ready}
-use Rattle.include_world.proofs.NearWorld.{Near}
-use Rattle.include_world.proofs.Stages.{SchemeAsked, scheme_asked}
-use Rattle.include_world.proofs.Going.{Going, spot_new, unmarked}
+use Rattle.include_world.proofs.Stages.{SchemeAsked}
+use Rattle.include_world.proofs.Going.{Going, unmarked}
 use Rattle.include_world.proofs.Ticking.{Calm, ticks_end}
+use Rattle.include_world.proofs.Starting.{begins_going}
 use Rattle.include_facts.specs.Lines.{AreLines, CameTo}
 use Rattle.include_facts.proofs.Numbers.{LastIs}
 use Rattle.include_facts.proofs.Ticks.{Stands, stands_says, lines_stand}
@@ -116,18 +116,6 @@ unfolding does
 added_is w node drawn a =
     ap (λ (o : Option _). (adds w node o).world) a.idle
     ∙ ap (λ (b : Bool). (let d : Doing = cond b (refused w HostSecure) (begins w node) in d).world) a.insecure
-
-begins_going : (key : List ℕ) (node : ℕ) (w : WorldState) → Near key node w → (joiner_of w node).key ≡ None → w.air.losing ≡ 0 → Going node 100 SchemeAsked (length w.air.frames) (begins w node).world
-begins_going key node w n none calm = record {
-  under = record { exchange = _; under = refl; with_it = refl; time = omega arith; at = refl };
-  lock = none;
-  frame = flight w.air node Outward scheme_get;
-  spot = spot_new node w.air node Outward scheme_get n.forgotten;
-  node_is = refl;
-  found = unmarked w.air calm;
-  heading = refl;
-  is_for = scheme_asked;
-}
 
 begins_calm : (air : AirState) (node : ℕ) → air.losing ≡ 0 → (departing air node Outward scheme_get).losing ≡ 0
 unfolding departing

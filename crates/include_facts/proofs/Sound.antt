@@ -18,16 +18,16 @@ use Rattle.include_world.specs.declared.flight.Flight.{Flight}
 use Rattle.include_world.specs.declared.flight.Pair.{Pair}
 use Rattle.include_world.specs.Air.{pair_of, no_counts, heard_of, frame_at, flight_at, heard_if, is_forgotten, arriving, refusal_of, forgetting, landing, departing, sending}
 use Rattle.include_world.specs.World.{WorldState, Doing, Says, Passes, Lands, Ends, does, says, adds, begins, refused, resets, repeats, hears, hears_by, lock_hears, host_hears, lands_by, landed, ends, joiner_of}
-use Rattle.include_world.proofs.AirFacts.{Frames, frames_departing, frames_forgotten, frames_remembered, repeated_comes, departing_forgotten}
-use Rattle.include_world.proofs.Sending.{departing_grows}
+use Rattle.include_world.proofs.AirFacts.{frames_forgotten}
 use Rattle.include_world.proofs.HostFacts.{Hosts, host_takes as host_fact}
 use Rattle.include_world.proofs.KeyFacts.{Tells}
 use Rattle.include_world.proofs.WorldFacts.{Fact, does_step}
 use Rattle.include_world.proofs.HostShows.{seen_of, host_away}
 use Rattle.include_world.proofs.NearFacts.{Way}
-use Rattle.include_world.proofs.ShowFacts.{Shows, OutShows, Ready}
-use Rattle.include_world.proofs.NearWorld.{Near, Says_of, both_frames, near_heard, near_lands, near_passes, near_ends}
+use Rattle.include_world.proofs.ShowFacts.{Shows, Ready}
+use Rattle.include_world.proofs.NearWorld.{Near, near_lands, near_passes, near_ends}
 use Rattle.include_world.proofs.Stages.{scheme_asked}
+use Rattle.include_world.proofs.Starting.{near_reset_elsewhere, near_repeats, near_adds}
 use Rattle.include_facts.proofs.Flights.{flights_map, flights_forgotten, flights_remembered, pair_elsewhere, arriving_flight, repeated_flight}
 use Rattle.include_facts.proofs.Numbers.{OfByte, byte_in, Tally, Carries, Close, close_landing, close_fresh, carries_on, carries_ends, carries_most, tally, AirCounts, air_on, air_away, air_sends, air_reports, sending_away, sending_sends, LastIs}
 use Rattle.include_facts.proofs.HostNumbers.{may_of, may_in, more_one, in_one, cond_less, may_away, may_ends, host_takes}
@@ -296,21 +296,6 @@ exact_says key node most w (Tick count) drawn eight f n x = x
 
 -- ---- what a line makes of what frames show
 
-near_begins : (key : List ℕ) (node : ℕ) (w : WorldState) (at : ℕ) → Near key node w → Near key node (begins w at).world
-near_begins key node w at n = record {
-  books = n.books;
-  seens = n.seens;
-  ready = n.ready;
-  counting = λ e. (ap (λ (m : ℕ). seen_of w.includer m) e, λ asked. refl);
-  frames = frames_departing node (Shows key node (is_secure w.includer node) (joiner_of w node) (account_of w.includer.book node)) w.air at Outward scheme_get
-      (λ e. subst (λ (m : Message). OutShows (is_secure w.includer node) (account_of w.includer.book node) m) (sym scheme_asked) tt) n.frames;
-  forgotten = let same = departing_forgotten w.air at Outward scheme_get node in let grows = departing_grows w.air at Outward scheme_get in omega (arith, same, grows.frames, n.forgotten);
-}
-
-near_adds : (key : List ℕ) (node : ℕ) (w : WorldState) (at : ℕ) → Near key node w → (o : Option Exchange) → Near key node (adds w at o).world
-near_adds key node w at n (Some exchange) = n
-near_adds key node w at n None = cond_both (is_secure w.includer at) (refused w HostSecure) (begins w at) (λ (d : Doing). Near key node d.world) (λ e. n) (λ e. near_begins key node w at n)
-
 -- after a reset the host's count is still near to the lock's
 near_reset_here : (key : List ℕ) (node most : ℕ) (w : WorldState) → Fact key node w → Near key node w → Exact node most w → Near key node (resets w node)
 near_reset_here key node most w f n x =
@@ -326,28 +311,6 @@ near_reset_here key node most w f n x =
       frames = frames_forgotten node (Shows key node (is_secure (resets w node).includer node) (joiner_of (resets w node) node) (account_of w.includer.book node)) w.air f.pairs;
       forgotten = omega (arith, all);
     }
-
-near_reset_elsewhere : (key : List ℕ) (node : ℕ) (w : WorldState) (at : ℕ) → (node ≡ at → ⊥) → Near key node w → Near key node (resets w at)
-near_reset_elsewhere key node w at differ n =
-    let same : joiner_of (resets w at) node ≡ joiner_of w node = get_or-set_other w.joiners at node (forgetful (joiner_of w at)) (fresh_joiner 1) differ in
-    let secure_same : is_secure (resets w at).includer node ≡ is_secure w.includer node = get_or-set_other w.includer.secure at node false false differ in
-    record {
-      books = n.books;
-      seens = n.seens;
-      ready = subst (λ (j : Joining). Ready key node (seen_of w.includer node) (is_secure (resets w at).includer node) j (account_of w.includer.book node)) (sym same)
-          (subst (λ (b : Bool). Ready key node (seen_of w.includer node) b (joiner_of w node) (account_of w.includer.book node)) (sym secure_same) n.ready);
-      counting = n.counting;
-      frames = subst (λ (j : Joining). Frames node (Shows key node (is_secure (resets w at).includer node) j (account_of w.includer.book node)) (forgetting w.air at)) (sym same)
-          (subst (λ (b : Bool). Frames node (Shows key node b (joiner_of w node) (account_of w.includer.book node)) (forgetting w.air at)) (sym secure_same)
-          (frames_remembered node (Shows key node (is_secure w.includer node) (joiner_of w node) (account_of w.includer.book node)) w.air at differ n.frames));
-      forgotten = subst (λ (p : Pair). p.forgotten ≤ length w.air.frames) (sym (pair_elsewhere node w.air at differ)) n.forgotten;
-    }
-
-near_repeats : (key : List ℕ) (node : ℕ) (w : WorldState) (number : ℕ) (drawn : List ℕ) → length drawn ≡ 8 → Fact key node w → Near key node w → (o : Option IncludeRefusal) → refusal_of w.air number ≡ o
-    → Near key node (repeats w number drawn o).world
-near_repeats key node w number drawn eight f n (Some refusal) e = n
-near_repeats key node w number drawn eight f n None e =
-    near_heard key node w (flight_at w.air number) drawn eight f n (repeated_comes node (Says_of key node w) w.air number e (both_frames key node w f n))
 
 near_says : (key : List ℕ) (node most : ℕ) (w : WorldState) (line : IncludeLine) (drawn : List ℕ) → length drawn ≡ 8 → Fact key node w → Near key node w → Exact node most w
     → Near key node (says w line drawn).world

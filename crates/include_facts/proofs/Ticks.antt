@@ -5,6 +5,7 @@ use Rattle.include_world.specs.Air.{AirState, arriving, flying}
 use Rattle.include_world.specs.World.{WorldState, IncludeEvent, Says, Passes, Lands, Ends, does, after_all, lands_by, AllSent, AllDrawn}
 use Rattle.include_world.specs.Line.{IsTick, IsTicks, IsLine, ticks_of}
 use Rattle.include_world.proofs.Doing.{after_all-append, lands_grows, says_sent}
+use Rattle.include_world.proofs.Ticking.{drawn_front, drawn_rest}
 use Rattle.include_facts.specs.Lines.{AreLines}
 use Rattle.include_facts.proofs.Sound.{Sound, sound_most, sound_says, sound_lands, sound_passes, sound_ends}
 
@@ -41,14 +42,6 @@ same_air_passes w = refl
 same_air_ends : (w : WorldState) → (does w Ends).world.air ≡ w.air
 unfolding does
 same_air_ends w = refl
-
-drawn_front : (xs ys : List IncludeEvent) → AllDrawn (xs ++ ys) → AllDrawn xs
-drawn_front [] ys d = tt
-drawn_front (x ∷ xs) ys d = (d.0, drawn_front xs ys d.1)
-
-drawn_rest : (xs ys : List IncludeEvent) → AllDrawn (xs ++ ys) → AllDrawn ys
-drawn_rest [] ys d = d
-drawn_rest (x ∷ xs) ys d = drawn_rest xs ys d.1
 
 tick_by : (key : List ℕ) (node : ℕ) (w : WorldState) (draws : List (List ℕ)) → length draws ≡ flying w.air → AllDrawn (map Lands draws) → Stands key node w
     → Stands key node (after_all w (Passes ∷ map Lands draws ++ Ends ∷ []))

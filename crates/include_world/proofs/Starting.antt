@@ -43,7 +43,7 @@ use Rattle.include_world.proofs.Ticking.{Calm, ticks_end}
 out_scheme : (secure : Bool) (account : Account) → OutShows secure account (message_of scheme_get)
 out_scheme secure account = subst (λ (m : Message). OutShows secure account m) (sym scheme_asked) tt
 
-near_begins : (key : List ℕ) (node : ℕ) (w : WorldState) (at : ℕ) → Near key node w → Near key node (begins w at).world
+pub near_begins : (key : List ℕ) (node : ℕ) (w : WorldState) (at : ℕ) → Near key node w → Near key node (begins w at).world
 near_begins key node w at n = record {
   books = n.books;
   seens = n.seens;
@@ -54,7 +54,7 @@ near_begins key node w at n = record {
   forgotten = let same = departing_forgotten w.air at Outward scheme_get node in let grows = departing_grows w.air at Outward scheme_get in omega (arith, same, grows.frames, n.forgotten);
 }
 
-near_adds : (key : List ℕ) (node : ℕ) (w : WorldState) (at : ℕ) → Near key node w → (o : Option Exchange) → Near key node (adds w at o).world
+pub near_adds : (key : List ℕ) (node : ℕ) (w : WorldState) (at : ℕ) → Near key node w → (o : Option Exchange) → Near key node (adds w at o).world
 near_adds key node w at n (Some exchange) = n
 near_adds key node w at n None = cond_both (is_secure w.includer at) (refused w HostSecure) (begins w at) (λ (d : Doing). Near key node d.world) (λ e. n) (λ e. near_begins key node w at n)
 
@@ -74,7 +74,7 @@ near_reset_here key node w f n none =
       forgotten = omega (arith, all);
     }
 
-near_reset_elsewhere : (key : List ℕ) (node : ℕ) (w : WorldState) (at : ℕ) → (node ≡ at → ⊥) → Near key node w → Near key node (resets w at)
+pub near_reset_elsewhere : (key : List ℕ) (node : ℕ) (w : WorldState) (at : ℕ) → (node ≡ at → ⊥) → Near key node w → Near key node (resets w at)
 near_reset_elsewhere key node w at differ n =
     let same : joiner_of (resets w at) node ≡ joiner_of w node = get_or-set_other w.joiners at node (forgetful (joiner_of w at)) (fresh_joiner 1) differ in
     let secure_same : is_secure (resets w at).includer node ≡ is_secure w.includer node = get_or-set_other w.includer.secure at node false false differ in
@@ -98,7 +98,7 @@ near_resets key node w at f n none = ⊎_elim
     (λ differ. near_reset_elsewhere key node w at differ n)
     (cases_eq node at)
 
-near_repeats : (key : List ℕ) (node : ℕ) (w : WorldState) (number : ℕ) (drawn : List ℕ) → length drawn ≡ 8 → Fact key node w → Near key node w → (o : Option IncludeRefusal) → refusal_of w.air number ≡ o
+pub near_repeats : (key : List ℕ) (node : ℕ) (w : WorldState) (number : ℕ) (drawn : List ℕ) → length drawn ≡ 8 → Fact key node w → Near key node w → (o : Option IncludeRefusal) → refusal_of w.air number ≡ o
     → Near key node (repeats w number drawn o).world
 near_repeats key node w number drawn eight f n (Some refusal) e = n
 near_repeats key node w number drawn eight f n None e =
@@ -218,7 +218,7 @@ added_is w node drawn a =
     ap (λ (o : Option Exchange). (adds w node o).world) a.idle
     ∙ ap (λ (b : Bool). (let d : Doing = cond b (refused w HostSecure) (begins w node) in d).world) a.insecure
 
-begins_going : (key : List ℕ) (node : ℕ) (w : WorldState) → Near key node w → (joiner_of w node).key ≡ None → w.air.losing ≡ 0 → Going node 100 SchemeAsked (length w.air.frames) (begins w node).world
+pub begins_going : (key : List ℕ) (node : ℕ) (w : WorldState) → Near key node w → (joiner_of w node).key ≡ None → w.air.losing ≡ 0 → Going node 100 SchemeAsked (length w.air.frames) (begins w node).world
 begins_going key node w n none calm = record {
   under = record { exchange = _; under = refl; with_it = refl; time = omega arith; at = refl };
   lock = none;

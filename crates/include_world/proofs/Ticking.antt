@@ -306,11 +306,11 @@ calm_ends key node w c = record {
   within = subst (λ (a : AirState). a.landed ≤ length a.frames) (sym (same_air_ends w)) c.within;
 }
 
-drawn_front : (xs ys : List IncludeEvent) → AllDrawn (xs ++ ys) → AllDrawn xs
+pub drawn_front : (xs ys : List IncludeEvent) → AllDrawn (xs ++ ys) → AllDrawn xs
 drawn_front [] ys d = tt
 drawn_front (x ∷ xs) ys d = (d.0, drawn_front xs ys d.1)
 
-drawn_rest : (xs ys : List IncludeEvent) → AllDrawn (xs ++ ys) → AllDrawn ys
+pub drawn_rest : (xs ys : List IncludeEvent) → AllDrawn (xs ++ ys) → AllDrawn ys
 drawn_rest [] ys d = d
 drawn_rest (x ∷ xs) ys d = drawn_rest xs ys d.1
 

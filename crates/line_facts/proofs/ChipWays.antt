@@ -5,6 +5,7 @@ use Rattle.std.specs.List.{AllByRecursion, flat_map, range_with_len}
 use Rattle.std.specs.Option.{unwrap_or, is_some}
 use Rattle.std.proofs.lemmas.Bool.{ltb-true, leb-true, and_parts}
 use Rattle.std.proofs.lemmas.List.{append-nil}
+use Rattle.list_lemmas.proofs.Each.{all-append}
 use Rattle.serial_frame.specs.declared.unit.Unit.{Unit as LineUnit}
 use Rattle.serial_pipes.specs.State.{WayState}
 use Rattle.serial_pipes.specs.Events.{Writes}
@@ -22,8 +23,8 @@ use Rattle.chip_sim.specs.declared.out.Sending.{Sending}
 use Rattle.chip_sim.specs.declared.out.ChipOut.{ChipOut}
 use Rattle.chip_sim.specs.declared.out.ChipOut.TheVariants as chip_out
 use Rattle.chip_sim.proofs.Doing.{after_all-append, outs_all-append, may_all-append}
-use Rattle.device_stack.specs.declared.kind.Kind.{Kind}
-use Rattle.device_stack.specs.declared.kind.Kind.TheVariants.{Relay, Switch, Dimmer, Lock, Sensor, Thermostat, Strip, Configurable}
+use Rattle.device_kinds.specs.declared.kind.Kind.{Kind}
+use Rattle.device_kinds.specs.declared.kind.Kind.TheVariants.{Relay, Switch, Dimmer, Lock, Sensor, Thermostat, Strip, Configurable}
 use Rattle.device_sim.specs.Kind.{classes_of}
 use Rattle.device_sim.specs.State.{State}
 use Rattle.device_sim.specs.Event.{DeviceEvent}
@@ -166,7 +167,7 @@ does_each o (e ∷ events) may =
 
 -- ---- results
 
-owes : (s : ChipState) → owes_call s ≡ true → OwesCall s
+pub owes : (s : ChipState) → owes_call s ≡ true → OwesCall s
 owes s e = by (nat_lt 0 s.aborted) refl e
   where
     sends : (sending : Option Sending) → is_some sending ≡ true → IsSome sending
@@ -193,7 +194,7 @@ no_routes_move zero o = moves_here o o refl refl refl
 no_routes_move (suc count) o = then_moves o (no_route o) (λ later. no_routes count later) (no_route_moves o) (λ later. no_routes_move count later)
 
 -- the chip's table changes
-quiet_one : (o : OuterState) (e : ChipEvent) → May o.chip.state e → outs o.chip.state e ≡ [] → ChipDoes (e ∷ []) o (with_chip o (after o.chip.state e))
+pub quiet_one : (o : OuterState) (e : ChipEvent) → May o.chip.state e → outs o.chip.state e ≡ [] → ChipDoes (e ∷ []) o (with_chip o (after o.chip.state e))
 quiet_one o e may none = record {
   may = (may, tt);
   state = refl;
@@ -218,7 +219,7 @@ ends_moves o status dead =
 
 -- ---- the information of a node
 
-few_classes : (kind : Kind) → length (classes_of kind) ≤ 246
+pub few_classes : (kind : Kind) → length (classes_of kind) ≤ 246
 few_classes Relay = omega arith
 few_classes Switch = omega arith
 few_classes Dimmer = omega arith
@@ -228,7 +229,7 @@ few_classes Thermostat = omega arith
 few_classes Strip = omega arith
 few_classes Configurable = omega arith
 
-told_fits : (device : Option State) → FitsProfile (told_profile device)
+pub told_fits : (device : Option State) → FitsProfile (told_profile device)
 told_fits None = tt
 told_fits (Some device) = by device.awake
   where
@@ -236,7 +237,7 @@ told_fits (Some device) = by device.awake
     by true = few_classes device.kind
     by false = tt
 
-fits_for : (b : Bool) (device : Option State) → FitsProfile (if b then told_profile device else None)
+pub fits_for : (b : Bool) (device : Option State) → FitsProfile (if b then told_profile device else None)
 fits_for true device = told_fits device
 fits_for false device = tt
 
@@ -251,7 +252,7 @@ gives_moves o devices (Info node ∷ due) route = moves_from o (record o { due =
 
 -- ---- the air
 
-short_payload : (payload : List ℕ) → (nat_le 1 (length payload) && nat_le (length payload) 46) ≡ true → (1 ≤ length payload) × (length payload ≤ 46)
+pub short_payload : (payload : List ℕ) → (nat_le 1 (length payload) && nat_le (length payload) 46) ≡ true → (1 ≤ length payload) × (length payload ≤ 46)
 short_payload payload e =
     let both = and_parts (nat_le 1 (length payload)) (nat_le (length payload) 46) e in
     (leb-true 1 (length payload) both.0, leb-true (length payload) 46 both.1)
@@ -319,17 +320,13 @@ sets_moves o events all =
       };
     }
 
-sets_map : {X : Type 0} (f : X → ChipEvent) → ((x : X) → SetsTable (f x)) → (xs : List X) → AllByRecursion SetsTable (map f xs)
+pub sets_map : {X : Type 0} (f : X → ChipEvent) → ((x : X) → SetsTable (f x)) → (xs : List X) → AllByRecursion SetsTable (map f xs)
 sets_map f sets [] = tt
 sets_map f sets (x ∷ xs) = (sets x, sets_map f sets xs)
 
-sets_append : (a b : List ChipEvent) → AllByRecursion SetsTable a → AllByRecursion SetsTable b → AllByRecursion SetsTable (a ++ b)
-sets_append [] b first later = later
-sets_append (e ∷ a) b first later = (first.0, sets_append a b first.1 later)
-
 sets_flat : {X : Type 0} (f : X → List ChipEvent) → ((x : X) → AllByRecursion SetsTable (f x)) → (xs : List X) → AllByRecursion SetsTable (flat_map f xs)
 sets_flat f sets [] = tt
-sets_flat f sets (x ∷ xs) = sets_append (f x) (flat_map f xs) (sets x) (sets_flat f sets xs)
+sets_flat f sets (x ∷ xs) = all-append SetsTable (f x) (flat_map f xs) (sets x) (sets_flat f sets xs)
 
 pub joins_moves : (o : OuterState) (node : ℕ) (listening : Bool) → ChipMoves o (joins o node listening)
 joins_moves o node listening =
@@ -339,7 +336,7 @@ joins_moves o node listening =
     let all : AllByRecursion SetsTable events = (tt, sets_map (λ (other : ℕ). Linked node other true) (λ (other : ℕ). tt) known) in
     moves_both o (with_chip o (after_all o.chip.state events)) (joins o node listening) (sets_moves o events all) (moves_here _ _ refl refl refl)
 
-all_pairs_set : (air : AirState) → AllByRecursion SetsTable (all_pairs air)
+pub all_pairs_set : (air : AirState) → AllByRecursion SetsTable (all_pairs air)
 unfolding all_pairs
 all_pairs_set air =
     sets_flat (λ (node : ℕ). pairs_of air node)

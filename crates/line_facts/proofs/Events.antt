@@ -20,7 +20,8 @@ use Rattle.zw_machine.specs.Did.{happens_all, MayAll}
 use Rattle.zw_machine.specs.Lines.{restart_events}
 use Rattle.line_facts.specs.Way.{Carries, written_all, items_all}
 use Rattle.line_facts.specs.Chip.{HasFrames}
-use Rattle.line_facts.specs.Line.{Carried, IsWhole, AreAtRest, LineAfter, IsAtRest, OuterAtRest, Stays, TakesWhole, OuterTakesAll, AllTakeWhole, WritesWell, AllWriteWell, Change, Grows, Becomes, up_change, down_change, host_writes, host_rest, chip_rest, outer_rest}
+use Rattle.zw_machine.specs.Settling.{TakesWhole, OuterTakesAll}
+use Rattle.line_facts.specs.Line.{Carried, IsWhole, AreAtRest, LineAfter, IsAtRest, OuterAtRest, Stays, AllTakeWhole, WritesWell, AllWriteWell, Change, Grows, Becomes, up_change, down_change, host_writes, host_rest, chip_rest, outer_rest}
 use Rattle.line_facts.proofs.Reading.{feeds_all}
 use Rattle.line_facts.proofs.Ways.{carries_all, carries_left}
 use Rattle.line_facts.proofs.Outer.{Written, routed_all, notes_all, written_both, nothing_done, still_frames, outer_after, tick_still}

@@ -2,6 +2,7 @@
 use Rattle.std.proofs.Common.{◌≡◌, ℕ, ◌+◌, ◌≤◌, Bool, true, false, List, [], ◌∷◌, ◌++◌, length, refl, sym, subst, arith, length-append}
 use Rattle.std.specs.Prelude.{Option, Some, None, nat_eq, ◌||◌, ◌-◌, ◌==◌, if◌then◌else◌}
 use Rattle.std.specs.List.{AllByRecursion}
+use Rattle.list_lemmas.proofs.Each.{all-append}
 use Rattle.zw_base.specs.declared.profile.Profile.{Profile}
 use Rattle.serial_frame.specs.Frame.{FrameParts}
 use Rattle.serial_frame.specs.Items.{IsUnit}
@@ -25,20 +26,17 @@ use Rattle.chip_sim.specs.State.{ChipState}
 use Rattle.chip_sim.specs.Waiting.{PortState, is_full, queued, queued_at, queued_outs, queued_outs_at, served, served_at, served_outs, next_at, written, ticked}
 use Rattle.chip_sim.specs.Nodes.{nodes_where, is_marked}
 use Rattle.chip_sim.specs.Answers.{response_frame, notice_frame, takes, init_data, routing_info}
-use Rattle.chip_sim.specs.Requests.{passed, answer_outs, reply_to, performed, performed_outs, requested, requested_outs, asked, heard, judged_frame, judged_outs, given_outs, sent, abort_frame, callback_frame, stopped, given_if}
+use Rattle.chip_sim.specs.Requests.{passed, answer_outs, reply_to, performed_outs, requested, requested_outs, asked, heard, judged_frame, judged_outs, given_outs, sent, abort_frame, callback_frame, stopped, given_if}
 use Rattle.chip_sim.specs.Events.{ChipEvent, Judged, Ticked, Heard, Done, Informed, Joined, Linked, Forgets, Collides, after, outs, May, FitsProfile, collides, ended, ended_outs, update_of}
 use Rattle.chip_sim.specs.Did.{MayAll, after_all, outs_all}
 use Rattle.chip_sim.specs.Link.{chip_units}
 use Rattle.chip_sim.specs.declared.out.Sending.{Sending}
 use Rattle.chip_sim.specs.declared.out.ChipOut.{ChipOut}
 use Rattle.chip_sim.specs.declared.out.ChipOut.TheVariants.{Write, OnAir, NoRoute, AskInfo, Full}
+use Rattle.chip_sim.proofs.Steps.{port_performed}
 use Rattle.line_facts.specs.Chip.{IsFrame, HasFrame, HasFrames}
 
 -- ---- lists
-
-pub all-append : {A : Type 0} (P : A → Type 0) (xs ys : List A) → AllByRecursion P xs → AllByRecursion P ys → AllByRecursion P (xs ++ ys)
-all-append P [] ys first later = later
-all-append P (x ∷ xs) ys first later = (first.0, all-append P xs ys first.1 later)
 
 -- what is put out has only units that the format carries
 abbrev pub Fit : List ChipOut → Type 0
@@ -201,26 +199,9 @@ given_if_fit s (Some f) is = queued_fit s.port f is
 -- ---- requests
 
 -- what a request does beside its reply leaves the port
-same_stopped : (sending : Option Sending) (s : ChipState) → (stopped sending s).port ≡ s.port
+pub same_stopped : (sending : Option Sending) (s : ChipState) → (stopped sending s).port ≡ s.port
 same_stopped None s = refl
 same_stopped (Some sending) s = refl
-
-same_performed : (request : Request) (s : ChipState) → (performed request s).port ≡ s.port
-same_performed GetInitData s = refl
-same_performed GetCapabilities s = refl
-same_performed (SendData n payload options id) s = by (takes s n payload)
-  where
-    by : (b : Bool) → (if b then record s { sending = Some (record { node = n; callback_id = id }) } else s).port ≡ s.port
-    by true = refl
-    by false = refl
-same_performed GetVersion s = refl
-same_performed SendDataAbort s = same_stopped s.sending s
-same_performed MemoryGetId s = refl
-same_performed (GetNodeProtocolInfo n) s = refl
-same_performed (AddNode mode id) s = refl
-same_performed (RequestNodeInfo n) s = refl
-same_performed (IsFailedNode n) s = refl
-same_performed (GetRoutingInfo n x y z) s = refl
 
 sent_fit : (n : ℕ) (payload : List ℕ) (way : Option Route) → Fit (sent n payload way)
 sent_fit n payload None = tt
@@ -246,7 +227,7 @@ performed_fit (GetRoutingInfo n x y z) s way = tt
 requested_has : (request : Option Request) (s : ChipState) → HasFrames s.port → HasFrames (requested request s).port
 requested_has None s has = has
 requested_has (Some request) s has =
-    subst HasFrames (sym (same_performed request (given_if s (reply_to s request)))) (given_if_has s (reply_to s request) has (reply_short s request))
+    subst HasFrames (sym (port_performed request (given_if s (reply_to s request)))) (given_if_has s (reply_to s request) has (reply_short s request))
 
 requested_fit : (request : Option Request) (s : ChipState) (way : Option Route) → Fit (requested_outs request s way)
 requested_fit None s way = tt

@@ -3,6 +3,7 @@ use Rattle.std.proofs.Common.{◌≡◌, ℕ, zero, suc, ◌+◌, ◌≤◌, Boo
 use Rattle.std.specs.Prelude.{Option, Some, None, if◌then◌else◌}
 use Rattle.std.specs.List.{AllByRecursion}
 use Rattle.std.proofs.Math.ListN.{set}
+use Rattle.list_lemmas.proofs.Each.{all-append}
 use Rattle.zw_text.specs.declared.entry.Entry.{Entry}
 use Rattle.serial_frame.specs.Frame.{FrameParts}
 use Rattle.serial_frame.specs.Items.{IsUnit}
@@ -52,7 +53,7 @@ use Rattle.host_events.specs.Events.{HostEvent, Accepts, Cancels, Joins, Queues,
 use Rattle.line_facts.specs.Chip.{IsFrame, HasFrame}
 use Rattle.line_facts.specs.Line.{host_units}
 use Rattle.line_facts.specs.Host.{FitsTask, FitsIn, HasShortText, HasShortNonce, HostFits, FitsRequest, FitsEvent}
-use Rattle.line_facts.proofs.Frames.{all-append, heard_has, ticked_has, copy_is, DueIs}
+use Rattle.line_facts.proofs.Frames.{heard_has, ticked_has, copy_is, DueIs}
 use Rattle.line_facts.proofs.Texts.{BringsShort, event_short}
 
 -- ---- lists
@@ -95,7 +96,7 @@ front_short (task ∷ queue) id all = task_short task id all.0
 
 -- ---- tasks that wait
 
-next_queue : (s : RequestsState) (next : UnderWay → Next) → (after_next s next).queue ≡ s.queue
+pub next_queue : (s : RequestsState) (next : UnderWay → Next) → (after_next s next).queue ≡ s.queue
 next_queue s next = by s.under_way
   where
     went : (u : UnderWay) (n : Next) → (went_on s u n).queue ≡ s.queue

@@ -2,6 +2,7 @@
 use Rattle.std.proofs.Common.{◌≡◌, ℕ, zero, suc, ◌+◌, false, true, List, [], ◌∷◌, ◌++◌, length, map, take, drop, replicate, refl, sym, subst, arith}
 use Rattle.std.specs.Prelude.{Option, Some, None, IsSome}
 use Rattle.std.specs.List.{AllByRecursion}
+use Rattle.list_lemmas.proofs.Each.{all-append}
 use Rattle.s0_crypto.specs.declared.key_pair.Keys.{Keys}
 use Rattle.s0_session.specs.Nonces.{unused, restored_account}
 use Rattle.serial_frame.specs.Items.{IsUnit}
@@ -33,7 +34,6 @@ use Rattle.zw_machine.specs.Events.{Event, Outside_does, Host_does, Host_takes, 
 use Rattle.zw_machine.specs.Did.{MayAll}
 use Rattle.line_facts.specs.Line.{host_units, WritesWell, AllWriteWell}
 use Rattle.line_facts.specs.Host.{HasShortText, HasShortNonce, HostFits, FitsEvent, AsksWell, AllAskWell}
-use Rattle.line_facts.proofs.Frames.{all-append}
 use Rattle.line_facts.proofs.Texts.{event_short}
 use Rattle.line_facts.proofs.HostFits.{nodes_short, accepts_short, refit, does_fits, nonce_set, spending_fits, StartsShort, SegmentsShort, event_fits, event_units}
 

@@ -1,6 +1,6 @@
 -- Both directions of the serial line of the machine: what is on its way, what an event makes of it, and where each side rests (this
 -- project's own).
-use Rattle.std.specs.Prelude.{◌≡◌, length, List, [], ◌∷◌, ◌++◌, map}
+use Rattle.std.specs.Prelude.{◌≡◌, List, [], ◌∷◌, ◌++◌, map}
 use Rattle.std.specs.List.{AllByRecursion, flat_map}
 use Rattle.serial_frame.specs.Items.{IsUnit}
 use Rattle.serial_frame.specs.Stream.{Rest, no_rest}
@@ -19,7 +19,8 @@ use Rattle.host_events.specs.declared.out.HostOut.TheVariants.{Write, Note}
 use Rattle.outer_events.specs.Events.{OuterEvent, Chip_takes, Chip_ticks, Clears_pipe}
 use Rattle.zw_machine.specs.State.{Machine}
 use Rattle.zw_machine.specs.Events.{Event, Outside_does, Host_does, Host_takes, Decoder_ticks, Restarts, happens}
-use Rattle.zw_machine.specs.Did.{happens_all, Schedule, Then}
+use Rattle.zw_machine.specs.Did.{happens_all, AllAlong, Schedule, Then}
+use Rattle.zw_machine.specs.Settling.{TakesWhole}
 use Rattle.zw_machine.specs.Fronts.{IsLineBefore}
 use Rattle.line_facts.specs.Way.{Carries, items_all}
 use Rattle.line_facts.specs.Chip.{HasFrames}
@@ -193,18 +194,8 @@ pub record Stays (m : Machine) (events : List Event) : Type 0 where
   pub rests : AreAtRest (happens_all m events)
 
 -- each side takes all bytes that are there
-abbrev pub OuterTakesAll : Machine → OuterEvent → Type 0
-OuterTakesAll m (Chip_takes count rest ways) = count ≡ length m.outside.outer.to_chip.bytes
-OuterTakesAll m event = Unit {0}
-
-abbrev pub TakesWhole : Machine → Event → Type 0
-TakesWhole m (Outside_does event) = OuterTakesAll m event
-TakesWhole m (Host_takes count rest items events) = count ≡ length m.outside.outer.to_host.bytes
-TakesWhole m event = Unit {0}
-
 abbrev pub AllTakeWhole : Machine → List Event → Type 0
-AllTakeWhole m [] = Unit {0}
-AllTakeWhole m (event ∷ events) = TakesWhole m event × AllTakeWhole (happens m event) events
+AllTakeWhole = AllAlong TakesWhole
 
 -- ---- lines one after another, the last of which want of memory may have cut short
 

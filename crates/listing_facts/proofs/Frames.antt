@@ -2,6 +2,7 @@
 use Rattle.std.proofs.Common.{◌≡◌, ℕ, ◌+◌, ◌-◌, Bool, true, false, List, [], ◌∷◌, ◌++◌, refl, sym, subst}
 use Rattle.std.specs.Prelude.{Option, Some, None, Ok, ◌==◌, if◌then◌else◌}
 use Rattle.std.specs.List.{AllByRecursion}
+use Rattle.list_lemmas.proofs.Each.{all-append}
 use Rattle.serial_frame.specs.Frame.{FrameParts}
 use Rattle.serial_frame.specs.declared.frame.Kind.{Kind}
 use Rattle.serial_frame.specs.declared.frame.Kind.TheVariants as kind
@@ -32,10 +33,9 @@ use Rattle.chip_sim.specs.Link.{chip_units}
 use Rattle.chip_sim.specs.declared.out.Sending.{Sending}
 use Rattle.chip_sim.specs.declared.out.ChipOut.{ChipOut}
 use Rattle.chip_sim.specs.declared.out.ChipOut.TheVariants.{Write, OnAir, NoRoute, AskInfo, Full}
-use Rattle.line_facts.proofs.Frames.{all-append}
 use Rattle.zw_base.specs.declared.profile.Profile.{Profile}
-use Rattle.device_stack.specs.declared.kind.Kind.{Kind as DeviceKind}
-use Rattle.device_stack.specs.Kind.{classes_of}
+use Rattle.device_kinds.specs.declared.kind.Kind.{Kind as DeviceKind}
+use Rattle.device_kinds.specs.Kind.{classes_of}
 use Rattle.outer_events.specs.Results.{profile_of}
 use Rattle.listing_facts.proofs.Telling.{NoticeTells, others_tell, failed_tells, kind_tells}
 

@@ -2,6 +2,7 @@
 use Rattle.std.proofs.Common.{◌≡◌, ℕ, Bool, true, false, List, [], ◌∷◌, ◌++◌, refl, sym, subst}
 use Rattle.std.specs.Prelude.{Option, Some, None, Result, Ok, Err, nat_lt, ◌==◌, if◌then◌else◌, slice_get}
 use Rattle.std.specs.List.{AllByRecursion}
+use Rattle.list_lemmas.proofs.Each.{all-append}
 use Rattle.serial_frame.specs.Frame.{FrameParts}
 use Rattle.serial_frame.specs.Items.{unit_text}
 use Rattle.serial_frame.specs.Stream.{Rest, no_rest, after_tick}
@@ -59,7 +60,7 @@ use Rattle.zw_machine.specs.Did.{MayAll}
 use Rattle.line_facts.specs.Way.{Carries, wanted_sum, found_sum, items_of, unit_item, changed_item, marked_items, items_all}
 use Rattle.line_facts.specs.Chip.{HasFrames}
 use Rattle.line_facts.specs.Line.{OuterAtRest, IsAtRest, AllAtRest}
-use Rattle.line_facts.proofs.Frames.{all-append, events_have, events_fit}
+use Rattle.line_facts.proofs.Frames.{events_have, events_fit}
 use Rattle.line_facts.proofs.Ways.{carries_all, carries_left, carries_none}
 use Rattle.line_facts.proofs.ChipWays.{does_each, does_one}
 use Rattle.line_facts.proofs.Outer.{entered_still, routed_all, notes_all, Written, tick_still}

@@ -1,10 +1,9 @@
 -- Whatever happens outside the host, the chip is told of nodes only what the first device of each lists.
-use Rattle.std.proofs.Common.{◌≡◌, ℕ, zero, suc, ◌≤◌, ◌-◌, ◌&&◌, ◌||◌, Bool, true, false, List, [], ◌∷◌, ◌++◌, length, map, refl, ap, sym, ◌∙◌, inl, inr, arith, filter}
-use Rattle.std.specs.Prelude.{Option, Some, None, nat_lt, nat_le, if◌then◌else◌, IsSome, drop, slice_get}
-use Rattle.std.specs.List.{AllByRecursion, flat_map, range_with_len}
+use Rattle.std.proofs.Common.{◌≡◌, ℕ, zero, suc, ◌-◌, ◌&&◌, Bool, true, false, List, [], ◌∷◌, ◌++◌, length, refl, ap, sym, filter}
+use Rattle.std.specs.Prelude.{Option, Some, None, nat_le, if◌then◌else◌, drop, slice_get}
+use Rattle.std.specs.List.{AllByRecursion, range_with_len}
 use Rattle.std.specs.Option.{unwrap_or, is_some}
-use Rattle.std.proofs.lemmas.Bool.{leb-true, and_parts, ltb-true}
-use Rattle.std.proofs.lemmas.List.{append-nil}
+use Rattle.list_lemmas.proofs.Each.{all-append}
 use Rattle.zw_base.specs.declared.profile.Profile.{Profile}
 use Rattle.route_table.specs.declared.route.Route.{Route}
 use Rattle.route_table.specs.Network.{linked}
@@ -12,16 +11,13 @@ use Rattle.chip_functions.specs.Notice.{status_of}
 use Rattle.chip_functions.specs.declared.notice.TransmitStatus.{TransmitStatus}
 use Rattle.chip_functions.specs.declared.notice.TransmitStatus.TheVariants.{Fail, NoRoute as no_route_status}
 use Rattle.chip_sim.specs.State.{ChipState}
-use Rattle.chip_sim.specs.Events.{ChipEvent, Done, Heard as chip_hears, Informed, Forgets, Joined, Linked, Collides, after, outs, May, OwesCall, FitsProfile}
+use Rattle.chip_sim.specs.Events.{ChipEvent, Done, Heard as chip_hears, Informed, Forgets, Joined, Linked, Collides, after, May, FitsProfile}
 use Rattle.chip_sim.specs.Did.{MayAll, after_all, outs_all}
 use Rattle.chip_sim.specs.Link.{chip_units}
-use Rattle.chip_sim.specs.declared.out.Sending.{Sending}
 use Rattle.chip_sim.specs.declared.out.ChipOut.{ChipOut}
-use Rattle.device_stack.specs.declared.kind.Kind.{Kind}
-use Rattle.device_stack.specs.declared.kind.Kind.TheVariants.{Relay, Switch, Dimmer, Lock, Sensor, Thermostat, Strip, Configurable}
 use Rattle.device_sim.specs.State.{State}
 use Rattle.device_sim.specs.Event.{DeviceEvent}
-use Rattle.mesh_sim.specs.Air.{AirState, is_joined, joining}
+use Rattle.mesh_sim.specs.Air.{is_joined, joining}
 use Rattle.mesh_sim.specs.Fates.{place_of}
 use Rattle.mesh_sim.specs.Steps.{AirStep, mesh_after, mesh_outs}
 use Rattle.mesh_sim.specs.declared.event.AirEvent.{AirEvent}
@@ -35,13 +31,12 @@ use Rattle.outer_events.specs.Chip.{chip_does}
 use Rattle.outer_events.specs.Results.{owes_call, call_back, no_route, no_routes, leading, forgets, frame_ends, gives, without_no_route, told_profile, profile_of, profile_for, device_at, informs}
 use Rattle.outer_events.specs.Air.{to_chip, deals}
 use Rattle.outer_events.specs.Devices.{acts_at, acts_by_hand}
-use Rattle.outer_events.specs.Nodes.{joins, discovers, links_of, pairs_of, all_pairs, is_known}
+use Rattle.outer_events.specs.Nodes.{joins, discovers, links_of, all_pairs, is_known}
 use Rattle.outer_events.specs.Events.{mesh_of, steps, repeats}
 use Rattle.line_facts.specs.Way.{written_all}
 use Rattle.line_facts.specs.Chip.{ChipDoes}
-use Rattle.line_facts.proofs.Frames.{all-append}
-use Rattle.line_facts.proofs.ChipWays.{IsStill, still_does, does_both, does_one}
-use Rattle.device_stack.specs.Kind.{classes_of}
+use Rattle.line_facts.proofs.ChipWays.{IsStill, still_does, does_both, does_one, owes, quiet_one, few_classes, short_payload, SetsTable, sets_map, all_pairs_set}
+use Rattle.device_kinds.specs.Kind.{classes_of}
 use Rattle.listing_facts.proofs.Frames.{ProfileTells, EventTells}
 
 -- what each node lists
@@ -80,17 +75,6 @@ module _ (listing : ℕ → List ℕ) where
 
   -- ---- results
 
-  owes : (s : ChipState) → owes_call s ≡ true → OwesCall s
-  owes s e = by (nat_lt 0 s.aborted) refl e
-    where
-      sends : (sending : Option Sending) → is_some sending ≡ true → IsSome sending
-      sends None bad = bad
-      sends (Some x) good = good
-
-      by : (b : Bool) → nat_lt 0 s.aborted ≡ b → (b || is_some s.sending) ≡ true → OwesCall s
-      by true some all = inl (ltb-true 0 s.aborted some)
-      by false none all = inr (sends s.sending all)
-
   call_informs : (o : OuterState) (status : TransmitStatus) → Informs o (call_back o status).outer
   call_informs o status = by (owes_call o.chip.state) refl
     where
@@ -107,15 +91,6 @@ module _ (listing : ℕ → List ℕ) where
   no_routes_inform (suc count) o = follow o (no_route o) (λ later. no_routes count later) (no_route_informs o) (λ later. no_routes_inform count later)
 
   -- the chip's table changes
-  quiet_one : (o : OuterState) (e : ChipEvent) → May o.chip.state e → outs o.chip.state e ≡ [] → ChipDoes (e ∷ []) o (with_chip o (after o.chip.state e))
-  quiet_one o e may none = record {
-    may = (may, tt);
-    state = refl;
-    to_host = ap (λ (l : List ChipOut). written_all o.to_host (chip_units l)) (sym (append-nil (outs o.chip.state e) ∙ none));
-    decoder = refl;
-    to_chip = refl;
-  }
-
   forgets_informs : (o : OuterState) (dead : Option (ℕ × ℕ)) → Informs o (forgets o dead).outer
   forgets_informs o None = here o o refl refl refl
   forgets_informs o (Some hop) = by (linked o.chip.state.table hop.0 hop.1)
@@ -141,16 +116,6 @@ module _ (listing : ℕ → List ℕ) where
     fits : FitsProfile profile
     tells : ProfileTells listing n profile
 
-  kind_fits : (kind : Kind) → FitsProfile (Some (profile_of kind))
-  kind_fits Relay = omega arith
-  kind_fits Switch = omega arith
-  kind_fits Dimmer = omega arith
-  kind_fits Lock = omega arith
-  kind_fits Sensor = omega arith
-  kind_fits Thermostat = omega arith
-  kind_fits Strip = omega arith
-  kind_fits Configurable = omega arith
-
   none_fine : (n : ℕ) → Fine n None
   none_fine n = record { fits = tt; tells = tt }
 
@@ -159,7 +124,7 @@ module _ (listing : ℕ → List ℕ) where
   told_fine n (Some device) lists = by device.awake
     where
       by : (b : Bool) → Fine n (if b then Some (profile_of device.kind) else None)
-      by true = record { fits = kind_fits device.kind; tells = (device.kind, refl, lists device refl) }
+      by true = record { fits = few_classes device.kind; tells = (device.kind, refl, lists device refl) }
       by false = none_fine n
 
   fine_for : (b : Bool) (n : ℕ) (device : Option State) → ((d : State) → device ≡ Some d → classes_of d.kind ≡ listing n) → Fine n (if b then told_profile device else None)
@@ -177,11 +142,6 @@ module _ (listing : ℕ → List ℕ) where
   gives_informs o devices (Info node ∷ due) route lists = from o (record o { due = due }) _ (record { chip = refl; to_host = refl; to_chip = refl }) (informs_it (record o { due = due }) devices node route lists)
 
   -- ---- the air
-
-  short_payload : (payload : List ℕ) → (nat_le 1 (length payload) && nat_le (length payload) 46) ≡ true → (1 ≤ length payload) × (length payload ≤ 46)
-  short_payload payload e =
-      let both = and_parts (nat_le 1 (length payload)) (nat_le (length payload) 46) e in
-      (leb-true 1 (length payload) both.0, leb-true (length payload) 46 both.1)
 
   to_chip_informs : (o : OuterState) (sender : ℕ) (payload : List ℕ) → Informs o (to_chip o sender payload).outer
   to_chip_informs o sender payload = by (nat_le 1 (length payload) && nat_le (length payload) 46) refl
@@ -221,12 +181,6 @@ module _ (listing : ℕ → List ℕ) where
 
   -- ---- nodes
 
-  -- events that set the chip's table
-  abbrev SetsTable : ChipEvent → Type 0
-  SetsTable (Joined n listening) = Unit {0}
-  SetsTable (Linked a b live) = Unit {0}
-  SetsTable event = ⊥
-
   record Sets (s : ChipState) (events : List ChipEvent) : Type 0 where
     may : MayAll s events
     outs_none : outs_all s events ≡ []
@@ -254,14 +208,6 @@ module _ (listing : ℕ → List ℕ) where
         tell = sets.tell;
       }
 
-  sets_map : {X : Type 0} (f : X → ChipEvent) → ((x : X) → SetsTable (f x)) → (xs : List X) → AllByRecursion SetsTable (map f xs)
-  sets_map f sets [] = tt
-  sets_map f sets (x ∷ xs) = (sets x, sets_map f sets xs)
-
-  sets_flat : {X : Type 0} (f : X → List ChipEvent) → ((x : X) → AllByRecursion SetsTable (f x)) → (xs : List X) → AllByRecursion SetsTable (flat_map f xs)
-  sets_flat f sets [] = tt
-  sets_flat f sets (x ∷ xs) = all-append SetsTable (f x) (flat_map f xs) (sets x) (sets_flat f sets xs)
-
   pub joins_inform : (o : OuterState) (node : ℕ) (listening : Bool) → Informs o (joins o node listening)
   joins_inform o node listening =
       let air = joining o.air node listening in
@@ -269,13 +215,6 @@ module _ (listing : ℕ → List ℕ) where
       let known = filter (λ (other : ℕ). is_known air other && linked air.network node other) (range_with_len 1 232) in
       let all : AllByRecursion SetsTable events = (tt, sets_map (λ (other : ℕ). Linked node other true) (λ (other : ℕ). tt) known) in
       both o (with_chip o (after_all o.chip.state events)) (joins o node listening) (sets_inform o events all) (here _ _ refl refl refl)
-
-  all_pairs_set : (air : AirState) → AllByRecursion SetsTable (all_pairs air)
-  unfolding all_pairs
-  all_pairs_set air =
-      sets_flat (λ (node : ℕ). pairs_of air node)
-      (λ (node : ℕ). sets_map (λ (other : ℕ). Linked node other (linked air.network node other)) (λ (other : ℕ). tt) (filter (λ (other : ℕ). is_known air other) (range_with_len 1 (node - 1))))
-      (filter (λ (node : ℕ). is_known air node) (range_with_len 1 232))
 
   pub discovers_inform : (o : OuterState) → Informs o (discovers o)
   discovers_inform o = sets_inform o (all_pairs o.air) (all_pairs_set o.air)

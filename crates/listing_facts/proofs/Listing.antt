@@ -1,7 +1,7 @@
 -- What a node lists stays what its first device listed at first: devices keep their nodes and kinds.
 use Rattle.std.proofs.Common.{◌≡◌, ℕ, Bool, true, false, List, [], ◌∷◌, ap, sym, ◌∙◌, subst}
 use Rattle.std.specs.Prelude.{Option, Some, None, ◌==◌, if◌then◌else◌, option_map, suc}
-use Rattle.device_stack.specs.Kind.{classes_of}
+use Rattle.device_kinds.specs.Kind.{classes_of}
 use Rattle.device_sim.specs.State.{State}
 use Rattle.mesh_sim.specs.Fates.{place_of}
 use Rattle.outer_events.specs.Results.{device_at}

@@ -12,11 +12,10 @@ use Rattle.zw_machine.specs.Did.{happens_all, MayAll}
 use Rattle.zw_machine.specs.Fronts.{IsLineBefore}
 use Rattle.zw_machine.proofs.Doing.{happens_all-append, may_all-append}
 use Rattle.line_facts.specs.Line.{AreLines}
-use Rattle.run_facts.specs.Lines.{IsRead}
 use Rattle.world_facts.specs.Restarts.{AllStartWell}
 use Rattle.said_facts.specs.Spoken.{Spoken, AreSpoken, after, after_all}
 use Rattle.said_facts.specs.Said.{AllTell, LinesTell}
-use Rattle.listing_facts.specs.Lines.{AreDone, events_of}
+use Rattle.listing_facts.specs.Lines.{IsRead, AreDone, events_of}
 
 abbrev pub lines_of : List Spoken → List Line
 lines_of lines = map (λ (spoken : Spoken). spoken.line) lines

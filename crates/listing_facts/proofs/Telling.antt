@@ -15,9 +15,9 @@ use Rattle.chip_functions.specs.AddNode.{add_notice}
 use Rattle.chip_functions.proofs.FieldLaws.{bind_ok, ok_is, as_takes}
 use Rattle.chip_functions.proofs.RowLaws.{row_cases, no_row}
 use Rattle.chip_sim.specs.Events.{update_of}
-use Rattle.device_stack.specs.declared.kind.Kind.{Kind}
-use Rattle.device_stack.specs.declared.kind.Kind.TheVariants.{Relay, Switch, Dimmer, Lock, Sensor, Thermostat, Strip, Configurable}
-use Rattle.device_stack.specs.Kind.{classes_of}
+use Rattle.device_kinds.specs.declared.kind.Kind.{Kind}
+use Rattle.device_kinds.specs.declared.kind.Kind.TheVariants.{Relay, Switch, Dimmer, Lock, Sensor, Thermostat, Strip, Configurable}
+use Rattle.device_kinds.specs.Kind.{classes_of}
 use Rattle.outer_events.specs.Results.{profile_of}
 
 -- ---- the update of a node of a kind

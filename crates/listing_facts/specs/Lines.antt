@@ -1,6 +1,8 @@
 -- What interviews hear, and lines that are said one after another with no word of restarts (this project's own).
-use Rattle.std.specs.Prelude.{◌≡◌, ℕ, List, [], ◌∷◌, ◌++◌}
+use Rattle.std.specs.Prelude.{◌≡◌, ℕ, List, [], ◌∷◌, ◌++◌, Ok, Some}
 use Rattle.std.specs.List.{AllByRecursion}
+use Rattle.zw_text.specs.Line.{line_at}
+use Rattle.zw_text.specs.declared.line.Line.{Line}
 use Rattle.zw_text.specs.declared.entry.Entry.TheVariants.{Said}
 use Rattle.zw_text.specs.Transcript.{line_of}
 use Rattle.host_events.specs.Events.{HostEvent, Interviews}
@@ -23,6 +25,10 @@ HearLists listing (Host_takes count rest items events) = AllByRecursion (HearsLi
 HearLists listing event = Unit {0}
 
 -- ---- lines
+
+-- a line that was read from a text
+abbrev pub IsRead : Line → Type 0
+IsRead line = (text : List ℕ) × (line_at text ≡ Ok (Some line))
 
 -- the words are read as the line, and its events are those of such a line, all of them where others follow, and may happen
 pub record IsDone (more : List Spoken) (m : Machine) (spoken : Spoken) : Type 0 where

@@ -7,10 +7,10 @@ use Rattle.supervision.specs.declared.session.TheConstants.{WORKING}
 use Rattle.supervision.specs.declared.device_book.Heard.TheVariants.{New, Again, Old}
 use Rattle.transport_segments.specs.Kept.{Empty}
 use Rattle.courses.specs.Sessions.{is_segment_of_next}
-use Rattle.device_stack.specs.declared.verdict.Verdict.{Verdict}
-use Rattle.device_stack.specs.declared.verdict.Verdict.TheVariants.{NoSupport, Fails, Makes, Works}
+use Rattle.device_kinds.specs.declared.verdict.Verdict.{Verdict}
+use Rattle.device_kinds.specs.declared.verdict.Verdict.TheVariants.{NoSupport, Fails, Makes, Works}
 use Rattle.device_stack.specs.State.{State}
-use Rattle.device_stack.specs.Judging.{status_of}
+use Rattle.device_kinds.specs.Judging.{status_of}
 use Rattle.message_facts.specs.Asking.{HasTaken, Follows}
 use Rattle.message_facts.specs.Landing.{IsOf, LandsAs}
 use Rattle.message_facts.specs.Segments.{KeepsPart, IsWhole}

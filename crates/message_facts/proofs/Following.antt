@@ -1,9 +1,9 @@
 -- What a device makes of the message of a session.
-use Rattle.std.proofs.Common.{◌≡◌, ◌≢◌, ℕ, ◌+◌, ◌≤◌, ◌==◌, ◌⊎◌, inl, inr, Bool, true, false, ◌&&◌, not, if◌then◌else◌, Option, Some, None, List, ◌∷◌, refl, ap, sym, ◌∙◌, subst}
+use Rattle.std.proofs.Common.{◌≡◌, ◌≢◌, ℕ, ◌+◌, ◌≤◌, ◌⊎◌, inl, inr, Bool, true, false, if◌then◌else◌, Option, Some, None, List, ◌∷◌, refl, ap, sym, ◌∙◌, subst}
 use Rattle.std.specs.Prelude.{Err}
 use Rattle.zw_order.specs.declared.order.Order.{Order}
 use Rattle.supervision.specs.Session.{wire_id}
-use Rattle.supervision.specs.Device.{Taken, is_new, is_again, heard_of}
+use Rattle.supervision.specs.Device.{is_new, is_again, heard_of}
 use Rattle.supervision.specs.declared.session.TheConstants.{WORKING}
 use Rattle.supervision.specs.declared.device_book.Heard.{Heard}
 use Rattle.supervision.specs.declared.device_book.Heard.TheVariants.{New, Again, Old}
@@ -22,16 +22,17 @@ use Rattle.transport_segments.specs.Taking.{is_segment}
 use Rattle.host_orders.specs.Refusals.{IsFit}
 use Rattle.host_orders.specs.Wrapping.{ends_of, message_of, supervised_of}
 use Rattle.host_orders.specs.declared.carriage.Carriage.{Carriage}
-use Rattle.device_stack.specs.declared.kind.Kind.{Kind}
-use Rattle.device_stack.specs.declared.kind.Kind.TheVariants.{Relay, Switch, Dimmer, Lock, Sensor, Thermostat, Strip, Configurable}
-use Rattle.device_stack.specs.declared.verdict.Verdict.{Verdict}
-use Rattle.device_stack.specs.declared.verdict.Verdict.TheVariants.{NoSupport, Fails, Makes, Works}
-use Rattle.device_stack.specs.Kind.{lists}
+use Rattle.device_kinds.specs.declared.kind.Kind.{Kind}
+use Rattle.device_kinds.specs.declared.kind.Kind.TheVariants.{Relay, Switch, Dimmer, Lock, Sensor, Thermostat, Strip, Configurable}
+use Rattle.device_kinds.specs.declared.verdict.Verdict.{Verdict}
+use Rattle.device_kinds.specs.declared.verdict.Verdict.TheVariants.{NoSupport, Fails, Makes, Works}
+use Rattle.device_kinds.specs.Kind.{lists}
 use Rattle.device_stack.specs.State.{State, Outcome, silent, value_of, last_level_of}
-use Rattle.device_stack.specs.Judging.{judged_message}
+use Rattle.device_kinds.specs.Judging.{judged_message}
 use Rattle.device_stack.specs.Effects.{end_of, effect_in_session, effect_of, takes, after_effect}
 use Rattle.device_stack.specs.Hearing.{answers, answers_bytes, hears_openly, hears_nonces, hears_securely, hears_in_segments, hears_by, active, hears}
 use Rattle.device_sim.specs.Event.{Hears, outcome_of, device_after}
+use Rattle.device_sim.proofs.LawLemmas.{not_working}
 use Rattle.message_facts.specs.Asking.{message_in, takes_openly, verdict_on, HasTaken, IsLeft, Follows}
 use Rattle.message_facts.proofs.Bare.{never_begins}
 use Rattle.message_facts.proofs.Opening.{message_opens, target_is}
@@ -81,14 +82,6 @@ unfolding info_at message_at own_at byte_at in_class
 get_unread rest = refl
 
 -- ---- a session is taken, or nothing happens
-
-not_new : (b : Bool) → b && false ≡ true → ⊥
-not_new true e = cc
-not_new false e = cc
-
-not_working : (sessions : Taken) (id : ℕ) → is_new sessions id ≡ true → sessions.status ≢ WORKING
-not_working sessions id e working =
-    not_new (id == wire_id (sessions.taken + 1)) (subst (λ (s : ℕ). (id == wire_id (sessions.taken + 1)) && not (s == WORKING) ≡ true) working e)
 
 taken_as : (device : State) (plan : Plan) (asked : Supervised) (verdict : Verdict) → device.sessions.status ≢ WORKING
     → HasTaken device (takes device plan asked verdict) (device.sessions.taken + 1) verdict

@@ -28,16 +28,16 @@ use Rattle.host_orders.specs.declared.actuator.Actuator.{Actuator}
 use Rattle.host_orders.specs.declared.actuator.Actuator.TheVariants as actuators
 use Rattle.host_orders.specs.declared.errand.Gettable.{Gettable}
 use Rattle.host_orders.specs.declared.errand.Gettable.TheVariants as gettables
-use Rattle.device_stack.specs.declared.kind.Kind.{Kind}
-use Rattle.device_stack.specs.declared.kind.Kind.TheVariants.{Lock, Configurable}
+use Rattle.device_kinds.specs.declared.kind.Kind.{Kind}
+use Rattle.device_kinds.specs.declared.kind.Kind.TheVariants.{Lock, Configurable}
 use Rattle.device_stack.specs.declared.effect.Effect.{Effect}
 use Rattle.device_stack.specs.declared.effect.Effect.TheVariants.{Ignores, Sleeps, Tells, Sets, Repeats, Takes}
-use Rattle.device_stack.specs.declared.verdict.Verdict.{Verdict}
-use Rattle.device_stack.specs.declared.verdict.Verdict.TheVariants.{NoSupport, Fails, Makes, Works}
-use Rattle.device_stack.specs.Kind.{listens, lists, has_end}
+use Rattle.device_kinds.specs.declared.verdict.Verdict.{Verdict}
+use Rattle.device_kinds.specs.declared.verdict.Verdict.TheVariants.{NoSupport, Fails, Makes, Works}
+use Rattle.device_kinds.specs.Kind.{listens, lists, has_end}
 use Rattle.device_stack.specs.State.{State, value_of, last_level_of}
-use Rattle.device_stack.specs.Judging.{judged_set}
-use Rattle.device_stack.specs.Telling.{told}
+use Rattle.device_kinds.specs.Judging.{judged_set}
+use Rattle.device_kinds.specs.Telling.{told}
 use Rattle.device_stack.specs.Effects.{end_of, set_plainly, effect_untold, telling, effect_alone, effect_by, effect_of, after_effect}
 use Rattle.device_stack.specs.Hearing.{answers, answers_opened, answers_bytes, sent_openly, hears_openly, seals_for, hears_nonces, hears_securely, hears_in_segments, hears_by, active}
 use Rattle.device_sim.specs.Event.{Hears, device_after}

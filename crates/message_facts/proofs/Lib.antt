@@ -1,7 +1,7 @@
-mod Bare
+pub mod Bare
 mod Opening
 mod Verdicts
-mod Following
+pub mod Following
 mod Leaving
 mod Reporting
 mod Saying

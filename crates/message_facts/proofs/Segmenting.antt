@@ -18,9 +18,9 @@ use Rattle.transport_segments.specs.declared.assembler.Taken.TheVariants.{Kept, 
 use Rattle.transport_segments.proofs.PlacesLemmas.{there_at, missing_at}
 use Rattle.transport_segments.proofs.AgreeLemmas.{keeps_agreement}
 use Rattle.transport_segments.proofs.TakingLemmas.{segment_decides}
-use Rattle.device_stack.specs.declared.kind.Kind.{Kind}
-use Rattle.device_stack.specs.declared.kind.Kind.TheVariants.{Relay, Switch, Dimmer, Lock, Sensor, Thermostat, Strip, Configurable}
-use Rattle.device_stack.specs.Kind.{lists}
+use Rattle.device_kinds.specs.declared.kind.Kind.{Kind}
+use Rattle.device_kinds.specs.declared.kind.Kind.TheVariants.{Relay, Switch, Dimmer, Lock, Sensor, Thermostat, Strip, Configurable}
+use Rattle.device_kinds.specs.Kind.{lists}
 use Rattle.device_stack.specs.State.{State, Outcome, silent}
 use Rattle.device_stack.specs.Hearing.{hears_openly, segment_session, assembles, repeats_segment, hears_segment, hears_in_segments, hears_by, active, hears}
 use Rattle.device_sim.specs.Event.{Hears, outcome_of, device_after, device_replies}

@@ -33,13 +33,13 @@ use Rattle.encap.specs.declared.plan.Outer.TheVariants.{Security}
 use Rattle.host_orders.specs.Refusals.{IsFit}
 use Rattle.host_orders.specs.Wrapping.{ends_of, message_of, supervised_of}
 use Rattle.host_orders.specs.declared.carriage.Carriage.{Carriage}
-use Rattle.device_stack.specs.declared.kind.Kind.{Kind}
-use Rattle.device_stack.specs.declared.kind.Kind.TheVariants.{Lock}
-use Rattle.device_stack.specs.declared.verdict.Verdict.{Verdict}
-use Rattle.device_stack.specs.Kind.{lists}
-use Rattle.device_stack.specs.State.{State, Outcome, host_node, value_of, last_level_of}
+use Rattle.device_kinds.specs.declared.kind.Kind.{Kind}
+use Rattle.device_kinds.specs.declared.kind.Kind.TheVariants.{Lock}
+use Rattle.device_kinds.specs.declared.verdict.Verdict.{Verdict}
+use Rattle.device_kinds.specs.Kind.{lists, host_node}
+use Rattle.device_stack.specs.State.{State, Outcome, value_of, last_level_of}
 use Rattle.device_stack.specs.Answers.{swapped, answer_plan, worded}
-use Rattle.device_stack.specs.Judging.{judged_message}
+use Rattle.device_kinds.specs.Judging.{judged_message}
 use Rattle.device_stack.specs.Sealing.{keys_of, cipher_text_of, unsealed_at, sealed_text}
 use Rattle.device_stack.proofs.SealingLemmas.{opened_is}
 use Rattle.device_stack.specs.Effects.{end_of, effect_of, effect_in_session, answer_of, after_effect}

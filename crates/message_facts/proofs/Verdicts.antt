@@ -33,14 +33,14 @@ use Rattle.host_orders.specs.Settings.{setting, settings, settings_by, value_set
 use Rattle.host_orders.specs.declared.actuator.Actuator.{Actuator}
 use Rattle.host_orders.specs.declared.actuator.Actuator.TheVariants.{Binary, Multilevel, Lock}
 use Rattle.host_orders.specs.declared.carriage.Carriage.{Carriage}
-use Rattle.device_stack.specs.declared.kind.Kind.{Kind}
-use Rattle.device_stack.specs.declared.verdict.Verdict.{Verdict}
-use Rattle.device_stack.specs.declared.verdict.Verdict.TheVariants.{NoSupport, Fails, Makes, Works}
-use Rattle.device_stack.specs.Kind.{lists, has_end}
+use Rattle.device_kinds.specs.declared.kind.Kind.{Kind}
+use Rattle.device_kinds.specs.declared.verdict.Verdict.{Verdict}
+use Rattle.device_kinds.specs.declared.verdict.Verdict.TheVariants.{NoSupport, Fails, Makes, Works}
+use Rattle.device_kinds.specs.Kind.{lists, has_end}
 use Rattle.device_stack.specs.State.{State, value_of, last_level_of}
-use Rattle.device_stack.specs.Values.{value_by}
-use Rattle.device_stack.specs.Settings.{with_setting, merged}
-use Rattle.device_stack.specs.Judging.{where_inside, level_meant, is_setpoint, configured, member_count, memberships, judged_members, judged_set, judged, judged_all, judged_message}
+use Rattle.device_kinds.specs.Values.{value_by}
+use Rattle.device_kinds.specs.Settings.{with_setting, merged}
+use Rattle.device_kinds.specs.Judging.{where_inside, level_meant, is_setpoint, configured, member_count, memberships, judged_members, judged_set, judged, judged_all, judged_message}
 use Rattle.message_facts.specs.Asking.{verdict_on, MakesOnly}
 use Rattle.message_facts.proofs.Opening.{reads, value_in_range, mode_in_range, setpoint_in_range, first_of, second_of}
 

@@ -19,13 +19,13 @@ use Rattle.transport_segments.specs.Kept.{Empty}
 use Rattle.host_orders.specs.Messages.{commands_of, is_batch}
 use Rattle.host_orders.specs.Wrapping.{plan_of}
 use Rattle.host_orders.specs.declared.carriage.Carriage.{Carriage}
-use Rattle.device_stack.specs.declared.kind.Kind.{Kind}
-use Rattle.device_stack.specs.declared.kind.Kind.TheVariants.{Relay, Switch, Dimmer, Lock, Sensor, Thermostat, Strip, Configurable}
-use Rattle.device_stack.specs.declared.verdict.Verdict.{Verdict}
-use Rattle.device_stack.specs.declared.verdict.Verdict.TheVariants.{NoSupport, Fails, Makes, Works}
+use Rattle.device_kinds.specs.declared.kind.Kind.{Kind}
+use Rattle.device_kinds.specs.declared.kind.Kind.TheVariants.{Relay, Switch, Dimmer, Lock, Sensor, Thermostat, Strip, Configurable}
+use Rattle.device_kinds.specs.declared.verdict.Verdict.{Verdict}
+use Rattle.device_kinds.specs.declared.verdict.Verdict.TheVariants.{NoSupport, Fails, Makes, Works}
 use Rattle.device_stack.specs.declared.work.Work.{Work}
 use Rattle.device_stack.specs.State.{State, value_of, last_level_of}
-use Rattle.device_stack.specs.Judging.{judged_message, status_of}
+use Rattle.device_kinds.specs.Judging.{judged_message, status_of}
 use Rattle.device_sim.specs.Laws.{IsMade}
 
 -- ---- what is in it

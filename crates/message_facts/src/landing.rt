@@ -3,7 +3,7 @@
 ghost use Rattle.std.specs.Prelude.{◌≡◌, ℕ, ◌+◌, ◌%◌, List, true, false};
 ghost use Rattle.supervision.specs.Session.{wire_id};
 ghost use Rattle.supervision.specs.Device.{heard_of};
-ghost use Rattle.device_stack.specs.declared.verdict.Verdict.{Verdict};
+ghost use Rattle.device_kinds.specs.declared.verdict.Verdict.{Verdict};
 ghost use Rattle.device_sim.specs.State.{State};
 ghost use Rattle.message_facts.specs.Asking.{Follows};
 ghost use Rattle.message_facts.specs.Landing.{LandsAs};

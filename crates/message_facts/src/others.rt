@@ -5,7 +5,7 @@ ghost use Rattle.zw_order.specs.declared.order.Word.{Word};
 ghost use Rattle.class_info.specs.InfoSpelling.{form};
 ghost use Rattle.class_info.specs.declared.message.InfoMessage.TheVariants as messages;
 ghost use Rattle.host_orders.specs.Errands.{send_text, get_text};
-ghost use Rattle.device_stack.specs.Kind.{lists};
+ghost use Rattle.device_kinds.specs.Kind.{lists};
 ghost use Rattle.device_sim.specs.State.{State};
 ghost use Rattle.device_sim.specs.Event.{Hears, device_after};
 ghost use Rattle.message_facts.specs.Asking.{IsLeft};

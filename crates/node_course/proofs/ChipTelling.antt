@@ -1,9 +1,8 @@
 -- Whatever happens outside the host but at the line itself: what the chip does, what it is given of the node, and that the air stays.
-use Rattle.std.proofs.Common.{◌≡◌, ℕ, zero, suc, ◌-◌, ◌≤◌, ◌==◌, ◌&&◌, ◌||◌, Bool, true, false, List, [], ◌∷◌, ◌++◌, length, map, refl, ap, sym, ◌∙◌, subst, inl, inr, arith, filter, nat_lt, nat_le, if◌then◌else◌, append-nil}
-use Rattle.std.specs.Prelude.{Option, Some, None, IsSome, drop}
-use Rattle.std.specs.List.{AllByRecursion, flat_map, range_with_len}
+use Rattle.std.proofs.Common.{◌≡◌, ℕ, zero, suc, ◌-◌, ◌==◌, ◌&&◌, Bool, true, false, List, [], ◌∷◌, ◌++◌, length, refl, sym, ◌∙◌, subst, filter, nat_le, if◌then◌else◌, append-nil}
+use Rattle.std.specs.Prelude.{Option, Some, None, drop}
+use Rattle.std.specs.List.{AllByRecursion, range_with_len}
 use Rattle.std.specs.Option.{unwrap_or, is_some, option_to_list}
-use Rattle.std.proofs.lemmas.Bool.{ltb-true, leb-true, and_parts}
 use Rattle.serial_frame.specs.Frame.{FrameParts}
 use Rattle.serial_link.specs.State.{copy_due}
 use Rattle.serial_link.specs.declared.turn.Turn.{Turn}
@@ -14,18 +13,14 @@ use Rattle.chip_functions.specs.Notice.{status_of}
 use Rattle.chip_functions.specs.declared.notice.TransmitStatus.{TransmitStatus}
 use Rattle.chip_functions.specs.declared.notice.TransmitStatus.TheVariants.{Fail, NoRoute as no_route_status}
 use Rattle.chip_sim.specs.State.{ChipState}
-use Rattle.chip_sim.specs.Events.{ChipEvent, Judged, Ticked, Done, Heard as chip_hears, Informed, Forgets, Joined, Linked, Collides, after, outs, May, OwesCall, FitsProfile, ended_outs}
+use Rattle.chip_sim.specs.Events.{ChipEvent, Judged, Ticked, Done, Heard as chip_hears, Informed, Forgets, Joined, Linked, Collides, after, outs, May, ended_outs}
 use Rattle.chip_sim.specs.Did.{after_all}
-use Rattle.chip_sim.specs.Link.{chip_units}
 use Rattle.chip_sim.specs.Waiting.{PortState, is_full, queued_outs, queued_outs_at, served_outs, next_at, written, ticked}
 use Rattle.chip_sim.specs.declared.out.Sending.{Sending}
 use Rattle.chip_sim.specs.declared.out.ChipOut.{ChipOut}
 use Rattle.chip_sim.specs.declared.out.ChipOut.TheVariants as chip_out
-use Rattle.device_stack.specs.declared.kind.Kind.{Kind}
-use Rattle.device_stack.specs.declared.kind.Kind.TheVariants.{Relay, Switch, Dimmer, Lock, Sensor, Thermostat, Strip, Configurable}
-use Rattle.device_sim.specs.Kind.{classes_of}
 use Rattle.device_sim.specs.State.{State}
-use Rattle.mesh_sim.specs.Air.{AirState, is_joined, joining}
+use Rattle.mesh_sim.specs.Air.{is_joined, joining}
 use Rattle.mesh_sim.specs.Fates.{place_of}
 use Rattle.mesh_sim.specs.declared.event.AirEvent.{AirEvent}
 use Rattle.mesh_sim.specs.declared.event.AirEvent.TheVariants as air_event
@@ -34,12 +29,11 @@ use Rattle.outer_events.specs.declared.waits.Due.{Due}
 use Rattle.outer_events.specs.declared.waits.Due.TheVariants.{Info, NoRoute as no_route_due}
 use Rattle.outer_events.specs.State.{OuterState, silent, tells, each, with_chip}
 use Rattle.outer_events.specs.Chip.{put_out, chip_does}
-use Rattle.outer_events.specs.Results.{owes_call, call_back, no_route, no_routes, leading, forgets, frame_ends, gives, without_no_route, told_profile, profile_of, profile_for, device_at}
+use Rattle.outer_events.specs.Results.{owes_call, call_back, no_route, no_routes, leading, forgets, frame_ends, gives, without_no_route, profile_for, device_at}
 use Rattle.outer_events.specs.Air.{to_chip, deals}
-use Rattle.outer_events.specs.Nodes.{discovers, links_of, pairs_of, all_pairs, is_known}
-use Rattle.line_facts.specs.Way.{written_all}
+use Rattle.outer_events.specs.Nodes.{discovers, links_of, all_pairs, is_known}
 use Rattle.line_facts.specs.Chip.{ChipDoes}
-use Rattle.line_facts.proofs.ChipWays.{does_both, does_one, IsStill, still_does}
+use Rattle.line_facts.proofs.ChipWays.{does_both, does_one, IsStill, still_does, owes, quiet_one as quiet_does, fits_for, short_payload, SetsTable, sets_map, all_pairs_set}
 use Rattle.node_course.specs.Ways.{Beside, Thinned}
 use Rattle.node_course.specs.Mesh.{labels, brought, BringsAs}
 use Rattle.node_course.specs.Chip.{GivesAs}
@@ -158,17 +152,6 @@ module _ {L : Type 0} (Holds : List ℕ → Option L → Type 0) (node : ℕ) wh
 
   -- ---- results
 
-  owes : (s : ChipState) → owes_call s ≡ true → OwesCall s
-  owes s e = by (nat_lt 0 s.aborted) refl e
-    where
-      sends : (sending : Option Sending) → is_some sending ≡ true → IsSome sending
-      sends None bad = bad
-      sends (Some x) good = good
-
-      by : (b : Bool) → nat_lt 0 s.aborted ≡ b → (b || is_some s.sending) ≡ true → OwesCall s
-      by true some all = inl (ltb-true 0 s.aborted some)
-      by false none all = inr (sends s.sending all)
-
   call_tells : (o : OuterState) (status : TransmitStatus) → ChipTells Holds node [] o (call_back o status).outer
   call_tells o status = by (owes_call o.chip.state) refl
     where
@@ -190,13 +173,7 @@ module _ {L : Type 0} (Holds : List ℕ → Option L → Type 0) (node : ℕ) wh
   quiet_one : (o : OuterState) (e : ChipEvent) → May o.chip.state e → outs o.chip.state e ≡ [] → GivesAs Holds node e None → ChipTells Holds node [] o (with_chip o (after o.chip.state e))
   quiet_one o e may none is = record {
     events = e ∷ [];
-    does = record {
-      may = (may, tt);
-      state = refl;
-      to_host = ap (λ (l : List ChipOut). written_all o.to_host (chip_units l)) (sym (append-nil (outs o.chip.state e) ∙ none));
-      decoder = refl;
-      to_chip = refl;
-    };
+    does = quiet_does o e may none;
     marks = None ∷ [];
     gives = (is, tt);
     are = tt;
@@ -220,28 +197,6 @@ module _ {L : Type 0} (Holds : List ℕ → Option L → Type 0) (node : ℕ) wh
 
   -- ---- the information of a node
 
-  few_classes : (kind : Kind) → length (classes_of kind) ≤ 246
-  few_classes Relay = omega arith
-  few_classes Switch = omega arith
-  few_classes Dimmer = omega arith
-  few_classes Lock = omega arith
-  few_classes Sensor = omega arith
-  few_classes Thermostat = omega arith
-  few_classes Strip = omega arith
-  few_classes Configurable = omega arith
-
-  told_fits : (device : Option State) → FitsProfile (told_profile device)
-  told_fits None = tt
-  told_fits (Some device) = by device.awake
-    where
-      by : (b : Bool) → FitsProfile (if b then Some (profile_of device.kind) else None)
-      by true = few_classes device.kind
-      by false = tt
-
-  fits_for : (b : Bool) (device : Option State) → FitsProfile (if b then told_profile device else None)
-  fits_for true device = told_fits device
-  fits_for false device = tt
-
   pub gives_tells : (o : OuterState) (devices : List State) (due : List Due) (route : Option Route) → ChipTells Holds node [] o (gives o devices due route).outer
   gives_tells o devices [] route = here o o refl refl refl refl
   gives_tells o devices (no_route_due ∷ due) route = no_route_tells o
@@ -250,11 +205,6 @@ module _ {L : Type 0} (Holds : List ℕ → Option L → Type 0) (node : ℕ) wh
       (tells_one (record o { due = due }) (Informed n (profile_for o.air devices n route)) None (fits_for (is_joined o.air n && is_some route) (device_at devices (place_of n devices))) tt refl)
 
   -- ---- the air
-
-  short_payload : (payload : List ℕ) → (nat_le 1 (length payload) && nat_le (length payload) 46) ≡ true → (1 ≤ length payload) × (length payload ≤ 46)
-  short_payload payload e =
-      let both = and_parts (nat_le 1 (length payload)) (nat_le (length payload) 46) e in
-      (leb-true 1 (length payload) both.0, leb-true (length payload) 46 both.1)
 
   to_chip_tells : (o : OuterState) (from : ℕ) (payload : List ℕ) (mark : Option L) → BringsAs Holds node (from, payload) mark → ChipTells Holds node (option_to_list mark) o (to_chip o from payload).outer
   to_chip_tells o from payload mark is = by (nat_le 1 (length payload) && nat_le (length payload) 46) refl
@@ -281,12 +231,6 @@ module _ {L : Type 0} (Holds : List ℕ → Option L → Type 0) (node : ℕ) wh
 
   -- ---- nodes
 
-  -- events that set the chip's table
-  abbrev pub SetsTable : ChipEvent → Type 0
-  SetsTable (Joined n listening) = Unit {0}
-  SetsTable (Linked a b live) = Unit {0}
-  SetsTable event = ⊥
-
   sets_tells : (o : OuterState) (events : List ChipEvent) → AllByRecursion SetsTable events → ChipTells Holds node [] o (with_chip o (after_all o.chip.state events))
   sets_tells o [] all = here o (with_chip o o.chip.state) refl refl refl refl
   sets_tells o (Joined n listening ∷ events) all =
@@ -297,31 +241,12 @@ module _ {L : Type 0} (Holds : List ℕ → Option L → Type 0) (node : ℕ) wh
       tells_both [] [] o mid (with_chip o (after_all o.chip.state (Linked a b live ∷ events))) (quiet_one o (Linked a b live) tt refl refl) (sets_tells mid events all.1)
   sets_tells o (event ∷ events) all = absurd all.0
 
-  sets_map : {X : Type 0} (f : X → ChipEvent) → ((x : X) → SetsTable (f x)) → (xs : List X) → AllByRecursion SetsTable (map f xs)
-  sets_map f sets [] = tt
-  sets_map f sets (x ∷ xs) = (sets x, sets_map f sets xs)
-
-  sets_append : (a b : List ChipEvent) → AllByRecursion SetsTable a → AllByRecursion SetsTable b → AllByRecursion SetsTable (a ++ b)
-  sets_append [] b first later = later
-  sets_append (e ∷ a) b first later = (first.0, sets_append a b first.1 later)
-
-  sets_flat : {X : Type 0} (f : X → List ChipEvent) → ((x : X) → AllByRecursion SetsTable (f x)) → (xs : List X) → AllByRecursion SetsTable (flat_map f xs)
-  sets_flat f sets [] = tt
-  sets_flat f sets (x ∷ xs) = sets_append (f x) (flat_map f xs) (sets x) (sets_flat f sets xs)
-
   -- the table is set, and the air is then this
   pub joins_tell : (o : OuterState) (n : ℕ) (listening : Bool) → ChipTells Holds node [] o (with_chip o (after_all o.chip.state (Joined n listening ∷ links_of (joining o.air n listening) n)))
   joins_tell o n listening =
       let air = joining o.air n listening in
       let known = filter (λ (other : ℕ). is_known air other && linked air.network n other) (range_with_len 1 232) in
       sets_tells o (Joined n listening ∷ links_of air n) (tt, sets_map (λ (other : ℕ). Linked n other true) (λ (other : ℕ). tt) known)
-
-  all_pairs_set : (air : AirState) → AllByRecursion SetsTable (all_pairs air)
-  unfolding all_pairs
-  all_pairs_set air =
-      sets_flat (λ (n : ℕ). pairs_of air n)
-      (λ (n : ℕ). sets_map (λ (other : ℕ). Linked n other (linked air.network n other)) (λ (other : ℕ). tt) (filter (λ (other : ℕ). is_known air other) (range_with_len 1 (n - 1))))
-      (filter (λ (n : ℕ). is_known air n) (range_with_len 1 232))
 
   pub discovers_tell : (o : OuterState) → ChipTells Holds node [] o (discovers o)
   discovers_tell o = sets_tells o (all_pairs o.air) (all_pairs_set o.air)

@@ -32,11 +32,11 @@ use Rattle.chip_sim.specs.Waiting.{PortState, is_full, queued, queued_at, queued
 use Rattle.chip_sim.specs.Answers.{response_frame, notice_frame, init_data, capabilities, version, memory_id, protocol_info, routing_info, takes}
 use Rattle.chip_sim.specs.Nodes.{is_marked}
 use Rattle.chip_functions.specs.declared.response.Response.TheVariants.{SendData as send_answer, RequestNodeInfo as info_answer, IsFailedNode as failed_answer}
-use Rattle.chip_sim.specs.Requests.{passed, answer_outs, reply_to, performed, performed_outs, requested, requested_outs, asked, heard, judged_frame, judged_outs, given_if, given_outs, sent, abort_frame, callback_frame, stopped}
+use Rattle.chip_sim.specs.Requests.{passed, answer_outs, reply_to, performed, performed_outs, requested, requested_outs, asked, heard, judged_frame, judged_outs, given_if, given_outs, sent, abort_frame, callback_frame}
 use Rattle.chip_sim.specs.Events.{ChipEvent, Judged, Ticked, Heard, Done, Informed, Joined, Linked, Forgets, Collides, after, outs, May, collides, ended, ended_outs, update_of}
 use Rattle.chip_sim.specs.Link.{chip_units}
 use Rattle.chip_sim.specs.Did.{MayAll, after_all, outs_all}
-use Rattle.chip_sim.proofs.Steps.{well_event}
+use Rattle.chip_sim.proofs.Steps.{well_event, port_performed}
 use Rattle.chip_sim.specs.Rules.{WaitsWhileBusy, WaitsWell}
 use Rattle.chip_sim.specs.declared.out.Sending.{Sending}
 use Rattle.chip_sim.specs.declared.out.ChipOut.{ChipOut}
@@ -71,28 +71,6 @@ same_handler a b c d x y e = (cc, cc)
 written_units : (f : Option FrameParts) → chip_units (written f) ≡ copies_of f
 written_units None = refl
 written_units (Some f) = refl
-
--- what a request does beside its reply writes nothing and leaves the port
-same_stopped : (sending : Option Sending) (s : ChipState) → (stopped sending s).port ≡ s.port
-same_stopped None s = refl
-same_stopped (Some sending) s = refl
-
-same_performed : (request : Request) (s : ChipState) → (performed request s).port ≡ s.port
-same_performed GetInitData s = refl
-same_performed GetCapabilities s = refl
-same_performed (SendData n payload options id) s = by (takes s n payload)
-  where
-    by : (b : Bool) → (if b then record s { sending = Some (record { node = n; callback_id = id }) } else s).port ≡ s.port
-    by true = refl
-    by false = refl
-same_performed GetVersion s = refl
-same_performed SendDataAbort s = same_stopped s.sending s
-same_performed MemoryGetId s = refl
-same_performed (GetNodeProtocolInfo n) s = refl
-same_performed (AddNode mode id) s = refl
-same_performed (RequestNodeInfo n) s = refl
-same_performed (IsFailedNode n) s = refl
-same_performed (GetRoutingInfo n x y z) s = refl
 
 sent_silent : (n : ℕ) (payload : List ℕ) (way : Option Route) → chip_units (sent n payload way) ≡ []
 sent_silent n payload None = refl
@@ -256,7 +234,7 @@ module _ {L : Type 0} (Holds : List ℕ → Option L → Type 0) where
   requested_moves node (Some request) s way well =
       port_both node s.port (given_if s (reply_to s request)).port (performed request (given_if s (reply_to s request))).port (given_outs s (reply_to s request)) (performed_outs request s way) [] []
       (given_moves node s (reply_to s request) well (reply_none node s request))
-      (silent_moves node (given_if s (reply_to s request)).port (performed request (given_if s (reply_to s request))).port (performed_outs request s way) (same_performed request (given_if s (reply_to s request))) (performed_silent request s way))
+      (silent_moves node (given_if s (reply_to s request)).port (performed request (given_if s (reply_to s request))).port (performed_outs request s way) (port_performed request (given_if s (reply_to s request))) (performed_silent request s way))
 
   judged_moves : (node : ℕ) (found : Option FrameParts) (s : ChipState) (way : Option Route) → ((f : FrameParts) → found ≡ Some f → WaitsWell s.port) → PortMoves node s.port (judged_outs found s way) (judged_frame found s).port []
   judged_moves node None s way well = served_moves node s.port

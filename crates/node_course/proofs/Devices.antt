@@ -17,10 +17,10 @@ use Rattle.encap.specs.Opening.{opened_at}
 use Rattle.host_orders.specs.Refusals.{IsFit}
 use Rattle.host_orders.specs.Wrapping.{message_of, supervised_of}
 use Rattle.host_orders.specs.declared.carriage.Carriage.{Carriage}
-use Rattle.device_stack.specs.declared.kind.Kind.{Kind}
-use Rattle.device_stack.specs.declared.kind.Kind.TheVariants.{Relay, Switch, Dimmer, Lock, Sensor, Thermostat, Strip, Configurable}
-use Rattle.device_stack.specs.declared.verdict.Verdict.{Verdict}
-use Rattle.device_stack.specs.Kind.{lists, listens}
+use Rattle.device_kinds.specs.declared.kind.Kind.{Kind}
+use Rattle.device_kinds.specs.declared.kind.Kind.TheVariants.{Relay, Switch, Dimmer, Lock, Sensor, Thermostat, Strip, Configurable}
+use Rattle.device_kinds.specs.declared.verdict.Verdict.{Verdict}
+use Rattle.device_kinds.specs.Kind.{lists, listens}
 use Rattle.device_stack.specs.Hearing.{hears_openly, hears_by, active, hears as device_hears}
 use Rattle.device_stack.specs.Ticking.{ticked, woken, set_by_hand}
 use Rattle.device_stack.specs.State.{Outcome}
@@ -28,6 +28,7 @@ use Rattle.device_sim.specs.State.{State, fresh}
 use Rattle.device_sim.specs.Event.{DeviceEvent, Hears, Ticks, Wakes, Sets, outcome_of, device_after, device_replies}
 use Rattle.device_facts.specs.GoingOn.{IsSame}
 use Rattle.device_course.specs.Ending.{one_at_work, HasEnded}
+use Rattle.device_course.proofs.Ending.{numbered_last}
 use Rattle.message_facts.specs.Asking.{message_in, takes_openly, verdict_on, IsLeft, Follows}
 use Rattle.message_facts.specs.Landing.{HasLanded, IsOf, LandsAs}
 use Rattle.message_facts.specs.Others.{IsOther}
@@ -37,7 +38,8 @@ use Rattle.message_facts.specs.Segments.{KeepsPart, IsWhole, KeepsSegment, Makes
 use Rattle.node_course.specs.Meaning.{Asked, IsMessageOf, IsSegmentOf, IsMessage, HostMeans}
 use Rattle.node_course.specs.Making.{KeepsNext, Makes, NamesNext, Names}
 use Rattle.node_course.specs.Device.{AtDevice, finishes, Says, GoesAs, HearsAs}
-use Rattle.node_course.proofs.Segments.{Laws as SegmentLaws, message_whole, knows_supervision, part_of, IsNext, IsAnother, segment_heard}
+use Rattle.message_facts.proofs.Following.{knows_supervision}
+use Rattle.node_course.proofs.Segments.{Laws as SegmentLaws, message_whole, part_of, IsNext, IsAnother, segment_heard}
 use Rattle.node_course.proofs.Saying.{IsBare, AllOwnTaken, in_segments_bare, none_own, openly_bare, AllTaken, get_taken, later, openly_same, never_own, all_said, all_taken, weaken_taken, ticks_bare, wakes_bare, wakes_same, sets_bare_all, sets_same}
 
 -- ---- statuses that are added
@@ -45,10 +47,6 @@ use Rattle.node_course.proofs.Saying.{IsBare, AllOwnTaken, in_segments_bare, non
 pub no_more : (ends more : List ℕ) → length (ends ++ more) ≡ length ends → more ≡ []
 no_more ends [] e = refl
 no_more ends (x ∷ more) e = let long = length-append ends (x ∷ more) in absurd (omega (arith, e, long))
-
-numbered_last : (ends : List ℕ) (status : ℕ) → numbered (ends ++ status ∷ []) (suc (length ends)) ≡ status ∷ []
-numbered_last [] status = refl
-numbered_last (x ∷ ends) status = numbered_last ends status
 
 one_more : (ends more : List ℕ) (at status : ℕ) → length (ends ++ more) ≡ at → at ≡ suc (length ends) → numbered (ends ++ more) at ≡ status ∷ [] → more ≡ status ∷ []
 one_more ends [] at status e is n = let long = length-append ends [] in absurd (omega (arith, e, is, long))

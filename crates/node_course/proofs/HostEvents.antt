@@ -3,6 +3,7 @@ use Rattle.std.proofs.Common.{◌≡◌, ◌≢◌, ℕ, zero, suc, ◌+◌, ◌
 use Rattle.std.specs.Prelude.{slice_get}
 use Rattle.std.specs.List.{AllByRecursion}
 use Rattle.std.proofs.lemmas.Bool.{eqb-true}
+use Rattle.list_lemmas.proofs.Each.{all-append, all-get}
 use Rattle.supervision.specs.Host.{HostBook, begun_of, open_session, command_at as command_of_session}
 use Rattle.supervision.proofs.OnceLemmas.{All-slice_get}
 use Rattle.courses.specs.Parts.{numbered}
@@ -77,14 +78,9 @@ pub command_numbered : (commands : List Command) (number : ℕ) (command : Comma
 command_numbered commands zero command e = absurd (grind (arith, e))
 command_numbered commands (suc before) command e = numbered_of (map asked_of commands) before (asked_of command) (get_map commands before command e)
 
-pub all_get : {A : Type 0} (P : A → Type 0) (xs : List A) (at : ℕ) (x : A) → AllByRecursion P xs → slice_get xs at ≡ Some x → P x
-all_get P [] at x all e = absurd (grind arith)
-all_get {A} P (y ∷ ys) zero x all e = let same : y ≡ x = cc in subst P same all.0
-all_get P (y ∷ ys) (suc at) x all e = all_get P ys at x all.1 e
-
 plain_at : (node : ℕ) (commands : List Command) (number : ℕ) (command : Command) → AllByRecursion (IsPlainFor node) (map asked_of commands) → command_at commands number ≡ Some command → IsPlainFor node (asked_of command)
 plain_at node commands zero command all e = absurd (grind (arith, e))
-plain_at node commands (suc before) command all e = all_get (IsPlainFor node) (map asked_of commands) before (asked_of command) all (get_map commands before command e)
+plain_at node commands (suc before) command all e = all-get (IsPlainFor node) (map asked_of commands) before (asked_of command) all (get_map commands before command e)
 
 pub owned : (commands : List Command) (node : ℕ) (numbers : List ℕ) (session number : ℕ) → All (IsCommandOf commands node) numbers → command_of_session numbers session ≡ Some number → IsCommandOf commands node number
 owned commands node numbers zero number all e = absurd (grind (arith, e))
@@ -99,10 +95,6 @@ open_is book session e = by book.outcome book.commands refl refl e
     by None (command ∷ more) o are open_is =
         let last : suc (length more) ≡ session = cc in
         let long : begun_of book ≡ suc (length more) = ap length are in (sym last ∙ sym long, omega (arith, long))
-
-pub all-append : {A : Type 0} (P : A → Type 0) (xs ys : List A) → AllByRecursion P xs → AllByRecursion P ys → AllByRecursion P (xs ++ ys)
-all-append P [] ys first later = later
-all-append P (x ∷ xs) ys first later = (first.0, all-append P xs ys first.1 later)
 
 pub map_more : (commands : List Command) (command : Command) → map asked_of (commands ++ command ∷ []) ≡ map asked_of commands ++ asked_of command ∷ []
 map_more [] command = refl

@@ -1,5 +1,5 @@
 -- The host judges items, one after another, in the course of one node; and what it does of itself.
-use Rattle.std.proofs.Common.{◌≡◌, ℕ, ◌+◌, ◌<◌, ◌⊎◌, inl, inr, Bool, Option, Some, List, [], ◌∷◌, ◌++◌, length, refl, ap, sym, ◌∙◌, subst, append-nil, append_assoc, arith}
+use Rattle.std.proofs.Common.{◌≡◌, ℕ, ◌+◌, ◌<◌, ◌⊎◌, inl, inr, Bool, Option, Some, List, [], ◌∷◌, ◌++◌, length, refl, ap, sym, ◌∙◌, subst, append-nil, arith}
 use Rattle.std.specs.List.{AllByRecursion}
 use Rattle.std.specs.Option.{option_to_list}
 use Rattle.supervision.specs.Session.{wire_id}
@@ -21,7 +21,8 @@ use Rattle.mesh_sim.specs.Air.{AirState}
 use Rattle.outer_events.specs.State.{Outside}
 use Rattle.outer_events.specs.Events.{OuterEvent, mesh_of, happens as happens_outside}
 use Rattle.outer_events.specs.Did.{happens_all as happens_all_outside}
-use Rattle.zw_machine.specs.State.{routed, routed_one}
+use Rattle.zw_machine.specs.State.{routed}
+use Rattle.zw_machine.proofs.Hosting.{routed-append}
 use Rattle.zw_text.specs.declared.entry.Entry.TheVariants.{Out}
 use Rattle.host_keep.specs.declared.final_status.FinalStatus.{FinalStatus}
 use Rattle.host_keep.specs.Status.{status_byte}
@@ -43,6 +44,7 @@ use Rattle.host_events.specs.Outs.{outs, ended_of, stored_entries, held_entries}
 use Rattle.host_events.specs.May.{May}
 use Rattle.host_events.specs.Taking.{IsJudged, AreJudged}
 use Rattle.host_events.specs.Events.{HostEvent, Hears, Finishes, Begins}
+use Rattle.host_events.proofs.Doing.{after_all-append, outs_all-append}
 use Rattle.line_facts.specs.Way.{Carries}
 use Rattle.line_facts.specs.Line.{host_units}
 use Rattle.line_facts.specs.Chip.{HasFrames}
@@ -64,15 +66,15 @@ use Rattle.node_course.proofs.Outer.{has_same, mesh_down}
 use Rattle.node_course.proofs.NodeKeeping.{SameHost, holding_same, outcome_orders}
 use Rattle.node_course.proofs.HostDoing.{AirLaws, SameAir, routed_air, writes_go, begin_goes, set_here}
 use Rattle.node_course.proofs.HostEvents.{event_wrote, noted_none, open_is, owned}
-use Rattle.node_course.proofs.Told.{PastLaws, past_kept, outcomes_kept, outcomes_stay, told_more, final_open, holding_commands, outcome_same}
+use Rattle.host_records.proofs.Going.{final_session}
+use Rattle.once_facts.proofs.Going.{told_more}
+use Rattle.host_facts.proofs.Commands.{outcome_same}
+use Rattle.host_facts.proofs.Effects.{held_commands}
+use Rattle.node_course.proofs.Told.{PastLaws, past_kept, outcomes_kept, outcomes_stay}
 use Rattle.node_course.proofs.HostEntries.{event_begins_none}
 use Rattle.node_course.proofs.HostJudging.{AllAside, IsFinish, Bytes, item_told}
 
 -- ---- lists of events
-
-routed-append : (a b : List HostOut) → routed (a ++ b) ≡ routed a ++ routed b
-routed-append [] b = refl
-routed-append (out ∷ a) b = ap (λ l. routed_one out ++ l) (routed-append a b) ∙ sym (append_assoc (routed_one out) (routed a) (routed b))
 
 pub happens_then : (w : Outside) (a b : List OuterEvent) → happens_all_outside w (a ++ b) ≡ happens_all_outside (happens_all_outside w a) b
 happens_then w [] b = refl
@@ -80,14 +82,6 @@ happens_then w (event ∷ a) b = happens_then (happens_outside w event) a b
 
 pub routed_then : (w : Outside) (a b : List HostOut) → happens_all_outside w (routed (a ++ b)) ≡ happens_all_outside (happens_all_outside w (routed a)) (routed b)
 routed_then w a b = ap (happens_all_outside w) (routed-append a b) ∙ happens_then w (routed a) (routed b)
-
-pub after_then : (h : HostState) (a b : List HostEvent) → after_all h (a ++ b) ≡ after_all (after_all h a) b
-after_then h [] b = refl
-after_then h (event ∷ a) b = after_then (after_host h event) a b
-
-pub outs_then : (h : HostState) (a b : List HostEvent) → outs_all h (a ++ b) ≡ outs_all h a ++ outs_all (after_all h a) b
-outs_then h [] b = refl
-outs_then h (event ∷ a) b = ap (λ l. outs h event ++ l) (outs_then (after_host h event) a b) ∙ sym (append_assoc (outs h event) (outs_all (after_host h event) a) (outs_all (after_all (after_host h event) a) b))
 
 pub well_front : (h : HostState) (a b : List HostEvent) → AllWell h (a ++ b) → AllWell h a × AllWell (after_all h a) b
 well_front h [] b is = (record { may = tt; units = tt }, is)
@@ -207,11 +201,11 @@ module _ (laws : Laws) (node : ℕ) (rest : Rest) (down : List Item) where
 
     -- its command has the outcome of that status
     ended_commands : g.commands ≡ with_outcome h.commands command (outcome_of status)
-    ended_commands = holding_commands (finishing h node (wire_id report.session) command status) node (is_held h node wake_request)
+    ended_commands = held_commands (finishing h node (wire_id report.session) command status) node (is_held h node wake_request)
 
     next_session : session ≡ length c.told + 1
     next_session =
-        let opened : open_session c.host ≡ Some session = final_open c.host (wire_id report.session) report.status session told_is in
+        let opened : open_session c.host ≡ Some session = final_session c.host (wire_id report.session) report.status session told_is in
         let count = course.told_are.opened session opened in
         let last = (open_is c.host session opened).0 in omega (arith, count, last)
 
@@ -334,8 +328,8 @@ module _ (laws : Laws) (node : ℕ) (rest : Rest) (down : List Item) where
       judge_items g.orders g.later g.up (after_all h first) v items later within g.follows (facts_then h first facts both.0.may) (course_goes c g.later course g.goes) both.1 more in
       let all : HostGoes node c rest [] down (after_all (after_all h first) later) (happens_all_outside v (routed (outs_all (after_all h first) later))) = goes_then c items [] (after_all h first) (after_all (after_all h first) later) v _ g rest_goes in
       subst (λ (es : List HostEvent). HostGoes node c rest [] down (after_all h es) (happens_all_outside w (routed (outs_all h es)))) (sym are)
-      (subst (λ (k : HostState). HostGoes node c rest [] down k (happens_all_outside w (routed (outs_all h (first ++ later))))) (sym (after_then h first later))
-      (subst (λ (os : List HostOut). HostGoes node c rest [] down (after_all (after_all h first) later) (happens_all_outside w (routed os))) (sym (outs_then h first later))
+      (subst (λ (k : HostState). HostGoes node c rest [] down k (happens_all_outside w (routed (outs_all h (first ++ later))))) (sym (after_all-append h first later))
+      (subst (λ (os : List HostOut). HostGoes node c rest [] down (after_all (after_all h first) later) (happens_all_outside w (routed os))) (sym (outs_all-append h first later))
       (subst (λ (u : Outside). HostGoes node c rest [] down (after_all (after_all h first) later) u) (sym (routed_then w (outs_all h first) (outs_all (after_all h first) later))) all)))
 
   -- what the host does of itself, or is asked for: it judges no report of the node

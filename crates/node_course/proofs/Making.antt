@@ -4,6 +4,7 @@ use Rattle.std.specs.Prelude.{slice_get, slice_set}
 use Rattle.std.specs.List.{AllByRecursion}
 use Rattle.std.proofs.lemmas.Bool.{eqb-true}
 use Rattle.std.proofs.lemmas.Bool.Decides.{Decides-eqb, nat_tests}
+use Rattle.list_lemmas.proofs.Each.{all-append}
 use Rattle.zw_base.specs.declared.property.By.{By}
 use Rattle.zw_base.specs.declared.property.By.TheVariants.{Session, Plain, Local}
 use Rattle.zw_base.specs.declared.property.Setting.{Setting}
@@ -21,11 +22,11 @@ use Rattle.host_orders.specs.Refusals.{IsFit, is_bad}
 use Rattle.host_orders.specs.Settings.{settings}
 use Rattle.host_orders.specs.Wrapping.{message_of}
 use Rattle.host_orders.specs.declared.carriage.Carriage.{Carriage}
-use Rattle.device_stack.specs.declared.change.Change.{Change}
-use Rattle.device_stack.specs.declared.verdict.Verdict.{Verdict}
-use Rattle.device_stack.specs.declared.verdict.Verdict.TheVariants.{NoSupport, Fails, Makes as MakesNow, Works}
+use Rattle.device_kinds.specs.declared.change.Change.{Change}
+use Rattle.device_kinds.specs.declared.verdict.Verdict.{Verdict}
+use Rattle.device_kinds.specs.declared.verdict.Verdict.TheVariants.{NoSupport, Fails, Makes as MakesNow, Works}
 use Rattle.device_stack.specs.declared.work.Work.{Work}
-use Rattle.device_stack.specs.Kind.{lists, listens}
+use Rattle.device_kinds.specs.Kind.{lists, listens}
 use Rattle.device_stack.specs.Ticking.{ticked, woken, set_by_hand}
 use Rattle.device_sim.specs.State.{State}
 use Rattle.device_sim.specs.Event.{DeviceEvent, Hears, Ticks, Wakes, Sets, outcome_of, device_after, device_replies}
@@ -38,8 +39,10 @@ use Rattle.node_course.specs.Meaning.{Asked, IsMessageOf, IsSegmentOf, IsMessage
 use Rattle.node_course.specs.Making.{IsAskedFor, MakesBy, MakesAsked, KeepsNext, Makes, AllMake, NamesNext, Names, HearsNone}
 use Rattle.node_course.specs.Device.{AtDevice}
 use Rattle.node_course.proofs.Flights.{numbered-append, message_stays}
-use Rattle.node_course.proofs.Segments.{Laws as SegmentLaws, knows_supervision, IsNext, IsAnother, segment_heard}
+use Rattle.message_facts.proofs.Following.{knows_supervision}
+use Rattle.node_course.proofs.Segments.{Laws as SegmentLaws, IsNext, IsAnother, segment_heard}
 use Rattle.node_course.proofs.Devices.{at_rest}
+use Rattle.device_facts.proofs.Telling.{get_set}
 
 -- ---- more orders, more sessions
 
@@ -76,10 +79,6 @@ all_make_more node orders more commands later devices all place device stands ow
     }
 
 -- ---- one event
-
-all-append : {A : Type 0} (P : A → Type 0) (xs ys : List A) → AllByRecursion P xs → AllByRecursion P ys → AllByRecursion P (xs ++ ys)
-all-append P [] ys first later = later
-all-append P (x ∷ xs) ys first later = (first.0, all-append P xs ys first.1 later)
 
 -- nothing is kept
 none_kept : (orders : List Asked) (commands : List ℕ) (session : ℕ) (kept : Reassembly) → kept ≡ Empty → KeepsNext orders commands session kept
@@ -286,11 +285,6 @@ first_makes device is none empty =
 
 -- ---- the devices
 
-pub get_same : (devices : List State) (place : ℕ) (device other : State) → slice_get devices place ≡ Some device → slice_get (slice_set devices place other) place ≡ Some other
-get_same [] place device other at = absurd cc
-get_same (first ∷ devices) zero device other at = refl
-get_same (first ∷ devices) (suc place) device other at = get_same devices place device other at
-
 pub get_other : (devices : List State) (place at : ℕ) (other : State) → at ≢ place → slice_get (slice_set devices place other) at ≡ slice_get devices at
 get_other [] place at other apart = refl
 get_other (first ∷ devices) zero zero other apart = absurd (apart refl)
@@ -306,7 +300,7 @@ set_holds Holds devices place device new stood here all at one found = by (at ==
     by : (b : Bool) → (at == place) ≡ b → Holds at one
     by true e =
         let same : at ≡ place = eqb-true at place e in
-        let is : Some new ≡ Some one = sym (get_same devices place device new stood) ∙ (ap (λ (k : ℕ). slice_get (slice_set devices place new) k) (sym same) ∙ found) in
+        let is : Some new ≡ Some one = sym (get_set devices place device new stood) ∙ (ap (λ (k : ℕ). slice_get (slice_set devices place new) k) (sym same) ∙ found) in
         let it : new ≡ one = cc in
         subst (λ (k : ℕ). Holds k one) (sym same) (subst (λ (d : State). Holds place d) it here)
     by false e = all at one (sym (get_other devices place at new (grind (arith, e))) ∙ found)

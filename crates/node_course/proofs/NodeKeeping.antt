@@ -1,17 +1,18 @@
 -- What leaves the sessions of a node at the host as they are, event by event.
-use Rattle.std.proofs.Common.{◌≡◌, ◌≢◌, ℕ, zero, suc, ◌+◌, ◌-◌, ◌==◌, Bool, true, false, nat_lt, if◌then◌else◌, Option, Some, None, List, [], ◌∷◌, ◌++◌, map, get_or, refl, ap, sym, ◌∙◌, subst}
+use Rattle.std.proofs.Common.{◌≡◌, ◌≢◌, ℕ, zero, suc, ◌+◌, ◌-◌, ◌==◌, Bool, true, false, nat_lt, if◌then◌else◌, Option, Some, None, List, [], ◌∷◌, map, get_or, refl, ap, sym, ◌∙◌, subst}
 use Rattle.std.specs.Prelude.{◌&&◌}
 use Rattle.std.specs.List.{AllByRecursion}
 use Rattle.std.proofs.Math.ListN.{set}
+use Rattle.list_lemmas.proofs.Each.{all-append}
 use Rattle.supervision.specs.Host.{told_of}
 use Rattle.supervision.specs.declared.host_node.Told.{Told}
 use Rattle.supervision.specs.declared.host_node.Told.TheVariants.{Final, Working, Old}
 use Rattle.host_requests.specs.State.{RequestsState}
-use Rattle.host_requests.specs.Next.{at_sent, at_response, at_callback, at_update, at_tick, after_next, next_from, went_on}
+use Rattle.host_requests.specs.Next.{at_sent, at_response, at_callback, at_update, at_tick, after_next}
 use Rattle.host_requests.specs.Events.{RequestsEvent, after as after_request, end_at, front_begun}
 use Rattle.host_requests.specs.Events.RequestsEvent.{Pushes, PushesInterview, PushesProbe, BeginsAbort, BeginsFront, BeginsAttempt, IsSent, Fails, Responds, CallsBack, Updates, Ticks as request_ticks, Forgets}
 use Rattle.host_requests.specs.declared.next.Next.{Next}
-use Rattle.host_requests.specs.declared.next.Next.TheVariants.{GoesOn, Ends}
+use Rattle.host_requests.specs.declared.next.Next.TheVariants.{Ends}
 use Rattle.host_requests.specs.declared.end.End.{End}
 use Rattle.host_requests.specs.declared.end.How.{How}
 use Rattle.host_requests.specs.declared.end.How.TheVariants.{LinkFailed}
@@ -37,6 +38,7 @@ use Rattle.host_events.specs.Ends.{unanswered, attempt_ended, PartEnd, Good as w
 use Rattle.host_events.specs.After.{node_does, requests_do, request_does, is_full, queues_if_room, holding, failing_if}
 use Rattle.node_course.specs.Meaning.{Asked}
 use Rattle.node_course.specs.Host.{NodeAs, asked_of, IsOtherTask, IsTaskFor, PushesOther}
+use Rattle.line_facts.proofs.HostFits.{next_queue}
 
 -- ---- a node
 
@@ -141,10 +143,6 @@ pub record SameHost (node : ℕ) (old new : HostState) : Type 0 where
   pub queue : (asked : List Asked) (commands : List ℕ) → AllByRecursion (IsTaskFor node asked commands) old.requests.queue → AllByRecursion (IsTaskFor node asked commands) new.requests.queue
   pub side : new.side ≡ old.side
 
-all-append : {A : Type 0} (P : A → Type 0) (xs ys : List A) → AllByRecursion P xs → AllByRecursion P ys → AllByRecursion P (xs ++ ys)
-all-append P [] ys first later = later
-all-append P (x ∷ xs) ys first later = (first.0, all-append P xs ys first.1 later)
-
 set_orders : (commands : List Command) (at : ℕ) (outcome : Outcome) → map asked_of (set_at commands at outcome) ≡ map asked_of commands
 set_orders [] at outcome = refl
 set_orders (command ∷ more) zero outcome = refl
@@ -184,17 +182,6 @@ module _ (node : ℕ) where
   other_same h n state apart = record { node_as = λ cs o was. set_as cs o h node n state was (λ e. absurd (apart e)); orders = refl; queue = λ asked commands all. all; side = refl }
 
   -- ---- requests
-
-  next_queue : (s : RequestsState) (next : UnderWay → Next) → (after_next s next).queue ≡ s.queue
-  next_queue s next = by s.under_way
-    where
-      went : (u : UnderWay) (n : Next) → (went_on s u n).queue ≡ s.queue
-      went u (GoesOn progress) = refl
-      went u (Ends how) = refl
-
-      by : (under_way : Option UnderWay) → (next_from s next under_way).queue ≡ s.queue
-      by None = refl
-      by (Some u) = went u (next u)
 
   -- what is asked for is no segment
   other_task : (asked : List Asked) (commands : List ℕ) (task : Task) → IsOtherTask node task → IsTaskFor node asked commands task

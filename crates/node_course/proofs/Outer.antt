@@ -36,7 +36,7 @@ use Rattle.chip_sim.specs.Requests.{passed, answer_outs, read_of, asked_by, aske
 use Rattle.chip_sim.specs.Rules.{WaitsWell}
 use Rattle.chip_sim.specs.Did.{MayAll, after_all, outs_all, judged_all}
 use Rattle.chip_sim.specs.Link.{chip_units}
-use Rattle.chip_sim.specs.Events.{ChipEvent, Judged, Ticked, collides, outs}
+use Rattle.chip_sim.specs.Events.{ChipEvent, Judged, collides}
 use Rattle.chip_sim.specs.Events as chip
 use Rattle.chip_sim.proofs.Histories.{well_all}
 use Rattle.air_frames.specs.declared.frame.Departure.{Departure}
@@ -54,6 +54,8 @@ use Rattle.outer_events.specs.State.{OuterState, Outside, outside, with_chip, ea
 use Rattle.outer_events.specs.Chip.{put_out, chip_does, chip_takes, MayTake}
 use Rattle.outer_events.specs.Events.{has_entered}
 use Rattle.outer_traffic.specs.Traffic.{one_outward, outward}
+use Rattle.outer_traffic.proofs.Judging.{passed_item}
+use Rattle.outer_traffic.proofs.Mild.{each-append}
 use Rattle.world_traffic.specs.OnAir.{IsFew, StaysFew, fed_chip}
 use Rattle.line_facts.specs.Way.{Carries, items_all}
 use Rattle.line_facts.specs.Chip.{HasFrames, ChipDoes}
@@ -212,18 +214,6 @@ module _ (node : ℕ) (orders : List Asked) where
   }
 
 -- ---- what an item puts on the air
-
-each-append : (o : OuterState) (a b : List ChipOut) → (each put_out o (a ++ b)).outer ≡ (each put_out (each put_out o a).outer b).outer
-each-append o [] b = refl
-each-append o (out ∷ a) b = each-append (put_out o out).outer a b
-
-passed_item : (b : Bool) (item : Item) (f : FrameParts) → passed b item ≡ Some f → item ≡ Good (Framed f)
-passed_item true item f e = absurd (grind (arith, e))
-passed_item false (Good Ack) f e = absurd (grind (arith, e))
-passed_item false (Good Nak) f e = absurd (grind (arith, e))
-passed_item false (Good Can) f e = absurd (grind (arith, e))
-passed_item false (Good (Framed g)) f e = ap (λ (x : FrameParts). Good (Framed x)) (grind (arith, e))
-passed_item false (Refused refusal) f e = absurd (grind (arith, e))
 
 answer_mild : (b : Bool) (item : Item) → AreMild (answer_outs b item)
 answer_mild b (Good Ack) = tt

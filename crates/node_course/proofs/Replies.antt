@@ -1,8 +1,8 @@
 -- What a device sends goes on the air, in the course of one node.
-use Rattle.std.proofs.Common.{◌≡◌, ◌≢◌, ℕ, zero, suc, ◌<◌, ◌==◌, inl, inr, Bool, true, false, ◌||◌, nat_lt, if◌then◌else◌, Option, Some, None, List, [], ◌∷◌, ◌++◌, refl, ap, sym, ◌∙◌, subst, append-nil, arith}
+use Rattle.std.proofs.Common.{◌≡◌, ◌≢◌, ℕ, ◌<◌, ◌==◌, inl, inr, Bool, true, false, ◌||◌, nat_lt, if◌then◌else◌, Option, Some, None, List, [], ◌∷◌, ◌++◌, refl, ap, sym, ◌∙◌, subst, append-nil, arith}
 use Rattle.std.specs.Prelude.{slice_get, slice_set}
 use Rattle.std.specs.List.{AllByRecursion}
-use Rattle.std.specs.Option.{option_map, unwrap_or, is_none}
+use Rattle.std.specs.Option.{unwrap_or, is_none}
 use Rattle.std.proofs.lemmas.Bool.{eqb-true}
 use Rattle.supervision.specs.Host.{HostBook, begun_of}
 use Rattle.supervision.specs.Device.{Taken}
@@ -22,7 +22,7 @@ use Rattle.mesh_sim.specs.Air.{AirState, is_joined, no_route, departing}
 use Rattle.mesh_sim.specs.Steps.{answered, answered_if}
 use Rattle.mesh_sim.specs.Fates.{Mesh, place_of}
 use Rattle.device_facts.specs.GoingOn.{IsSame}
-use Rattle.device_facts.proofs.Telling.{place_is}
+use Rattle.device_facts.proofs.Telling.{place_is, place_set, get_set}
 use Rattle.device_course.specs.Ending.{HasEnded}
 use Rattle.message_facts.specs.Landing.{IsOf}
 use Rattle.node_course.specs.Ways.{Beside, Goes}
@@ -32,7 +32,7 @@ use Rattle.node_course.specs.Device.{AtDevice, IsIdle, finishes, Says, GoesAs}
 use Rattle.node_course.specs.Making.{Makes, AllMake, HearsNone}
 use Rattle.node_course.specs.Mesh.{HasDevice, InMesh, labels, Brings, Adds, MeshGoes}
 use Rattle.node_course.proofs.Thinning.{goes_nowhere, goes_on, goes_once}
-use Rattle.node_course.proofs.Making.{get_same, get_other, set_holds, all_make_set}
+use Rattle.node_course.proofs.Making.{get_other, set_holds, all_make_set}
 use Rattle.node_course.proofs.Idle.{idle_makes, others_set}
 
 -- how frames go on the air, as the course has it
@@ -172,13 +172,6 @@ finished_ways c (Some status) = record { host = refl; sent = refl; up = refl; do
 
 -- ---- the devices
 
-pub place_set : (node : ℕ) (devices : List State) (place : ℕ) (device other : State) → slice_get devices place ≡ Some device → other.node ≡ device.node → place_of node (slice_set devices place other) ≡ place_of node devices
-place_set node [] place device other at same = refl
-place_set node (first ∷ devices) zero device other at same =
-    let is : first ≡ device = cc in ap (λ (m : ℕ). if m == node then Some 0 else option_map suc (place_of node devices)) (same ∙ ap (λ (d : State). d.node) (sym is))
-place_set node (first ∷ devices) (suc place) device other at same =
-    ap (λ (o : Option ℕ). if first.node == node then Some 0 else option_map suc o) (place_set node devices place device other at same)
-
 -- the first device of a node stands at one place
 pub one_place : (node : ℕ) (devices : List State) (place other : ℕ) → place_of node devices ≡ Some place → place_of node devices ≡ Some other → place ≡ other
 one_place node devices place other first also = let same : Some place ≡ Some other = sym first ∙ also in cc
@@ -202,7 +195,7 @@ own_set node c later devices new h same at = record {
   device = new;
   place = h.place;
   first = place_set node devices h.place h.device new h.stands same ∙ h.first;
-  stands = get_same devices h.place h.device new h.stands;
+  stands = get_set devices h.place h.device new h.stands;
   at = at;
   others = others_set node devices h.place h.place h.device new h.stands (λ own away. absurd (away refl)) h.others;
   nodes = nodes_set devices h.place h.device new h.stands same h.nodes;

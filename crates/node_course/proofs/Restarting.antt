@@ -49,7 +49,8 @@ use Rattle.node_course.proofs.Thinning.{CourseLaw, course_goes, up_thins}
 use Rattle.node_course.proofs.Moving.{move_done}
 use Rattle.node_course.proofs.Outer.{mesh_up}
 use Rattle.node_course.proofs.NodeKeeping.{SameHost, get_set, node_keeps, does_same}
-use Rattle.node_course.proofs.Told.{outcomes_stay, over_recorded}
+use Rattle.once_facts.proofs.Going.{over_recorded}
+use Rattle.node_course.proofs.Told.{outcomes_stay}
 
 -- ---- a host at first
 

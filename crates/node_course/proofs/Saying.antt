@@ -31,15 +31,15 @@ use Rattle.host_heard.specs.declared.payload.Heard.TheVariants.{Messages, Sealed
 use Rattle.host_heard.specs.declared.told.Told.{Told}
 use Rattle.host_heard.specs.declared.told.Told.TheVariants.{Report}
 use Rattle.host_heard.specs.Telling.{told_in, heard_by, heard_at}
-use Rattle.device_stack.specs.declared.kind.Kind.{Kind}
+use Rattle.device_kinds.specs.declared.kind.Kind.{Kind}
 use Rattle.device_stack.specs.declared.effect.Effect.{Effect}
 use Rattle.device_stack.specs.declared.effect.Effect.TheVariants.{Ignores, Sleeps, Tells, Sets, Repeats, Takes}
-use Rattle.device_stack.specs.declared.verdict.Verdict.{Verdict}
-use Rattle.device_stack.specs.declared.verdict.Verdict.TheVariants.{NoSupport, Fails, Makes, Works}
-use Rattle.device_stack.specs.Kind.{listens, lists, has_end, tells, main_name_of}
+use Rattle.device_kinds.specs.declared.verdict.Verdict.{Verdict}
+use Rattle.device_kinds.specs.declared.verdict.Verdict.TheVariants.{NoSupport, Fails, Makes, Works}
+use Rattle.device_kinds.specs.Kind.{listens, lists, has_end, tells, main_name_of}
 use Rattle.device_stack.specs.State.{State, silent, value_of, last_level_of}
-use Rattle.device_stack.specs.Judging.{judged_message, judged_set, status_of}
-use Rattle.device_stack.specs.Telling.{report_of, asked_name, members_of, value_told, told}
+use Rattle.device_kinds.specs.Judging.{judged_message, judged_set, status_of}
+use Rattle.device_kinds.specs.Telling.{report_of, asked_name, members_of, value_told, told}
 use Rattle.device_stack.specs.Answers.{report_status, asks_to_wake, status_report, final_report, swapped, answer_plan, worded}
 use Rattle.device_stack.specs.Effects.{end_of, set_plainly, effect_untold, telling, effect_alone, effect_in_session, effect_by, effect_of, takes, after_effect, status_answer, answer_of}
 use Rattle.device_stack.specs.Hearing.{answers, answers_opened, answers_bytes, sent_openly, hears_openly, segment_session, assembles, repeats_segment, hears_segment, hears_in_segments}
@@ -50,16 +50,13 @@ use Rattle.transport_segments.specs.declared.assembler.Taken.TheVariants.{Kept, 
 use Rattle.device_stack.specs.Ticking.{aged, works_out, ticked, woken, by_hand, main_told, tells_by_hand, set_by_hand}
 use Rattle.message_facts.specs.Reporting.{TellsOwn, TellsNone, TellsTrue, CanSay, asks_now}
 use Rattle.message_facts.specs.Others.{IsNoGet}
+use Rattle.message_facts.proofs.Bare.{never_begins}
 use Rattle.node_course.specs.Device.{Says}
 
 -- ---- bytes that are not sealed
 
 abbrev pub IsBare : List ℕ → Type 0
 IsBare payload = begins_with payload 152 129 ≡ false
-
-never : (a b : Bool) → (a && false) && b ≡ false
-never true b = refl
-never false b = refl
 
 -- what is heard as messages is not sealed
 heard_bare : (payload : List ℕ) (told : List Told) → heard_at payload ≡ Messages told → IsBare payload
@@ -72,13 +69,13 @@ heard_bare payload told e = by (begins_with payload 152 129) refl e
 
 addressed_bare : (channel : Option Ends) (text : List ℕ) → IsBare text → IsBare (addressed_form channel text)
 addressed_bare None text is = is
-addressed_bare (Some ends) text is = never _ _
+addressed_bare (Some ends) text is = never_begins _ _
 
 abbrev said_in : Option Ends → Outer → List ℕ → List ℕ
 said_in channel outer text = written_form (record { batch = false; session = None; channel = channel; outer = outer }) (text ∷ [])
 
 worded_bare : (channel : Option Ends) (outer : Outer) (text : List ℕ) → IsBare text → IsBare (said_in channel outer text)
-worded_bare channel Crc16 text is = never _ _
+worded_bare channel Crc16 text is = never_begins _ _
 worded_bare channel no_outer text is = addressed_bare channel text is
 worded_bare channel Security text is = addressed_bare channel text is
 worded_bare channel Transport text is = addressed_bare channel text is

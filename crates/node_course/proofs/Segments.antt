@@ -18,9 +18,9 @@ use Rattle.encap.specs.declared.plan.Ends.{Ends}
 use Rattle.encap.specs.declared.plan.Outer.{Outer}
 use Rattle.encap.specs.declared.plan.Outer.TheVariants.{None as no_outer, Crc16, Security, Transport}
 use Rattle.host_orders.specs.Wrapping.{ends_of}
-use Rattle.device_stack.specs.declared.kind.Kind.{Kind}
-use Rattle.device_stack.specs.declared.kind.Kind.TheVariants.{Relay, Switch, Dimmer, Lock, Sensor, Thermostat, Strip, Configurable}
-use Rattle.device_stack.specs.Kind.{lists}
+use Rattle.device_kinds.specs.declared.kind.Kind.{Kind}
+use Rattle.device_kinds.specs.declared.kind.Kind.TheVariants.{Relay, Switch, Dimmer, Lock, Sensor, Thermostat, Strip, Configurable}
+use Rattle.device_kinds.specs.Kind.{lists}
 use Rattle.device_sim.specs.State.{State}
 use Rattle.device_sim.specs.Event.{Hears, device_after, device_replies}
 use Rattle.message_facts.specs.Asking.{takes_openly, IsLeft}
@@ -28,6 +28,7 @@ use Rattle.message_facts.specs.Landing.{IsOf}
 use Rattle.message_facts.specs.Others.{IsNoGet}
 use Rattle.message_facts.specs.Reporting.{TellsNone}
 use Rattle.message_facts.specs.Segments.{KeepsSegment, MakesWhole}
+use Rattle.message_facts.proofs.Following.{knows_supervision}
 use Rattle.node_course.specs.Meaning.{Asked, IsMessageOf, IsSegmentOf}
 use Rattle.node_course.specs.Making.{KeepsNext, NamesNext}
 
@@ -84,16 +85,6 @@ pub record Laws : Type 0 where
       → IsPart message (session % 16) segment → IsLeft device (device_after device (Hears segment drawn))
   pub no_get : (message segment : List ℕ) (id : ℕ) → IsPart message id segment → IsNoGet segment
   pub acknowledged : (id : ℕ) → TellsNone (form (TransportComplete id))
-
-pub knows_supervision : (kind : Kind) → takes_openly kind ≡ true → lists kind 0x6C ≡ true
-knows_supervision Switch is = refl
-knows_supervision Dimmer is = refl
-knows_supervision Sensor is = refl
-knows_supervision Thermostat is = refl
-knows_supervision Strip is = refl
-knows_supervision Configurable is = refl
-knows_supervision Relay is = cc
-knows_supervision Lock is = cc
 
 keeps_segments : (kind : Kind) → (kind ≡ Configurable) ⊎ (kind ≢ Configurable)
 keeps_segments Configurable = inl refl

@@ -8,7 +8,7 @@ use Rattle.supervision.specs.Host.{command_at as session_at}
 use Rattle.courses.specs.Parts.{numbered}
 use Rattle.zw_text.specs.Transcript.{by_session}
 use Rattle.zw_laws.specs.Once.{carried_by}
-use Rattle.device_stack.specs.declared.change.Change.{Change}
+use Rattle.device_kinds.specs.declared.change.Change.{Change}
 use Rattle.host_orders.specs.Settings.{settings}
 use Rattle.host_events.specs.State.{Command}
 use Rattle.host_facts.specs.Tables.{taken_at}

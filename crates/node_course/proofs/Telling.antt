@@ -14,13 +14,13 @@ use Rattle.courses.specs.SessionLaws.{TellsOne}
 use Rattle.serial_frame.specs.Stream.{Rest}
 use Rattle.serial_frame.specs.declared.item.Item.{Item}
 use Rattle.device_sim.specs.State.{State}
-use Rattle.mesh_sim.specs.Fates.{place_of}
 use Rattle.outer_events.specs.State.{Outside}
 use Rattle.outer_events.specs.Events.{devices_after}
 use Rattle.outer_events.specs.Did.{happens_all as happens_all_outside}
 use Rattle.zw_laws.specs.Lists.{Has}
 use Rattle.zw_text.specs.declared.entry.Entry.{Entry}
 use Rattle.zw_machine.specs.State.{begun_in, noted_by, routed, routed_one}
+use Rattle.zw_machine.proofs.Hosting.{routed_still}
 use Rattle.host_keep.specs.declared.final_status.FinalStatus.{FinalStatus}
 use Rattle.host_keep.specs.declared.final_status.FinalStatus.TheVariants as final
 use Rattle.host_keep.specs.Status.{status_byte}
@@ -42,8 +42,9 @@ use Rattle.once_facts.specs.Truly.{IsDoneBy, TellsTruly, TellTruly}
 use Rattle.node_course.proofs.HostJudging.{AllAside, IsFinish, item_told}
 use Rattle.node_course.specs.Lines.{Tells}
 use Rattle.node_course.proofs.Moving.{first_label}
-use Rattle.node_course.proofs.HostItems.{Laws, happens_then, well_front, told_same, course_goes, aside_goes, judge_item, facts_then}
+use Rattle.node_course.proofs.HostItems.{Laws, well_front, told_same, course_goes, aside_goes, judge_item, facts_then}
 use Rattle.node_course.proofs.Taken.{changes_taken}
+use Rattle.device_facts.proofs.Telling.{place_is}
 
 -- ---- devices
 
@@ -56,12 +57,6 @@ out_devices : (w : Outside) (out : HostOut) → (happens_all_outside w (routed_o
 unfolding devices_after
 out_devices w (Write unit) = refl
 out_devices w (Note e) = noted_devices w (begun_in e) e
-
--- what the host puts out leaves devices as they are
-pub routed_devices : (w : Outside) (outs : List HostOut) → (happens_all_outside w (routed outs)).devices ≡ w.devices
-routed_devices w [] = refl
-routed_devices w (out ∷ outs) =
-    ap (λ (u : Outside). u.devices) (happens_then w (routed_one out) (routed outs)) ∙ (routed_devices (happens_all_outside w (routed_one out)) outs ∙ out_devices w out)
 
 pub got_has : (devices : List State) (place : ℕ) (device : State) → slice_get devices place ≡ Some device → Has devices device
 got_has [] place device e = absurd cc
@@ -80,11 +75,6 @@ placed_by false node first rest None place device is more here stands = absurd c
 placed_by false node first rest (Some later) place device is more here stands =
     let next : suc later ≡ place = cc in
     more later refl (subst (λ (p : ℕ). slice_get (first ∷ rest) p ≡ Some device) (sym next) stands)
-
-pub placed : (node : ℕ) (devices : List State) (place : ℕ) (device : State) → place_of node devices ≡ Some place → slice_get devices place ≡ Some device → device.node ≡ node
-placed node [] place device here stands = absurd cc
-placed node (first ∷ rest) place device here stands =
-    placed_by (first.node == node) node first rest (place_of node rest) place device refl (λ later at found. placed node rest later device at found) here stands
 
 -- ---- events at which no session of the node ends
 
@@ -121,7 +111,7 @@ module _ (laws : Laws) (judged : Judged) (node : ℕ) (rest : Rest) (down : List
       let there = f.mesh.device in
       let ends = (judged c report now course are).ends session told in
       let time = (subst (λ (ds : List Report). AllByRecursion (IsOnTime c.host c.device c.ends) ds) are course.on_time).0 in
-      let own : there.device.node ≡ node = placed node w.devices there.place there.device there.first there.stands in
+      let own : there.device.node ≡ node = place_is node w.devices there.place there.device there.first there.stands in
       let made : AllByRecursion (MakesAsked orders c.host.commands) there.device.journal = (f.mesh.made there.place there.device there.stands own).changes in
       record {
         device = there.device;
@@ -160,7 +150,7 @@ module _ (laws : Laws) (judged : Judged) (node : ℕ) (rest : Rest) (down : List
           let label = first_label (Tells node) one.later.down item (yet ++ down) v.outer.chip.state.port.side.turn v.outer.chip.state.port.waiting one.follows.reports in
           let more : AllWell k later = record { may = these.may.1; units = these.units.1 } in (
             tt,
-            subst (λ (ds : List State). TellTruly node k ds later) (routed_devices w (outs h (Hears item)))
+            subst (λ (ds : List State). TellTruly node k ds later) (routed_still w (outs h (Hears item)))
                 (told_by one.orders one.later one.up k v label.0 label.1.1.0 one.follows label.1.1.1.0 (course_goes laws node rest down c one.later course one.goes) more
                 (item_told node laws.bytes k h.side.turn item label.0 later label.1.0 followed)),
           )
@@ -183,5 +173,5 @@ module _ (laws : Laws) (judged : Judged) (node : ℕ) (rest : Rest) (down : List
       let g : HostGoes node c rest items down (after_all h first) v = judge_item laws node rest down orders c up items h w item first within f facts course both.0 one in
       subst (λ (es : List HostEvent). TellTruly node h w.devices es) (sym are)
       (true-append node h w.devices first later (item_true orders c up items h w item first f facts course both.0 one)
-      (subst (λ (ds : List State). TellTruly node (after_all h first) ds later) (routed_devices w (outs_all h first))
+      (subst (λ (ds : List State). TellTruly node (after_all h first) ds later) (routed_still w (outs_all h first))
       (items_true g.orders g.later g.up (after_all h first) v items later within g.follows (facts_then laws node rest down h first facts both.0.may) (course_goes laws node rest down c g.later course g.goes) both.1 more)))

@@ -39,11 +39,11 @@ course_goes law c later course goes = subst (λ (x : Course). CourseFacts x) (sy
 
 -- ---- places of a list
 
-removed_at : {X : Type 0} (front : List X) (x : X) (back : List X) → remove (front ++ x ∷ back) (length front) ≡ front ++ back
+pub removed_at : {X : Type 0} (front : List X) (x : X) (back : List X) → remove (front ++ x ∷ back) (length front) ≡ front ++ back
 removed_at [] x back = refl
 removed_at (y ∷ front) x back = ap (λ l. y ∷ l) (removed_at front x back)
 
-doubled_at : {X : Type 0} (front : List X) (x : X) (back : List X) → doubled (front ++ x ∷ back) (length front) ≡ (front ++ x ∷ []) ++ x ∷ back
+pub doubled_at : {X : Type 0} (front : List X) (x : X) (back : List X) → doubled (front ++ x ∷ back) (length front) ≡ (front ++ x ∷ []) ++ x ∷ back
 doubled_at [] x back = refl
 doubled_at (y ∷ front) x back = ap (λ l. y ∷ l) (doubled_at front x back)
 

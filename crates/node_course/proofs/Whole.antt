@@ -182,7 +182,7 @@ fed_follows node orders c up down m count rest items left f = subst (λ (u : Out
 
 -- ---- every event
 
-rests_of : (m : Machine) (event : OuterEvent) → OuterAtRest m event → Rests m.host.decoder m.outside event
+pub rests_of : (m : Machine) (event : OuterEvent) → OuterAtRest m event → Rests m.host.decoder m.outside event
 rests_of m Chip_ticks e = e
 rests_of m (Clears_pipe side.Host) e = e
 rests_of m (Clears_pipe side.Chip) e = e

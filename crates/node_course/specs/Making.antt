@@ -12,7 +12,7 @@ use Rattle.courses.specs.SessionLaws.{NamesOne}
 use Rattle.transport_segments.specs.Kept.{Reassembly, Empty, Partial}
 use Rattle.transport_segments.specs.Runs.{Agrees}
 use Rattle.host_orders.specs.Settings.{settings}
-use Rattle.device_stack.specs.declared.change.Change.{Change}
+use Rattle.device_kinds.specs.declared.change.Change.{Change}
 use Rattle.device_sim.specs.State.{State}
 use Rattle.device_sim.specs.Event.{DeviceEvent, Hears, Ticks, Wakes, Sets}
 use Rattle.node_course.specs.Meaning.{Asked, IsMessageOf}

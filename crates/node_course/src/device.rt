@@ -2,7 +2,7 @@
 
 ghost use Rattle.std.specs.Prelude.{◌≡◌, ℕ, true, false, List, []};
 ghost use Rattle.courses.specs.Sessions.{Course, Cargo, first_course};
-ghost use Rattle.device_stack.specs.declared.kind.Kind.{Kind};
+ghost use Rattle.device_kinds.specs.declared.kind.Kind.{Kind};
 ghost use Rattle.device_sim.specs.State.{State, fresh};
 ghost use Rattle.device_sim.specs.Event.{DeviceEvent, Hears, Ticks, Wakes, Sets, device_after, device_replies};
 ghost use Rattle.message_facts.specs.Asking.{takes_openly};

@@ -1,17 +1,16 @@
 -- Which commands sessions carry, and by which sessions a journal was changed.
-use Rattle.std.proofs.Common.{◌≡◌, ℕ, zero, suc, ◌≤◌, List, [], ◌∷◌, ◌++◌, length, Option, Some, None, inl, inr, refl, ap, ◌∙◌, arith}
+use Rattle.std.proofs.Common.{◌≡◌, ℕ, zero, suc, ◌≤◌, List, [], ◌∷◌, ◌++◌, length, Option, Some, None, inl, inr, ap, arith}
 use Rattle.std.specs.Prelude.{slice_get}
 use Rattle.std.proofs.lemmas.Grind.{flat_map-append}
 use Rattle.std.proofs.lemmas.Option.{slice_get_within}
 use Rattle.zw_base.specs.declared.property.By.{By}
 use Rattle.zw_base.specs.declared.property.By.TheVariants.{Session, Plain, Local}
 use Rattle.supervision.specs.Host.{command_at}
-use Rattle.device_stack.specs.declared.change.Change.{Change}
-use Rattle.device_sim.specs.Laws.{numbers, with_number}
+use Rattle.device_kinds.specs.declared.change.Change.{Change}
 use Rattle.zw_text.specs.Transcript.{by_session}
 use Rattle.zw_laws.specs.Lists.{Has, listed}
 use Rattle.zw_laws.specs.Once.{carried_by, sessions_by}
-use Rattle.device_facts.proofs.Having.{has_shown, shown_has}
+use Rattle.zw_laws.proofs.Having.{has_shown, shown_has}
 
 -- ---- places of lists
 
@@ -78,15 +77,6 @@ session_within begun zero number at = absurd (grind arith)
 session_within begun (suc before) number at = let less = slice_get_within begun before number at in (omega arith, omega (arith, less))
 
 -- ---- sessions of changes
-
-number_is : (by : By) (more : List ℕ) → with_number by more ≡ by_session by ++ more
-number_is (Session number) more = refl
-number_is Plain more = refl
-number_is Local more = refl
-
-pub numbers_are : (journal : List Change) → numbers journal ≡ sessions_by journal
-numbers_are [] = refl
-numbers_are (change ∷ journal) = number_is change.by (numbers journal) ∙ ap (λ (l : List ℕ). by_session change.by ++ l) (numbers_are journal)
 
 pub sessions_by-append : (front later : List Change) → sessions_by (front ++ later) ≡ sessions_by front ++ sessions_by later
 sessions_by-append front later = flat_map-append (λ change. by_session change.by) front later

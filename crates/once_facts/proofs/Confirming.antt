@@ -1,13 +1,14 @@
 -- The confirmed value of a property is the device's, where the last change of it is by a session whose command is reported successful.
 use Rattle.std.proofs.Common.{◌≡◌, ℕ, ◌<◌, Bool, true, false, if◌then◌else◌, List, [], ◌∷◌, ◌++◌, Option, Some, None, inl, inr, refl, sym, ap, subst, ◌∙◌}
 use Rattle.std.specs.List.{AllByRecursion, flat_map}
+use Rattle.list_lemmas.proofs.Each.{all-right}
 use Rattle.zw_base.specs.declared.property.By.{By}
 use Rattle.zw_base.specs.declared.property.By.TheVariants.{Session, Plain, Local}
 use Rattle.zw_base.specs.declared.property.Property.{Property}
 use Rattle.zw_base.specs.declared.property.Setting.{Setting}
 use Rattle.zw_order.specs.declared.order.Order.{Order}
 use Rattle.supervision.specs.Host.{command_at as session_at}
-use Rattle.device_stack.specs.declared.change.Change.{Change}
+use Rattle.device_kinds.specs.declared.change.Change.{Change}
 use Rattle.device_stack.specs.State.{State, value_of}
 use Rattle.zw_text.specs.declared.entry.Entry.{Entry}
 use Rattle.zw_text.specs.declared.entry.Outcome.{Outcome}
@@ -25,10 +26,9 @@ use Rattle.host_events.specs.State.{HostState}
 use Rattle.host_facts.specs.Facts.{AreShown, Facts}
 use Rattle.host_facts.specs.Stores.{AreSorted, StoresLaw, given_by}
 use Rattle.host_facts.specs.Tables.{taken_at}
-use Rattle.host_facts.proofs.Lists.{all-right}
 use Rattle.once_facts.specs.Tied.{IsTied, MakesWhatIsTaken, settings_taken}
 use Rattle.once_facts.specs.ByTable.{ConfirmsByTable}
-use Rattle.device_facts.proofs.Having.{above_behind, all_has, all_of}
+use Rattle.zw_laws.proofs.Having.{above_behind, all_has, all_of}
 use Rattle.once_facts.proofs.Carrying.{carried_has, has_carried, has_change, sessions_by-append}
 use Rattle.once_facts.proofs.Succeeding.{successes_rise}
 use Rattle.once_facts.proofs.Once.{changed, succeeded, success_in}

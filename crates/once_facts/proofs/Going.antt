@@ -3,11 +3,12 @@ use Rattle.std.proofs.Common.{◌≡◌, ℕ, zero, suc, ◌+◌, ◌<◌, ◌�
 use Rattle.std.specs.Prelude.{IsSome, slice_get}
 use Rattle.std.specs.List.{AllByRecursion}
 use Rattle.std.proofs.lemmas.Bool.{false≢true}
+use Rattle.list_lemmas.proofs.Each.{all-append}
 use Rattle.zw_base.specs.declared.property.By.TheVariants.{Session}
 use Rattle.zw_base.specs.declared.property.Setting.{Setting}
 use Rattle.supervision.specs.Host.{command_at as session_at}
 use Rattle.courses.specs.Parts.{successes}
-use Rattle.device_stack.specs.declared.change.Change.{Change}
+use Rattle.device_kinds.specs.declared.change.Change.{Change}
 use Rattle.device_sim.specs.State.{State}
 use Rattle.device_course.specs.Ending.{HasEnded}
 use Rattle.zw_text.specs.declared.entry.Entry.{Entry}
@@ -25,15 +26,15 @@ use Rattle.host_events.specs.After.{outcome_of}
 use Rattle.host_facts.specs.Facts.{AreShown, Facts}
 use Rattle.host_facts.specs.Laws.{HostLaws, IsOver}
 use Rattle.host_facts.specs.Tables.{outcome_in, recorded, taken_at}
-use Rattle.host_facts.proofs.Lists.{all-append}
 use Rattle.once_facts.specs.Tied.{AreOutcomes, IsTaken, IsToldAs, KeepsOrders, MakesWhatIsTaken, settings_taken}
-use Rattle.device_facts.proofs.Having.{all_has, all_of, has_shown}
-use Rattle.once_facts.proofs.Carrying.{carried_has, has_carried, numbers_are, session_has, session_within, stands_front}
+use Rattle.zw_laws.proofs.Having.{all_has, all_of, has_shown}
+use Rattle.device_facts.proofs.Once.{numbers_are}
+use Rattle.once_facts.proofs.Carrying.{carried_has, has_carried, session_has, session_within, stands_front}
 use Rattle.once_facts.proofs.Succeeding.{successes_within}
 
 -- ---- places
 
-session_front : (begun added : List ℕ) (session number : ℕ) → session_at begun session ≡ Some number → session_at (begun ++ added) session ≡ Some number
+pub session_front : (begun added : List ℕ) (session number : ℕ) → session_at begun session ≡ Some number → session_at (begun ++ added) session ≡ Some number
 session_front begun added zero number at = absurd (grind arith)
 session_front begun added (suc before) number at = stands_front begun added before number at
 
@@ -47,7 +48,7 @@ session_back begun added zero number within at = absurd (grind arith)
 session_back begun added (suc before) number within at = place_back begun added before number (omega (arith, within)) at
 
 -- the last of them
-last_or : (told : List ℕ) (status before other : ℕ) → slice_get (told ++ status ∷ []) before ≡ Some other → (slice_get told before ≡ Some other) ⊎ ((before ≡ length told) × (other ≡ status))
+pub last_or : (told : List ℕ) (status before other : ℕ) → slice_get (told ++ status ∷ []) before ≡ Some other → (slice_get told before ≡ Some other) ⊎ ((before ≡ length told) × (other ≡ status))
 last_or [] status zero other at = inr (refl, sym (some_same at))
   where
     some_same : Some status ≡ Some other → status ≡ other
@@ -61,12 +62,12 @@ last_or (first ∷ told) status (suc before) other at = elim (last_or told statu
 
 -- ---- outcomes
 
-final_over : (status : FinalStatus) → IsOver (outcome_of status)
+pub final_over : (status : FinalStatus) → IsOver (outcome_of status)
 final_over final.NoSupport = tt
 final_over final.Fail = tt
 final_over final.Success = tt
 
-recorded_over : (o : Outcome) (status : FinalStatus) → recorded o ≡ outcome_of status → o ≡ outcome_of status
+pub recorded_over : (o : Outcome) (status : FinalStatus) → recorded o ≡ outcome_of status → o ≡ outcome_of status
 recorded_over Waiting final.NoSupport e = e
 recorded_over Waiting final.Fail e = e
 recorded_over Waiting final.Success e = e
@@ -79,7 +80,7 @@ recorded_over Fail status e = e
 recorded_over NoSupport status e = e
 recorded_over Cancelled status e = e
 
-over_recorded : (status : FinalStatus) → recorded (outcome_of status) ≡ outcome_of status
+pub over_recorded : (status : FinalStatus) → recorded (outcome_of status) ≡ outcome_of status
 over_recorded final.NoSupport = refl
 over_recorded final.Fail = refl
 over_recorded final.Success = refl

@@ -1,20 +1,20 @@
 -- A device that knows Supervision changes in sessions and by hand alone.
 use Rattle.std.proofs.Common.{◌≡◌, ℕ, ◌+◌, true, false, List, [], ◌∷◌, inl, inr, sym, subst, ◌∙◌}
 use Rattle.std.specs.List.{AllByRecursion}
+use Rattle.list_lemmas.proofs.Each.{all-append}
 use Rattle.zw_base.specs.declared.property.By.{By}
 use Rattle.zw_base.specs.declared.property.By.TheVariants.{Session, Plain, Local}
 use Rattle.zw_base.specs.declared.property.Setting.{Setting}
-use Rattle.device_stack.specs.declared.change.Change.{Change}
-use Rattle.device_stack.specs.declared.kind.Kind.{Kind}
-use Rattle.device_stack.specs.declared.verdict.Verdict.{Verdict}
-use Rattle.device_stack.specs.declared.verdict.Verdict.TheVariants.{NoSupport, Fails, Makes, Works}
-use Rattle.device_stack.specs.Kind.{lists}
+use Rattle.device_kinds.specs.declared.change.Change.{Change}
+use Rattle.device_kinds.specs.declared.kind.Kind.{Kind}
+use Rattle.device_kinds.specs.declared.verdict.Verdict.{Verdict}
+use Rattle.device_kinds.specs.declared.verdict.Verdict.TheVariants.{NoSupport, Fails, Makes, Works}
+use Rattle.device_kinds.specs.Kind.{lists}
 use Rattle.device_sim.specs.State.{State}
 use Rattle.device_sim.specs.Event.{DeviceEvent, Hears, Ticks, Wakes, Sets, device_after}
 use Rattle.device_sim.specs.Laws.{IsChanged, IsHeard, IsMade, IsTicked}
 use Rattle.zw_laws.specs.Devices.{after_events}
 use Rattle.zw_laws.specs.Once.{IsSupervisedChange}
-use Rattle.host_facts.proofs.Lists.{all-append}
 use Rattle.device_facts.specs.GoingOn.{GoOn, IsSame}
 use Rattle.device_facts.specs.Showing.{AreUnchanged}
 use Rattle.once_facts.specs.InSessions.{ChangesInSessions}

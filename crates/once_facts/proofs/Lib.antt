@@ -6,7 +6,7 @@ mod Valuing
 mod Confirming
 mod InSessions
 mod Tying
-mod Going
+pub mod Going
 mod Showing
 mod Telling
 pub mod Heading

@@ -1,5 +1,5 @@
 -- What the tie gives of each session, and once only.
-use Rattle.std.proofs.Common.{◌≡◌, ◌⊎◌, ℕ, zero, suc, ◌≤◌, List, ◌++◌, length, get_or, Option, Some, None, inl, inr, refl, sym, ap, subst, ◌∙◌, arith}
+use Rattle.std.proofs.Common.{◌≡◌, ◌⊎◌, ℕ, zero, suc, ◌≤◌, List, length, get_or, Option, Some, None, inl, inr, refl, sym, ap, subst, ◌∙◌, arith}
 use Rattle.std.specs.List.{AllByRecursion}
 use Rattle.std.proofs.lemmas.Bool.{cases_eq}
 use Rattle.std.proofs.lemmas.Option.{slice_get-get_or}
@@ -29,10 +29,12 @@ use Rattle.host_facts.specs.Laws.{HostLaws, IsUnderWay, numbers_for}
 use Rattle.host_facts.specs.Tables.{outcome_in, recorded}
 use Rattle.once_facts.specs.Tied.{IsTied, MakesWhatIsTaken}
 use Rattle.once_facts.specs.ByTable.{OnceByTable}
-use Rattle.device_facts.proofs.Having.{all_has, all_of}
-use Rattle.once_facts.proofs.Carrying.{carried_has, has_carried, has_session, numbers_are, session_has, session_within, stands_front}
+use Rattle.zw_laws.proofs.Having.{all_has, all_of}
+use Rattle.device_facts.proofs.Once.{numbers_are}
+use Rattle.once_facts.proofs.Carrying.{carried_has, has_carried, has_session, session_has, session_within}
 use Rattle.once_facts.proofs.Succeeding.{has_success, successes_rise, successes_within, success_has}
 use Rattle.once_facts.proofs.Starting.{IsStarted, started_has}
+use Rattle.once_facts.proofs.Going.{session_front}
 
 -- ---- outcomes
 
@@ -102,10 +104,6 @@ status_within : (told : List ℕ) (session : ℕ) → 1 ≤ session → session 
 status_within told zero one within = absurd (omega (arith, one))
 status_within told (suc before) one within = record { status = get_or told before 0; at = slice_get-get_or told before 0 (omega (arith, within)) }
 
-status_front : (told rest : List ℕ) (session status : ℕ) → session_at told session ≡ Some status → session_at (told ++ rest) session ≡ Some status
-status_front told rest zero status at = absurd (grind arith)
-status_front told rest (suc before) status at = stands_front told rest before status at
-
 -- ---- of one node
 
 module _ (commands : List Command) (state : NodeState) (order : IsInOrder commands state) (finals told : List ℕ) (are : AreTold state.book finals told) where
@@ -150,7 +148,7 @@ module _ (commands : List Command) (state : NodeState) (order : IsInOrder comman
   changed = sym (numbers_are device.journal) ∙ tied.ended.changed
 
   final_at : (session status : ℕ) → session_at told session ≡ Some status → session_at finals session ≡ Some status
-  final_at session status at = subst (λ (l : List ℕ). session_at l session ≡ Some status) (sym tied.told_are.front) (status_front told tied.told_are.rest session status at)
+  final_at session status at = subst (λ (l : List ℕ). session_at l session ≡ Some status) (sym tied.told_are.front) (session_front told tied.told_are.rest session status at)
 
   -- a session whose command succeeded has changed the device
   pub succeeded : (session number : ℕ) → session_at state.book.commands session ≡ Some number → outcome_in commands number ≡ Success → Has (sessions_by device.journal) session

@@ -12,7 +12,7 @@ use Rattle.zw_order.specs.declared.order.Order.{Order}
 use Rattle.supervision.specs.Host.{command_at as session_at}
 use Rattle.supervision.specs.declared.session.TheConstants.{SUCCESS}
 use Rattle.supervision.proofs.OnceLemmas.{All-slice_get}
-use Rattle.device_stack.specs.declared.change.Change.{Change}
+use Rattle.device_kinds.specs.declared.change.Change.{Change}
 use Rattle.device_sim.specs.State.{State}
 use Rattle.device_course.specs.Ending.{HasEnded}
 use Rattle.device_facts.specs.Showing.{IsShownAmong}
@@ -32,8 +32,9 @@ use Rattle.host_events.specs.Facts.{IsCommandOf, IsSound}
 use Rattle.host_facts.specs.Facts.{Facts}
 use Rattle.host_facts.specs.Tables.{taken_at, taken_by}
 use Rattle.once_facts.specs.Tied.{MakesWhatIsTaken, settings_taken}
-use Rattle.device_facts.proofs.Having.{all_has, has_left, has_shown}
-use Rattle.once_facts.proofs.Carrying.{carried_has, has_change, numbers_are, session_has}
+use Rattle.zw_laws.proofs.Having.{all_has, has_left, has_shown}
+use Rattle.device_facts.proofs.Once.{numbers_are}
+use Rattle.once_facts.proofs.Carrying.{carried_has, has_change, session_has}
 use Rattle.once_facts.proofs.Succeeding.{success_has}
 
 -- ---- an order sets something

@@ -14,7 +14,8 @@ use Rattle.zw_laws.specs.Stores.{node_at}
 use Rattle.host_events.specs.State.{Command, command_at}
 use Rattle.host_facts.specs.Laws.{IsUnderWay, MayCarry, MayEnd, MayStand, accepted_for, number_for, numbers_for}
 use Rattle.host_facts.specs.Tables.{nodes_by}
-use Rattle.device_facts.proofs.Having.{has_left, has_right, has_shown, shown_has}
+use Rattle.host_facts.proofs.Views.{last_is}
+use Rattle.zw_laws.proofs.Having.{has_left, has_right, has_shown, shown_has}
 
 -- a command of which a session began
 abbrev pub IsStarted : Outcome → Type 0
@@ -44,10 +45,6 @@ outcome_by sessions ends = last_outcome (outcome_begun sessions) ends
 
 one_shown : {A : Type 0} (view : Entry → List A) (past : List Entry) (e : Entry) → shown view (past ++ e ∷ []) ≡ shown view past ++ view e
 one_shown view past e = shown-append view past (e ∷ []) ∙ ap (λ (l : List _). shown view past ++ l) (append-nil (view e))
-
-last_is : (o : Outcome) (ends : List Ended) (how : Ended) → last_outcome o (ends ++ how ∷ []) ≡ outcome_of how
-last_is o [] how = refl
-last_is o (first ∷ ends) how = last_is (outcome_of first) ends how
 
 way_started : (o : Outcome) → IsUnderWay o → IsStarted o
 way_started Begun is = tt

@@ -4,12 +4,12 @@ use Rattle.std.specs.Prelude.{slice_get}
 use Rattle.std.specs.List.{AllByRecursion}
 use Rattle.std.proofs.lemmas.Bool.{eq-eqb, eqb-true}
 use Rattle.std.proofs.lemmas.Option.{slice_get_within}
+use Rattle.list_lemmas.proofs.Each.{all-weaker}
 use Rattle.supervision.specs.Host.{command_at}
 use Rattle.supervision.specs.declared.session.TheConstants.{SUCCESS}
 use Rattle.courses.specs.Parts.{successes}
 use Rattle.zw_laws.specs.Lists.{Has, Rises}
-use Rattle.host_facts.proofs.Lists.{all-weaker}
-use Rattle.device_facts.proofs.Having.{all_of}
+use Rattle.zw_laws.proofs.Having.{all_of}
 
 -- ---- which they are
 

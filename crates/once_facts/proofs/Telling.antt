@@ -1,9 +1,9 @@
 -- Where the table is what the transcript shows, what holds by the table holds by the transcript.
-use Rattle.std.proofs.Common.{◌≡◌, ℕ, if◌then◌else◌, List, [], ◌∷◌, map, Option, Some, None, refl, sym, ap, ap₂, subst, ◌∙◌}
+use Rattle.std.proofs.Common.{◌≡◌, ℕ, if◌then◌else◌, List, [], ◌∷◌, map, Option, Some, None, sym, ap, subst, ◌∙◌}
 use Rattle.std.specs.List.{AllByRecursion}
 use Rattle.zw_base.specs.declared.property.Property.{Property}
 use Rattle.zw_base.specs.declared.property.Setting.{Setting}
-use Rattle.device_stack.specs.declared.change.Change.{Change}
+use Rattle.device_kinds.specs.declared.change.Change.{Change}
 use Rattle.device_stack.specs.State.{State, value_of}
 use Rattle.zw_text.specs.declared.entry.Entry.{Entry}
 use Rattle.zw_text.specs.declared.entry.Outcome.TheVariants.{Success}
@@ -13,24 +13,21 @@ use Rattle.zw_laws.specs.Lists.{Has}
 use Rattle.zw_laws.specs.Once.{IsUndone, MakesWhatIsAsked, Once, carried_by, commands_applied}
 use Rattle.zw_laws.specs.Values.{ConfirmsLast, confirmed, confirmed_by, is_success, last_command, last_given, properties_changed}
 use Rattle.value_store.specs.Values.{stored_of}
-use Rattle.host_keep.specs.Kept.{or_else, value_among}
+use Rattle.host_keep.specs.Kept.{value_among}
 use Rattle.host_events.specs.State.{Command, HostState}
 use Rattle.host_facts.specs.Laws.{numbers_for}
 use Rattle.host_facts.specs.Stores.{StoresLaw, given_by}
 use Rattle.host_facts.specs.Tables.{taken_at}
+use Rattle.host_facts.proofs.Confirmed.{last_agree}
 use Rattle.once_facts.specs.Tied.{MakesWhatIsTaken, settings_taken}
 use Rattle.once_facts.specs.ByTable.{ConfirmsByTable, IsTable, OnceByTable}
-use Rattle.device_facts.proofs.Having.{all_has, all_of}
+use Rattle.zw_laws.proofs.Having.{all_has, all_of}
 use Rattle.once_facts.proofs.Carrying.{has_carried, session_has}
 use Rattle.once_facts.proofs.Confirming.{value_settings}
 
 all_map : {A B : Type 0} (P : B → Type 0) (f : A → B) (xs : List A) → AllByRecursion P (map f xs) → AllByRecursion (λ x. P (f x)) xs
 all_map P f [] all = tt
 all_map P f (x ∷ xs) all = (all.0, all_map P f xs all.1)
-
-last_agree : (g g' : ℕ → Option ℕ) (l : List ℕ) → AllByRecursion (λ k. g' k ≡ g k) l → last_given g' l ≡ last_given g l
-last_agree g g' [] all = refl
-last_agree g g' (x ∷ l) all = ap₂ (λ (a b : Option ℕ). or_else a b) (last_agree g g' l all.1) all.0
 
 module _ (listing : ℕ → List ℕ) (commands : List Command) (node : ℕ) (past : List Entry) (table : IsTable listing commands node past)
     (for : AllByRecursion (Has (numbers_for node past)) (sessions node past)) where
@@ -52,15 +49,21 @@ module _ (listing : ℕ → List ℕ) (commands : List Command) (node : ℕ) (pa
 
   pub once_so : (journal : List Change) → OnceByTable commands node past journal → Once listing node past journal
   once_so journal is = record {
-    sessions_rise = is.sessions_rise;
-    sessions_begun = is.sessions_begun;
-    commands_rise = is.commands_rise;
-    commands_accepted = subst (λ (l : List ℕ). AllByRecursion (Has l) (sessions node past)) (sym table.numbers) for;
-    settings = all_of (MakesWhatIsAsked listing node past) journal (λ change has.
-        makes_asked change (all_has (MakesWhatIsTaken commands (sessions node past)) journal change is.settings has));
-    successful = of_accepted (λ number. outcome number past ≡ Success → Has (commands_applied node past journal) number) is.successful;
-    undone = of_accepted (λ number. IsUndone (outcome number past) → Has (commands_applied node past journal) number → ⊥) is.undone;
-    never_plain = is.never_plain;
+    changes = record {
+      sessions_rise = is.sessions_rise;
+      sessions_begun = is.sessions_begun;
+      settings = all_of (MakesWhatIsAsked listing node past) journal (λ change has.
+          makes_asked change (all_has (MakesWhatIsTaken commands (sessions node past)) journal change is.settings has));
+      never_plain = is.never_plain;
+    };
+    carries = record {
+      commands_rise = is.commands_rise;
+      commands_accepted = subst (λ (l : List ℕ). AllByRecursion (Has l) (sessions node past)) (sym table.numbers) for;
+    };
+    ends = record {
+      successful = of_accepted (λ number. outcome number past ≡ Success → Has (commands_applied node past journal) number) is.successful;
+      undone = of_accepted (λ number. IsUndone (outcome number past) → Has (commands_applied node past journal) number → ⊥) is.undone;
+    };
   }
 
   gives_same : (property : Property) (number : ℕ) → Has (sessions node past) number

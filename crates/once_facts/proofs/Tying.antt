@@ -1,27 +1,26 @@
 -- A course ties both ends, and a host that starts again is tied as the one before.
-use Rattle.std.proofs.Common.{◌≡◌, ℕ, ◌≤◌, List, length, Some, inl, inr, refl, sym, ap, subst, ◌∙◌, arith}
+use Rattle.std.proofs.Common.{◌≡◌, ℕ, ◌≤◌, List, length, Some, inl, inr, sym, ap, subst, ◌∙◌, arith}
 use Rattle.std.specs.List.{AllByRecursion}
 use Rattle.std.proofs.lemmas.Bool.{cases_eq}
+use Rattle.list_lemmas.proofs.Each.{all-weaker}
 use Rattle.supervision.specs.Host.{HostBook, begun_of, command_at as session_at}
 use Rattle.supervision.specs.Device.{Taken as TakenBy}
 use Rattle.supervision.specs.declared.session.TheConstants.{WORKING}
 use Rattle.courses.specs.Sessions.{Course}
 use Rattle.courses.specs.SessionFacts.{AreEnds, CourseFacts}
-use Rattle.device_stack.specs.declared.change.Change.{Change}
+use Rattle.device_kinds.specs.declared.change.Change.{Change}
 use Rattle.device_sim.specs.State.{State}
 use Rattle.device_course.specs.Ending.{HasEnded}
 use Rattle.zw_text.specs.declared.entry.Outcome.{Outcome}
 use Rattle.zw_text.specs.Transcript.{by_session}
 use Rattle.zw_laws.specs.Once.{carried_by}
-use Rattle.host_keep.specs.declared.final_status.FinalStatus.{FinalStatus}
 use Rattle.host_keep.specs.declared.final_status.FinalStatus.TheVariants as final
 use Rattle.host_nodes.specs.State.{node_of}
 use Rattle.host_events.specs.State.{HostState, Command}
-use Rattle.host_events.specs.After.{outcome_of}
 use Rattle.host_facts.specs.Facts.{StartsAs}
 use Rattle.host_facts.specs.Tables.{outcome_in, recorded, taken_at}
-use Rattle.host_facts.proofs.Lists.{all-weaker}
 use Rattle.once_facts.specs.Tied.{AreOutcomes, IsTied, IsToldAs, MakesWhatIsTaken, settings_taken}
+use Rattle.once_facts.proofs.Going.{over_recorded}
 
 -- ---- a course
 
@@ -41,14 +40,9 @@ course_ties c commands device facts ended outcomes made =
 
 -- ---- a restart
 
-final_recorded : (status : FinalStatus) → recorded (outcome_of status) ≡ outcome_of status
-final_recorded final.NoSupport = refl
-final_recorded final.Fail = refl
-final_recorded final.Success = refl
-
 told_again : (status : ℕ) (outcome again : Outcome) → again ≡ recorded outcome → IsToldAs status outcome → IsToldAs status again
 told_again status outcome again e is =
-    record { final = is.final; status_is = is.status_is; outcome_is = e ∙ ap recorded is.outcome_is ∙ final_recorded is.final }
+    record { final = is.final; status_is = is.status_is; outcome_is = e ∙ ap recorded is.outcome_is ∙ over_recorded is.final }
 
 module _ (old new : HostState) (node : ℕ) (device : State) (finals told : List ℕ) (starts : StartsAs old new)
     (tied : IsTied old.commands (node_of old.nodes node).book device finals told) where

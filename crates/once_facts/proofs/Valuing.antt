@@ -2,44 +2,35 @@
 use Rattle.std.proofs.Common.{◌≡◌, ◌⊎◌, ℕ, zero, suc, ◌<◌, Bool, true, false, if◌then◌else◌, List, [], ◌∷◌, ◌++◌, Option, Some, None, inl, inr, refl, sym, ap, subst, ◌∙◌, arith}
 use Rattle.std.specs.Prelude.{◌||◌, slice_get}
 use Rattle.std.specs.List.{AllByRecursion, list_any}
-use Rattle.std.specs.Ordering.{is_eq, nat_cmp}
-use Rattle.std.specs.Cmp.Lexicographic.{slice_cmp}
+use Rattle.std.specs.Ordering.{is_eq}
 use Rattle.std.specs.declared.cmp.Ordering.{Ordering}
 use Rattle.std.specs.declared.cmp.Ordering.TheVariants.{Less, Equal, Greater}
-use Rattle.zw_base.specs.PropertyOrder.{rank_of, same_property}
+use Rattle.zw_base.specs.PropertyOrder.{same_property}
 use Rattle.zw_base.specs.declared.property.By.{By}
 use Rattle.zw_base.specs.declared.property.Property.{Property}
 use Rattle.zw_base.specs.declared.property.Setting.{Setting}
-use Rattle.device_stack.specs.declared.change.Change.{Change}
-use Rattle.device_stack.specs.Values.{value_after, value_by}
+use Rattle.device_kinds.specs.declared.change.Change.{Change}
+use Rattle.device_kinds.specs.Values.{value_after, value_by}
 use Rattle.supervision.specs.Host.{command_at}
-use Rattle.value_store.proofs.Keys.{property_exact}
 use Rattle.host_keep.specs.Kept.{or_else, value_among}
 use Rattle.zw_laws.specs.Table.{compare_properties}
 use Rattle.zw_laws.specs.Values.{last_given, last_setter, sets}
 use Rattle.host_facts.specs.Stores.{AreSorted}
+use Rattle.host_records.proofs.Values.{one_property}
 
 -- ---- settings in the order of properties
-
-equal_so : (o : Ordering) → is_eq o ≡ true → o ≡ Equal
-equal_so Less e = cc
-equal_so Equal e = refl
-equal_so Greater e = cc
 
 not_less : (o : Ordering) → is_eq o ≡ true → o ≡ Less → ⊥
 not_less Less e less = cc
 not_less Equal e less = cc
 not_less Greater e less = cc
 
-same_is : (a b : Property) → same_property a b ≡ true → a ≡ b
-same_is a b e = property_exact a b (equal_so (slice_cmp nat_cmp (rank_of a) (rank_of b)) e)
-
 -- a property is set once
 set_once : (made later : Setting) (property : Property) (b : Bool) → same_property later.property property ≡ b → same_property made.property property ≡ true
     → compare_properties made.property later.property ≡ Less → b ≡ false
 set_once made later property false e is less = refl
 set_once made later property true e is less =
-    let same : property ≡ later.property = sym (same_is later.property property e) in
+    let same : property ≡ later.property = sym (one_property later.property property e) in
     absurd (not_less (compare_properties made.property later.property) (subst (λ (p : Property). same_property made.property p ≡ true) same is) less)
 
 others_differ : (made : Setting) (more : List Setting) (property : Property) → AllByRecursion (λ later. compare_properties made.property later.property ≡ Less) more

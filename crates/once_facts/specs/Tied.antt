@@ -6,7 +6,7 @@ use Rattle.std.specs.List.{AllByRecursion}
 use Rattle.zw_base.specs.declared.property.Setting.{Setting}
 use Rattle.supervision.specs.Host.{HostBook, begun_of, command_at as session_at}
 use Rattle.courses.specs.SessionFacts.{AreTold}
-use Rattle.device_stack.specs.declared.change.Change.{Change}
+use Rattle.device_kinds.specs.declared.change.Change.{Change}
 use Rattle.device_sim.specs.State.{State}
 use Rattle.device_course.specs.Ending.{HasEnded}
 use Rattle.zw_text.specs.declared.entry.Outcome.{Outcome}

@@ -4,7 +4,7 @@ ghost use Rattle.std.specs.Prelude.{◌≡◌, ℕ, ◌+◌, ◌≤◌, true, Li
 ghost use Rattle.std.specs.List.{AllByRecursion};
 ghost use Rattle.zw_base.specs.declared.property.By.TheVariants.{Session};
 ghost use Rattle.zw_base.specs.declared.property.Setting.{Setting};
-ghost use Rattle.device_stack.specs.declared.change.Change.{Change};
+ghost use Rattle.device_kinds.specs.declared.change.Change.{Change};
 ghost use Rattle.supervision.specs.Host.{command_at as session_at};
 ghost use Rattle.supervision.specs.declared.session.TheConstants.{SUCCESS};
 ghost use Rattle.courses.specs.Sessions.{Course};

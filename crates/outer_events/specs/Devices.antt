@@ -4,7 +4,7 @@ use Rattle.std.specs.List.{flat_map}
 use Rattle.zw_base.specs.declared.property.Setting.{Setting}
 use Rattle.route_table.specs.declared.route.Route.{Route}
 use Rattle.route_table.specs.Network.{Network}
-use Rattle.device_stack.specs.declared.change.Change.{Change}
+use Rattle.device_kinds.specs.declared.change.Change.{Change}
 use Rattle.device_stack.specs.Showing.{shown_of}
 use Rattle.device_sim.specs.State.{State}
 use Rattle.device_sim.specs.Event.{DeviceEvent, device_after, device_replies}

@@ -133,12 +133,12 @@ within_all before [] nodes = tt
 within_all before (goes_mark d ∷ log) nodes = (nodes.0, within_all (before ++ goes_mark d ∷ []) log nodes.1)
 within_all before (begins_mark node ∷ log) nodes = within_all (before ++ begins_mark node ∷ []) log nodes
 
-all_dropped : (n : ℕ) (fs : List Flown) → AllByRecursion (λ (f : Flown). f.node < 233) fs → AllByRecursion (λ (f : Flown). f.node < 233) (drop n fs)
+pub all_dropped : (n : ℕ) (fs : List Flown) → AllByRecursion (λ (f : Flown). f.node < 233) fs → AllByRecursion (λ (f : Flown). f.node < 233) (drop n fs)
 all_dropped zero fs all = all
 all_dropped (suc n) [] all = tt
 all_dropped (suc n) (f ∷ fs) all = all_dropped n fs all.1
 
-flight_within : (log : List Mark) (flight : Flown) (later : List Flown) (frames : FramesState) → Fly log (flight ∷ later) frames → flight.node < 233
+pub flight_within : (log : List Mark) (flight : Flown) (later : List Flown) (frames : FramesState) → Fly log (flight ∷ later) frames → flight.node < 233
 flight_within log flight later frames fly =
     (subst (λ (fs : List Flown). AllByRecursion (λ (f : Flown). f.node < 233) fs) (sym fly.are) (all_dropped frames.landed (flown_in log) (within_all [] log fly.history.nodes))).0
 

@@ -37,7 +37,7 @@ use Rattle.outer_events.specs.declared.waits.Call.{Call}
 use Rattle.outer_events.specs.declared.waits.Call.TheVariants.{OfFrame, NoRoute as no_route_call}
 use Rattle.outer_events.specs.State.{OuterState, with_chip, each}
 use Rattle.outer_events.specs.Chip.{put_out, chip_does}
-use Rattle.request_course.specs.Requests.{Word, Send, Abort, Other, Traffic, Step, IsFirst, judged}
+use Rattle.request_course.specs.Requests.{Word, Send, Abort, Traffic, Step, judged}
 use Rattle.request_course.specs.Requests as course
 use Rattle.request_course.specs.Facts.{flying_in}
 use Rattle.host_traffic.specs.Traffic.{word_of}
@@ -142,7 +142,7 @@ asked_function f request e = by f.kind e
     by of_response same = absurd (grind (arith, same))
 
 -- the frame that the link passes up is the item
-passed_item : (b : Bool) (item : Item) (f : FrameParts) → passed b item ≡ Some f → item ≡ Good (Framed f)
+pub passed_item : (b : Bool) (item : Item) (f : FrameParts) → passed b item ≡ Some f → item ≡ Good (Framed f)
 passed_item true item f e = absurd (grind (arith, e))
 passed_item false (Good Ack) f e = absurd (grind (arith, e))
 passed_item false (Good Nak) f e = absurd (grind (arith, e))

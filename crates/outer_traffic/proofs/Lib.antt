@@ -1,7 +1,7 @@
 mod Functions
-mod Mild
-mod Judging
+pub mod Mild
+pub mod Judging
 mod Calls
 mod Results
-mod Arrivals
+pub mod Arrivals
 mod Events

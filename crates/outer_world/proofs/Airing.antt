@@ -20,7 +20,8 @@ use Rattle.outer_events.specs.Air.{deals}
 use Rattle.outer_events.specs.Events.{Arrives, Repeats, outcome, devices_after, May, steps, repeats, devices_repeated, MayRepeat, refusal_entries, mesh_of}
 use Rattle.outer_events.specs.Did.{RunOf, FrontOf, Stops, Enters}
 use Rattle.outer_events.specs.Schedules.{Arrivals, IsRepeat}
-use Rattle.outer_world.proofs.Single.{run_one, stops_now, stops_in, map_ok, map_err}
+use Rattle.outer_state.proofs.Answered.{map_ok, map_err}
+use Rattle.outer_world.proofs.Single.{run_one, stops_now, stops_in}
 use Rattle.outer_world.proofs.Counted.{arrivals}
 
 abbrev pub States : Type 0
@@ -135,42 +136,46 @@ repeat_cut o ds later number before all (inr (step, (drawn, route, is), may, sam
     (same ∙ ap (λ (s : AirStep). (mesh_after (mesh_of (outside o ds)) s).devices) is) put
 
 -- what calls of the air did
-module _ {V E : Type 0} (r : Result V E) (o q new : OuterState) (ds later : States) (air : AirState) (before all : List Entry) (same : q ≡ o) where
+module _ {V E : Type 0} (r : Result V E) (o q mid new : OuterState) (ds later : States) (before all : List Entry) (same : q ≡ o) where
   -- the next frame arrived, and that was entered, or not
   module _ (none events : List AirEvent) (empty : none ≡ []) where
-    pub arrived_ok : (drawn : List ℕ) × (route : Option Route) × Did (arrives drawn route ∷ []) q.air ds air later none events
-        → OnOk r (Enters (each (deals later) (with_air q air) events) new before all) → OnOk r (RunOf (Arrivals 1) (outside o ds) (outside new later) before all)
-    arrived_ok (drawn, route, told) done =
-        let did : Did (arrives drawn route ∷ []) q.air ds air later [] events = subst (λ (l : List AirEvent). Did (arrives drawn route ∷ []) q.air ds air later l events) empty told in
-        subst (λ (p : OuterState). OnOk r (RunOf (Arrivals 1) (outside p ds) (outside new later) before all)) same
-        (map_ok r (Enters (each (deals later) (with_air q air) events) new before all) (RunOf (Arrivals 1) (outside q ds) (outside new later) before all)
-        (λ (entered : Enters (each (deals later) (with_air q air) events) new before all). arrival_runs q new ds later drawn route before all did.may.0
-        (step_devices q air ds later (arrives drawn route) events did) (step_enters q air ds later (arrives drawn route) events did new before all entered)) done)
+    -- only the air is another
+    rested : mid ≡ with_air q mid.air → OnOk r (Enters (each (deals later) mid events) new before all) → OnOk r (Enters (each (deals later) (with_air q mid.air) events) new before all)
+    rested rest done = subst (λ (x : OuterState). OnOk r (Enters (each (deals later) x events) new before all)) rest done
 
-    pub arrived_err : (drawn : List ℕ) × (route : Option Route) × Did (arrives drawn route ∷ []) q.air ds air later none events → OnErr r (all ≡ before) → OnErr r (Stops (FrontOf (Arrivals 1)) (outside o ds) later before all)
+    pub arrived_ok : mid ≡ with_air q mid.air → (drawn : List ℕ) × (route : Option Route) × Did (arrives drawn route ∷ []) q.air ds mid.air later none events
+        → OnOk r (Enters (each (deals later) mid events) new before all) → OnOk r (RunOf (Arrivals 1) (outside o ds) (outside new later) before all)
+    arrived_ok rest (drawn, route, told) done =
+        let did : Did (arrives drawn route ∷ []) q.air ds mid.air later [] events = subst (λ (l : List AirEvent). Did (arrives drawn route ∷ []) q.air ds mid.air later l events) empty told in
+        subst (λ (p : OuterState). OnOk r (RunOf (Arrivals 1) (outside p ds) (outside new later) before all)) same
+        (map_ok r (Enters (each (deals later) (with_air q mid.air) events) new before all) (RunOf (Arrivals 1) (outside q ds) (outside new later) before all)
+        (λ (entered : Enters (each (deals later) (with_air q mid.air) events) new before all). arrival_runs q new ds later drawn route before all did.may.0
+        (step_devices q mid.air ds later (arrives drawn route) events did) (step_enters q mid.air ds later (arrives drawn route) events did new before all entered)) (rested rest done))
+
+    pub arrived_err : (drawn : List ℕ) × (route : Option Route) × Did (arrives drawn route ∷ []) q.air ds mid.air later none events → OnErr r (all ≡ before) → OnErr r (Stops (FrontOf (Arrivals 1)) (outside o ds) later before all)
     arrived_err (drawn, route, told) put =
-        let did : Did (arrives drawn route ∷ []) q.air ds air later [] events = subst (λ (l : List AirEvent). Did (arrives drawn route ∷ []) q.air ds air later l events) empty told in
+        let did : Did (arrives drawn route ∷ []) q.air ds mid.air later [] events = subst (λ (l : List AirEvent). Did (arrives drawn route ∷ []) q.air ds mid.air later l events) empty told in
         subst (λ (p : OuterState). OnErr r (Stops (FrontOf (Arrivals 1)) (outside p ds) later before all)) same
         (map_err r (all ≡ before) (Stops (FrontOf (Arrivals 1)) (outside q ds) later before all)
-        (λ (e : all ≡ before). arrival_stops q ds later drawn route before all did.may.0 (step_devices q air ds later (arrives drawn route) events did) e) put)
+        (λ (e : all ≡ before). arrival_stops q ds later drawn route before all did.may.0 (step_devices q mid.air ds later (arrives drawn route) events did) e) put)
 
     -- a frame was heard again
-    pub repeated_ok : (number : ℕ) → refusal_of q.air.frames number ≡ None → (drawn : List ℕ) × (route : Option Route) × Did (repeats_frame number drawn route ∷ []) q.air ds air later none events
-        → OnOk r (Enters (each (deals later) (with_air q air) events) new before all) → OnOk r (RunOf (IsRepeat number) (outside o ds) (outside new later) before all)
-    repeated_ok number allowed (drawn, route, told) done =
-        let did : Did (repeats_frame number drawn route ∷ []) q.air ds air later [] events = subst (λ (l : List AirEvent). Did (repeats_frame number drawn route ∷ []) q.air ds air later l events) empty told in
+    pub repeated_ok : mid ≡ with_air q mid.air → (number : ℕ) → refusal_of q.air.frames number ≡ None → (drawn : List ℕ) × (route : Option Route) × Did (repeats_frame number drawn route ∷ []) q.air ds mid.air later none events
+        → OnOk r (Enters (each (deals later) mid events) new before all) → OnOk r (RunOf (IsRepeat number) (outside o ds) (outside new later) before all)
+    repeated_ok rest number allowed (drawn, route, told) done =
+        let did : Did (repeats_frame number drawn route ∷ []) q.air ds mid.air later [] events = subst (λ (l : List AirEvent). Did (repeats_frame number drawn route ∷ []) q.air ds mid.air later l events) empty told in
         subst (λ (p : OuterState). OnOk r (RunOf (IsRepeat number) (outside p ds) (outside new later) before all)) same
-        (map_ok r (Enters (each (deals later) (with_air q air) events) new before all) (RunOf (IsRepeat number) (outside q ds) (outside new later) before all)
-        (λ (entered : Enters (each (deals later) (with_air q air) events) new before all). repeat_runs q new ds later number drawn route before all allowed did.may.0
-        (step_devices q air ds later (repeats_frame number drawn route) events did) (step_enters q air ds later (repeats_frame number drawn route) events did new before all entered)) done)
+        (map_ok r (Enters (each (deals later) (with_air q mid.air) events) new before all) (RunOf (IsRepeat number) (outside q ds) (outside new later) before all)
+        (λ (entered : Enters (each (deals later) (with_air q mid.air) events) new before all). repeat_runs q new ds later number drawn route before all allowed did.may.0
+        (step_devices q mid.air ds later (repeats_frame number drawn route) events did) (step_enters q mid.air ds later (repeats_frame number drawn route) events did new before all entered)) (rested rest done))
 
-    pub repeated_err : (number : ℕ) → (drawn : List ℕ) × (route : Option Route) × Did (repeats_frame number drawn route ∷ []) q.air ds air later none events
+    pub repeated_err : (number : ℕ) → (drawn : List ℕ) × (route : Option Route) × Did (repeats_frame number drawn route ∷ []) q.air ds mid.air later none events
         → OnErr r (all ≡ before) → OnErr r (Stops (FrontOf (IsRepeat number)) (outside o ds) later before all)
     repeated_err number (drawn, route, told) put =
-        let did : Did (repeats_frame number drawn route ∷ []) q.air ds air later [] events = subst (λ (l : List AirEvent). Did (repeats_frame number drawn route ∷ []) q.air ds air later l events) empty told in
+        let did : Did (repeats_frame number drawn route ∷ []) q.air ds mid.air later [] events = subst (λ (l : List AirEvent). Did (repeats_frame number drawn route ∷ []) q.air ds mid.air later l events) empty told in
         subst (λ (p : OuterState). OnErr r (Stops (FrontOf (IsRepeat number)) (outside p ds) later before all)) same
         (map_err r (all ≡ before) (Stops (FrontOf (IsRepeat number)) (outside q ds) later before all)
-        (λ (e : all ≡ before). repeat_stops q ds later number drawn route before all did.may.0 (step_devices q air ds later (repeats_frame number drawn route) events did) e) put)
+        (λ (e : all ≡ before). repeat_stops q ds later number drawn route before all did.may.0 (step_devices q mid.air ds later (repeats_frame number drawn route) events did) e) put)
 
   -- it was cut short
   pub arrival_cut_err : IsCut IsArrival (record { air = q.air; devices = ds }) later → OnErr r (all ≡ before) → OnErr r (Stops (FrontOf (Arrivals 1)) (outside o ds) later before all)
@@ -185,16 +190,16 @@ module _ {V E : Type 0} (r : Result V E) (o q new : OuterState) (ds later : Stat
       (map_err r (all ≡ before) (Stops (FrontOf (IsRepeat number)) (outside q ds) later before all) (λ (e : all ≡ before). repeat_cut q ds later number before all cut e) put)
 
   -- a repeat was refused
-  pub repeat_refused : (number : ℕ) (fault : RepeatFault) → air ≡ q.air → IsFault (refusal_of q.air.frames number) fault
+  pub repeat_refused : (number : ℕ) (fault : RepeatFault) → mid ≡ q → IsFault (refusal_of q.air.frames number) fault
       → ((refused : RepeatRefusal) → refusal_of q.air.frames number ≡ Some refused → later ≡ ds)
-      → OnOk r ((refused : RepeatRefusal) × (fault ≡ fault_of refused) × Enters (tells (with_air q air) (refusal_entries refused)) new before all)
+      → OnOk r ((refused : RepeatRefusal) × (fault ≡ fault_of refused) × Enters (tells mid (refusal_entries refused)) new before all)
       → OnOk r (RunOf (IsRepeat number) (outside o ds) (outside new later) before all)
   repeat_refused number fault stays given still done =
       subst (λ (p : OuterState). OnOk r (RunOf (IsRepeat number) (outside p ds) (outside new later) before all)) same
-      (map_ok r ((refused : RepeatRefusal) × (fault ≡ fault_of refused) × Enters (tells (with_air q air) (refusal_entries refused)) new before all) (RunOf (IsRepeat number) (outside q ds) (outside new later) before all) go done)
+      (map_ok r ((refused : RepeatRefusal) × (fault ≡ fault_of refused) × Enters (tells mid (refusal_entries refused)) new before all) (RunOf (IsRepeat number) (outside q ds) (outside new later) before all) go done)
     where
-      go : (refused : RepeatRefusal) × (fault ≡ fault_of refused) × Enters (tells (with_air q air) (refusal_entries refused)) new before all → RunOf (IsRepeat number) (outside q ds) (outside new later) before all
+      go : (refused : RepeatRefusal) × (fault ≡ fault_of refused) × Enters (tells mid (refusal_entries refused)) new before all → RunOf (IsRepeat number) (outside q ds) (outside new later) before all
       go (refused, is, entered) =
           let why : refusal_of q.air.frames number ≡ Some refused = fault_says (refusal_of q.air.frames number) fault refused given is in
           subst (λ (l : States). RunOf (IsRepeat number) (outside q ds) (outside new l) before all) (sym (still refused why))
-          (refusal_runs q new ds number refused before all why (subst (λ (a : AirState). Enters (tells (with_air q a) (refusal_entries refused)) new before all) stays entered))
+          (refusal_runs q new ds number refused before all why (subst (λ (x : OuterState). Enters (tells x (refusal_entries refused)) new before all) stays entered))

@@ -4,9 +4,7 @@ use Rattle.std.specs.Prelude.{Option, Some, None, slice_get}
 use Rattle.std.proofs.lemmas.List.{append-nil}
 use Rattle.zw_base.specs.declared.profile.Profile.{Profile}
 use Rattle.route_table.specs.declared.route.Route.{Route}
-use Rattle.chip_sim.specs.State.{ChipParts}
-use Rattle.chip_sim.specs.Events.{Informed, after, outs}
-use Rattle.chip_sim.specs.declared.out.ChipOut.{ChipOut}
+use Rattle.chip_sim.specs.Events.{Informed}
 use Rattle.device_sim.specs.State.{State}
 use Rattle.mesh_sim.specs.Fates.{place_of}
 use Rattle.mesh_sim.specs.Routes.{IsRoute}
@@ -15,30 +13,27 @@ use Rattle.zw_text.specs.declared.entry.Entry.TheVariants.{Refused}
 use Rattle.zw_text.specs.declared.entry.Refusal.TheVariants.{NoDevice}
 use Rattle.outer_events.specs.declared.waits.Due.{Due}
 use Rattle.outer_events.specs.declared.waits.Due.TheVariants.{Info, NoRoute}
-use Rattle.outer_events.specs.State.{OuterState, outside, tells, each, Does}
-use Rattle.outer_events.specs.Chip.{put_out, chip_does}
+use Rattle.outer_events.specs.State.{OuterState, outside, tells, Does}
+use Rattle.outer_events.specs.Chip.{chip_does}
 use Rattle.outer_events.specs.Results.{no_route, profile_for, informs, gives, MayGive, device_at}
 use Rattle.outer_events.specs.Devices.{device_entries, shown_entries}
 use Rattle.outer_events.specs.Events.{Gives, Shows, outcome, devices_after, May, stamp, has_entered}
 use Rattle.outer_events.specs.Did.{GoesFor, Enters}
 use Rattle.outer_events.specs.Schedules.{Givings, IsOne}
-use Rattle.outer_world.proofs.Single.{run_one, entered_ok, map_ok}
-use Rattle.outer_world.proofs.Doings.{does_chip}
+use Rattle.outer_state.proofs.Answered.{map_ok}
+use Rattle.outer_world.proofs.Single.{run_one, entered_ok}
 
 -- the chip was given the information of a node
-pub informed : {V E : Type 0} (r : Result V E) (o q new : OuterState) (ds : List State) (node : ℕ) (moved : ChipParts) (given profile : Option Profile) (start outputs : List ChipOut) (before all : List Entry)
-    → q ≡ o → (route : Option Route) × IsRoute o.air.network node route × (profile ≡ profile_for o.air ds node route) → given ≡ profile
-    → moved.decoder ≡ q.chip.decoder → moved.state ≡ after q.chip.state (Informed node given) → start ≡ [] → outputs ≡ start ++ outs q.chip.state (Informed node given)
-    → OnOk r (Does (each put_out (record q { chip = moved }) outputs) new before all)
+pub informed : {V E : Type 0} (r : Result V E) (o new : OuterState) (ds : List State) (node : ℕ) (given profile : Option Profile) (before all : List Entry)
+    → (route : Option Route) × IsRoute o.air.network node route × (profile ≡ profile_for o.air ds node route) → given ≡ profile
+    → OnOk r (Does (chip_does o (Informed node given)) new before all)
     → OnOk r ((route : Option Route) × IsRoute o.air.network node route × Does (informs o ds node route) new before all)
-informed r o q new ds node moved given profile start outputs before all same (route, way, found) read decoder state none put done =
-    map_ok r (Does (each put_out (record q { chip = moved }) outputs) new before all) ((route : Option Route) × IsRoute o.air.network node route × Does (informs o ds node route) new before all)
-    (λ (did : Does (each put_out (record q { chip = moved }) outputs) new before all). (
+informed r o new ds node given profile before all (route, way, found) read done =
+    map_ok r (Does (chip_does o (Informed node given)) new before all) ((route : Option Route) × IsRoute o.air.network node route × Does (informs o ds node route) new before all)
+    (λ (did : Does (chip_does o (Informed node given)) new before all). (
       route,
       way,
-      subst (λ (p : OuterState). Does (chip_does p (Informed node (profile_for o.air ds node route))) new before all) same
-          (subst (λ (p : Option Profile). Does (chip_does q (Informed node p)) new before all) (read ∙ found)
-          (does_chip q moved q.chip.decoder (Informed node given) new start outputs before all decoder state none put did)),
+      subst (λ (p : Option Profile). Does (chip_does o (Informed node p)) new before all) (read ∙ found) did,
     )) done
 
 -- what is due first

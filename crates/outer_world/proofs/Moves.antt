@@ -12,7 +12,8 @@ use Rattle.outer_events.specs.Devices.{acts, acts_at, device_set, HasWay, MayAct
 use Rattle.outer_events.specs.Events.{Device_ticks, Wakes_device, Sets_device, outcome, devices_after, May, stamp, has_entered}
 use Rattle.outer_events.specs.Did.{RunOf, FrontOf, Stops, Enters}
 use Rattle.outer_events.specs.Schedules.{DeviceTicks, IsWake, IsSet}
-use Rattle.outer_world.proofs.Single.{run_one, stops_now, stops_in, entered_ok, map_ok}
+use Rattle.outer_state.proofs.Answered.{map_ok}
+use Rattle.outer_world.proofs.Single.{run_one, stops_now, stops_in, entered_ok}
 use Rattle.outer_world.proofs.Counted.{device_ticks}
 
 abbrev pub States : Type 0

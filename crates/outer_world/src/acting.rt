@@ -18,17 +18,17 @@ ghost use Rattle.outer_events.specs.Did.{RunOf, FrontOf, Stops, GoesFor, Enters}
 ghost use Rattle.outer_events.specs.Schedules.{DeviceTicks, IsWake, IsSet, IsOne};
 
 use crate::Outer;
-use crate::dealing::{tell_change, tell_sent};
+use crate::dealing::tell_change;
 use crate::devices::{act_one, changes_of, node_of, tell_device};
 use device_sim::Device;
-use mesh_sim::{AirEvent, place_in};
-use route_table::Route;
+use mesh_sim::place_in;
+use outer_state::Core;
 use std::alloc::Global;
 use zw_base::{Draw, List, NoMemory, NodeId, Replies};
 use zw_text::{Entry, Refusal};
 
 /// What a device does of itself or by hand.
-#[derive(Clone, Copy, Debug)]
+#[derive(Clone, Copy)]
 pub enum Act {
     /// It ticks. The drawn bytes serve a nonce.
     Tick([u8; 8]),
@@ -75,57 +75,9 @@ impl Outer {
         ensures err { OnErr result (HasActedByHand self.old (map (λ d. state d) devices.old.items) (map (λ d. state d) devices.new.items) (Some place) (act_event act)) }
         ensures kept { length devices.new.items ≡ length devices.old.items }
     {
-        let mut told = List::new(self.alloc);
-        self.act(&mut devices[place], act, &mut told)?;
-        self.enter(told, out)
-    }
-
-    /// A device does something: what it changed is told, and what it sends goes on the air.
-    fn act(
-        &mut self,
-        device: &mut Box<dyn Device>,
-        act: Act,
-        told: &mut List<Entry>,
-    ) -> Result<(), NoMemory>
-        ensures device { OnOk result (state device.new ≡ device_after (state device.old) (act_event act)) }
-        ensures ok { OnOk result ((route : Option TheRoute) × HasWay self.old.air.network (state device.old).node (device_replies (state device.old) (act_event act)) route
-            × Does (acts self.old (state device.old) (act_event act) route) self.new told.old.items told.new.items) }
-        ensures err { OnErr result (HasActed self.old (state device.old) (state device.new) (act_event act)) }
-    {
-        let node = node_of(device);
-        let first = changes_of(device);
-        let mut replies = Replies::new(self.alloc)?;
-        act_one(device, act, &mut replies)?;
-        let way = self.way_for(node, &replies);
-        tell_changes(self.alloc, node, first, device, told)?;
-        self.send(node, way, &replies, told)
-    }
-
-    /// The way home of a node that sends anything.
-    fn way_for(&self, node: NodeId, replies: &Replies) -> Option<Route>
-        ensures way { (route : Option TheRoute) × HasWay self.now.air.network node replies.now route × (result ≡ option_map backwards route) }
-        ensures sound { ForSome result (λ r. IsSound r) }
-    {
-        if replies.len() == 0 {
-            return None;
-        }
-        self.air.way_home(node)
-    }
-
-    /// Payloads of a node go on the air over a way.
-    fn send(
-        &mut self,
-        node: NodeId,
-        way: Option<Route>,
-        replies: &Replies,
-        told: &mut List<Entry>,
-    ) -> Result<(), NoMemory>
-        requires sound { ForSome way (λ r. IsSound r) }
-        ensures { OnOk result (Does (sends_over self.old node way replies.now) self.new told.old.items told.new.items) }
-    {
-        let mut events = List::new(self.alloc);
-        self.air.send_all(node, way, replies, &mut events)?;
-        tell_all_sent(self.alloc, &events, told)
+        let mut told = List::new(self.core.alloc());
+        perform(&mut self.core, &mut devices[place], act, &mut told)?;
+        self.core.enter(told, out)
     }
 
     /// Somebody wakes the first device of a node.
@@ -177,7 +129,7 @@ impl Outer {
     {
         match place_in(devices, node) {
             Some(place) => self.act_at(place, act, devices, out),
-            None => self.refuse(Refusal::NoDevice, out),
+            None => self.core.refuse(Refusal::NoDevice, out),
         }
     }
 
@@ -193,12 +145,33 @@ impl Outer {
         ensures no_entries { OnErr result (out.new.items ≡ out.old.items) }
     {
         let Some(place) = place_in(devices, node) else {
-            return self.refuse(Refusal::NoDevice, out);
+            return self.core.refuse(Refusal::NoDevice, out);
         };
-        let mut told = List::new(self.alloc);
-        tell_device(&devices[place], node, self.alloc, &mut told)?;
-        self.enter(told, out)
+        let mut told = List::new(self.core.alloc());
+        tell_device(&devices[place], node, self.core.alloc(), &mut told)?;
+        self.core.enter(told, out)
     }
+}
+
+/// A device does something: what it changed is told, and what it sends goes on the air.
+fn perform(
+    core: &mut Core,
+    device: &mut Box<dyn Device>,
+    act: Act,
+    told: &mut List<Entry>,
+) -> Result<(), NoMemory>
+    ensures device { OnOk result (state device.new ≡ device_after (state device.old) (act_event act)) }
+    ensures ok { OnOk result ((route : Option TheRoute) × HasWay core.old.air.network (state device.old).node (device_replies (state device.old) (act_event act)) route
+        × Does (acts core.old (state device.old) (act_event act) route) core.new told.old.items told.new.items) }
+    ensures err { OnErr result (HasActed core.old (state device.old) (state device.new) (act_event act)) }
+{
+    let node = node_of(device);
+    let first = changes_of(device);
+    let mut replies = Replies::new(core.alloc())?;
+    act_one(device, act, &mut replies)?;
+    let way = core.way_for(node, &replies);
+    tell_changes(core.alloc(), node, first, device, told)?;
+    core.send(node, way, &replies, told)
 }
 
 /// The changes that a device made from a place of its journal on are told.
@@ -213,20 +186,6 @@ fn tell_changes(
 {
     for at in first..changes_of(device) {
         tell_change(alloc, node, at, device, told)?;
-    }
-    Ok(())
-}
-
-/// The frames that went on the air are told.
-fn tell_all_sent(
-    alloc: Global,
-    events: &List<AirEvent>,
-    told: &mut List<Entry>,
-) -> Result<(), NoMemory>
-    ensures { OnOk result (told.new.items ≡ told.old.items ++ flat_map sent_entries events.now.items) }
-{
-    for event in events.as_slice() {
-        tell_sent(alloc, event, told)?;
     }
     Ok(())
 }

@@ -10,8 +10,10 @@ ghost use Rattle.outer_events.specs.Did.{RunOf, FrontOf, Stops, Enters};
 ghost use Rattle.outer_events.specs.Schedules.{Arrivals, Delivers, IsRepeat};
 
 use crate::Outer;
+use crate::dealing::deal_and_enter;
 use device_sim::Device;
 use mesh_sim::RepeatFault;
+use outer_state::Core;
 use zw_base::{Draw, List, NoMemory};
 use zw_text::{Entry, Refusal};
 
@@ -28,7 +30,7 @@ impl Outer {
         ensures err { OnErr result (Stops (FrontOf (Delivers self.old)) (outside self.old (map (λ d. state d) devices.old.items)) (map (λ d. state d) devices.new.items) out.old.items out.new.items) }
         ensures kept { length devices.new.items ≡ length devices.old.items }
     {
-        for _ in 0..self.air.flying() {
+        for _ in 0..self.core.flying() {
             self.arrive(devices, draw, out)?;
         }
         Ok(())
@@ -47,9 +49,9 @@ impl Outer {
         ensures err { OnErr result (Stops (FrontOf (Arrivals 1)) (outside self.old (map (λ d. state d) devices.old.items)) (map (λ d. state d) devices.new.items) out.old.items out.new.items) }
         ensures kept { length devices.new.items ≡ length devices.old.items }
     {
-        let mut events = List::new(self.alloc);
-        self.air.arrive(devices, draw, &mut events)?;
-        self.deal_and_enter(&events, devices, out)
+        let mut events = List::new(self.core.alloc());
+        self.core.arrive(devices, draw, &mut events)?;
+        deal_and_enter(&mut self.core, &events, devices, out)
     }
 
     /// A frame is heard again, or that is refused.
@@ -65,23 +67,23 @@ impl Outer {
         ensures err { OnErr result (Stops (FrontOf (IsRepeat frame)) (outside self.old (map (λ d. state d) devices.old.items)) (map (λ d. state d) devices.new.items) out.old.items out.new.items) }
         ensures kept { length devices.new.items ≡ length devices.old.items }
     {
-        let mut events = List::new(self.alloc);
-        match self.air.repeat(frame, devices, draw, &mut events) {
-            Ok(()) => self.deal_and_enter(&events, devices, out),
-            Err(fault) => self.refuse_repeat(fault, out),
+        let mut events = List::new(self.core.alloc());
+        match self.core.repeat(frame, devices, draw, &mut events) {
+            Ok(()) => deal_and_enter(&mut self.core, &events, devices, out),
+            Err(fault) => refuse_repeat(&mut self.core, fault, out),
         }
     }
+}
 
-    /// A frame is not repeated.
-    fn refuse_repeat(&mut self, fault: RepeatFault, out: &mut List<Entry>) -> Result<(), NoMemory>
-        ensures ok { OnOk result ((refused : Refused) × (fault ≡ fault_of refused) × Enters (tells self.old (refusal_entries refused)) self.new out.old.items out.new.items) }
-        ensures err { OnErr result (out.new.items ≡ out.old.items) }
-    {
-        match fault {
-            RepeatFault::NeverSent => self.refuse(Refusal::NeverSent, out),
-            RepeatFault::Forgotten => self.refuse(Refusal::Forgotten, out),
-            RepeatFault::Stale(later) => self.refuse(Refusal::Stale { later }, out),
-            RepeatFault::NoMemory => Err(NoMemory),
-        }
+/// A frame is not repeated.
+fn refuse_repeat(core: &mut Core, fault: RepeatFault, out: &mut List<Entry>) -> Result<(), NoMemory>
+    ensures ok { OnOk result ((refused : Refused) × (fault ≡ fault_of refused) × Enters (tells core.old (refusal_entries refused)) core.new out.old.items out.new.items) }
+    ensures err { OnErr result (out.new.items ≡ out.old.items) }
+{
+    match fault {
+        RepeatFault::NeverSent => core.refuse(Refusal::NeverSent, out),
+        RepeatFault::Forgotten => core.refuse(Refusal::Forgotten, out),
+        RepeatFault::Stale(later) => core.refuse(Refusal::Stale { later }, out),
+        RepeatFault::NoMemory => Err(NoMemory),
     }
 }

@@ -11,9 +11,9 @@ ghost use Rattle.outer_events.specs.Devices.{device_entries};
 ghost use Rattle.outer_events.specs.Nodes.{listens_at};
 
 use crate::acting::Act;
-use crate::entering::put_all;
 use device_sim::Device;
 use mesh_sim::place_in;
+use outer_state::put_all;
 use std::alloc::Global;
 use zw_base::{List, NoMemory, NodeId, Profile, Replies, Setting};
 use zw_text::Entry;

@@ -2,20 +2,18 @@
 //! the devices that are handed in.
 //!
 //! Each call is a list of small events. Its contract says which events they are; what each makes of the outside and which
-//! entries it has stands in `outer_events`. Where memory is wanting, a front of them was done, each whole and with all its
-//! entries, and of one more the device may have done its part; a run ends there, and nothing is said of the rest.
-//! Of its own it defines only how a device's doings are named (`specs/Acting`), and the size of pieces (`specs/Pieces`).
+//! entries it has stands in `outer_events`, and `outer_state` does all of it but what the devices do. Where memory is wanting, a
+//! front of the events was done, each whole and with all its entries, and of one more the device may have done its part; a run ends
+//! there, and nothing is said of the rest. Of its own it defines only how a device's doings are named (`specs/Acting`).
 #![tactic(auto)]
 
 mod acting;
 mod air;
 mod dealing;
 mod devices;
-mod entering;
 mod lines;
 mod nodes;
 mod outer;
-mod outputs;
 mod results;
 mod serial;
 

@@ -1,6 +1,6 @@
 //! Lines that set something of the air, the chip or time.
 
-ghost use Rattle.std.specs.Prelude.{◌≡◌, ◌+◌, ◌<◌, ◌^◌, ◌∷◌, [], true, false, ℕ, OnOk, OnErr};
+ghost use Rattle.std.specs.Prelude.{◌≡◌, ◌∷◌, [], OnOk, OnErr};
 ghost use Rattle.outer_events.specs.Events.{Links, Loses, Loses_acks, Collides_next, Stalls, Cuts, Host_begins};
 ghost use Rattle.outer_events.specs.Did.{Goes};
 
@@ -12,7 +12,7 @@ impl Outer {
     pub fn set_link(&mut self, a: NodeId, b: NodeId, live: bool)
         ensures { Goes (Links a b live ∷ []) self.old self.new [] [] }
     {
-        self.air.set_link(a, b, live);
+        self.core.set_link(a, b, live);
     }
 
     /// So many more frames are to be lost.
@@ -20,11 +20,7 @@ impl Outer {
         ensures ok { OnOk result (Goes (Loses count ∷ []) self.old self.new [] []) }
         ensures err { OnErr result (self.new ≡ self.old) }
     {
-        if self.air.losing() > u64::MAX - u64::from(count) {
-            return Err(NoMemory);
-        }
-        self.air.lose(count);
-        Ok(())
+        self.core.lose(count)
     }
 
     /// So many more acknowledgements are to be lost.
@@ -32,11 +28,7 @@ impl Outer {
         ensures ok { OnOk result (Goes (Loses_acks count ∷ []) self.old self.new [] []) }
         ensures err { OnErr result (self.new ≡ self.old) }
     {
-        if self.air.ack_losing() > u64::MAX - u64::from(count) {
-            return Err(NoMemory);
-        }
-        self.air.lose_ack(count);
-        Ok(())
+        self.core.lose_ack(count)
     }
 
     /// The chip is to answer a good frame by CAN.
@@ -44,11 +36,7 @@ impl Outer {
         ensures ok { OnOk result (Goes (Collides_next ∷ []) self.old self.new [] []) }
         ensures err { OnErr result (self.new ≡ self.old) }
     {
-        if !self.chip.can_collide() {
-            return Err(NoMemory);
-        }
-        self.chip.collide();
-        Ok(())
+        self.core.collide()
     }
 
     /// No byte moves until so many ticks passed; of two stalls the longer holds.
@@ -56,26 +44,20 @@ impl Outer {
         ensures ok { OnOk result (Goes (Stalls ticks ∷ []) self.old self.new [] []) }
         ensures err { OnErr result (self.new ≡ self.old) }
     {
-        if self.clock > u64::MAX - u64::from(ticks) {
-            return Err(NoMemory);
-        }
-        self.stalled_until = self.stalled_until.max(self.clock + u64::from(ticks));
-        Ok(())
+        self.core.stall(ticks)
     }
 
     /// Bytes move in pieces of so many; 0 is no cutting.
     pub fn cut(&mut self, size: u32)
         ensures { Goes (Cuts size ∷ []) self.old self.new [] [] }
     {
-        self.piece = size as usize;
+        self.core.cut(size);
     }
 
     /// From now on so many sessions of a node have begun, and never fewer than before.
     pub fn set_begun(&mut self, node: NodeId, sessions: u64)
         ensures { Goes (Host_begins node sessions ∷ []) self.old self.new [] [] }
     {
-        if self.air.begun(node) <= sessions {
-            self.air.set_begun(node, sessions);
-        }
+        self.core.set_begun(node, sessions);
     }
 }

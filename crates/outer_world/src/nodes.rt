@@ -1,11 +1,7 @@
 //! Nodes that join, and the links that the chip learns of them.
 
-ghost use Rattle.std.specs.Prelude.{◌≡◌, ◌+◌, ◌-◌, ◌<◌, ◌≤◌, ◌^◌, ◌++◌, ◌∷◌, ◌&&◌, [], length, map, OnOk, OnErr};
-ghost use Rattle.route_table.specs.Network.{linked};
-ghost use Rattle.chip_sim.specs.Did.{after_all};
+ghost use Rattle.std.specs.Prelude.{◌≡◌, ◌<◌, ◌^◌, ◌∷◌, [], length, map, OnOk, OnErr};
 ghost use Rattle.mesh_sim.specs.Air.{is_joined};
-ghost use Rattle.outer_events.specs.State.{with_chip};
-ghost use Rattle.outer_events.specs.Nodes.{is_known, links_of, pairs_of};
 ghost use Rattle.outer_events.specs.Events.{Joins, Discovers};
 ghost use Rattle.outer_events.specs.Did.{Goes, GoesFor};
 ghost use Rattle.outer_events.specs.Schedules.{IsOne};
@@ -13,42 +9,14 @@ ghost use Rattle.outer_events.specs.Schedules.{IsOne};
 use crate::Outer;
 use crate::devices::listens_in;
 use device_sim::Device;
-use zw_base::{NoMemory, NodeId, read_node};
-
-/// The greatest node id.
-const MAX_NODE: u8 = 232;
-
-/// The node at a place, counted from 0.
-fn node_after(place: u8) -> NodeId
-    requires { place < MAX_NODE }
-    ensures { result ≡ place + 1 }
-{
-    match read_node(place + 1) {
-        Some(node) => node,
-        None => unreachable!(),
-    }
-}
+use zw_base::{NoMemory, NodeId};
 
 impl Outer {
     /// Whether a node is joined.
     pub fn is_joined(&self, node: NodeId) -> bool
         ensures { result ≡ is_joined self.now.air node }
     {
-        self.air.is_joined(node)
-    }
-
-    /// Whether a node is node 1, or joined.
-    fn is_known(&self, node: NodeId) -> bool
-        ensures { result ≡ is_known self.now.air node }
-    {
-        node.number() == 1 || self.air.is_joined(node)
-    }
-
-    /// Whether a known node hears a node.
-    fn hears(&self, node: NodeId, other: NodeId) -> bool
-        ensures { result ≡ is_known self.now.air other && linked self.now.air.network node other }
-    {
-        self.is_known(other) && self.air.linked(node, other)
+        self.core.is_joined(node)
     }
 
     /// A node joins in the air and to the chip: as one that listens where the list has a device of it that does.
@@ -57,47 +25,15 @@ impl Outer {
         ensures ok { OnOk result (GoesFor (map (λ d. state d) devices.now.items) (IsOne (Joins node)) self.old self.new [] []) }
         ensures err { OnErr result (self.new ≡ self.old) }
     {
-        let listening = listens_in(devices, node, self.alloc)?;
-        self.chip.join(node, listening);
-        self.air.join(node, listening);
-        self.learn_links(node);
+        let listening = listens_in(devices, node, self.core.alloc())?;
+        self.core.join(node, listening);
         Ok(())
-    }
-
-    /// The chip learns the live links of a node.
-    fn learn_links(&mut self, node: NodeId)
-        ensures { self.new ≡ with_chip self.old (after_all self.old.chip.state (links_of self.old.air node)) }
-    {
-        for place in 0..MAX_NODE {
-            let other = node_after(place);
-            if self.hears(node, other) {
-                self.chip.set_link(node, other, true);
-            }
-        }
     }
 
     /// The chip's table becomes the live links between known nodes.
     pub fn discover(&mut self)
         ensures { Goes (Discovers ∷ []) self.old self.new [] [] }
     {
-        for place in 0..MAX_NODE {
-            let node = node_after(place);
-            if self.is_known(node) {
-                self.learn_pairs(node);
-            }
-        }
-    }
-
-    /// The chip learns which known nodes below a node hear it.
-    fn learn_pairs(&mut self, node: NodeId)
-        ensures { self.new ≡ with_chip self.old (after_all self.old.chip.state (pairs_of self.old.air node)) }
-    {
-        for place in 0..node.number() - 1 {
-            let other = node_after(place);
-            if self.is_known(other) {
-                let live = self.air.linked(node, other);
-                self.chip.set_link(node, other, live);
-            }
-        }
+        self.core.discover();
     }
 }

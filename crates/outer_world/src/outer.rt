@@ -1,33 +1,20 @@
-//! What is outside the host, but for the devices.
+//! What is outside the host, but for the devices; and time.
 
-ghost use Rattle.std.specs.Prelude.{◌≡◌, ◌+◌, ◌≤◌, ◌∷◌, [], nat_lt, OnOk, OnErr, IfOk};
+ghost use Rattle.std.specs.Prelude.{◌≡◌, ◌∷◌, [], OnOk, OnErr, IfOk};
 ghost use Rattle.outer_events.specs.State.{first_outer, is_stalled};
-ghost use Rattle.outer_events.specs.Events.{Begins_line, Begins_tick};
+ghost use Rattle.outer_events.specs.Events.{Begins_line, Begins_tick, Host_notes};
 ghost use Rattle.outer_events.specs.Did.{Goes};
 
-use chip_sim::Chip;
-use mesh_sim::Air;
-use outer_events::{Call, Due};
-use serial_pipes::Way;
+use outer_state::Core;
 use std::alloc::Global;
 use std::marker::Model;
-use zw_base::{NoMemory, NodeId, read_node};
+use zw_base::{List, NoMemory};
+use zw_text::Entry;
 
 /// Chip, air, the two directions of the serial line, and time. Contracts see an `OuterState`.
 #[derive(Drop)]
 pub struct Outer {
-    pub(crate) alloc: Global,
-    pub(crate) chip: Chip,
-    pub(crate) air: Air,
-    pub(crate) to_chip: Way,
-    pub(crate) to_host: Way,
-    pub(crate) piece: usize,
-    pub(crate) stalled_until: u64,
-    pub(crate) clock: u64,
-    pub(crate) in_tick: bool,
-    pub(crate) stamped: bool,
-    pub(crate) due: Vec<Due>,
-    pub(crate) calls: Vec<Call>,
+    pub(crate) core: Core,
 }
 
 impl Model for Outer {
@@ -39,30 +26,7 @@ impl Model for Outer {
 
     ghost coded = { Prim.hlevel (codes, network_code) };
 
-    ghost view = { λ o. record {
-      chip = o.chip;
-      air = o.air.state;
-      to_chip = o.to_chip;
-      to_host = o.to_host;
-      piece = o.piece;
-      stalled_until = o.stalled_until;
-      clock = o.clock;
-      in_tick = o.in_tick;
-      stamped = o.stamped;
-      due = o.due.items;
-      calls = o.calls.items;
-    } };
-}
-
-/// The node of that number, which is one.
-fn node(number: u8) -> NodeId
-    requires { (1 ≤ number) × (number ≤ 232) }
-    ensures { result ≡ number }
-{
-    match read_node(number) {
-        Some(node) => node,
-        None => unreachable!(),
-    }
+    ghost view = { λ o. o.core };
 }
 
 impl Outer {
@@ -70,25 +34,8 @@ impl Outer {
     pub fn new(alloc: Global) -> Result<Outer, NoMemory>
         ensures { IfOk result (λ outer. outer ≡ first_outer) }
     {
-        let mut chip = Chip::new(alloc)?;
-        let mut air = Air::new(alloc)?;
-        chip.join(node(2), true);
-        chip.set_link(node(1), node(2), true);
-        air.join(node(2), true);
-        air.set_link(node(1), node(2), true);
         Ok(Outer {
-            alloc,
-            chip,
-            air,
-            to_chip: Way::new(alloc)?,
-            to_host: Way::new(alloc)?,
-            piece: 0,
-            stalled_until: 0,
-            clock: 0,
-            in_tick: false,
-            stamped: false,
-            due: Vec::new(alloc),
-            calls: Vec::new(alloc),
+            core: Core::new(alloc)?,
         })
     }
 
@@ -96,14 +43,14 @@ impl Outer {
     pub fn clock(&self) -> u64
         ensures { result ≡ self.now.clock }
     {
-        self.clock
+        self.core.clock()
     }
 
     /// A line begins, outside any tick.
     pub fn begin_line(&mut self)
         ensures { Goes (Begins_line ∷ []) self.old self.new [] [] }
     {
-        self.in_tick = false;
+        self.core.begin_line();
     }
 
     /// A tick begins.
@@ -111,19 +58,21 @@ impl Outer {
         ensures ok { OnOk result (Goes (Begins_tick ∷ []) self.old self.new [] []) }
         ensures err { OnErr result (self.new ≡ self.old) }
     {
-        if self.clock == u64::MAX {
-            return Err(NoMemory);
-        }
-        self.clock += 1;
-        self.in_tick = true;
-        self.stamped = false;
-        Ok(())
+        self.core.begin_tick()
     }
 
     /// Whether no byte moves.
     pub fn is_stalled(&self) -> bool
         ensures { result ≡ is_stalled self.now }
     {
-        self.clock < self.stalled_until
+        self.core.is_stalled()
+    }
+
+    /// An entry of the host.
+    pub fn note(&mut self, entry: Entry, out: &mut List<Entry>) -> Result<(), NoMemory>
+        ensures ok { OnOk result (Goes (Host_notes entry ∷ []) self.old self.new out.old.items out.new.items) }
+        ensures no_entries { OnErr result (out.new.items ≡ out.old.items) }
+    {
+        self.core.note(entry, out)
     }
 }

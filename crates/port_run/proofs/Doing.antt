@@ -5,6 +5,7 @@ use Rattle.std.proofs.lemmas.Grind.{flat_map-append}
 use Rattle.std.specs.Io.KnownBytes.{Keeps, Consumes, Appends}
 use Rattle.std.proofs.KnownBytes.{Keeps-refl, Keeps-trans, Appends-nil, Appends-trans}
 use Rattle.scenario_run.specs.Writing.{AppendsFront}
+use Rattle.scenario_run.proofs.Pieces.{AppendsFront-append}
 use Rattle.line_stream.specs.declared.reader.TheConstants.{MAX_INPUT}
 use Rattle.host_events.specs.declared.out.HostOut.{HostOut}
 use Rattle.port_run.specs.declared.stop.Stop.{Stop}
@@ -27,10 +28,6 @@ ran_both (step ∷ first) later a b c x y (mid, one, rest, ran, all, are) more =
 pub units-append : (x y : List HostOut) → units_of (x ++ y) ≡ units_of x ++ units_of y
 units-append x y = flat_map-append unit_bytes x y
 
-front-after : (a b c : Option (List ℕ)) (xs ys : List ℕ) → Appends a b xs → AppendsFront b c ys → AppendsFront a c (xs ++ ys)
-front-after a b c xs ys p (front, (rest, whole), q) =
-    (xs ++ front, (rest, ap (λ l. xs ++ l) whole ∙ sym (append_assoc xs front rest)), Appends-trans a b c xs front p q)
-
 pub wrote_both : (first later : List Step) (a b c : Place) (s t u : Option (List ℕ)) → Wrote first a b s t → Wrote later b c t u → Wrote (first ++ later) a c s u
 wrote_both first later a b c s t u one two = record {
   outs = one.outs ++ two.outs;
@@ -44,7 +41,7 @@ halts_after InputTooLong first later a b c s t u one two = wrote_both first late
 halts_after WriteFault first later a b c s t u one two = record {
   outs = one.outs ++ two.outs;
   ran = ran_both first later a b c one.outs two.outs one.ran two.ran;
-  written = subst (λ (l : List ℕ). AppendsFront s u l) (sym (units-append one.outs two.outs)) (front-after s t u (units_of one.outs) (units_of two.outs) one.written two.written);
+  written = subst (λ (l : List ℕ). AppendsFront s u l) (sym (units-append one.outs two.outs)) (AppendsFront-append s t u (units_of one.outs) (units_of two.outs) one.written two.written);
 }
 halts_after NoMemory first later a b c s t u one two = record {
   mid = two.mid;
@@ -60,7 +57,7 @@ halts_after NoMemory first later a b c s t u one two = record {
     rose = two.did.rose;
     never_falls = two.did.never_falls;
   };
-  written = subst (λ (l : List ℕ). AppendsFront s u l) (sym (units-append one.outs two.all)) (front-after s t u (units_of one.outs) (units_of two.all) one.written two.written);
+  written = subst (λ (l : List ℕ). AppendsFront s u l) (sym (units-append one.outs two.all)) (AppendsFront-append s t u (units_of one.outs) (units_of two.all) one.written two.written);
 }
 
 -- ---- what is read

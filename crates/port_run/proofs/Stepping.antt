@@ -8,7 +8,7 @@ use Rattle.line_stream.specs.declared.reader.TheConstants.{PIECE, MAX_INPUT}
 use Rattle.host_events.specs.State.{HostParts}
 use Rattle.host_events.specs.declared.out.HostOut.{HostOut}
 use Rattle.host_events.proofs.Doing.{none_added, did_nothing}
-use Rattle.host_core.specs.Calls.{beside, Stops}
+use Rattle.host_taking.specs.Calls.{beside, Stops}
 use Rattle.port_run.specs.declared.stop.Stop.{Stop}
 use Rattle.port_run.specs.declared.stop.Stop.TheVariants.{ReadFault, WriteFault, InputTooLong, NoMemory}
 use Rattle.port_run.specs.Steps.{Place, Step, Asks, Takes, Ticks, Pumps, Ran}
@@ -18,7 +18,7 @@ use Rattle.port_run.proofs.Doing.{units-append, ran_one, went_one}
 use Rattle.port_run.proofs.Joining.{WentStill, BrokeStill}
 use Rattle.scenario_run.proofs.Pieces.{AppendsFront-append, AppendsFront-more}
 use Rattle.serial_frame.specs.Stream.{after_tick}
-use Rattle.host_core.specs.Calls.{Does, Are, scene}
+use Rattle.host_taking.specs.Calls.{Does, Are, scene}
 use Rattle.host_events.specs.Pumping.{Pumps as pump_events}
 use Rattle.host_events.specs.Ticking.{tick_events}
 use Rattle.host_events.specs.Taking.{Fed, FedFront}

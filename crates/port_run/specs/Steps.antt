@@ -18,7 +18,7 @@ use Rattle.host_events.specs.Pumping.{Pumps as pump_events}
 use Rattle.host_events.specs.Taking.{Fed}
 use Rattle.host_events.specs.Ticking.{tick_events}
 use Rattle.host_events.specs.declared.out.HostOut.{HostOut}
-use Rattle.host_core.specs.Calls.{beside, Are, Does}
+use Rattle.host_taking.specs.Calls.{beside, Are, Does}
 use Rattle.port_run.specs.declared.asking.Answer.{Answer}
 use Rattle.port_run.specs.declared.asking.Answer.TheVariants.{Taken, Command as numbered, Refused as refused}
 

@@ -26,9 +26,9 @@ use Rattle.host_events.specs.Events.{Joins as joins_host}
 use Rattle.host_events.specs.Did.{Did, RoseIf, records_all, texts_of}
 use Rattle.host_events.specs.Asking.{carriage_for, Waits}
 use Rattle.host_events.specs.declared.out.HostOut.{HostOut}
-use Rattle.host_state.specs.Choices.{Judges}
-use Rattle.host_core.specs.Calls.{DoesAlone, Are, scene}
-use Rattle.host_core.specs.Calls as calls
+use Rattle.host_taking.specs.Calls.{DoesAlone, Are, scene}
+use Rattle.host_taking.specs.Calls as calls
+use Rattle.host_effects.specs.Choices.{Judges}
 use Rattle.host_core.specs.Orders.{KeptOrRefused, CancelsOrNot}
 use Rattle.host_core.specs.declared.orders.CancelFault.{CancelFault}
 use Rattle.host_core.specs.declared.orders.CancelFault.TheVariants as cancel

@@ -5,8 +5,9 @@ use Rattle.std.specs.List.{list_any}
 use Rattle.std.proofs.lemmas.List.{append-nil}
 use Rattle.zw_text.specs.declared.entry.Entry.{Entry}
 use Rattle.host_events.specs.Did.{RoseIf}
-use Rattle.host_events.proofs.Doing.{rose_by_later, rose_since}
 use Rattle.replay_run.specs.Machine.{Lone, Event, Scene, Schedule, Run, Does, Stops, Then, May, MayAll, happens, happens_all, entries, entries_all, is_unkept}
+use Rattle.zw_machine.proofs.Doing.{rose_either}
+use Rattle.zw_machine.proofs.Taking.{or_false}
 
 pub happens_all-append : (m : Lone) (a b : List Event) → happens_all m (a ++ b) ≡ happens_all (happens_all m a) b
 happens_all-append m [] b = refl
@@ -32,15 +33,6 @@ any-append (e ∷ a) b = or_of (is_unkept e) a b (any-append a b)
         → (x || list_any is_unkept (a ++ b)) ≡ ((x || list_any is_unkept a) || list_any is_unkept b)
     or_of true a b ih = refl
     or_of false a b ih = ih
-
-rose_either : (x y : Bool) (f g k : ℕ) → f ≤ g → g ≤ k → RoseIf x f g → RoseIf y g k → RoseIf (x || y) f k
-rose_either true y f g k before later rose rose' = rose_by_later f g k before later rose
-rose_either false true f g k before later rose rose' = rose_since f g k before later rose'
-rose_either false false f g k before later rose rose' = tt
-
-or_false : (b : Bool) → (b || false) ≡ b
-or_false true = refl
-or_false false = refl
 
 -- ---- runs
 

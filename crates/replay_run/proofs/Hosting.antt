@@ -12,8 +12,8 @@ use Rattle.host_events.specs.Taking.{Fed, FedFront}
 use Rattle.host_events.specs.Ticking.{tick_events}
 use Rattle.host_events.specs.declared.out.HostOut.{HostOut}
 use Rattle.host_events.proofs.Doing.{did_both}
-use Rattle.host_core.specs.Calls.{Are, scene}
-use Rattle.host_core.specs.Calls as calls
+use Rattle.host_taking.specs.Calls.{Are, scene}
+use Rattle.host_taking.specs.Calls as calls
 use Rattle.zw_machine.specs.State.{with_texts}
 use Rattle.zw_machine.proofs.Hosting.{adds_is, rose_any}
 use Rattle.replay_run.specs.Machine.{Event, Does_itself, Takes, Ticks, Scene, Run, Does, Stops, May, happens, entries, entries_of, entry_of, timed, hosted}

@@ -51,10 +51,6 @@ ticks_stop (Err fault) count i s t u so_far stops = stopped_later so_far.front s
 
 -- ---- lines
 
-pub on_err : {T E P : Type 0} (r : Result T E) → P → OnErr r P
-on_err (Ok x) p = tt
-on_err (Err e) p = p
-
 pub on_ok : {T E P : Type 0} (r : Result T E) → P → OnOk r P
 on_ok (Ok x) p = p
 on_ok (Err e) p = tt

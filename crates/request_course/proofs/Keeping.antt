@@ -19,7 +19,7 @@ first_facts = record {
 }
 
 -- how many calls a payload has that is being sent
-one_is : (sending : Bool) → one_if sending ≤ 1
+pub one_is : (sending : Bool) → one_if sending ≤ 1
 one_is false = omega arith
 one_is true = omega arith
 
@@ -353,7 +353,7 @@ all_kept t (step ∷ steps) facts may = all_kept (after t step) steps (each_kept
 
 -- ---- how many frames are on the air
 
-some-fly : (calls : List Bool) → flying_in calls ≤ length calls
+pub some-fly : (calls : List Bool) → flying_in calls ≤ length calls
 some-fly [] = omega arith
 some-fly (flies ∷ calls) = let later : flying_in calls ≤ length calls = some-fly calls in let one : one_if flies ≤ 1 = one_is flies in omega arith
 

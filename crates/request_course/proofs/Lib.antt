@@ -1,2 +1,2 @@
 mod Words
-mod Keeping
+pub mod Keeping

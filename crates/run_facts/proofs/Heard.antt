@@ -3,6 +3,7 @@ use Rattle.std.proofs.Common.{◌≡◌, ℕ, Bool, true, false, List, [], ◌�
 use Rattle.std.specs.Prelude.{Option, Some, None, Result, Ok, Err, nat_lt, if◌then◌else◌}
 use Rattle.std.specs.List.{AllByRecursion}
 use Rattle.std.proofs.lemmas.Bool.{cases_Bool}
+use Rattle.list_lemmas.proofs.Each.{all-append}
 use Rattle.zw_base.specs.declared.property.Setting.{Setting}
 use Rattle.serial_frame.specs.declared.frame.Kind.{Kind}
 use Rattle.serial_frame.specs.declared.frame.Kind.TheVariants as kind
@@ -39,7 +40,6 @@ use Rattle.host_events.specs.May.{says_listens}
 use Rattle.host_events.specs.Did.{after_all}
 use Rattle.host_events.specs.Events.{HostEvent, Hears, Interviews, Interview_unkept, Unreads, Is_unkept, Reports_old, Works, Finishes, Offers, Gives, Spends, Spends_unread, Takes_nonce, Notifies, Resends, Hears_value, Has_no_room}
 use Rattle.host_events.specs.Taking.{is_secure, FinalEvents, ReportEvents, NonceGetEvents, NonceReportEvents, resent, value_event, value_events, IsTaken, AreTaken, IsOpened, SealedEvents, PayloadEvents, InterviewEvents, ResponseEvents, NoticeEvents, FrameEvents, told_if, IsFollowed, IsJudged, AreJudged}
-use Rattle.line_facts.proofs.Frames.{all-append}
 use Rattle.run_facts.proofs.Always.{AlwaysInOrder, one, none, either}
 
 -- ---- payloads of a node

@@ -2,6 +2,7 @@
 use Rattle.std.proofs.Common.{ℕ, Bool, true, false, List, [], ◌∷◌, ◌++◌}
 use Rattle.std.specs.Prelude.{Option, Some, None, if◌then◌else◌}
 use Rattle.std.specs.List.{AllByRecursion}
+use Rattle.list_lemmas.proofs.Each.{all-append}
 use Rattle.serial_link.specs.State.{tick_side}
 use Rattle.s0_session.specs.Nonces.{live_of}
 use Rattle.host_requests.specs.State.{RequestsState}
@@ -29,7 +30,6 @@ use Rattle.host_events.specs.Sessions.{open_command}
 use Rattle.host_events.specs.Ends.{unanswered, attempt_ended, PartEnd, Good as well, Passed_over, Bad, part_end, after_part, after_task, after_end, after_end_if}
 use Rattle.host_events.specs.After.{after, node_does, requests_do, request_does, is_full, is_held, queues_if_room, finishing, holding, giving, offering, gives_up, line_ticked, failing_if}
 use Rattle.host_events.specs.Events.{HostEvent, Accepts, Cancels, Joins, Queues, Queues_interview, Queues_probe, Hears, Requests_do, Interviews, Interview_unkept, Unreads, Is_unkept, Reports_old, Works, Finishes, Offers, Gives, Spends, Spends_unread, Takes_nonce, Notifies, Resends, Hears_value, Has_no_room, Line_ticks, Node_ticks, Queues_no_more, Drops_no_more, Submits_abort, Submits_front, Starts, Gives_text, Gives_segment, Begins, Begin_unkept}
-use Rattle.line_facts.proofs.Frames.{all-append}
 use Rattle.run_facts.specs.Asking.{IsTaskOf, IsPurposeOf, IsUnderWayOf, AreTasksOf}
 
 -- ---- weaker

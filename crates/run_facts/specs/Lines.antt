@@ -1,7 +1,5 @@
 -- What the lines of a scenario ask of the host (this project's own), and that nothing else is asked.
-use Rattle.std.specs.Prelude.{◌≡◌, ◌≤◌, ℕ, true, List, [], ◌∷◌, length, Ok, Some}
-use Rattle.zw_text.specs.Line.{line_at}
-use Rattle.zw_text.specs.declared.line.Line.{Line}
+use Rattle.std.specs.Prelude.{◌≡◌, ◌≤◌, true, List, length}
 use Rattle.host_requests.specs.Events.{RequestsEvent}
 use Rattle.host_requests.specs.Events.RequestsEvent.{Pushes, PushesInterview}
 use Rattle.host_requests.specs.declared.task.Task.{Task}
@@ -9,15 +7,8 @@ use Rattle.host_requests.specs.declared.task.Task.TheVariants.{Plain, Offer, Seg
 use Rattle.host_events.specs.State.{HostState, node_of}
 use Rattle.host_events.specs.Events.{HostEvent, Queues, Queues_interview, Requests_do, Interviews, Finishes, Gives, Spends, Spends_unread, Takes_nonce}
 use Rattle.zw_machine.specs.State.{Machine}
-use Rattle.zw_machine.specs.Events.{Event, Host_does, happens}
-
--- ---- lines
-
--- a line that was read from a text
-abbrev pub IsRead : Line → Type 0
-IsRead line = (text : List ℕ) × (line_at text ≡ Ok (Some line))
-
--- ---- what the host is asked
+use Rattle.zw_machine.specs.Events.{Event, Host_does}
+use Rattle.zw_machine.specs.Did.{AllAlong}
 
 -- a message of a user's own, that fits a frame of the radio, or a question; an interview is asked for as a whole
 abbrev pub IsErrand : Task → Type 0
@@ -54,5 +45,4 @@ AsksWell m event = Unit {0}
 
 -- so for each of these events
 abbrev pub AllAsked : Machine → List Event → Type 0
-AllAsked m [] = Unit {0}
-AllAsked m (event ∷ events) = AsksWell m event × AllAsked (happens m event) events
+AllAsked = AllAlong AsksWell

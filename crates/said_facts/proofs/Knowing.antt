@@ -3,6 +3,7 @@ use Rattle.std.proofs.Common.{◌≡◌, ℕ, zero, suc, ◌+◌, ◌==◌, ◌|
 use Rattle.std.specs.List.{list_any}
 use Rattle.std.proofs.lemmas.Bool.{cases_eq, eq-eqb, ne_eqb}
 use Rattle.std.proofs.lemmas.List.{length-set}
+use Rattle.list_lemmas.proofs.Each.{all-append, all-right, all-weaker}
 use Rattle.zw_text.specs.declared.entry.Entry.{Entry}
 use Rattle.zw_text.specs.declared.entry.Entry.TheVariants.{Accepted, Interviewed, InterviewFailed, Out, Refused, Said}
 use Rattle.zw_text.specs.declared.entry.Ended.TheVariants as ended
@@ -19,8 +20,8 @@ use Rattle.world_facts.specs.Restarts.{AreHeld}
 use Rattle.host_keep.specs.declared.final_status.FinalStatus.TheVariants as final
 use Rattle.chip_functions.specs.declared.notice.Update.{Update}
 use Rattle.s0_crypto.specs.declared.key_pair.Keys.{Keys}
-use Rattle.device_stack.specs.Kind.{classes_of as kind_classes}
-use Rattle.device_stack.specs.declared.kind.Kind.TheVariants.{Switch}
+use Rattle.device_kinds.specs.Kind.{classes_of as kind_classes}
+use Rattle.device_kinds.specs.declared.kind.Kind.TheVariants.{Switch}
 use Rattle.host_events.specs.Events.{HostEvent, Accepts, Cancels, Finishes, Interviews}
 use Rattle.host_events.specs.After.{after as host_after, is_held}
 use Rattle.host_events.specs.Did.{after_all as host_after_all}
@@ -28,7 +29,6 @@ use Rattle.host_events.specs.Outs.{outs}
 use Rattle.host_events.specs.declared.out.HostOut.{HostOut}
 use Rattle.host_events.specs.declared.out.HostOut.TheVariants.{Write, Note}
 use Rattle.host_facts.specs.Entries.{answers_at, entries_at, notes_of}
-use Rattle.host_facts.proofs.Lists.{all-append, all-right, all-weaker}
 use Rattle.outer_events.specs.State.{Outside}
 use Rattle.outer_events.specs.Events.{Host_writes, Host_notes, Host_begins, entries as entries_outside, outcome, ticked_entry, happens as happens_outside}
 use Rattle.outer_events.specs.Did.{entries_all as entries_all_outside, happens_all as happens_all_outside}

@@ -1,6 +1,7 @@
 -- Which events of a host enter neither a success nor an interview that ended well: all but the end of a session with success and such an interview.
 use Rattle.std.proofs.Common.{ℕ, Bool, true, false, Option, Some, None, List, [], ◌∷◌, ◌++◌}
 use Rattle.std.specs.List.{AllByRecursion}
+use Rattle.list_lemmas.proofs.Each.{all-append}
 use Rattle.zw_base.specs.declared.property.Setting.{Setting}
 use Rattle.zw_text.specs.declared.entry.Ended.TheVariants as ended
 use Rattle.zw_text.specs.declared.entry.Entry.{Entry}
@@ -32,7 +33,6 @@ use Rattle.host_events.specs.After.{gives_up, is_full, is_held, line_ticked, req
 use Rattle.host_events.specs.Outs.{answer_to, copy_out, dropped_if, failing_entries, held_entries, noted, request_entries, stored_entries}
 use Rattle.host_events.specs.Events.{HostEvent, Accepts, Cancels, Hears, Requests_do, Interviews, Interview_unkept, Unreads, Is_unkept, Reports_old, Finishes, Offers, Gives, Spends_unread, Notifies, Resends, Hears_value, Has_no_room, Line_ticks, Node_ticks, Drops_no_more, Begins, Begin_unkept}
 use Rattle.host_facts.specs.Entries.{entries_at, notes_of}
-use Rattle.host_facts.proofs.Lists.{all-append}
 
 -- an entry that tells neither
 abbrev pub IsRoutine : Entry → Type 0

@@ -23,8 +23,10 @@ use Rattle.host_events.specs.Sessions.{open_command}
 use Rattle.host_events.specs.Ends.{PartEnd, Good, Passed_over, Bad, part_end, after_part, after_task, after_end, after_end_if, attempt_ended}
 use Rattle.host_events.specs.After.{after, requests_do, is_full, is_held, holding, finishing, giving, offering, gives_up, line_ticked, failing_if}
 use Rattle.host_events.specs.Events.{HostEvent, Accepts, Cancels, Requests_do, Finishes, Offers, Gives, Resends, Line_ticks, Node_ticks, Begins}
+use Rattle.host_events.proofs.Numbered.{last_of}
 use Rattle.host_facts.specs.Facts.{StartsAs}
 use Rattle.host_facts.specs.Tables.{taken_at, taken_by}
+use Rattle.host_facts.proofs.Commands.{set_taken, length_set_at}
 
 -- ---- the same orders
 
@@ -42,22 +44,9 @@ then_same a b c first later = record { count = later.count ∙ first.count; take
 by_table : (old new : List Command) → new ≡ old → SameOrders old new
 by_table old new e = subst (λ (l : List Command). SameOrders old l) (sym e) (same_orders old)
 
--- one command has another outcome
-set_count : (commands : List Command) (at : ℕ) (outcome : Outcome) → length (set_at commands at outcome) ≡ length commands
-set_count [] at outcome = refl
-set_count (first ∷ rest) zero outcome = refl
-set_count (first ∷ rest) (suc at) outcome = ap suc (set_count rest at outcome)
-
-set_taken : (commands : List Command) (at : ℕ) (outcome : Outcome) (k : ℕ) → taken_by (slice_get (set_at commands at outcome) k) ≡ taken_by (slice_get commands k)
-set_taken [] at outcome k = refl
-set_taken (first ∷ rest) zero outcome zero = refl
-set_taken (first ∷ rest) zero outcome (suc k) = refl
-set_taken (first ∷ rest) (suc at) outcome zero = refl
-set_taken (first ∷ rest) (suc at) outcome (suc k) = set_taken rest at outcome k
-
 outcome_same : (commands : List Command) (number : ℕ) (outcome : Outcome) → SameOrders commands (with_outcome commands number outcome)
 outcome_same commands zero outcome = same_orders commands
-outcome_same commands (suc at) outcome = record { count = set_count commands at outcome; taken = taken }
+outcome_same commands (suc at) outcome = record { count = length_set_at commands at outcome; taken = taken }
   where
     taken : (number : ℕ) → taken_at (set_at commands at outcome) number ≡ taken_at commands number
     taken zero = refl
@@ -145,11 +134,7 @@ pub push_stays : (commands : List Command) (one : Command) (number : ℕ) (taken
 push_stays commands one zero taken e = absurd (grind arith)
 push_stays commands one (suc k) taken e = front_at commands (one ∷ []) k taken e
 
-last_at : (commands : List Command) (one : Command) → slice_get (commands ++ one ∷ []) (length commands) ≡ Some one
-last_at [] one = refl
-last_at (first ∷ rest) one = last_at rest one
-
 pub push_is : (commands : List Command) (one : Command) → taken_at (commands ++ one ∷ []) (length commands + 1) ≡ taken_by (Some one)
 push_is commands one =
     let place : suc (length commands) ≡ length commands + 1 = omega arith in
-    subst (λ (k : ℕ). taken_at (commands ++ one ∷ []) k ≡ taken_by (Some one)) place (ap taken_by (last_at commands one))
+    subst (λ (k : ℕ). taken_at (commands ++ one ∷ []) k ≡ taken_by (Some one)) place (ap taken_by (last_of commands one))

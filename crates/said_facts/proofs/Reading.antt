@@ -3,6 +3,7 @@ use Rattle.std.proofs.Common.{◌≡◌, ℕ, ◌==◌, Bool, true, false, if◌
 use Rattle.std.specs.List.{AllByRecursion, flat_map}
 use Rattle.std.proofs.lemmas.Bool.{eq-eqb, eqb-true, eqb-false}
 use Rattle.std.proofs.lemmas.List.{map-append}
+use Rattle.list_lemmas.proofs.Each.{all-append}
 use Rattle.zw_order.specs.declared.order.Order.{Order}
 use Rattle.zw_text.specs.declared.line.Line.{Line}
 use Rattle.zw_text.specs.declared.line.Line.TheVariants.{Command as Commanded}
@@ -22,10 +23,9 @@ use Rattle.host_events.specs.State.{Command, HostState, command_at}
 use Rattle.host_facts.specs.Facts.{Facts}
 use Rattle.host_facts.specs.Laws.{accepted_for, number_for, numbers_for}
 use Rattle.host_facts.specs.Tables.{nodes_by, taken_at}
-use Rattle.host_facts.proofs.Lists.{all-append}
 use Rattle.once_facts.specs.ByTable.{IsTable}
 use Rattle.once_facts.specs.Tied.{settings_taken}
-use Rattle.device_facts.proofs.Having.{all_of, has_left, has_right, has_shown, shown_has}
+use Rattle.zw_laws.proofs.Having.{all_of, has_left, has_right, has_shown, shown_has}
 use Rattle.once_facts.proofs.Starting.{accepted_here}
 use Rattle.said_facts.specs.Said.{AreSaid, IsSaid, MayAnswer}
 

@@ -29,6 +29,7 @@ use Rattle.zw_machine.specs.Events.{Event, Outside_does, Host_does, Host_takes, 
 use Rattle.zw_machine.specs.Did.{happens_all, entries_all, MayAll}
 use Rattle.zw_machine.specs.Fronts.{LinePart}
 use Rattle.zw_machine.proofs.Silence.{judged_silent}
+use Rattle.zw_machine.proofs.Doing.{entries_all-append}
 use Rattle.world_facts.specs.Restarts.{StartsWell, AllStartWell}
 use Rattle.said_facts.specs.Spoken.{Spoken, IsSpoken, AreSpoken, after, after_all, entries_of, transcript_of}
 use Rattle.said_facts.specs.Said.{AllKnow, AreSaid, IsSaid, KnowsListing, MayAnswer}
@@ -147,12 +148,6 @@ pub may_accept : (m : Machine) (order : Order) (carriage : Carriage) → MayAll 
 unfolding happens May
 may_accept m order carriage may = may.1.0.0
 
-entries_both : (m : Machine) (first later : List Event) → entries_all m (first ++ later) ≡ entries_all m first ++ entries_all (happens_all m first) later
-entries_both m [] later = refl
-entries_both m (event ∷ first) later =
-    ap (λ (l : List Entry). entries m event ++ l) (entries_both (happens m event) first later)
-    ∙ sym (append_assoc (entries m event) (entries_all (happens m event) first) (entries_all (happens_all (happens m event) first) later))
-
 -- what is proved of the machine
 abbrev pub FactsGoOn : Type 0
 FactsGoOn = (past : List Entry) (m : Machine) (events : List Event) → Facts past m.host.state → MayAll m events → AllStartWell m events
@@ -222,7 +217,7 @@ module _ (go_on : FactsGoOn) (listing : ℕ → List ℕ) where
       subst (λ (l : List Event). IsSo listing (before ++ entries_all m l) (happens_all m l)) (sym orders.are)
       (subst (λ (l : List Entry). IsSo listing l (happens_all m all))
       (append_assoc before (entries_all m first) (entries_all (happens_all m first) orders.later)
-      ∙ ap (λ (l : List Entry). before ++ l) (sym (entries_both m first orders.later)))
+      ∙ ap (λ (l : List Entry). before ++ l) (sym (entries_all-append m first orders.later)))
       done)
 
   module _ (aside : AsidesKeep) where

@@ -11,7 +11,6 @@ use Rattle.zw_order.specs.declared.order.Word.{Word}
 use Rattle.zw_order.specs.declared.order.Word.TheVariants.{On, Off, Level}
 use Rattle.zw_words.specs.Words.{is_blank, is_remark, is_word, words}
 use Rattle.zw_words.specs.Texts.{side_word, target_word, value_word}
-use Rattle.zw_words.specs.declared.side.Side.{Side}
 use Rattle.zw_words.specs.declared.side.Side.TheVariants as side
 use Rattle.zw_text.specs.declared.line.Line.{Line}
 use Rattle.zw_text.specs.declared.line.Line.TheVariants.{Command, Tick, Cut, Stall, Drop, Garble, Collide, Send, Get, Join, Interview, Lose, LoseAck, Repeat, Wake, Cancel, Link, Unlink, Discover, Neighbours, Failed, Probe, Local, Show, Store, Restart}
@@ -19,6 +18,7 @@ use Rattle.zw_text.specs.declared.word.LineWord.{LineWord}
 use Rattle.zw_text.specs.declared.word.LineWord.TheVariants.{Set as WSet, Mode as WMode, Setpoint as WSetpoint, Comfort as WComfort, Config as WConfig, Bulk as WBulk, Assoc as WAssoc, Unassoc as WUnassoc, Interval as WInterval, Tick as WTick, Cut as WCut, Stall as WStall, Drop as WDrop, Garble as WGarble, Collide as WCollide, Send as WSend, Get as WGet, Join as WJoin, Interview as WInterview, Lose as WLose, LoseAck as WLoseAck, Repeat as WRepeat, Wake as WWake, Cancel as WCancel, Link as WLink, Unlink as WUnlink, Discover as WDiscover, Neighbours as WNeighbours, Failed as WFailed, Probe as WProbe, Local as WLocal, Show as WShow, Store as WStore, Restart as WRestart}
 use Rattle.zw_text.specs.Line.{EndStands, IsValue, LineWords, WhatWords, word_text}
 use Rattle.zw_entries.proofs.Pieces.{Solid, lacks-append, number-solid}
+use Rattle.zw_entries.proofs.Words.{side-solid}
 use Rattle.said_lines.proofs.Joining.{IsSolidWord}
 
 -- ---- first words
@@ -87,10 +87,6 @@ value On stands = refl
 value Off stands = refl
 value (Level level) stands = number level 99 stands (omega arith)
 
-side_solid : (s : Side) → Solid (side_word s)
-side_solid side.Host = refl
-side_solid side.Chip = refl
-
 target_by : (b : Bool) (node end : ℕ) → node ≤ 232 → end ≤ 127 → Solid (cond b (decimal node) (decimal node ++ (codes "." ++ decimal end)))
 target_by true node end low near = number node 232 low (omega arith)
 target_by false node end low near =
@@ -141,9 +137,9 @@ line_solid (Command order) ws s =
 line_solid (Tick count) ws s = one ws (decimal count) s.1 (number count 100000 s.0.1 (omega arith))
 line_solid (Cut size) ws s = one ws (decimal size) s.1 (number size 4096 s.0 (omega arith))
 line_solid (Stall ticks) ws s = one ws (decimal ticks) s.1 (number ticks 1000 s.0.1 (omega arith))
-line_solid (Drop from) ws s = one ws (side_word from) s (side_solid from)
+line_solid (Drop from) ws s = one ws (side_word from) s (side-solid from)
 line_solid (Garble from place mask) ws s =
-    three ws (side_word from) (decimal place) (decimal mask) s.2 (side_solid from) (number place 255 s.0 (omega arith)) (number mask 255 s.1.1 (omega arith))
+    three ws (side_word from) (decimal place) (decimal mask) s.2 (side-solid from) (number place 255 s.0 (omega arith)) (number mask 255 s.1.1 (omega arith))
 line_solid Collide ws s = none ws s
 line_solid (Send node word) ws s = two ws (decimal node) (value_word word) s.2 (number node 232 s.0.1 (omega arith)) (value word s.1)
 line_solid (Get node end) ws s = one ws (target_word node end) s.2 (target node end s.0.1 s.1)

@@ -13,13 +13,13 @@ use Rattle.host_heard.specs.declared.told.Told.TheVariants.{Report}
 use Rattle.host_orders.specs.Refusals.{IsFit}
 use Rattle.host_orders.specs.Wrapping.{message_of}
 use Rattle.host_orders.specs.declared.carriage.Carriage.{Carriage}
-use Rattle.device_stack.specs.declared.kind.Kind.{Kind}
-use Rattle.device_stack.specs.declared.kind.Kind.TheVariants.{Lock}
-use Rattle.device_stack.specs.declared.verdict.Verdict.{Verdict}
-use Rattle.device_stack.specs.Kind.{listens}
+use Rattle.device_kinds.specs.declared.kind.Kind.{Kind}
+use Rattle.device_kinds.specs.declared.kind.Kind.TheVariants.{Lock}
+use Rattle.device_kinds.specs.declared.verdict.Verdict.{Verdict}
+use Rattle.device_kinds.specs.Kind.{listens, host_node}
 use Rattle.device_stack.specs.Answers.{report_status}
 use Rattle.device_stack.specs.Sealing.{keys_of, sealed_text}
-use Rattle.device_stack.specs.State.{State, host_node, fresh}
+use Rattle.device_stack.specs.State.{State, fresh}
 use Rattle.device_sim.specs.Event.{Hears, device_after}
 use Rattle.message_facts.specs.Asking.{verdict_on, Follows}
 use Rattle.message_facts.specs.Reporting.{asks_now, TellsOwn, HasAnswered}
@@ -46,7 +46,7 @@ tells_still old new text before now sessions tells =
     ∙ (ap (λ (t : Taken). Messages (Report (wire_id t.taken) (report_status t.status) (asks_now old) ∷ [])) (sym sessions)
     ∙ ap (λ (b : Bool). Messages (Report (wire_id new.sessions.taken) (report_status new.sessions.status) b ∷ [])) (never_asks old before ∙ sym (never_asks new now)))
 
-some_same : (a b : List ℕ) → Some a ≡ Some b → a ≡ b
+pub some_same : (a b : List ℕ) → Some a ≡ Some b → a ≡ b
 some_same a b e = cc
 
 no_some : (a : List ℕ) → None ≡ Some a → ⊥

@@ -4,5 +4,5 @@ mod Locking
 mod Hosting
 mod Unsealing
 mod Showing
-mod Answering
+pub mod Answering
 mod Unnumbered

@@ -12,6 +12,7 @@ use Rattle.s0_session.specs.declared.account.Account.{Account}
 use Rattle.s0_session.specs.Nonces.{new_nonce, nonce_given, after_give, nonce_spent, after_spend, unused}
 use Rattle.s0_session.specs.Sending.{seen_after, taken_from}
 use Rattle.seal_facts.specs.Numbers.{IsNonce, HasGiven, with_given}
+use Rattle.chip_functions.proofs.RowLaws.{none_is}
 
 -- ---- lists
 
@@ -37,14 +38,11 @@ nonce_stays nonces more number nonce is = record { given = numbered-more nonces 
 
 -- ---- who gives
 
-no_some : {A : Type 0} (x : A) → None ≡ Some x → ⊥
-no_some x e = grind (arith, e)
-
 some_same : {A : Type 0} (a b : A) → Some a ≡ Some b → a ≡ b
 some_same a b e = cc
 
 for_none : (P : List ℕ → Type 0) → ForSome None P
-for_none P x e = absurd (no_some x e)
+for_none P x e = absurd (none_is x e)
 
 for_some : (P : List ℕ → Type 0) (own : List ℕ) → P own → ForSome (Some own) P
 for_some P own is x e = subst P (some_same own x e) is

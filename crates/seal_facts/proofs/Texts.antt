@@ -1,6 +1,6 @@
 -- What stands in the text of a Nonce Report and of a sealed message.
-use Rattle.std.proofs.Common.{◌≡◌, ℕ, zero, suc, ◌+◌, ◌-◌, ◌/◌, ◌≤◌, Bool, true, false, nat_lt, List, ◌∷◌, ◌++◌, length, get_or, refl, ap, ◌∙◌, subst, arith}
-use Rattle.std.specs.Prelude.{slice_index, nat_le, Ok, ◌&&◌}
+use Rattle.std.proofs.Common.{◌≡◌, ℕ, zero, suc, ◌+◌, ◌-◌, ◌/◌, ◌≤◌, true, false, nat_lt, List, ◌∷◌, ◌++◌, length, get_or, refl, ap, ◌∙◌, subst, arith}
+use Rattle.std.specs.Prelude.{slice_index, nat_le, Ok}
 use Rattle.std.proofs.lemmas.Bool.Decides.{nat_tests}
 use Rattle.std.proofs.lemmas.List.{length-take-le, get_or-append_right}
 use Rattle.aes_block.specs.Cipher.{aes, add_round_key}
@@ -19,6 +19,7 @@ use Rattle.class_info.proofs.OwnLaws.{written_wholes}
 use Rattle.encap.specs.Opening.{begins_with}
 use Rattle.device_stack.specs.Sealing.{cipher_text_of, sealed_text}
 use Rattle.seal_facts.specs.Payloads.{report_of}
+use Rattle.message_facts.proofs.Bare.{never_ends}
 
 -- ---- a Nonce Report
 
@@ -27,10 +28,6 @@ report_form nonce = ap (λ (l : List ℕ). 0x98 ∷ 0x80 ∷ l) (written_wholes 
 
 pub report_read : (nonce : List ℕ) → length nonce ≡ 8 → info_at (report_of nonce) ≡ Ok (NonceReport nonce)
 report_read nonce eight = subst (λ (text : List ℕ). info_at text ≡ Ok (NonceReport nonce)) (report_form nonce) (again (form (NonceReport nonce)) (NonceReport nonce) (form_spells (NonceReport nonce) eight))
-
-never_ends : (a : Bool) → a && false ≡ false
-never_ends true = refl
-never_ends false = refl
 
 pub report_open : (nonce : List ℕ) → begins_with (report_of nonce) 0x98 0x81 ≡ false
 report_open nonce = never_ends _

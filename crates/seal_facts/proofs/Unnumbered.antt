@@ -31,6 +31,7 @@ use Rattle.host_orders.specs.declared.actuator.Actuator.TheVariants as actuators
 use Rattle.host_orders.specs.declared.errand.Gettable.{Gettable}
 use Rattle.host_orders.specs.declared.errand.Gettable.TheVariants as gettables
 use Rattle.seal_facts.specs.Payloads.{IsUnnumbered}
+use Rattle.message_facts.proofs.Bare.{never_begins}
 
 -- ---- a message that is spelled
 
@@ -75,14 +76,10 @@ third_false : (a b : Bool) → a && (false && b) ≡ false
 third_false true b = refl
 third_false false b = refl
 
-second_false : (a b : Bool) → (a && false) && b ≡ false
-second_false true b = refl
-second_false false b = refl
-
 -- of another class, and read as no Nonce Report
 of_class : (class : ℕ) (rest : List ℕ) → (class == 0x98) ≡ false → ((nonce : List ℕ) → info_at (class ∷ rest) ≢ Ok (NonceReport nonce)) → IsUnnumbered (class ∷ rest)
 of_class class rest other unread = record {
-  not_sealed = ap (λ (b : Bool). (nat_le 2 (length (class ∷ rest)) && b) && (slice_index (class ∷ rest) 1 == 0x81)) other ∙ second_false (nat_le 2 (length (class ∷ rest))) (slice_index (class ∷ rest) 1 == 0x81);
+  not_sealed = ap (λ (b : Bool). (nat_le 2 (length (class ∷ rest)) && b) && (slice_index (class ∷ rest) 1 == 0x81)) other ∙ never_begins (nat_le 2 (length (class ∷ rest))) (slice_index (class ∷ rest) 1 == 0x81);
   no_report = unread;
   no_nonce = ap (λ (b : Bool). if nat_le 10 (length (class ∷ rest)) && (b && (slice_index (class ∷ rest) 1 == 0x80)) then Some (take 8 (drop 2 (class ∷ rest))) else None) other
       ∙ ap (λ (b : Bool). if b then Some (take 8 (drop 2 (class ∷ rest))) else None) (third_false (nat_le 10 (length (class ∷ rest))) (slice_index (class ∷ rest) 1 == 0x80));

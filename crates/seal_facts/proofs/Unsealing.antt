@@ -29,6 +29,7 @@ use Rattle.seal_facts.specs.Payloads.{IsSealed}
 use Rattle.seal_facts.specs.Opened.{OpensAs}
 use Rattle.seal_facts.proofs.Numbering.{found_live, none_named, same_sides}
 use Rattle.seal_facts.proofs.Texts.{IsText, is_text, length-code}
+use Rattle.seal_facts.proofs.Answering.{some_same}
 
 -- ---- what a sealed text is
 
@@ -114,13 +115,10 @@ sealed_length keys own nonce ends plain bytes s =
     let last : length code ≡ 8 = length-code keys (own ++ nonce) ends s.cipher_text in
     omega (arith, size, text, last)
 
-plain_same : (a b : List ℕ) → Some a ≡ Some b → a ≡ b
-plain_same a b e = cc
-
 pub seals_waiting : (n : NodeState) (keys : Keys) (own other nonce another text : List ℕ) (nonces : List (List ℕ)) (number : ℕ) → SealsText n keys own nonce text → SealsText n keys other another text
     → length other ≡ 8 → IsNonce nonces number nonce → (plain : List ℕ) × ((n.pending ≡ Some plain) × IsSealed keys (ends_to n.node) nonces number plain text)
 seals_waiting n keys own other nonce another text nonces number x y eight is =
-    let plain : x.plain ≡ y.plain = plain_same x.plain y.plain (sym x.is_pending ∙ y.is_pending) in
+    let plain : x.plain ≡ y.plain = some_same x.plain y.plain (sym x.is_pending ∙ y.is_pending) in
     let one = sealed_length keys own nonce (ends_to n.node) x.plain text x.seals in
     let two = sealed_length keys other another (ends_to n.node) y.plain text y.seals in
     let long : length x.plain ≡ length y.plain = ap length plain in

@@ -3,6 +3,7 @@ use Rattle.std.proofs.Common.{◌≡◌, ◌≢◌, ℕ, zero, suc, ◌+◌, ◌
 use Rattle.std.specs.List.{AllByRecursion}
 use Rattle.std.specs.Option.{option_to_list}
 use Rattle.std.proofs.lemmas.Bool.{eqb-true}
+use Rattle.list_lemmas.proofs.Each.{all-append, all-get}
 use Rattle.supervision.specs.Host.{begun_of, open_session, command_at as command_of_session}
 use Rattle.supervision.proofs.OnceLemmas.{All-slice_get}
 use Rattle.courses.specs.Parts.{numbered}
@@ -47,6 +48,7 @@ use Rattle.host_events.specs.Facts.{HostFacts, FitsForm, IsCommandOf, IsSound}
 use Rattle.host_events.specs.Events.{HostEvent, Accepts, Cancels, Joins, Queues, Queues_interview, Queues_probe, Hears, Requests_do, Interviews, Interview_unkept, Unreads, Is_unkept, Reports_old, Works, Finishes, Offers, Gives, Spends, Spends_unread, Takes_nonce, Notifies, Resends, Hears_value, Has_no_room, Line_ticks, Node_ticks, Queues_no_more, Drops_no_more, Submits_abort, Submits_front, Starts, Gives_text, Gives_segment, Begins, Begin_unkept}
 use Rattle.line_facts.specs.Line.{host_units}
 use Rattle.seal_facts.specs.Hosts.{IsOpenPlan, IsAside, LeavesNonces}
+use Rattle.seal_facts.proofs.Answering.{some_same}
 use Rattle.node_course.specs.Ways.{Beside}
 use Rattle.node_course.specs.Mesh.{labels}
 use Rattle.node_course.specs.Lines.{Moves}
@@ -54,7 +56,7 @@ use Rattle.node_course.specs.Host.{asked_of}
 use Rattle.node_course.specs.HostGoing.{IsNoBegin}
 use Rattle.node_course.proofs.Moving.{thinned_same, move_ticked, copies_of}
 use Rattle.node_course.proofs.NodeKeeping.{outcome_orders}
-use Rattle.node_course.proofs.HostEvents.{session_numbered, command_numbered, get_map, all_get, all-append, owned, open_is, map_more, noted_none, copy_units, answered}
+use Rattle.node_course.proofs.HostEvents.{session_numbered, command_numbered, get_map, owned, open_is, map_more, noted_none, copy_units, answered}
 use Rattle.sealed_course.specs.Labels.{Sent, Sealed, Offer, Up}
 use Rattle.sealed_course.specs.Courses.{Courses, CoursesGo, GoUp, with_up}
 use Rattle.sealed_course.specs.Meaning.{Past, Grows, IsSealedMessage, IsNeither, HostMeans}
@@ -90,7 +92,7 @@ IsReady c event = Unit {0}
 
 end_at : (node : ℕ) (commands : List Command) (number : ℕ) (command : Command) → AllByRecursion (NamesEndFor node) (map asked_of commands) → command_at commands number ≡ Some command → NamesEndFor node (asked_of command)
 end_at node commands zero command all e = absurd (grind (arith, e))
-end_at node commands (suc before) command all e = all_get (NamesEndFor node) (map asked_of commands) before (asked_of command) all (get_map commands before command e)
+end_at node commands (suc before) command all e = all-get (NamesEndFor node) (map asked_of commands) before (asked_of command) all (get_map commands before command e)
 
 sound_at : (h : HostState) (number : ℕ) (command : Command) → HostFacts h → command_at h.commands number ≡ Some command → IsSound h.store command
 sound_at h zero command facts e = absurd (grind (arith, e))
@@ -101,15 +103,12 @@ some_begun : (commands : List ℕ) (number : ℕ) → numbered commands (length 
 some_begun [] number e = absurd (grind (arith, e))
 some_begun (command ∷ commands) number e = omega arith
 
-some_plain : (a b : List ℕ) → Some a ≡ Some b → a ≡ b
-some_plain a b e = cc
-
 -- a text that waits sealed has a number
 text_number : (past : Past) (node : ℕ) (t : Option (List ℕ)) (payload : List ℕ) (text : Option ℕ) → t ≡ Some payload → TextIs past node t text
     → (number : ℕ) × ((text ≡ Some number) × HostMeans past node payload (Up (Sealed (length past.commands) number)))
 text_number past node None payload text e is = absurd (grind (arith, e))
 text_number past node (Some sealed) payload None e is = absurd is
-text_number past node (Some sealed) payload (Some number) e is = (number, (refl, subst (λ (p : List ℕ). HostMeans past node p (Up (Sealed (length past.commands) number))) (some_plain sealed payload e) is))
+text_number past node (Some sealed) payload (Some number) e is = (number, (refl, subst (λ (p : List ℕ). HostMeans past node p (Up (Sealed (length past.commands) number))) (some_same sealed payload e) is))
 
 pub text_stays : (past later : Past) (node : ℕ) (t : Option (List ℕ)) (text : Option ℕ) → Grows past later → later.commands ≡ past.commands → TextIs past node t text → TextIs later node t text
 text_stays past later node None None grows same is = tt
@@ -181,7 +180,7 @@ module _ (laws : Writing) (past : Past) (node : ℕ) (c : Courses) (carried : Li
       form_by number command Cut form is carried e = by_count (nat_lt k (segment_count (message_for command session))) refl e
         where
           by_count : (b : Bool) → nat_lt k (segment_count (message_for command session)) ≡ b → (if b then Some (segment_at session (message_for command session) k) else None) ≡ Some payload → IsNeither payload
-          by_count true less e = subst IsNeither (some_plain (segment_at session (message_for command session) k) payload e) (cut_neither session number command k carried is form (grind (arith, less)))
+          by_count true less e = subst IsNeither (some_same (segment_at session (message_for command session) k) payload e) (cut_neither session number command k carried is form (grind (arith, less)))
           by_count false less e = absurd (grind (arith, e))
 
       found_by : (number : ℕ) (found : Option Command) → command_at h.commands number ≡ found → command_of_session (node_of h node).book.commands session ≡ Some number → segment_of found session k ≡ Some payload → IsNeither payload
@@ -280,7 +279,7 @@ module _ (laws : Writing) (past : Past) (node : ℕ) (c : Courses) (carried : Li
       ends = at.ends;
       gave = at.gave;
       saw = record { count = ap (λ (s : NodeState). s.seen) begun_now ∙ at.saw.count; waiting = λ some. ready };
-      pending = λ plain e. subst (λ (p : List ℕ). IsSealedMessage past (length past.commands) p) (some_plain last_message plain (ap (λ (s : NodeState). s.pending) (sym begun_now) ∙ e)) is_last_message;
+      pending = λ plain e. subst (λ (p : List ℕ). IsSealedMessage past (length past.commands) p) (some_same last_message plain (ap (λ (s : NodeState). s.pending) (sym begun_now) ∙ e)) is_last_message;
       texts = subst (λ (t : Option (List ℕ)). TextIs past node t text) (ap (λ (s : NodeState). s.text) (sym begun_now)) at.texts;
       marks = at.marks;
       queue = at.queue;

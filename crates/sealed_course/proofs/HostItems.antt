@@ -46,9 +46,14 @@ use Rattle.node_course.proofs.NodeKeeping.{get_set, outcome_orders}
 use Rattle.node_course.proofs.HostDoing.{set_here}
 use Rattle.node_course.proofs.HostEntries.{event_begins_none}
 use Rattle.node_course.proofs.HostEvents.{noted_none, open_is, owned}
-use Rattle.node_course.proofs.HostItems.{routed_then, after_then, outs_then, well_front, told_same, judged_final, final_node}
+use Rattle.host_events.proofs.Doing.{after_all-append, outs_all-append}
+use Rattle.node_course.proofs.HostItems.{routed_then, well_front, told_same, judged_final, final_node}
 use Rattle.node_course.proofs.HostJudging.{Bytes}
-use Rattle.node_course.proofs.Told.{PastLaws, past_kept, outcomes_kept, outcomes_stay, told_more, final_open, holding_commands, outcome_same}
+use Rattle.host_records.proofs.Going.{final_session}
+use Rattle.once_facts.proofs.Going.{told_more}
+use Rattle.host_facts.proofs.Commands.{outcome_same}
+use Rattle.host_facts.proofs.Effects.{held_commands}
+use Rattle.node_course.proofs.Told.{PastLaws, past_kept, outcomes_kept, outcomes_stay}
 use Rattle.sealed_course.specs.Labels.{Said, Late, Reports, Shows, picked, sealed_for, report_of, shown_by, answers_for}
 use Rattle.sealed_course.specs.Courses.{Courses, NodeGoes, HostGoes as NoncesGo, CoursesGo, CoursesFacts}
 use Rattle.sealed_course.specs.Meaning.{Past}
@@ -168,11 +173,11 @@ module _ (laws : Laws) (past : Past) (node : ℕ) (c : Courses) (rest : Rest) (u
 
   -- its command has the outcome of that status
   ended_commands : g.commands ≡ with_outcome h.commands command (outcome_of status)
-  ended_commands = holding_commands done node (is_held h node wake_request)
+  ended_commands = held_commands done node (is_held h node wake_request)
 
   next_session : session ≡ length c.sessions.told + 1
   next_session =
-      let opened : open_session c.sessions.host ≡ Some session = final_open c.sessions.host (wire_id reported) (status_byte status) session told_is in
+      let opened : open_session c.sessions.host ≡ Some session = final_session c.sessions.host (wire_id reported) (status_byte status) session told_is in
       let count = course.told_are.opened session opened in
       let last = (open_is c.sessions.host session opened).0 in omega (arith, count, last)
 
@@ -411,6 +416,6 @@ module _ (laws : Laws) (node : ℕ) (within : node < 233) (rest : Rest) (down : 
       let all : HostGoes past node c rest [] down (after_all k later) (happens_all_outside v (routed (outs_all k later))) =
       goes_then past node c rest items [] down k (after_all k later) v (happens_all_outside v (routed (outs_all k later))) g rest_goes in
       subst (λ (es : List HostEvent). HostGoes past node c rest [] down (after_all h es) (happens_all_outside w (routed (outs_all h es)))) (sym are)
-      (subst (λ (x : HostState). HostGoes past node c rest [] down x (happens_all_outside w (routed (outs_all h (first ++ later))))) (sym (after_then h first later))
-      (subst (λ (os : List HostOut). HostGoes past node c rest [] down (after_all k later) (happens_all_outside w (routed os))) (sym (outs_then h first later))
+      (subst (λ (x : HostState). HostGoes past node c rest [] down x (happens_all_outside w (routed (outs_all h (first ++ later))))) (sym (after_all-append h first later))
+      (subst (λ (os : List HostOut). HostGoes past node c rest [] down (after_all k later) (happens_all_outside w (routed os))) (sym (outs_all-append h first later))
       (subst (λ (u : Outside). HostGoes past node c rest [] down (after_all k later) u) (sym (routed_then w (outs_all h first) (outs_all k later))) all)))

@@ -7,11 +7,11 @@ use Rattle.supervision.specs.Host.{told_of}
 use Rattle.supervision.specs.declared.host_node.Told.{Told}
 use Rattle.supervision.specs.declared.host_node.Told.TheVariants.{Final, Working, Old}
 use Rattle.host_requests.specs.State.{RequestsState}
-use Rattle.host_requests.specs.Next.{at_sent, at_response, at_callback, at_update, at_tick, after_next, next_from, went_on}
+use Rattle.host_requests.specs.Next.{at_sent, at_response, at_callback, at_update, at_tick, after_next}
 use Rattle.host_requests.specs.Events.{RequestsEvent, after as after_request, end_at, front_begun}
 use Rattle.host_requests.specs.Events.RequestsEvent.{Pushes, PushesInterview, PushesProbe, BeginsAbort, BeginsFront, BeginsAttempt, IsSent, Fails, Responds, CallsBack, Updates, Ticks as request_ticks, Forgets}
 use Rattle.host_requests.specs.declared.next.Next.{Next}
-use Rattle.host_requests.specs.declared.next.Next.TheVariants.{GoesOn, Ends}
+use Rattle.host_requests.specs.declared.next.Next.TheVariants.{Ends}
 use Rattle.host_requests.specs.declared.end.End.{End}
 use Rattle.host_requests.specs.declared.end.How.{How}
 use Rattle.host_requests.specs.declared.end.How.TheVariants.{LinkFailed}
@@ -43,6 +43,7 @@ use Rattle.node_course.proofs.NodeKeeping.{get_set, outcome_orders}
 use Rattle.sealed_course.specs.Meaning.{Past, Grows}
 use Rattle.sealed_course.specs.Host.{IsOtherTask, TaskIs, PushesOther}
 use Rattle.sealed_course.proofs.Meanings.{nonce_stays}
+use Rattle.line_facts.proofs.HostFits.{next_queue}
 
 -- ---- the book of a node
 
@@ -174,17 +175,6 @@ module _ (past : Past) (node : ℕ) where
     beside = beside-both (TaskIs past node) queue added marks (no_marks added) all (none_beside added others);
     thin = subst (λ (l : List ℕ). Thinned (labels marks) l) (sym (labels-append marks (no_marks added) ∙ (ap (λ l. labels marks ++ l) (nothing_marked added) ∙ append-nil (labels marks)))) (thinned_same (labels marks));
   }
-
-  next_queue : (s : RequestsState) (next : UnderWay → Next) → (after_next s next).queue ≡ s.queue
-  next_queue s next = by s.under_way
-    where
-      went : (u : UnderWay) (n : Next) → (went_on s u n).queue ≡ s.queue
-      went u (GoesOn progress) = refl
-      went u (Ends how) = refl
-
-      by : (under_way : Option UnderWay) → (next_from s next under_way).queue ≡ s.queue
-      by None = refl
-      by (Some u) = went u (next u)
 
   next_left : (marks : List (Option ℕ)) (s : RequestsState) (next : UnderWay → Next) → Beside (TaskIs past node) s.queue marks → TasksLeft past node marks (after_next s next).queue
   next_left marks s next all = subst (λ (l : List Task). TasksLeft past node marks l) (sym (next_queue s next)) (all_left marks s.queue all)

@@ -67,6 +67,7 @@ use Rattle.sealed_course.proofs.Elsewhere.{AirStays, asks_stays, tells_stays, me
 use Rattle.sealed_course.proofs.HostDoing.{none_some}
 use Rattle.sealed_course.proofs.HostEvents.{text_stays}
 use Rattle.sealed_course.proofs.HostJudging.{IsTaking}
+use Rattle.message_facts.proofs.Bare.{never_ends}
 
 -- ---- the courses as the host judges
 
@@ -167,14 +168,9 @@ node_takes : (c : node.Nonces) (number : ℕ) (down : List ℕ) → c.down ≡ n
 node_takes c number down e taken =
     subst (λ (x : node.Nonces). NodeGoes c x) (ap (node.judges c) e ∙ ap (node.seals (record c { down = down })) taken) (node_step c node.Judges tt)
 
--- the live nonce is spent
-never : (live : Bool) → live && false ≡ false
-never true = refl
-never false = refl
-
 host_spends : (c : host.Nonces) (number : ℕ) (down : List ℕ) → c.down ≡ number ∷ down → host.names c number ≡ true → NoncesGo c (record c { down = down; is_live = false })
 host_spends c number down e named =
-    let dead : c.is_live && not (host.names c number) ≡ false = ap (λ (b : Bool). c.is_live && not b) named ∙ never c.is_live in
+    let dead : c.is_live && not (host.names c number) ≡ false = ap (λ (b : Bool). c.is_live && not b) named ∙ never_ends c.is_live in
     subst (λ (x : host.Nonces). NoncesGo c x) (ap (host.judges c) e ∙ ap (λ (b : Bool). record c { down = down; is_live = b }) dead) (host_step c host.Judges tt)
 
 -- one is given, where none is live

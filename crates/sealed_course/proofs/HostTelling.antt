@@ -32,7 +32,9 @@ use Rattle.node_course.specs.Told.{HasPast}
 use Rattle.node_course.specs.HostGoing.{EndsNone, AllWell}
 use Rattle.node_course.proofs.HostItems.{well_front, told_same}
 use Rattle.node_course.proofs.Taken.{changes_taken}
-use Rattle.node_course.proofs.Telling.{Judged, routed_devices, got_has, placed, none_true, true-append}
+use Rattle.device_facts.proofs.Telling.{place_is}
+use Rattle.zw_machine.proofs.Hosting.{routed_still}
+use Rattle.node_course.proofs.Telling.{Judged, got_has, none_true, true-append}
 use Rattle.sealed_course.specs.Labels.{Said, Late, Reports, Shows, picked, report_of}
 use Rattle.sealed_course.specs.Courses.{Courses, CoursesFacts}
 use Rattle.sealed_course.specs.Meaning.{Past}
@@ -44,7 +46,7 @@ use Rattle.sealed_course.proofs.HostItems.{Laws, IsHeard, hears, judge_item, fac
 
 -- ---- events at which no session of the node ends
 
-aside_ends : (node : ℕ) (event : HostEvent) → IsUnheard node event → EndsNone node event
+pub aside_ends : (node : ℕ) (event : HostEvent) → IsUnheard node event → EndsNone node event
 aside_ends node (Finishes n session id command status wake_request) is = is
 aside_ends node event is = tt
 
@@ -65,7 +67,7 @@ module _ (judged : Judged) (past : Past) (node : ℕ) (c : Courses) (rest : Rest
       let there = f.mesh.device in
       let ends = (judged c.sessions report now course are).ends session told in
       let time = (subst (λ (ds : List Report). AllByRecursion (IsOnTime c.sessions.host c.sessions.device c.sessions.ends) ds) are course.on_time).0 in
-      let own : there.device.node ≡ node = placed node w.devices there.place there.device there.first there.stands in
+      let own : there.device.node ≡ node = place_is node w.devices there.place there.device there.first there.stands in
       let made : AllByRecursion (MakesAsked past.orders past.commands) there.device.journal = (f.mesh.made there.place there.device there.stands own).changes in
       record {
         device = there.device;
@@ -125,7 +127,7 @@ module _ (laws : Laws) (judged : Judged) (node : ℕ) (within : node < 233) (res
           let v : Outside = happens_all_outside w (routed (outs h (Hears item))) in
           let is : IsHeard past node c rest yet down item k v later = hears laws node within rest down past c up yet h w item later f facts course these followed in (
             tt,
-            subst (λ (ds : List State). TellTruly node k ds later) (routed_devices w (outs h (Hears item)))
+            subst (λ (ds : List State). TellTruly node k ds later) (routed_still w (outs h (Hears item)))
                 (mark_true judged is.goes.later_past node is.goes.later rest is.goes.up (item ∷ yet) down k v is.goes.follows is.course is.mark is.now is.are later (record { may = these.may.1; units = these.units.1 }) is.does),
           )
 
@@ -139,5 +141,5 @@ module _ (laws : Laws) (judged : Judged) (node : ℕ) (within : node < 233) (res
       let g : HostGoes past node c rest items down (after_all h first) v = judge_item laws node within rest down past c up items h w item first f facts course both.0 one in
       subst (λ (es : List HostEvent). TellTruly node h w.devices es) (sym are)
       (true-append node h w.devices first later (item_true past c up items h w item first f facts course both.0 one)
-      (subst (λ (ds : List State). TellTruly node (after_all h first) ds later) (routed_devices w (outs_all h first))
+      (subst (λ (ds : List State). TellTruly node (after_all h first) ds later) (routed_still w (outs_all h first))
       (items_true g.later_past g.later g.up (after_all h first) v items later g.follows (facts_then laws.past h first facts both.0.may) (facts_go laws.facts c g.later course g.goes) both.1 more)))

@@ -7,9 +7,9 @@ use Rattle.transport_segments.specs.Runs.{IsPart}
 use Rattle.host_orders.specs.Refusals.{IsFit}
 use Rattle.host_orders.specs.Wrapping.{message_of}
 use Rattle.host_orders.specs.declared.carriage.Carriage.{Carriage}
-use Rattle.device_stack.specs.declared.kind.Kind.{Kind}
-use Rattle.device_stack.specs.declared.kind.Kind.TheVariants as kinds
-use Rattle.device_stack.specs.Kind.{lists}
+use Rattle.device_kinds.specs.declared.kind.Kind.{Kind}
+use Rattle.device_kinds.specs.declared.kind.Kind.TheVariants as kinds
+use Rattle.device_kinds.specs.Kind.{lists}
 use Rattle.device_sim.specs.State.{State}
 use Rattle.device_sim.specs.Event.{Hears, device_after}
 use Rattle.message_facts.specs.Asking.{takes_openly, IsLeft}

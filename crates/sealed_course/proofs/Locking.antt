@@ -24,8 +24,8 @@ use Rattle.courses.specs.NodeNonces.{taken_as}
 use Rattle.courses.specs.NodeNonceFacts.{NonceFacts as NodeFacts}
 use Rattle.courses.specs.HostNonces as host
 use Rattle.courses.specs.NonceLaws.{NamesLive}
-use Rattle.device_stack.specs.declared.verdict.Verdict.{Verdict}
-use Rattle.device_stack.specs.Kind.{lists, listens}
+use Rattle.device_kinds.specs.declared.verdict.Verdict.{Verdict}
+use Rattle.device_kinds.specs.Kind.{lists, listens}
 use Rattle.device_stack.specs.Sealing.{keys_of, sealed_text}
 use Rattle.device_stack.specs.Ticking.{ticked, woken, set_by_hand}
 use Rattle.device_sim.specs.State.{State, host_node}
@@ -89,9 +89,6 @@ pub record Laws : Type 0 where
       → (new.sealing.pending ≡ old.sealing.pending) ⊎ (new.sealing.pending ≡ None) → WaitsOwn old → WaitsOwn new
   pub says : (device new : State) (shown : List (List ℕ)) (number seen : ℕ) (nonce drawn : List ℕ) (replies : List (List ℕ)) → SealsFor nonce drawn seen device new replies
       → IsNonce shown number nonce → length drawn ≡ 8 → WaitsOwn device → SaysSealed shown number device replies
-
-no_some : {A : Type 0} (x : A) → None ≡ Some x → ⊥
-no_some x e = grind (arith, e)
 
 not_true : {A : Type 0} → false ≡ true → A
 not_true e = absurd (grind (arith, e))

@@ -22,9 +22,10 @@ use Rattle.mesh_sim.specs.Steps.{answered, answered_if}
 use Rattle.seal_facts.specs.Payloads.{IsOffer}
 use Rattle.node_course.specs.Ways.{Goes}
 use Rattle.node_course.specs.Device.{IsIdle, finishes}
-use Rattle.node_course.proofs.Making.{get_same, get_other}
+use Rattle.node_course.proofs.Making.{get_other}
 use Rattle.node_course.proofs.Idle.{others_set}
-use Rattle.node_course.proofs.Replies.{place_set, nodes_set}
+use Rattle.device_facts.proofs.Telling.{place_set, get_set}
+use Rattle.node_course.proofs.Replies.{nodes_set}
 use Rattle.node_course.proofs.Thinning.{goes_on as sessions_on, goes_once}
 use Rattle.sealed_course.specs.Labels.{Held, Sealed, Offer, Reports, Shows, Up, Of_host, Down, Of_node, as_session, as_node, as_host}
 use Rattle.sealed_course.specs.Courses.{Courses, CoursesGo, NodeGoes, HostGoes, SameBooks, SameUp, AddsDown}
@@ -87,7 +88,7 @@ own_set past later_past node c later devices new h same at = record {
   device = new;
   place = h.place;
   first = place_set node devices h.place h.device new h.stands same ∙ h.first;
-  stands = get_same devices h.place h.device new h.stands;
+  stands = get_set devices h.place h.device new h.stands;
   at = at;
   others = others_set node devices h.place h.place h.device new h.stands (λ own away. absurd (away refl)) h.others;
   nodes = nodes_set devices h.place h.device new h.stands same h.nodes;

@@ -26,7 +26,8 @@ use Rattle.node_course.specs.Ways.{Beside, Thinned}
 use Rattle.node_course.specs.Lines.{Later, OnWay, own_frames}
 use Rattle.node_course.proofs.Moving.{move_done}
 use Rattle.node_course.proofs.Restarting.{OneThing, GoesOnAt, IsFresh, told_on, opens_fresh}
-use Rattle.node_course.proofs.Told.{outcomes_stay, over_recorded}
+use Rattle.once_facts.proofs.Going.{over_recorded}
+use Rattle.node_course.proofs.Told.{outcomes_stay}
 use Rattle.seal_facts.specs.Numbers.{HasGiven}
 use Rattle.sealed_course.specs.Labels.{Sent}
 use Rattle.sealed_course.specs.Courses.{Courses, CoursesGo, GoUp, with_up}

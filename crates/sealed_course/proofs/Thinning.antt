@@ -9,7 +9,7 @@ use Rattle.courses.specs.Sessions.{Course, Message, Writes}
 use Rattle.courses.specs.NodeNonces as node
 use Rattle.courses.specs.HostNonces as host
 use Rattle.node_course.specs.Ways.{Thinned, Goes}
-use Rattle.node_course.proofs.Thinning.{goes_nowhere, goes_once, up_thins, down_thins}
+use Rattle.node_course.proofs.Thinning.{goes_nowhere, goes_once, up_thins, down_thins, removed_at, doubled_at}
 use Rattle.node_course.proofs.Moving.{thinned_both}
 use Rattle.sealed_course.specs.Labels.{Sent, Late, Sealed, Offer, picked, message_of, sealed_for, offer_of, report_of, shown_by, answers_for}
 use Rattle.sealed_course.specs.Courses.{Courses, NodeGoes, HostGoes, CoursesGo, GoUp, GoDown, with_up, with_down}
@@ -53,14 +53,6 @@ host_on a b c first later = record {
 }
 
 -- ---- one way, whichever course it is of
-
-removed_at : {X : Type 0} (front : List X) (x : X) (back : List X) → remove (front ++ x ∷ back) (length front) ≡ front ++ back
-removed_at [] x back = refl
-removed_at (y ∷ front) x back = ap (λ l. y ∷ l) (removed_at front x back)
-
-doubled_at : {X : Type 0} (front : List X) (x : X) (back : List X) → doubled (front ++ x ∷ back) (length front) ≡ (front ++ x ∷ []) ++ x ∷ back
-doubled_at [] x back = refl
-doubled_at (y ∷ front) x back = ap (λ l. y ∷ l) (doubled_at front x back)
 
 module _ {S X : Type 0} (R : S → S → Type 0) (nowhere : (c : S) → R c c) (on : (a b c : S) → R a b → R b c → R a c) (put : List X → S)
     (loses : (xs : List X) (at : ℕ) → R (put xs) (put (remove xs at))) (doubles : (xs : List X) (at : ℕ) → R (put xs) (put (doubled xs at))) where

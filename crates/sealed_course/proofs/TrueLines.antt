@@ -8,7 +8,7 @@ use Rattle.device_sim.specs.State.{State}
 use Rattle.outer_events.specs.State.{Outside}
 use Rattle.outer_events.specs.Events.{Host_takes as host_takes, happens as happens_outside}
 use Rattle.host_events.specs.State.{HostState}
-use Rattle.host_events.specs.Events.{HostEvent, Finishes}
+use Rattle.host_events.specs.Events.{HostEvent}
 use Rattle.host_events.specs.Did.{outs_all}
 use Rattle.host_events.specs.Taking.{AreJudged}
 use Rattle.zw_machine.specs.State.{Machine}
@@ -20,23 +20,20 @@ use Rattle.world_facts.specs.Restarts.{AllKeepWell, IsHeld}
 use Rattle.world_traffic.specs.OnAir.{AlwaysFew}
 use Rattle.once_facts.specs.Truly.{TellTruly, IsTrue, AreTrue}
 use Rattle.node_course.specs.Told.{HasPast}
-use Rattle.node_course.specs.HostGoing.{EndsNone, AllWell}
+use Rattle.node_course.specs.HostGoing.{AllWell}
 use Rattle.node_course.proofs.Telling.{none_true}
 use Rattle.node_course.proofs.Whole.{units_each, fed_outside}
 use Rattle.sealed_course.specs.Courses.{Courses, CoursesFacts}
 use Rattle.sealed_course.specs.Meaning.{Past}
-use Rattle.sealed_course.specs.HostGoing.{HostFollows, IsUnheard}
+use Rattle.sealed_course.specs.HostGoing.{HostFollows}
 use Rattle.sealed_course.specs.World.{WorldFollows, WorldGoes, IsFitly, HearsInPipe}
 use Rattle.sealed_course.proofs.Whole.{Laws, fed_follows, event_goes}
+use Rattle.sealed_course.proofs.HostTelling.{aside_ends}
 
 -- the law of items
 abbrev pub Judges : Type 0
 Judges = (past : Past) (node : ℕ) (c : Courses) (rest : Rest) (up down items : List Item) (h : HostState) (w : Outside) (events : List HostEvent) → node < 233 → HostFollows past node c rest up items down h w → HasPast h → CoursesFacts c → AllWell h events
     → AreJudged h items events → TellTruly node h w.devices events
-
-unheard_ends : (node : ℕ) (event : HostEvent) → IsUnheard node event → EndsNone node event
-unheard_ends node (Finishes n session id command status wake_request) is = is
-unheard_ends node event is = tt
 
 module _ (judges : Judges) (node : ℕ) (within : node < 233) where
   takes_true : (past : Past) (c : Courses) (up down : List Item) (m : Machine) (count : ℕ) (rest : Rest) (items : List Item) (events : List HostEvent) → WorldFollows past node c up down m → MayTake m count rest items events
@@ -50,7 +47,7 @@ module _ (judges : Judges) (node : ℕ) (within : node < 233) where
 
   pub event_true : (past : Past) (c : Courses) (up down : List Item) (m : Machine) (event : Event) → WorldFollows past node c up down m → May m event → WritesWell m event → HearsInPipe node event → IsTrue node m event
   unfolding May
-  event_true past c up down m (Host_does event) f may well unheard = none_true node m.host.state m.outside.devices event (unheard_ends node event unheard)
+  event_true past c up down m (Host_does event) f may well unheard = none_true node m.host.state m.outside.devices event (aside_ends node event unheard)
   event_true past c up down m (Host_takes count rest items events) f may well unheard = takes_true past c up down m count rest items events f may well
   event_true past c up down m event f may well unheard = tt
 

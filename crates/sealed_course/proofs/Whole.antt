@@ -14,7 +14,7 @@ use Rattle.zw_text.specs.declared.entry.Entry.TheVariants.{Refused}
 use Rattle.device_sim.specs.State.{State}
 use Rattle.mesh_sim.specs.Air.{AirState}
 use Rattle.outer_events.specs.State.{Outside}
-use Rattle.outer_events.specs.Events.{OuterEvent, Host_takes as host_takes, Host_notes, Chip_ticks, Clears_pipe, is_own, mesh_of, May as MayOutside, happens as happens_outside}
+use Rattle.outer_events.specs.Events.{OuterEvent, Host_takes as host_takes, Host_notes, is_own, mesh_of, May as MayOutside, happens as happens_outside}
 use Rattle.outer_events.specs.Did.{happens_all as happens_all_outside}
 use Rattle.host_events.specs.State.{HostState}
 use Rattle.host_events.specs.Events.{HostEvent}
@@ -43,7 +43,7 @@ use Rattle.node_course.specs.Told.{HasPast}
 use Rattle.node_course.specs.HostGoing.{AllWell}
 use Rattle.node_course.proofs.HostDoing.{SameAir, note_air}
 use Rattle.node_course.proofs.Told.{PastLaws, past_kept}
-use Rattle.node_course.proofs.Whole.{note_written, units_each, fed_outside}
+use Rattle.node_course.proofs.Whole.{note_written, units_each, fed_outside, rests_of}
 use Rattle.sealed_course.specs.Courses.{Courses, CoursesFacts}
 use Rattle.sealed_course.specs.Meaning.{Past}
 use Rattle.sealed_course.specs.Mesh.{InMesh}
@@ -178,12 +178,6 @@ module _ (node : ℕ) where
   })
 
 -- ---- every event
-
-rests_of : (m : Machine) (event : OuterEvent) → OuterAtRest m event → Rests m.host.decoder m.outside event
-rests_of m Chip_ticks e = e
-rests_of m (Clears_pipe side.Host) e = e
-rests_of m (Clears_pipe side.Chip) e = e
-rests_of m event e = tt
 
 -- the laws that are used
 pub record Laws : Type 0 where

@@ -2,7 +2,7 @@
 
 ghost use Rattle.std.specs.Prelude.{◌≡◌, ℕ, Bool, true, false, List, [], length};
 ghost use Rattle.courses.specs.NodeNonceFacts.{NonceFacts as NodeFacts};
-ghost use Rattle.device_stack.specs.declared.kind.Kind.TheVariants as kinds;
+ghost use Rattle.device_kinds.specs.declared.kind.Kind.TheVariants as kinds;
 ghost use Rattle.device_stack.specs.Sealing.{keys_of};
 ghost use Rattle.device_sim.specs.State.{State, fresh};
 ghost use Rattle.device_sim.specs.Event.{DeviceEvent, Hears, device_after, device_replies};

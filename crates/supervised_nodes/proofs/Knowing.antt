@@ -13,9 +13,7 @@ use Rattle.zw_machine.specs.Events.{Event, Outside_does, Host_does, Host_takes, 
 use Rattle.zw_machine.specs.Did.{MayAll}
 use Rattle.said_facts.specs.Said.{AllTell, TellListing, Tells, TellsListing}
 use Rattle.said_facts.proofs.Classes.{LeavesRecords, classes_of, event_kept, joined_place, set_here, set_there}
-
-pub some_list : (a b : List ℕ) → Some a ≡ Some b → a ≡ b
-some_list a b e = cc
+use Rattle.seal_facts.proofs.Answering.{some_same}
 
 -- ---- what the host knows of the node
 
@@ -33,7 +31,7 @@ module _ (law : LeavesRecords) (listing : ℕ → List ℕ) (node : ℕ) (Is : L
         let told : Some classes ≡ Some found =
         sym (set_here h.nodes n (after_interview (node_of h.nodes n) listens classes) (joined_place h.nodes n tells.joined))
         ∙ (ap (λ (k : ℕ). classes_of (host_after h (Interviews n listens classes update)).nodes k) (sym same) ∙ is) in
-        subst Is (ap listing same ∙ (sym tells.lists ∙ some_list classes found told)) lists_so
+        subst Is (ap listing same ∙ (sym tells.lists ∙ some_same classes found told)) lists_so
     | inr other ↦ kept_so h (host_after h (Interviews n listens classes update)) (set_there h.nodes n (after_interview (node_of h.nodes n) listens classes) node other) knows
   ]
   host_knows h event tells knows = kept_so h (host_after h event) (event_kept law h event tt node) knows

@@ -1,8 +1,8 @@
 -- A lock as its maker left it, at the beginning of its courses.
 use Rattle.std.proofs.Common.{◌≡◌, ℕ, List, Some, refl, sym, ap, subst, ◌∙◌}
 use Rattle.std.specs.List.{AllByRecursion}
-use Rattle.device_stack.specs.declared.kind.Kind.{Kind}
-use Rattle.device_stack.specs.declared.kind.Kind.TheVariants as kinds
+use Rattle.device_kinds.specs.declared.kind.Kind.{Kind}
+use Rattle.device_kinds.specs.declared.kind.Kind.TheVariants as kinds
 use Rattle.device_stack.specs.Sealing.{keys_of}
 use Rattle.device_sim.specs.State.{State, fresh}
 use Rattle.zw_laws.specs.Headline.{IsAsMade}

@@ -1,8 +1,8 @@
 -- The host never takes a node whose device is of a plain kind to list Security 0, so its orders go unsealed.
 use Rattle.std.proofs.Common.{◌≡◌, ℕ, ◌==◌, Bool, true, false, if◌then◌else◌, List, Option, Some, None, refl, sym, ap, subst, ◌∙◌}
-use Rattle.device_stack.specs.Kind.{classes_of as kind_classes}
-use Rattle.device_stack.specs.declared.kind.Kind.{Kind}
-use Rattle.device_stack.specs.declared.kind.Kind.TheVariants.{Switch}
+use Rattle.device_kinds.specs.Kind.{classes_of as kind_classes}
+use Rattle.device_kinds.specs.declared.kind.Kind.{Kind}
+use Rattle.device_kinds.specs.declared.kind.Kind.TheVariants.{Switch}
 use Rattle.device_sim.specs.State.{State}
 use Rattle.host_orders.specs.Classes.{lists}
 use Rattle.host_events.specs.State.{HostState}
@@ -14,7 +14,7 @@ use Rattle.zw_machine.specs.Events.{Event, Host_does, May}
 use Rattle.said_facts.proofs.Classes.{classes_of}
 use Rattle.node_course.specs.World.{OrderPlain, OrdersPlain}
 use Rattle.supervised_nodes.specs.Plain.{IsOpenList, IsPlainKind}
-use Rattle.supervised_nodes.proofs.Knowing.{some_list}
+use Rattle.seal_facts.proofs.Answering.{some_same}
 use Rattle.supervised_nodes.proofs.Carrying.{goes_unsealed}
 
 -- ---- lists
@@ -29,7 +29,7 @@ listing_open devices node device found plain = subst (λ (o : Option State). IsO
 
 first_by : (hit : Bool) (classes : List ℕ) → (if hit then Some (kind_classes Switch) else None) ≡ Some classes → IsOpenList classes
 unfolding lists
-first_by true classes e = subst IsOpenList (some_list (kind_classes Switch) classes e) (record { unsealed = refl })
+first_by true classes e = subst IsOpenList (some_same (kind_classes Switch) classes e) (record { unsealed = refl })
 first_by false classes e = absurd cc
 
 pub first_open : (node : ℕ) (known : Option (List ℕ)) → known ≡ known_at_first node → (classes : List ℕ) → known ≡ Some classes → IsOpenList classes

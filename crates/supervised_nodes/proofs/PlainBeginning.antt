@@ -2,10 +2,9 @@
 use Rattle.std.proofs.Common.{◌≡◌, ℕ, zero, suc, ◌<◌, ◌==◌, Bool, true, false, if◌then◌else◌, List, [], ◌∷◌, Some, option_map, slice_get, refl, sym, ap, subst, ◌∙◌, arith}
 use Rattle.std.specs.List.{AllByRecursion}
 use Rattle.courses.specs.Sessions.{first_course}
-use Rattle.device_stack.specs.declared.kind.Kind.{Kind}
-use Rattle.device_stack.specs.declared.kind.Kind.TheVariants.{Relay, Switch, Dimmer, Lock, Sensor, Thermostat, Strip, Configurable}
+use Rattle.device_kinds.specs.declared.kind.Kind.{Kind}
+use Rattle.device_kinds.specs.declared.kind.Kind.TheVariants.{Relay, Switch, Dimmer, Lock, Sensor, Thermostat, Strip, Configurable}
 use Rattle.device_sim.specs.State.{State, fresh}
-use Rattle.device_facts.specs.Showing.{AreUnchanged}
 use Rattle.device_facts.proofs.Telling.{place_is}
 use Rattle.mesh_sim.specs.Fates.{place_of}
 use Rattle.message_facts.specs.Asking.{takes_openly}
@@ -98,7 +97,3 @@ module _ (idle : (node : ℕ) (kind : Kind) (key : List ℕ) → IsIdle (fresh n
             nodes = at.nodes;
           },
         )
-
-pub all_unchanged : (key : List ℕ) (devices : List State) → AllByRecursion (IsAsMade key) devices → AreUnchanged devices
-all_unchanged key [] all = tt
-all_unchanged key (device ∷ devices) all = (ap (λ (d : State). d.journal) all.0.made, all_unchanged key devices all.1)

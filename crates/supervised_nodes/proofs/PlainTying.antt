@@ -17,11 +17,10 @@ use Rattle.zw_machine.specs.Events.{Event, happens}
 use Rattle.zw_machine.specs.Did.{happens_all}
 use Rattle.host_events.specs.State.{Command}
 use Rattle.host_nodes.specs.State.{node_of}
-use Rattle.run_facts.specs.Lines.{IsRead}
 use Rattle.once_facts.specs.Tied.{AreOutcomes, AreTied, IsTied, MakesWhatIsTaken}
 use Rattle.once_facts.specs.Truly.{AreTrue}
 use Rattle.said_facts.specs.Spoken.{Spoken, after}
-use Rattle.listing_facts.specs.Lines.{events_of}
+use Rattle.listing_facts.specs.Lines.{IsRead, events_of}
 use Rattle.headline_facts.specs.Truly.{LinesAreTrue}
 use Rattle.node_course.specs.World.{HasCourse, NamesEnd}
 use Rattle.node_course.proofs.Replies.{one_place, one_stands}

@@ -1,7 +1,7 @@
 -- A device that lists Supervision lists Security 0 too, and is a lock, or does not, and is of a plain kind.
 use Rattle.std.proofs.Common.{◌≡◌, ◌⊎◌, Bool, true, false, inl, inr, refl}
-use Rattle.device_stack.specs.Kind.{lists}
-use Rattle.device_stack.specs.declared.kind.Kind.{Kind}
+use Rattle.device_kinds.specs.Kind.{lists}
+use Rattle.device_kinds.specs.declared.kind.Kind.{Kind}
 use Rattle.supervised_nodes.specs.Plain.{IsPlainKind}
 use Rattle.supervised_nodes.specs.Locks.{IsLockKind}
 

@@ -2,8 +2,8 @@
 use Rattle.std.specs.Prelude.{◌≡◌, ℕ, ◌<◌, true, false, List, Some}
 use Rattle.std.specs.List.{AllByRecursion}
 use Rattle.courses.specs.Sessions.{first_course}
-use Rattle.device_stack.specs.declared.kind.Kind.{Kind}
-use Rattle.device_stack.specs.Kind.{lists as kind_lists}
+use Rattle.device_kinds.specs.declared.kind.Kind.{Kind}
+use Rattle.device_kinds.specs.Kind.{lists as kind_lists}
 use Rattle.device_sim.specs.State.{State}
 use Rattle.host_orders.specs.Classes.{lists}
 use Rattle.zw_laws.specs.Nodes.{device_of}

@@ -44,11 +44,18 @@ is_known node past = asks_protocol node (request_in (asked_before past).frame) &
 abbrev pub succeeds : ℕ → List Entry → Bool
 succeeds node past = asks_information node (request_last past) && informs node (notices_here past) && is_ending_here past && is_known node past
 
--- it fails here: the second request ends without information, or the first one was not answered
+-- the second request ends here without information: none comes, it is refused, ends in silence, or is given up
+abbrev pub ends_uninformed : List Entry → Bool
+ends_uninformed past =
+    (says_none (notices_here past) && is_ending_here past) || is_refused_here past || is_silent past || is_given_up past
+
+-- the information comes here, and the first request was not answered
+abbrev pub ends_unknown : ℕ → List Entry → Bool
+ends_unknown node past = informs node (notices_here past) && is_ending_here past && not (is_known node past)
+
+-- it fails here in one of these ways
 abbrev pub fails : ℕ → List Entry → Bool
-fails node past =
-    asks_information node (request_last past) && ((says_none (notices_here past) && is_ending_here past) || is_refused_here past || is_silent past
-    || is_given_up past || (informs node (notices_here past) && is_ending_here past && not (is_known node past)))
+fails node past = asks_information node (request_last past) && (ends_uninformed past || ends_unknown node past)
 
 -- the nodes whose information the last request asks for
 abbrev pub node_interviewed : List Request → List ℕ

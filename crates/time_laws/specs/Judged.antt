@@ -1,6 +1,6 @@
 -- What the host has judged of what the chip wrote (Serial API: each good data frame is acknowledged; that the host's notes
 -- stand behind the acknowledgement is this project's own rule).
-use Rattle.std.specs.Prelude.{ℕ, ◌-◌, ◌==◌, bytes_eq, Bool, true, false, if◌then◌else◌, List, [], ◌∷◌, length, take, drop, filter, slice_index}
+use Rattle.std.specs.Prelude.{ℕ, ◌-◌, ◌==◌, ◌&&◌, ◌||◌, not, bytes_eq, Bool, true, false, if◌then◌else◌, List, [], ◌∷◌, length, take, drop, filter, slice_index}
 use Rattle.std.specs.List.{flat_map, list_any}
 use Rattle.serial_frame.specs.declared.unit.TheConstants.{SOF, ACK}
 use Rattle.chip_functions.specs.declared.notice.Notice.{Notice}
@@ -55,24 +55,40 @@ judged past = take (acknowledged past) (frames_come past)
 abbrev pub last_of : {A : Type 0} → List A → List A
 last_of items = drop (length items - 1) items
 
+-- an entry of a line, or of a tick
+abbrev pub is_of_line : Entry → Bool
+is_of_line (Said words) = true
+is_of_line (Accepted command node) = true
+is_of_line (Refused refusal) = true
+is_of_line (Time tick) = true
+is_of_line _ = false
+
+-- of the air, or of a device
+abbrev pub is_of_air : Entry → Bool
+is_of_air (Air frame sender receiver repeaters payload) = true
+is_of_air (OnAir frame) = true
+is_of_air (Lost frame) = true
+is_of_air (Unheard frame) = true
+is_of_air (Dev node by setting) = true
+is_of_air _ = false
+
+-- of the chip, or of both pipes
+abbrev pub is_of_chip : Entry → Bool
+is_of_chip (Written Chip unit) = true
+is_of_chip (Forget first second) = true
+is_of_chip ChipFull = true
+is_of_chip (Cleared side count) = true
+is_of_chip _ = false
+
+-- what is no note of the host on what it judged: these, and a session that begins
+abbrev pub is_no_note : Entry → Bool
+is_no_note (Begin node session command) = true
+is_no_note entry = is_of_line entry || is_of_air entry || is_of_chip entry
+
 -- whether what stands next is behind an acknowledgement of the host: its notes, and what became of the acknowledgement, are
 abbrev pub behind_step : Bool → Entry → Bool
 behind_step behind (Written Host unit) = is_acknowledgement unit
-behind_step behind (Written Chip unit) = false
-behind_step behind (Said words) = false
-behind_step behind (Accepted command node) = false
-behind_step behind (Refused refusal) = false
-behind_step behind (Begin node session command) = false
-behind_step behind (Air frame sender receiver repeaters payload) = false
-behind_step behind (OnAir frame) = false
-behind_step behind (Lost frame) = false
-behind_step behind (Unheard frame) = false
-behind_step behind (Dev node by setting) = false
-behind_step behind (Forget first second) = false
-behind_step behind ChipFull = false
-behind_step behind (Cleared side count) = false
-behind_step behind (Time tick) = false
-behind_step behind _ = behind
+behind_step behind entry = behind && not (is_no_note entry)
 
 abbrev pub is_behind : List Entry → Bool
 is_behind past = folded behind_step false past

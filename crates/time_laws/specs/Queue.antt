@@ -136,26 +136,34 @@ looked listing past asked queue entry = if has_looked asked queue entry then wit
 
 -- ---- what waits
 
+-- what the nodes want by the frame of the chip that is judged here
+abbrev pub with_all_brought : (ℕ → List ℕ) → List Entry → Queue → Queue
+with_all_brought listing past queue = each_with (with_brought listing past) queue (brought_here past)
+
 -- a frame of the chip is judged, or a request is sent: the one that waited longest, unless it is an abort
 abbrev pub queue_by_unit : (ℕ → List ℕ) → List Entry → Asked → Queue → List ℕ → Queue
 queue_by_unit listing past asked queue unit =
-    if is_acknowledgement unit then each_with (with_brought listing (past ++ Written Host unit ∷ [])) queue (brought_here (past ++ Written Host unit ∷ []))
+    if is_acknowledgement unit then with_all_brought listing (past ++ Written Host unit ∷ []) queue
     else (if is_new asked unit && not (is_abort_frame unit) then record queue { wants = drop 1 queue.wants } else queue)
 
--- the nodes without this one
-abbrev pub without : ℕ → List ℕ → List ℕ
-without node nodes = filter (λ one. not (one == node)) nodes
+-- a line that is not refused puts in what it wants, and a restart leaves nothing
+abbrev pub queue_by_line : (ℕ → List ℕ) → List Entry → Queue → Entry → List Entry → Queue
+queue_by_line listing past queue entry rest =
+    if begins_refused rest then queue
+    else (if starts_anew entry rest then no_queue else record queue { wants = queue.wants ++ flat_map (wants_of listing past) (line_of entry) })
+
+-- a node whose No More Information found the queue full may be told again
+abbrev pub not_dropped : ℕ → Queue → Queue
+not_dropped node queue = record queue { dropped = filter (λ one. not (one == node)) queue.dropped }
 
 -- one entry, with those behind it
 abbrev pub queue_step : (ℕ → List ℕ) → List Entry → Asked → Queue → Entry → List Entry → Queue
-queue_step listing past asked queue (Said words) rest =
-    if begins_refused rest then queue
-    else (if starts_anew (Said words) rest then no_queue else record queue { wants = queue.wants ++ flat_map (wants_of listing past) (line_of (Said words)) })
+queue_step listing past asked queue (Said words) rest = queue_by_line listing past queue (Said words) rest
 queue_step listing past asked queue (Written Host unit) rest = queue_by_unit listing past asked queue unit
 queue_step listing past asked queue (QueueFull node) rest = record queue { owed = drop 1 queue.owed }
 queue_step listing past asked queue (Unkept node) rest = with_unkept listing past queue node
-queue_step listing past asked queue (Awake node) rest = record queue { dropped = without node queue.dropped }
-queue_step listing past asked queue (Asleep node) rest = record queue { dropped = without node queue.dropped }
+queue_step listing past asked queue (Awake node) rest = not_dropped node queue
+queue_step listing past asked queue (Asleep node) rest = not_dropped node queue
 queue_step listing past asked queue entry rest = queue
 
 -- the last request of the host, and what waits
@@ -200,17 +208,22 @@ abbrev pub is_first : ℕ → List ℕ → Bool
 is_first node [] = false
 is_first node (first ∷ rest) = first == node
 
+-- the last line asks for more places than are free
+abbrev pub lacks_places : (ℕ → List ℕ) → List Entry → Bool
+lacks_places listing past =
+    not (places listing past == 0) && nat_lt queue_places (waits_before_line listing past + places listing past)
+
+-- what is to be said is said: that a message was dropped, and that the last line was refused
+abbrev pub owes_no_refusal : (ℕ → List ℕ) → List Entry → Entry → Bool
+owes_no_refusal listing past entry = are_none (queue_before listing past entry).owed && not (lacks_places listing past)
+
 -- a line is refused for the queue exactly where it asks for more places than are free, and a message is dropped exactly where 64 wait
 abbrev pub may_queue : (ℕ → List ℕ) → List Entry → Entry → Bool
-may_queue listing past (Refused (refusals.QueueFull waiting)) =
-    (waiting == queue_places) && nat_lt queue_places (waits_before_line listing past + places listing past)
+may_queue listing past (Refused (refusals.QueueFull waiting)) = (waiting == queue_places) && lacks_places listing past
 may_queue listing past (Refused refusal) = true
 may_queue listing past (QueueFull node) = is_first node (queue_before listing past (QueueFull node)).owed
 may_queue listing past (Unkept node) = true
-may_queue listing past entry =
-    is_mark entry
-    || (are_none (queue_before listing past entry).owed
-    && ((places listing past == 0) || nat_le (waits_before_line listing past + places listing past) queue_places))
+may_queue listing past entry = is_mark entry || owes_no_refusal listing past entry
 
 abbrev pub FitsQueue : (ℕ → List ℕ) → List Entry → Type 0
 FitsQueue listing transcript = Keeps (may_queue listing) transcript

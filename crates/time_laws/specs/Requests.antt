@@ -45,13 +45,15 @@ pub record Since : Type 0 where
   pub past : List Entry
   pub behind : List Entry
 
+-- where an entry is a copy, what stands up to it and behind it, else what was found
+abbrev pub found_at : List ℕ → Since → List Entry → Entry → List Entry → Since
+found_at frame found past (Written Host unit) rest =
+    if bytes_eq unit frame then record { past = past ++ Written Host unit ∷ []; behind = rest } else found
+found_at frame found past _ rest = found
+
 abbrev pub since_last : List ℕ → Since → List Entry → List Entry → Since
 since_last frame found past [] = found
-since_last frame found past (entry ∷ rest) = since_last frame (found_at entry) (past ++ entry ∷ []) rest
-  where
-    found_at : Entry → Since
-    found_at (Written Host unit) = if bytes_eq unit frame then record { past = past ++ Written Host unit ∷ []; behind = rest } else found
-    found_at _ = found
+since_last frame found past (entry ∷ rest) = since_last frame (found_at frame found past entry rest) (past ++ entry ∷ []) rest
 
 abbrev pub last_copy : Asked → Since
 last_copy asked = since_last asked.frame (record { past = up_to_first asked; behind = asked.behind }) (up_to_first asked) asked.behind
@@ -70,15 +72,16 @@ is_missed (Dropped Chip ∷ rest) = true
 is_missed (Overrun Chip ∷ rest) = true
 is_missed _ = false
 
+-- the answer that an entry is, where it is one that came
+abbrev pub answer_at : List Entry → Entry → List Entry → List Answer
+answer_at past (Written Chip unit) rest =
+    if (length unit == 1) && not (is_missed rest) then record { unit = unit; tick = clock past; frames = length (frames_come past) } ∷ [] else []
+answer_at past _ rest = []
+
 -- the answers that came behind this past
 abbrev pub answers_from : List Entry → List Entry → List Answer
 answers_from past [] = []
-answers_from past (entry ∷ rest) = answer_at entry ++ answers_from (past ++ entry ∷ []) rest
-  where
-    answer_at : Entry → List Answer
-    answer_at (Written Chip unit) =
-        if (length unit == 1) && not (is_missed rest) then record { unit = unit; tick = clock past; frames = length (frames_come past) } ∷ [] else []
-    answer_at _ = []
+answers_from past (entry ∷ rest) = answer_at past entry rest ++ answers_from (past ++ entry ∷ []) rest
 
 -- the answers behind the last copy; of the fourth one only the first counts, and in the 15 ticks behind it
 abbrev pub answers : Asked → List Answer
@@ -116,17 +119,16 @@ is_copy asked unit = bytes_eq unit asked.frame && are_none (sent_at asked) && na
 abbrev pub is_new : Asked → List ℕ → Bool
 is_new asked unit = is_data unit && not (is_copy asked unit)
 
--- one entry more, with those before and behind it
-abbrev pub asked_after : List Entry → Asked → Entry → List Entry → Asked
-asked_after past asked entry rest = asked_step entry
-  where
-    with_entry : Asked
-    with_entry = record asked { behind = asked.behind ++ entry ∷ [] }
+-- one entry more behind it
+abbrev pub with_entry : Asked → Entry → Asked
+with_entry asked entry = record asked { behind = asked.behind ++ entry ∷ [] }
 
-    asked_step : Entry → Asked
-    asked_step (Written Host unit) = if is_new asked unit then record { frame = unit; before = past; behind = [] } else with_entry
-    asked_step (Said words) = if starts_anew (Said words) rest then asked_nothing else with_entry
-    asked_step _ = with_entry
+-- a new request takes its place, and a restart ends it
+abbrev pub asked_after : List Entry → Asked → Entry → List Entry → Asked
+asked_after past asked (Written Host unit) rest =
+    if is_new asked unit then record { frame = unit; before = past; behind = [] } else with_entry asked (Written Host unit)
+asked_after past asked (Said words) rest = if starts_anew (Said words) rest then asked_nothing else with_entry asked (Said words)
+asked_after past asked entry rest = with_entry asked entry
 
 abbrev pub asked_from : List Entry → Asked → List Entry → Asked
 asked_from past asked [] = asked

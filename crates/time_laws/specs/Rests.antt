@@ -1,17 +1,17 @@
 -- Rests, and what the host owes at one (this project's own rule): nothing that was asked for is left, no command waits for a node
 -- that is awake, no attempt is overdue, and a node that sleeps is kept awake for a reason alone.
-use Rattle.std.specs.Prelude.{◌≡◌, ℕ, ◌+◌, ◌==◌, ◌&&◌, ◌||◌, not, nat_lt, Bool, true, false, List, [], ◌∷◌, length}
+use Rattle.std.specs.Prelude.{◌≡◌, ℕ, ◌+◌, ◌==◌, ◌&&◌, ◌||◌, not, nat_lt, Bool, true, List, [], ◌∷◌, length}
 use Rattle.std.specs.List.{flat_map, list_any, list_all}
 use Rattle.zw_text.specs.declared.line.Line.{Line}
 use Rattle.zw_text.specs.declared.line.Line.TheVariants as lines
 use Rattle.zw_text.specs.declared.entry.Entry.{Entry}
 use Rattle.zw_text.specs.declared.entry.Entry.TheVariants.{Said, Interviewed, InterviewFailed, Unkept, Time}
-use Rattle.zw_text.specs.Transcript.{sessions, outcome, joined, shown, folded, line_of, lines_run, lines_done, requests_done, where_same}
+use Rattle.zw_text.specs.Transcript.{sessions, outcome, joined, shown, line_of, lines_run, lines_done, requests_done, where_same}
 use Rattle.zw_laws.specs.Commands.{waiting}
 use Rattle.zw_laws.specs.Lists.{shown_after}
 use Rattle.zw_laws.specs.Restarts.{since_restart, ticks_asked}
-use Rattle.time_laws.specs.Moments.{Keeps, now_at}
-use Rattle.time_laws.specs.Judged.{acknowledged, frames_come}
+use Rattle.time_laws.specs.Moments.{Keeps, clock, now_at}
+use Rattle.time_laws.specs.Judged.{acknowledged, frames_come, last_of}
 use Rattle.time_laws.specs.Requests.{Asked, asked, are_none}
 use Rattle.time_laws.specs.Ends.{has_ended, is_line_free, owes_abort}
 use Rattle.time_laws.specs.Sessions.{is_final, last_command, runs}
@@ -78,19 +78,19 @@ has_come node past =
 abbrev pub all_final : ℕ → List Entry → Bool
 all_final node past = list_all (λ number. is_final (outcome number past)) (sessions node past)
 
--- whether the keeper has failed for a node since the last tick or line
-abbrev pub blocked_step : ℕ → Bool → Entry → Bool
-blocked_step node blocked (Unkept of) = blocked || (of == node)
-blocked_step node blocked (Time tick) = false
-blocked_step node blocked (Said words) = false
-blocked_step node blocked _ = blocked
+-- when the keeper failed for a node
+abbrev pub unkept_when : ℕ → List Entry → Entry → List ℕ
+unkept_when node past (Unkept of) = where_same of node (clock past)
+unkept_when node past _ = []
 
-abbrev pub is_blocked : ℕ → List Entry → Bool
-is_blocked node past = folded (blocked_step node) false past
+-- whether it did since the host started, and no tick has passed since the last time
+abbrev pub is_blocked : ℕ → List Entry → ℕ → Bool
+is_blocked node past now =
+    is_unkept node (since_restart past) && list_any (λ tick. tick == now) (last_of (shown_after (unkept_when node) [] past))
 
 -- no command waits for a node that is up and whose sessions have all ended, but where the keeper has just failed
-abbrev pub none_waits : ℕ → List Entry → Bool
-none_waits node past = not (is_up node past) || not (all_final node past) || are_none (waiting node past) || is_blocked node past
+abbrev pub none_waits : ℕ → List Entry → ℕ → Bool
+none_waits node past now = not (is_up node past) || not (all_final node past) || are_none (waiting node past) || is_blocked node past now
 
 -- ---- no attempt is overdue
 
@@ -105,7 +105,7 @@ none_overdue listing node past now = not (runs node past now) || list_all (is_at
 
 -- nothing is owed to a node
 abbrev pub owes_nothing : (ℕ → List ℕ) → List Entry → ℕ → ℕ → Bool
-owes_nothing listing past now node = has_come node (since_restart past) && none_waits node past && none_overdue listing node past now
+owes_nothing listing past now node = has_come node (since_restart past) && none_waits node past now && none_overdue listing node past now
 
 -- no request waits, no abort is owed, and nothing is owed to any node
 abbrev pub owes_none : (ℕ → List ℕ) → List Entry → Entry → Bool

@@ -87,14 +87,25 @@ abbrev pub series_by_end : Ended → ℕ → Series
 series_by_end endings.Unanswered now = record { runs = false; again = (now + 100) ∷ [] }
 series_by_end ended now = no_series
 
+-- where that is of the last session of the node
+abbrev pub with_end : ℕ → List Entry → Series → ℕ → Ended → Series
+with_end node past series command ended = if is_last_command node past command then series_by_end ended (clock past) else series
+
+-- such a moment of a node, behind the entry that makes it
+abbrev pub with_occasion_of : ℕ → List Entry → Series → ℕ → Entry → Series
+with_occasion_of node past series of entry = if of == node then with_occasion node (past ++ entry ∷ []) series else series
+
+-- a restart ends the series, and is such a moment
+abbrev pub with_start : ℕ → List Entry → Series → Entry → List Entry → Series
+with_start node past series entry rest = if starts_anew entry rest then with_occasion node (past ++ entry ∷ []) no_series else series
+
 -- a series begins with its session; another one may with a command that is accepted, a Wake Up Notification, and a restart
 abbrev pub series_step : ℕ → List Entry → Series → Entry → List Entry → Series
 series_step node past series (Begin of number command) rest = if of == node then new_series else series
-series_step node past series (Out command ended) rest = if is_last_command node past command then series_by_end ended (clock past) else series
-series_step node past series (Accepted command of) rest = if of == node then with_occasion node (past ++ Accepted command of ∷ []) series else series
-series_step node past series (Awake of) rest = if of == node then with_occasion node (past ++ Awake of ∷ []) series else series
-series_step node past series (Said words) rest =
-    if starts_anew (Said words) rest then with_occasion node (past ++ Said words ∷ []) no_series else series
+series_step node past series (Out command ended) rest = with_end node past series command ended
+series_step node past series (Accepted command of) rest = with_occasion_of node past series of (Accepted command of)
+series_step node past series (Awake of) rest = with_occasion_of node past series of (Awake of)
+series_step node past series (Said words) rest = with_start node past series (Said words) rest
 series_step node past series entry rest = series
 
 abbrev pub series_from : ℕ → List Entry → Series → List Entry → Series

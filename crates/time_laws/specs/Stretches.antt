@@ -2,7 +2,7 @@
 -- 100 ms).
 use Rattle.std.specs.Prelude.{◌≡◌, ℕ, ◌+◌, ◌*◌, ◌==◌, ◌&&◌, ◌||◌, not, bytes_eq, nat_le, Bool, true, false, if◌then◌else◌, List, [], ◌∷◌, ◌++◌, length, filter, Option, Some, None}
 use Rattle.std.specs.List.{flat_map, list_any, list_all, AllByRecursion}
-use Rattle.device_stack.specs.Kind.{listens as kind_listens}
+use Rattle.device_kinds.specs.Kind.{listens as kind_listens}
 use Rattle.device_stack.specs.State.{State}
 use Rattle.zw_text.specs.declared.line.Line.{Line}
 use Rattle.zw_text.specs.declared.line.Line.TheVariants as lines
@@ -24,7 +24,7 @@ use Rattle.time_laws.specs.Calm.{IsCalm}
 
 -- ---- ready nodes
 
--- the host knows the node's device: whether it listens, and its classes
+-- the host takes the node to listen exactly where its device does
 abbrev pub knows_device : List State → ℕ → List Entry → Option State → Bool
 knows_device devices node past None = false
 knows_device devices node past (Some device) = same_bool (listens node past) (kind_listens device.kind)
@@ -55,13 +55,17 @@ accepted_for node _ = []
 abbrev pub open_commands : ℕ → List Entry → List ℕ
 open_commands node past = filter (is_open past) (shown (accepted_for node) past)
 
--- a node is known: it is joined, its device is there with the key, and the host knows it as it is, and did when it accepted the commands that
--- are open
+-- the host knows its classes, and did when it accepted the commands that are open
+abbrev pub knows_classes : List State → List Entry → ℕ → Bool
+knows_classes devices past node =
+    are_listed devices node (known_classes (listing_of devices) past node)
+    && list_all (λ number. are_listed devices node (Some (classes_for (listing_of devices) past node number))) (open_commands node past)
+
+-- a node is known: it is joined, its device is there with the key, and the host knows whether it listens, and its classes
 abbrev pub knows_node : List ℕ → List State → List Entry → ℕ → Bool
 knows_node key devices past node =
     is_joined past node && has_key key (device_of node devices) && knows_device devices node past (device_of node devices)
-    && are_listed devices node (known_classes (listing_of devices) past node)
-    && list_all (λ number. are_listed devices node (Some (classes_for (listing_of devices) past node number))) (open_commands node past)
+    && knows_classes devices past node
 
 -- ---- stretches
 
@@ -98,7 +102,6 @@ turns node stretch = flat_map (turn_of node) (lines_run stretch)
 
 -- its only `wake` line is the last of them
 abbrev pub wakes_last : List Turn → Bool
-wakes_last [] = false
 wakes_last (Wakes ∷ []) = true
 wakes_last (Orders ∷ more) = wakes_last more
 wakes_last _ = false

@@ -71,21 +71,30 @@ abbrev pub is_sign : ℕ → Bool → List Entry → Bool
 is_sign node own past =
     (own && is_called_back 0 past) || list_any (λ payload. tells_work (length (sessions node past) % 64) (heard_at payload)) (payloads_here node past)
 
+-- up to an acknowledgement
+abbrev pub with_sign : ℕ → List Entry → Attempts → Attempts
+with_sign node past attempts = if is_sign node attempts.own past then record attempts { sign = clock past ∷ [] } else attempts
+
+-- whether a new request is of an attempt: it goes to the node, and none waits
+abbrev pub is_of_attempt : (ℕ → List ℕ) → ℕ → List Entry → Requests → List ℕ → Bool
+is_of_attempt listing node past requests unit =
+    goes_to node unit && are_none (waits_before listing past requests (Written Host unit)).wants
+
 abbrev pub attempts_by_unit : (ℕ → List ℕ) → ℕ → List Entry → Requests → Attempts → List ℕ → Attempts
 attempts_by_unit listing node past requests attempts unit =
-    if is_acknowledgement unit
-    then (if is_sign node attempts.own (past ++ Written Host unit ∷ []) then record attempts { sign = clock past ∷ [] } else attempts)
-    else (if is_new requests.last unit
-    then attempts_by_request (goes_to node unit && are_none (waits_before listing past requests (Written Host unit)).wants) unit attempts
-    else attempts)
+    if is_acknowledgement unit then with_sign node (past ++ Written Host unit ∷ []) attempts
+    else (if is_new requests.last unit then attempts_by_request (is_of_attempt listing node past requests unit) unit attempts else attempts)
 
 -- a series begins anew with a session, behind an outcome, and where the host starts
+abbrev pub begins_anew : ℕ → ℕ → Entry → List Entry → Bool
+begins_anew node command (Begin of number begun) rest = of == node
+begins_anew node command (Out number Unanswered) rest = number == command
+begins_anew node command (Said words) rest = starts_anew (Said words) rest
+begins_anew node command entry rest = false
+
 abbrev pub attempts_step : (ℕ → List ℕ) → ℕ → ℕ → List Entry → Requests → Attempts → Entry → List Entry → Attempts
 attempts_step listing node command past requests attempts (Written Host unit) rest = attempts_by_unit listing node past requests attempts unit
-attempts_step listing node command past requests attempts (Begin of number begun) rest = if of == node then no_attempts else attempts
-attempts_step listing node command past requests attempts (Out number Unanswered) rest = if number == command then no_attempts else attempts
-attempts_step listing node command past requests attempts (Said words) rest = if starts_anew (Said words) rest then no_attempts else attempts
-attempts_step listing node command past requests attempts entry rest = attempts
+attempts_step listing node command past requests attempts entry rest = if begins_anew node command entry rest then no_attempts else attempts
 
 abbrev pub attempts_from : (ℕ → List ℕ) → ℕ → ℕ → List Entry → Requests → Attempts → List Entry → Attempts
 attempts_from listing node command past requests attempts [] = attempts
@@ -141,16 +150,24 @@ to_give_up listing past now node =
 abbrev pub none_to_give_up : (ℕ → List ℕ) → List Entry → ℕ → Bool
 none_to_give_up listing past now = are_none (flat_map (to_give_up listing past now) (joined past))
 
+-- a command is to be given up here for its node
+abbrev pub is_to_give_up : (ℕ → List ℕ) → List Entry → ℕ → Bool
+is_to_give_up listing past command =
+    list_any (λ node. list_any (λ number. number == command) (to_give_up listing past (clock past) node)) (shown (node_at command) past)
+
+-- the frame that was judged just before ends the third attempt, of which the last request is
+abbrev pub owes_giving_up : (ℕ → List ℕ) → List Entry → Bool
+owes_giving_up listing past =
+    is_directly_behind past
+    && list_any (λ carried. not (are_none (to_give_up listing past (clock past) carried.node))) (sending_in (asked past).frame)
+
 -- a command counts as unanswered only where it is to be given up: then directly behind the frame that ends the attempt, and else in the
 -- same line or tick
 abbrev pub may_give_up : (ℕ → List ℕ) → List Entry → Entry → Bool
-may_give_up listing past (Out command Unanswered) =
-    list_any (λ node. list_any (λ number. number == command) (to_give_up listing past (clock past) node)) (shown (node_at command) past)
+may_give_up listing past (Out command Unanswered) = is_to_give_up listing past command
 may_give_up listing past (Said words) = none_to_give_up listing past (now_at past (Said words))
 may_give_up listing past (Time tick) = none_to_give_up listing past (now_at past (Time tick))
-may_give_up listing past entry =
-    is_mark entry || not (is_directly_behind past)
-    || are_none (flat_map (λ carried. to_give_up listing past (clock past) carried.node) (sending_in (asked past).frame))
+may_give_up listing past entry = is_mark entry || not (owes_giving_up listing past)
 
 pub record GivesUpAfterThree (whole : Bool) (listing : ℕ → List ℕ) (transcript : List Entry) : Type 0 where
   pub between : Keeps (may_give_up listing) transcript

@@ -82,11 +82,6 @@ is_given_up_on node past =
 abbrev pub ends_telling : ℕ → List Entry → Bool
 ends_telling node past = is_told node (asked past).frame && is_ended_here past
 
--- whether the entry says that the node is asleep
-abbrev pub says_asleep : ℕ → Entry → Bool
-says_asleep node (Asleep other) = other == node
-says_asleep node _ = false
-
 -- whether a frame ends the No More Information of a node here that counts as awake
 abbrev pub owes_sleep_to_told : List Entry → Bool
 owes_sleep_to_told past =

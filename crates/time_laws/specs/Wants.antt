@@ -1,6 +1,6 @@
 -- What requests want of the chip, by their frames, by lines and by what nodes ask for (Serial API: the functions of each; Security 0 and
 -- Transport Service Command Classes).
-use Rattle.std.specs.Prelude.{ℕ, ◌/◌, ◌%◌, ◌==◌, ◌&&◌, nat_lt, if◌then◌else◌, List, [], ◌∷◌, length}
+use Rattle.std.specs.Prelude.{ℕ, ◌/◌, ◌%◌, ◌==◌, ◌&&◌, nat_lt, Bool, if◌then◌else◌, List, [], ◌∷◌, ◌++◌, length}
 use Rattle.std.specs.List.{flat_map}
 use Rattle.chip_functions.specs.declared.function.TheConstants.{GET_INIT_DATA, GET_CAPABILITIES, SEND_DATA, GET_VERSION, MEMORY_GET_ID, GET_NODE_PROTOCOL_INFO, REQUEST_NODE_INFO, IS_FAILED_NODE, GET_ROUTING_INFO}
 use Rattle.chip_functions.specs.declared.request.Request.{Request}
@@ -27,18 +27,26 @@ use Rattle.time_laws.specs.Sessions.{Session, is_open, last_command, session_of,
 abbrev pub told_of : List ℕ → List ℕ
 told_of payload = if begins_with payload 0x98 0x80 then 0x98 ∷ 0x80 ∷ [] else payload
 
--- what a request wants: its function, its node and its payload, and not its callback id
+-- what a question about a node wants: its function and its node
+abbrev pub want_of_node : Request → List ℕ
+want_of_node (requests.GetNodeProtocolInfo node) = GET_NODE_PROTOCOL_INFO ∷ node ∷ []
+want_of_node (requests.RequestNodeInfo node) = REQUEST_NODE_INFO ∷ node ∷ []
+want_of_node (requests.IsFailedNode node) = IS_FAILED_NODE ∷ node ∷ []
+want_of_node (requests.GetRoutingInfo node bad others id) = GET_ROUTING_INFO ∷ node ∷ []
+want_of_node _ = []
+
+-- one about the chip: its function
+abbrev pub want_of_chip : Request → List ℕ
+want_of_chip requests.GetInitData = GET_INIT_DATA ∷ []
+want_of_chip requests.GetVersion = GET_VERSION ∷ []
+want_of_chip requests.MemoryGetId = MEMORY_GET_ID ∷ []
+want_of_chip requests.GetCapabilities = GET_CAPABILITIES ∷ []
+want_of_chip _ = []
+
+-- and a message: its function, its node and its payload, and not its callback id
 abbrev pub want_of : Request → List ℕ
 want_of (requests.SendData node payload options id) = SEND_DATA ∷ node ∷ told_of payload
-want_of (requests.GetNodeProtocolInfo node) = GET_NODE_PROTOCOL_INFO ∷ node ∷ []
-want_of (requests.RequestNodeInfo node) = REQUEST_NODE_INFO ∷ node ∷ []
-want_of (requests.IsFailedNode node) = IS_FAILED_NODE ∷ node ∷ []
-want_of (requests.GetRoutingInfo node bad others id) = GET_ROUTING_INFO ∷ node ∷ []
-want_of requests.GetInitData = GET_INIT_DATA ∷ []
-want_of requests.GetVersion = GET_VERSION ∷ []
-want_of requests.MemoryGetId = MEMORY_GET_ID ∷ []
-want_of requests.GetCapabilities = GET_CAPABILITIES ∷ []
-want_of _ = []
+want_of request = want_of_node request ++ want_of_chip request
 
 -- No More Information, and a Nonce Report, to a node
 abbrev pub no_more : ℕ → List ℕ
@@ -49,24 +57,31 @@ nonce_report node = SEND_DATA ∷ node ∷ 0x98 ∷ 0x80 ∷ []
 
 -- ---- lines
 
--- what a line wants, in order
+-- what a line wants of the chip about itself, or about a node, in order
+abbrev pub questions_of : Line → List (List ℕ)
+questions_of lines.Discover = (GET_INIT_DATA ∷ []) ∷ []
+questions_of lines.Probe = (GET_VERSION ∷ []) ∷ (MEMORY_GET_ID ∷ []) ∷ (GET_CAPABILITIES ∷ []) ∷ []
+questions_of (lines.Interview node) = (GET_NODE_PROTOCOL_INFO ∷ node ∷ []) ∷ (REQUEST_NODE_INFO ∷ node ∷ []) ∷ []
+questions_of (lines.Neighbours node) = (GET_ROUTING_INFO ∷ node ∷ []) ∷ []
+questions_of (lines.Failed node) = (IS_FAILED_NODE ∷ node ∷ []) ∷ []
+questions_of _ = []
+
+-- and what it wants to be sent
 abbrev pub wants_of : (ℕ → List ℕ) → List Entry → Line → List (List ℕ)
 wants_of listing past (lines.Send node word) = (SEND_DATA ∷ node ∷ send_text (host_list listing past node) word) ∷ []
 wants_of listing past (lines.Get node end) = (SEND_DATA ∷ node ∷ get_text (host_list listing past node) end) ∷ []
-wants_of listing past (lines.Interview node) = (GET_NODE_PROTOCOL_INFO ∷ node ∷ []) ∷ (REQUEST_NODE_INFO ∷ node ∷ []) ∷ []
-wants_of listing past lines.Discover = (GET_INIT_DATA ∷ []) ∷ []
-wants_of listing past (lines.Neighbours node) = (GET_ROUTING_INFO ∷ node ∷ []) ∷ []
-wants_of listing past (lines.Failed node) = (IS_FAILED_NODE ∷ node ∷ []) ∷ []
-wants_of listing past lines.Probe = (GET_VERSION ∷ []) ∷ (MEMORY_GET_ID ∷ []) ∷ (GET_CAPABILITIES ∷ []) ∷ []
-wants_of listing past _ = []
+wants_of listing past line = questions_of line
 
 -- ---- nodes
 
--- a segment of a session's message, where the message goes in segments, has one at this offset, and the id is the session's
+-- a segment of a session's message begins at this offset, and the id is the session's
+abbrev pub has_segment : ℕ → ℕ → Session → Bool
+has_segment id offset session = (session.number % 16 == id) && (offset % 39 == 0) && nat_lt offset (length session.message)
+
+-- that segment, where the message goes in segments
 abbrev pub segment_asked : ℕ → ℕ → Session → Form → List (List ℕ)
 segment_asked id offset session Cut =
-    if (session.number % 16 == id) && (offset % 39 == 0) && nat_lt offset (length session.message)
-    then (SEND_DATA ∷ session.node ∷ segment_at session (offset / 39)) ∷ [] else []
+    if has_segment id offset session then (SEND_DATA ∷ session.node ∷ segment_at session (offset / 39)) ∷ [] else []
 segment_asked id offset session _ = []
 
 -- the segment of the open session of a node that it asks for

@@ -96,7 +96,7 @@ sent_behind_end = plain_exchange ++ Written Host (bytes (codes "010E001302076C01
 -- a Get has ended in silence, 15 ticks after its acknowledgement, and that is not said
 abbrev pub left_unsaid_in_silence : List Entry
 left_unsaid_in_silence =
-    Said (codes "get 2") ∷ Written Host (bytes (codes "01090013020225022501E6")) ∷ Written Chip (bytes (codes "06")) ∷ Said (codes "tick 16") ∷ []
+    Said (codes "get 2") ∷ Written Host (bytes (codes "01090013020225022501E6")) ∷ Written Chip (bytes (codes "06")) ∷ Said (codes "tick 15") ∷ []
 
 -- both requests of an interview have ended so, and that it failed is not said
 abbrev pub left_unended_in_silence : List Entry

@@ -2,7 +2,7 @@
 
 ghost use Rattle.std.specs.Prelude.{◌≡◌, true, false, [], ◌∷◌, drop, take, codes};
 ghost use Rattle.device_stack.specs.State.{fresh};
-ghost use Rattle.device_stack.specs.declared.kind.Kind.TheVariants as kinds;
+ghost use Rattle.device_kinds.specs.declared.kind.Kind.TheVariants as kinds;
 ghost use Rattle.std.specs.List.{list_all};
 ghost use Rattle.time_laws.specs.Calm.{IsCalm, IsStill, is_not_stuck};
 ghost use Rattle.time_laws.specs.Stretches.{are_plain_listeners, IsStretch, is_quiet, is_time, is_alone, answers_all, AnswersInTime};
@@ -11,21 +11,35 @@ ghost use Rattle.time_laws.specs.WorkedWaits.{before_two, before_waking, calm_ex
 ghost use Rattle.time_laws.specs.WrongStretches.{accepted_as_switch, sensors_from, sensors_join, sensors_work, woken_before_order, woken_twice};
 ghost use Rattle.time_laws.specs.WrongWaits.{asleep_not_yet, left_in_time, reported_next, stretch_unwoken, unheard_acknowledgement};
 ghost use Rattle.zw_laws.specs.Nodes.{listing_of};
-ghost use Rattle.zw_laws.specs.Worked.{plain_exchange, sealed_exchange, sleeping_node, the_lock, the_sensor, the_switch};
+ghost use Rattle.zw_laws.specs.Worked.{plain_exchange, sealed_exchange, sleeping_node, the_lock, the_sensor, the_switch, long_message, the_plug};
 ghost use Rattle.zw_text.specs.Transcript.{joined};
-ghost use Rattle.zw_text.specs.declared.entry.Entry.TheVariants.{Said};
+ghost use Rattle.zw_text.specs.declared.entry.Entry.TheVariants.{Interviewed, Said};
+ghost use Rattle.time_laws.specs.WorkedCalm.{awake_unknown, frames_used_up, given_up_before_series, restarted_before, units_used_up, waiting_asleep, cancelled_as_switch, ordered_again, quiet_lines, succeeded_as_switch, dimmed, no_end_point, sixth_before, sixth_failed, abort_alone, abort_behind_frame, given_up_long_ago, waiting_unkept, begun_behind, ordered_before};
+ghost use Rattle.time_laws.specs.WrongCalm.{device_heard, heard_again, ordered_late, sleeper_ordered, taken_to_listen, woken_late, woken_unjoined, failed_end_point, sixth_taken, taken_back, cancelled_by_host, denied_frame};
+ghost use Rattle.time_laws.specs.WorkedTurns.{known_sleeper};
 
 /// A run begins in a calm moment, and is calm again when its command is answered, and when a node that sleeps is
-/// asleep; so are the moments before the stretches below.
+/// asleep; so are the moments before the stretches below, one in which all marks are used up, one a tick after a restart, one in which an unknown node is awake, and those in which a command waits for a node that sleeps or
+/// whose next series is to come.
 pub fn worked_calm()
     ensures first { IsCalm (listing_of (the_switch ∷ [])) (the_switch ∷ []) [] 0 }
     ensures last { IsCalm (listing_of (the_switch ∷ [])) (the_switch ∷ []) calm_exchange 500 }
     ensures sleeping { IsCalm (listing_of (the_sensor ∷ [])) (the_sensor ∷ []) sleeping_node 9 }
     ensures before_two { IsCalm (listing_of (the_switch ∷ the_other_switch ∷ [])) (the_switch ∷ the_other_switch ∷ []) before_two 2 }
     ensures before_waking { IsCalm (listing_of (the_sensor ∷ [])) (the_sensor ∷ []) before_waking 4 }
+    ensures units { IsCalm (listing_of (the_switch ∷ [])) (the_switch ∷ []) units_used_up 60 }
+    ensures frames { IsCalm (listing_of (the_switch ∷ [])) (the_switch ∷ []) frames_used_up 1 }
+    ensures restarted { IsCalm (listing_of (the_switch ∷ [])) (the_switch ∷ []) restarted_before 1 }
+    ensures unknown { IsCalm (listing_of (the_sensor ∷ [])) (the_sensor ∷ []) awake_unknown 0 }
+    ensures waiting_asleep { IsCalm (listing_of (the_sensor ∷ [])) (the_sensor ∷ []) waiting_asleep 200 }
+    ensures before_series { IsCalm (listing_of (the_switch ∷ [])) (the_switch ∷ []) given_up_before_series 99 }
+    ensures long_ago { IsCalm (listing_of (the_switch ∷ [])) (the_switch ∷ []) given_up_long_ago 200 }
+    ensures unkept { IsCalm (listing_of (the_switch ∷ [])) (the_switch ∷ []) waiting_unkept 0 }
+    ensures abort { IsCalm (listing_of (the_switch ∷ [])) (the_switch ∷ []) abort_alone 0 }
+    ensures behind_frame { IsCalm (listing_of (the_switch ∷ [])) (the_switch ∷ []) abort_behind_frame 0 }
 {}
 
-/// A moment is not calm while a frame, an acknowledgement or a unit is to be lost, changed or answered by CAN, bytes are stalled, a request is
+/// A moment is not calm while a frame, an acknowledgement or a unit is to be lost, changed or answered by CAN, which frames of devices and repeated ones leave so, bytes are stalled, a request is
 /// under way, the chip waits for an acknowledgement, a frame is on the air,
 /// a series runs, a node that does not listen is kept awake, a device is at work on a change, the host has just restarted, or a node is stuck.
 pub fn rejected_calm()
@@ -43,11 +57,15 @@ pub fn rejected_calm()
     ensures working { IsCalm (listing_of (the_switch ∷ [])) (record the_switch { work_left = 3 } ∷ []) [] 0 → ⊥ }
     ensures restarted { IsCalm (listing_of (the_switch ∷ [])) (the_switch ∷ []) (Said (codes "restart") ∷ []) 0 → ⊥ }
     ensures stuck { IsCalm (listing_of (the_switch ∷ the_sensor ∷ the_other_switch ∷ [])) (the_switch ∷ the_sensor ∷ the_other_switch ∷ []) stuck_node 104 → ⊥ }
+    ensures device_heard { IsCalm (listing_of (the_switch ∷ [])) (the_switch ∷ []) device_heard 1 → ⊥ }
+    ensures heard_again { IsCalm (listing_of (the_switch ∷ [])) (the_switch ∷ []) heard_again 1 → ⊥ }
+    ensures cancelled_by_host { IsCalm (listing_of (the_switch ∷ [])) (the_switch ∷ []) cancelled_by_host 0 → ⊥ }
+    ensures denied { IsCalm (listing_of (the_switch ∷ [])) (the_switch ∷ []) denied_frame 15 → ⊥ }
 {}
 
 /// Stretches that answer in time: of one node, of two that listen, and of one that sleeps; of one that is
 /// reached over another node; and of one whose device does not take the value of its first command, so that this fails. Sixteen nodes that sleep
-/// may be at work, and a command may stand that was accepted of a node when the host knew it as it is.
+/// may be at work, a command may stand that was accepted of a node when the host knew it as it is, or has ended or was taken back that was not, and `cut`, `show` and `store` may be said.
 pub fn worked_stretches()
     ensures one { IsStretch [] (the_switch ∷ []) [] calm_exchange }
     ensures one_in_time { is_time [] calm_exchange ≡ true }
@@ -68,12 +86,20 @@ pub fn worked_stretches()
     ensures sixteen { is_quiet [] (sensors_from 3 16) (take 32 sensors_join) (take 48 sensors_work) ≡ true }
     ensures known { is_quiet [] (the_switch ∷ []) accepted_as_switch (Said (codes "tick 500") ∷ []) ≡ true }
     ensures failing_answered { AnswersInTime [] (the_thermostat ∷ []) before_failing stretch_of_failing }
+    ensures quiet_lines { is_quiet [] (the_switch ∷ []) [] quiet_lines ≡ true }
+    ensures succeeded { is_quiet [] (fresh 2 kinds.Dimmer [] ∷ []) succeeded_as_switch ordered_again ≡ true }
+    ensures cancelled { is_quiet [] (fresh 2 kinds.Dimmer [] ∷ []) cancelled_as_switch ordered_again ≡ true }
+    ensures sixth_failed { answers_all (the_switch ∷ []) [] sixth_failed ≡ true }
+    ensures sixth_before { answers_all (the_switch ∷ []) [] sixth_before ≡ true }
+    ensures no_end_point { answers_all (fresh 2 kinds.Strip [] ∷ []) (Interviewed 2 ∷ []) no_end_point ≡ true }
+    ensures dimmed { answers_all (fresh 2 kinds.Dimmer [] ∷ []) (Interviewed 2 ∷ []) dimmed ≡ true }
+    ensures begun { answers_all (the_switch ∷ []) ordered_before begun_behind ≡ true }
 {}
 
 /// These are none: with a line that loses frames, of more than 16 nodes, without the device, of one with another key, of one that does not listen though
 /// the host takes it to, or lists other classes, now or when its command was accepted, of a node out of reach, with a node that sleeps and is not
-/// woken, before its order or twice, and with one woken that has nothing to do. Two nodes are not one, a node that
-/// sleeps and a lock are no plain listeners, and two ticks are not time enough. And where the
+/// woken, before its order or twice, and with one woken that has nothing to do or has not joined. Two nodes are not one, a node that
+/// sleeps and a lock are no plain listeners, and two ticks are not time enough, nor are those before the last order or `wake` line. And where the
 /// outcome is missing in time, the promise is broken, of one node and of nodes that listen; and where a command succeeds that its device does not
 /// take, or fails though it does.
 pub fn rejected_stretches()
@@ -96,7 +122,15 @@ pub fn rejected_stretches()
     ensures missing_together { AnswersInTime [] (the_switch ∷ []) [] left_in_time → ⊥ }
     ensures not_alone { is_alone before_two stretch_of_two ≡ false }
     ensures not_plain { are_plain_listeners (the_sensor ∷ []) before_waking stretch_of_sleeper ≡ false }
-    ensures sealed { are_plain_listeners (the_lock ∷ []) (take 14 sealed_exchange) (drop 14 sealed_exchange) ≡ false }
+    ensures sealed { are_plain_listeners (the_lock ∷ []) (take 16 sealed_exchange) (drop 16 sealed_exchange) ≡ false }
+    ensures taken_to_listen { is_quiet [] (the_sensor ∷ []) taken_to_listen sleeper_ordered ≡ false }
+    ensures unjoined { is_quiet [] (the_switch ∷ []) [] woken_unjoined ≡ false }
+    ensures ordered_late { is_time [] ordered_late ≡ false }
+    ensures woken_late { is_time known_sleeper woken_late ≡ false }
+    ensures sixth_taken { answers_all (the_switch ∷ []) [] sixth_taken ≡ false }
+    ensures failed_end_point { answers_all (fresh 2 kinds.Strip [] ∷ []) (Interviewed 2 ∷ []) failed_end_point ≡ false }
+    ensures taken_back { answers_all (fresh 2 kinds.Dimmer [] ∷ []) (Interviewed 2 ∷ []) taken_back ≡ false }
+    ensures in_segments { are_plain_listeners (the_plug ∷ []) (take 16 long_message) (drop 16 long_message) ≡ false }
 {}
 
 /// A node that is stuck: all is still and the node is ready, and its command is never answered, since nothing makes a new series due. So

@@ -18,7 +18,10 @@ mod waits;
 mod waking;
 
 pub use calm::{rejected_calm, rejected_stretches, stuck_stretches, worked_calm, worked_stretches};
-pub use queue::{rejected_queue, worked_queue, worked_turns};
-pub use requests::{rejected_requests, worked_errands, worked_interviews, worked_questions};
+pub use queue::{rejected_queue, rejected_turns, worked_queue, worked_turns};
+pub use requests::{
+    rejected_errands, rejected_interviews, rejected_questions, worked_errands, worked_interviews,
+    worked_questions,
+};
 pub use waits::{rejected_rests, rejected_waits, worked_attempts, worked_rests};
 pub use waking::{rejected_waking, worked_holds, worked_sleeping, worked_waking};

@@ -8,8 +8,12 @@ ghost use Rattle.time_laws.specs.WrongEntries.{asleep_though_listening, held_tho
 ghost use Rattle.time_laws.specs.WrongWaits.{asleep_untold, asleep_unwoken, awake_untold, given_up_awake, held_unasked, not_held, sleep_passed_over, waking_passed_over};
 ghost use Rattle.zw_laws.specs.Nodes.{listing_of};
 ghost use Rattle.zw_laws.specs.Worked.{cancelled_order, long_message, lossy_exchange, plain_exchange, repeated_exchange, restarted_host, sealed_exchange, sleeping_node, the_sensor};
+ghost use Rattle.time_laws.specs.WorkedEnds.{asleep_behind_lost, asleep_given_up, asleep_in_silence};
+ghost use Rattle.time_laws.specs.WrongEnds.{asleep_again, asleep_before_end, asleep_by_other};
+ghost use Rattle.time_laws.specs.WorkedWaking.{awake_behind_lost, awake_by_sealed, held_failing, held_unsupported};
+ghost use Rattle.time_laws.specs.WrongWaking.{awake_by_unread, held_by_other, held_unanswered, not_held_failing, not_held_unsupported, awake_behind_accepted, awake_behind_change, awake_behind_cleared, awake_behind_forgotten, awake_behind_frame, awake_behind_full, awake_behind_hearing, awake_behind_line, awake_behind_loss, awake_behind_refused, awake_behind_session, awake_behind_tick, awake_behind_unhearing, awake_behind_unit, awake_behind_note};
 
-/// In worked transcripts nodes count as awake where they tell so.
+/// In worked transcripts nodes count as awake where they tell so, behind a lost acknowledgement too, and may where what they tell is sealed.
 pub fn worked_waking()
     ensures wakes { WakesAsTold sleeping_node }
     ensures plain { WakesAsTold plain_exchange }
@@ -19,9 +23,11 @@ pub fn worked_waking()
     ensures restarted { WakesAsTold restarted_host }
     ensures sealed { WakesAsTold sealed_exchange }
     ensures cut { WakesAsTold long_message }
+    ensures lost { WakesAsTold awake_behind_lost }
+    ensures by_sealed { WakesAsTold awake_by_sealed }
 {}
 
-/// In worked transcripts nodes count as asleep where they were told that there is no more, or are given up.
+/// In worked transcripts nodes count as asleep where they were told that there is no more, in whatever way that ended, or are given up.
 pub fn worked_sleeping()
     ensures sleeps { FallsAsleep sleeping_node }
     ensures given_up { FallsAsleep given_up_asleep }
@@ -32,9 +38,12 @@ pub fn worked_sleeping()
     ensures restarted { FallsAsleep restarted_host }
     ensures sealed { FallsAsleep sealed_exchange }
     ensures cut { FallsAsleep long_message }
+    ensures lost { FallsAsleep asleep_behind_lost }
+    ensures silent { FallsAsleep asleep_in_silence }
+    ensures told_in_vain { FallsAsleep asleep_given_up }
 {}
 
-/// In worked transcripts a node is held where it asks so.
+/// In worked transcripts a node is held where it asks so, by a report of each final status.
 pub fn worked_holds()
     ensures held { HoldsAsAsked held_node }
     ensures sleeping { HoldsAsAsked sleeping_node }
@@ -45,11 +54,13 @@ pub fn worked_holds()
     ensures restarted { HoldsAsAsked restarted_host }
     ensures sealed { HoldsAsAsked sealed_exchange }
     ensures cut { HoldsAsAsked long_message }
+    ensures failing { HoldsAsAsked held_failing }
+    ensures unsupported { HoldsAsAsked held_unsupported }
 {}
 
-/// Each of these breaks one part of the laws: a node that counts as awake though it has not told so, or does not though it has;
-/// one that counts as asleep though it did not count as awake, or was told nothing, or does not though it was told or
-/// given up; one that is held unasked, or asks and is not; and one that listens, and counts as asleep or is held.
+/// Each of these breaks one part of the laws: a node that counts as awake though it has not told so, or by what cannot be read, or does not though it has;
+/// one that counts as asleep though it did not count as awake, or does so already, was told nothing, is still being told or was told something else, or does not though it was told or
+/// given up; one that is held unasked, by a report of another session, or as its command is unanswered, or asks and is not, by each status; and one that listens, and counts as asleep or is held.
 pub fn rejected_waking()
     ensures untold { WakesAsTold awake_untold → ⊥ }
     ensures passed { WakesAsTold waking_passed_over → ⊥ }
@@ -61,4 +72,27 @@ pub fn rejected_waking()
     ensures not_held { HoldsAsAsked not_held → ⊥ }
     ensures listening { FallsAsleep asleep_though_listening → ⊥ }
     ensures held_listening { HoldsAsAsked held_though_listening → ⊥ }
+    ensures again { FallsAsleep asleep_again → ⊥ }
+    ensures before_end { FallsAsleep asleep_before_end → ⊥ }
+    ensures by_other { FallsAsleep asleep_by_other → ⊥ }
+    ensures unread { WakesAsTold awake_by_unread → ⊥ }
+    ensures failing { HoldsAsAsked not_held_failing → ⊥ }
+    ensures unsupported { HoldsAsAsked not_held_unsupported → ⊥ }
+    ensures by_other_session { HoldsAsAsked held_by_other → ⊥ }
+    ensures unanswered { HoldsAsAsked held_unanswered → ⊥ }
+    ensures behind_line { WakesAsTold awake_behind_line → ⊥ }
+    ensures behind_accepted { WakesAsTold awake_behind_accepted → ⊥ }
+    ensures behind_refused { WakesAsTold awake_behind_refused → ⊥ }
+    ensures behind_tick { WakesAsTold awake_behind_tick → ⊥ }
+    ensures behind_frame { WakesAsTold awake_behind_frame → ⊥ }
+    ensures behind_hearing { WakesAsTold awake_behind_hearing → ⊥ }
+    ensures behind_loss { WakesAsTold awake_behind_loss → ⊥ }
+    ensures behind_unhearing { WakesAsTold awake_behind_unhearing → ⊥ }
+    ensures behind_change { WakesAsTold awake_behind_change → ⊥ }
+    ensures behind_unit { WakesAsTold awake_behind_unit → ⊥ }
+    ensures behind_forgotten { WakesAsTold awake_behind_forgotten → ⊥ }
+    ensures behind_full { WakesAsTold awake_behind_full → ⊥ }
+    ensures behind_cleared { WakesAsTold awake_behind_cleared → ⊥ }
+    ensures behind_session { WakesAsTold awake_behind_session → ⊥ }
+    ensures behind_note { WakesAsTold awake_behind_note → ⊥ }
 {}

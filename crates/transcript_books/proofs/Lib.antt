@@ -1,6 +1,6 @@
 pub mod Cuts
 mod Pushed
-mod Views
+pub mod Views
 mod Accepts
 mod Follows
 mod Grouped

@@ -8,9 +8,9 @@ use Rattle.zw_order.specs.declared.order.Order.{Order}
 use Rattle.host_orders.specs.Classes.{actuator_of}
 use Rattle.host_orders.specs.Settings.{settings}
 use Rattle.host_orders.specs.declared.actuator.Actuator.{Actuator}
-use Rattle.device_stack.specs.Kind.{classes_of}
-use Rattle.device_stack.specs.declared.kind.Kind.{Kind}
-use Rattle.device_stack.specs.declared.kind.Kind.TheVariants.{Relay, Switch, Dimmer, Lock, Sensor, Thermostat, Strip, Configurable}
+use Rattle.device_kinds.specs.Kind.{classes_of}
+use Rattle.device_kinds.specs.declared.kind.Kind.{Kind}
+use Rattle.device_kinds.specs.declared.kind.Kind.TheVariants.{Relay, Switch, Dimmer, Lock, Sensor, Thermostat, Strip, Configurable}
 
 -- the kind by what the node leaves modulo 8
 abbrev pub kind_by : ℕ → Kind

@@ -3,7 +3,7 @@
 ghost use Rattle.std.specs.Prelude.{◌≡◌};
 ghost use Rattle.transcript_books.specs.Asking.{actuator_by, kind_at};
 
-use device_stack::Kind;
+use device_kinds::Kind;
 use host_orders::Actuator;
 use zw_base::NodeId;
 

@@ -3,9 +3,9 @@ use Rattle.std.proofs.Common.{◌≡◌, ◌⊎◌, ℕ, suc, ◌+◌, Bool, tru
 use Rattle.std.specs.Prelude.{◌≤◌, ◌==◌, if◌then◌else◌}
 use Rattle.std.specs.List.{AllByRecursion}
 use Rattle.std.proofs.lemmas.List.{length-append}
-use Rattle.device_stack.specs.declared.change.Change.{Change}
-use Rattle.device_stack.specs.declared.verdict.Verdict.{Verdict}
-use Rattle.device_stack.specs.declared.verdict.Verdict.TheVariants.{NoSupport, Fails, Makes, Works}
+use Rattle.device_kinds.specs.declared.change.Change.{Change}
+use Rattle.device_kinds.specs.declared.verdict.Verdict.{Verdict}
+use Rattle.device_kinds.specs.declared.verdict.Verdict.TheVariants.{NoSupport, Fails, Makes, Works}
 use Rattle.device_sim.specs.State.{State}
 use Rattle.device_sim.specs.Event.{DeviceEvent, device_after}
 use Rattle.device_sim.specs.Event.DeviceEvent.{Hears, Ticks, Wakes, Sets}
@@ -38,10 +38,10 @@ pub late_by : (node : ℕ) (transcript : List Entry) (old new : State) (law : Ra
 late_by node transcript old new law early same =
     subst (λ (earlier : List DeviceEvent). Late node transcript law.more old new earlier law.late) same (record {
       runs = law.runs;
-      few = omega (arith, law.one_more, ap length law.came_late.1, length-append (comings (law.earlier ++ law.late)) law.came_late.0);
-      front = law.came_late;
-      ticked = law.ticked_late;
-      answered = law.answered_late;
+      few = omega (arith, law.lacks.one_more, ap length law.behind.came.1, length-append (comings (law.earlier ++ law.late)) law.behind.came.0);
+      front = law.behind.came;
+      ticked = law.behind.ticked;
+      answered = law.behind.answered;
     })
 
 -- one event at most, where no tick passes

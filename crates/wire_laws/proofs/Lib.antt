@@ -1,9 +1,12 @@
+mod Beginnings
 mod Computing
+mod Differing
 mod Entries
 mod Halting
 mod Keeping
 mod Listening
 mod Moves
+mod NothingHeard
 mod Overspeaking
 mod Plain
 mod Serving

@@ -25,7 +25,7 @@ unfolding own_texts
 own_append first second = flat_map-append (λ (step : Step). flat_map text_of (own_of step.outs)) first second
 
 -- outputs that answer nothing are all of the side's own
-own_all : (outs : List LinkOut) → answers_of outs ≡ [] → own_of outs ≡ outs
+pub own_all : (outs : List LinkOut) → answers_of outs ≡ [] → own_of outs ≡ outs
 own_all [] none = refl
 own_all (Write Ack ∷ outs) none = absurd (not_empty _ _ none)
 own_all (Write Nak ∷ outs) none = absurd (not_empty _ _ none)
@@ -127,7 +127,7 @@ four_own f ticks steps later (before, wait, parts, few, copied, waits) =
     subst AreTwins (sym all) refl
 
 -- nothing heard, no acknowledgement either
-not_sent : (steps : List Step) (last : Step) → items_of (steps ++ last ∷ []) ≡ [] → last.event ≡ heard (Good Ack) → ⊥
+pub not_sent : (steps : List Step) (last : Step) → items_of (steps ++ last ∷ []) ≡ [] → last.event ≡ heard (Good Ack) → ⊥
 not_sent steps last none event =
     not_empty _ _ (sym (ap (λ (one : Event). item_of one ++ []) event)
     ∙ rest_none (items_of steps) (items_of (last ∷ [])) (sym (flat_map-append (λ (step : Step). item_of step.event) steps (last ∷ [])) ∙ none))

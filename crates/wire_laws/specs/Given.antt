@@ -58,19 +58,32 @@ function_mask = map (λ i. number_with 8 (λ k. is_among known_functions (8 * i 
 abbrev pub capability_of : List State → List Entry → ℕ → ℕ
 capability_of devices past node = if (node == controller) || (is_joined past node && listens_at devices node) then 128 else 0
 
+-- what the chip tells of itself: the nodes that have joined, its functions, its version and its home id
+abbrev pub told_of_chip : List Entry → Request → List Response
+told_of_chip past asks.GetInitData = answers.GetInitData 5 0 (nodes_where (λ node. (node == controller) || is_joined past node)) 7 0 ∷ []
+told_of_chip past asks.GetCapabilities = answers.GetCapabilities 1 0 0 0 0 function_mask ∷ []
+told_of_chip past asks.GetVersion = answers.GetVersion (codes "Z-Wave 0.00" ++ 0 ∷ []) 1 ∷ []
+told_of_chip past asks.MemoryGetId = answers.MemoryGetId 1 controller ∷ []
+told_of_chip past _ = []
+
+-- what it tells of a node: whether it listens, whether it failed, and its neighbours
+abbrev pub told_of_node : List State → Course → List Entry → Request → List Response
+told_of_node devices course past (asks.GetNodeProtocolInfo node) = answers.GetNodeProtocolInfo (capability_of devices past node) 0 0 4 0 0 ∷ []
+told_of_node devices course past (asks.IsFailedNode node) = answers.IsFailedNode (has_failed course past node) ∷ []
+told_of_node devices course past (asks.GetRoutingInfo node a b c) = answers.GetRoutingInfo (nodes_where (are_linked (chip_links past) node)) ∷ []
+told_of_node devices course past _ = []
+
+-- whether it takes what it is to do
+abbrev pub taken_or_not : Course → List Entry → Request → List Response
+taken_or_not course past (asks.SendData node payload options id) =
+    answers.SendData (if takes past (under_way course past) node payload then 1 else 0) ∷ []
+taken_or_not course past (asks.RequestNodeInfo node) = answers.RequestNodeInfo 1 ∷ []
+taken_or_not course past _ = []
+
 -- the response to a request, where it has one
 abbrev pub response_to : List State → Course → List Entry → Request → List Response
-response_to devices course past asks.GetInitData = answers.GetInitData 5 0 (nodes_where (λ node. (node == controller) || is_joined past node)) 7 0 ∷ []
-response_to devices course past asks.GetCapabilities = answers.GetCapabilities 1 0 0 0 0 function_mask ∷ []
-response_to devices course past (asks.SendData node payload options id) =
-    answers.SendData (if takes past (under_way course past) node payload then 1 else 0) ∷ []
-response_to devices course past asks.GetVersion = answers.GetVersion (codes "Z-Wave 0.00" ++ 0 ∷ []) 1 ∷ []
-response_to devices course past asks.MemoryGetId = answers.MemoryGetId 1 controller ∷ []
-response_to devices course past (asks.GetNodeProtocolInfo node) = answers.GetNodeProtocolInfo (capability_of devices past node) 0 0 4 0 0 ∷ []
-response_to devices course past (asks.RequestNodeInfo node) = answers.RequestNodeInfo 1 ∷ []
-response_to devices course past (asks.IsFailedNode node) = answers.IsFailedNode (has_failed course past node) ∷ []
-response_to devices course past (asks.GetRoutingInfo node a b c) = answers.GetRoutingInfo (nodes_where (are_linked (chip_links past) node)) ∷ []
-response_to devices course past _ = []
+response_to devices course past request =
+    told_of_chip past request ++ told_of_node devices course past request ++ taken_or_not course past request
 
 abbrev pub responses_at : List State → Course → List Entry → Entry → List Given
 responses_at devices course past entry =

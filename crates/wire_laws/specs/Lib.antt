@@ -12,6 +12,9 @@ pub mod Halted
 pub mod Answering
 pub mod Worked
 pub mod WorkedCourses
+pub mod WorkedAir
+pub mod WorkedChip
+pub mod WorkedMarks
 pub mod WorkedFull
 pub mod WorkedPipes
 pub mod WorkedHalted

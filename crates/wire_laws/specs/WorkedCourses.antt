@@ -2,7 +2,7 @@
 use Rattle.std.specs.Prelude.{ℕ, ◌==◌, not, true, false, List, [], ◌∷◌, map, length, codes}
 use Rattle.serial_frame.specs.Frame.{FrameParts}
 use Rattle.serial_frame.specs.declared.frame.Kind.TheVariants.{Request, Response}
-use Rattle.serial_frame.specs.declared.unit.Unit.TheVariants.{Ack, Framed}
+use Rattle.serial_frame.specs.declared.unit.Unit.TheVariants.{Ack, Can, Framed}
 use Rattle.serial_frame.specs.declared.item.Item.TheVariants.{Good}
 use Rattle.serial_link.specs.Rules.{Step, heard, ticked}
 use Rattle.serial_link.specs.Calls.{submit_step}
@@ -119,3 +119,13 @@ passed_in_questions =
 
 abbrev pub copied_course : Course
 copied_course = record { passed = switching_on ∷ []; firsts = false ∷ true ∷ true ∷ false ∷ true ∷ [] }
+
+-- the same as steps of the chip's link: the copy is written with a tick
+abbrev pub copied_history : List Step
+copied_history =
+    hears_frame switching_on ∷ submit_step taking_it ∷ hears_ack ∷ submit_step calling_back ∷ record { event = ticked; outs = Write (Framed calling_back) ∷ [] } ∷ hears_ack
+    ∷ submit_step reporting ∷ []
+
+-- a frame that is answered CAN is not passed up
+abbrev pub collided_history : List Step
+collided_history = record { event = heard (Good (Framed switching_on)); outs = Write Can ∷ [] } ∷ []

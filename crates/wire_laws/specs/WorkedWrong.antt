@@ -1,8 +1,9 @@
 -- Transcripts like the worked ones with one entry changed, left out or put in.
 use Rattle.std.specs.Prelude.{ℕ, ◌+◌, List, [], ◌∷◌, ◌++◌, codes, take, drop}
 use Rattle.zw_words.specs.declared.side.Side.TheVariants.{Host, Chip}
+use Rattle.zw_text.specs.declared.entry.Refusal.TheVariants.{KeeperFault}
 use Rattle.zw_text.specs.declared.entry.Entry.{Entry}
-use Rattle.zw_text.specs.declared.entry.Entry.TheVariants.{Said, Written, Dropped, Garbled, Air, Heard, Lost, Unheard, Time, Forget, ChipFull}
+use Rattle.zw_text.specs.declared.entry.Entry.TheVariants.{Said, Refused, Written, Dropped, Garbled, Air, Heard, Lost, Unheard, Time, Forget, ChipFull}
 use Rattle.zw_laws.specs.Worked.{bytes, plain_exchange, lossy_exchange, restarted_host}
 use Rattle.wire_laws.specs.Worked.{rerouted, unroutable, untold, asleep, heard_twice, cut_off, aborted, questions, copied, garbled_frame, changed_in_turn}
 
@@ -159,6 +160,17 @@ spoken_over = Written Chip (bytes (codes "010500130100E8")) ∷ Written Chip (by
 
 abbrev pub host_spoke_over : List Entry
 host_spoke_over = Written Host (bytes (codes "01030002FE")) ∷ Written Host (bytes (codes "0104004105BF")) ∷ []
+
+-- the host answers what came before it restarted; and where the restart is refused
+abbrev pub answered_over_restart : List Entry
+answered_over_restart = Written Chip (bytes (codes "010500130100E8")) ∷ Said (codes "restart") ∷ Written Host (bytes (codes "06")) ∷ []
+
+abbrev pub refused_restart : List Entry
+refused_restart = with_more_at 2 (Refused KeeperFault) answered_over_restart
+
+-- the first frame of the host is answered CAN
+abbrev pub collided_at_once : List Entry
+collided_at_once = Written Host (bytes (codes "01030002FE")) ∷ Written Chip (bytes (codes "18")) ∷ []
 
 -- the callback of a SendData is left out, and what was heard after it is not
 abbrev pub callback_left_out : List Entry

@@ -8,6 +8,7 @@ ghost use Rattle.wire_laws.specs.Taking.{AirsWhatIsTaken};
 ghost use Rattle.wire_laws.specs.Answering.{AnswersInOrder, DropsWhenFull};
 ghost use Rattle.wire_laws.specs.Worked.{unroutable, untold, asleep, aborted, questions, copied, tellable, the_switches};
 ghost use Rattle.wire_laws.specs.WorkedCourses.{chip_history, without_copies, passed_in_unroutable, passed_in_untold, passed_in_asleep, passed_in_restarted, passed_in_repeated, passed_in_lossy, passed_in_cancelled, passed_in_sleeping, passed_in_sealed, passed_in_cut, passed_in_aborted, passed_in_questions, copied_course, switching_on};
+ghost use Rattle.wire_laws.specs.WorkedAir.{long_still};
 ghost use Rattle.wire_laws.specs.WorkedHalted.{sleeper};
 ghost use Rattle.wire_laws.specs.WorkedWrong.{aired_to_another, without_at, held_back, aired_otherwise, aired_again, refused_though_idle, called_otherwise, called_early, callback_left_out, brought_otherwise, routed_nowhere, told_from_afar, not_told, taken_though_busy, called_twice, neighbours_otherwise, failed_for_nothing, full_of_nothing};
 
@@ -86,10 +87,11 @@ pub fn worked_telling()
     ensures { CanTell (sleeper ∷ []) 5 0 tellable }
 {}
 
-/// Each of these breaks one part of that: the sensor has no link, has not joined, sleeps, and is not there.
+/// Each of these breaks one part of that: the sensor has no link, has not joined, sleeps, is not there, and falls asleep with the tick that it has lived then.
 pub fn rejected_telling()
     ensures apart { CanTell (sleeper ∷ []) 5 0 (without_at 0 tellable) → ⊥ }
     ensures stranger { CanTell (sleeper ∷ []) 5 0 (without_at 1 tellable) → ⊥ }
     ensures asleep { CanTell (sleeper ∷ []) 5 0 (without_at 2 tellable) → ⊥ }
     ensures nobody { CanTell [] 5 0 tellable → ⊥ }
+    ensures tired { CanTell (long_still ∷ []) 5 1 (without_at 2 tellable) → ⊥ }
 {}

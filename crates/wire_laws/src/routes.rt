@@ -6,9 +6,10 @@ ghost use Rattle.zw_text.specs.declared.entry.Entry.TheVariants.{Said};
 ghost use Rattle.route_table.specs.Walk.{Walk};
 ghost use Rattle.wire_laws.specs.Networks.{air_network};
 ghost use Rattle.wire_laws.specs.Reach.{CanBeReached};
-ghost use Rattle.wire_laws.specs.Routes.{GoesByRoute};
+ghost use Rattle.wire_laws.specs.Routes.{GoesByRoute, MayGo};
 ghost use Rattle.wire_laws.specs.Worked.{moved_away, not_learned, over_two, rerouted, the_switches};
 ghost use Rattle.wire_laws.specs.WorkedWrong.{shows_a_way, detoured, second_choice, straight_home, from_a_stranger};
+ghost use Rattle.wire_laws.specs.WorkedAir.{behind_two, beside, between_two, going_over, home_from, in_a_row, linked_late, near, other_sensor, other_switch, switches_in_a_row};
 
 /// In worked transcripts each frame goes over the route of its moment: a direct one, and one of two over a repeater, before and
 /// after the chip has forgotten a link of it.
@@ -48,4 +49,22 @@ pub fn rejected_reach()
     ensures dead { CanBeReached (the_switch ∷ []) (Said (codes "unlink 1 2") ∷ []) 2 → ⊥ }
     ensures not_learned { CanBeReached (the_switch ∷ the_sensor ∷ []) not_learned 5 → ⊥ }
     ensures moved_away { CanBeReached the_switches moved_away 2 → ⊥ }
+{}
+
+/// A frame goes over a node that listens where there is no direct link, and one of a device over a link that the chip has not learned.
+pub fn worked_walks()
+    ensures beside { MayGo (other_switch ∷ []) beside (going_over (10 ∷ []) 2) }
+    ensures late { MayGo (other_switch ∷ []) linked_late (home_from 10 (2 ∷ [])) }
+{}
+
+/// Each of these breaks one part of the law: a frame of the controller goes over a node that does not listen, over no link, over five repeaters, and over a repeater where there is a direct link; a frame of a device
+/// over a route that is not the first, over its route the wrong way round, and as if it had none where the chip does not know its link.
+pub fn rejected_walks()
+    ensures sensor { MayGo (other_sensor ∷ []) beside (going_over (10 ∷ []) 2) → ⊥ }
+    ensures unlinked { MayGo (other_switch ∷ []) over_two (going_over [] 10) → ⊥ }
+    ensures far { MayGo switches_in_a_row in_a_row (going_over (2 ∷ 3 ∷ 4 ∷ 5 ∷ 6 ∷ []) 7) → ⊥ }
+    ensures longer { MayGo (other_switch ∷ []) near (going_over (2 ∷ []) 10) → ⊥ }
+    ensures second_home { MayGo the_switches between_two (home_from 10 (18 ∷ [])) → ⊥ }
+    ensures turned { MayGo the_switches behind_two (home_from 18 (2 ∷ 10 ∷ [])) → ⊥ }
+    ensures late { MayGo (other_switch ∷ []) linked_late (home_from 10 []) → ⊥ }
 {}

@@ -3,6 +3,7 @@ use Rattle.std.proofs.Common.{◌≡◌, ℕ, zero, suc, ◌&&◌, not, Bool, tr
 use Rattle.std.specs.Prelude.{slice_get}
 use Rattle.std.specs.List.{AllByRecursion, flat_map}
 use Rattle.std.specs.Option.{unwrap_or, option_map}
+use Rattle.list_lemmas.proofs.Each.{all-append}
 use Rattle.zw_base.specs.declared.property.Setting.{Setting}
 use Rattle.zw_words.specs.declared.side.Side.{Side}
 use Rattle.zw_words.specs.declared.side.Side.TheVariants.{Host as by_host}
@@ -23,7 +24,7 @@ use Rattle.chip_sim.specs.Events.{ChipEvent, Done, Heard as chip_hears, Forgets,
 use Rattle.chip_sim.specs.Did.{judged_all}
 use Rattle.chip_sim.specs.declared.out.ChipOut.{ChipOut}
 use Rattle.chip_sim.specs.declared.out.ChipOut.TheVariants as chip_out
-use Rattle.device_stack.specs.declared.change.Change.{Change}
+use Rattle.device_kinds.specs.declared.change.Change.{Change}
 use Rattle.device_sim.specs.State.{State}
 use Rattle.device_sim.specs.Event.{DeviceEvent, device_replies}
 use Rattle.air_frames.specs.declared.ages.Refusal.{Refusal as RepeatRefusal}
@@ -42,7 +43,6 @@ use Rattle.outer_events.specs.Air.{change_entries, to_chip, sent_entries, deals}
 use Rattle.outer_events.specs.Devices.{changes_entries, new_changes, sends, acts, acts_at, acts_by_hand, shown_entries}
 use Rattle.outer_events.specs.Events.{OuterEvent, Begins_line, Begins_tick, Host_writes, Host_takes, Host_notes, Host_begins, Chip_takes, Arrives, Gives, Device_ticks, Chip_ticks, Repeats, Wakes_device, Sets_device, Shows, Joins, Discovers, Links, Loses, Loses_acks, Marks_loss, Marks_change, Clears_pipe, Collides_next, Stalls, Cuts, is_own, cleared_entries, mesh_of, steps, repeats, outcome, stamp, ticked_entry, entries}
 use Rattle.host_facts.specs.Entries.{IsAside}
-use Rattle.host_facts.proofs.Lists.{all-append}
 
 abbrev pub Asides : List Entry → Type 0
 Asides entries = AllByRecursion IsAside entries

@@ -1,5 +1,6 @@
 -- What the host puts out at an event is entered as it notes it, behind what speaks of no command.
 use Rattle.std.proofs.Common.{◌≡◌, ℕ, ◌&&◌, ◌||◌, not, Bool, true, false, if◌then◌else◌, Option, Some, None, List, [], ◌∷◌, ◌++◌, map, refl, ap, sym, ◌∙◌, subst, append_assoc, append-nil}
+use Rattle.list_lemmas.proofs.Each.{all-append}
 use Rattle.zw_text.specs.declared.entry.Entry.{Entry}
 use Rattle.zw_text.specs.declared.entry.Entry.TheVariants.{Time}
 use Rattle.serial_frame.specs.Frame.{FrameParts}
@@ -20,7 +21,6 @@ use Rattle.outer_events.specs.Did.{entries_all}
 use Rattle.zw_machine.specs.State.{begun_in, noted_by, routed}
 use Rattle.zw_machine.specs.Events.{answers}
 use Rattle.host_facts.specs.Entries.{IsAside, note_of, notes_of, entries_at}
-use Rattle.host_facts.proofs.Lists.{all-append}
 use Rattle.world_facts.proofs.Aside.{Asides, ticked_aside, write_aside}
 
 -- ---- what a host puts out: units, and then what it notes

@@ -1,16 +1,15 @@
 -- The next frame on the air arrives: it is there no longer, and only frames of devices come behind the others.
-use Rattle.std.proofs.Common.{◌≡◌, ℕ, zero, suc, ◌+◌, ◌<◌, Bool, true, false, Option, Some, None, List, [], ◌∷◌, ◌++◌, refl, sym, subst, append_assoc, arith}
-use Rattle.std.specs.Prelude.{nat_lt, ◌||◌, drop, option_map, slice_get}
+use Rattle.std.proofs.Common.{◌≡◌, ℕ, ◌+◌, ◌<◌, Bool, true, false, Option, Some, None, List, [], ◌∷◌, ◌++◌, refl, sym, subst, append_assoc, arith}
+use Rattle.std.specs.Prelude.{nat_lt, ◌||◌, option_map, slice_get}
 use Rattle.std.specs.Option.{is_none, unwrap_or}
-use Rattle.std.specs.List.{AllByRecursion}
 use Rattle.std.proofs.lemmas.List.{append-nil}
 use Rattle.route_table.specs.declared.route.Route.{Route}
 use Rattle.air_frames.specs.declared.frame.Departure.{Departure}
 use Rattle.air_frames.specs.declared.frame.Heading.TheVariants.{Homeward}
 use Rattle.air_frames.specs.Flown.{Flown}
 use Rattle.air_frames.specs.Frames.{FramesState, landing}
-use Rattle.air_frames.specs.History.{Mark, Goes as goes_mark, Begins as begins_mark, GoBetweenNodes, stamped}
-use Rattle.air_flights.specs.Flights.{Fly, flown_in, flown_now}
+use Rattle.air_frames.specs.History.{Mark, Goes as goes_mark}
+use Rattle.air_flights.specs.Flights.{Fly, flown_now}
 use Rattle.device_sim.specs.State.{State}
 use Rattle.device_sim.specs.Event.{DeviceEvent, Hears, device_replies}
 use Rattle.mesh_sim.specs.Air.{AirState, departing, is_joined, no_route}
@@ -23,6 +22,7 @@ use Rattle.mesh_sim.specs.Steps.{answered, answered_if, landed, acknowledged, he
 use Rattle.outer_events.specs.State.{Outside}
 use Rattle.outer_events.specs.Events.{Arrives, mesh_of, happens}
 use Rattle.outer_traffic.specs.Traffic.{outward}
+use Rattle.outer_traffic.proofs.Arrivals.{flight_within}
 use Rattle.world_traffic.proofs.Parts.{Airs}
 use Rattle.world_traffic.proofs.Telling.{arrived_air}
 
@@ -42,20 +42,6 @@ none_home log flights frames fly = record {
 }
 
 -- ---- each frame is of a node that has a place
-
-within_all : (before log : List Mark) → GoBetweenNodes log → AllByRecursion (λ (f : Flown). f.node < 233) (stamped before log)
-within_all before [] nodes = tt
-within_all before (goes_mark d ∷ log) nodes = (nodes.0, within_all (before ++ goes_mark d ∷ []) log nodes.1)
-within_all before (begins_mark node ∷ log) nodes = within_all (before ++ begins_mark node ∷ []) log nodes
-
-within_dropped : (n : ℕ) (fs : List Flown) → AllByRecursion (λ (f : Flown). f.node < 233) fs → AllByRecursion (λ (f : Flown). f.node < 233) (drop n fs)
-within_dropped zero fs all = all
-within_dropped (suc n) [] all = tt
-within_dropped (suc n) (f ∷ fs) all = within_dropped n fs all.1
-
-flight_within : (log : List Mark) (flight : Flown) (later : List Flown) (frames : FramesState) → Fly log (flight ∷ later) frames → flight.node < 233
-flight_within log flight later frames fly =
-    (subst (λ (fs : List Flown). AllByRecursion (λ (f : Flown). f.node < 233) fs) (sym fly.are) (within_dropped frames.landed (flown_in log) (within_all [] log fly.history.nodes))).0
 
 module _ (air : Airs) where
   -- ---- a device answers

@@ -1,5 +1,5 @@
 -- The frames on the air are those of every history, and the course of requests bounds how many are the host's.
-use Rattle.std.proofs.Common.{◌≡◌, ℕ, ◌+◌, ◌-◌, ◌≤◌, Bool, true, false, List, [], ◌∷◌, ◌++◌, length, drop, ap, sym, ◌∙◌, subst, length-drop, arith}
+use Rattle.std.proofs.Common.{◌≡◌, ℕ, ◌+◌, ◌-◌, ◌≤◌, List, [], ◌∷◌, ◌++◌, length, drop, ap, sym, ◌∙◌, subst, length-drop, arith}
 use Rattle.std.proofs.lemmas.List.{drop-drop}
 use Rattle.air_frames.specs.declared.frame.Heading.{Heading}
 use Rattle.air_frames.specs.declared.frame.Heading.TheVariants.{Outward}
@@ -10,8 +10,10 @@ use Rattle.air_frames.proofs.Logs.{length-stamped}
 use Rattle.air_flights.specs.Flights.{flown_in, Fly}
 use Rattle.outer_events.specs.State.{OuterState}
 use Rattle.request_course.specs.Requests.{Traffic}
-use Rattle.request_course.specs.Facts.{RequestFacts, one_if, flying_in, flying}
+use Rattle.request_course.specs.Facts.{RequestFacts, flying_in}
+use Rattle.request_course.proofs.Keeping.{two_by_facts}
 use Rattle.outer_traffic.specs.Traffic.{one_outward, outward, Follows}
+use Rattle.outer_traffic.proofs.Arrivals.{outward-append}
 use Rattle.world_traffic.specs.OnAir.{on_air, IsFew}
 
 -- all that fly are the last that are kept
@@ -29,26 +31,9 @@ flights_are log flights frames fly =
 
 -- ---- at most two
 
-flies_once : (calls : List Bool) → flying_in calls ≤ length calls
-flies_once [] = omega arith
-flies_once (true ∷ calls) = let later : flying_in calls ≤ length calls = flies_once calls in omega arith
-flies_once (false ∷ calls) = let later : flying_in calls ≤ length calls = flies_once calls in omega arith
-
-one_at_most : (b : Bool) → one_if b ≤ 1
-one_at_most true = omega arith
-one_at_most false = omega arith
-
-two_fly : (t : Traffic) → RequestFacts t → flying t ≤ 2
-two_fly t facts =
-    let calls : flying_in t.calls ≤ length t.calls = flies_once t.calls in
-    let each : length t.calls ≡ t.aborted + one_if t.sending = facts.each_call in
-    let few : t.aborted ≤ 1 = facts.few in
-    let one : one_if t.sending ≤ 1 = one_at_most t.sending in
-    omega arith
-
 pub hosts_few : (t : Traffic) (log : List Mark) (flights : List Flown) (o : OuterState) → Follows t log flights o → RequestFacts t → IsFew o
 hosts_few t log flights o f facts =
-    subst (λ (n : ℕ). n ≤ 2) (ap flying_in f.knows.calls ∙ sym f.await.frames ∙ ap outward (flights_are log flights o.air.frames f.fly)) (two_fly t facts)
+    subst (λ (n : ℕ). n ≤ 2) (ap flying_in f.knows.calls ∙ sym f.await.frames ∙ ap outward (flights_are log flights o.air.frames f.fly)) (two_by_facts t facts)
 
 -- with those that are on the air
 pub follows_on_air : (t : Traffic) (log : List Mark) (flights : List Flown) (o : OuterState) → Follows t log flights o → Follows t log (on_air o.air.frames) o
@@ -56,13 +41,9 @@ follows_on_air t log flights o f = subst (λ (fs : List Flown). Follows t log fs
 
 -- ---- room for one
 
-pub outward_both : (a b : List Flown) → outward (a ++ b) ≡ outward a + outward b
-outward_both [] b = omega arith
-outward_both (flight ∷ a) b = let later : outward (a ++ b) ≡ outward a + outward b = outward_both a b in omega arith
-
 pub room_before : (log : List Mark) (before : List Flown) (flight : Flown) (o : OuterState) → Fly log (before ++ flight ∷ []) o.air.frames → flight.heading ≡ Outward → IsFew o → outward before ≤ 1
 room_before log before flight o fly out few =
     let all : outward (before ++ flight ∷ []) ≤ 2 = subst (λ (fs : List Flown). outward fs ≤ 2) (sym (flights_are log (before ++ flight ∷ []) o.air.frames fly)) few in
     let one : outward (flight ∷ []) ≡ 1 = ap (λ (h : Heading). one_outward h + 0) out in
-    let both : outward (before ++ flight ∷ []) ≡ outward before + outward (flight ∷ []) = outward_both before (flight ∷ []) in
+    let both : outward (before ++ flight ∷ []) ≡ outward before + outward (flight ∷ []) = outward-append before (flight ∷ []) in
     omega arith

@@ -44,7 +44,8 @@ use Rattle.zw_machine.specs.Did.{happens_all}
 use Rattle.zw_machine.specs.Lines.{restart_events}
 use Rattle.line_facts.specs.Chip.{HasFrames}
 use Rattle.line_facts.specs.Way.{items_all}
-use Rattle.line_facts.specs.Line.{Carried, IsWhole, AreAtRest, LineAfter, Change, Grows, Becomes, up_change, host_writes, TakesWhole}
+use Rattle.zw_machine.specs.Settling.{TakesWhole}
+use Rattle.line_facts.specs.Line.{Carried, IsWhole, AreAtRest, LineAfter, Change, Grows, Becomes, up_change, host_writes}
 use Rattle.line_facts.proofs.Events.{event_after, at_rest, rests_after, all_stay}
 use Rattle.world_traffic.specs.OnAir.{on_air, IsFew, EventStaysFew, AlwaysFew}
 use Rattle.world_traffic.specs.Course.{Follows, Goes}

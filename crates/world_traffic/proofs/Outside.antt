@@ -25,7 +25,8 @@ use Rattle.outer_traffic.specs.Traffic.{flags, no_routes_due, without_frame, wor
 use Rattle.outer_traffic.specs.Traffic as outer
 use Rattle.zw_machine.specs.State.{Machine}
 use Rattle.zw_machine.specs.Events.{Event, Outside_does, May, happens}
-use Rattle.line_facts.specs.Line.{LineAfter, Change, Grows, Becomes, outer_up, OuterTakesAll}
+use Rattle.zw_machine.specs.Settling.{OuterTakesAll}
+use Rattle.line_facts.specs.Line.{LineAfter, Change, Grows, Becomes, outer_up}
 use Rattle.line_facts.proofs.Reading.{feeds_all}
 use Rattle.line_facts.proofs.Events.{event_after, at_rest, rests_after}
 use Rattle.world_traffic.specs.OnAir.{on_air, IsFew, StaysFew, fed_chip, OuterStaysFew}

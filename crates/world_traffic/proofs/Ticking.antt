@@ -32,7 +32,8 @@ use Rattle.zw_machine.specs.Fronts.{SettlesFront, OutsideTickFront, TickFront, T
 use Rattle.world_traffic.specs.OnAir.{on_air, hosts_on_air}
 use Rattle.world_traffic.specs.Course.{Follows, Goes}
 use Rattle.world_traffic.proofs.Parts.{Laws}
-use Rattle.world_traffic.proofs.Flights.{flights_are, outward_both}
+use Rattle.outer_traffic.proofs.Arrivals.{outward-append}
+use Rattle.world_traffic.proofs.Flights.{flights_are}
 use Rattle.world_traffic.proofs.Telling.{Given, given_first, device_calls, ticks_calls}
 use Rattle.world_traffic.proofs.Arriving.{Homes, arrives_home}
 use Rattle.world_traffic.proofs.Going.{Fair, AllFair, fair_first, fair_later, GoesOf, goes_nowhere, goes_both, goes_parts, goes_then, goes_as, goes_none, goes_then_front}
@@ -91,7 +92,7 @@ module _ (laws : Laws) where
       let homes : Homes log (front ++ back) n.outside.outer.air.frames =
       subst (λ (w : Outside). Homes log (front ++ back) w.outer.air.frames) (sym (outer_of m event)) (arrives_home laws.air log flight (front ++ back) m.outside drawn route fly) in
       let there : on_air n.outside.outer.air.frames ≡ front ++ (back ++ homes.home) = sym (flights_are (log ++ homes.more) ((front ++ back) ++ homes.home) n.outside.outer.air.frames homes.fly) ∙ append_assoc front back homes.home in
-      let still : outward (back ++ homes.home) ≡ 0 = none_both (outward (back ++ homes.home)) (outward back) (outward homes.home) (outward_both back homes.home) home homes.none_outward in
+      let still : outward (back ++ homes.home) ≡ 0 = none_both (outward (back ++ homes.home)) (outward back) (outward homes.home) (outward-append back homes.home) home homes.none_outward in
       subst (λ (l : List OuterEvent). GoesTo IsClear t log m (map Outside_does l)) (sym is)
       (then_to IsClear t log m event rest first
       (arrivals_go count rest (course.after_all t first.steps) (log ++ first.more) first.up first.down n front (back ++ homes.home) first.follows there (one_less (length front) count many) still more split.1))

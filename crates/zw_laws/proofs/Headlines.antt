@@ -5,10 +5,12 @@ use Rattle.std.proofs.lemmas.Bool.Decides.{nat_tests}
 use Rattle.device_stack.specs.State.{State}
 use Rattle.zw_text.specs.declared.entry.Entry.{Entry}
 use Rattle.zw_laws.specs.Headline.{Headline, HeadlineOf}
-use Rattle.zw_laws.specs.Nodes.{listing_of}
+use Rattle.zw_laws.specs.Nodes.{listing_of, is_supervised}
 use Rattle.zw_laws.specs.Once.{SucceedsAfterChange}
 use Rattle.zw_laws.specs.Sessions.{KeepsSessions}
 use Rattle.zw_laws.specs.Worked.{plain_exchange, repeated_exchange, lossy_exchange, cancelled_order, restarted_host, sleeping_node, sealed_exchange, long_message, the_switch, the_sensor, the_lock, the_plug, with_journal, turned_on, turned_on_and_off, set_apart, secured, configured}
+use Rattle.zw_laws.specs.WorkedWrong.{turned_plainly, turned_twice}
+use Rattle.zw_laws.specs.WorkedWrongLines.{the_relay}
 use Rattle.zw_laws.proofs.Computing.{computing}
 use Rattle.zw_laws.proofs.Entries.{keeps_sessions, succeeds_after}
 
@@ -35,14 +37,20 @@ pub plain_device : HeadlineOf (listing_of (the_switch ∷ [])) 2 plain_exchange 
 unfolding computing
 plain_device = record {
   once = record {
-    sessions_rise = (tt, tt);
-    sessions_begun = ((omega arith, omega arith), tt);
-    commands_rise = (tt, tt);
-    commands_accepted = (inl refl, tt);
-    settings = ((refl, tt), tt);
-    successful = (λ success. inl refl, tt);
-    undone = (λ undone has. undone, tt);
-    never_plain = (λ by. cc, tt);
+    changes = record {
+      sessions_rise = (tt, tt);
+      sessions_begun = ((omega arith, omega arith), tt);
+      settings = ((refl, tt), tt);
+      never_plain = (λ by. cc, tt);
+    };
+    carries = record {
+      commands_rise = (tt, tt);
+      commands_accepted = (inl refl, tt);
+    };
+    ends = record {
+      successful = (λ success. inl refl, tt);
+      undone = (λ undone has. undone, tt);
+    };
   };
   confirms = ((λ success. refl, tt), tt);
 }
@@ -58,14 +66,20 @@ pub repeated_device : HeadlineOf (listing_of (the_switch ∷ [])) 2 repeated_exc
 unfolding computing
 repeated_device = record {
   once = record {
-    sessions_rise = (tt, tt);
-    sessions_begun = ((omega arith, omega arith), tt);
-    commands_rise = (tt, tt);
-    commands_accepted = (inl refl, tt);
-    settings = ((refl, tt), tt);
-    successful = (λ success. inl refl, tt);
-    undone = (λ undone has. undone, tt);
-    never_plain = (λ by. cc, tt);
+    changes = record {
+      sessions_rise = (tt, tt);
+      sessions_begun = ((omega arith, omega arith), tt);
+      settings = ((refl, tt), tt);
+      never_plain = (λ by. cc, tt);
+    };
+    carries = record {
+      commands_rise = (tt, tt);
+      commands_accepted = (inl refl, tt);
+    };
+    ends = record {
+      successful = (λ success. inl refl, tt);
+      undone = (λ undone has. undone, tt);
+    };
   };
   confirms = ((λ success. refl, tt), tt);
 }
@@ -81,14 +95,20 @@ pub lossy_device : HeadlineOf (listing_of (the_switch ∷ [])) 2 lossy_exchange 
 unfolding computing
 lossy_device = record {
   once = record {
-    sessions_rise = ((omega arith, tt), (tt, tt));
-    sessions_begun = ((omega arith, omega arith), ((omega arith, omega arith), tt));
-    commands_rise = ((omega arith, tt), (tt, tt));
-    commands_accepted = (inl refl, (inr (inl refl), tt));
-    settings = ((refl, tt), ((refl, tt), tt));
-    successful = (λ success. inl refl, (λ success. inr (inl refl), tt));
-    undone = (λ undone has. undone, (λ undone has. undone, tt));
-    never_plain = (λ by. cc, (λ by. cc, tt));
+    changes = record {
+      sessions_rise = ((omega arith, tt), (tt, tt));
+      sessions_begun = ((omega arith, omega arith), ((omega arith, omega arith), tt));
+      settings = ((refl, tt), ((refl, tt), tt));
+      never_plain = (λ by. cc, (λ by. cc, tt));
+    };
+    carries = record {
+      commands_rise = ((omega arith, tt), (tt, tt));
+      commands_accepted = (inl refl, (inr (inl refl), tt));
+    };
+    ends = record {
+      successful = (λ success. inl refl, (λ success. inr (inl refl), tt));
+      undone = (λ undone has. undone, (λ undone has. undone, tt));
+    };
   };
   confirms = ((λ success. refl, tt), ((λ success. refl, tt), tt));
 }
@@ -104,14 +124,20 @@ pub cancelled_device : HeadlineOf (listing_of (the_switch ∷ [])) 2 cancelled_o
 unfolding computing
 cancelled_device = record {
   once = record {
-    sessions_rise = (tt, tt);
-    sessions_begun = ((omega arith, omega arith), tt);
-    commands_rise = (tt, tt);
-    commands_accepted = (inl refl, tt);
-    settings = ((refl, tt), tt);
-    successful = (λ success. inl refl, (λ success. absurd cc, tt));
-    undone = (λ undone has. undone, (λ undone has. elim has [ inl same ↦ omega (arith, same) | inr never ↦ never ], tt));
-    never_plain = (λ by. cc, tt);
+    changes = record {
+      sessions_rise = (tt, tt);
+      sessions_begun = ((omega arith, omega arith), tt);
+      settings = ((refl, tt), tt);
+      never_plain = (λ by. cc, tt);
+    };
+    carries = record {
+      commands_rise = (tt, tt);
+      commands_accepted = (inl refl, tt);
+    };
+    ends = record {
+      successful = (λ success. inl refl, (λ success. absurd cc, tt));
+      undone = (λ undone has. undone, (λ undone has. elim has [ inl same ↦ omega (arith, same) | inr never ↦ never ], tt));
+    };
   };
   confirms = ((λ success. refl, tt), tt);
 }
@@ -127,14 +153,20 @@ pub restarted_device : HeadlineOf (listing_of (the_switch ∷ [])) 2 restarted_h
 unfolding computing
 restarted_device = record {
   once = record {
-    sessions_rise = (tt, tt);
-    sessions_begun = ((omega arith, omega arith), tt);
-    commands_rise = (tt, tt);
-    commands_accepted = (inl refl, tt);
-    settings = ((refl, tt), tt);
-    successful = (λ success. inl refl, tt);
-    undone = (λ undone has. undone, tt);
-    never_plain = (λ by. cc, tt);
+    changes = record {
+      sessions_rise = (tt, tt);
+      sessions_begun = ((omega arith, omega arith), tt);
+      settings = ((refl, tt), tt);
+      never_plain = (λ by. cc, tt);
+    };
+    carries = record {
+      commands_rise = (tt, tt);
+      commands_accepted = (inl refl, tt);
+    };
+    ends = record {
+      successful = (λ success. inl refl, tt);
+      undone = (λ undone has. undone, tt);
+    };
   };
   confirms = ((λ success. refl, tt), tt);
 }
@@ -150,14 +182,20 @@ pub sleeping_device : HeadlineOf (listing_of (the_sensor ∷ [])) 5 sleeping_nod
 unfolding computing
 sleeping_device = record {
   once = record {
-    sessions_rise = (tt, tt);
-    sessions_begun = ((omega arith, omega arith), tt);
-    commands_rise = (tt, tt);
-    commands_accepted = (inl refl, tt);
-    settings = ((refl, tt), tt);
-    successful = (λ success. inl refl, (λ success. absurd cc, tt));
-    undone = (λ undone has. undone, (λ undone has. elim has [ inl same ↦ omega (arith, same) | inr never ↦ never ], tt));
-    never_plain = (λ by. cc, tt);
+    changes = record {
+      sessions_rise = (tt, tt);
+      sessions_begun = ((omega arith, omega arith), tt);
+      settings = ((refl, tt), tt);
+      never_plain = (λ by. cc, tt);
+    };
+    carries = record {
+      commands_rise = (tt, tt);
+      commands_accepted = (inl refl, tt);
+    };
+    ends = record {
+      successful = (λ success. inl refl, (λ success. absurd cc, tt));
+      undone = (λ undone has. undone, (λ undone has. elim has [ inl same ↦ omega (arith, same) | inr never ↦ never ], tt));
+    };
   };
   confirms = ((λ success. refl, tt), tt);
 }
@@ -173,14 +211,20 @@ pub sealed_device : HeadlineOf (listing_of (the_lock ∷ [])) 4 sealed_exchange 
 unfolding computing
 sealed_device = record {
   once = record {
-    sessions_rise = (tt, tt);
-    sessions_begun = ((omega arith, omega arith), tt);
-    commands_rise = (tt, tt);
-    commands_accepted = (inl refl, tt);
-    settings = ((refl, tt), tt);
-    successful = (λ success. inl refl, tt);
-    undone = (λ undone has. undone, tt);
-    never_plain = (λ by. cc, tt);
+    changes = record {
+      sessions_rise = (tt, tt);
+      sessions_begun = ((omega arith, omega arith), tt);
+      settings = ((refl, tt), tt);
+      never_plain = (λ by. cc, tt);
+    };
+    carries = record {
+      commands_rise = (tt, tt);
+      commands_accepted = (inl refl, tt);
+    };
+    ends = record {
+      successful = (λ success. inl refl, tt);
+      undone = (λ undone has. undone, tt);
+    };
   };
   confirms = ((λ success. refl, tt), tt);
 }
@@ -196,14 +240,20 @@ pub cut_device : HeadlineOf (listing_of (the_plug ∷ [])) 8 long_message (with_
 unfolding computing
 cut_device = record {
   once = record {
-    sessions_rise = (tt, tt);
-    sessions_begun = ((omega arith, omega arith), tt);
-    commands_rise = (tt, tt);
-    commands_accepted = (inl refl, tt);
-    settings = ((refl, tt), tt);
-    successful = (λ success. inl refl, tt);
-    undone = (λ undone has. undone, tt);
-    never_plain = (λ by. cc, tt);
+    changes = record {
+      sessions_rise = (tt, tt);
+      sessions_begun = ((omega arith, omega arith), tt);
+      settings = ((refl, tt), tt);
+      never_plain = (λ by. cc, tt);
+    };
+    carries = record {
+      commands_rise = (tt, tt);
+      commands_accepted = (inl refl, tt);
+    };
+    ends = record {
+      successful = (λ success. inl refl, tt);
+      undone = (λ undone has. undone, tt);
+    };
   };
   confirms = (
     (λ success. refl, tt),
@@ -354,3 +404,54 @@ cut = of_one _ _ long_message
     (keeps_sessions long_message ((refl, tt), tt))
     (succeeds_after long_message (record { node = 8; shown = inl refl }, tt))
     cut_device
+
+not_true : false ≡ true → ⊥
+not_true same = cc
+
+-- of a device that takes no commands in sessions it says nothing
+pub unsupervised : Headline (the_relay ∷ []) (with_journal the_relay turned_plainly ∷ []) []
+unfolding computing
+unsupervised = record {
+  sessions_keep = tt;
+  succeeds = tt;
+  devices = λ node found is supervised. absurd (
+      only (λ (node : ℕ) (found : State). is_supervised found ≡ true → ⊥) 3 node (with_journal the_relay turned_plainly) found (3 == node) refl is not_true supervised);
+}
+
+-- what holds of the first of two devices at its node holds of the first device at any node, where both are at that one
+first_only : (P : ℕ → State → Type 0) (at node : ℕ) (device other found : State) (is : Bool) → (at == node) ≡ is
+    → (if is then Some device else (if is then Some other else None)) ≡ Some found → P at device → P node found
+first_only P at node device other found true is same holds = only P at node device found true is same holds
+first_only P at node device other found false is same holds = cc
+
+-- and of a second device of a node neither
+pub second : Headline (the_switch ∷ the_switch ∷ []) (with_journal the_switch turned_on ∷ with_journal the_switch turned_twice ∷ []) plain_exchange
+unfolding computing
+second = record {
+  sessions_keep = plain.sessions_keep;
+  succeeds = plain.succeeds;
+  devices = λ node found is supervised.
+      first_only (λ (node : ℕ) (found : State). HeadlineOf (listing_of (the_switch ∷ the_switch ∷ [])) node plain_exchange found) 2 node
+      (with_journal the_switch turned_on) (with_journal the_switch turned_twice) found (2 == node) refl is second_device;
+}
+  where
+    second_device : HeadlineOf (listing_of (the_switch ∷ the_switch ∷ [])) 2 plain_exchange (with_journal the_switch turned_on)
+    second_device = record {
+      once = record {
+        changes = record {
+          sessions_rise = (tt, tt);
+          sessions_begun = ((omega arith, omega arith), tt);
+          settings = ((refl, tt), tt);
+          never_plain = (λ by. cc, tt);
+        };
+        carries = record {
+          commands_rise = (tt, tt);
+          commands_accepted = (inl refl, tt);
+        };
+        ends = record {
+          successful = (λ success. inl refl, tt);
+          undone = (λ undone has. undone, tt);
+        };
+      };
+      confirms = ((λ success. refl, tt), tt);
+    }

@@ -2,6 +2,7 @@ pub mod Comings
 mod Computing
 pub mod Deciding
 pub mod Entries
+pub mod Having
 mod Dues
 mod Ciphering
 mod Sealing

@@ -1,6 +1,6 @@
 -- How lines are answered: each order by its number or its refusal, each other line by a refusal where one is due (this
 -- project's own rule). What the keeper and the queue of requests decide is left open here.
-use Rattle.std.specs.Prelude.{◌≡◌, ◌⊎◌, ℕ, ◌+◌, ◌-◌, ◌==◌, ◌||◌, ◌&&◌, not, Bool, true, if◌then◌else◌, List, [], ◌∷◌, ◌++◌, length, take, Option, Some, None, ⊤}
+use Rattle.std.specs.Prelude.{◌≡◌, ◌⊎◌, ℕ, ◌+◌, ◌-◌, ◌==◌, ◌||◌, ◌&&◌, not, Bool, true, false, if◌then◌else◌, List, [], ◌∷◌, ◌++◌, length, take, Option, Some, None, ⊤}
 use Rattle.std.specs.List.{flat_map, list_any}
 use Rattle.std.specs.Set.{distinct_count}
 use Rattle.zw_base.specs.PropertyOrder.{same_property}
@@ -24,24 +24,32 @@ use Rattle.zw_text.specs.Transcript.{accepted, accepted_numbers, line_last, outc
 use Rattle.zw_laws.specs.Lists.{EachAfter, listed}
 use Rattle.zw_laws.specs.Nodes.{controller, device_of, is_joined, known_classes, host_list, listing_of}
 use Rattle.zw_laws.specs.Commands.{numbers_of, settings_for, waiting, is_waiting}
-use Rattle.zw_laws.specs.Restarts.{since_restart}
+use Rattle.zw_laws.specs.Restarts.{since_restart, is_restart}
 use Rattle.zw_laws.specs.Repeats.{refusal_to_repeat}
+
+-- the entry of what may refuse an order
+abbrev pub order_refusal_entry : HostRefusal → List Entry
+order_refusal_entry host.NotJoined = Refused refusals.NotJoined ∷ []
+order_refusal_entry host.NotInterviewed = Refused refusals.NotInterviewed ∷ []
+order_refusal_entry (host.Unsupported class) = Refused (refusals.Unsupported class) ∷ []
+order_refusal_entry host.BadValue = Refused refusals.BadValue ∷ []
+order_refusal_entry host.Unsupervised = Refused refusals.Unsupervised ∷ []
+order_refusal_entry (host.TooLong bytes) = Refused (refusals.TooLong bytes) ∷ []
+order_refusal_entry (host.MailboxFull waiting) = Refused (refusals.MailboxFull waiting) ∷ []
+order_refusal_entry (host.StoreFull properties) = Refused (refusals.StoreFull properties) ∷ []
+order_refusal_entry _ = []
+
+-- the entry of what else may refuse a line
+abbrev pub line_refusal_entry : HostRefusal → List Entry
+line_refusal_entry host.Secured = Refused refusals.Secured ∷ []
+line_refusal_entry (host.QueueFull waiting) = Refused (refusals.QueueFull waiting) ∷ []
+line_refusal_entry host.AlreadyJoined = Refused refusals.AlreadyJoined ∷ []
+line_refusal_entry host.KeeperFault = Refused refusals.KeeperFault ∷ []
+line_refusal_entry _ = []
 
 -- the entry of a refusal; want of memory has none
 abbrev pub refusal_entry : HostRefusal → List Entry
-refusal_entry host.NotJoined = Refused refusals.NotJoined ∷ []
-refusal_entry host.NotInterviewed = Refused refusals.NotInterviewed ∷ []
-refusal_entry (host.Unsupported class) = Refused (refusals.Unsupported class) ∷ []
-refusal_entry host.BadValue = Refused refusals.BadValue ∷ []
-refusal_entry host.Unsupervised = Refused refusals.Unsupervised ∷ []
-refusal_entry (host.TooLong bytes) = Refused (refusals.TooLong bytes) ∷ []
-refusal_entry (host.MailboxFull waiting) = Refused (refusals.MailboxFull waiting) ∷ []
-refusal_entry (host.StoreFull properties) = Refused (refusals.StoreFull properties) ∷ []
-refusal_entry host.Secured = Refused refusals.Secured ∷ []
-refusal_entry (host.QueueFull waiting) = Refused (refusals.QueueFull waiting) ∷ []
-refusal_entry host.AlreadyJoined = Refused refusals.AlreadyJoined ∷ []
-refusal_entry host.KeeperFault = Refused refusals.KeeperFault ∷ []
-refusal_entry host.NoMemory = []
+refusal_entry refusal = order_refusal_entry refusal ++ line_refusal_entry refusal
 
 -- ---- orders
 
@@ -92,33 +100,51 @@ refused_without (Some device) = []
 abbrev pub refused_unless : Bool → Refusal → List Entry
 refused_unless holds refusal = if holds then [] else Refused refusal ∷ []
 
+-- what refuses a line about a node or a command of the host
+abbrev pub refusals_by_host : List State → List Entry → Line → List Entry
+refusals_by_host devices past (lines.Cancel command) =
+    refused_unless (list_any (λ number. number == command) (accepted_numbers past) && is_waiting (outcome command past)) (refusals.NotWaiting command)
+refusals_by_host devices past (lines.Join node) = refused_unless (not (is_joined past node || node == controller)) refusals.AlreadyJoined
+refusals_by_host devices past (lines.Send node word) = flat_map refusal_entry (listed (send_refusal (known_of (listing_of devices) past node) 0 word))
+refusals_by_host devices past (lines.Get node end) = flat_map refusal_entry (listed (get_refusal (known_of (listing_of devices) past node) 0 end))
+refusals_by_host devices past (lines.Interview node) = refused_unless (is_joined past node) refusals.NotJoined
+refusals_by_host devices past _ = []
+
+-- what refuses a line about a frame or a device
+abbrev pub refusals_around : List State → List Entry → Line → List Entry
+refusals_around devices past (lines.Repeat frame) = refusal_to_repeat past frame
+refusals_around devices past (lines.Wake node) = refused_without (device_of node devices)
+refusals_around devices past (lines.Local node value) = refused_without (device_of node devices)
+refusals_around devices past (lines.Show node) = refused_without (device_of node devices)
+refusals_around devices past _ = []
+
 -- what refuses a line that is no order
 abbrev pub refusals_to : List State → List Entry → Line → List Entry
-refusals_to devices past (lines.Cancel command) =
-    refused_unless (list_any (λ number. number == command) (accepted_numbers past) && is_waiting (outcome command past)) (refusals.NotWaiting command)
-refusals_to devices past (lines.Join node) = refused_unless (not (is_joined past node || node == controller)) refusals.AlreadyJoined
-refusals_to devices past (lines.Send node word) = flat_map refusal_entry (listed (send_refusal (known_of (listing_of devices) past node) 0 word))
-refusals_to devices past (lines.Get node end) = flat_map refusal_entry (listed (get_refusal (known_of (listing_of devices) past node) 0 end))
-refusals_to devices past (lines.Interview node) = refused_unless (is_joined past node) refusals.NotJoined
-refusals_to devices past (lines.Repeat frame) = refusal_to_repeat past frame
-refusals_to devices past (lines.Wake node) = refused_without (device_of node devices)
-refusals_to devices past (lines.Local node value) = refused_without (device_of node devices)
-refusals_to devices past (lines.Show node) = refused_without (device_of node devices)
-refusals_to devices past _ = []
+refusals_to devices past line = refusals_by_host devices past line ++ refusals_around devices past line
 
--- what else may refuse a line: a full queue of requests, or the keeper
+-- whether a line asks for a place in the queue of requests
+abbrev pub is_queued : Line → Bool
+is_queued (lines.Send node word) = true
+is_queued (lines.Get node end) = true
+is_queued (lines.Interview node) = true
+is_queued lines.Discover = true
+is_queued (lines.Neighbours node) = true
+is_queued (lines.Failed node) = true
+is_queued lines.Probe = true
+is_queued _ = false
+
+-- whether a line asks for a record, beside orders and lines that take them back
+abbrev pub is_recorded : Line → Bool
+is_recorded (lines.Join node) = true
+is_recorded lines.Restart = true
+is_recorded _ = false
+
+-- what else may refuse a line: a full queue of requests, the keeper, or a bad record at a restart
 abbrev pub MayRefuse : Line → Refusal → Type 0
-MayRefuse (lines.Send node word) (refusals.QueueFull waiting) = waiting ≡ 64
-MayRefuse (lines.Get node end) (refusals.QueueFull waiting) = waiting ≡ 64
-MayRefuse (lines.Interview node) (refusals.QueueFull waiting) = waiting ≡ 64
-MayRefuse lines.Discover (refusals.QueueFull waiting) = waiting ≡ 64
-MayRefuse (lines.Neighbours node) (refusals.QueueFull waiting) = waiting ≡ 64
-MayRefuse (lines.Failed node) (refusals.QueueFull waiting) = waiting ≡ 64
-MayRefuse lines.Probe (refusals.QueueFull waiting) = waiting ≡ 64
-MayRefuse (lines.Join node) refusals.KeeperFault = ⊤
-MayRefuse lines.Restart refusals.KeeperFault = ⊤
-MayRefuse lines.Restart (refusals.BadRecord place) = ⊤
-MayRefuse _ _ = ⊥
+MayRefuse line (refusals.QueueFull waiting) = (is_queued line ≡ true) × (waiting ≡ 64)
+MayRefuse line refusals.KeeperFault = is_recorded line ≡ true
+MayRefuse line (refusals.BadRecord place) = is_restart (line ∷ []) ≡ true
+MayRefuse line _ = ⊥
 
 -- the entry of a command that is taken back, or that the keeper failed
 abbrev pub IsTakenBack : ℕ → Entry → Type 0

@@ -1,7 +1,7 @@
 -- What a device did, by the transcript (this project's own model of devices).
 use Rattle.std.specs.Prelude.{◌≡◌, ℕ, ◌+◌, ◌-◌, ◌==◌, if◌then◌else◌, List, [], ◌∷◌, ◌++◌, map, Option, Some, None}
 use Rattle.std.specs.List.{flat_map}
-use Rattle.device_stack.specs.declared.change.Change.{Change}
+use Rattle.device_kinds.specs.declared.change.Change.{Change}
 use Rattle.device_sim.specs.State.{State}
 use Rattle.device_sim.specs.Event.{DeviceEvent, device_after, device_replies}
 use Rattle.device_sim.specs.Event.DeviceEvent.{Hears, Ticks, Wakes, Sets}
@@ -104,15 +104,22 @@ sent_from node transcript = flat_map (sent_by node) (frames transcript)
 abbrev pub made_by : Change → List Made
 made_by change = map (λ setting. record { by = change.by; setting = setting }) change.settings
 
--- the device of a node went from its state at entry to that at exit by what the transcript shows and the ticks that the
--- lines ask for, in order; its changes are the `dev` entries, and its answers the frames that it sent, where all came to it when it was joined
--- and it was at no work at entry
-pub record RanAsShown (node : ℕ) (transcript : List Entry) (old new : State) : Type 0 where
-  pub events : List DeviceEvent
-  pub changes : List Change
-  pub runs : new ≡ after_events old events
+-- what came to the device of a node in events is what the transcript shows, and these are the ticks that the lines ask for
+pub record CameAsShown (node : ℕ) (transcript : List Entry) (events : List DeviceEvent) : Type 0 where
   pub came : comings events ≡ brought node transcript
   pub ticked : ticks_lived events ≡ ticks_asked (lines_run transcript)
+
+-- the changes that it made are the `dev` entries
+pub record ChangedAsShown (node : ℕ) (transcript : List Entry) (old new : State) : Type 0 where
+  pub changes : List Change
   pub changed : new.journal ≡ old.journal ++ changes
   pub entered : made node transcript ≡ flat_map made_by changes
+
+-- the device of a node went from its state at entry to that at exit by what the transcript shows and the ticks that the lines ask for, in order; its
+-- changes are shown, and its answers are the frames that it sent, where all came to it when it was joined and it was at no work at entry
+pub record RanAsShown (node : ℕ) (transcript : List Entry) (old new : State) : Type 0 where
+  pub events : List DeviceEvent
+  pub runs : new ≡ after_events old events
+  pub comes : CameAsShown node transcript events
+  pub shows : ChangedAsShown node transcript old new
   pub answered : CameJoined node transcript → old.work_left ≡ 0 → sent_from node transcript ≡ replies_in old events

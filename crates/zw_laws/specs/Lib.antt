@@ -26,3 +26,4 @@ pub mod WorkedWrongPayloads
 pub mod WorkedWrongLines
 pub mod WorkedDevices
 pub mod WorkedRepeats
+pub mod WorkedCases

@@ -4,7 +4,7 @@ use Rattle.std.specs.Prelude.{◌≡◌, ◌≤◌, ℕ, List, [], length, ⊤}
 use Rattle.std.specs.List.{flat_map, AllByRecursion}
 use Rattle.zw_base.specs.declared.property.By.TheVariants.{Plain}
 use Rattle.supervision.specs.Host.{command_at}
-use Rattle.device_stack.specs.declared.change.Change.{Change}
+use Rattle.device_kinds.specs.declared.change.Change.{Change}
 use Rattle.zw_text.specs.declared.entry.Entry.{Entry}
 use Rattle.zw_text.specs.declared.entry.Entry.TheVariants.{Out}
 use Rattle.zw_text.specs.declared.entry.Ended.TheVariants.{Success as Succeeds}
@@ -44,24 +44,35 @@ MakesWhatIsAsked listing node transcript change =
 abbrev pub IsSupervisedChange : Change → Type 0
 IsSupervisedChange change = change.by ≡ Plain → ⊥
 
--- the six parts of once only
-pub record Once (listing : ℕ → List ℕ) (node : ℕ) (transcript : List Entry) (journal : List Change) : Type 0 where
-  -- each session changed the device at most once, in order, and was begun
+-- a session of a node has begun
+abbrev pub HasBegun : ℕ → List Entry → ℕ → Type 0
+HasBegun node transcript session = (1 ≤ session) × (session ≤ length (sessions node transcript))
+
+-- each change is by a session that has begun, at most one by each and in order, and has exactly the settings of the session's command; none was made
+-- without a session
+pub record ChangesOnce (listing : ℕ → List ℕ) (node : ℕ) (transcript : List Entry) (journal : List Change) : Type 0 where
   pub sessions_rise : Rises (sessions_by journal)
-  pub sessions_begun : AllByRecursion (λ session. (1 ≤ session) × (session ≤ length (sessions node transcript))) (sessions_by journal)
-  -- sessions carry accepted commands, each at most once, in order
+  pub sessions_begun : AllByRecursion (HasBegun node transcript) (sessions_by journal)
+  pub settings : AllByRecursion (MakesWhatIsAsked listing node transcript) journal
+  pub never_plain : AllByRecursion IsSupervisedChange journal
+
+-- the sessions of a node carry accepted commands, each at most once and in order
+pub record CarriesOnce (node : ℕ) (transcript : List Entry) : Type 0 where
   pub commands_rise : Rises (sessions node transcript)
   pub commands_accepted : AllByRecursion (Has (numbers_of (accepted node transcript))) (sessions node transcript)
-  -- a change by a session has exactly the settings of its command
-  pub settings : AllByRecursion (MakesWhatIsAsked listing node transcript) journal
-  -- a command reported successful has changed the device
+
+-- a command reported successful has changed the device; one that the device refused, was cancelled or still waits has not
+pub record EndsTruly (node : ℕ) (transcript : List Entry) (journal : List Change) : Type 0 where
   pub successful : AllByRecursion (λ command. outcome command.number transcript ≡ Success →
       Has (commands_applied node transcript journal) command.number) (accepted node transcript)
-  -- a command that was refused by the device, was cancelled or still waits has not
   pub undone : AllByRecursion (λ command. IsUndone (outcome command.number transcript) →
       Has (commands_applied node transcript journal) command.number → ⊥) (accepted node transcript)
-  -- no change was made without a session
-  pub never_plain : AllByRecursion IsSupervisedChange journal
+
+-- once only: of the changes, of the sessions and of the outcomes
+pub record Once (listing : ℕ → List ℕ) (node : ℕ) (transcript : List Entry) (journal : List Change) : Type 0 where
+  pub changes : ChangesOnce listing node transcript journal
+  pub carries : CarriesOnce node transcript
+  pub ends : EndsTruly node transcript journal
 
 -- the commands of a node that the transcript shows to have changed its device, in order
 abbrev pub commands_shown : ℕ → List Entry → List ℕ

@@ -1,22 +1,24 @@
 -- What happened to the devices of worked transcripts, the records of a plain exchange, small transcripts of devices, and others with one thing wrong.
-use Rattle.std.specs.Prelude.{ℕ, false, List, [], ◌∷◌, ◌++◌, map, codes, replicate, take, drop, Some, None}
+use Rattle.std.specs.Prelude.{ℕ, true, false, List, [], ◌∷◌, ◌++◌, map, codes, replicate, take, drop, Option, Some, None}
 use Rattle.zw_base.specs.declared.property.Name.TheVariants as names
 use Rattle.zw_base.specs.declared.property.Setting.{Setting}
 use Rattle.zw_base.specs.declared.property.By.TheVariants.{Local}
 use Rattle.zw_order.specs.declared.order.Word.TheVariants.{On}
 use Rattle.zw_order.specs.declared.order.What.TheVariants.{Value}
+use Rattle.encap.specs.declared.plan.Outer.TheVariants.{None as no_outer}
 use Rattle.host_orders.specs.Settings.{setting}
 use Rattle.device_sim.specs.State.{State}
 use Rattle.device_sim.specs.Event.{DeviceEvent}
 use Rattle.device_sim.specs.Event.DeviceEvent.{Hears, Ticks, Wakes, Sets}
+use Rattle.host_keep.specs.declared.final_status.FinalStatus.{FinalStatus}
 use Rattle.host_keep.specs.declared.final_status.FinalStatus.TheVariants.{Fail, Success}
 use Rattle.host_keep.specs.declared.record.Record.{Record}
 use Rattle.host_keep.specs.declared.record.Record.TheVariants as records
-use Rattle.host_keep.specs.Kept.{KeptNode, kept_of, node_of}
+use Rattle.host_keep.specs.Kept.{KeptNode, Interview, blank_node, kept_of, node_of}
 use Rattle.zw_text.specs.declared.entry.Entry.{Entry}
-use Rattle.zw_text.specs.declared.entry.Entry.TheVariants.{Said, Air, Dev, TableEnd, TableNode, TableValue, Device}
+use Rattle.zw_text.specs.declared.entry.Entry.TheVariants.{Said, Air, Heard, Dev, TableEnd, TableNode, TableValue, Device}
 use Rattle.zw_laws.specs.Devices.{after_events}
-use Rattle.zw_laws.specs.Worked.{bytes, plain_exchange, network_key, the_switch, the_lock}
+use Rattle.zw_laws.specs.Worked.{bytes, plain_exchange, network_key, the_switch, the_sensor, the_lock}
 
 -- a tick, and a payload that is heard; nothing is drawn
 abbrev pub tick : DeviceEvent
@@ -25,7 +27,11 @@ tick = Ticks []
 abbrev pub hear : List ℕ → DeviceEvent
 hear digits = Hears (bytes digits) []
 
--- the switch hears the message, and two ticks pass
+-- the switch hears the message
+abbrev pub one_heard : List DeviceEvent
+one_heard = hear (codes "6C0101032501FF") ∷ []
+
+-- and two ticks pass
 abbrev pub switch_events : List DeviceEvent
 switch_events = hear (codes "6C0101032501FF") ∷ tick ∷ tick ∷ []
 
@@ -115,7 +121,63 @@ one_tick = Said (codes "tick 1") ∷ []
 abbrev pub woken_apart : List Entry
 woken_apart = Said (codes "wake 5") ∷ Said (codes "join 5") ∷ []
 
+-- a switch that was at work when the run began is done in its tick; what it tells then is of an earlier run
+abbrev pub switch_at_work : State
+switch_at_work = record the_switch {
+  work_left = 1;
+  work = record {
+    settings = [];
+    answer = Some (record { batch = false; session = Some (record { updates = false; id = 1 }); channel = None; outer = no_outer });
+  };
+}
+
+-- a sensor that is asleep
+abbrev pub sleeping_sensor : State
+sleeping_sensor = record the_sensor { awake = false }
+
+-- ---- what is kept of nodes
+
+-- the switch, with its one session ended so
+abbrev pub kept_ended : Option FinalStatus → KeptNode
+kept_ended ended = record plain_kept { sessions = record { command = 1; ended = ended } ∷ [] }
+
+-- what an interview of the sensor said, and what is kept of the sensor of the sleeping node with such an interview
+abbrev pub sensor_said : Interview
+sensor_said = record { listens = false; classes = 0x31 ∷ 0x80 ∷ 0x84 ∷ 0x6C ∷ [] }
+
+abbrev pub kept_sensor : Option Interview → KeptNode
+kept_sensor interview = record {
+  joined = true;
+  interview = interview;
+  waiting = 2 ∷ [];
+  sessions = record { command = 1; ended = Some Success } ∷ [];
+  given = 0;
+  live = None;
+  seen = 0;
+}
+
+-- `wake 5`, `tick 1`: a sensor that has not joined is woken before the tick
+abbrev pub woken_then_ticked : List Entry
+woken_then_ticked = Said (codes "wake 5") ∷ Said (codes "tick 1") ∷ []
+
 -- ---- with one thing wrong
+
+-- a line turns the switch off by hand, and a message that turns it off is heard
+abbrev pub set_otherwise : List Entry
+set_otherwise = Said (codes "local 2 0") ∷ []
+
+abbrev pub heard_otherwise : List Entry
+heard_otherwise = Air 1 1 2 [] (bytes (codes "6C010103250100")) ∷ Heard 1 ∷ []
+
+-- a line sets the switch of another node by hand, or wakes another node, and a message to another node is heard
+abbrev pub set_elsewhere : List Entry
+set_elsewhere = Said (codes "local 3 1") ∷ []
+
+abbrev pub woken_elsewhere : List Entry
+woken_elsewhere = Said (codes "wake 6") ∷ []
+
+abbrev pub heard_elsewhere : List Entry
+heard_elsewhere = Air 1 1 3 [] (bytes (codes "6C0101032501FF")) ∷ Heard 1 ∷ []
 
 -- the switch that was turned on by hand has fallen asleep
 abbrev pub gone_asleep : State
@@ -143,7 +205,11 @@ abbrev pub kept_otherwise : KeptNode
 kept_otherwise = record plain_kept { sessions = record { command = 2; ended = Some Success } ∷ [] }
 
 abbrev pub kept_failed : KeptNode
-kept_failed = record plain_kept { sessions = record { command = 1; ended = Some Fail } ∷ [] }
+kept_failed = kept_ended (Some Fail)
+
+-- an interview is kept of a node that has not joined
+abbrev pub kept_stranger : KeptNode
+kept_stranger = record blank_node { interview = Some sensor_said }
 
 -- the switch does not tell that it was turned on
 abbrev pub kept_silent : List Entry

@@ -4,9 +4,12 @@ use Rattle.zw_text.specs.declared.entry.Entry.{Entry}
 use Rattle.zw_text.specs.declared.entry.Entry.TheVariants.{Begin, Air}
 use Rattle.zw_laws.specs.Worked.{bytes}
 
--- a message, a segment and a sealed message, each as the first frame
+-- a message, a report, a segment and a sealed message, each as the first frame
 abbrev pub message_sent : Entry
 message_sent = Air 1 1 2 [] (bytes (codes "6C0101032501FF"))
+
+abbrev pub report_sent : Entry
+report_sent = Air 1 2 1 [] (bytes (codes "2503FF"))
 
 abbrev pub segment_sent : Entry
 segment_sent = Air 1 1 2 [] (bytes (codes "55C02F106C01012B"))
@@ -44,3 +47,17 @@ others_begun = message_sent ∷ begun_from 3 1 62
 -- the sealed message, and then one nonce shown many times
 abbrev pub shown_again : List Entry
 shown_again = sealed_sent ∷ replicate 120 (Air 2 2 1 [] (0x98 ∷ 0x80 ∷ replicate 8 1))
+
+-- sessions of its node, and then the message
+abbrev pub begun_before : List Entry
+begun_before = begun_from 2 1 62 ++ message_sent ∷ []
+
+-- nonces of both ends, and then a sealed message
+abbrev pub shown_before : List Entry
+shown_before =
+    shown_from 2 1 1 60 ++ (shown_from 1 2 61 60
+    ++ Air 121 1 2 [] (bytes (codes "988100000000000000000000000000000000010000000000000000")) ∷ [])
+
+-- the sealed message, and then nonces of another node
+abbrev pub others_shown : List Entry
+others_shown = sealed_sent ∷ shown_from 3 1 2 120

@@ -9,6 +9,7 @@ use Rattle.zw_text.specs.declared.entry.Refusal.TheVariants as refusals
 use Rattle.zw_text.specs.declared.entry.Entry.{Entry}
 use Rattle.zw_text.specs.declared.entry.Entry.TheVariants.{Said, Accepted, Refused, Begin, Written, Air, Heard, Lost, Unheard, Dev, Out, Store, Time}
 use Rattle.zw_laws.specs.Worked.{bytes, plain_exchange}
+use Rattle.zw_laws.specs.WorkedCases.{ended_so}
 
 -- an order has no answer before the next line
 abbrev pub unanswered : List Entry
@@ -44,10 +45,24 @@ abbrev pub numbered_wrongly : List Entry
 numbered_wrongly =
     Said (codes "set 2 on") ∷ Accepted 2 2 ∷ []
 
+-- an order gets the number of a command of another node
+abbrev pub numbered_for_another : List Entry
+numbered_for_another =
+    Said (codes "set 2 on") ∷ Accepted 1 3 ∷ []
+
 -- an answer stands behind no line
 abbrev pub answered_unasked : List Entry
 answered_unasked =
     Accepted 1 2 ∷ []
+
+abbrev pub refused_unasked : List Entry
+refused_unasked =
+    Refused refusals.NotJoined ∷ []
+
+-- a line that is to be refused is the last one, and is not
+abbrev pub joined_at_last : List Entry
+joined_at_last =
+    Said (codes "join 2") ∷ []
 
 -- a node joins that is joined
 abbrev pub joined_again : List Entry
@@ -71,6 +86,11 @@ cancelled_late =
 abbrev pub passed_over : List Entry
 passed_over =
     Said (codes "set 2 on") ∷ Accepted 1 2 ∷ Said (codes "cancel 1") ∷ Time 1 ∷ []
+
+-- a command waits, and the line that takes it back is refused
+abbrev pub cancel_refused : List Entry
+cancel_refused =
+    Said (codes "set 2 on") ∷ Accepted 1 2 ∷ Said (codes "cancel 1") ∷ Refused (refusals.NotWaiting 1) ∷ []
 
 -- a line takes one command back, and another is
 abbrev pub cancelled_another : List Entry
@@ -112,6 +132,14 @@ stored_before =
     Written Chip (bytes (codes "010500130100E8")) ∷ Written Host (bytes (codes "06")) ∷ Time 2 ∷ Heard 2 ∷
     Written Chip (bytes (codes "010B00040002056C0201FF0067")) ∷ Written Host (bytes (codes "06")) ∷
     Store 2 (setting 0 names.Switch 255) ∷ Out 1 endings.Success ∷ []
+
+-- a value is confirmed before anything
+abbrev pub stored_first : List Entry
+stored_first = Store 2 (setting 0 names.Switch 255) ∷ ended_so endings.Success
+
+-- a success confirms a value of another node
+abbrev pub stored_elsewhere : List Entry
+stored_elsewhere = ended_so endings.Success ++ Store 3 (setting 0 names.Switch 255) ∷ []
 
 -- a frame has not the next number
 abbrev pub numbered_apart : List Entry
@@ -185,6 +213,15 @@ abbrev pub unheard_unsent : List Entry
 unheard_unsent =
     Unheard 1 ∷ []
 
+-- a frame that was heard is lost, or unheard, in the same tick
+abbrev pub lost_again : List Entry
+lost_again =
+    Air 1 2 1 [] (bytes (codes "2503FF")) ∷ Time 1 ∷ Heard 1 ∷ Lost 1 ∷ []
+
+abbrev pub unheard_again : List Entry
+unheard_again =
+    Air 1 2 1 [] (bytes (codes "2503FF")) ∷ Time 1 ∷ Heard 1 ∷ Unheard 1 ∷ []
+
 -- a line repeats one frame, and another is heard
 abbrev pub repeated_otherwise : List Entry
 repeated_otherwise = plain_exchange ++ Said (codes "repeat 1") ∷ Heard 2 ∷ []
@@ -201,3 +238,9 @@ heard_though_marked =
     Written Host (bytes (codes "010E001302076C0101032501FF250177")) ∷ Written Chip (bytes (codes "06")) ∷
     Written Chip (bytes (codes "0104011301E8")) ∷ Air 1 1 2 [] (bytes (codes "6C0101032501FF")) ∷
     Written Host (bytes (codes "06")) ∷ Said (codes "tick 5") ∷ Time 1 ∷ Heard 1 ∷ []
+
+-- two lines mark a frame each, and the second frame is heard
+abbrev pub heard_though_both_marked : List Entry
+heard_though_both_marked =
+    Said (codes "lose 1") ∷ Said (codes "lose 1") ∷ Air 1 2 1 [] (bytes (codes "2503FF")) ∷ Air 2 2 1 [] (bytes (codes "2503FF")) ∷
+    Said (codes "tick 1") ∷ Time 1 ∷ Lost 1 ∷ Heard 2 ∷ []

@@ -1,14 +1,14 @@
 -- Lines that pass though they are to be refused, or are refused otherwise than they may be, and the heard values of lines that follow.
 use Rattle.std.specs.Prelude.{ℕ, zero, suc, ◌*◌, ◌/◌, ◌%◌, List, [], ◌∷◌, ◌++◌, map, replicate, codes}
 use Rattle.std.specs.List.{range_with_len}
-use Rattle.device_stack.specs.declared.kind.Kind.TheVariants as kinds
+use Rattle.device_kinds.specs.declared.kind.Kind.TheVariants as kinds
 use Rattle.device_stack.specs.State.{State, fresh}
 use Rattle.zw_base.specs.declared.property.Name.TheVariants as names
 use Rattle.host_orders.specs.Settings.{setting}
 use Rattle.zw_text.specs.declared.entry.Refusal.{Refusal}
 use Rattle.zw_text.specs.declared.entry.Refusal.TheVariants as refusals
 use Rattle.zw_text.specs.declared.entry.Entry.{Entry}
-use Rattle.zw_text.specs.declared.entry.Entry.TheVariants.{Said, Accepted, Refused, Interviewed, Report, Time}
+use Rattle.zw_text.specs.declared.entry.Entry.TheVariants.{Said, Accepted, Refused, Begin, Interviewed, InterviewFailed, Report, Time}
 
 -- a line passes
 abbrev pub passes : List ℕ → List Entry
@@ -22,9 +22,21 @@ refused_so words refusal = Said words ∷ Refused refusal ∷ []
 abbrev pub lets_in : List ℕ → ℕ → List Entry
 lets_in words node = Said words ∷ Accepted 1 node ∷ []
 
--- node 3 has joined, and was not interviewed; an order for it is let in
-abbrev pub let_in_unknown : List Entry
-let_in_unknown = Said (codes "join 3") ∷ lets_in (codes "set 3 on") 3
+-- node 3 has joined, and was not interviewed, and then
+abbrev pub when_joined : List Entry → List Entry
+when_joined rest = Said (codes "join 3") ∷ rest
+
+-- it was interviewed, and has not joined, and then
+abbrev pub when_interviewed : List Entry → List Entry
+when_interviewed rest = Interviewed 3 ∷ rest
+
+-- it has joined, and its interview failed, and then
+abbrev pub when_failed : List Entry → List Entry
+when_failed rest = Said (codes "join 3") ∷ InterviewFailed 3 ∷ rest
+
+-- it was interviewed, and a line by which it was to join was refused, and then
+abbrev pub when_refused : List Entry → List Entry
+when_refused rest = Said (codes "join 3") ∷ Refused refusals.KeeperFault ∷ Interviewed 3 ∷ rest
 
 -- a node has joined and was interviewed, and then
 abbrev pub when_known : List ℕ → ℕ → List Entry → List Entry
@@ -42,10 +54,10 @@ bulk_of count = codes "bulk 8 0 " ++ replicate (2 * count) 48
 abbrev pub many_reported : ℕ → List Entry
 many_reported count = map (λ place. Report 2 (setting (place / 256) (names.Config (place % 256)) 0)) (range_with_len 0 count)
 
--- so many orders for the switch are let in, from this number on, and none begins
-abbrev pub wait_from : ℕ → ℕ → List Entry
-wait_from number zero = []
-wait_from number (suc count) = Said (codes "set 2 on") ∷ Accepted number 2 ∷ wait_from (suc number) count
+-- so many of these orders for a node are let in, from this number on, and none begins
+abbrev pub wait_from : List ℕ → ℕ → ℕ → ℕ → List Entry
+wait_from words node number zero = []
+wait_from words node number (suc count) = Said words ∷ Accepted number node ∷ wait_from words node (suc number) count
 
 -- a value is reported, and then another
 abbrev pub reported_twice : List Entry
@@ -57,3 +69,7 @@ reported_before_restart = reported_twice ++ Said (codes "restart") ∷ Time 1 �
 
 abbrev pub reported_before_fault : List Entry
 reported_before_fault = reported_twice ++ Said (codes "restart") ∷ Refused refusals.KeeperFault ∷ []
+
+-- a command has begun, and the line that is to take it back passes
+abbrev pub cancel_passes : List Entry
+cancel_passes = Said (codes "set 2 on") ∷ Accepted 1 2 ∷ Begin 2 1 1 ∷ passes (codes "cancel 1")

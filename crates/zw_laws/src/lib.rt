@@ -18,13 +18,17 @@ mod once;
 mod wire;
 
 pub use air::{rejected_fates, worked_fates, worked_frames, worked_freshness, worked_losses};
-pub use device::{rejected_devices, rejected_records, worked_devices, worked_table};
+pub use device::{
+    rejected_devices, rejected_made, rejected_records, worked_devices, worked_made, worked_records,
+    worked_table,
+};
 pub use host::{
-    rejected_answers, rejected_lines, worked_answers, worked_cancels, worked_heard, worked_stores,
+    rejected_answers, rejected_lines, worked_answers, worked_bounds, worked_cancels,
+    worked_choices, worked_first, worked_heard, worked_properties, worked_refusals, worked_stores,
 };
 pub use once::{
-    rejected_headline, rejected_once, worked_headline, worked_once, worked_sessions,
-    worked_successes, worked_values,
+    rejected_headline, rejected_once, rejected_sessions, worked_confirmed, worked_headline,
+    worked_once, worked_sessions, worked_successes, worked_values,
 };
 pub use wire::{
     rejected_payloads, rejected_wire, worked_begins, worked_bringing, worked_causes,

@@ -35,7 +35,7 @@ any-append (e ∷ a) b = or_of (is_unkept e) a b (any-append a b)
     or_of true a b ih = refl
     or_of false a b ih = ih
 
-rose_either : (x y : Bool) (f g k : ℕ) → f ≤ g → g ≤ k → RoseIf x f g → RoseIf y g k → RoseIf (x || y) f k
+pub rose_either : (x y : Bool) (f g k : ℕ) → f ≤ g → g ≤ k → RoseIf x f g → RoseIf y g k → RoseIf (x || y) f k
 rose_either true y f g k before later rose rose' = rose_by_later f g k before later rose
 rose_either false true f g k before later rose rose' = rose_since f g k before later rose'
 rose_either false false f g k before later rose rose' = tt

@@ -39,7 +39,7 @@ texts_nil (Some kept) = ap (λ (l : List (List ℕ)). Some l) (append-nil kept)
 
 -- ---- routing
 
-routed-append : (a b : List HostOut) → routed (a ++ b) ≡ routed a ++ routed b
+pub routed-append : (a b : List HostOut) → routed (a ++ b) ≡ routed a ++ routed b
 routed-append [] b = refl
 routed-append (x ∷ a) b = ap (λ (l : List OuterEvent). routed_one x ++ l) (routed-append a b) ∙ sym (append_assoc (routed_one x) (routed a) (routed b))
 

@@ -5,3 +5,5 @@ pub mod Silence
 pub mod Taking
 pub mod Schedules
 pub mod Pieces
+pub mod Own
+pub mod Along

@@ -21,7 +21,7 @@ use Rattle.zw_machine.specs.Events.{Event, Host_does, Host_takes, fed, happens, 
 use Rattle.zw_machine.specs.Did.{Counted, Run, Schedule, Stops}
 use Rattle.zw_machine.proofs.Hosting.{adds_is, rose_any, routed_still, devices_host-all, records_host-all, may_host-all, all_of_host, stopped_by}
 
-or_false : (b : Bool) → (b || false) ≡ b
+pub or_false : (b : Bool) → (b || false) ≡ b
 or_false true = refl
 or_false false = refl
 

@@ -24,6 +24,11 @@ abbrev pub MayAll : Machine → List Event → Type 0
 MayAll m [] = Unit {0}
 MayAll m (event ∷ events) = May m event × MayAll (happens m event) events
 
+-- each of them has this, at the machine as it is then
+abbrev pub AllAlong : (Machine → Event → Type 0) → Machine → List Event → Type 0
+AllAlong Has m [] = Unit {0}
+AllAlong Has m (event ∷ events) = Has m event × AllAlong Has (happens m event) events
+
 -- ---- faults of the keeper
 
 abbrev pub is_keeper_fault : Refusal → Bool

@@ -6,8 +6,9 @@ use Rattle.serial_frame.specs.Stream.{Rest}
 use Rattle.host_events.specs.Events.{HostEvent}
 use Rattle.host_events.specs.Pumping.{Pumps}
 use Rattle.outer_events.specs.State.{is_stalled}
-use Rattle.outer_events.specs.Events.{OuterEvent}
+use Rattle.outer_events.specs.Events.{OuterEvent, Chip_takes}
 use Rattle.outer_events.specs.Schedules.{ChipTakes}
+use Rattle.zw_machine.specs.State.{Machine}
 use Rattle.zw_machine.specs.Events.{Event, Outside_does, Host_does, Host_takes}
 use Rattle.zw_machine.specs.Did.{happens_all, Schedule, Then}
 
@@ -53,3 +54,15 @@ Passes (suc more) m events =
 -- the whole settling
 abbrev pub Settles : Schedule
 Settles = Then IsPump (Passes 64)
+
+-- ---- who takes bytes
+
+-- each side takes all bytes that are there
+abbrev pub OuterTakesAll : Machine → OuterEvent → Type 0
+OuterTakesAll m (Chip_takes count rest ways) = count ≡ length m.outside.outer.to_chip.bytes
+OuterTakesAll m event = Unit {0}
+
+abbrev pub TakesWhole : Machine → Event → Type 0
+TakesWhole m (Outside_does event) = OuterTakesAll m event
+TakesWhole m (Host_takes count rest items events) = count ≡ length m.outside.outer.to_host.bytes
+TakesWhole m event = Unit {0}

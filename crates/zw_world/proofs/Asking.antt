@@ -30,9 +30,9 @@ use Rattle.host_events.specs.Events.{Joins as joins_host}
 use Rattle.host_events.specs.Did.{Did, RoseIf, after_all, outs_all, records_all, texts_of}
 use Rattle.host_events.specs.Asking.{places_refusal, carriage_for, Waits}
 use Rattle.host_events.specs.declared.out.HostOut.{HostOut}
-use Rattle.host_state.specs.Choices.{Judges}
-use Rattle.host_core.specs.Calls.{DoesAlone, Are, scene}
-use Rattle.host_core.specs.Calls as calls
+use Rattle.host_taking.specs.Calls.{DoesAlone, Are, scene}
+use Rattle.host_taking.specs.Calls as calls
+use Rattle.host_effects.specs.Choices.{Judges}
 use Rattle.host_core.specs.Orders.{KeptOrRefused, CancelsOrNot, question_event, places_of}
 use Rattle.host_core.specs.declared.orders.Question.{Question}
 use Rattle.host_core.specs.declared.orders.Question.TheVariants.{Members, Neighbours, Failed, Probe}
@@ -50,9 +50,10 @@ use Rattle.zw_machine.specs.Lines.{Asks, IsDone, IsDiscovery, IsEffect}
 use Rattle.zw_machine.proofs.Doing.{ran_both}
 use Rattle.zw_machine.proofs.Hosting.{Silent, adds_is, rose_any}
 use Rattle.zw_machine.proofs.Outside.{ran_outside}
+use Rattle.world_sides.specs.Scene.{scene_of}
+use Rattle.world_sides.proofs.Scenes.{ran_hosted, nothing_goes, quiet_goes, stopped_hosted, stopped_still}
 use Rattle.zw_world.specs.Effects.{Answers, IsAsked, shown_uncancelled}
-use Rattle.zw_world.proofs.Scenes.{at, ran_hosted, ran_refuses, nothing_goes, quiet_goes, quiet_run, none_more, stopped_hosted, stopped_still}
-use Rattle.zw_world.proofs.Hosting.{did_as}
+use Rattle.zw_world.proofs.Scenes.{ran_refuses, quiet_run, none_more, did_as}
 
 -- ---- which rules are no fault of the keeper
 
@@ -178,23 +179,23 @@ pub asks : {A : Type 0} (answer : Result A Refused) (rule : Option Refused) (lin
     → Silent (e ∷ []) → is_fault rule ≡ false → ((entered : Refusal) → IsRefusedBy rule entered → IsRefused (machine keys host o r ds) line entered)
     → RefusesOrNone answer rule → OnOk answer (DoesAlone (Are (e ∷ [])) host.state [] host'.state []) → host'.decoder ≡ host.decoder → OnErr answer (host' ≡ host)
     → Answers answer o o' before all
-    → Does (λ (m : Machine) (es : List Event). Asks rule line e es) (at keys host o ds r before f) (at keys host' o' ds r all f)
+    → Does (λ (m : Machine) (es : List Event). Asks rule line e es) (scene_of keys host o ds r before f) (scene_of keys host' o' ds r all f)
 asks (Ok value) rule line e keys host host' o o' ds r before all f silent fair refused judged does decoder same done =
-    let ran : Run (Host_does e ∷ []) (at keys host o ds r before f) (at keys host' o ds r before f) =
+    let ran : Run (Host_does e ∷ []) (scene_of keys host o ds r before f) (scene_of keys host' o ds r before f) =
     ran_hosted (e ∷ []) keys host host' o o ds r r [] [] before before f f silent refl (alone_did e host.state host'.state r f does) decoder (nothing_goes o before) in (
       Host_does e ∷ [],
       subst (λ (x : Option Refused). Asks x line e (Host_does e ∷ [])) (sym judged) refl,
-      subst (λ (l : List Entry). Run (Host_does e ∷ []) (at keys host o ds r before f) (at keys host' o' ds r l f)) (sym done.1)
-          (subst (λ (x : OuterState). Run (Host_does e ∷ []) (at keys host o ds r before f) (at keys host' x ds r before f)) (sym done.0) ran),
+      subst (λ (l : List Entry). Run (Host_does e ∷ []) (scene_of keys host o ds r before f) (scene_of keys host' o' ds r l f)) (sym done.1)
+          (subst (λ (x : OuterState). Run (Host_does e ∷ []) (scene_of keys host o ds r before f) (scene_of keys host' x ds r before f)) (sym done.0) ran),
     )
 asks (Err why) rule line e keys host host' o o' ds r before all f silent fair refused (inl judged) does decoder same done =
     let (entered, seen, goes) = done in
-    let ran : Run (refuses line entered ∷ []) (at keys host o ds r before f) (at keys host o' ds r all f) =
+    let ran : Run (refuses line entered ∷ []) (scene_of keys host o ds r before f) (scene_of keys host o' ds r all f) =
     ran_refuses line entered keys host o o' ds r before all f f (refused entered (by_rule rule why entered judged seen)) goes
     (rose_entered why entered f f seen (fair_rose rule why f fair judged)) (omega arith) in (
       refuses line entered ∷ [],
       subst (λ (x : Option Refused). Asks x line e (refuses line entered ∷ [])) (sym judged) (entered, seen, refl),
-      subst (λ (x : HostParts). Run (refuses line entered ∷ []) (at keys host o ds r before f) (at keys x o' ds r all f)) (sym same) ran,
+      subst (λ (x : HostParts). Run (refuses line entered ∷ []) (scene_of keys host o ds r before f) (scene_of keys x o' ds r all f)) (sym same) ran,
     )
 asks (Err why) rule line e keys host host' o o' ds r before all f silent fair refused (inr judged) does decoder same done =
     let (entered, seen, goes) = done in
@@ -221,12 +222,12 @@ question_refused Probe keys host o ds r entered by = by
 
 -- the chip's table is made, and then the members are asked for
 pub discovers : (keys keys' : Keys) (host host' : HostParts) (o mid o' : OuterState) (ds : List State) (r : Option (List (List ℕ))) (before all : List Entry) (f : ℕ)
-    → Goes (Discovers ∷ []) o mid [] [] → Does (IsAsked Members) (at keys host mid ds r before f) (at keys' host' o' ds r all f)
-    → Does IsDiscovery (at keys host o ds r before f) (at keys' host' o' ds r all f)
+    → Goes (Discovers ∷ []) o mid [] [] → Does (IsAsked Members) (scene_of keys host mid ds r before f) (scene_of keys' host' o' ds r all f)
+    → Does IsDiscovery (scene_of keys host o ds r before f) (scene_of keys' host' o' ds r all f)
 discovers keys keys' host host' o mid o' ds r before all f goes (asked, are, ran) = (
   Outside_does Discovers ∷ asked,
   (asked, are, refl),
-  ran_both (Outside_does Discovers ∷ []) asked (at keys host o ds r before f) (at keys host mid ds r before f) (at keys' host' o' ds r all f)
+  ran_both (Outside_does Discovers ∷ []) asked (scene_of keys host o ds r before f) (scene_of keys host mid ds r before f) (scene_of keys' host' o' ds r all f)
       (ran_outside (Discovers ∷ []) (machine keys host o r ds) (outside mid ds) before before f (refl, tt) (quiet_goes (Discovers ∷ []) o mid before goes ds)) ran,
 )
 
@@ -236,7 +237,7 @@ discovers keys keys' host host' o mid o' ds r before all f goes (asked, are, ran
 pub ran_answered : (e : HostEvent) (keys : Keys) (host host' : HostParts) (o o' : OuterState) (ds : List State) (r r' : Option (List (List ℕ))) (before all : List Entry) (f g : ℕ)
     → Did (e ∷ []) host.state host'.state [] [] (record { records = r; faults = f }) (record { records = r'; faults = g }) → host'.decoder ≡ host.decoder
     → Goes (notes (answers host.state e)) o o' before all
-    → Run (Host_does e ∷ []) (at keys host o ds r before f) (at keys host' o' ds r' all g)
+    → Run (Host_does e ∷ []) (scene_of keys host o ds r before f) (scene_of keys host' o' ds r' all g)
 unfolding happens entries May
 ran_answered e keys host host' o o' ds r r' before all f g did decoder goes =
     let went = goes ds in
@@ -262,12 +263,12 @@ ran_answered e keys host host' o o' ds r r' before all f g did decoder goes =
 pub refused_done : (line : Line) (these : List Event) (entered : Refusal) (keys : Keys) (host host' : HostParts) (o o' : OuterState) (ds : List State) (r r' : Option (List (List ℕ))) (before all : List Entry) (f g : ℕ)
     → host' ≡ host → OptAdds r r' [] → IsRefused (machine keys host o r ds) line entered → Goes (Host_notes (refused_entry entered) ∷ []) o o' before all
     → RoseIf (is_keeper_fault entered) f g → f ≤ g
-    → Does (λ (m : Machine) (es : List Event). IsDone line these es) (at keys host o ds r before f) (at keys host' o' ds r' all g)
+    → Does (λ (m : Machine) (es : List Event). IsDone line these es) (scene_of keys host o ds r before f) (scene_of keys host' o' ds r' all g)
 refused_done line these entered keys host host' o o' ds r r' before all f g same kept may goes rose falls = (
   refuses line entered ∷ [],
   inr (entered, refl),
-  subst (λ (x : Option (List (List ℕ))). Run (refuses line entered ∷ []) (at keys host o ds r before f) (at keys host' o' ds x all g)) (sym (none_more r r' kept))
-      (subst (λ (x : HostParts). Run (refuses line entered ∷ []) (at keys host o ds r before f) (at keys x o' ds r all g)) (sym same)
+  subst (λ (x : Option (List (List ℕ))). Run (refuses line entered ∷ []) (scene_of keys host o ds r before f) (scene_of keys host' o' ds x all g)) (sym (none_more r r' kept))
+      (subst (λ (x : HostParts). Run (refuses line entered ∷ []) (scene_of keys host o ds r before f) (scene_of keys x o' ds r all g)) (sym same)
       (ran_refuses line entered keys host o o' ds r before all f g may goes rose falls)),
 )
 
@@ -312,11 +313,11 @@ uncancelled_rose command fault entered f g seen rose = subst (λ (x : Option Ref
 pub joins : (node : ℕ) (keys : Keys) (host host' : HostParts) (o o' : OuterState) (ds : List State) (r r' : Option (List (List ℕ))) (before : List Entry) (f g : ℕ)
     → Did (joins_host node ∷ []) host.state host'.state [] [] (record { records = r; faults = f }) (record { records = r'; faults = g }) → host'.decoder ≡ host.decoder
     → GoesFor ds (IsOne (Joins node)) o o' [] []
-    → Does (λ (m : Machine) (es : List Event). IsDone (Join node) (Host_does (joins_host node) ∷ Outside_does (Joins node) ∷ []) es) (at keys host o ds r before f) (at keys host' o' ds r' before g)
+    → Does (λ (m : Machine) (es : List Event). IsDone (Join node) (Host_does (joins_host node) ∷ Outside_does (Joins node) ∷ []) es) (scene_of keys host o ds r before f) (scene_of keys host' o' ds r' before g)
 joins node keys host host' o o' ds r r' before f g did decoder (es, are, run) = (
   Host_does (joins_host node) ∷ Outside_does (Joins node) ∷ [],
   inl refl,
-  ran_both (Host_does (joins_host node) ∷ []) (Outside_does (Joins node) ∷ []) (at keys host o ds r before f) (at keys host' o ds r' before g) (at keys host' o' ds r' before g)
+  ran_both (Host_does (joins_host node) ∷ []) (Outside_does (Joins node) ∷ []) (scene_of keys host o ds r before f) (scene_of keys host' o ds r' before g) (scene_of keys host' o' ds r' before g)
       (ran_hosted (joins_host node ∷ []) keys host host' o o ds r r' [] [] before before f g ((λ h. refl), tt) refl did decoder (nothing_goes o before))
       (ran_outside (Joins node ∷ []) (machine keys host' o r' ds) (outside o' ds) before before g (refl, tt)
       (quiet_run (Joins node ∷ []) (outside o ds) (outside o' ds) before (subst (λ x. Rattle.outer_events.specs.Did.Run x (outside o ds) (outside o' ds) [] []) are run))),
@@ -328,11 +329,11 @@ pub accepted : {T E : Type 0} (answer : Result T E) (order : Order) (number : �
     → calls.Does (Are (Accepts order (carriage_for host.state order) ∷ [])) (scene host.state [] r f) (scene mid.state [] r' g) → mid.decoder ≡ host.decoder
     → number ≡ length host.state.commands + 1 → keys' ≡ keys → host' ≡ mid
     → OnOk answer (Goes (Host_notes (Accepted number order.node) ∷ []) o o' before all)
-    → OnOk answer ((ds : List State) → Does (IsEffect (Command order)) (at keys host o ds r before f) (at keys' host' o' ds r' all g))
+    → OnOk answer ((ds : List State) → Does (IsEffect (Command order)) (scene_of keys host o ds r before f) (scene_of keys' host' o' ds r' all g))
 accepted (Err fault) order number keys keys' host mid host' o o' r r' before all f g does decoder is same_keys same_host goes = tt
 accepted (Ok value) order number keys keys' host mid host' o o' r r' before all f g does decoder is same_keys same_host goes = λ ds.
     let e = Accepts order (carriage_for host.state order) in
-    did_as (IsEffect (Command order)) (at keys host o ds r before f) keys keys' mid host' o' ds r' all g same_keys same_host (
+    did_as (IsEffect (Command order)) (scene_of keys host o ds r before f) keys keys' mid host' o' ds r' all g same_keys same_host (
       Host_does e ∷ [],
       inl refl,
       ran_answered e keys host mid o o' ds r r' before all f g
@@ -343,10 +344,10 @@ accepted (Ok value) order number keys keys' host mid host' o o' r r' before all 
 pub cancelled : {T E : Type 0} (answer : Result T E) (command : ℕ) (keys keys' : Keys) (host mid host' : HostParts) (o o' : OuterState) (r r' : Option (List (List ℕ))) (before all : List Entry) (f g : ℕ)
     → calls.Does (Are (Cancels command ∷ [])) (scene host.state [] r f) (scene mid.state [] r' g) → mid.decoder ≡ host.decoder → keys' ≡ keys → host' ≡ mid
     → OnOk answer (Goes (Host_notes (Out command Cancelled) ∷ []) o o' before all)
-    → OnOk answer ((ds : List State) → Does (IsEffect (Cancel command)) (at keys host o ds r before f) (at keys' host' o' ds r' all g))
+    → OnOk answer ((ds : List State) → Does (IsEffect (Cancel command)) (scene_of keys host o ds r before f) (scene_of keys' host' o' ds r' all g))
 cancelled (Err fault) command keys keys' host mid host' o o' r r' before all f g does decoder same_keys same_host goes = tt
 cancelled (Ok value) command keys keys' host mid host' o o' r r' before all f g does decoder same_keys same_host goes = λ ds.
-    did_as (IsEffect (Cancel command)) (at keys host o ds r before f) keys keys' mid host' o' ds r' all g same_keys same_host (
+    did_as (IsEffect (Cancel command)) (scene_of keys host o ds r before f) keys keys' mid host' o' ds r' all g same_keys same_host (
       Host_does (Cancels command) ∷ [],
       inl refl,
       ran_answered (Cancels command) keys host mid o o' ds r r' before all f g
@@ -356,7 +357,7 @@ cancelled (Ok value) command keys keys' host mid host' o o' r r' before all f g 
 -- the host did its event, and then memory was wanting
 pub event_stops : {T E : Type 0} (answer : Result T E) (e : HostEvent) (keys keys' : Keys) (host mid host' : HostParts) (o o' : OuterState) (r r' : Option (List (List ℕ))) (before all : List Entry) (f g : ℕ)
     → calls.Does (Are (e ∷ [])) (scene host.state [] r f) (scene mid.state [] r' g) → OnErr answer (all ≡ before)
-    → OnErr answer ((ds : List State) → Stops Nothing (at keys host o ds r before f) (at keys' host' o' ds r' all g))
+    → OnErr answer ((ds : List State) → Stops Nothing (scene_of keys host o ds r before f) (scene_of keys' host' o' ds r' all g))
 event_stops (Ok value) e keys keys' host mid host' o o' r r' before all f g does same = tt
 event_stops (Err fault) e keys keys' host mid host' o o' r r' before all f g does same = λ ds.
     stopped_hosted does.events keys keys' host host' o o' ds r r' mid.state [] [] before all f g does.did same
@@ -367,14 +368,14 @@ pub refusal_done : {T E : Type 0} (answer : Result T E) (line : Line) (these : L
     → ((entered : Refusal) → seen ≡ Some entered → RoseIf (is_keeper_fault entered) f g)
     → mid ≡ host → OptAdds r r' [] → f ≤ g → keys' ≡ keys → host' ≡ mid
     → OnOk answer ((entered : Refusal) × (seen ≡ Some entered) × Goes (Host_notes (refused_entry entered) ∷ []) o o' before all)
-    → OnOk answer ((ds : List State) → Does (λ (m : Machine) (es : List Event). IsDone line these es) (at keys host o ds r before f) (at keys' host' o' ds r' all g))
+    → OnOk answer ((ds : List State) → Does (λ (m : Machine) (es : List Event). IsDone line these es) (scene_of keys host o ds r before f) (scene_of keys' host' o' ds r' all g))
 refusal_done (Err fault) line these seen keys keys' host mid host' o o' r r' before all f g may rose same kept falls same_keys same_host goes = tt
 refusal_done (Ok value) line these seen keys keys' host mid host' o o' r r' before all f g may rose same kept falls same_keys same_host (entered, is, goes) = λ ds.
-    did_as (λ (m : Machine) (es : List Event). IsDone line these es) (at keys host o ds r before f) keys keys' mid host' o' ds r' all g same_keys same_host
+    did_as (λ (m : Machine) (es : List Event). IsDone line these es) (scene_of keys host o ds r before f) keys keys' mid host' o' ds r' all g same_keys same_host
     (refused_done line these entered keys host mid o o' ds r r' before all f g same kept (may entered is ds) goes (rose entered is) falls)
 
 pub refusal_stops : {T E : Type 0} (answer : Result T E) (keys keys' : Keys) (host host' : HostParts) (o o' : OuterState) (r r' : Option (List (List ℕ))) (before all : List Entry) (f g : ℕ)
-    → OptAdds r r' [] → f ≤ g → OnErr answer (all ≡ before) → OnErr answer ((ds : List State) → Stops Nothing (at keys host o ds r before f) (at keys' host' o' ds r' all g))
+    → OptAdds r r' [] → f ≤ g → OnErr answer (all ≡ before) → OnErr answer ((ds : List State) → Stops Nothing (scene_of keys host o ds r before f) (scene_of keys' host' o' ds r' all g))
 refusal_stops (Ok value) keys keys' host host' o o' r r' before all f g kept falls same = tt
 refusal_stops (Err fault) keys keys' host host' o o' r r' before all f g kept falls same = λ ds.
     stopped_still Nothing keys keys' host host' o o' ds r r' before all f g refl (none_more r r' kept) same falls
@@ -384,15 +385,15 @@ pub asked : {A T E : Type 0} (answer : Result T E) (said : Result A Refused) (ru
     → Silent (e ∷ []) → is_fault rule ≡ false → ((ds : List State) (r : Option (List (List ℕ))) (entered : Refusal) → IsRefusedBy rule entered → IsRefused (machine keys host o r ds) line entered)
     → RefusesOrNone said rule → OnOk said (DoesAlone (Are (e ∷ [])) host.state [] mid.state []) → mid.decoder ≡ host.decoder → OnErr said (mid ≡ host) → keys' ≡ keys → host' ≡ mid
     → OnOk answer (Answers said o o' before all)
-    → OnOk answer ((ds : List State) (r : Option (List (List ℕ))) (f : ℕ) → Does (λ (m : Machine) (es : List Event). Asks rule line e es) (at keys host o ds r before f) (at keys' host' o' ds r all f))
+    → OnOk answer ((ds : List State) (r : Option (List (List ℕ))) (f : ℕ) → Does (λ (m : Machine) (es : List Event). Asks rule line e es) (scene_of keys host o ds r before f) (scene_of keys' host' o' ds r all f))
 asked (Err fault) said rule line e keys keys' host mid host' o o' before all silent fair refused judged does decoder same same_keys same_host done = tt
 asked (Ok value) said rule line e keys keys' host mid host' o o' before all silent fair refused judged does decoder same same_keys same_host done = λ ds r f.
-    did_as (λ (m : Machine) (es : List Event). Asks rule line e es) (at keys host o ds r before f) keys keys' mid host' o' ds r all f same_keys same_host
+    did_as (λ (m : Machine) (es : List Event). Asks rule line e es) (scene_of keys host o ds r before f) keys keys' mid host' o' ds r all f same_keys same_host
     (asks said rule line e keys host mid o o' ds r before all f silent fair (refused ds r) judged does decoder same done)
 
 ran_shows : (node : ℕ) (keys : Keys) (host : HostParts) (o o' : OuterState) (ds : List State) (r : Option (List (List ℕ))) (before all : List Entry) (f : ℕ)
     → Goes (Host_notes (Json (values_text node (held_of host.state.store node))) ∷ []) o o' before all
-    → Run (Shows_values node ∷ []) (at keys host o ds r before f) (at keys host o' ds r all f)
+    → Run (Shows_values node ∷ []) (scene_of keys host o ds r before f) (scene_of keys host o' ds r all f)
 unfolding happens entries May
 ran_shows node keys host o o' ds r before all f goes =
     let went = goes ds in
@@ -406,16 +407,16 @@ ran_shows node keys host o o' ds r before all f goes =
 -- the stored values of a node are shown
 pub shows_values : {T E : Type 0} (answer : Result T E) (node : ℕ) (text : List ℕ) (keys keys' : Keys) (host host' : HostParts) (o o' : OuterState) (before all : List Entry)
     → text ≡ values_text node (held_of host.state.store node) → keys' ≡ keys → host' ≡ host → OnOk answer (Goes (Host_notes (Json text) ∷ []) o o' before all)
-    → OnOk answer ((ds : List State) (r : Option (List (List ℕ))) (f : ℕ) → Does (IsEffect (Store node)) (at keys host o ds r before f) (at keys' host' o' ds r all f))
+    → OnOk answer ((ds : List State) (r : Option (List (List ℕ))) (f : ℕ) → Does (IsEffect (Store node)) (scene_of keys host o ds r before f) (scene_of keys' host' o' ds r all f))
 shows_values (Err fault) node text keys keys' host host' o o' before all is same_keys same_host goes = tt
 shows_values (Ok value) node text keys keys' host host' o o' before all is same_keys same_host goes = λ ds r f.
-    did_as (IsEffect (Store node)) (at keys host o ds r before f) keys keys' host host' o' ds r all f same_keys same_host
+    did_as (IsEffect (Store node)) (scene_of keys host o ds r before f) keys keys' host host' o' ds r all f same_keys same_host
     (Shows_values node ∷ [], refl, ran_shows node keys host o o' ds r before all f (subst (λ (t : List ℕ). Goes (Host_notes (Json t) ∷ []) o o' before all) is goes))
 
 -- a node joins, in all
 pub joined : {T E : Type 0} (answer : Result T E) (node : ℕ) (keys : Keys) (host mid : HostParts) (o o' : OuterState) (ds : List State) (r r' : Option (List (List ℕ))) (before : List Entry) (f g : ℕ)
     → calls.Does (Are (joins_host node ∷ [])) (scene host.state [] r f) (scene mid.state [] r' g) → mid.decoder ≡ host.decoder → OnOk answer (GoesFor ds (IsOne (Joins node)) o o' [] [])
-    → OnOk answer (Does (IsEffect (Join node)) (at keys host o ds r before f) (at keys mid o' ds r' before g))
+    → OnOk answer (Does (IsEffect (Join node)) (scene_of keys host o ds r before f) (scene_of keys mid o' ds r' before g))
 joined (Err fault) node keys host mid o o' ds r r' before f g does decoder goes = tt
 joined (Ok value) node keys host mid o o' ds r r' before f g does decoder goes =
     joins node keys host mid o o' ds r r' before f g

@@ -1,10 +1,5 @@
 pub mod Scenes
 pub mod Asking
-pub mod Bytes
-pub mod Hosting
-pub mod Passing
 pub mod Listing
 pub mod Restarts
-pub mod Routes
-pub mod Turns
 pub mod Steps

@@ -1,6 +1,7 @@
 -- A line: it begins, and then it is so many ticks, or its effect and a settling.
 use Rattle.std.proofs.Common.{◌≡◌, ℕ, Bool, true, false, List, [], refl, sym, subst, inl}
-use Rattle.std.specs.Prelude.{Result, Ok, Err, OnOk, OnErr}
+use Rattle.std.specs.Prelude.{Option, Result, Ok, Err, OnOk, OnErr}
+use Rattle.device_sim.specs.State.{State}
 use Rattle.zw_text.specs.declared.line.Line.{Line}
 use Rattle.zw_order.specs.declared.order.Order.{Order}
 use Rattle.zw_order.specs.declared.order.Word.{Word}
@@ -15,7 +16,7 @@ use Rattle.zw_machine.specs.Ticking.{Ticks}
 use Rattle.zw_machine.specs.Lines.{IsEffect, IsLineBegin, IsLineRest, IsLine}
 use Rattle.zw_machine.proofs.Doing.{stopped_as}
 use Rattle.zw_machine.proofs.Schedules.{did_then, stopped_first, stopped_then}
-use Rattle.zw_world.specs.Effects.{is_tick, IsSetting}
+use Rattle.zw_world.specs.Effects.{is_tick, asks_or_sets, IsSetting}
 
 pub not_tick : (line : Line) → ((count : ℕ) → line ≡ Tick count → ⊥) → is_tick line ≡ false
 not_tick (Tick count) not = absurd (not count refl)
@@ -28,6 +29,13 @@ So false = ⊥
 -- the effect of a line that was matched
 pub effect_as : {T E : Type 0} (answer : Result T E) (line known : Line) (s u : Scene) → line ≡ known → OnOk answer (Does (IsEffect known) s u) → OnOk answer (Does (IsEffect line) s u)
 effect_as answer line known s u is done = subst (λ (l : Line). OnOk answer (Does (IsEffect l) s u)) (sym is) done
+
+-- the same, whatever stands beside it
+pub effect_beside : {T E : Type 0} (answer : Result T E) (line known : Line) (s u : List State → Option (List (List ℕ)) → ℕ → Scene) → line ≡ known
+    → OnOk answer ((ds : List State) (r : Option (List (List ℕ))) (f : ℕ) → Does (IsEffect known) (s ds r f) (u ds r f))
+    → OnOk answer ((ds : List State) (r : Option (List (List ℕ))) (f : ℕ) → Does (IsEffect line) (s ds r f) (u ds r f))
+effect_beside answer line known s u is done =
+    subst (λ (l : Line). OnOk answer ((ds : List State) (r : Option (List (List ℕ))) (f : ℕ) → Does (IsEffect l) (s ds r f) (u ds r f))) (sym is) done
 
 pub ticks_as : {T E : Type 0} (answer : Result T E) (line : Line) (count : ℕ) (s u : Scene) → line ≡ Tick count → OnOk answer (Does (Ticks count) s u) → OnOk answer (Does (IsLineRest line) s u)
 ticks_as answer line count s u is done = subst (λ (l : Line). OnOk answer (Does (IsLineRest l) s u)) (sym is) done
@@ -82,51 +90,65 @@ line_stops (Err fault) line s t u first later = stopped_then IsLineBegin Nothing
 pub effect_plain : (line known : Line) (s u : Scene) → line ≡ known → Does (IsEffect known) s u → Does (IsEffect line) s u
 effect_plain line known s u is done = subst (λ (l : Line). Does (IsEffect l) s u) (sym is) done
 
--- what is left of the lines but `tick` sets something
-pub setting_of : (line : Line) → is_tick line ≡ false
+-- what is left of the lines but `tick` asks for something or sets something
+pub left_of : (line : Line) → is_tick line ≡ false
     → ((order : Order) → line ≡ Command order → ⊥)
-    → ((node : ℕ) (word : Word) → line ≡ Send node word → ⊥)
-    → ((node end : ℕ) → line ≡ Get node end → ⊥)
-    → ((node : ℕ) → line ≡ Interview node → ⊥)
     → ((node : ℕ) → line ≡ Join node → ⊥)
     → ((command : ℕ) → line ≡ Cancel command → ⊥)
-    → (line ≡ Discover → ⊥)
-    → ((node : ℕ) → line ≡ Neighbours node → ⊥)
-    → ((node : ℕ) → line ≡ Failed node → ⊥)
-    → (line ≡ Probe → ⊥)
     → (line ≡ Restart → ⊥)
-    → ((node : ℕ) → line ≡ Store node → ⊥)
     → ((frame : ℕ) → line ≡ Repeat frame → ⊥)
     → ((node : ℕ) → line ≡ Wake node → ⊥)
     → ((node value : ℕ) → line ≡ Local node value → ⊥)
     → ((node : ℕ) → line ≡ Show node → ⊥)
+    → asks_or_sets line ≡ true
+left_of (Command order) other n0 n1 n2 n3 n4 n5 n6 n7 = absurd (n0 order refl)
+left_of (Join node) other n0 n1 n2 n3 n4 n5 n6 n7 = absurd (n1 node refl)
+left_of (Cancel command) other n0 n1 n2 n3 n4 n5 n6 n7 = absurd (n2 command refl)
+left_of Restart other n0 n1 n2 n3 n4 n5 n6 n7 = absurd (n3 refl)
+left_of (Repeat frame) other n0 n1 n2 n3 n4 n5 n6 n7 = absurd (n4 frame refl)
+left_of (Wake node) other n0 n1 n2 n3 n4 n5 n6 n7 = absurd (n5 node refl)
+left_of (Local node value) other n0 n1 n2 n3 n4 n5 n6 n7 = absurd (n6 node value refl)
+left_of (Show node) other n0 n1 n2 n3 n4 n5 n6 n7 = absurd (n7 node refl)
+left_of (Tick count) other n0 n1 n2 n3 n4 n5 n6 n7 = absurd (subst So other tt)
+left_of line other n0 n1 n2 n3 n4 n5 n6 n7 = refl
+
+-- and what is left of these sets something
+pub setting_of : (line : Line) → asks_or_sets line ≡ true
+    → ((node : ℕ) (word : Word) → line ≡ Send node word → ⊥)
+    → ((node end : ℕ) → line ≡ Get node end → ⊥)
+    → ((node : ℕ) → line ≡ Interview node → ⊥)
+    → (line ≡ Discover → ⊥)
+    → ((node : ℕ) → line ≡ Neighbours node → ⊥)
+    → ((node : ℕ) → line ≡ Failed node → ⊥)
+    → (line ≡ Probe → ⊥)
+    → ((node : ℕ) → line ≡ Store node → ⊥)
     → IsSetting line
-setting_of (Command order) other n0 n1 n2 n3 n4 n5 n6 n7 n8 n9 n10 n11 n12 n13 n14 n15 = absurd (n0 order refl)
-setting_of (Send node word) other n0 n1 n2 n3 n4 n5 n6 n7 n8 n9 n10 n11 n12 n13 n14 n15 = absurd (n1 node word refl)
-setting_of (Get node end) other n0 n1 n2 n3 n4 n5 n6 n7 n8 n9 n10 n11 n12 n13 n14 n15 = absurd (n2 node end refl)
-setting_of (Interview node) other n0 n1 n2 n3 n4 n5 n6 n7 n8 n9 n10 n11 n12 n13 n14 n15 = absurd (n3 node refl)
-setting_of (Join node) other n0 n1 n2 n3 n4 n5 n6 n7 n8 n9 n10 n11 n12 n13 n14 n15 = absurd (n4 node refl)
-setting_of (Cancel command) other n0 n1 n2 n3 n4 n5 n6 n7 n8 n9 n10 n11 n12 n13 n14 n15 = absurd (n5 command refl)
-setting_of Discover other n0 n1 n2 n3 n4 n5 n6 n7 n8 n9 n10 n11 n12 n13 n14 n15 = absurd (n6 refl)
-setting_of (Neighbours node) other n0 n1 n2 n3 n4 n5 n6 n7 n8 n9 n10 n11 n12 n13 n14 n15 = absurd (n7 node refl)
-setting_of (Failed node) other n0 n1 n2 n3 n4 n5 n6 n7 n8 n9 n10 n11 n12 n13 n14 n15 = absurd (n8 node refl)
-setting_of Probe other n0 n1 n2 n3 n4 n5 n6 n7 n8 n9 n10 n11 n12 n13 n14 n15 = absurd (n9 refl)
-setting_of Restart other n0 n1 n2 n3 n4 n5 n6 n7 n8 n9 n10 n11 n12 n13 n14 n15 = absurd (n10 refl)
-setting_of (Store node) other n0 n1 n2 n3 n4 n5 n6 n7 n8 n9 n10 n11 n12 n13 n14 n15 = absurd (n11 node refl)
-setting_of (Repeat frame) other n0 n1 n2 n3 n4 n5 n6 n7 n8 n9 n10 n11 n12 n13 n14 n15 = absurd (n12 frame refl)
-setting_of (Wake node) other n0 n1 n2 n3 n4 n5 n6 n7 n8 n9 n10 n11 n12 n13 n14 n15 = absurd (n13 node refl)
-setting_of (Local node value) other n0 n1 n2 n3 n4 n5 n6 n7 n8 n9 n10 n11 n12 n13 n14 n15 = absurd (n14 node value refl)
-setting_of (Show node) other n0 n1 n2 n3 n4 n5 n6 n7 n8 n9 n10 n11 n12 n13 n14 n15 = absurd (n15 node refl)
-setting_of (Tick count) other n0 n1 n2 n3 n4 n5 n6 n7 n8 n9 n10 n11 n12 n13 n14 n15 = absurd (subst So other tt)
-setting_of (Cut size) other n0 n1 n2 n3 n4 n5 n6 n7 n8 n9 n10 n11 n12 n13 n14 n15 = tt
-setting_of (Stall ticks) other n0 n1 n2 n3 n4 n5 n6 n7 n8 n9 n10 n11 n12 n13 n14 n15 = tt
-setting_of (Drop side) other n0 n1 n2 n3 n4 n5 n6 n7 n8 n9 n10 n11 n12 n13 n14 n15 = tt
-setting_of (Garble side place xor) other n0 n1 n2 n3 n4 n5 n6 n7 n8 n9 n10 n11 n12 n13 n14 n15 = tt
-setting_of Collide other n0 n1 n2 n3 n4 n5 n6 n7 n8 n9 n10 n11 n12 n13 n14 n15 = tt
-setting_of (Lose count) other n0 n1 n2 n3 n4 n5 n6 n7 n8 n9 n10 n11 n12 n13 n14 n15 = tt
-setting_of (LoseAck count) other n0 n1 n2 n3 n4 n5 n6 n7 n8 n9 n10 n11 n12 n13 n14 n15 = tt
-setting_of (Link first second) other n0 n1 n2 n3 n4 n5 n6 n7 n8 n9 n10 n11 n12 n13 n14 n15 = tt
-setting_of (Unlink first second) other n0 n1 n2 n3 n4 n5 n6 n7 n8 n9 n10 n11 n12 n13 n14 n15 = tt
+setting_of (Send node word) other n0 n1 n2 n3 n4 n5 n6 n7 = absurd (n0 node word refl)
+setting_of (Get node end) other n0 n1 n2 n3 n4 n5 n6 n7 = absurd (n1 node end refl)
+setting_of (Interview node) other n0 n1 n2 n3 n4 n5 n6 n7 = absurd (n2 node refl)
+setting_of Discover other n0 n1 n2 n3 n4 n5 n6 n7 = absurd (n3 refl)
+setting_of (Neighbours node) other n0 n1 n2 n3 n4 n5 n6 n7 = absurd (n4 node refl)
+setting_of (Failed node) other n0 n1 n2 n3 n4 n5 n6 n7 = absurd (n5 node refl)
+setting_of Probe other n0 n1 n2 n3 n4 n5 n6 n7 = absurd (n6 refl)
+setting_of (Store node) other n0 n1 n2 n3 n4 n5 n6 n7 = absurd (n7 node refl)
+setting_of (Command order) other n0 n1 n2 n3 n4 n5 n6 n7 = absurd (subst So (sym other) tt)
+setting_of (Join node) other n0 n1 n2 n3 n4 n5 n6 n7 = absurd (subst So (sym other) tt)
+setting_of (Cancel command) other n0 n1 n2 n3 n4 n5 n6 n7 = absurd (subst So (sym other) tt)
+setting_of Restart other n0 n1 n2 n3 n4 n5 n6 n7 = absurd (subst So (sym other) tt)
+setting_of (Repeat frame) other n0 n1 n2 n3 n4 n5 n6 n7 = absurd (subst So (sym other) tt)
+setting_of (Wake node) other n0 n1 n2 n3 n4 n5 n6 n7 = absurd (subst So (sym other) tt)
+setting_of (Local node value) other n0 n1 n2 n3 n4 n5 n6 n7 = absurd (subst So (sym other) tt)
+setting_of (Show node) other n0 n1 n2 n3 n4 n5 n6 n7 = absurd (subst So (sym other) tt)
+setting_of (Tick count) other n0 n1 n2 n3 n4 n5 n6 n7 = absurd (subst So (sym other) tt)
+setting_of (Cut size) other n0 n1 n2 n3 n4 n5 n6 n7 = tt
+setting_of (Stall ticks) other n0 n1 n2 n3 n4 n5 n6 n7 = tt
+setting_of (Drop side) other n0 n1 n2 n3 n4 n5 n6 n7 = tt
+setting_of (Garble side place xor) other n0 n1 n2 n3 n4 n5 n6 n7 = tt
+setting_of Collide other n0 n1 n2 n3 n4 n5 n6 n7 = tt
+setting_of (Lose count) other n0 n1 n2 n3 n4 n5 n6 n7 = tt
+setting_of (LoseAck count) other n0 n1 n2 n3 n4 n5 n6 n7 = tt
+setting_of (Link first second) other n0 n1 n2 n3 n4 n5 n6 n7 = tt
+setting_of (Unlink first second) other n0 n1 n2 n3 n4 n5 n6 n7 = tt
 
 -- no other line sets anything
 pub no_setting : (line : Line) → IsSetting line

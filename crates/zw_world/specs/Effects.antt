@@ -2,7 +2,7 @@
 use Rattle.std.specs.Prelude.{◌≡◌, ◌⊎◌, ℕ, Bool, true, false, List, [], ◌∷◌, Option, Some, None, Result, Ok, Err}
 use Rattle.zw_words.specs.declared.side.Side.TheVariants as side
 use Rattle.zw_text.specs.declared.line.Line.{Line}
-use Rattle.zw_text.specs.declared.line.Line.TheVariants.{Tick, Cut, Stall, Drop, Garble, Collide, Lose, LoseAck, Link, Unlink, Discover, Neighbours as neighbours, Failed as failed, Probe as probe}
+use Rattle.zw_text.specs.declared.line.Line.TheVariants.{Command, Join, Cancel, Restart, Repeat, Wake, Local, Show, Tick, Cut, Stall, Drop, Garble, Collide, Lose, LoseAck, Link, Unlink, Discover, Neighbours as neighbours, Failed as failed, Probe as probe}
 use Rattle.zw_text.specs.declared.entry.Entry.{Entry}
 use Rattle.zw_text.specs.declared.entry.Entry.TheVariants.{Refused as refused_entry}
 use Rattle.zw_text.specs.declared.entry.Refusal.{Refusal}
@@ -17,7 +17,7 @@ use Rattle.host_core.specs.declared.orders.CancelFault.{CancelFault}
 use Rattle.host_core.specs.declared.orders.CancelFault.TheVariants as cancel
 use Rattle.host_core.specs.Orders.{places_of, question_event}
 use Rattle.outer_events.specs.State.{OuterState}
-use Rattle.outer_events.specs.Events.{OuterEvent, Host_notes, Host_begins, Clears_pipe}
+use Rattle.outer_events.specs.Events.{Host_notes, Clears_pipe}
 use Rattle.outer_events.specs.Did.{Goes}
 use Rattle.zw_machine.specs.Refusals.{shown}
 use Rattle.zw_machine.specs.Did.{Schedule}
@@ -26,6 +26,19 @@ use Rattle.zw_machine.specs.Lines.{Asks}
 abbrev pub is_tick : Line → Bool
 is_tick (Tick count) = true
 is_tick line = false
+
+-- a line that asks the host for something, or sets something outside it: neither keeper nor devices have a part in it
+abbrev pub asks_or_sets : Line → Bool
+asks_or_sets (Tick count) = false
+asks_or_sets (Command order) = false
+asks_or_sets (Join node) = false
+asks_or_sets (Cancel command) = false
+asks_or_sets Restart = false
+asks_or_sets (Repeat frame) = false
+asks_or_sets (Wake node) = false
+asks_or_sets (Local node value) = false
+asks_or_sets (Show node) = false
+asks_or_sets line = true
 
 -- a line that sets something outside the host
 abbrev pub IsSetting : Line → Type 0
@@ -61,11 +74,6 @@ abbrev pub shown_uncancelled : ℕ → CancelFault → Option Refusal
 shown_uncancelled command cancel.NotWaiting = Some (NotWaiting command)
 shown_uncancelled command cancel.KeeperFault = Some KeeperFault
 shown_uncancelled command cancel.NoMemory = None
-
--- the air learns of a session that has begun
-abbrev pub begins_by : Option (ℕ × ℕ) → List OuterEvent
-begins_by None = []
-begins_by (Some begun) = Host_begins begun.0 begun.1 ∷ []
 
 -- at want of memory the bytes on their way to the chip are lost, and those to the host are not; or neither, and nothing is entered
 abbrev pub ClearsInPart : OuterState → List Entry → List Entry → Type 0

@@ -1,4 +1,3 @@
 pub mod World
-pub mod Moving
 pub mod Effects
 pub mod Listing

@@ -8,7 +8,7 @@ ghost use Rattle.zw_machine.specs.Did.{Does, Nothing, Stops};
 ghost use Rattle.zw_machine.specs.Fronts.{EffectFront};
 ghost use Rattle.zw_machine.specs.Lines.{IsEffect};
 ghost use Rattle.zw_world.specs.World.{scene};
-ghost use Rattle.zw_world.specs.Effects.{IsSetting, IsAsked, is_tick};
+ghost use Rattle.zw_world.specs.Effects.{IsSetting, IsAsked, is_tick, asks_or_sets};
 
 use crate::World;
 use device_sim::Device;
@@ -37,21 +37,32 @@ impl World {
     {
         match line {
             Line::Command { order } => self.command(order, keeper, out),
+            Line::Join { node } => self.join(*node, devices, keeper, out),
+            Line::Cancel { command } => self.cancel(*command, keeper, out),
+            Line::Restart => self.restart(keeper, out),
+            Line::Repeat { frame } => self.sides.outer.repeat(*frame, devices, draw, out),
+            Line::Wake { node } => self.sides.outer.wake(*node, devices, out),
+            Line::Local { node, value } => self.sides.outer.local(*node, *value, devices, out),
+            Line::Show { node } => self.sides.outer.show(*node, devices, out),
+            line => self.ask_or_set(line, out),
+        }
+    }
+
+    // A line that asks the host for something, or sets something outside it: nothing is kept, and no device hears.
+    fn ask_or_set(&mut self, line: &Line, out: &mut List<Entry>) -> Result<(), NoMemory>
+        requires { asks_or_sets line.now ≡ Rattle.std.specs.Prelude.true }
+        ensures ok { OnOk result ((ds : Items State) (records : Option (Items (Items ℕ))) (faults : ℕ) → Does (IsEffect line.now) (scene self.old ds records out.old.items faults) (scene self.new ds records out.new.items faults)) }
+        ensures err { OnErr result (out.new.items ≡ out.old.items) }
+    {
+        match line {
             Line::Send { node, word } => self.send(*node, *word, out),
             Line::Get { node, end } => self.get(*node, *end, out),
             Line::Interview { node } => self.interview(*node, out),
-            Line::Join { node } => self.join(*node, devices, keeper, out),
-            Line::Cancel { command } => self.cancel(*command, keeper, out),
             Line::Discover => self.discover(out),
             Line::Neighbours { node } => self.ask(Question::Neighbours(*node), out),
             Line::Failed { node } => self.ask(Question::Failed(*node), out),
             Line::Probe => self.ask(Question::Probe, out),
-            Line::Restart => self.restart(keeper, out),
             Line::Store { node } => self.store(*node, out),
-            Line::Repeat { frame } => self.outer.repeat(*frame, devices, draw, out),
-            Line::Wake { node } => self.outer.wake(*node, devices, out),
-            Line::Local { node, value } => self.outer.local(*node, *value, devices, out),
-            Line::Show { node } => self.outer.show(*node, devices, out),
             line => self.set(line),
         }
     }
@@ -63,27 +74,27 @@ impl World {
     {
         match line {
             Line::Cut { size } => {
-                self.outer.cut(*size);
+                self.sides.outer.cut(*size);
                 Ok(())
             }
-            Line::Stall { ticks } => self.outer.stall(*ticks),
-            Line::Drop { side } => self.outer.mark_loss(*side),
-            Line::Garble { side, place, xor } => self.outer.mark_change(
+            Line::Stall { ticks } => self.sides.outer.stall(*ticks),
+            Line::Drop { side } => self.sides.outer.mark_loss(*side),
+            Line::Garble { side, place, xor } => self.sides.outer.mark_change(
                 *side,
                 Garble {
                     place: *place,
                     xor: *xor,
                 },
             ),
-            Line::Collide => self.outer.collide(),
-            Line::Lose { count } => self.outer.lose(*count),
-            Line::LoseAck { count } => self.outer.lose_ack(*count),
+            Line::Collide => self.sides.outer.collide(),
+            Line::Lose { count } => self.sides.outer.lose(*count),
+            Line::LoseAck { count } => self.sides.outer.lose_ack(*count),
             Line::Link { first, second } => {
-                self.outer.set_link(*first, *second, true);
+                self.sides.outer.set_link(*first, *second, true);
                 Ok(())
             }
             Line::Unlink { first, second } => {
-                self.outer.set_link(*first, *second, false);
+                self.sides.outer.set_link(*first, *second, false);
                 Ok(())
             }
             _ => unreachable!(),
@@ -100,8 +111,8 @@ impl World {
         ensures ok { OnOk result ((ds : Items State) → Does (IsEffect (line.Command order.now)) (scene self.old ds (P.records keeper.old) out.old.items (P.faults keeper.old)) (scene self.new ds (P.records keeper.new) out.new.items (P.faults keeper.new))) }
         ensures err { OnErr result ((ds : Items State) → Stops Nothing (scene self.old ds (P.records keeper.old) out.old.items (P.faults keeper.old)) (scene self.new ds (P.records keeper.new) out.new.items (P.faults keeper.new))) }
     {
-        match self.host.command(order, keeper) {
-            Ok(command) => self.outer.note(
+        match self.sides.host.command(order, keeper) {
+            Ok(command) => self.sides.outer.note(
                 Entry::Accepted {
                     command,
                     node: order.node,
@@ -117,7 +128,7 @@ impl World {
         ensures ok { OnOk result ((ds : Items State) (records : Option (Items (Items ℕ))) (faults : ℕ) → Does (IsEffect (line.Send node word)) (scene self.old ds records out.old.items faults) (scene self.new ds records out.new.items faults)) }
         ensures err { OnErr result (out.new.items ≡ out.old.items) }
     {
-        let answer = self.host.send(node, word);
+        let answer = self.sides.host.send(node, word);
         self.unless_refused(answer, out)
     }
 
@@ -126,7 +137,7 @@ impl World {
         ensures ok { OnOk result ((ds : Items State) (records : Option (Items (Items ℕ))) (faults : ℕ) → Does (IsEffect (line.Get node end)) (scene self.old ds records out.old.items faults) (scene self.new ds records out.new.items faults)) }
         ensures err { OnErr result (out.new.items ≡ out.old.items) }
     {
-        let answer = self.host.get(node, end);
+        let answer = self.sides.host.get(node, end);
         self.unless_refused(answer, out)
     }
 
@@ -135,7 +146,7 @@ impl World {
         ensures ok { OnOk result ((ds : Items State) (records : Option (Items (Items ℕ))) (faults : ℕ) → Does (IsEffect (line.Interview node)) (scene self.old ds records out.old.items faults) (scene self.new ds records out.new.items faults)) }
         ensures err { OnErr result (out.new.items ≡ out.old.items) }
     {
-        let answer = self.host.interview(node);
+        let answer = self.sides.host.interview(node);
         self.unless_refused(answer, out)
     }
 
@@ -144,7 +155,7 @@ impl World {
         ensures ok { OnOk result ((ds : Items State) (records : Option (Items (Items ℕ))) (faults : ℕ) → Does (IsAsked question) (scene self.old ds records out.old.items faults) (scene self.new ds records out.new.items faults)) }
         ensures err { OnErr result (out.new.items ≡ out.old.items) }
     {
-        let answer = self.host.ask(question);
+        let answer = self.sides.host.ask(question);
         self.unless_refused(answer, out)
     }
 
@@ -153,7 +164,7 @@ impl World {
         ensures ok { OnOk result ((ds : Items State) (records : Option (Items (Items ℕ))) (faults : ℕ) → Does (IsEffect line.Discover) (scene self.old ds records out.old.items faults) (scene self.new ds records out.new.items faults)) }
         ensures err { OnErr result (out.new.items ≡ out.old.items) }
     {
-        self.outer.discover();
+        self.sides.outer.discover();
         self.ask(Question::Members, out)
     }
 
@@ -169,8 +180,8 @@ impl World {
         ensures ok { OnOk result (Does (IsEffect (line.Join node)) (scene self.old (map (λ d. state d) devices.now.items) (P.records keeper.old) out.old.items (P.faults keeper.old)) (scene self.new (map (λ d. state d) devices.now.items) (P.records keeper.new) out.new.items (P.faults keeper.new))) }
         ensures err { OnErr result (Stops Nothing (scene self.old (map (λ d. state d) devices.now.items) (P.records keeper.old) out.old.items (P.faults keeper.old)) (scene self.new (map (λ d. state d) devices.now.items) (P.records keeper.new) out.new.items (P.faults keeper.new))) }
     {
-        match self.host.join(node, keeper) {
-            Ok(()) => self.outer.join(node, devices),
+        match self.sides.host.join(node, keeper) {
+            Ok(()) => self.sides.outer.join(node, devices),
             Err(refused) => self.refused(refused, out),
         }
     }
@@ -185,8 +196,8 @@ impl World {
         ensures ok { OnOk result ((ds : Items State) → Does (IsEffect (line.Cancel command)) (scene self.old ds (P.records keeper.old) out.old.items (P.faults keeper.old)) (scene self.new ds (P.records keeper.new) out.new.items (P.faults keeper.new))) }
         ensures err { OnErr result ((ds : Items State) → Stops Nothing (scene self.old ds (P.records keeper.old) out.old.items (P.faults keeper.old)) (scene self.new ds (P.records keeper.new) out.new.items (P.faults keeper.new))) }
     {
-        match self.host.cancel(command, keeper) {
-            Ok(()) => self.outer.note(
+        match self.sides.host.cancel(command, keeper) {
+            Ok(()) => self.sides.outer.note(
                 Entry::Out {
                     command,
                     ended: Ended::Cancelled,
@@ -202,7 +213,7 @@ impl World {
         ensures ok { OnOk result ((ds : Items State) (records : Option (Items (Items ℕ))) (faults : ℕ) → Does (IsEffect (line.Store node)) (scene self.old ds records out.old.items faults) (scene self.new ds records out.new.items faults)) }
         ensures err { OnErr result (out.new.items ≡ out.old.items) }
     {
-        let text = self.host.json(self.alloc, node)?;
-        self.outer.note(Entry::Json { text }, out)
+        let text = self.sides.host.json(self.sides.alloc, node)?;
+        self.sides.outer.note(Entry::Json { text }, out)
     }
 }

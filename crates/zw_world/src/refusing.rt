@@ -22,7 +22,7 @@ impl World {
         ensures keys { self.new.keys ≡ self.old.keys }
         ensures err { OnErr result (out.new.items ≡ out.old.items) }
     {
-        self.outer.note(Entry::Refused { refusal }, out)
+        self.sides.outer.note(Entry::Refused { refusal }, out)
     }
 
     /// The host refuses a line; want of memory is no refusal.

@@ -30,7 +30,7 @@ impl World {
         ensures ok { OnOk result ((ds : Items State) → Does (IsEffect line.Restart) (scene self.old ds (P.records keeper.old) out.old.items (P.faults keeper.old)) (scene self.new ds (P.records keeper.new) out.new.items (P.faults keeper.new))) }
         ensures err { OnErr result ((ds : Items State) → Stops RestartFront (scene self.old ds (P.records keeper.old) out.old.items (P.faults keeper.old)) (scene self.new ds (P.records keeper.new) out.new.items (P.faults keeper.new))) }
     {
-        match Host::open(self.alloc, self.key, keeper) {
+        match Host::open(self.sides.alloc, self.key, keeper) {
             Ok(host) => self.go_on_with(host, out),
             Err(fault) => self.unopened(fault, out),
         }
@@ -43,9 +43,9 @@ impl World {
         ensures keys { self.new.keys ≡ self.old.keys }
         ensures err { OnErr result (ClearsInPart self.old.outer out.old.items out.new.items) }
     {
-        self.host = host;
-        self.outer.clear(Side::Host, out)?;
-        self.outer.clear(Side::Chip, out)
+        self.sides.host = host;
+        self.sides.outer.clear(Side::Host, out)?;
+        self.sides.outer.clear(Side::Chip, out)
     }
 
     // No host starts, and the old one stays; want of memory is no refusal.

@@ -39,7 +39,7 @@ impl World {
             out.new.items ≡ out.old.items ++ table_entries (machine_of self.now (map (λ d. state d) devices.now.items) records)) }
     {
         out.push(Entry::TableEnd {
-            ticks: self.outer.clock(),
+            ticks: self.sides.outer.clock(),
         })?;
         for place in 0..MAX_NODE {
             self.table_of(node_after(place), devices, out)?;
@@ -58,7 +58,7 @@ impl World {
         ensures { OnOk result ((records : Option (Items (Items ℕ))) →
             out.new.items ≡ out.old.items ++ listed (machine_of self.now (map (λ d. state d) devices.now.items) records) node) }
     {
-        if !self.host.is_joined(node) {
+        if !self.sides.host.is_joined(node) {
             return Ok(());
         }
         self.list_node(node, devices, out)
@@ -78,14 +78,14 @@ impl World {
         let sessions = self.sessions_of(node)?;
         out.push(Entry::TableNode { node, sessions })?;
         self.list_values(node, out)?;
-        outer_world::list_device(self.alloc, node, devices, out)
+        outer_world::list_device(self.sides.alloc, node, devices, out)
     }
 
     // The values of a node.
     fn list_values(&self, node: NodeId, out: &mut List<Entry>) -> Result<(), NoMemory>
         ensures { OnOk result (out.new.items ≡ out.old.items ++ map (value_entry node) (held_of self.now.host.state.store node)) }
     {
-        let held = self.host.values(self.alloc, node)?;
+        let held = self.sides.host.values(self.sides.alloc, node)?;
         list_all(node, &held, out)
     }
 
@@ -93,9 +93,9 @@ impl World {
     fn sessions_of(&self, node: NodeId) -> Result<Sequence<u32>, NoMemory>
         ensures { IfOk result (λ sessions. sessions ≡ (node_of self.now.host.state node).book.commands) }
     {
-        let mut sessions = Sequence::new(self.alloc);
-        for session in 0..self.host.sessions(node) {
-            let Some(command) = self.host.command_of(node, session + 1) else {
+        let mut sessions = Sequence::new(self.sides.alloc);
+        for session in 0..self.sides.host.sessions(node) {
+            let Some(command) = self.sides.host.command_of(node, session + 1) else {
                 unreachable!()
             };
             sessions.push(command)?;

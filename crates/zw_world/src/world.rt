@@ -12,16 +12,15 @@ use host_keep::Keeper;
 use outer_world::Outer;
 use std::alloc::Global;
 use std::marker::Model;
+use world_sides::Sides;
 use zw_base::{Draw, List, NoMemory};
 use zw_text::{Entry, Line};
 
 /// A host, and all that is outside it but for the devices. Contracts see a `WorldState`.
 #[derive(Drop)]
 pub struct World {
-    pub(crate) alloc: Global,
     pub(crate) key: [u8; 16],
-    pub(crate) host: Host,
-    pub(crate) outer: Outer,
+    pub(crate) sides: Sides,
 }
 
 impl Model for World {
@@ -35,7 +34,7 @@ impl Model for World {
 
     ghost coded = { Prim.hlevel (codes, values_code, network_code) };
 
-    ghost view = { λ w. record { keys = keys_of w.key; host = w.host; outer = w.outer } };
+    ghost view = { λ w. record { keys = keys_of w.key; host = w.sides.host; outer = w.sides.outer } };
 }
 
 impl World {
@@ -44,10 +43,12 @@ impl World {
         ensures { IfOk result (λ world. world ≡ first_world key) }
     {
         Ok(World {
-            alloc,
             key,
-            host: Host::new(alloc, key)?,
-            outer: Outer::new(alloc)?,
+            sides: Sides {
+                alloc,
+                host: Host::new(alloc, key)?,
+                outer: Outer::new(alloc)?,
+            },
         })
     }
 
@@ -65,7 +66,7 @@ impl World {
         ensures err { OnErr result (Stops (LineFront line.now) (scene self.old (map (λ d. state d) devices.old.items) (P.records keeper.old) out.old.items (P.faults keeper.old)) (scene self.new (map (λ d. state d) devices.new.items) (P.records keeper.new) out.new.items (P.faults keeper.new))) }
         ensures kept { length devices.new.items ≡ length devices.old.items }
     {
-        self.outer.begin_line();
+        self.sides.outer.begin_line();
         self.run_line(line, devices, draw, keeper, out)
     }
 
@@ -84,9 +85,9 @@ impl World {
         ensures kept { length devices.new.items ≡ length devices.old.items }
     {
         if let Line::Tick { count } = line {
-            return self.ticks(*count, devices, draw, keeper, out);
+            return self.sides.ticks(*count, devices, draw, keeper, out);
         }
         self.effect(line, devices, draw, keeper, out)?;
-        self.settle(draw, keeper, out)
+        self.sides.settle(draw, keeper, out)
     }
 }

@@ -2,7 +2,7 @@
 use Rattle.std.proofs.Common.{rules, ap, arith}
 use Rattle.host_events.specs.State.{HostParts}
 use Rattle.host_events.proofs.Doing.{none_added}
-use Rattle.host_core.specs.Calls.{Scene, scene}
+use Rattle.host_taking.specs.Calls.{Scene, scene}
 use Rattle.host_core.proofs.Served.{abort_submitted, front_submitted}
 use Rattle.host_core.proofs.pumping.submit_next.Goals as goal
 

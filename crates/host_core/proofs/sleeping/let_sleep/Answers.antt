@@ -5,9 +5,9 @@ use Rattle.host_events.specs.State.{HostState, HostParts}
 use Rattle.std.specs.Prelude.{Some, None}
 use Rattle.host_nodes.specs.Search.{first_wanting}
 use Rattle.host_events.specs.Pumping.{sleepers_left}
-use Rattle.host_core.specs.Calls.{Are}
-use Rattle.host_core.proofs.Loops.{none_sleeps, one_more_sleeps, all_sleep, alone_then_stops}
-use Rattle.host_core.proofs.Doing.{stops_alone}
+use Rattle.host_taking.specs.Calls.{Are}
+use Rattle.host_core.proofs.Loops.{none_sleeps, one_more_sleeps, all_sleep}
+use Rattle.host_taking.proofs.Doing.{stops_alone, alone_then_stops}
 use Rattle.host_core.proofs.sleeping.let_sleep.Goals as goal
 
 pub loop-node-init : goal.loop-node-init

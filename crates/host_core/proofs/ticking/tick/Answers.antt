@@ -4,9 +4,9 @@ use Rattle.serial_link.proofs.Taking.{on_err}
 use Rattle.host_events.specs.State.{HostParts}
 use Rattle.host_events.specs.Events.{Line_ticks}
 use Rattle.host_events.specs.Ticking.{first_ticks}
-use Rattle.host_core.specs.Calls.{Are}
-use Rattle.host_core.proofs.Loops.{line_alone, first_two, whole_tick, alone_then_stops}
-use Rattle.host_core.proofs.Doing.{stops_alone}
+use Rattle.host_taking.specs.Calls.{Are}
+use Rattle.host_core.proofs.Loops.{line_alone, first_two, whole_tick}
+use Rattle.host_taking.proofs.Doing.{stops_alone, alone_then_stops}
 use Rattle.host_core.proofs.ticking.tick.Goals as goal
 
 pub returns-in_err-tick_line-clause-err : goal.returns-in_err-tick_line-clause-err

@@ -9,7 +9,8 @@ use Rattle.host_events.specs.State.{node_of}
 use Rattle.host_events.specs.After.{finishing}
 use Rattle.host_events.specs.Facts.{HostFacts}
 use Rattle.host_state.proofs.Found.{settings_are_kept}
-use Rattle.host_recorded.proofs.Restored.{final_kept, open_is_session}
+use Rattle.host_records.proofs.Recorded.{opened_so}
+use Rattle.host_recorded.proofs.Restored.{final_kept}
 use Rattle.host_recorded.proofs.restoring.restore_final.Goals as goal
 
 pub finish-requires-clause-reserved : goal.finish-requires-clause-reserved
@@ -31,4 +32,4 @@ finish-requires-clause-facts c =
     let opened : open_session (node_of h n).book ≡ Some c.args.session
     = subst (λ (s : NodeState). open_session s.book ≡ Some c.args.session) c.node.ensures.value (sym c.current.ensures ∙ current) in
     subst (λ (k : ℕ). HostFacts (finishing h n k command c.args.status)) (sym c.session_id.ensures.value)
-    (final_kept c.a_record_restores_what_it_says.ensures.facts h n c.args.session command c.args.status c.what_holds.ensures (open_is_session (open_session (node_of h n).book) c.args.session opened) carried)
+    (final_kept c.a_record_restores_what_it_says.ensures.facts h n c.args.session command c.args.status c.what_holds.ensures (opened_so (open_session (node_of h n).book) c.args.session opened) carried)

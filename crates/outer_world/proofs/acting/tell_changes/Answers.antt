@@ -1,5 +1,5 @@
 use Rattle.std.proofs.Common.{arith}
-use Rattle.outer_world.proofs.Items.{change_more}
+use Rattle.outer_world.proofs.Changes.{change_more}
 use Rattle.outer_world.proofs.acting.tell_changes.Goals as goal
 
 pub loop-at-preserved : goal.loop-at-preserved

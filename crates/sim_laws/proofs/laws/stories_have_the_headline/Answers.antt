@@ -3,8 +3,8 @@ use Rattle.std.proofs.Common.{◌≡◌, ℕ, Bool, List, [], ◌++◌, inl, inr
 use Rattle.std.specs.List.{AllByRecursion}
 use Rattle.s0_crypto.specs.declared.key_pair.Keys.{Keys}
 use Rattle.device_stack.specs.Sealing.{keys_of as device_keys}
-use Rattle.device_stack.specs.Kind.{lists}
-use Rattle.device_stack.specs.declared.kind.Kind.{Kind}
+use Rattle.device_kinds.specs.Kind.{lists}
+use Rattle.device_kinds.specs.declared.kind.Kind.{Kind}
 use Rattle.device_sim.specs.State.{State}
 use Rattle.device_facts.specs.GoingOn.{AreSame}
 use Rattle.device_facts.specs.Showing.{AreUnchanged}

@@ -1,7 +1,7 @@
 -- Each node that may be asked is such, so each supervised device is tied and each success of its node is true.
 use Rattle.std.proofs.Common.{List, [], Some, inr, ap, sym, subst, ◌∙◌}
-use Rattle.device_stack.specs.Kind.{lists}
-use Rattle.device_stack.specs.declared.kind.Kind.{Kind}
+use Rattle.device_kinds.specs.Kind.{lists}
+use Rattle.device_kinds.specs.declared.kind.Kind.{Kind}
 use Rattle.device_sim.specs.State.{State}
 use Rattle.device_facts.specs.GoingOn.{GoOn}
 use Rattle.host_events.specs.State.{HostState}

@@ -57,3 +57,19 @@ returns-clause-restarted c = λ calm. not_true calm.still.chip
 pub returns-clause-stuck : goal.returns-clause-stuck
 unfolding computing
 returns-clause-stuck c = λ calm. not_true calm.to_come
+
+pub returns-clause-device_heard : goal.returns-clause-device_heard
+unfolding computing
+returns-clause-device_heard c = λ calm. not_true calm.still.marks
+
+pub returns-clause-heard_again : goal.returns-clause-heard_again
+unfolding computing
+returns-clause-heard_again c = λ calm. not_true calm.still.marks
+
+pub returns-clause-cancelled_by_host : goal.returns-clause-cancelled_by_host
+unfolding computing
+returns-clause-cancelled_by_host c = λ calm. not_true calm.still.marks
+
+pub returns-clause-denied : goal.returns-clause-denied
+unfolding computing
+returns-clause-denied c = λ calm. not_true calm.still.chip

@@ -131,3 +131,35 @@ returns-clause-not_plain c = refl
 pub returns-clause-sealed : goal.returns-clause-sealed
 unfolding computing
 returns-clause-sealed c = refl
+
+pub returns-clause-taken_to_listen : goal.returns-clause-taken_to_listen
+unfolding computing
+returns-clause-taken_to_listen c = refl
+
+pub returns-clause-unjoined : goal.returns-clause-unjoined
+unfolding computing
+returns-clause-unjoined c = refl
+
+pub returns-clause-ordered_late : goal.returns-clause-ordered_late
+unfolding computing
+returns-clause-ordered_late c = refl
+
+pub returns-clause-woken_late : goal.returns-clause-woken_late
+unfolding computing
+returns-clause-woken_late c = refl
+
+pub returns-clause-sixth_taken : goal.returns-clause-sixth_taken
+unfolding computing
+returns-clause-sixth_taken c = refl
+
+pub returns-clause-failed_end_point : goal.returns-clause-failed_end_point
+unfolding computing
+returns-clause-failed_end_point c = refl
+
+pub returns-clause-taken_back : goal.returns-clause-taken_back
+unfolding computing
+returns-clause-taken_back c = refl
+
+pub returns-clause-in_segments : goal.returns-clause-in_segments
+unfolding computing
+returns-clause-in_segments c = refl

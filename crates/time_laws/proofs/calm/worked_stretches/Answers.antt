@@ -111,3 +111,35 @@ returns-clause-sixteen c = refl
 pub returns-clause-known : goal.returns-clause-known
 unfolding computing
 returns-clause-known c = refl
+
+pub returns-clause-quiet_lines : goal.returns-clause-quiet_lines
+unfolding computing
+returns-clause-quiet_lines c = refl
+
+pub returns-clause-succeeded : goal.returns-clause-succeeded
+unfolding computing
+returns-clause-succeeded c = refl
+
+pub returns-clause-cancelled : goal.returns-clause-cancelled
+unfolding computing
+returns-clause-cancelled c = refl
+
+pub returns-clause-sixth_failed : goal.returns-clause-sixth_failed
+unfolding computing
+returns-clause-sixth_failed c = refl
+
+pub returns-clause-sixth_before : goal.returns-clause-sixth_before
+unfolding computing
+returns-clause-sixth_before c = refl
+
+pub returns-clause-no_end_point : goal.returns-clause-no_end_point
+unfolding computing
+returns-clause-no_end_point c = refl
+
+pub returns-clause-dimmed : goal.returns-clause-dimmed
+unfolding computing
+returns-clause-dimmed c = refl
+
+pub returns-clause-begun : goal.returns-clause-begun
+unfolding computing
+returns-clause-begun c = refl

@@ -7,6 +7,7 @@ use Rattle.zw_laws.specs.Worked.{cancelled_order, long_message, lossy_exchange, 
 use Rattle.time_laws.proofs.Computing.{computing}
 use Rattle.zw_laws.proofs.Deciding.{kept}
 use Rattle.time_laws.proofs.queue.worked_queue.Goals as goal
+use Rattle.time_laws.specs.WorkedTurns.{dropped_at_once, dropped_behind_lost, refused_otherwise, unkept_though_full, dropped_again, dropped_once, dropped_woken}
 
 pub returns-clause-full : goal.returns-clause-full
 unfolding computing
@@ -55,3 +56,31 @@ returns-clause-sealed c = kept (may_queue (listing_of (the_lock ∷ []))) sealed
 pub returns-clause-cut : goal.returns-clause-cut
 unfolding computing
 returns-clause-cut c = kept (may_queue (listing_of (the_plug ∷ []))) long_message refl
+
+pub returns-clause-at_once : goal.returns-clause-at_once
+unfolding computing
+returns-clause-at_once c = kept (may_queue (listing_of (the_switch ∷ []))) dropped_at_once refl
+
+pub returns-clause-behind_lost : goal.returns-clause-behind_lost
+unfolding computing
+returns-clause-behind_lost c = kept (may_queue (listing_of (the_switch ∷ []))) dropped_behind_lost refl
+
+pub returns-clause-unkept : goal.returns-clause-unkept
+unfolding computing
+returns-clause-unkept c = kept (may_queue (listing_of (the_switch ∷ []))) unkept_though_full refl
+
+pub returns-clause-otherwise : goal.returns-clause-otherwise
+unfolding computing
+returns-clause-otherwise c = kept (may_queue (listing_of (the_switch ∷ []))) refused_otherwise refl
+
+pub returns-clause-dropped_once : goal.returns-clause-dropped_once
+unfolding computing
+returns-clause-dropped_once c = kept (may_queue (listing_of (the_switch ∷ []))) dropped_once refl
+
+pub returns-clause-dropped_again : goal.returns-clause-dropped_again
+unfolding computing
+returns-clause-dropped_again c = kept (may_queue (listing_of (the_switch ∷ []))) dropped_again refl
+
+pub returns-clause-dropped_woken : goal.returns-clause-dropped_woken
+unfolding computing
+returns-clause-dropped_woken c = kept (may_queue (listing_of (the_switch ∷ []))) dropped_woken refl

@@ -6,6 +6,7 @@ use Rattle.zw_laws.specs.Worked.{cancelled_order, long_message, lossy_exchange, 
 use Rattle.time_laws.proofs.Computing.{computing}
 use Rattle.zw_laws.proofs.Deciding.{kept}
 use Rattle.time_laws.proofs.requests.worked_errands.Goals as goal
+use Rattle.time_laws.specs.WorkedEnds.{acknowledged_last, delivered_before_denied, delivered_last, delivered_unanswered, failed_errand, given_up_at_answer, given_up_errand, given_up_in_time, refused_behind_others, said_behind_changed, said_behind_lost, said_behind_overrun, silent_before_given_up, silent_before_response, silent_behind_response, denied_with_response, silent_later, silent_behind_late, delivered_behind_refused, silent_beside_other}
 
 pub returns-clause-answered : goal.returns-clause-answered
 unfolding computing
@@ -58,3 +59,83 @@ returns-clause-not_idle c = kept (may_say_done (listing_of (the_switch ∷ [])))
 pub returns-clause-refused : goal.returns-clause-refused
 unfolding computing
 returns-clause-refused c = kept (may_say_done (listing_of (the_switch ∷ []))) refused_errand refl
+
+pub returns-clause-failed : goal.returns-clause-failed
+unfolding computing
+returns-clause-failed c = kept (may_say_done (listing_of (the_switch ∷ []))) failed_errand refl
+
+pub returns-clause-lost : goal.returns-clause-lost
+unfolding computing
+returns-clause-lost c = kept (may_say_done (listing_of (the_switch ∷ []))) said_behind_lost refl
+
+pub returns-clause-overrun : goal.returns-clause-overrun
+unfolding computing
+returns-clause-overrun c = kept (may_say_done (listing_of (the_switch ∷ []))) said_behind_overrun refl
+
+pub returns-clause-changed : goal.returns-clause-changed
+unfolding computing
+returns-clause-changed c = kept (may_say_done (listing_of (the_switch ∷ []))) said_behind_changed refl
+
+pub returns-clause-others : goal.returns-clause-others
+unfolding computing
+returns-clause-others c = kept (may_say_done (listing_of (the_switch ∷ []))) refused_behind_others refl
+
+pub returns-clause-behind_response : goal.returns-clause-behind_response
+unfolding computing
+returns-clause-behind_response c = kept (may_say_done (listing_of (the_switch ∷ []))) silent_behind_response refl
+
+pub returns-clause-before_response : goal.returns-clause-before_response
+unfolding computing
+returns-clause-before_response c = kept (may_say_done (listing_of (the_switch ∷ []))) silent_before_response refl
+
+pub returns-clause-last : goal.returns-clause-last
+unfolding computing
+returns-clause-last c = kept (may_say_done (listing_of (the_switch ∷ []))) delivered_last refl
+
+pub returns-clause-given_up : goal.returns-clause-given_up
+unfolding computing
+returns-clause-given_up c = kept (may_say_done (listing_of (the_switch ∷ []))) given_up_errand refl
+
+pub returns-clause-denied : goal.returns-clause-denied
+unfolding computing
+returns-clause-denied c = kept (may_say_done (listing_of (the_switch ∷ []))) given_up_at_answer refl
+
+pub returns-clause-acknowledged_last : goal.returns-clause-acknowledged_last
+unfolding computing
+returns-clause-acknowledged_last c = kept (may_say_done (listing_of (the_switch ∷ []))) acknowledged_last refl
+
+pub returns-clause-unanswered : goal.returns-clause-unanswered
+unfolding computing
+returns-clause-unanswered c = kept (may_say_done (listing_of (the_switch ∷ []))) delivered_unanswered refl
+
+pub returns-clause-before_denied : goal.returns-clause-before_denied
+unfolding computing
+returns-clause-before_denied c = kept (may_say_done (listing_of (the_switch ∷ []))) delivered_before_denied refl
+
+pub returns-clause-silent_before : goal.returns-clause-silent_before
+unfolding computing
+returns-clause-silent_before c = kept (may_say_done (listing_of (the_switch ∷ []))) silent_before_given_up refl
+
+pub returns-clause-in_time : goal.returns-clause-in_time
+unfolding computing
+returns-clause-in_time c = kept (may_say_done (listing_of (the_switch ∷ []))) given_up_in_time refl
+
+pub returns-clause-later : goal.returns-clause-later
+unfolding computing
+returns-clause-later c = kept (may_say_done (listing_of (the_switch ∷ []))) silent_later refl
+
+pub returns-clause-with_response : goal.returns-clause-with_response
+unfolding computing
+returns-clause-with_response c = kept (may_say_done (listing_of (the_switch ∷ []))) denied_with_response refl
+
+pub returns-clause-behind_late : goal.returns-clause-behind_late
+unfolding computing
+returns-clause-behind_late c = kept (may_say_done (listing_of (the_switch ∷ []))) silent_behind_late refl
+
+pub returns-clause-silent_beside_other : goal.returns-clause-silent_beside_other
+unfolding computing
+returns-clause-silent_beside_other c = kept (may_say_done (listing_of (the_switch ∷ []))) silent_beside_other refl
+
+pub returns-clause-delivered_behind_refused : goal.returns-clause-delivered_behind_refused
+unfolding computing
+returns-clause-delivered_behind_refused c = kept (may_say_done (listing_of (the_switch ∷ []))) delivered_behind_refused refl

@@ -6,6 +6,7 @@ use Rattle.time_laws.specs.WrongEntries.{failed_unknown}
 use Rattle.time_laws.proofs.Computing.{computing}
 use Rattle.zw_laws.proofs.Deciding.{kept}
 use Rattle.time_laws.proofs.requests.worked_interviews.Goals as goal
+use Rattle.time_laws.specs.WorkedEnds.{informed_behind_lost, informed_twice, informed_unkept, interview_given_up, interview_refused, interview_uninformed, informed_beside_other}
 
 pub returns-clause-sleeping : goal.returns-clause-sleeping
 unfolding computing
@@ -46,3 +47,31 @@ returns-clause-cut c = kept may_end long_message refl
 pub returns-clause-unknown : goal.returns-clause-unknown
 unfolding computing
 returns-clause-unknown c = kept may_end failed_unknown refl
+
+pub returns-clause-uninformed : goal.returns-clause-uninformed
+unfolding computing
+returns-clause-uninformed c = kept may_end interview_uninformed refl
+
+pub returns-clause-refused : goal.returns-clause-refused
+unfolding computing
+returns-clause-refused c = kept may_end interview_refused refl
+
+pub returns-clause-given_up : goal.returns-clause-given_up
+unfolding computing
+returns-clause-given_up c = kept may_end interview_given_up refl
+
+pub returns-clause-twice : goal.returns-clause-twice
+unfolding computing
+returns-clause-twice c = kept may_end informed_twice refl
+
+pub returns-clause-lost : goal.returns-clause-lost
+unfolding computing
+returns-clause-lost c = kept may_end informed_behind_lost refl
+
+pub returns-clause-unkept : goal.returns-clause-unkept
+unfolding computing
+returns-clause-unkept c = kept may_end informed_unkept refl
+
+pub returns-clause-beside_other : goal.returns-clause-beside_other
+unfolding computing
+returns-clause-beside_other c = kept may_end informed_beside_other refl

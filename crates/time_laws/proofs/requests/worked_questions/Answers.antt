@@ -6,6 +6,7 @@ use Rattle.zw_laws.specs.Worked.{cancelled_order, long_message, lossy_exchange, 
 use Rattle.time_laws.proofs.Computing.{computing}
 use Rattle.zw_laws.proofs.Deciding.{kept}
 use Rattle.time_laws.proofs.requests.worked_questions.Goals as goal
+use Rattle.time_laws.specs.WorkedEnds.{answered_behind_lost}
 
 pub returns-clause-answered : goal.returns-clause-answered
 unfolding computing
@@ -46,3 +47,7 @@ returns-clause-sealed c = kept may_answer sealed_exchange refl
 pub returns-clause-cut : goal.returns-clause-cut
 unfolding computing
 returns-clause-cut c = kept may_answer long_message refl
+
+pub returns-clause-lost : goal.returns-clause-lost
+unfolding computing
+returns-clause-lost c = kept may_answer answered_behind_lost refl

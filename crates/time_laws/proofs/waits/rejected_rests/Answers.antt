@@ -7,6 +7,7 @@ use Rattle.zw_laws.specs.Worked.{the_lock, the_plug, the_sensor, the_switch}
 use Rattle.time_laws.proofs.Computing.{computing}
 use Rattle.zw_laws.proofs.Deciding.{broken, not_true}
 use Rattle.time_laws.proofs.waits.rejected_rests.Goals as goal
+use Rattle.time_laws.specs.WrongAttempts.{left_beside_unkept, left_over_restart, left_uninterviewed, left_unkept, left_a_tick, left_behind_abort, left_behind_line, left_given_up}
 
 pub returns-clause-waiting : goal.returns-clause-waiting
 unfolding computing
@@ -47,3 +48,35 @@ returns-clause-unsaid c = λ law. not_true (law.in_the_end refl)
 pub returns-clause-unended : goal.returns-clause-unended
 unfolding computing
 returns-clause-unended c = λ law. not_true (law.in_the_end refl)
+
+pub returns-clause-unkept : goal.returns-clause-unkept
+unfolding computing
+returns-clause-unkept c = λ law. broken (may_rest (listing_of (the_switch ∷ []))) left_unkept refl law.between
+
+pub returns-clause-beside_unkept : goal.returns-clause-beside_unkept
+unfolding computing
+returns-clause-beside_unkept c = λ law. broken (may_rest (listing_of (the_switch ∷ []))) left_beside_unkept refl law.between
+
+pub returns-clause-over_restart : goal.returns-clause-over_restart
+unfolding computing
+returns-clause-over_restart c = λ law. broken (may_rest (listing_of (the_switch ∷ []))) left_over_restart refl law.between
+
+pub returns-clause-uninterviewed : goal.returns-clause-uninterviewed
+unfolding computing
+returns-clause-uninterviewed c = λ law. broken (may_rest (listing_of (the_switch ∷ []))) left_uninterviewed refl law.between
+
+pub returns-clause-behind_abort : goal.returns-clause-behind_abort
+unfolding computing
+returns-clause-behind_abort c = λ law. broken (may_rest (listing_of (the_switch ∷ []))) left_behind_abort refl law.between
+
+pub returns-clause-behind_line : goal.returns-clause-behind_line
+unfolding computing
+returns-clause-behind_line c = λ law. broken (may_rest (listing_of (the_switch ∷ []))) left_behind_line refl law.between
+
+pub returns-clause-a_tick : goal.returns-clause-a_tick
+unfolding computing
+returns-clause-a_tick c = λ law. broken (may_rest (listing_of (the_switch ∷ []))) left_a_tick refl law.between
+
+pub returns-clause-given_up : goal.returns-clause-given_up
+unfolding computing
+returns-clause-given_up c = λ law. broken (may_rest (listing_of (the_switch ∷ []))) left_given_up refl law.between

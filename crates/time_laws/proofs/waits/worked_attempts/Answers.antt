@@ -7,6 +7,7 @@ use Rattle.zw_laws.specs.Worked.{cancelled_order, long_message, lossy_exchange, 
 use Rattle.time_laws.proofs.Computing.{computing}
 use Rattle.zw_laws.proofs.Deciding.{kept}
 use Rattle.time_laws.proofs.waits.worked_attempts.Goals as goal
+use Rattle.time_laws.specs.WorkedAttempts.{given_up_at_segment, given_up_behind_lost, given_up_beside_get, given_up_beside_other, given_up_beside_working, given_up_over_refused, given_up_refused, given_up_working, halted_waiting, given_up_behind_unit, given_up_unkept}
 
 pub returns-clause-lossy : goal.returns-clause-lossy
 unfolding computing
@@ -67,3 +68,47 @@ returns-clause-sealed c = record { between = kept (may_give_up (listing_of (the_
 pub returns-clause-cut : goal.returns-clause-cut
 unfolding computing
 returns-clause-cut c = record { between = kept (may_give_up (listing_of (the_plug ∷ []))) long_message refl; in_the_end = λ whole. refl }
+
+pub returns-clause-behind_lost : goal.returns-clause-behind_lost
+unfolding computing
+returns-clause-behind_lost c = record { between = kept (may_give_up (listing_of (the_switch ∷ []))) given_up_behind_lost refl; in_the_end = λ whole. refl }
+
+pub returns-clause-refused : goal.returns-clause-refused
+unfolding computing
+returns-clause-refused c = record { between = kept (may_give_up (listing_of (the_switch ∷ []))) given_up_refused refl; in_the_end = λ whole. refl }
+
+pub returns-clause-working : goal.returns-clause-working
+unfolding computing
+returns-clause-working c = record { between = kept (may_give_up (listing_of (the_switch ∷ []))) given_up_working refl; in_the_end = λ whole. refl }
+
+pub returns-clause-beside_working : goal.returns-clause-beside_working
+unfolding computing
+returns-clause-beside_working c = record { between = kept (may_give_up (listing_of (the_switch ∷ []))) given_up_beside_working refl; in_the_end = λ whole. refl }
+
+pub returns-clause-beside_get : goal.returns-clause-beside_get
+unfolding computing
+returns-clause-beside_get c = record { between = kept (may_give_up (listing_of (the_switch ∷ []))) given_up_beside_get refl; in_the_end = λ whole. refl }
+
+pub returns-clause-beside_other : goal.returns-clause-beside_other
+unfolding computing
+returns-clause-beside_other c = record { between = kept (may_give_up (listing_of (the_switch ∷ []))) given_up_beside_other refl; in_the_end = λ whole. refl }
+
+pub returns-clause-over_refused : goal.returns-clause-over_refused
+unfolding computing
+returns-clause-over_refused c = record { between = kept (may_give_up (listing_of (the_switch ∷ []))) given_up_over_refused refl; in_the_end = λ whole. refl }
+
+pub returns-clause-at_segment : goal.returns-clause-at_segment
+unfolding computing
+returns-clause-at_segment c = record { between = kept (may_give_up (listing_of (the_plug ∷ []))) given_up_at_segment refl; in_the_end = λ whole. refl }
+
+pub returns-clause-halted : goal.returns-clause-halted
+unfolding computing
+returns-clause-halted c = record { between = kept (may_give_up (listing_of (the_switch ∷ []))) halted_waiting refl; in_the_end = λ whole. cc }
+
+pub returns-clause-unkept : goal.returns-clause-unkept
+unfolding computing
+returns-clause-unkept c = record { between = kept (may_give_up (listing_of (the_switch ∷ []))) given_up_unkept refl; in_the_end = λ whole. refl }
+
+pub returns-clause-behind_unit : goal.returns-clause-behind_unit
+unfolding computing
+returns-clause-behind_unit c = record { between = kept (may_give_up (listing_of (the_switch ∷ []))) given_up_behind_unit refl; in_the_end = λ whole. refl }

@@ -7,6 +7,8 @@ use Rattle.zw_laws.specs.Worked.{cancelled_order, long_message, lossy_exchange, 
 use Rattle.time_laws.proofs.Computing.{computing}
 use Rattle.zw_laws.proofs.Deciding.{kept}
 use Rattle.time_laws.proofs.waits.worked_rests.Goals as goal
+use Rattle.time_laws.specs.WorkedAttempts.{asked_before_restart, begun_kept, waits_asleep}
+use Rattle.time_laws.specs.WorkedEnds.{informed, informed_unkept, interview_uninformed, waits_for_judging, waits_for_line}
 
 pub returns-clause-plain : goal.returns-clause-plain
 unfolding computing
@@ -67,3 +69,35 @@ returns-clause-host_restarted c = record { between = kept (may_rest (listing_of 
 pub returns-clause-cut : goal.returns-clause-cut
 unfolding computing
 returns-clause-cut c = record { between = kept (may_rest (listing_of (the_plug ∷ []))) long_message refl; in_the_end = λ whole. refl }
+
+pub returns-clause-kept : goal.returns-clause-kept
+unfolding computing
+returns-clause-kept c = record { between = kept (may_rest (listing_of (the_switch ∷ []))) begun_kept refl; in_the_end = λ whole. refl }
+
+pub returns-clause-asleep : goal.returns-clause-asleep
+unfolding computing
+returns-clause-asleep c = record { between = kept (may_rest (listing_of (the_switch ∷ []))) waits_asleep refl; in_the_end = λ whole. refl }
+
+pub returns-clause-before_restart : goal.returns-clause-before_restart
+unfolding computing
+returns-clause-before_restart c = record { between = kept (may_rest (listing_of (the_switch ∷ []))) asked_before_restart refl; in_the_end = λ whole. refl }
+
+pub returns-clause-informed : goal.returns-clause-informed
+unfolding computing
+returns-clause-informed c = record { between = kept (may_rest (listing_of (the_switch ∷ []))) informed refl; in_the_end = λ whole. refl }
+
+pub returns-clause-uninformed : goal.returns-clause-uninformed
+unfolding computing
+returns-clause-uninformed c = record { between = kept (may_rest (listing_of (the_switch ∷ []))) interview_uninformed refl; in_the_end = λ whole. refl }
+
+pub returns-clause-unkept : goal.returns-clause-unkept
+unfolding computing
+returns-clause-unkept c = record { between = kept (may_rest (listing_of (the_switch ∷ []))) informed_unkept refl; in_the_end = λ whole. refl }
+
+pub returns-clause-for_line : goal.returns-clause-for_line
+unfolding computing
+returns-clause-for_line c = record { between = kept (may_rest (listing_of (the_switch ∷ []))) waits_for_line refl; in_the_end = λ whole. refl }
+
+pub returns-clause-for_judging : goal.returns-clause-for_judging
+unfolding computing
+returns-clause-for_judging c = record { between = kept (may_rest (listing_of (the_switch ∷ []))) waits_for_judging refl; in_the_end = λ whole. refl }

@@ -6,6 +6,8 @@ use Rattle.time_laws.specs.WrongEntries.{asleep_though_listening, held_though_li
 use Rattle.time_laws.proofs.Computing.{computing}
 use Rattle.zw_laws.proofs.Deciding.{broken}
 use Rattle.time_laws.proofs.waking.rejected_waking.Goals as goal
+use Rattle.time_laws.specs.WrongEnds.{asleep_again, asleep_before_end, asleep_by_other}
+use Rattle.time_laws.specs.WrongWaking.{awake_by_unread, held_by_other, held_unanswered, not_held_failing, not_held_unsupported, awake_behind_accepted, awake_behind_change, awake_behind_cleared, awake_behind_forgotten, awake_behind_frame, awake_behind_full, awake_behind_hearing, awake_behind_line, awake_behind_loss, awake_behind_refused, awake_behind_session, awake_behind_tick, awake_behind_unhearing, awake_behind_unit, awake_behind_note}
 
 pub returns-clause-untold : goal.returns-clause-untold
 unfolding computing
@@ -46,3 +48,95 @@ returns-clause-listening c = broken may_sleep asleep_though_listening refl
 pub returns-clause-held_listening : goal.returns-clause-held_listening
 unfolding computing
 returns-clause-held_listening c = broken may_hold held_though_listening refl
+
+pub returns-clause-again : goal.returns-clause-again
+unfolding computing
+returns-clause-again c = broken may_sleep asleep_again refl
+
+pub returns-clause-before_end : goal.returns-clause-before_end
+unfolding computing
+returns-clause-before_end c = broken may_sleep asleep_before_end refl
+
+pub returns-clause-by_other : goal.returns-clause-by_other
+unfolding computing
+returns-clause-by_other c = broken may_sleep asleep_by_other refl
+
+pub returns-clause-unread : goal.returns-clause-unread
+unfolding computing
+returns-clause-unread c = broken may_wake awake_by_unread refl
+
+pub returns-clause-failing : goal.returns-clause-failing
+unfolding computing
+returns-clause-failing c = broken may_hold not_held_failing refl
+
+pub returns-clause-unsupported : goal.returns-clause-unsupported
+unfolding computing
+returns-clause-unsupported c = broken may_hold not_held_unsupported refl
+
+pub returns-clause-by_other_session : goal.returns-clause-by_other_session
+unfolding computing
+returns-clause-by_other_session c = broken may_hold held_by_other refl
+
+pub returns-clause-unanswered : goal.returns-clause-unanswered
+unfolding computing
+returns-clause-unanswered c = broken may_hold held_unanswered refl
+
+pub returns-clause-behind_line : goal.returns-clause-behind_line
+unfolding computing
+returns-clause-behind_line c = broken may_wake awake_behind_line refl
+
+pub returns-clause-behind_accepted : goal.returns-clause-behind_accepted
+unfolding computing
+returns-clause-behind_accepted c = broken may_wake awake_behind_accepted refl
+
+pub returns-clause-behind_refused : goal.returns-clause-behind_refused
+unfolding computing
+returns-clause-behind_refused c = broken may_wake awake_behind_refused refl
+
+pub returns-clause-behind_tick : goal.returns-clause-behind_tick
+unfolding computing
+returns-clause-behind_tick c = broken may_wake awake_behind_tick refl
+
+pub returns-clause-behind_frame : goal.returns-clause-behind_frame
+unfolding computing
+returns-clause-behind_frame c = broken may_wake awake_behind_frame refl
+
+pub returns-clause-behind_hearing : goal.returns-clause-behind_hearing
+unfolding computing
+returns-clause-behind_hearing c = broken may_wake awake_behind_hearing refl
+
+pub returns-clause-behind_loss : goal.returns-clause-behind_loss
+unfolding computing
+returns-clause-behind_loss c = broken may_wake awake_behind_loss refl
+
+pub returns-clause-behind_unhearing : goal.returns-clause-behind_unhearing
+unfolding computing
+returns-clause-behind_unhearing c = broken may_wake awake_behind_unhearing refl
+
+pub returns-clause-behind_change : goal.returns-clause-behind_change
+unfolding computing
+returns-clause-behind_change c = broken may_wake awake_behind_change refl
+
+pub returns-clause-behind_unit : goal.returns-clause-behind_unit
+unfolding computing
+returns-clause-behind_unit c = broken may_wake awake_behind_unit refl
+
+pub returns-clause-behind_forgotten : goal.returns-clause-behind_forgotten
+unfolding computing
+returns-clause-behind_forgotten c = broken may_wake awake_behind_forgotten refl
+
+pub returns-clause-behind_full : goal.returns-clause-behind_full
+unfolding computing
+returns-clause-behind_full c = broken may_wake awake_behind_full refl
+
+pub returns-clause-behind_cleared : goal.returns-clause-behind_cleared
+unfolding computing
+returns-clause-behind_cleared c = broken may_wake awake_behind_cleared refl
+
+pub returns-clause-behind_session : goal.returns-clause-behind_session
+unfolding computing
+returns-clause-behind_session c = broken may_wake awake_behind_session refl
+
+pub returns-clause-behind_note : goal.returns-clause-behind_note
+unfolding computing
+returns-clause-behind_note c = broken may_wake awake_behind_note refl

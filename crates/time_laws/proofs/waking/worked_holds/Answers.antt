@@ -5,6 +5,7 @@ use Rattle.zw_laws.specs.Worked.{cancelled_order, long_message, lossy_exchange, 
 use Rattle.time_laws.proofs.Computing.{computing}
 use Rattle.zw_laws.proofs.Deciding.{kept}
 use Rattle.time_laws.proofs.waking.worked_holds.Goals as goal
+use Rattle.time_laws.specs.WorkedWaking.{held_failing, held_unsupported}
 
 pub returns-clause-held : goal.returns-clause-held
 unfolding computing
@@ -41,3 +42,11 @@ returns-clause-sealed c = kept may_hold sealed_exchange refl
 pub returns-clause-cut : goal.returns-clause-cut
 unfolding computing
 returns-clause-cut c = kept may_hold long_message refl
+
+pub returns-clause-failing : goal.returns-clause-failing
+unfolding computing
+returns-clause-failing c = kept may_hold held_failing refl
+
+pub returns-clause-unsupported : goal.returns-clause-unsupported
+unfolding computing
+returns-clause-unsupported c = kept may_hold held_unsupported refl

@@ -5,6 +5,7 @@ use Rattle.zw_laws.specs.Worked.{cancelled_order, long_message, lossy_exchange, 
 use Rattle.time_laws.proofs.Computing.{computing}
 use Rattle.zw_laws.proofs.Deciding.{kept}
 use Rattle.time_laws.proofs.waking.worked_sleeping.Goals as goal
+use Rattle.time_laws.specs.WorkedEnds.{asleep_behind_lost, asleep_given_up, asleep_in_silence}
 
 pub returns-clause-sleeps : goal.returns-clause-sleeps
 unfolding computing
@@ -41,3 +42,15 @@ returns-clause-sealed c = kept may_sleep sealed_exchange refl
 pub returns-clause-cut : goal.returns-clause-cut
 unfolding computing
 returns-clause-cut c = kept may_sleep long_message refl
+
+pub returns-clause-lost : goal.returns-clause-lost
+unfolding computing
+returns-clause-lost c = kept may_sleep asleep_behind_lost refl
+
+pub returns-clause-silent : goal.returns-clause-silent
+unfolding computing
+returns-clause-silent c = kept may_sleep asleep_in_silence refl
+
+pub returns-clause-told_in_vain : goal.returns-clause-told_in_vain
+unfolding computing
+returns-clause-told_in_vain c = kept may_sleep asleep_given_up refl

@@ -4,6 +4,7 @@ use Rattle.zw_laws.specs.Worked.{cancelled_order, long_message, lossy_exchange, 
 use Rattle.time_laws.proofs.Computing.{computing}
 use Rattle.zw_laws.proofs.Deciding.{kept}
 use Rattle.time_laws.proofs.waking.worked_waking.Goals as goal
+use Rattle.time_laws.specs.WorkedWaking.{awake_behind_lost, awake_by_sealed}
 
 pub returns-clause-wakes : goal.returns-clause-wakes
 unfolding computing
@@ -36,3 +37,11 @@ returns-clause-sealed c = kept may_wake sealed_exchange refl
 pub returns-clause-cut : goal.returns-clause-cut
 unfolding computing
 returns-clause-cut c = kept may_wake long_message refl
+
+pub returns-clause-lost : goal.returns-clause-lost
+unfolding computing
+returns-clause-lost c = kept may_wake awake_behind_lost refl
+
+pub returns-clause-by_sealed : goal.returns-clause-by_sealed
+unfolding computing
+returns-clause-by_sealed c = kept may_wake awake_by_sealed refl

@@ -21,3 +21,7 @@ returns-clause-asleep c = λ law. not_true law.awake
 pub returns-clause-nobody : goal.returns-clause-nobody
 unfolding reckoning
 returns-clause-nobody c = λ law. law.awake
+
+pub returns-clause-tired : goal.returns-clause-tired
+unfolding reckoning
+returns-clause-tired c = λ law. not_true law.awake

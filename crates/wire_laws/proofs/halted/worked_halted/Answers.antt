@@ -11,18 +11,11 @@ returns-clause-heard c = record {
   earlier = [];
   late = events_halted;
   more = take 1 (drop 11 plain_exchange);
-  changes = turned_on;
   runs = refl;
-  came = refl;
-  ticked = refl;
-  answered = λ joined idle. refl;
-  unsaid = refl;
-  one_more = omega arith;
-  came_late = ([], refl);
-  ticked_late = omega arith;
-  changed = refl;
-  entered = refl;
-  answered_late = λ joined idle. (_, refl);
+  before = record { came = refl; ticked = refl; answered = λ joined idle. refl };
+  lacks = record { unsaid = refl; one_more = omega arith };
+  behind = record { came = ([], refl); ticked = omega arith; answered = λ joined idle. (_, refl) };
+  changes = record { changes = turned_on; changed = refl; entered = refl };
 }
 
 pub returns-clause-changed : goal.returns-clause-changed
@@ -31,18 +24,11 @@ returns-clause-changed c = record {
   earlier = [];
   late = events_halted;
   more = [];
-  changes = turned_on;
   runs = refl;
-  came = refl;
-  ticked = refl;
-  answered = λ joined idle. refl;
-  unsaid = refl;
-  one_more = omega arith;
-  came_late = ([], refl);
-  ticked_late = omega arith;
-  changed = refl;
-  entered = refl;
-  answered_late = λ joined idle. (_, refl);
+  before = record { came = refl; ticked = refl; answered = λ joined idle. refl };
+  lacks = record { unsaid = refl; one_more = omega arith };
+  behind = record { came = ([], refl); ticked = omega arith; answered = λ joined idle. (_, refl) };
+  changes = record { changes = turned_on; changed = refl; entered = refl };
 }
 
 pub returns-clause-unheard : goal.returns-clause-unheard
@@ -51,16 +37,9 @@ returns-clause-unheard c = record {
   earlier = [];
   late = [];
   more = [];
-  changes = [];
   runs = refl;
-  came = refl;
-  ticked = refl;
-  answered = λ joined idle. refl;
-  unsaid = refl;
-  one_more = omega arith;
-  came_late = (_, refl);
-  ticked_late = omega arith;
-  changed = refl;
-  entered = refl;
-  answered_late = λ joined idle. (_, refl);
+  before = record { came = refl; ticked = refl; answered = λ joined idle. refl };
+  lacks = record { unsaid = refl; one_more = omega arith };
+  behind = record { came = (_, refl); ticked = omega arith; answered = λ joined idle. (_, refl) };
+  changes = record { changes = []; changed = refl; entered = refl };
 }

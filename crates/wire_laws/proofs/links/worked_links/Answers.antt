@@ -1,6 +1,7 @@
 use Rattle.std.proofs.Common.{refl, []}
 use Rattle.zw_words.specs.declared.side.Side.TheVariants.{Host, Chip}
 use Rattle.zw_laws.specs.Worked.{plain_exchange, repeated_exchange, lossy_exchange, cancelled_order, restarted_host, sleeping_node, sealed_exchange, long_message}
+use Rattle.wire_laws.specs.WorkedWrong.{refused_restart}
 use Rattle.wire_laws.proofs.Computing.{reckoning}
 use Rattle.wire_laws.proofs.Moves.{keeps_link}
 use Rattle.wire_laws.proofs.links.worked_links.Goals as goal
@@ -36,3 +37,7 @@ returns-clause-sealed c = record { chip = keeps_link Chip sealed_exchange refl r
 pub returns-clause-cut : goal.returns-clause-cut
 unfolding reckoning
 returns-clause-cut c = record { chip = keeps_link Chip long_message refl refl ([], refl); host = (keeps_link Host long_message refl refl ([], refl), tt) }
+
+pub returns-clause-refused : goal.returns-clause-refused
+unfolding reckoning
+returns-clause-refused c = record { chip = keeps_link Chip refused_restart refl refl ([], refl); host = (keeps_link Host refused_restart refl refl ([], refl), tt) }

@@ -74,3 +74,15 @@ none_one e = omega (arith, e)
 pub returns-clause-left_by_line : goal.returns-clause-left_by_line
 unfolding computing
 returns-clause-left_by_line c = λ law. none_one law.1.1.0
+
+pub returns-clause-lost_again : goal.returns-clause-lost_again
+unfolding computing
+returns-clause-lost_again c = λ law. one_two law.1.1.1.0.0
+
+pub returns-clause-unheard_again : goal.returns-clause-unheard_again
+unfolding computing
+returns-clause-unheard_again c = λ law. one_two law.1.1.1.0.0
+
+pub returns-clause-both_marked : goal.returns-clause-both_marked
+unfolding computing
+returns-clause-both_marked c = λ law. law.1.1.1.1.1.1.1.0 (inl refl) (inr (inl refl))

@@ -1,5 +1,6 @@
 use Rattle.std.proofs.Common.{refl, arith}
 use Rattle.zw_laws.specs.Worked.{plain_exchange, repeated_exchange, lossy_exchange, cancelled_order, restarted_host, sleeping_node, sealed_exchange, long_message}
+use Rattle.zw_laws.specs.WorkedCases.{repeated_on}
 use Rattle.zw_laws.proofs.Entries.{fares_in_turn}
 use Rattle.zw_laws.proofs.Computing.{computing}
 use Rattle.zw_laws.proofs.air.worked_fates.Goals as goal
@@ -224,3 +225,7 @@ returns-clause-cut c = fares_in_turn long_message (
     ),
   ),
 )
+
+pub returns-clause-again : goal.returns-clause-again
+unfolding computing
+returns-clause-again c = fares_in_turn repeated_on (refl, ((refl, omega arith), (refl, ((refl, refl), (refl, (refl, tt))))))

@@ -45,3 +45,27 @@ returns-clause-again c = refl
 pub returns-clause-unsealed : goal.returns-clause-unsealed
 unfolding computing
 returns-clause-unsealed c = refl
+
+pub returns-clause-report_at : goal.returns-clause-report_at
+unfolding computing
+returns-clause-report_at c = refl
+
+pub returns-clause-before : goal.returns-clause-before
+unfolding computing
+returns-clause-before c = refl
+
+pub returns-clause-nonces_before : goal.returns-clause-nonces_before
+unfolding computing
+returns-clause-nonces_before c = refl
+
+pub returns-clause-other_nonces : goal.returns-clause-other_nonces
+unfolding computing
+returns-clause-other_nonces c = refl
+
+pub returns-clause-zeroth : goal.returns-clause-zeroth
+unfolding computing
+returns-clause-zeroth c = refl
+
+pub returns-clause-unsent : goal.returns-clause-unsent
+unfolding computing
+returns-clause-unsent c = refl

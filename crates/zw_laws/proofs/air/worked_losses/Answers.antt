@@ -1,5 +1,6 @@
 use Rattle.std.proofs.Common.{[], ◌∷◌, refl}
 use Rattle.zw_laws.specs.Worked.{plain_exchange, repeated_exchange, lossy_exchange, cancelled_order, restarted_host, sleeping_node, sealed_exchange, long_message}
+use Rattle.zw_laws.specs.WorkedCases.{lost_repeated}
 use Rattle.zw_laws.proofs.Entries.{loses_marked, not_among}
 use Rattle.zw_laws.proofs.Computing.{computing}
 use Rattle.zw_laws.proofs.air.worked_losses.Goals as goal
@@ -71,3 +72,7 @@ returns-clause-sealed c = loses_marked sealed_exchange (
 pub returns-clause-cut : goal.returns-clause-cut
 unfolding computing
 returns-clause-cut c = loses_marked long_message ((λ first has. absurd has), ((λ first has. absurd has), ((λ first has. absurd has), ((λ first has. absurd has), tt))))
+
+pub returns-clause-again : goal.returns-clause-again
+unfolding computing
+returns-clause-again c = loses_marked lost_repeated ((λ first has. absurd first), tt)

@@ -7,6 +7,9 @@ use Rattle.zw_laws.proofs.device.rejected_records.Goals as goal
 false_true : false ≡ true → ⊥
 false_true e = cc
 
+true_false : true ≡ false → ⊥
+true_false e = cc
+
 one_none : ◌≡◌ {A = ℕ} 1 0 → ⊥
 one_none e = omega (arith, e)
 
@@ -48,3 +51,11 @@ returns-clause-otherwise c = λ shows. two_one (ap first_number shows.begun)
 pub returns-clause-failed : goal.returns-clause-failed
 unfolding computing_devices
 returns-clause-failed c = λ shows. none_one (ap first_succeeded shows.ended)
+
+pub returns-clause-uninterviewed : goal.returns-clause-uninterviewed
+unfolding computing_devices
+returns-clause-uninterviewed c = λ shows. false_true shows.interviewed
+
+pub returns-clause-stranger : goal.returns-clause-stranger
+unfolding computing_devices
+returns-clause-stranger c = λ shows. true_false shows.interviewed

@@ -13,7 +13,7 @@ use Rattle.zw_laws.specs.Devices.{after_events, replies_in, comings, brought, ti
 use Rattle.zw_laws.specs.Restarts.{ticks_asked}
 use Rattle.zw_laws.proofs.Sealing.{set_plain, report_with, report_code, opened_set, sealed_report}
 use Rattle.zw_laws.specs.Worked.{bytes, sealed_exchange, turned_on, turned_on_and_off, set_apart, secured, configured}
-use Rattle.zw_laws.specs.WorkedDevices.{tick, switch_events, repeated_events, lossy_events, restarted_events, cut_events, sensor_events, the_keyed_lock, sealed_set, lock_begins, lock_goes_on, lock_events, hand_events}
+use Rattle.zw_laws.specs.WorkedDevices.{tick, switch_events, repeated_events, lossy_events, restarted_events, cut_events, sensor_events, the_keyed_lock, sealed_set, lock_begins, lock_goes_on, lock_events, hand_events, switch_at_work}
 use Rattle.transport_segments.specs.Places.{written, IsFull}
 use Rattle.transport_segments.specs.Taking.{taken_at, kept_after}
 use Rattle.device_stack.specs.Hearing.{hears_in_segments, hears_segment, hears_plain, hears_sealed, hears_securely, active}
@@ -27,12 +27,9 @@ pub returns-clause-plain : goal.returns-clause-plain
 unfolding computing_devices
 returns-clause-plain c = record {
   events = switch_events;
-  changes = turned_on;
   runs = refl;
-  came = refl;
-  ticked = refl;
-  changed = refl;
-  entered = refl;
+  comes = record { came = refl; ticked = refl };
+  shows = record { changes = turned_on; changed = refl; entered = refl };
   answered = λ came idle. refl;
 }
 
@@ -44,12 +41,9 @@ pub returns-clause-sleeping : goal.returns-clause-sleeping
 unfolding computing_devices
 returns-clause-sleeping c = record {
   events = sensor_events;
-  changes = set_apart;
   runs = refl;
-  came = refl;
-  ticked = refl;
-  changed = refl;
-  entered = refl;
+  comes = record { came = refl; ticked = refl };
+  shows = record { changes = set_apart; changed = refl; entered = refl };
   answered = λ came idle. refl;
 }
 
@@ -61,12 +55,9 @@ pub returns-clause-by_hand : goal.returns-clause-by_hand
 unfolding computing_devices
 returns-clause-by_hand c = record {
   events = hand_events;
-  changes = record { by = Local; settings = setting 0 names.Switch 255 ∷ [] } ∷ [];
   runs = refl;
-  came = refl;
-  ticked = refl;
-  changed = refl;
-  entered = refl;
+  comes = record { came = refl; ticked = refl };
+  shows = record { changes = record { by = Local; settings = setting 0 names.Switch 255 ∷ [] } ∷ []; changed = refl; entered = refl };
   answered = λ came idle. refl;
 }
 
@@ -74,12 +65,9 @@ pub returns-clause-ticked : goal.returns-clause-ticked
 unfolding computing_devices
 returns-clause-ticked c = record {
   events = tick ∷ [];
-  changes = [];
   runs = refl;
-  came = refl;
-  ticked = refl;
-  changed = refl;
-  entered = refl;
+  comes = record { came = refl; ticked = refl };
+  shows = record { changes = []; changed = refl; entered = refl };
   answered = λ came idle. refl;
 }
 
@@ -91,25 +79,32 @@ pub returns-clause-apart : goal.returns-clause-apart
 unfolding computing_devices
 returns-clause-apart c = record {
   events = Wakes ∷ [];
-  changes = [];
   runs = refl;
-  came = refl;
-  ticked = refl;
-  changed = refl;
-  entered = refl;
+  comes = record { came = refl; ticked = refl };
+  shows = record { changes = []; changed = refl; entered = refl };
   answered = λ came idle. absurd (one_none _ came);
+}
+
+one_zero : ◌≡◌ {A = ℕ} 1 0 → ⊥
+one_zero e = omega (arith, e)
+
+pub returns-clause-working : goal.returns-clause-working
+unfolding computing_devices
+returns-clause-working c = record {
+  events = tick ∷ [];
+  runs = refl;
+  comes = record { came = refl; ticked = refl };
+  shows = record { changes = (after_events switch_at_work (tick ∷ [])).journal; changed = refl; entered = refl };
+  answered = λ came idle. absurd (one_zero idle);
 }
 
 pub returns-clause-repeated : goal.returns-clause-repeated
 unfolding computing_devices
 returns-clause-repeated c = record {
   events = repeated_events;
-  changes = turned_on;
   runs = refl;
-  came = refl;
-  ticked = refl;
-  changed = refl;
-  entered = refl;
+  comes = record { came = refl; ticked = refl };
+  shows = record { changes = turned_on; changed = refl; entered = refl };
   answered = λ came idle. refl;
 }
 
@@ -117,12 +112,9 @@ pub returns-clause-lossy : goal.returns-clause-lossy
 unfolding computing_devices
 returns-clause-lossy c = record {
   events = lossy_events;
-  changes = turned_on_and_off;
   runs = refl;
-  came = refl;
-  ticked = refl;
-  changed = refl;
-  entered = refl;
+  comes = record { came = refl; ticked = refl };
+  shows = record { changes = turned_on_and_off; changed = refl; entered = refl };
   answered = λ came idle. refl;
 }
 
@@ -130,12 +122,9 @@ pub returns-clause-cancelled : goal.returns-clause-cancelled
 unfolding computing_devices
 returns-clause-cancelled c = record {
   events = switch_events;
-  changes = turned_on;
   runs = refl;
-  came = refl;
-  ticked = refl;
-  changed = refl;
-  entered = refl;
+  comes = record { came = refl; ticked = refl };
+  shows = record { changes = turned_on; changed = refl; entered = refl };
   answered = λ came idle. refl;
 }
 
@@ -143,12 +132,9 @@ pub returns-clause-restarted : goal.returns-clause-restarted
 unfolding computing_devices
 returns-clause-restarted c = record {
   events = restarted_events;
-  changes = turned_on;
   runs = refl;
-  came = refl;
-  ticked = refl;
-  changed = refl;
-  entered = refl;
+  comes = record { came = refl; ticked = refl };
+  shows = record { changes = turned_on; changed = refl; entered = refl };
   answered = λ came idle. refl;
 }
 
@@ -156,12 +142,9 @@ pub returns-clause-cut : goal.returns-clause-cut
 unfolding computing_devices hears_in_segments hears_segment taken_at kept_after written IsFull configuration_bulk_at size_at numbers_at
 returns-clause-cut c = record {
   events = cut_events;
-  changes = configured;
   runs = refl;
-  came = refl;
-  ticked = refl;
-  changed = refl;
-  entered = refl;
+  comes = record { came = refl; ticked = refl };
+  shows = record { changes = configured; changed = refl; entered = refl };
   answered = λ came idle. refl;
 }
 
@@ -240,12 +223,9 @@ lock_sent = refl
 pub returns-clause-sealed : goal.returns-clause-sealed
 returns-clause-sealed c = record {
   events = lock_events;
-  changes = secured;
   runs = refl;
-  came = lock_came;
-  ticked = lock_ticked;
-  changed = journal_is;
-  entered = lock_entered;
+  comes = record { came = lock_came; ticked = lock_ticked };
+  shows = record { changes = secured; changed = journal_is; entered = lock_entered };
   answered = λ came idle. lock_sent ∙ sym (replies_are
       ∙ ap (λ (replies : List (List ℕ)). replies ++ (bytes (codes "9840") ∷ report_with report_code ∷ [])) replies_before);
 }

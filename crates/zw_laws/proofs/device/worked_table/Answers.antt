@@ -42,6 +42,18 @@ pub returns-clause-two : goal.returns-clause-two
 unfolding computing_devices
 returns-clause-two c = refl
 
-pub returns-clause-records : goal.returns-clause-records
+pub returns-clause-restarted_since : goal.returns-clause-restarted_since
 unfolding computing_devices
-returns-clause-records c = record { joined = refl; interviewed = refl; waits = refl; begun = refl; ended = refl }
+returns-clause-restarted_since c = refl
+
+pub returns-clause-unanswered : goal.returns-clause-unanswered
+unfolding computing_devices
+returns-clause-unanswered c = refl
+
+pub returns-clause-nodes_in_order : goal.returns-clause-nodes_in_order
+unfolding computing_devices
+returns-clause-nodes_in_order c = refl
+
+pub returns-clause-values_in_order : goal.returns-clause-values_in_order
+unfolding computing_devices
+returns-clause-values_in_order c = refl

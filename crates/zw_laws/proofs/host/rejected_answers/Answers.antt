@@ -1,4 +1,6 @@
 use Rattle.std.proofs.Common.{◌≡◌, ℕ, ◌+◌, true, false, List, [], ◌∷◌, length, refl, ap, inl, inr, arith}
+use Rattle.zw_text.specs.declared.line.Line.{Line}
+use Rattle.zw_text.specs.declared.line.Line.TheVariants.{Cancel}
 use Rattle.zw_text.specs.declared.entry.Entry.{Entry}
 use Rattle.zw_text.specs.declared.entry.Entry.TheVariants.{Accepted, Refused, Store}
 use Rattle.zw_text.specs.declared.entry.Refusal.{Refusal}
@@ -119,3 +121,54 @@ returns-clause-line_numbered c = λ law. law.between.1.0
 pub returns-clause-another : goal.returns-clause-another
 unfolding computing
 returns-clause-another c = λ law. two_one law.between.1.1.1.1.1.0
+
+-- the node of an answer or a value, and the command that a line takes back
+abbrev node_of : Entry → ℕ
+node_of (Accepted command node) = node
+node_of (Store node setting) = node
+node_of _ = 0
+
+abbrev first_node_of : List Entry → ℕ
+first_node_of [] = 0
+first_node_of (entry ∷ rest) = node_of entry
+
+abbrev taken_back_by : List Line → ℕ
+taken_back_by (Cancel command ∷ lines) = command
+taken_back_by _ = 0
+
+two_three : ◌≡◌ {A = ℕ} 2 3 → ⊥
+two_three e = omega (arith, e)
+
+one_two : ◌≡◌ {A = ℕ} 1 2 → ⊥
+one_two e = omega (arith, e)
+
+one_zero : ◌≡◌ {A = ℕ} 1 0 → ⊥
+one_zero e = omega (arith, e)
+
+pub returns-clause-for_another : goal.returns-clause-for_another
+unfolding computing
+returns-clause-for_another c = λ law. elim law.between.1.0 [ inl same ↦ two_three (ap first_node_of same) | inr kept ↦ three_zero (ap node_of kept.1) ]
+
+pub returns-clause-refused_unasked : goal.returns-clause-refused_unasked
+unfolding computing
+returns-clause-refused_unasked c = λ law. law.between.0
+
+pub returns-clause-joined_at_last : goal.returns-clause-joined_at_last
+unfolding computing
+returns-clause-joined_at_last c = λ law. one_zero (ap length (law.in_the_end refl))
+
+pub returns-clause-another_taken : goal.returns-clause-another_taken
+unfolding computing
+returns-clause-another_taken c = λ law. one_two (ap taken_back_by law.1.1.1.1.1.0.0)
+
+pub returns-clause-cancel_refused : goal.returns-clause-cancel_refused
+unfolding computing
+returns-clause-cancel_refused c = λ law. law.between.1.1.1.0
+
+pub returns-clause-elsewhere : goal.returns-clause-elsewhere
+unfolding computing
+returns-clause-elsewhere c = λ law. two_three (ap first_node_of law.asked.1)
+
+pub returns-clause-first : goal.returns-clause-first
+unfolding computing
+returns-clause-first c = λ law. law.behind.0

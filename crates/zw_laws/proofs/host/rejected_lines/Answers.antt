@@ -1,6 +1,8 @@
-use Rattle.std.proofs.Common.{ℕ, List, [], ◌∷◌, ◌++◌, refl, ap, sym, subst, inl, inr}
+use Rattle.std.proofs.Common.{◌≡◌, ℕ, true, false, List, [], ◌∷◌, ◌++◌, refl, ap, sym, subst, inl, inr}
 use Rattle.std.specs.Prelude.{codes}
 use Rattle.std.proofs.lemmas.List.{append-nil, append_assoc}
+use Rattle.zw_text.specs.declared.entry.Refusal.{Refusal}
+use Rattle.zw_text.specs.declared.entry.Refusal.TheVariants as refusals
 use Rattle.zw_text.specs.declared.entry.Entry.{Entry}
 use Rattle.zw_text.specs.declared.entry.Entry.TheVariants.{Said, Accepted, Refused}
 use Rattle.zw_laws.specs.Answers.{MayAnswer}
@@ -20,6 +22,25 @@ abbrev first_refuses : List Entry → ℕ
 first_refuses [] = 0
 first_refuses (entry ∷ rest) = refuses entry
 
+not_true : false ≡ true → ⊥
+not_true e = cc
+
+-- numbers that tell the rules apart by which entries refuse
+abbrev rule_of : Refusal → ℕ
+rule_of refusals.NotJoined = 1
+rule_of refusals.NotInterviewed = 2
+rule_of (refusals.Unsupported class) = 3
+rule_of refusals.Secured = 4
+rule_of _ = 0
+
+abbrev rule_in : Entry → ℕ
+rule_in (Refused refusal) = rule_of refusal
+rule_in _ = 0
+
+abbrev first_rule : List Entry → ℕ
+first_rule [] = 0
+first_rule (entry ∷ rest) = rule_in entry
+
 -- what stands behind one entry that comes behind others may stand there
 behind : {A : Type 0} (May : List A → A → Type 0) (past front : List A) (first second : A) → EachAfter May past (front ++ first ∷ second ∷ [])
     → May ((past ++ front) ++ first ∷ []) second
@@ -29,11 +50,11 @@ behind {A} May past (item ∷ front) first second after =
 
 pub returns-clause-joined : goal.returns-clause-joined
 unfolding computing
-returns-clause-joined c = λ law. elim (law.between.1.0) [ inl same ↦ differ 1 0 refl (ap first_refuses same) | inr kept ↦ kept.0 ]
+returns-clause-joined c = λ law. elim (law.between.1.1.0) [ inl same ↦ differ 1 0 refl (ap first_refuses same) | inr kept ↦ kept.0 ]
 
 pub returns-clause-known : goal.returns-clause-known
 unfolding computing
-returns-clause-known c = λ law. elim (law.between.1.1.0) [ inl same ↦ differ 1 0 refl (ap first_refuses same) | inr kept ↦ kept.0 ]
+returns-clause-known c = λ law. elim (law.between.1.1.0) [ inl same ↦ differ 2 3 refl (ap first_rule same) | inr kept ↦ kept.0 ]
 
 pub returns-clause-value : goal.returns-clause-value
 unfolding computing
@@ -53,7 +74,7 @@ returns-clause-long c = λ law. elim (law.between.1.1.1.0) [ inl same ↦ differ
 
 pub returns-clause-send_secured : goal.returns-clause-send_secured
 unfolding computing
-returns-clause-send_secured c = λ law. differ 1 0 refl (ap refuses law.between.1.1.1.0)
+returns-clause-send_secured c = λ law. differ 4 3 refl (ap rule_in law.between.1.1.1.0)
 
 pub returns-clause-get_secured : goal.returns-clause-get_secured
 unfolding computing
@@ -71,14 +92,6 @@ returns-clause-store c = λ law. elim (behind (MayAnswer (the_switch ∷ [])) []
 pub returns-clause-cancel : goal.returns-clause-cancel
 unfolding computing
 returns-clause-cancel c = λ law. differ 1 0 refl (ap refuses law.between.1.0)
-
-pub returns-clause-send : goal.returns-clause-send
-unfolding computing
-returns-clause-send c = λ law. differ 1 0 refl (ap refuses law.between.1.0)
-
-pub returns-clause-get : goal.returns-clause-get
-unfolding computing
-returns-clause-get c = λ law. differ 1 0 refl (ap refuses law.between.1.0)
 
 pub returns-clause-interview : goal.returns-clause-interview
 unfolding computing
@@ -102,12 +115,68 @@ returns-clause-show c = λ law. differ 1 0 refl (ap refuses law.between.1.0)
 
 pub returns-clause-queue : goal.returns-clause-queue
 unfolding computing
-returns-clause-queue c = λ law. differ 63 64 refl law.between.1.0
+returns-clause-queue c = λ law. differ 63 64 refl law.between.1.0.1
 
 pub returns-clause-keeper : goal.returns-clause-keeper
 unfolding computing
-returns-clause-keeper c = λ law. law.between.1.0
+returns-clause-keeper c = λ law. not_true law.between.1.0
 
 pub returns-clause-bad : goal.returns-clause-bad
 unfolding computing
-returns-clause-bad c = λ law. law.between.1.0
+returns-clause-bad c = λ law. not_true law.between.1.0
+
+pub returns-clause-joined_first : goal.returns-clause-joined_first
+unfolding computing
+returns-clause-joined_first c = λ law. elim (law.between.1.0) [ inl same ↦ differ 1 2 refl (ap first_rule same) | inr kept ↦ kept.0 ]
+
+pub returns-clause-send_joined : goal.returns-clause-send_joined
+unfolding computing
+returns-clause-send_joined c = λ law. differ 1 0 refl (ap refuses law.between.1.1.0)
+
+pub returns-clause-send_known : goal.returns-clause-send_known
+unfolding computing
+returns-clause-send_known c = λ law. differ 2 3 refl (ap rule_in law.between.1.1.0)
+
+pub returns-clause-send_unsupported : goal.returns-clause-send_unsupported
+unfolding computing
+returns-clause-send_unsupported c = λ law. differ 1 0 refl (ap refuses law.between.1.1.1.0)
+
+pub returns-clause-send_value : goal.returns-clause-send_value
+unfolding computing
+returns-clause-send_value c = λ law. differ 1 0 refl (ap refuses law.between.1.0)
+
+pub returns-clause-get_joined : goal.returns-clause-get_joined
+unfolding computing
+returns-clause-get_joined c = λ law. differ 1 0 refl (ap refuses law.between.1.1.0)
+
+pub returns-clause-get_known : goal.returns-clause-get_known
+unfolding computing
+returns-clause-get_known c = λ law. differ 2 3 refl (ap rule_in law.between.1.1.0)
+
+pub returns-clause-get_unsupported : goal.returns-clause-get_unsupported
+unfolding computing
+returns-clause-get_unsupported c = λ law. differ 1 0 refl (ap refuses law.between.1.1.1.0)
+
+pub returns-clause-get_end : goal.returns-clause-get_end
+unfolding computing
+returns-clause-get_end c = λ law. differ 1 0 refl (ap refuses law.between.1.0)
+
+pub returns-clause-cancel_begun : goal.returns-clause-cancel_begun
+unfolding computing
+returns-clause-cancel_begun c = λ law. differ 1 0 refl (ap refuses law.between.1.1.1.1.0)
+
+pub returns-clause-join : goal.returns-clause-join
+unfolding computing
+returns-clause-join c = λ law. differ 1 0 refl (ap refuses law.between.1.0)
+
+pub returns-clause-queue_unasked : goal.returns-clause-queue_unasked
+unfolding computing
+returns-clause-queue_unasked c = λ law. not_true law.between.1.0.0
+
+pub returns-clause-refused_join : goal.returns-clause-refused_join
+unfolding computing
+returns-clause-refused_join c = λ law. elim (law.between.1.1.1.1.0) [ inl same ↦ differ 1 0 refl (ap first_refuses same) | inr kept ↦ kept.0 ]
+
+pub returns-clause-failed_interview : goal.returns-clause-failed_interview
+unfolding computing
+returns-clause-failed_interview c = λ law. elim (law.between.1.1.1.0) [ inl same ↦ differ 1 0 refl (ap first_refuses same) | inr kept ↦ kept.0 ]

@@ -1,5 +1,10 @@
-use Rattle.std.proofs.Common.{[], refl}
+use Rattle.std.proofs.Common.{◌≡◌, true, false, [], ◌∷◌, refl}
+use Rattle.zw_base.specs.declared.property.Name.TheVariants as names
+use Rattle.host_orders.specs.Settings.{setting}
+use Rattle.zw_text.specs.declared.entry.Ended.TheVariants as endings
+use Rattle.zw_text.specs.declared.entry.Entry.TheVariants.{Store}
 use Rattle.zw_laws.specs.Worked.{plain_exchange, repeated_exchange, lossy_exchange, cancelled_order, restarted_host, sleeping_node, sealed_exchange, long_message}
+use Rattle.zw_laws.specs.WorkedCases.{ended_so}
 use Rattle.zw_laws.proofs.Entries.{stores_behind}
 use Rattle.zw_laws.proofs.Computing.{computing}
 use Rattle.zw_laws.proofs.host.worked_stores.Goals as goal
@@ -83,4 +88,15 @@ returns-clause-cut c = record {
       ),
     ),
   );
+}
+
+not_true : false ≡ true → ⊥
+not_true same = cc
+
+pub returns-clause-stopped : goal.returns-clause-stopped
+unfolding computing
+returns-clause-stopped c = record {
+  asked = (Store 2 (setting 0 names.Switch 255) ∷ [], refl);
+  all = λ whole. absurd (not_true whole);
+  behind = stores_behind (ended_so endings.Success) tt;
 }

@@ -1,7 +1,7 @@
-use Rattle.std.proofs.Common.{ℕ, List, [], ◌∷◌, refl, ap}
+use Rattle.std.proofs.Common.{ℕ, List, [], ◌∷◌, refl, ap, arith}
 use Rattle.zw_base.specs.declared.property.Setting.{Setting}
 use Rattle.zw_laws.specs.Worked.{the_switch, with_journal}
-use Rattle.zw_laws.specs.WorkedWrong.{turned_off}
+use Rattle.zw_laws.specs.WorkedWrong.{turned_off, turned_twice}
 use Rattle.zw_laws.proofs.Computing.{computing}
 use Rattle.zw_laws.proofs.Dues.{differ}
 use Rattle.zw_laws.proofs.once.rejected_headline.Goals as goal
@@ -20,4 +20,12 @@ returns-clause-told_early c = λ law. law.succeeds.1.1.1.1.1.1.1.1.1.1.1.0.shown
 
 pub returns-clause-off : goal.returns-clause-off
 unfolding computing
-returns-clause-off c = λ law. differ 0 255 refl (ap first_value (law.devices 2 (with_journal the_switch turned_off) refl refl).once.settings.0.0)
+returns-clause-off c = λ law. differ 0 255 refl (ap first_value (law.devices 2 (with_journal the_switch turned_off) refl refl).once.changes.settings.0.0)
+
+pub returns-clause-twice : goal.returns-clause-twice
+unfolding computing
+returns-clause-twice c = λ law. omega (arith, (law.devices 2 (with_journal the_switch turned_twice) refl refl).once.changes.sessions_rise.0.0)
+
+pub returns-clause-second : goal.returns-clause-second
+unfolding computing
+returns-clause-second c = λ law. omega (arith, (law.devices 2 (with_journal the_switch turned_twice) refl refl).once.changes.sessions_rise.0.0)

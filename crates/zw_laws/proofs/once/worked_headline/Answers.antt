@@ -1,4 +1,4 @@
-use Rattle.zw_laws.proofs.Headlines.{plain, repeated, lossy, cancelled, restarted, sleeping, sealed, cut}
+use Rattle.zw_laws.proofs.Headlines.{plain, repeated, lossy, cancelled, restarted, sleeping, sealed, cut, unsupervised, second}
 use Rattle.zw_laws.proofs.once.worked_headline.Goals as goal
 
 pub returns-clause-plain : goal.returns-clause-plain
@@ -24,3 +24,9 @@ returns-clause-sealed c = sealed
 
 pub returns-clause-cut : goal.returns-clause-cut
 returns-clause-cut c = cut
+
+pub returns-clause-unsupervised : goal.returns-clause-unsupervised
+returns-clause-unsupervised c = unsupervised
+
+pub returns-clause-second : goal.returns-clause-second
+returns-clause-second c = second

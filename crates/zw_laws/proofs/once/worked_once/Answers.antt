@@ -1,3 +1,5 @@
+use Rattle.std.proofs.Common.{refl, inl, arith}
+use Rattle.zw_laws.proofs.Computing.{computing}
 use Rattle.zw_laws.proofs.Headlines.{plain_device, repeated_device, lossy_device, cancelled_device, restarted_device, sleeping_device, sealed_device, cut_device}
 use Rattle.zw_laws.proofs.once.worked_once.Goals as goal
 
@@ -24,3 +26,41 @@ returns-clause-sealed c = sealed_device.once
 
 pub returns-clause-cut : goal.returns-clause-cut
 returns-clause-cut c = cut_device.once
+
+pub returns-clause-unanswered : goal.returns-clause-unanswered
+unfolding computing
+returns-clause-unanswered c = record {
+  changes = record {
+    sessions_rise = (tt, tt);
+    sessions_begun = ((omega arith, omega arith), tt);
+    settings = ((refl, tt), tt);
+    never_plain = (λ by. cc, tt);
+  };
+  carries = record {
+    commands_rise = (tt, tt);
+    commands_accepted = (inl refl, tt);
+  };
+  ends = record {
+    successful = (λ success. absurd cc, tt);
+    undone = (λ undone has. undone, tt);
+  };
+}
+
+pub returns-clause-unchanged : goal.returns-clause-unchanged
+unfolding computing
+returns-clause-unchanged c = record {
+  changes = record {
+    sessions_rise = tt;
+    sessions_begun = tt;
+    settings = tt;
+    never_plain = tt;
+  };
+  carries = record {
+    commands_rise = (tt, tt);
+    commands_accepted = (inl refl, tt);
+  };
+  ends = record {
+    successful = (λ success. absurd cc, tt);
+    undone = (λ undone has. undone, tt);
+  };
+}

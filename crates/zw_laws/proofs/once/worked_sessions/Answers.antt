@@ -1,3 +1,8 @@
+use Rattle.std.proofs.Common.{refl}
+use Rattle.zw_text.specs.declared.entry.Ended.TheVariants as endings
+use Rattle.zw_laws.specs.WorkedCases.{then_begins, of_two_nodes}
+use Rattle.zw_laws.proofs.Computing.{computing}
+use Rattle.zw_laws.proofs.Entries.{keeps_sessions}
 use Rattle.zw_laws.proofs.Headlines.{plain, repeated, lossy, cancelled, restarted, sleeping, sealed, cut}
 use Rattle.zw_laws.proofs.once.worked_sessions.Goals as goal
 
@@ -24,3 +29,15 @@ returns-clause-sealed c = sealed.sessions_keep
 
 pub returns-clause-cut : goal.returns-clause-cut
 returns-clause-cut c = cut.sessions_keep
+
+pub returns-clause-failed : goal.returns-clause-failed
+unfolding computing
+returns-clause-failed c = keeps_sessions (then_begins endings.Fail) ((refl, tt), ((refl, (tt, tt)), tt))
+
+pub returns-clause-unsupported : goal.returns-clause-unsupported
+unfolding computing
+returns-clause-unsupported c = keeps_sessions (then_begins endings.NoSupport) ((refl, tt), ((refl, (tt, tt)), tt))
+
+pub returns-clause-two : goal.returns-clause-two
+unfolding computing
+returns-clause-two c = keeps_sessions of_two_nodes ((refl, tt), ((refl, tt), tt))

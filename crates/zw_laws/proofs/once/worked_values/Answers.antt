@@ -1,3 +1,4 @@
+use Rattle.zw_laws.proofs.Computing.{computing}
 use Rattle.zw_laws.proofs.Headlines.{plain_device, repeated_device, lossy_device, cancelled_device, restarted_device, sleeping_device, sealed_device, cut_device}
 use Rattle.zw_laws.proofs.once.worked_values.Goals as goal
 
@@ -24,3 +25,7 @@ returns-clause-sealed c = sealed_device.confirms
 
 pub returns-clause-cut : goal.returns-clause-cut
 returns-clause-cut c = cut_device.confirms
+
+pub returns-clause-failed : goal.returns-clause-failed
+unfolding computing
+returns-clause-failed c = ((λ success. absurd cc, tt), tt)

@@ -4,7 +4,8 @@ use Rattle.device_stack.specs.Sealing.{sealed_text}
 use Rattle.zw_laws.specs.Nodes.{listing_of}
 use Rattle.zw_laws.specs.Units.{Carried}
 use Rattle.zw_laws.specs.Worked.{bytes, network_key, the_switch, the_lock, the_plug}
-use Rattle.zw_laws.specs.WorkedWrongPayloads.{sent_otherwise, sent_unbegun, sealed_unasked, sent_openly, sealed_for_none, sealed_otherwise, sealed_longer, sent_whole, cut_otherwise, cut_past_end, nonce_unasked, nonce_of_another, nonce_shorter, set_unasked, set_otherwise, set_of_another}
+use Rattle.zw_laws.specs.WorkedCases.{the_dimmer}
+use Rattle.zw_laws.specs.WorkedWrongPayloads.{sent_otherwise, sent_earlier, sent_unbegun, sent_by_new_list, sealed_unasked, sent_openly, sealed_for_none, sealed_for_longer, sealed_otherwise, sealed_longer, sent_whole, cut_otherwise, cut_of_another, cut_past_end, nonce_unasked, nonce_of_another, nonce_otherwise, nonce_shorter, set_unasked, set_otherwise, set_of_another, set_refused, get_unasked}
 use Rattle.zw_laws.proofs.Computing.{computing}
 use Rattle.zw_laws.proofs.Dues.{head_of, differ, not_due, no_other, sealed_as, sealed_length, is_cut, cut_at}
 use Rattle.zw_laws.proofs.Sealing.{set_own, set_nonce, set_plain, sealed_set}
@@ -18,6 +19,10 @@ sealing = tt
 -- nine bytes are no Nonce Report of an eight-byte nonce
 shorter : (nonce : List ℕ) → 9 ≡ suc (suc (length nonce)) → length nonce ≡ 8 → ⊥
 shorter nonce nine eight = omega (arith, nine, eight)
+
+-- nor are eleven
+longer : (nonce : List ℕ) → 11 ≡ suc (suc (length nonce)) → length nonce ≡ 8 → ⊥
+longer nonce eleven eight = omega (arith, eleven, eight)
 
 -- the message that is cut
 abbrev the_message : List ℕ
@@ -38,7 +43,7 @@ returns-clause-unbegun c = λ law.
 pub returns-clause-sealed_unasked : goal.returns-clause-sealed_unasked
 unfolding computing sealing
 returns-clause-sealed_unasked c = λ law.
-    no_other (listing_of (the_switch ∷ [])) network_key (take 4 sealed_unasked) (record { node = 2; payload = bytes (codes "98816B71E54E0F8EE3186CCEA9D132AB2C95018A573A88D6BE287E") }) refl refl refl
+    no_other (listing_of (the_switch ∷ [])) network_key (take 4 sealed_unasked) (record { node = 2; payload = bytes (codes "98816B71E54E0F8EE3186CCEA9D132EC2C950186B8E96CB32FAC98") }) refl refl refl
     (λ of. differ 0x9881 0x6C01 refl (ap head_of of)) (λ asked. asked) law.1.1.1.1.0.0
 
 pub returns-clause-openly : goal.returns-clause-openly
@@ -127,3 +132,48 @@ unfolding computing sealing
 returns-clause-set_of_another c = λ law.
     no_other (listing_of (the_switch ∷ [])) [] (take 1 set_of_another) (record { node = 3; payload = bytes (codes "2501FF") }) refl refl refl
     (λ of. of) (λ asked. elim asked [ inl same ↦ differ 2 3 refl (ap (λ (carried : Carried). carried.node) same) | inr never ↦ never ]) law.1.0.0
+
+pub returns-clause-earlier : goal.returns-clause-earlier
+unfolding computing sealing
+returns-clause-earlier c = λ law.
+    no_other (listing_of (the_switch ∷ [])) [] (take 7 sent_earlier) (record { node = 2; payload = bytes (codes "6C0101032501FF") }) refl refl refl
+    (λ of. differ 1 2 refl (ap (λ p. slice_index p 2) of)) (λ asked. asked) law.1.1.1.1.1.1.1.0.0
+
+pub returns-clause-new_list : goal.returns-clause-new_list
+unfolding computing sealing
+returns-clause-new_list c = λ law.
+    no_other (listing_of (the_dimmer ∷ [])) [] (take 4 sent_by_new_list) (record { node = 2; payload = bytes (codes "6C018103260163") }) refl refl refl
+    (λ of. differ 0x81 1 refl (ap (λ p. slice_index p 2) of)) (λ asked. asked) law.1.1.1.1.0.0
+
+pub returns-clause-for_longer : goal.returns-clause-for_longer
+unfolding computing sealing
+returns-clause-for_longer c = λ law.
+    no_other (listing_of (the_lock ∷ [])) network_key (take 6 sealed_for_longer) (record { node = 4; payload = bytes (codes "98816B71E54E0F8EE3186CCEA9D132AB2C95013AA2BEFDC2FEF985") }) refl refl refl
+    (λ of. elim of.given [ inl same ↦ longer of.nonce (ap (λ p. length p) same) of.eight | inr never ↦ never ]) (λ asked. asked) law.1.1.1.1.1.1.0.0
+
+pub returns-clause-nonce_otherwise : goal.returns-clause-nonce_otherwise
+unfolding computing sealing
+returns-clause-nonce_otherwise c = λ law.
+    no_other (listing_of (the_lock ∷ [])) network_key (take 1 nonce_otherwise) (record { node = 4; payload = bytes (codes "2501FF") }) refl refl refl
+    (λ of. of) (λ asked. asked) law.1.0.0
+
+pub returns-clause-set_refused : goal.returns-clause-set_refused
+unfolding computing sealing
+returns-clause-set_refused c = λ law.
+    no_other (listing_of (the_switch ∷ [])) [] (take 2 set_refused) (record { node = 2; payload = bytes (codes "2501FF") }) refl refl refl
+    (λ of. of) (λ asked. asked) law.1.1.0.0
+
+pub returns-clause-get_unasked : goal.returns-clause-get_unasked
+unfolding computing sealing
+returns-clause-get_unasked c = λ law.
+    no_other (listing_of (the_switch ∷ [])) [] (take 0 get_unasked) (record { node = 2; payload = bytes (codes "2502") }) refl refl refl
+    (λ of. of) (λ asked. asked) law.0.0
+
+pub returns-clause-cut_of_another : goal.returns-clause-cut_of_another
+unfolding computing sealing
+returns-clause-cut_of_another c = λ law.
+    no_other (listing_of (the_plug ∷ [])) [] (take 5 cut_of_another) (record {
+      node = 8;
+      payload = bytes (codes "55C02F206C01012B700700002501010101010101010101010101010101010101010101010101010101010152E8");
+    }) refl refl refl
+    (λ of. elim (cut_at the_message 1 _ of.place of.within of.text) [ inl first ↦ differ 0x20 0x10 refl (ap (λ p. slice_index p 3) first) | inr second ↦ differ 0x55C0 0x55E0 refl (ap head_of second) ]) (λ asked. asked) law.1.1.1.1.1.0.0

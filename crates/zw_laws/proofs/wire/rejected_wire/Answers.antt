@@ -1,4 +1,4 @@
-use Rattle.std.proofs.Common.{◌≡◌, ℕ, Bool, true, false, List, [], ◌∷◌, ◌++◌, Option, Some, length, unwrap_or, refl, sym, ap, ◌∙◌, subst, inl, inr, arith}
+use Rattle.std.proofs.Common.{◌≡◌, ℕ, suc, Bool, true, false, List, [], ◌∷◌, ◌++◌, Option, Some, length, unwrap_or, refl, sym, ap, ◌∙◌, subst, inl, inr, arith}
 use Rattle.std.specs.Prelude.{◌==◌, ◌%◌, if◌then◌else◌, take, drop}
 use Rattle.std.proofs.lemmas.Bool.Decides.{nat_tests}
 use Rattle.supervision.specs.Host.{command_at}
@@ -21,8 +21,8 @@ use Rattle.zw_text.specs.Transcript.{sessions}
 use Rattle.zw_laws.specs.Causes.{told_plainly, IsReported, OneTells, OpensTo, TellsReport}
 use Rattle.zw_laws.specs.Nodes.{host_list, listing_of}
 use Rattle.zw_laws.specs.Units.{Carried, payloads_from}
-use Rattle.zw_laws.specs.Worked.{the_lock, network_key}
-use Rattle.zw_laws.specs.WorkedWrongWire.{told_openly, told_for_none, told_unopened, told_of_sealed_failure}
+use Rattle.zw_laws.specs.Worked.{the_switch, the_lock, network_key}
+use Rattle.zw_laws.specs.WorkedWrongWire.{told_openly, told_for_none, told_for_longer, told_unopened, told_of_sealed_failure, told_of_node}
 use Rattle.zw_laws.proofs.Computing.{computing}
 use Rattle.zw_laws.proofs.Sealing.{report_nonce, report_plain, report_code, report_with, other_code, opened_report, unopened_report}
 use Rattle.zw_laws.proofs.wire.rejected_wire.Goals as goal
@@ -340,3 +340,110 @@ returns-clause-sealed_failure c = λ law.
       ]
       | inr never ↦ never
     ]
+
+-- ---- frames and what is brought
+
+pub returns-clause-aired_elsewhere : goal.returns-clause-aired_elsewhere
+unfolding computing
+returns-clause-aired_elsewhere c = λ law. elim law.1.0 [ inl picked ↦ three_two (ap (λ (carried : Carried). carried.node) picked.0) | inr never ↦ never ]
+
+pub returns-clause-lost : goal.returns-clause-lost
+unfolding computing
+returns-clause-lost c = λ law. law.1.1.0
+
+pub returns-clause-written : goal.returns-clause-written
+unfolding computing
+returns-clause-written c = λ law. elim law.1.1.0 [ inl picked ↦ on_off (ap (λ (carried : Carried). last_byte 0 carried.payload) picked.0) | inr never ↦ never ]
+
+pub returns-clause-brought_otherwise : goal.returns-clause-brought_otherwise
+unfolding computing
+returns-clause-brought_otherwise c = λ law. elim law.1.1.1.0.0 [ inl picked ↦ off_on (ap (λ (carried : Carried). last_byte 0 carried.payload) picked.0) | inr never ↦ never ]
+
+pub returns-clause-brought_of_another : goal.returns-clause-brought_of_another
+unfolding computing
+returns-clause-brought_of_another c = λ law. elim law.1.1.1.0.0 [ inl picked ↦ three_two (ap (λ (carried : Carried). carried.node) picked.0) | inr never ↦ never ]
+
+pub returns-clause-brought_back : goal.returns-clause-brought_back
+unfolding computing
+returns-clause-brought_back c = λ law. law.1.1.1.0.0
+
+pub returns-clause-emptily : goal.returns-clause-emptily
+unfolding computing
+returns-clause-emptily c = λ law. law.1.1.1.0
+
+-- ---- causes
+
+-- the last of the two sessions carries the second command, of whichever node
+abbrev both_if : Bool → List ℕ
+both_if is = (if is then 1 ∷ [] else []) ++ ((if is then 2 ∷ [] else []) ++ [])
+
+carries_second : (is : Bool) → command_at (both_if is) (length (both_if is)) ≡ Some 1 → ⊥
+carries_second true carries = two_one (ap (λ (number : Option ℕ). unwrap_or number 0) carries)
+carries_second false carries = none_one (ap (λ (number : Option ℕ). unwrap_or number 0) carries)
+
+pub returns-clause-earlier : goal.returns-clause-earlier
+unfolding computing
+returns-clause-earlier c = λ law. carries_second (2 == law.1.1.1.1.1.1.1.1.1.0.node) law.1.1.1.1.1.1.1.1.1.0.carries
+
+-- the session of the one command is of the switch
+of_switch : (node : ℕ) (is : Bool) → (2 == node) ≡ is → command_at (begun_if is) (length (begun_if is)) ≡ Some 1 → 2 ≡ node
+of_switch node true is carries = grind (arith, nat_tests)
+of_switch node false is carries = absurd (none_one (ap (λ (number : Option ℕ). unwrap_or number 0) carries))
+
+pub returns-clause-node : goal.returns-clause-node
+unfolding computing
+returns-clause-node c = λ law.
+    let cause = law.1.1.1.1.0 in
+    let past = take 4 told_of_node in
+    subst
+    (λ (node : ℕ). OneTells (λ payload. TellsReport (lists (host_list (listing_of (the_switch ∷ [])) past node) 0x98) [] past node payload
+    (told.Report (length (sessions node past) % 64) statuses.Success cause.wake_request)) (payloads_from node past) → ⊥)
+    (of_switch cause.node (2 == cause.node) refl cause.carries)
+    (λ tells. tells) cause.reported
+
+pub returns-clause-old_node : goal.returns-clause-old_node
+unfolding computing
+returns-clause-old_node c = λ law. law.1.0.told_it
+
+pub returns-clause-old_unopened : goal.returns-clause-old_unopened
+unfolding computing
+returns-clause-old_unopened c = λ law. elim law.1.0.told_it [
+  | inl (inl never) ↦ never
+  | inl (inr opens) ↦ opens.given
+  | inr never ↦ never
+]
+
+pub returns-clause-value_node : goal.returns-clause-value_node
+unfolding computing
+returns-clause-value_node c = λ law. law.1.0.told_them
+
+-- eleven bytes are no Nonce Report of an eight-byte nonce
+longer : (nonce : List ℕ) → 11 ≡ suc (suc (length nonce)) → length nonce ≡ 8 → ⊥
+longer nonce eleven eight = omega (arith, eleven, eight)
+
+pub returns-clause-for_longer : goal.returns-clause-for_longer
+unfolding computing
+returns-clause-for_longer c = λ law.
+    let cause = law.1.1.1.1.1.1.1.0 in
+    elim (lock_told (take 7 told_for_longer) statuses.Success cause (of_lock cause.node (4 == cause.node) refl cause.carries)) [
+      | inl opens ↦ elim opens.given [ inl same ↦ longer opens.nonce (ap (λ (p : List ℕ). length p) same) opens.eight | inr never ↦ never ]
+      | inr never ↦ never
+    ]
+
+pub returns-clause-woken_node : goal.returns-clause-woken_node
+unfolding computing
+returns-clause-woken_node c = λ law. law.1.0
+
+-- whether values are told
+abbrev tells_values : Told → ℕ
+tells_values (told.Values settings) = 1
+tells_values _ = 0
+
+pub returns-clause-woken_value : goal.returns-clause-woken_value
+unfolding computing unsealed_at
+returns-clause-woken_value c = λ law. elim law.1.0 [
+  | inl (inl (inl same)) ↦ one_none (ap tells_values same)
+  | inl (inl (inr never)) ↦ never
+  | inl (inr opens) ↦ none_one (ap opened_tag opens.opens)
+  | inr never ↦ never
+]

@@ -1,6 +1,9 @@
-use Rattle.std.proofs.Common.{[], ◌∷◌, refl, inl, inr, false}
+use Rattle.std.proofs.Common.{[], ◌∷◌, refl, inl, inr, true, false}
+use Rattle.zw_base.specs.declared.property.Name.TheVariants as names
+use Rattle.host_orders.specs.Settings.{setting}
 use Rattle.zw_laws.specs.Nodes.{listing_of}
 use Rattle.zw_laws.specs.Worked.{plain_exchange, repeated_exchange, lossy_exchange, cancelled_order, restarted_host, sleeping_node, sealed_exchange, long_message, the_switch, the_sensor, the_lock, the_plug, network_key}
+use Rattle.zw_laws.specs.WorkedCases.{failure_told, unsupported_told, success_told_asking, value_told, old_sealed}
 use Rattle.zw_laws.proofs.Entries.{each_has_cause}
 use Rattle.class_info.specs.declared.report_status.ReportStatus.TheVariants as statuses
 use Rattle.zw_laws.proofs.Sealing.{report_nonce, report_plain, opened_report}
@@ -82,3 +85,37 @@ returns-clause-cut c = each_has_cause (listing_of (the_plug ∷ [])) [] long_mes
     tt,
   ),
 )
+
+pub returns-clause-value : goal.returns-clause-value
+unfolding computing
+returns-clause-value c = each_has_cause (listing_of (the_switch ∷ [])) [] value_told (
+  record {
+    settings = setting 0 names.Switch 255 ∷ [];
+    among = inl refl;
+    told_them = inl (inl (inl refl));
+  },
+  tt,
+)
+
+pub returns-clause-sealed_report : goal.returns-clause-sealed_report
+unfolding computing
+returns-clause-sealed_report c = each_has_cause (listing_of (the_lock ∷ [])) network_key old_sealed (
+  record {
+    status = statuses.Success;
+    wake_request = false;
+    told_it = inl (inr (record { nonce = report_nonce; text = report_plain; given = inl refl; eight = refl; opens = opened_report; tells = inl refl }));
+  },
+  tt,
+)
+
+pub returns-clause-failed : goal.returns-clause-failed
+unfolding computing
+returns-clause-failed c = each_has_cause (listing_of (the_switch ∷ [])) [] failure_told (record { node = 2; wake_request = false; carries = refl; reported = inl (inl (inl refl)) }, tt)
+
+pub returns-clause-unsupported : goal.returns-clause-unsupported
+unfolding computing
+returns-clause-unsupported c = each_has_cause (listing_of (the_switch ∷ [])) [] unsupported_told (record { node = 2; wake_request = false; carries = refl; reported = inl (inl (inl refl)) }, tt)
+
+pub returns-clause-asking : goal.returns-clause-asking
+unfolding computing
+returns-clause-asking c = each_has_cause (listing_of (the_switch ∷ [])) [] success_told_asking (record { node = 2; wake_request = true; carries = refl; reported = inl (inl (inl refl)) }, tt)

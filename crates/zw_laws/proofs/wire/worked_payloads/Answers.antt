@@ -1,6 +1,7 @@
 use Rattle.std.proofs.Common.{[], ◌∷◌, refl, inl, inr, sym, arith}
 use Rattle.zw_laws.specs.Nodes.{listing_of}
 use Rattle.zw_laws.specs.Worked.{plain_exchange, repeated_exchange, lossy_exchange, cancelled_order, restarted_host, sleeping_node, sealed_exchange, long_message, the_switch, the_sensor, the_lock, the_plug, network_key}
+use Rattle.zw_laws.specs.WorkedCases.{set_asked, get_asked, sent_by_old_list, the_dimmer}
 use Rattle.zw_laws.proofs.Entries.{sends_what_is_due}
 use Rattle.zw_laws.proofs.Sealing.{set_own, set_nonce, report_nonce, sealed_set}
 use Rattle.zw_laws.proofs.Computing.{computing}
@@ -80,3 +81,15 @@ returns-clause-cut c = sends_what_is_due (listing_of (the_plug ∷ [])) [] long_
     tt,
   ),
 )
+
+pub returns-clause-set : goal.returns-clause-set
+unfolding computing
+returns-clause-set c = sends_what_is_due (listing_of (the_switch ∷ [])) [] set_asked ((inr (inr (inr (inr (inl refl)))), tt), tt)
+
+pub returns-clause-get : goal.returns-clause-get
+unfolding computing
+returns-clause-get c = sends_what_is_due (listing_of (the_switch ∷ [])) [] get_asked ((inr (inr (inr (inr (inl refl)))), tt), tt)
+
+pub returns-clause-old_list : goal.returns-clause-old_list
+unfolding computing
+returns-clause-old_list c = sends_what_is_due (listing_of (the_dimmer ∷ [])) [] sent_by_old_list ((inl refl, tt), tt)

@@ -1,5 +1,6 @@
 use Rattle.std.proofs.Common.{refl, inl}
 use Rattle.zw_laws.specs.Worked.{plain_exchange, repeated_exchange, lossy_exchange, cancelled_order, restarted_host, sleeping_node, sealed_exchange, long_message}
+use Rattle.zw_laws.specs.WorkedCases.{aired_as_changed}
 use Rattle.zw_laws.proofs.Entries.{carries_units}
 use Rattle.zw_laws.proofs.Computing.{computing}
 use Rattle.zw_laws.proofs.wire.worked_units.Goals as goal
@@ -74,3 +75,7 @@ returns-clause-sealed c = carries_units sealed_exchange (
 pub returns-clause-cut : goal.returns-clause-cut
 unfolding computing
 returns-clause-cut c = carries_units long_message (inl (refl, tt), (inl (refl, inl (refl, tt)), (inl (refl, inl (refl, tt)), (inl (refl, inl (refl, tt)), tt))))
+
+pub returns-clause-changed : goal.returns-clause-changed
+unfolding computing
+returns-clause-changed c = carries_units aired_as_changed (inl (refl, tt), tt)

@@ -3,10 +3,10 @@ use Rattle.std.specs.Prelude.{Option}
 use Rattle.std.specs.List.{range_with_len, filter_map}
 use Rattle.zw_base.specs.declared.property.Property.{Property}
 use Rattle.zw_base.specs.declared.property.Setting.{Setting}
-use Rattle.device_stack.specs.Kind.{property_count, property_at}
+use Rattle.device_kinds.specs.Kind.{property_count, property_at}
 use Rattle.device_stack.specs.State.{State}
 use Rattle.device_stack.specs.Showing.{shown_at}
-use Rattle.device_stack.proofs.ListLemmas.{shown_in, shown_out}
+use Rattle.device_stack.proofs.ShowingLemmas.{shown_in, shown_out}
 use Rattle.device_stack.proofs.stack.Stack.show.Goals as goal
 use Rattle.device_stack.proofs.stack.Stack.show.Goals.{in-Some+in_ok-push-in-Some, in-None}
 

@@ -1,6 +1,6 @@
 use Rattle.std.proofs.Common.{◌≡◌, ◌+◌, ◌-◌, ◌++◌}
 use Rattle.std.specs.List.{range_with_len, filter_map}
-use Rattle.device_stack.specs.Kind.{property_count, property_at}
+use Rattle.device_kinds.specs.Kind.{property_count, property_at}
 use Rattle.device_stack.specs.Showing.{shown_at}
 use Rattle.device_stack.proofs.stack.Stack.show.Given as goal
 

@@ -11,7 +11,7 @@ use Rattle.host_events.specs.After.{confirming, finishing, holding, outcome_of}
 use Rattle.host_keep.specs.Status.{status_byte}
 use Rattle.host_events.specs.Sessions.{settings_with}
 use Rattle.host_state.specs.Inside.{state_of, parts_of}
-use Rattle.host_state.proofs.Ending.{finished_state}
+use Rattle.host_state.proofs.Finished.{finished_state}
 use Rattle.host_state.proofs.Found.{status_is_one}
 use Rattle.host_state.proofs.Kept.{kept_as_by}
 use Rattle.host_state.proofs.host.Core.finish.Goals as goal

@@ -1,32 +1,29 @@
-use Rattle.std.proofs.Common.{refl, sym, ap, subst, ◌∙◌}
-use Rattle.std.proofs.Common.{◌≡◌, ◌++◌, true, false}
-use Rattle.serial_link.specs.State.{LinkState, turn_ticked, copy_due}
-use Rattle.serial_link.specs.declared.turn.Turn.{Turn}
-use Rattle.host_events.specs.State.{HostParts}
-use Rattle.host_events.specs.After.{is_busy, gives_up}
-use Rattle.host_events.specs.Outs.{outs, copy_out}
-use Rattle.host_state.proofs.Ending.{given_up, line_failed, line_outs}
+use Rattle.host_events.specs.State.{HostState, HostParts}
 use Rattle.host_events.specs.Events.{Line_ticks}
 use Rattle.host_state.specs.Inside.{state_of, parts_of}
-use Rattle.host_state.proofs.Kept.{kept_as}
+use Rattle.host_state.proofs.Done.{facts_hold, always, host_stayed, outs_done, line_done, line_stayed}
 use Rattle.host_state.proofs.host.Core.tick_line.Goals as goal
 
-pub invariant_of-self-2 : goal.invariant_of-self-2
-invariant_of-self-2 c =
-    let was : is_busy c.self.inside.link.side.turn ≡ true = sym c.if-not-was_busy.ensures in
-    let now : is_busy c.ticked.new.self.side.turn ≡ false = sym c.if-is_busy.ensures in
-    let same : c.ticked.new.self.side.turn ≡ turn_ticked c.self.inside.link.side.turn = ap (λ (l : LinkState). l.side.turn) c.ticked.ensures in
-    let gave : gives_up c.self.inside.link.side.turn (turn_ticked c.self.inside.link.side.turn) ≡ true = given_up c.self.inside.link.side.turn (turn_ticked c.self.inside.link.side.turn) was (subst (λ (t : Turn). is_busy t ≡ false) same now) in
-    let state = line_failed (state_of c.self.inside) c.failed-end.result c.end_request.new.nodes c.end_request.new.commands.items gave c.failed-end.ensures.end c.end_request.ensures.state in
-    kept_as c.facts_are_kept.ensures.each (parts_of c.self.inside) c.args.self.now _ _ (Line_ticks) c.self.view_is c.self.invariant tt state refl refl refl refl refl
+pub invariant_of-self : goal.invariant_of-self
+invariant_of-self c =
+    let h : HostState = state_of c.self.inside in
+    let new : HostState = record h { side = c.tick_line.new.link.side; requests = c.tick_line.new.requests; nodes = c.tick_line.new.nodes; commands = c.tick_line.new.commands.items } in
+    facts_hold c.tick_line.result h new Line_ticks c.facts_are_kept.ensures.each c.self.invariant (always c.tick_line.result _ tt) (c.tick_line.ensures.state h) (host_stayed c.tick_line.result _ _ (c.tick_line.ensures.err h))
+
+pub returns-clause-state : goal.returns-clause-state
+returns-clause-state c =
+    let h : HostState = state_of c.self.inside in
+    let new : HostState = record h { side = c.tick_line.new.link.side; requests = c.tick_line.new.requests; nodes = c.tick_line.new.nodes; commands = c.tick_line.new.commands.items } in
+    let all : HostParts = record { decoder = c.tick_line.new.link.decoder; state = new } in
+    line_done c.tick_line.result (parts_of c.self.inside) c.args.self.now all c.self.view_is c.tick_line.ensures.decoder (c.tick_line.ensures.state h)
 
 pub returns-clause-outs : goal.returns-clause-outs
 returns-clause-outs c =
-    let was : is_busy c.self.inside.link.side.turn ≡ true = sym c.if-not-was_busy.ensures in
-    let now : is_busy c.ticked.new.self.side.turn ≡ false = sym c.if-is_busy.ensures in
-    let same : c.ticked.new.self.side.turn ≡ turn_ticked c.self.inside.link.side.turn = ap (λ (l : LinkState). l.side.turn) c.ticked.ensures in
-    let gave : gives_up c.self.inside.link.side.turn (turn_ticked c.self.inside.link.side.turn) ≡ true = given_up c.self.inside.link.side.turn (turn_ticked c.self.inside.link.side.turn) was (subst (λ (t : Turn). is_busy t ≡ false) same now) in
-    let written : c.write_copy.new.out.items ≡ c.args.out.now.items ++ copy_out (copy_due c.self.inside.link.side.turn)
-    = c.write_copy.ensures.outs ∙ ap (λ xs. xs ++ copy_out c.in_ok-copy.copy) c.in_ok-reserve.ensures.items ∙ ap (λ o. c.args.out.now.items ++ copy_out o) c.in_ok-copy.ensures in
-    subst (λ (s : HostParts). c.end_request.new.out.items ≡ c.args.out.now.items ++ outs s.state Line_ticks) c.self.view_is
-    (line_outs (state_of c.self.inside) c.failed-end.result c.args.out.now.items c.write_copy.new.out.items c.end_request.new.out.items gave c.failed-end.ensures.end written c.end_request.ensures.outs)
+    outs_done c.tick_line.result (parts_of c.self.inside) c.args.self.now Line_ticks c.args.out.now.items c.tick_line.new.out.items c.self.view_is (c.tick_line.ensures.outs (state_of c.self.inside))
+
+pub returns-clause-err : goal.returns-clause-err
+returns-clause-err c =
+    let h : HostState = state_of c.self.inside in
+    let new : HostState = record h { side = c.tick_line.new.link.side; requests = c.tick_line.new.requests; nodes = c.tick_line.new.nodes; commands = c.tick_line.new.commands.items } in
+    let all : HostParts = record { decoder = c.tick_line.new.link.decoder; state = new } in
+    line_stayed c.tick_line.result (parts_of c.self.inside) c.args.self.now all c.args.out.now.items c.tick_line.new.out.items c.self.view_is c.tick_line.ensures.stays (c.tick_line.ensures.err h)

@@ -1,16 +1,29 @@
-use Rattle.std.proofs.Common.{refl, sym}
-use Rattle.host_state.proofs.Ending.{ticked_state}
+use Rattle.host_events.specs.State.{HostState}
 use Rattle.host_events.specs.Events.{Node_ticks}
 use Rattle.host_state.specs.Inside.{state_of, parts_of}
-use Rattle.host_state.proofs.Kept.{kept_as, whole_is}
+use Rattle.host_state.proofs.Done.{facts_hold, always, host_stayed, may_here, state_done, outs_done, nothing_done}
 use Rattle.host_state.proofs.host.Core.tick_node.Goals as goal
 
 pub invariant_of-self : goal.invariant_of-self
 invariant_of-self c =
-    let state = ticked_state (state_of c.self.inside) c.args.node c.tick-end.result c.open_command-command.result c.tick-end.new.self c.end_attempt.new.commands.items c.tick-end.ensures.state c.tick-end.ensures.answer (cc) c.end_attempt.ensures.state in
-    kept_as c.facts_are_kept.ensures.each (parts_of c.self.inside) c.args.self.now _ _ (Node_ticks c.args.node) c.self.view_is c.self.invariant c.requires state refl refl refl refl refl
+    let h : HostState = state_of c.self.inside in
+    let new : HostState = record h { nodes = c.tick_node.new.nodes; commands = c.tick_node.new.commands.items } in
+    facts_hold c.tick_node.result h new (Node_ticks c.args.node) c.facts_are_kept.ensures.each c.self.invariant
+    (always c.tick_node.result _ (may_here (parts_of c.self.inside) c.args.self.now (Node_ticks c.args.node) c.self.view_is c.requires))
+    (c.tick_node.ensures.state h) (host_stayed c.tick_node.result _ _ (c.tick_node.ensures.err h))
 
 pub returns-clause-state : goal.returns-clause-state
 returns-clause-state c =
-    let state = ticked_state (state_of c.self.inside) c.args.node c.tick-end.result c.open_command-command.result c.tick-end.new.self c.end_attempt.new.commands.items c.tick-end.ensures.state c.tick-end.ensures.answer (cc) c.end_attempt.ensures.state in
-    whole_is (parts_of c.self.inside) c.args.self.now _ (Node_ticks c.args.node) c.self.view_is (sym state)
+    let h : HostState = state_of c.self.inside in
+    let new : HostState = record h { nodes = c.tick_node.new.nodes; commands = c.tick_node.new.commands.items } in
+    state_done c.tick_node.result (parts_of c.self.inside) c.args.self.now new (Node_ticks c.args.node) c.self.view_is (c.tick_node.ensures.state h)
+
+pub returns-clause-outs : goal.returns-clause-outs
+returns-clause-outs c =
+    outs_done c.tick_node.result (parts_of c.self.inside) c.args.self.now (Node_ticks c.args.node) c.args.out.now.items c.tick_node.new.out.items c.self.view_is (c.tick_node.ensures.outs (state_of c.self.inside))
+
+pub returns-clause-err : goal.returns-clause-err
+returns-clause-err c =
+    let h : HostState = state_of c.self.inside in
+    let new : HostState = record h { nodes = c.tick_node.new.nodes; commands = c.tick_node.new.commands.items } in
+    nothing_done c.tick_node.result (parts_of c.self.inside) c.args.self.now new c.args.out.now.items c.tick_node.new.out.items c.self.view_is (c.tick_node.ensures.err h)

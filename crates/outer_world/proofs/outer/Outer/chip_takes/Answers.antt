@@ -1,10 +1,10 @@
-use Rattle.std.proofs.Common.{◌≡◌, ◌<◌, false, length, sym, ◌∙◌, ap, arith}
-use Rattle.outer_events.specs.State.{OuterState, is_stalled}
+use Rattle.std.proofs.Common.{◌≡◌, ◌<◌, false, length, sym, ◌∙◌, arith}
+use Rattle.outer_events.specs.State.{is_stalled}
 use Rattle.outer_world.proofs.Taking.{taken_all}
 use Rattle.outer_world.proofs.outer.Outer.chip_takes.Goals as goal
 
 pub returns-clause-ok : goal.returns-clause-ok
 returns-clause-ok c =
-    let flows : is_stalled c.args.self.now ≡ false = sym c.is_stalled.ensures ∙ c.if-is_stalled.false in
-    let some : 0 < length c.args.self.now.to_chip.bytes = omega (arith, ap (λ (o : OuterState). length o.to_chip.bytes) c.self.view_is) in
-    taken_all c.args.self.now _ _ _ _ _ _ flows some c.new-told.ensures c.in_ok-chip_takes_all.ensures c.in_ok-enter.ensures.outer c.in_ok-enter.ensures.entered
+    let flows : is_stalled c.self.inside.core ≡ false = sym c.is_stalled.ensures ∙ c.if-is_stalled.false in
+    let some : 0 < length c.self.inside.core.to_chip.bytes = omega arith in
+    rw (← c.self.view_is) (taken_all c.self.inside.core _ _ _ _ _ _ flows some c.new-told.ensures c.in_ok-chip_takes_all.ensures c.in_ok-enter.ensures.outer c.in_ok-enter.ensures.entered)

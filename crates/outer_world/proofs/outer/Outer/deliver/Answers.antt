@@ -1,6 +1,6 @@
 use Rattle.std.proofs.Common.{[], ◌-◌, refl, ap, arith, ◌∙◌}
 use Rattle.outer_events.specs.State.{OuterState}
-use Rattle.outer_world.proofs.Single.{on_err}
+use Rattle.outer_state.proofs.Answered.{on_err}
 use Rattle.outer_world.proofs.Counted.{arrivals, ran_more, ran_all, ran_stops}
 use Rattle.outer_events.proofs.Doing.{ran_nothing}
 use Rattle.outer_world.proofs.Landing.{arrive_moves}

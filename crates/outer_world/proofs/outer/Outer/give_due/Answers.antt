@@ -2,7 +2,8 @@ use Rattle.std.proofs.Common.{[], length, refl, ap, arith}
 use Rattle.outer_events.specs.State.{OuterState}
 use Rattle.outer_events.specs.Did.{FrontOf}
 use Rattle.outer_events.specs.Schedules.{Givings}
-use Rattle.outer_world.proofs.Single.{stops_now, on_err}
+use Rattle.outer_state.proofs.Answered.{on_err}
+use Rattle.outer_world.proofs.Single.{stops_now}
 use Rattle.outer_world.proofs.Counted.{givings, ran_more, ran_all, ran_stops}
 use Rattle.outer_events.proofs.Doing.{ran_nothing}
 use Rattle.outer_world.proofs.outer.Outer.give_due.Goals as goal

@@ -1,5 +1,6 @@
-use Rattle.outer_world.proofs.Going.{noted}
+use Rattle.outer_state.proofs.Answered.{map_ok}
+use Rattle.outer_world.proofs.Going.{goes_notes}
 use Rattle.outer_world.proofs.outer.Outer.note.Goals as goal
 
 pub returns-clause-ok : goal.returns-clause-ok
-returns-clause-ok c = noted _ _ _ _ _ _ _ c.in_ok-reserve.ensures.items c.enter_tick.ensures.outer c.enter_tick.ensures.entered c.put.ensures.items
+returns-clause-ok c = rw (← c.self.view_is) (map_ok c.note.result _ _ (goes_notes _ _ _ _ _) c.note.ensures.ok)

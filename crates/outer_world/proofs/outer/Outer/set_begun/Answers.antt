@@ -1,8 +1,5 @@
-use Rattle.outer_world.proofs.Going.{begins_more, begins_fewer}
+use Rattle.outer_world.proofs.Going.{goes_begins}
 use Rattle.outer_world.proofs.outer.Outer.set_begun.Goals as goal
 
-pub returns-then-begun-sessions : goal.returns-then-begun-sessions
-returns-then-begun-sessions c = rw (← c.self.view_is) (begins_more _ _ _ _ _ c.begun.ensures c.if-begun-sessions.true c.set_begun.ensures.state)
-
-pub returns-else-begun-sessions : goal.returns-else-begun-sessions
-returns-else-begun-sessions c = rw (← c.self.view_is) (begins_fewer _ _ _ _ c.begun.ensures c.if-begun-sessions.false)
+pub returns : goal.returns
+returns c = rw (← c.self.view_is) (goes_begins _ _ _ _ c.set_begun.ensures)

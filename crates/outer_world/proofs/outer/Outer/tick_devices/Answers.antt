@@ -1,5 +1,5 @@
 use Rattle.std.proofs.Common.{[], refl, arith, ◌∙◌}
-use Rattle.outer_world.proofs.Single.{on_err}
+use Rattle.outer_state.proofs.Answered.{on_err}
 use Rattle.outer_events.proofs.Doing.{ran_nothing}
 use Rattle.outer_world.proofs.Counted.{device_ticks, ran_more, ran_all, ran_stops}
 use Rattle.outer_world.proofs.Moves.{tick_runs, tick_stops}

@@ -1,4 +1,4 @@
-use Rattle.outer_world.proofs.Single.{map_ok_both, map_err_both}
+use Rattle.outer_state.proofs.Answered.{map_ok_both, map_err_both}
 use Rattle.outer_world.proofs.Moves.{wake_runs, wake_stops}
 use Rattle.outer_world.proofs.outer.Outer.wake.Goals as goal
 

@@ -1,5 +1,6 @@
 -- So many ticks, or the line's effect and a pump.
-use Rattle.replay_run.proofs.Steps.{on_err, ticks_as, plain_done, plain_stops}
+use Rattle.serial_link.proofs.Taking.{on_err}
+use Rattle.replay_run.proofs.Steps.{ticks_as, plain_done, plain_stops}
 use Rattle.replay_run.proofs.replay.Replay.plain.Goals as goal
 
 pub returns-in-Tick-clause-ok : goal.returns-in-Tick-clause-ok

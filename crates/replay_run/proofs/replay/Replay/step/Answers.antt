@@ -1,7 +1,8 @@
 -- A line that scenarios have too, or bytes of the chip and a pump.
 use Rattle.std.proofs.Common.{ℕ, List, ap, sym, ◌∙◌}
 use Rattle.zw_text.specs.declared.line.ReplayLine.TheVariants.{Chip}
-use Rattle.replay_run.proofs.Steps.{on_err, plain_is, line_as, chip_done, chip_stops}
+use Rattle.serial_link.proofs.Taking.{on_err}
+use Rattle.replay_run.proofs.Steps.{plain_is, line_as, chip_done, chip_stops}
 use Rattle.replay_run.proofs.replay.Replay.step.Goals as goal
 
 pub plain-requires : goal.plain-requires

@@ -5,7 +5,7 @@ use Rattle.replay_run.specs.Machine.{ReplayState, Does, scene}
 use Rattle.replay_run.specs.Lines.{IsTick}
 use Rattle.replay_run.specs.contracts.replay.Replay.{the_view}
 use Rattle.replay_run.proofs.Doing.{stopped_still}
-use Rattle.replay_run.proofs.Steps.{on_err}
+use Rattle.serial_link.proofs.Taking.{on_err}
 use Rattle.replay_run.proofs.Hosting.{call_stops, tick_done, tick_cut, tick_pump_stops}
 use Rattle.replay_run.proofs.replay.Replay.tick.Goals as goal
 

@@ -4,9 +4,10 @@ use Rattle.outer_events.specs.Schedules.{IsRepeat, IsWake, IsSet}
 use Rattle.outer_events.specs.Events.{Shows}
 use Rattle.zw_machine.specs.Fronts.{EffectFront}
 use Rattle.zw_machine.proofs.Schedules.{repeat_own, wake_own, set_own}
+use Rattle.world_sides.proofs.Scenes.{ok_then, err_then, did_of, stopped_still}
 use Rattle.zw_world.specs.contracts.world.World.{the_view}
-use Rattle.zw_world.proofs.Scenes.{ok_then, err_then, did_of, did_run, stopped_of, stopped_still, on_err}
-use Rattle.zw_world.proofs.Steps.{effect_as, front_as, none_in, nothing_in, setting_of}
+use Rattle.zw_world.proofs.Scenes.{did_run, stopped_of}
+use Rattle.zw_world.proofs.Steps.{effect_as, front_as, none_in, nothing_in, left_of}
 use Rattle.zw_world.proofs.world.World.effect.Goals as goal
 
 pub returns-in-Command-clause-ok : goal.returns-in-Command-clause-ok
@@ -32,62 +33,6 @@ returns-in-Restart-clause-ok g c = effect_as c.restart.result _ _ _ _ c.in-Resta
 
 pub returns-in-Restart-clause-err : goal.returns-in-Restart-clause-err
 returns-in-Restart-clause-err g c = front_as c.restart.result _ _ _ _ c.in-Restart.is (err_then c.restart.result c.restart.ensures.err (λ stops. stops _))
-
-pub returns-in-Send-clause-ok : goal.returns-in-Send-clause-ok
-returns-in-Send-clause-ok g c = effect_as c.send.result _ _ _ _ c.in-Send.is (ok_then c.send.result c.send.ensures.ok (λ done. done _ (g.P.Keeper.records c.args.keeper.now) (g.P.Keeper.faults c.args.keeper.now)))
-
-pub returns-in-Send-clause-err : goal.returns-in-Send-clause-err
-returns-in-Send-clause-err g c = err_then c.send.result c.send.ensures.err
-    (λ same. stopped_still (EffectFront c.args.line.now) c.args.self.now.keys c.send.new.self.keys c.args.self.now.host c.send.new.self.host c.args.self.now.outer c.send.new.self.outer _ (g.P.Keeper.records c.args.keeper.now) (g.P.Keeper.records c.args.keeper.now) c.args.out.now.items c.send.new.out.items (g.P.Keeper.faults c.args.keeper.now) (g.P.Keeper.faults c.args.keeper.now) (none_in c.args.line.now _) refl same (omega arith))
-
-pub returns-in-Get-clause-ok : goal.returns-in-Get-clause-ok
-returns-in-Get-clause-ok g c = effect_as c.get.result _ _ _ _ c.in-Get.is (ok_then c.get.result c.get.ensures.ok (λ done. done _ (g.P.Keeper.records c.args.keeper.now) (g.P.Keeper.faults c.args.keeper.now)))
-
-pub returns-in-Get-clause-err : goal.returns-in-Get-clause-err
-returns-in-Get-clause-err g c = err_then c.get.result c.get.ensures.err
-    (λ same. stopped_still (EffectFront c.args.line.now) c.args.self.now.keys c.get.new.self.keys c.args.self.now.host c.get.new.self.host c.args.self.now.outer c.get.new.self.outer _ (g.P.Keeper.records c.args.keeper.now) (g.P.Keeper.records c.args.keeper.now) c.args.out.now.items c.get.new.out.items (g.P.Keeper.faults c.args.keeper.now) (g.P.Keeper.faults c.args.keeper.now) (none_in c.args.line.now _) refl same (omega arith))
-
-pub returns-in-Interview-clause-ok : goal.returns-in-Interview-clause-ok
-returns-in-Interview-clause-ok g c = effect_as c.interview.result _ _ _ _ c.in-Interview.is (ok_then c.interview.result c.interview.ensures.ok (λ done. done _ (g.P.Keeper.records c.args.keeper.now) (g.P.Keeper.faults c.args.keeper.now)))
-
-pub returns-in-Interview-clause-err : goal.returns-in-Interview-clause-err
-returns-in-Interview-clause-err g c = err_then c.interview.result c.interview.ensures.err
-    (λ same. stopped_still (EffectFront c.args.line.now) c.args.self.now.keys c.interview.new.self.keys c.args.self.now.host c.interview.new.self.host c.args.self.now.outer c.interview.new.self.outer _ (g.P.Keeper.records c.args.keeper.now) (g.P.Keeper.records c.args.keeper.now) c.args.out.now.items c.interview.new.out.items (g.P.Keeper.faults c.args.keeper.now) (g.P.Keeper.faults c.args.keeper.now) (none_in c.args.line.now _) refl same (omega arith))
-
-pub returns-in-Discover-clause-ok : goal.returns-in-Discover-clause-ok
-returns-in-Discover-clause-ok g c = effect_as c.discover.result _ _ _ _ c.in-Discover.is (ok_then c.discover.result c.discover.ensures.ok (λ done. done _ (g.P.Keeper.records c.args.keeper.now) (g.P.Keeper.faults c.args.keeper.now)))
-
-pub returns-in-Discover-clause-err : goal.returns-in-Discover-clause-err
-returns-in-Discover-clause-err g c = err_then c.discover.result c.discover.ensures.err
-    (λ same. stopped_still (EffectFront c.args.line.now) c.args.self.now.keys c.discover.new.self.keys c.args.self.now.host c.discover.new.self.host c.args.self.now.outer c.discover.new.self.outer _ (g.P.Keeper.records c.args.keeper.now) (g.P.Keeper.records c.args.keeper.now) c.args.out.now.items c.discover.new.out.items (g.P.Keeper.faults c.args.keeper.now) (g.P.Keeper.faults c.args.keeper.now) (none_in c.args.line.now _) refl same (omega arith))
-
-pub returns-in-Neighbours-clause-ok : goal.returns-in-Neighbours-clause-ok
-returns-in-Neighbours-clause-ok g c = effect_as c.ask.result _ _ _ _ c.in-Neighbours.is (ok_then c.ask.result c.ask.ensures.ok (λ done. done _ (g.P.Keeper.records c.args.keeper.now) (g.P.Keeper.faults c.args.keeper.now)))
-
-pub returns-in-Neighbours-clause-err : goal.returns-in-Neighbours-clause-err
-returns-in-Neighbours-clause-err g c = err_then c.ask.result c.ask.ensures.err
-    (λ same. stopped_still (EffectFront c.args.line.now) c.args.self.now.keys c.ask.new.self.keys c.args.self.now.host c.ask.new.self.host c.args.self.now.outer c.ask.new.self.outer _ (g.P.Keeper.records c.args.keeper.now) (g.P.Keeper.records c.args.keeper.now) c.args.out.now.items c.ask.new.out.items (g.P.Keeper.faults c.args.keeper.now) (g.P.Keeper.faults c.args.keeper.now) (none_in c.args.line.now _) refl same (omega arith))
-
-pub returns-in-Failed-clause-ok : goal.returns-in-Failed-clause-ok
-returns-in-Failed-clause-ok g c = effect_as c.ask-in-Failed.result _ _ _ _ c.in-Failed.is (ok_then c.ask-in-Failed.result c.ask-in-Failed.ensures.ok (λ done. done _ (g.P.Keeper.records c.args.keeper.now) (g.P.Keeper.faults c.args.keeper.now)))
-
-pub returns-in-Failed-clause-err : goal.returns-in-Failed-clause-err
-returns-in-Failed-clause-err g c = err_then c.ask-in-Failed.result c.ask-in-Failed.ensures.err
-    (λ same. stopped_still (EffectFront c.args.line.now) c.args.self.now.keys c.ask-in-Failed.new.self.keys c.args.self.now.host c.ask-in-Failed.new.self.host c.args.self.now.outer c.ask-in-Failed.new.self.outer _ (g.P.Keeper.records c.args.keeper.now) (g.P.Keeper.records c.args.keeper.now) c.args.out.now.items c.ask-in-Failed.new.out.items (g.P.Keeper.faults c.args.keeper.now) (g.P.Keeper.faults c.args.keeper.now) (none_in c.args.line.now _) refl same (omega arith))
-
-pub returns-in-Probe-clause-ok : goal.returns-in-Probe-clause-ok
-returns-in-Probe-clause-ok g c = effect_as c.ask-in-Probe.result _ _ _ _ c.in-Probe.is (ok_then c.ask-in-Probe.result c.ask-in-Probe.ensures.ok (λ done. done _ (g.P.Keeper.records c.args.keeper.now) (g.P.Keeper.faults c.args.keeper.now)))
-
-pub returns-in-Probe-clause-err : goal.returns-in-Probe-clause-err
-returns-in-Probe-clause-err g c = err_then c.ask-in-Probe.result c.ask-in-Probe.ensures.err
-    (λ same. stopped_still (EffectFront c.args.line.now) c.args.self.now.keys c.ask-in-Probe.new.self.keys c.args.self.now.host c.ask-in-Probe.new.self.host c.args.self.now.outer c.ask-in-Probe.new.self.outer _ (g.P.Keeper.records c.args.keeper.now) (g.P.Keeper.records c.args.keeper.now) c.args.out.now.items c.ask-in-Probe.new.out.items (g.P.Keeper.faults c.args.keeper.now) (g.P.Keeper.faults c.args.keeper.now) (none_in c.args.line.now _) refl same (omega arith))
-
-pub returns-in-Store-clause-ok : goal.returns-in-Store-clause-ok
-returns-in-Store-clause-ok g c = effect_as c.store.result _ _ _ _ c.in-Store.is (ok_then c.store.result c.store.ensures.ok (λ done. done _ (g.P.Keeper.records c.args.keeper.now) (g.P.Keeper.faults c.args.keeper.now)))
-
-pub returns-in-Store-clause-err : goal.returns-in-Store-clause-err
-returns-in-Store-clause-err g c = err_then c.store.result c.store.ensures.err
-    (λ same. stopped_still (EffectFront c.args.line.now) c.args.self.now.keys c.store.new.self.keys c.args.self.now.host c.store.new.self.host c.args.self.now.outer c.store.new.self.outer _ (g.P.Keeper.records c.args.keeper.now) (g.P.Keeper.records c.args.keeper.now) c.args.out.now.items c.store.new.out.items (g.P.Keeper.faults c.args.keeper.now) (g.P.Keeper.faults c.args.keeper.now) (none_in c.args.line.now _) refl same (omega arith))
 
 pub returns-in-Repeat-clause-ok : goal.returns-in-Repeat-clause-ok
 returns-in-Repeat-clause-ok g c =
@@ -137,12 +82,12 @@ returns-in-Show-clause-err g c =
     rw (← c.self-in-Show.view_is) (err_then c.show.result c.show.ensures.no_entries
     (λ same. stopped_still (EffectFront c.args.line.now) w.keys w.keys w.host w.host w.outer c.show.new.self _ (g.P.Keeper.records c.args.keeper.now) (g.P.Keeper.records c.args.keeper.now) c.args.out.now.items c.show.new.out.items (g.P.Keeper.faults c.args.keeper.now) (g.P.Keeper.faults c.args.keeper.now) (none_in c.args.line.now _) refl same (omega arith)))
 
-pub set-requires : goal.set-requires
-set-requires g c = setting_of c.args.line.now c.requires.effect c.in_default.not-Command c.in_default.not-Send c.in_default.not-Get c.in_default.not-Interview c.in_default.not-Join c.in_default.not-Cancel c.in_default.not-Discover c.in_default.not-Neighbours c.in_default.not-Failed c.in_default.not-Probe c.in_default.not-Restart c.in_default.not-Store c.in_default.not-Repeat c.in_default.not-Wake c.in_default.not-Local c.in_default.not-Show
+pub ask_or_set-requires : goal.ask_or_set-requires
+ask_or_set-requires g c = left_of c.args.line.now c.requires.effect c.in_default.not-Command c.in_default.not-Join c.in_default.not-Cancel c.in_default.not-Restart c.in_default.not-Repeat c.in_default.not-Wake c.in_default.not-Local c.in_default.not-Show
 
 pub returns-in_default-clause-ok : goal.returns-in_default-clause-ok
-returns-in_default-clause-ok g c = ok_then c.set.result c.set.ensures.ok (λ done. done _ (g.P.Keeper.records c.args.keeper.now) c.args.out.now.items (g.P.Keeper.faults c.args.keeper.now))
+returns-in_default-clause-ok g c = ok_then c.ask_or_set.result c.ask_or_set.ensures.ok (λ done. done _ (g.P.Keeper.records c.args.keeper.now) (g.P.Keeper.faults c.args.keeper.now))
 
 pub returns-in_default-clause-err : goal.returns-in_default-clause-err
-returns-in_default-clause-err g c = on_err c.set.result
-    (stopped_still (EffectFront c.args.line.now) c.args.self.now.keys c.set.new.self.keys c.args.self.now.host c.set.new.self.host c.args.self.now.outer c.set.new.self.outer _ (g.P.Keeper.records c.args.keeper.now) (g.P.Keeper.records c.args.keeper.now) c.args.out.now.items c.args.out.now.items (g.P.Keeper.faults c.args.keeper.now) (g.P.Keeper.faults c.args.keeper.now) (none_in c.args.line.now _) refl refl (omega arith))
+returns-in_default-clause-err g c = err_then c.ask_or_set.result c.ask_or_set.ensures.err
+    (λ same. stopped_still (EffectFront c.args.line.now) c.args.self.now.keys c.ask_or_set.new.self.keys c.args.self.now.host c.ask_or_set.new.self.host c.args.self.now.outer c.ask_or_set.new.self.outer _ (g.P.Keeper.records c.args.keeper.now) (g.P.Keeper.records c.args.keeper.now) c.args.out.now.items c.ask_or_set.new.out.items (g.P.Keeper.faults c.args.keeper.now) (g.P.Keeper.faults c.args.keeper.now) (none_in c.args.line.now _) refl same (omega arith))

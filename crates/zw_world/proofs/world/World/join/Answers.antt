@@ -8,8 +8,8 @@ use Rattle.host_events.specs.Asking.{join_refusal}
 use Rattle.outer_events.specs.Events.{Joins}
 use Rattle.zw_machine.specs.Refusals.{shown}
 use Rattle.zw_machine.specs.Events.{Host_does, Outside_does}
+use Rattle.world_sides.proofs.Scenes.{ok_then, err_then, on_err}
 use Rattle.zw_world.specs.contracts.world.World.{the_view}
-use Rattle.zw_world.proofs.Scenes.{ok_then, err_then, on_err}
 use Rattle.zw_world.proofs.Asking.{joined, event_stops, refusal_done, refusal_stops, kept_as, rose_entered}
 use Rattle.zw_world.proofs.world.World.join.Goals as goal
 

@@ -6,8 +6,8 @@ use Rattle.host_core.specs.declared.opening.OpenFault.{OpenFault}
 use Rattle.zw_machine.specs.Did.{Nothing}
 use Rattle.zw_machine.specs.Fronts.{RestartFront}
 use Rattle.zw_machine.proofs.Doing.{stopped_as}
+use Rattle.world_sides.proofs.Scenes.{err_then}
 use Rattle.zw_world.specs.World.{WorldState}
-use Rattle.zw_world.proofs.Scenes.{err_then}
 use Rattle.zw_world.proofs.Asking.{refusal_stops}
 use Rattle.zw_world.proofs.Restarts.{restarted_all, restart_stops, unopened_all}
 use Rattle.zw_world.proofs.world.World.restart.Goals as goal

@@ -1,8 +1,8 @@
 -- A node that is joined.
 use Rattle.std.proofs.Common.{map, sym, ap, ◌∙◌}
 use Rattle.host_events.specs.State.{node_of}
+use Rattle.world_sides.proofs.Scenes.{ok_then}
 use Rattle.zw_world.specs.World.{WorldState, machine_of}
-use Rattle.zw_world.proofs.Scenes.{ok_then}
 use Rattle.zw_world.proofs.Listing.{listed_joined}
 use Rattle.zw_world.proofs.world.World.table_of.Goals as goal
 

@@ -1,0 +1,4 @@
+pub mod NodeLemmas
+pub mod CacheLemmas
+pub mod PlaceLemmas
+pub mod JudgingLemmas

@@ -1,6 +1,0 @@
-use Rattle.std.proofs.Common.{◌≡◌, ◌++◌, drop}
-use Rattle.device_stack.specs.Judging.{memberships}
-use Rattle.device_stack.proofs.judging.members.Given as goal
-
-abbrev pub invariant-loop-node : goal.invariant-loop-node
-invariant-loop-node l = l.settings.items ++ memberships l.end l.value (drop l.node-index l.nodes) ≡ memberships l.end l.value l.nodes

@@ -1,6 +1,0 @@
-use Rattle.std.proofs.Common.{◌≡◌, drop}
-use Rattle.device_stack.specs.Settings.{merged}
-use Rattle.device_stack.proofs.settings.merge.Given as goal
-
-abbrev pub invariant-loop-setting : goal.invariant-loop-setting
-invariant-loop-setting l = merged l.all.items (drop l.setting-index l.more) ≡ merged l.settings l.more

@@ -1,0 +1,4 @@
+pub mod Choices
+pub mod Ending
+pub mod Heard
+pub mod Parts

@@ -1,5 +1,0 @@
-use Rattle.std.proofs.Common.{length}
-use Rattle.host_state.proofs.changes.+confirm.Given as goal
-
-abbrev pub decreases-confirm : goal.decreases-confirm
-decreases-confirm l = length l.confirmed.now

@@ -1,0 +1,10 @@
+pub mod Doing
+mod Followed
+mod OneMessage
+mod OneNonce
+mod OneValue
+mod Pieces
+mod Reported
+mod Taken
+mod Told
+mod Unsealed

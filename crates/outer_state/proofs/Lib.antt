@@ -1,0 +1,9 @@
+pub mod Answered
+pub mod Outcomes
+pub mod Items
+pub mod Parts
+pub mod Chips
+pub mod Sendable
+pub mod Ranges
+pub mod Doings
+pub mod Taking

@@ -1,0 +1,3 @@
+pub mod Scene
+pub mod Moving
+pub mod Routing
