@@ -208,15 +208,17 @@ keeps_link side transcript short wrote came =
     record {
       history = steps_of moves;
       end = record { turn = Idle; collisions = 0 };
-      signals = piece_of (bytes_heard moves);
-      rest = no_rest;
       obeys = record {
         answers = answers_all [] moves refl;
         collisions = no_asks moves ∙ sym (ap (λ (cans : ℕ). cans + 0) (no_cans moves));
         turns = record { past = parts_of moves; now = []; parts = sym (append-nil (steps_of moves)); are_past = are_lives moves; stands = tt };
       };
       wrote = wrote;
-      heard = splits moves short;
-      came = subst (λ (bytes : List ℕ). IsFrontOf bytes (stream (other side) transcript)) (sym (bytes_of-piece (bytes_heard moves))) came;
-      ticked = marks_of-piece (bytes_heard moves) ∙ sym (no_ticks moves);
+      hears = record {
+        signals = piece_of (bytes_heard moves);
+        rest = no_rest;
+        heard = splits moves short;
+        came = subst (λ (bytes : List ℕ). IsFrontOf bytes (stream (other side) transcript)) (sym (bytes_of-piece (bytes_heard moves))) came;
+        ticked = marks_of-piece (bytes_heard moves) ∙ sym (no_ticks moves);
+      };
     }

@@ -13,11 +13,11 @@ six_one e = omega (arith, e)
 pub answers_nothing : KeepsLink Chip answered_nothing → ⊥
 unfolding reckoning
 answers_nothing link =
-    let unheard = none_heard link.signals _ link.rest link.heard (front_none _ link.came.0 (sym link.came.1)) in
+    let unheard = none_heard link.hears.signals _ link.hears.rest link.hears.heard (front_none _ link.hears.came.0 (sym link.hears.came.1)) in
     six_one (subst (λ texts. AllByRecursion BeginsFrame texts) link.wrote (silent [] link.history link.obeys.answers unheard)).0
 
 pub host_answers_nothing : KeepsLink Host host_answered_nothing → ⊥
 unfolding reckoning
 host_answers_nothing link =
-    let unheard = none_heard link.signals _ link.rest link.heard (front_none _ link.came.0 (sym link.came.1)) in
+    let unheard = none_heard link.hears.signals _ link.hears.rest link.hears.heard (front_none _ link.hears.came.0 (sym link.hears.came.1)) in
     six_one (subst (λ texts. AllByRecursion BeginsFrame texts) link.wrote (silent [] link.history link.obeys.answers unheard)).0

@@ -6,7 +6,7 @@ use Rattle.device_sim.specs.Event.{DeviceEvent}
 use Rattle.zw_text.specs.declared.entry.Entry.{Entry}
 use Rattle.zw_text.specs.declared.entry.Entry.TheVariants.{Said}
 use Rattle.zw_text.specs.Transcript.{lines_run}
-use Rattle.zw_laws.specs.Devices.{CameJoined, ChangedAsShown, after_events, brought, comings, replies_in, sent_from, ticks_lived}
+use Rattle.zw_laws.specs.Devices.{CameAsShown, CameJoined, ChangedAsShown, after_events, brought, comings, replies_in, sent_from, ticks_lived}
 use Rattle.zw_laws.specs.Lists.{IsFrontOf}
 use Rattle.zw_laws.specs.Restarts.{ticks_asked}
 
@@ -21,8 +21,7 @@ before_line transcript = before_line_from [] [] transcript
 
 -- before the last line all came to a device that the transcript shows, in the ticks that lines ask for, and its answers are its frames
 pub record RanBefore (node : ℕ) (transcript : List Entry) (old : State) (earlier : List DeviceEvent) : Type 0 where
-  pub came : comings earlier ≡ brought node (before_line transcript)
-  pub ticked : ticks_lived earlier ≡ ticks_asked (lines_run (before_line transcript))
+  pub comes : CameAsShown node (before_line transcript) earlier
   pub answered : CameJoined node transcript → old.work_left ≡ 0 → sent_from node (before_line transcript) ≡ replies_in old earlier
 
 -- these entries may be lacking: no line, and at most one payload more for the node

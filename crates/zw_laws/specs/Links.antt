@@ -25,18 +25,21 @@ abbrev pub other : Side → Side
 other Host = Chip
 other Chip = Host
 
--- a side obeyed: there is a history of what it heard, submitted and ticked that obeys the rules, in which it wrote just its
--- units, and heard the splitting of a front of what the other side's pipe was given
-pub record KeepsLink (side : Side) (transcript : List Entry) : Type 0 where
-  pub history : List Step
-  pub end : LinkSide
+-- what a side heard in a history is the splitting of a front of what the other side's pipe was given, with as many ticks as it counted
+pub record HearsPipe (side : Side) (transcript : List Entry) (history : List Step) : Type 0 where
   pub signals : List Signal
   pub rest : Rest
-  pub obeys : SideObeys history end
-  pub wrote : flat_map text_of (outs_of history) ≡ written side transcript
   pub heard : Splits signals (items_of history) rest
   pub came : IsFrontOf (bytes_of signals) (stream (other side) transcript)
   pub ticked : marks_of signals ≡ ticks_of history
+
+-- a side obeyed: there is a history of what it heard, submitted and ticked that obeys the rules, in which it wrote just its units
+pub record KeepsLink (side : Side) (transcript : List Entry) : Type 0 where
+  pub history : List Step
+  pub end : LinkSide
+  pub obeys : SideObeys history end
+  pub wrote : flat_map text_of (outs_of history) ≡ written side transcript
+  pub hears : HearsPipe side transcript history
 
 -- the entries from each restart to the next
 abbrev pub between_restarts : List Entry → List Entry → List (List Entry)

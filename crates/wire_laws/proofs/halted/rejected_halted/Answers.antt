@@ -65,21 +65,21 @@ first_said (payload ∷ payloads) = second_byte payload
 pub returns-clause-stirred : goal.returns-clause-stirred
 unfolding reckoning
 returns-clause-stirred c = λ law.
-    let late = late_by 5 quiet_line sleeper stirred law [] (nothing_came law.earlier law.before.came law.before.ticked) in
+    let late = late_by 5 quiet_line sleeper stirred law [] (nothing_came law.earlier law.before.comes.came law.before.comes.ticked) in
     one_at_most (λ (events : List DeviceEvent). 1 ≡ (after_events sleeper events).active_at → ⊥) one_none (λ payload drawn. one_none) one_none (λ value. one_none)
     [] law.late late.ticked late.few (ap (λ (device : State). device.active_at) late.runs)
 
 pub returns-clause-unset : goal.returns-clause-unset
 unfolding reckoning
 returns-clause-unset c = λ law.
-    let late = late_by 5 set_before sleeper sleeper law (Sets 1 ∷ []) (only_set law.earlier 1 law.before.came law.before.ticked) in
+    let late = late_by 5 set_before sleeper sleeper law (Sets 1 ∷ []) (only_set law.earlier 1 law.before.comes.came law.before.comes.ticked) in
     one_at_most (λ (events : List DeviceEvent). 0 ≡ changes_of (after_events sleeper (Sets 1 ∷ events)) → ⊥) none_one (λ payload drawn. none_one) none_one (λ value. none_two)
     (Sets 1 ∷ []) law.late (omega (arith, late.ticked)) (omega (arith, late.few)) (ap changes_of late.runs)
 
 pub returns-clause-unticked : goal.returns-clause-unticked
 unfolding reckoning
 returns-clause-unticked c = λ law.
-    let first = only_ticked law.earlier law.before.came law.before.ticked in
+    let first = only_ticked law.earlier law.before.comes.came law.before.comes.ticked in
     let late = late_by 5 ticked_before sleeper sleeper law (Ticks first.0 ∷ []) first.1 in
     one_at_most (λ (events : List DeviceEvent). 0 ≡ (after_events sleeper (Ticks first.0 ∷ events)).clock → ⊥) none_one (λ payload drawn. none_one) none_one (λ value. none_one)
     (Ticks first.0 ∷ []) law.late (omega (arith, late.ticked)) (omega (arith, late.few)) (ap (λ (device : State). device.clock) late.runs)
@@ -88,19 +88,19 @@ pub returns-clause-silent : goal.returns-clause-silent
 unfolding reckoning
 returns-clause-silent c = λ law.
     none_one (ap length (law.before.answered refl refl)
-    ∙ ap (λ (events : List DeviceEvent). length (replies_in sleeper events)) (only_woken law.earlier law.before.came law.before.ticked))
+    ∙ ap (λ (events : List DeviceEvent). length (replies_in sleeper events)) (only_woken law.earlier law.before.comes.came law.before.comes.ticked))
 
 pub returns-clause-older : goal.returns-clause-older
 unfolding reckoning
 returns-clause-older c = λ law.
-    let late = late_by 5 quiet_line sleeper grown_old law [] (nothing_came law.earlier law.before.came law.before.ticked) in
+    let late = late_by 5 quiet_line sleeper grown_old law [] (nothing_came law.earlier law.before.comes.came law.before.comes.ticked) in
     one_at_most (λ (events : List DeviceEvent). 1 ≡ (after_events sleeper events).clock → ⊥) one_none (λ payload drawn. one_none) one_none (λ value. one_none)
     [] law.late late.ticked late.few (ap (λ (device : State). device.clock) late.runs)
 
 pub returns-clause-unasked : goal.returns-clause-unasked
 unfolding reckoning
 returns-clause-unasked c = λ law.
-    let late = late_by 5 quiet_line sleeper the_sensor law [] (nothing_came law.earlier law.before.came law.before.ticked) in
+    let late = late_by 5 quiet_line sleeper the_sensor law [] (nothing_came law.earlier law.before.comes.came law.before.comes.ticked) in
     one_at_most (λ (events : List DeviceEvent). first_tag (comings events) ≤ 1 → true ≡ (after_events sleeper events).awake → ⊥)
     (λ low. true_false) (λ payload drawn low. true_false) (λ low same. two_low low) (λ value low. true_false)
     [] law.late late.ticked late.few (payload_first 5 quiet_line law.more law.lacks.unsaid (comings law.late) late.front)
@@ -109,7 +109,7 @@ returns-clause-unasked c = λ law.
 pub returns-clause-otherwise : goal.returns-clause-otherwise
 unfolding reckoning
 returns-clause-otherwise c = λ law.
-    let late = late_by 5 set_otherwise sleeper (after_events sleeper (Sets 2 ∷ [])) law [] (nothing_came law.earlier law.before.came law.before.ticked) in
+    let late = late_by 5 set_otherwise sleeper (after_events sleeper (Sets 2 ∷ [])) law [] (nothing_came law.earlier law.before.comes.came law.before.comes.ticked) in
     elim (set_first 1 law.late late.front.0 (sym (ap first_tag late.front.1)) late.ticked) [
       | inl none ↦ one_none (ap changes_of late.runs ∙ ap (λ (events : List DeviceEvent). changes_of (after_events sleeper events)) none)
       | inr first ↦
@@ -121,7 +121,7 @@ returns-clause-otherwise c = λ law.
 pub returns-clause-words : goal.returns-clause-words
 unfolding reckoning
 returns-clause-words c = λ law.
-    let late = late_by 5 woken_otherwise sleeper the_sensor law [] (nothing_came law.earlier law.before.came law.before.ticked) in
+    let late = late_by 5 woken_otherwise sleeper the_sensor law [] (nothing_came law.earlier law.before.comes.came law.before.comes.ticked) in
     let said = late.answered refl refl in
     elim (woken_first law.late late.front.0 (sym (ap first_tag late.front.1)) late.ticked) [
       | inl none ↦ none_some _ (ap (λ (events : List DeviceEvent). length (replies_in sleeper events)) (sym none) ∙ ap length said.1)
@@ -134,7 +134,7 @@ two_heard payload drawn same = omega (arith, same, hears_once the_switch payload
 pub returns-clause-two : goal.returns-clause-two
 unfolding reckoning
 returns-clause-two c = λ law.
-    let late = late_by 2 quiet_line the_switch (after_events the_switch two_messages) law [] (nothing_came law.earlier law.before.came law.before.ticked) in
+    let late = late_by 2 quiet_line the_switch (after_events the_switch two_messages) law [] (nothing_came law.earlier law.before.comes.came law.before.comes.ticked) in
     one_at_most (λ (events : List DeviceEvent). 2 ≡ changes_of (after_events the_switch events) → ⊥) two_none two_heard two_none (λ value. two_one)
     [] law.late late.ticked late.few (ap changes_of late.runs)
 

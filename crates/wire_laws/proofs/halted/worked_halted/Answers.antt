@@ -12,7 +12,7 @@ returns-clause-heard c = record {
   late = events_halted;
   more = take 1 (drop 11 plain_exchange);
   runs = refl;
-  before = record { came = refl; ticked = refl; answered = λ joined idle. refl };
+  before = record { comes = record { came = refl; ticked = refl }; answered = λ joined idle. refl };
   lacks = record { unsaid = refl; one_more = omega arith };
   behind = record { came = ([], refl); ticked = omega arith; answered = λ joined idle. (_, refl) };
   changes = record { changes = turned_on; changed = refl; entered = refl };
@@ -25,7 +25,7 @@ returns-clause-changed c = record {
   late = events_halted;
   more = [];
   runs = refl;
-  before = record { came = refl; ticked = refl; answered = λ joined idle. refl };
+  before = record { comes = record { came = refl; ticked = refl }; answered = λ joined idle. refl };
   lacks = record { unsaid = refl; one_more = omega arith };
   behind = record { came = ([], refl); ticked = omega arith; answered = λ joined idle. (_, refl) };
   changes = record { changes = turned_on; changed = refl; entered = refl };
@@ -38,7 +38,7 @@ returns-clause-unheard c = record {
   late = [];
   more = [];
   runs = refl;
-  before = record { came = refl; ticked = refl; answered = λ joined idle. refl };
+  before = record { comes = record { came = refl; ticked = refl }; answered = λ joined idle. refl };
   lacks = record { unsaid = refl; one_more = omega arith };
   behind = record { came = (_, refl); ticked = omega arith; answered = λ joined idle. (_, refl) };
   changes = record { changes = []; changed = refl; entered = refl };

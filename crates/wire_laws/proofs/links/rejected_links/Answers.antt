@@ -37,13 +37,13 @@ second_byte bytes = slice_index bytes 1
 over : KeepsLink Chip spoken_over → ⊥
 unfolding reckoning
 over link =
-    let unheard = none_heard link.signals _ link.rest link.heard (front_none _ link.came.0 (sym link.came.1)) in
+    let unheard = none_heard link.hears.signals _ link.hears.rest link.hears.heard (front_none _ link.hears.came.0 (sym link.hears.came.1)) in
     five_four (ap second_byte (subst AreTwins link.wrote (writes_twins link.history link.end.turn link.obeys.answers link.obeys.turns unheard)))
 
 host_over : KeepsLink Host host_spoke_over → ⊥
 unfolding reckoning
 host_over link =
-    let unheard = none_heard link.signals _ link.rest link.heard (front_none _ link.came.0 (sym link.came.1)) in
+    let unheard = none_heard link.hears.signals _ link.hears.rest link.hears.heard (front_none _ link.hears.came.0 (sym link.hears.came.1)) in
     three_four (ap second_byte (subst AreTwins link.wrote (writes_twins link.history link.end.turn link.obeys.answers link.obeys.turns unheard)))
 
 pub returns-clause-over : goal.returns-clause-over

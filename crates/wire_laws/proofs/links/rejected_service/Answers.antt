@@ -29,6 +29,6 @@ pub returns-clause-answers : goal.returns-clause-answers
 unfolding reckoning
 returns-clause-answers c = λ law.
     let link = law.link in
-    let unheard = none_heard link.signals _ link.rest link.heard (front_none _ link.came.0 (sym link.came.1)) in
+    let unheard = none_heard link.hears.signals _ link.hears.rest link.hears.heard (front_none _ link.hears.came.0 (sym link.hears.came.1)) in
     let first = first_is link.history link.end.turn _ link.obeys.answers link.obeys.turns unheard link.wrote in
     subst (λ (begins : Bool). IsNext begins (the_switch ∷ []) (course_of link.history) [] (bytes (codes "010500130100E8"))) first law.answers.0
