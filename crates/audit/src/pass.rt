@@ -35,20 +35,32 @@ fn take_line<'a>(
     Ok(Ok(rest))
 }
 
-/// The first line that breaks a rule, counted from 1, with the first rule that it breaks; none where the text is that of
-/// a transcript in order.
-pub fn examine(alloc: Global, text: &[u8]) -> Result<Option<(u32, Break)>, NoMemory>
+/// Goes through a text with a ledger that has taken nothing yet.
+fn examine_with(
+    alloc: Global,
+    ledger: &mut Ledger,
+    text: &[u8],
+) -> Result<Option<(u32, Break)>, NoMemory>
+    requires { IsKeptOf ledger.old [] }
     ensures { IfOk result (λ found. Examined text.now found) }
 {
-    let mut ledger = Ledger::new(alloc)?;
     let mut left = text;
     let mut line: u32 = 1;
     'lines: while !left.is_empty() {
-        match take_line(alloc, &mut ledger, left)? {
+        match take_line(alloc, ledger, left)? {
             Ok(rest) => left = rest,
             Err(broken) => return Ok(Some((line, broken))),
         }
         line = line.checked_add(1).ok_or(NoMemory)?;
     }
     Ok(None)
+}
+
+/// The first line that breaks a rule, counted from 1, with the first rule that it breaks; none where the text is that of
+/// a transcript in order.
+pub fn examine(alloc: Global, text: &[u8]) -> Result<Option<(u32, Break)>, NoMemory>
+    ensures { IfOk result (λ found. Examined text.now found) }
+{
+    let mut ledger = Ledger::new(alloc)?;
+    examine_with(alloc, &mut ledger, text)
 }

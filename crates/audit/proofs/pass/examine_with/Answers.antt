@@ -1,5 +1,5 @@
 use Rattle.audit.proofs.Passes.{empty-is, found-none, takes-line}
-use Rattle.audit.proofs.pass.examine.Goals as goal
+use Rattle.audit.proofs.pass.examine_with.Goals as goal
 
 pub lines-preserved : goal.lines-preserved
 lines-preserved c =
