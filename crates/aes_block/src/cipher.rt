@@ -1,6 +1,6 @@
 //! AES-128 under one key (FIPS 197, section 5.1).
 
-ghost use Rattle.std.specs.Prelude.{◌≡◌, ℕ, ◌<◌, length};
+ghost use Rattle.std.specs.Prelude.{◌≡◌, ℕ};
 ghost use Rattle.aes_block.specs.Cipher.{aes};
 
 use crate::key_schedule::next_round_key;

@@ -1,7 +1,7 @@
 //! The four transformations of a state (FIPS 197, sections 5.1.1 to 5.1.4). A state is 16 bytes, column after column.
 
-ghost use Rattle.std.specs.Prelude.{◌≡◌, bit_xor};
-ghost use Rattle.aes_block.specs.Field.{times_x, product};
+ghost use Rattle.std.specs.Prelude.{◌≡◌};
+ghost use Rattle.aes_block.specs.Field.{times_x};
 ghost use Rattle.aes_block.specs.Cipher.{sub_bytes, shift_rows, mix_columns, add_round_key, mixed};
 
 use crate::substitution::substitute;

@@ -1,9 +1,9 @@
 //! The frames that are kept.
 
-ghost use Rattle.std.specs.Prelude.{◌≡◌, ℕ, ◌+◌, ◌-◌, ◌<◌, ◌≤◌, ◌^◌, ◌⊎◌, [], ◌∷◌, ◌++◌, nat_lt, length, slice_set, IfOk, OnOk, OnErr, IfSome, IsSome, MatchResult, Some, None};
+ghost use Rattle.std.specs.Prelude.{◌≡◌, ◌+◌, ◌-◌, ◌<◌, ◌≤◌, ◌^◌, ◌⊎◌, [], ◌∷◌, ◌++◌, nat_lt, length, slice_set, IfOk, OnOk, OnErr, IsSome, MatchResult, Some, None};
 ghost use Rattle.std.specs.Option.{option_copied};
 ghost use Rattle.air_frames.specs.Flown.{IsSound};
-ghost use Rattle.air_frames.specs.Frames.{FramesState, no_frames, peer_of, putting, landing, next_of, remembered};
+ghost use Rattle.air_frames.specs.Frames.{no_frames, peer_of, putting, landing, next_of, remembered};
 ghost use Rattle.std.specs.VecDeque.{deque_len, deque_capacity};
 ghost use Rattle.circular_buffer.specs.Buffer.{buffer, keep_last};
 ghost use Rattle.air_frames.specs.Frames.{pushed_out};

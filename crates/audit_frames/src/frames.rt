@@ -1,6 +1,6 @@
 //! The frames on the air, and how fresh they are.
 
-ghost use Rattle.std.specs.Prelude.{◌≡◌, ◌+◌, ◌==◌, length, slice_get, is_some, IfOk, OnOk, vec_len};
+ghost use Rattle.std.specs.Prelude.{◌≡◌, ◌+◌, ◌==◌, length, IfOk, OnOk, vec_len};
 ghost use Rattle.air_frames.specs.Ages.{is_class};
 ghost use Rattle.air_frames.specs.Nonces.{nonce_in, is_news};
 ghost use Rattle.audit_frames.specs.Flying.{at_number, counted, is_fresh_now, is_there, is_young, landing, lands, no_frames, node_between, none_shown, sending, showing, shown_count, shown_if, with_frame};

@@ -1,9 +1,9 @@
 //! What the host asked to be sent, and what the controller sent.
 
-ghost use Rattle.std.specs.Prelude.{◌≡◌, ◌+◌, ◌<◌, drop, length, None, Some, IfOk, OnOk, IsTrue, is_none, not, vec_len, MatchOption};
+ghost use Rattle.std.specs.Prelude.{◌≡◌, ◌+◌, ◌<◌, drop, length, None, Some, IfOk, OnOk, is_none, MatchOption};
 ghost use Rattle.chip_functions.specs.Request.{request_of as request_by};
-ghost use Rattle.zw_laws.specs.Units.{function_in, read_well, sending_of as carried_by};
-ghost use Rattle.audit_payloads.specs.PayloadRule.{asked_by, body_of, frame_text, is_request, same_carried};
+ghost use Rattle.zw_laws.specs.Units.{read_well, sending_of as carried_by};
+ghost use Rattle.audit_payloads.specs.PayloadRule.{is_request, same_carried};
 ghost use Rattle.audit_payloads.specs.Sending.{asked_for, behind, breaks_sending, changed, first_of, is_that, may_send, no_sendings, sendings_after, sent, sent_by, settled, wrote};
 ghost use Rattle.std.specs.List.{flat_map};
 

@@ -1,10 +1,10 @@
 //! The table at the end of a transcript.
 
-ghost use Rattle.std.specs.Prelude.{◌≡◌, ◌<◌, ◌+◌, None, Some, IfOk, OnOk, length, not, unwrap_or, ◌==◌, vec_len};
+ghost use Rattle.std.specs.Prelude.{◌≡◌, ◌<◌, None, Some, IfOk, OnOk, length, not, unwrap_or, ◌==◌, vec_len};
 ghost use Rattle.std.specs.Option.{option_copied};
 ghost use Rattle.zw_base.specs.PropertyOrder.{same_property};
 ghost use Rattle.transcript_books.specs.Ending.{ending_in};
-ghost use Rattle.audit_table.specs.Knowing.{IsWithin, after_line, all_rows as rows_by, breaks_closing, closing_after, ends_with, first_joined, known_at, line_done, no_closing, no_values, row_shown, values_of, values_with};
+ghost use Rattle.audit_table.specs.Knowing.{IsWithin, after_line, all_rows as rows_by, breaks_closing, closing_after, ends_with, first_joined, known_at, line_done, no_closing, row_shown, values_of};
 ghost use Rattle.audit_table.specs.TableRule.{same_option, same_row};
 
 use crate::rows::all_rows;

@@ -1,11 +1,9 @@
 //! The lines of the table at the end, but for those of the devices.
 
-ghost use Rattle.std.specs.Prelude.{◌≡◌, ◌++◌, ◌∷◌, [], ℕ, ◌<◌, ◌≤◌, IsTrue, IfOk, OnOk, length, filter, vec_len};
+ghost use Rattle.std.specs.Prelude.{◌≡◌, ◌++◌, ℕ, ◌<◌, IsTrue, IfOk, OnOk, length, filter};
 ghost use Rattle.std.specs.List.{flat_map};
-ghost use Rattle.transcript_books.specs.Accepting.{order_at};
 ghost use Rattle.transcript_books.specs.Asking.{is_named, is_setting as is_one, settings_asked};
 ghost use Rattle.transcript_books.specs.Ending.{ending_in};
-ghost use Rattle.transcript_books.specs.Beginning.{sessions_of};
 ghost use Rattle.zw_laws.specs.Table.{value_line};
 ghost use Rattle.audit_table.specs.Knowing.{confirmed_of, known_lines, lines_of_node, nodes_marked, values_of, with_commands, with_settings};
 

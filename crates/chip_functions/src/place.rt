@@ -1,6 +1,6 @@
 //! A place in a body, and the fields that are read there.
 
-ghost use Rattle.std.specs.Prelude.{◌≡◌, ℕ, ◌+◌, ◌<◌, ◌≤◌, length, IfOk, OnOk};
+ghost use Rattle.std.specs.Prelude.{◌≡◌, ◌+◌, ◌<◌, ◌≤◌, length, IfOk, OnOk};
 
 use crate::mask::MASK_BYTES;
 use crate::{AddMode, AddStatus, BodyFault, NodeMask, TransmitStatus};
@@ -18,7 +18,7 @@ pub struct Place<'a> {
 pub const FAR: u16 = 1000;
 
 impl<'a> Place<'a> {
-    ghost use Rattle.chip_functions.specs.Place.{Gives, start_of};
+    ghost use Rattle.chip_functions.specs.Place.{Gives};
     ghost use Rattle.chip_functions.specs.Field.{byte, piece, node, byte_within, counted, mark, number, mask, coded};
     ghost use Rattle.chip_functions.specs.Response.{failed_code, failed_of};
     ghost use Rattle.chip_functions.specs.Notice.{status_code, status_of};

@@ -1,6 +1,6 @@
 //! The chip and its calls.
 
-ghost use Rattle.std.specs.Prelude.{◌≡◌, ◌++◌, ◌+◌, ◌<◌, ◌≤◌, ◌^◌, ◌∷◌, ◌↔◌, [], length, IsTrue, IfOk, OnOk, OnErr, OnSome};
+ghost use Rattle.std.specs.Prelude.{◌≡◌, ◌++◌, ◌+◌, ◌<◌, ◌≤◌, ◌^◌, ◌↔◌, [], length, IsTrue, IfOk, OnOk, OnErr};
 ghost use Rattle.std.specs.Option.{option_copied};
 ghost use Rattle.serial_frame.specs.Stream.{no_rest, after_tick};
 ghost use Rattle.chip_sim.specs.State.{fresh_chip};
@@ -8,8 +8,8 @@ ghost use Rattle.chip_functions.specs.Notice.{HasNoticeRow, notice_body};
 ghost use Rattle.chip_sim.specs.Waiting.{queued_outs};
 ghost use Rattle.chip_sim.specs.Answers.{notice_frame};
 ghost use Rattle.chip_sim.specs.Requests.{given, closed};
-ghost use Rattle.chip_sim.specs.Events.{after, outs, update_of, FitsProfile, OwesCall, Judged, Ticked, Heard, Done, Informed, Joined, Linked, Forgets, Collides};
-ghost use Rattle.chip_sim.specs.Did.{Did, Fed, FedFront, FedOne};
+ghost use Rattle.chip_sim.specs.Events.{after, outs, update_of, FitsProfile, OwesCall, Ticked, Heard, Done, Informed, Joined, Linked, Forgets, Collides};
+ghost use Rattle.chip_sim.specs.Did.{Fed, FedFront, FedOne};
 
 use crate::marks::Marks;
 use crate::port::Port;

@@ -1,6 +1,6 @@
 //! Rules of the chip alone, which follow from its events.
 
-ghost use Rattle.std.specs.Prelude.{◌≡◌, ℕ, ◌≤◌, ◌↔◌, List, [], ◌∷◌, ◌++◌, length, map, filter, replicate, true, false, IsTrue, Option, Some, None};
+ghost use Rattle.std.specs.Prelude.{◌≡◌, ℕ, ◌≤◌, ◌↔◌, List, ◌++◌, length, map, filter, replicate, true, IsTrue, Option, Some, None};
 ghost use Rattle.route_table.specs.declared.route.Route.{Route};
 ghost use Rattle.serial_frame.specs.Frame.{FrameParts};
 ghost use Rattle.serial_frame.specs.declared.item.Item.{Item};

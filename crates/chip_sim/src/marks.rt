@@ -1,6 +1,6 @@
 //! Nodes that are marked.
 
-ghost use Rattle.std.specs.Prelude.{◌≡◌, ◌+◌, ◌<◌, ◌||◌, false, nat_eq, replicate, slice_set, length};
+ghost use Rattle.std.specs.Prelude.{◌≡◌, ◌+◌, ◌<◌, ◌||◌, false, nat_eq, slice_set};
 ghost use Rattle.chip_sim.specs.Nodes.{none_marked, is_marked, nodes_where};
 
 use chip_functions::NodeMask;

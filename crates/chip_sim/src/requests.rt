@@ -1,6 +1,6 @@
 //! What the chip does with what it hears of the host.
 
-ghost use Rattle.std.specs.Prelude.{◌≡◌, ◌++◌, ◌+◌, ◌<◌, ◌≤◌, ◌^◌, ◌∷◌, [], length, IfOk, OnOk, OnErr, if◌then◌else◌};
+ghost use Rattle.std.specs.Prelude.{◌≡◌, ◌++◌, ◌+◌, ◌<◌, ◌≤◌, ◌^◌, [], IfOk, OnErr, if◌then◌else◌};
 ghost use Rattle.std.specs.Option.{option_copied};
 ghost use Rattle.chip_sim.specs.Answers.{takes, capabilities, init_data, protocol_info, response_frame};
 ghost use Rattle.chip_sim.specs.Requests.{IsWay, IsWayIf, HasWay, IsInformation, passed, asked, answer_outs, abort_frame, reply_to, reply_if, requested, requested_outs, sent, stopped};

@@ -4,7 +4,7 @@ ghost use Rattle.std.specs.Prelude.{◌≡◌, ◌^◌, ◌<◌, drop, length, m
 ghost use Rattle.command_line.specs.Parsing.{texts_of};
 ghost use Rattle.sim_laws.specs.Around.{around};
 ghost use Rattle.sim_laws.specs.Laws.{KeepsLaws};
-ghost use Rattle.console_run.specs.Commands.{Refuses, Runs, RunsWords};
+ghost use Rattle.console_run.specs.Commands.{Runs, RunsWords};
 
 use audit_run::run_audit;
 use command_line::{Asked, WordsFault, read_words};

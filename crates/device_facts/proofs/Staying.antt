@@ -18,15 +18,16 @@ use Rattle.transport_segments.specs.declared.assembler.Taken.{Taken as Segment}
 use Rattle.transport_segments.specs.declared.assembler.Taken.TheVariants.{Kept, Need, Whole}
 use Rattle.device_kinds.specs.declared.kind.Kind.{Kind}
 use Rattle.device_kinds.specs.declared.kind.Kind.TheVariants.{Relay, Switch, Dimmer, Lock, Sensor, Thermostat, Strip, Configurable}
-use Rattle.device_stack.specs.declared.effect.Effect.{Effect}
-use Rattle.device_stack.specs.declared.effect.Effect.TheVariants.{Ignores, Sleeps, Tells, Sets, Repeats, Takes}
+use Rattle.device_effects.specs.declared.effect.Effect.{Effect}
+use Rattle.device_effects.specs.declared.effect.Effect.TheVariants.{Ignores, Sleeps, Tells, Sets, Repeats, Takes}
 use Rattle.device_kinds.specs.declared.verdict.Verdict.{Verdict}
 use Rattle.device_kinds.specs.declared.verdict.Verdict.TheVariants.{NoSupport, Fails, Makes, Works}
 use Rattle.device_kinds.specs.Kind.{listens}
 use Rattle.device_stack.specs.State.{State, silent}
-use Rattle.device_stack.specs.Sealing.{keys_of, unsealed_at}
+use Rattle.device_effects.specs.Sealing.{keys_of, unsealed_at}
 use Rattle.device_stack.specs.Effects.{effect_of, takes, after_effect}
-use Rattle.device_stack.specs.Hearing.{Answered, answers, answers_opened, answers_bytes, hears_openly, nonce_named, sent_sealed, hears_inside, hears_plain, hears_for, hears_sealed, seals_for, hears_nonces, hears_securely, segment_session, assembles, repeats_segment, hears_segment, hears_in_segments, hears_by, active, hears}
+use Rattle.device_effects.specs.Segments.{segment_session}
+use Rattle.device_stack.specs.Hearing.{Answered, answers, answers_opened, answers_bytes, hears_openly, nonce_named, sent_sealed, hears_inside, hears_plain, hears_for, hears_sealed, seals_for, hears_nonces, hears_securely, assembles, repeats_segment, hears_segment, hears_in_segments, hears_by, active, hears}
 use Rattle.device_stack.specs.Ticking.{aged, works_out, ticked, woken, set_by_hand}
 use Rattle.device_sim.specs.Event.{DeviceEvent, Hears, Ticks, Wakes, Sets as SetsByHand, outcome_of, device_after}
 use Rattle.device_facts.specs.GoingOn.{IsSame}

@@ -1,6 +1,6 @@
 //! The journal of a device: the changes that it made.
 
-ghost use Rattle.std.specs.Prelude.{◌≡◌, ℕ, [], ◌∷◌, ◌++◌, length, slice_get, IfOk, OnOk, OnErr};
+ghost use Rattle.std.specs.Prelude.{◌≡◌, [], ◌∷◌, ◌++◌, length, slice_get, IfOk, OnOk, OnErr};
 ghost use Rattle.device_kinds.specs.Cache.{first_value};
 ghost use Rattle.device_kinds.specs.Values.{value_after, level_after};
 

@@ -1,7 +1,6 @@
 //! How the commands of a session are judged.
 
-ghost use Rattle.std.specs.Prelude.{◌≡◌, ℕ, ◌+◌, ◌≤◌, [], ◌∷◌, ◌++◌, length, IfOk, OnOk, Ok, Err};
-ghost use Rattle.zw_base.specs.declared.property.Property.{Property as TheProperty};
+ghost use Rattle.std.specs.Prelude.{◌≡◌, ◌+◌, ◌≤◌, [], ◌∷◌, length, IfOk, Ok, Err};
 ghost use Rattle.supervision.specs.Session.{IsStatus};
 ghost use Rattle.class_info.specs.InfoReading.{info_at};
 ghost use Rattle.device_kinds.specs.Values.{value_by, value_after, level_after};

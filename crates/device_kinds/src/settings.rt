@@ -1,9 +1,9 @@
 //! Settings in the order of properties, one for each.
 
-ghost use Rattle.std.specs.Prelude.{◌≡◌, ℕ, ◌≤◌, ◌<◌, length, IfOk, OnOk, OnErr, vec_len, slice_index_or};
+ghost use Rattle.std.specs.Prelude.{◌≡◌, ℕ, ◌≤◌, ◌<◌, length, IfOk, OnOk};
 ghost use Rattle.device_kinds.specs.Settings.{property_cmp, with_setting, merged};
 ghost use Rattle.device_kinds.specs.Places.{IsAfter, IsNotAfter};
-ghost use Rattle.device_kinds.specs.Values.{value_by, level_by, level_property};
+ghost use Rattle.device_kinds.specs.Values.{value_by, level_by};
 ghost use Rattle.zw_base.specs.PropertyOrder.{same_property};
 
 use crate::kind::root;

@@ -24,17 +24,19 @@ use Rattle.transport_segments.specs.declared.assembler.Taken.{Taken as Segment}
 use Rattle.transport_segments.specs.declared.assembler.Taken.TheVariants.{Kept, Need, Whole}
 use Rattle.device_kinds.specs.declared.kind.Kind.{Kind}
 use Rattle.device_kinds.specs.declared.kind.Kind.TheVariants.{Relay, Switch, Dimmer, Lock, Sensor, Thermostat, Strip, Configurable}
-use Rattle.device_stack.specs.declared.effect.Effect.{Effect}
-use Rattle.device_stack.specs.declared.effect.Effect.TheVariants.{Ignores, Sleeps, Tells, Sets, Repeats, Takes}
+use Rattle.device_effects.specs.declared.effect.Effect.{Effect}
+use Rattle.device_effects.specs.declared.effect.Effect.TheVariants.{Ignores, Sleeps, Tells, Sets, Repeats, Takes}
 use Rattle.device_kinds.specs.declared.verdict.Verdict.{Verdict}
 use Rattle.device_kinds.specs.declared.verdict.Verdict.TheVariants.{NoSupport, Fails, Makes, Works}
 use Rattle.device_kinds.specs.Kind.{listens, lists, has_end}
 use Rattle.device_stack.specs.State.{State, silent, value_of, last_level_of}
 use Rattle.device_kinds.specs.Judging.{judged_set}
 use Rattle.device_kinds.specs.Telling.{told}
-use Rattle.device_stack.specs.Sealing.{keys_of, unsealed_at}
-use Rattle.device_stack.specs.Effects.{end_of, set_plainly, effect_untold, telling, effect_alone, effect_in_session, effect_by, effect_of, takes, after_effect}
-use Rattle.device_stack.specs.Hearing.{Answered, answers, answers_opened, answers_bytes, hears_openly, nonce_named, sent_sealed, hears_inside, hears_plain, hears_for, hears_sealed, seals_for, hears_nonces, hears_securely, segment_session, assembles, repeats_segment, hears_segment, hears_in_segments, hears_by, active, hears}
+use Rattle.device_effects.specs.Sealing.{keys_of, unsealed_at}
+use Rattle.device_effects.specs.Effects.{end_of, set_plainly, effect_untold, telling, effect_alone, effect_in_session, effect_by}
+use Rattle.device_stack.specs.Effects.{effect_of, takes, after_effect}
+use Rattle.device_effects.specs.Segments.{segment_session}
+use Rattle.device_stack.specs.Hearing.{Answered, answers, answers_opened, answers_bytes, hears_openly, nonce_named, sent_sealed, hears_inside, hears_plain, hears_for, hears_sealed, seals_for, hears_nonces, hears_securely, assembles, repeats_segment, hears_segment, hears_in_segments, hears_by, active, hears}
 use Rattle.zw_base.specs.declared.property.Setting.{Setting}
 use Rattle.device_sim.specs.Event.{Hears, Sets, outcome_of, device_after}
 use Rattle.device_sim.specs.Laws.{IsHeard}
@@ -71,7 +73,7 @@ plainly_free device end (Works settings) = tt
 plainly_free device end Fails = tt
 plainly_free device end NoSupport = tt
 
-untold_free : (device : State) (end : ℕ) (message : InfoMessage) → IsFree device (effect_untold device end message)
+untold_free : (device : State) (end : ℕ) (message : InfoMessage) → IsFree device (effect_untold device.kind device.journal end message)
 untold_free device end (Core (SwitchBinarySet value)) =
     plainly_free device end (judged_set device.kind (value_of device) (last_level_of device) end (SwitchBinarySet value))
 untold_free device end WakeUpNoMoreInformation = by (not (listens device.kind) && has_end device.kind end)
@@ -85,28 +87,28 @@ telling_free : (device : State) (report : Option InfoMessage) (effect : Effect) 
 telling_free device (Some report) effect is = tt
 telling_free device None effect is = is
 
-alone_free : (device : State) (end : ℕ) (read : Result InfoMessage ClassFault) → IsFree device (effect_alone device end read)
-alone_free device end (Ok message) = telling_free device (told device.kind (value_of device) end message) (effect_untold device end message) (untold_free device end message)
+alone_free : (device : State) (end : ℕ) (read : Result InfoMessage ClassFault) → IsFree device (effect_alone device.kind device.journal end read)
+alone_free device end (Ok message) = telling_free device (told device.kind (value_of device) end message) (effect_untold device.kind device.journal end message) (untold_free device end message)
 alone_free device end (Err fault) = tt
 
-by_free : (device : State) (plan : Plan) (commands : List (List ℕ)) (session : Option Supervised) → IsFree device (effect_by device plan commands session)
+by_free : (device : State) (plan : Plan) (commands : List (List ℕ)) (session : Option Supervised) → IsFree device (effect_by device.kind device.journal device.sessions plan commands session)
 by_free device plan commands None = alone plan.batch
   where
-    alone : (b : Bool) → IsFree device (if b then Ignores else effect_alone device (end_of plan.channel) (info_at (only_of commands)))
+    alone : (b : Bool) → IsFree device (if b then Ignores else effect_alone device.kind device.journal (end_of plan.channel) (info_at (only_of commands)))
     alone true = tt
     alone false = alone_free device (end_of plan.channel) (info_at (only_of commands))
 by_free device plan commands (Some asked) = supervised (lists device.kind 0x6C)
   where
-    again : (b : Bool) → IsFree device (effect_in_session device plan commands (if b then heard.Again device.sessions.status else heard.Old))
+    again : (b : Bool) → IsFree device (effect_in_session device.kind device.journal plan commands (if b then heard.Again device.sessions.status else heard.Old))
     again true = tt
     again false = tt
 
     new : (b : Bool) → is_new device.sessions asked.id ≡ b
-        → IsFree device (effect_in_session device plan commands (if b then heard.New (device.sessions.taken + 1) else (if is_again device.sessions asked.id then heard.Again device.sessions.status else heard.Old)))
+        → IsFree device (effect_in_session device.kind device.journal plan commands (if b then heard.New (device.sessions.taken + 1) else (if is_again device.sessions asked.id then heard.Again device.sessions.status else heard.Old)))
     new true e = not_working device.sessions asked.id e
     new false e = again (is_again device.sessions asked.id)
 
-    supervised : (b : Bool) → IsFree device (if b then effect_in_session device plan commands (heard_of device.sessions asked.id) else Ignores)
+    supervised : (b : Bool) → IsFree device (if b then effect_in_session device.kind device.journal plan commands (heard_of device.sessions asked.id) else Ignores)
     supervised true = new (is_new device.sessions asked.id) refl
     supervised false = tt
 

@@ -1,11 +1,11 @@
 //! The trait of the simulated devices.
 
-ghost use Rattle.std.specs.Prelude.{◌≡◌, ℕ, ◌<◌, ◌≤◌, [], List, All, length, slice_get, IfOk, OnOk, OnErr};
+ghost use Rattle.std.specs.Prelude.{◌≡◌, ◌<◌, [], List, All, length, slice_get, IfOk, OnOk, OnErr};
 ghost use Rattle.device_sim.specs.Kind.{listens, classes_of};
 ghost use Rattle.device_sim.specs.State.{State};
 ghost use Rattle.device_stack.specs.Showing.{shown_of};
-ghost use Rattle.device_stack.specs.Worded.{IsPayload};
-ghost use Rattle.device_sim.specs.Event.{DeviceEvent, Hears, Ticks, Wakes, Sets, device_after, device_replies};
+ghost use Rattle.device_effects.specs.Worded.{IsPayload};
+ghost use Rattle.device_sim.specs.Event.{Hears, Ticks, Wakes, Sets, device_after, device_replies};
 
 use crate::{Change, Profile};
 use std::alloc::Global;

@@ -1,6 +1,6 @@
 //! Laws of the definition of devices alone.
 
-ghost use Rattle.std.specs.Prelude.{◌≡◌, ℕ, ◌≤◌, Bool, true, List, length};
+ghost use Rattle.std.specs.Prelude.{◌≡◌, ℕ, ◌≤◌, true, List, length};
 ghost use Rattle.zw_base.specs.declared.property.By.TheVariants.{Local};
 ghost use Rattle.zw_base.specs.declared.property.Setting.{Setting};
 ghost use Rattle.s0_session.specs.Nonces.{after_spend};

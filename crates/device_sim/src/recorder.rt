@@ -1,9 +1,9 @@
 //! A device that keeps what it heard.
 
-ghost use Rattle.std.specs.Prelude.{◌≡◌, ℕ, List as Items, [], ◌∷◌, ◌++◌, All, length, slice_get, OnOk, OnErr};
+ghost use Rattle.std.specs.Prelude.{◌≡◌, [], ◌∷◌, ◌++◌, All, length, slice_get, OnOk, OnErr};
 ghost use Rattle.std.specs.Option.{option_copied};
-ghost use Rattle.device_stack.specs.Worded.{IsPayload};
-ghost use Rattle.device_sim.specs.Event.{DeviceEvent, Hears, device_after, device_replies};
+ghost use Rattle.device_effects.specs.Worded.{IsPayload};
+ghost use Rattle.device_sim.specs.Event.{Hears, device_after, device_replies};
 
 use crate::{Change, Device, Profile};
 use std::alloc::Global;

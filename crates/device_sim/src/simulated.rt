@@ -1,8 +1,6 @@
 //! A device of a kind.
 
-ghost use Rattle.std.specs.Prelude.{◌≡◌, IfOk};
-
-use crate::{Change, Device, Kind, Profile};
+use crate::{Change, Device, Profile};
 use device_stack::Stack;
 use std::alloc::Global;
 use zw_base::{Bytes, List, NoMemory, NodeId, Replies, Setting};

@@ -1,4 +1,2 @@
 pub mod ShowingLemmas
-pub mod WordedLemmas
-pub mod SizeLemmas
-pub mod SealingLemmas
+pub mod NonceLemmas

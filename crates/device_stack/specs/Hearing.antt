@@ -1,9 +1,8 @@
 -- What a payload makes of a device: how it is brought down to a message, and how the answer is brought up again (Z-Wave
 -- Transport-Encapsulation Command Class Specification: Transport Service, Security 0).
-use Rattle.std.specs.Prelude.{◌≡◌, ℕ, ◌+◌, ◌-◌, ◌%◌, false, ◌==◌, ◌&&◌, nat_lt, if◌then◌else◌, List, [], ◌∷◌, length, slice_index, Result, Ok, Err, Option, Some, None}
+use Rattle.std.specs.Prelude.{◌≡◌, ℕ, ◌+◌, ◌-◌, false, ◌==◌, ◌&&◌, nat_lt, if◌then◌else◌, List, [], ◌∷◌, length, slice_index, Result, Ok, Err, Option, Some, None}
 use Rattle.std.specs.Option.{option_map, option_to_list}
 use Rattle.supervision.specs.Session.{wire_id}
-use Rattle.device_stack.specs.Sealing.{unsealed_at, sealed_text, keys_of}
 use Rattle.s0_session.specs.Nonces.{nonce_given, after_give, nonce_spent, after_spend}
 use Rattle.s0_session.specs.Sending.{taken_from}
 use Rattle.class_fields.specs.declared.fault.ClassFault.{ClassFault}
@@ -20,10 +19,13 @@ use Rattle.transport_segments.specs.declared.assembler.Taken.{Taken}
 use Rattle.transport_segments.specs.declared.assembler.Taken.TheVariants.{Kept, Need, Whole}
 use Rattle.device_kinds.specs.declared.kind.Kind.{Kind}
 use Rattle.device_kinds.specs.declared.kind.Kind.TheVariants.{Lock, Configurable}
+use Rattle.device_effects.specs.Answers.{answer_plan, worded}
+use Rattle.device_effects.specs.Sealing.{unsealed_at, sealed_text, keys_of}
+use Rattle.device_effects.specs.Segments.{segment_session}
 use Rattle.device_stack.specs.declared.sealing.Nonces.{Nonces}
 use Rattle.device_stack.specs.declared.sealing.Nonces.TheVariants.{Asked, Told, Unsaid}
 use Rattle.device_stack.specs.State.{State, Outcome, silent}
-use Rattle.device_stack.specs.Answers.{status_report, answer_plan, worded}
+use Rattle.device_stack.specs.Answers.{status_report}
 use Rattle.device_stack.specs.Effects.{effect_of, after_effect, answer_of}
 
 -- ---- a message out of its wraps
@@ -132,10 +134,6 @@ hears_securely device payload drawn =
     if begins_with payload 0x98 0x81 then hears_sealed device payload else hears_nonces device drawn (info_at payload)
 
 -- ---- in segments (Transport Service)
-
--- the session of segments on the wire
-abbrev pub segment_session : ℕ → ℕ
-segment_session session = session % 16
 
 -- a datagram that is whole is acknowledged and heard, and nothing is kept of it
 abbrev pub acknowledged : ℕ → Outcome → Outcome

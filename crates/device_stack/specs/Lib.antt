@@ -1,8 +1,6 @@
 pub mod State
 pub mod Answers
 pub mod Effects
-pub mod Worded
-pub mod Sealing
 pub mod Hearing
 pub mod Ticking
 pub mod Showing

@@ -12,7 +12,7 @@ use Rattle.device_kinds.specs.declared.kind.Kind.{Kind}
 use Rattle.device_kinds.specs.declared.change.Change.{Change}
 use Rattle.device_stack.specs.declared.work.Work.{Work}
 use Rattle.device_kinds.specs.Kind.{host_node}
-use Rattle.device_kinds.specs.Values.{value_after, level_after}
+use Rattle.device_effects.specs.Effects.{value_in, level_in}
 
 -- no work
 abbrev pub idle : Work
@@ -54,13 +54,13 @@ fresh node kind key = record {
   journal = [];
 }
 
--- the value of a property: every one is 0 at first
+-- the value of a property
 abbrev pub value_of : State → Property → ℕ
-value_of device property = value_after device.journal property 0
+value_of device property = value_in device.journal property
 
--- the last level above 0 of a dimmer: 99 per cent where there was none
+-- the last level above 0 of a dimmer
 abbrev pub last_level_of : State → ℕ
-last_level_of device = level_after device.journal 99
+last_level_of device = level_in device.journal
 
 -- the device with one change more
 abbrev pub with_change : State → By → List Setting → State

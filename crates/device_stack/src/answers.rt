@@ -1,142 +1,20 @@
-//! How a device words its answers.
+//! What a device reports of its sessions.
 
-ghost use Rattle.std.specs.Prelude.{◌≡◌, false, ◌<◌, ◌≤◌, length, [], ◌∷◌, Some, IfOk, IfSome, All};
-ghost use Rattle.std.specs.Option.{option_to_list};
-ghost use Rattle.supervision.specs.Session.{wire_id};
-ghost use Rattle.class_info.specs.InfoSpelling.{form};
-ghost use Rattle.device_stack.specs.Answers.{report_status, asks_to_wake, status_report, final_report, swapped, answer_plan, worded};
+ghost use Rattle.std.specs.Prelude.{◌≡◌, ◌<◌};
 ghost use Rattle.device_kinds.specs.Telling.{IsAnswer};
-ghost use Rattle.device_stack.specs.Worded.{IsShort, IsPayload};
+ghost use Rattle.device_stack.specs.Answers.{asks_to_wake, status_report, final_report};
 
 use crate::Stack;
-use class_info::{InfoMessage, ReportStatus, SessionId};
-use encap::{Ends, Plan, Supervised, wrap};
-use std::alloc::Global;
-use supervision::{FAIL, NO_SUPPORT, WORKING, session_id};
-use zw_base::{Bytes, List, NoMemory, Payload, Replies};
+use class_info::{InfoMessage, ReportStatus};
+use device_effects::{session, status_of};
+use encap::Supervised;
+use supervision::{WORKING, session_id};
 
 /// The first node whose sensors ask to be kept awake.
 const FIRST_OF_VERSION_2: u8 = 101;
 
 /// The byte of the time until a later report, in seconds.
 const WORK_SECONDS: u8 = 1;
-
-/// These bytes as a payload.
-pub fn payload(bytes: &[u8]) -> Payload
-    requires { length bytes.now ≤ 46 }
-    ensures { result ≡ bytes.now }
-{
-    match Payload::of(bytes) {
-        Some(payload) => payload,
-        None => unreachable!(),
-    }
-}
-
-/// The status that a device keeps, as a report carries it.
-fn status_of(status: u8) -> ReportStatus
-    ensures { result ≡ report_status status }
-{
-    match status {
-        NO_SUPPORT => ReportStatus::NoSupport,
-        WORKING => ReportStatus::Working,
-        FAIL => ReportStatus::Fail,
-        _ => ReportStatus::Success,
-    }
-}
-
-/// The id of a session.
-fn session(id: u8) -> SessionId
-    requires { id < 64 }
-    ensures { result ≡ id }
-{
-    match SessionId::of(id) {
-        Some(session) => session,
-        None => unreachable!(),
-    }
-}
-
-/// The end points the other way round.
-fn swap(channel: Option<Ends>) -> Option<Ends>
-    ensures { result ≡ swapped channel }
-{
-    match channel {
-        Some(ends) => Some(Ends {
-            source: ends.target,
-            target: ends.source,
-        }),
-        None => None,
-    }
-}
-
-/// The wraps of the answer to a message with these wraps.
-fn answering(plan: &Plan) -> Plan
-    ensures { result ≡ answer_plan plan.now }
-{
-    Plan {
-        batch: false,
-        session: None,
-        channel: swap(plan.channel),
-        outer: plan.outer,
-    }
-}
-
-/// The one command that a message is.
-fn only(alloc: Global, message: &InfoMessage) -> Result<List<Bytes>, NoMemory>
-    ensures { IfOk result (λ commands. commands.items ≡ form message.now ∷ []) }
-{
-    let mut commands = List::new(alloc);
-    commands.push(class_info::write(alloc, message)?)?;
-    Ok(commands)
-}
-
-/// A message in the wraps of an answer.
-fn word(alloc: Global, plan: &Plan, message: &InfoMessage) -> Result<Bytes, NoMemory>
-    requires alone { plan.now.batch ≡ false }
-    requires unsupervised { plan.now.session ≡ None }
-    requires answer { IsAnswer message.now }
-    ensures value { IfOk result (λ text. text ≡ worded plan.now message.now) }
-    ensures short { IfOk result (λ text. IsShort text) }
-{
-    let commands = only(alloc, message)?;
-    match wrap(alloc, plan, &commands) {
-        Ok(text) => Ok(text),
-        Err(_) => Err(NoMemory),
-    }
-}
-
-/// A message in the wraps of the answer to a message with these wraps.
-pub fn answered(
-    alloc: Global,
-    plan: &Plan,
-    message: &InfoMessage,
-) -> Result<Option<Bytes>, NoMemory>
-    requires { IsAnswer message.now }
-    ensures value { IfOk result (λ text. text ≡ Some (worded (answer_plan plan.now) message.now)) }
-    ensures short { IfOk result (λ text. IfSome text IsShort) }
-{
-    Ok(Some(word(alloc, &answering(plan), message)?))
-}
-
-/// A message without wraps.
-pub fn bare(alloc: Global, message: &InfoMessage) -> Result<Bytes, NoMemory>
-    requires { IsAnswer message.now }
-    ensures value { IfOk result (λ text. text ≡ form message.now) }
-    ensures short { IfOk result (λ text. IsShort text) }
-{
-    Ok(class_info::write(alloc, message)?)
-}
-
-/// Puts an answer out, where there is one.
-pub fn send(text: Option<Bytes>, out: &mut Replies)
-    requires empty { out.old ≡ [] }
-    requires short { IfSome text IsShort }
-    ensures replies { out.new ≡ option_to_list text }
-    ensures sizes { All IsPayload out.new }
-{
-    if let Some(text) = text {
-        out.push(payload(text.as_slice()));
-    }
-}
 
 impl Stack {
     /// Whether it asks with each final status to be kept awake.

@@ -3,15 +3,14 @@
 ghost use Rattle.std.specs.Prelude.{◌≡◌, [], IfOk, IfSome, OnOk, OnErr, All};
 ghost use Rattle.std.specs.Option.{option_map};
 ghost use Rattle.encap.specs.Opening.{Message, opened_at};
+ghost use Rattle.device_effects.specs.Worded.{IsShort, IsPayload};
 ghost use Rattle.device_stack.specs.Hearing.{answers, answers_bytes, hears_openly, hears_by, hears};
-ghost use Rattle.device_stack.specs.Worded.{IsShort, IsPayload};
 
 use crate::Stack;
-use crate::answers::send;
 use crate::sealing::MOST;
+use device_effects::send;
 use device_kinds::Kind;
 use encap::{Opened, WrapFault, unpack};
-use std::alloc::Global;
 use zw_base::{Bytes, NoMemory, Replies};
 
 impl Stack {

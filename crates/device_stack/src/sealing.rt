@@ -1,25 +1,21 @@
 //! How a lock opens and seals messages.
 
-ghost use Rattle.std.specs.Prelude.{◌≡◌, ◌-◌, ◌≤◌, [], length, slice_index, IfOk, OnOk, OnErr, All, Some, Ok, ◌∷◌, if◌then◌else◌, IsTrue};
-ghost use Rattle.encap.specs.Opening.{opened_at, begins_with};
+ghost use Rattle.std.specs.Prelude.{◌≡◌, ◌-◌, ◌≤◌, [], length, slice_index, IfOk, OnOk, OnErr, All, Some, Ok, ◌∷◌, if◌then◌else◌};
+ghost use Rattle.encap.specs.Opening.{opened_at};
 ghost use Rattle.class_info.specs.InfoReading.{info_at};
 ghost use Rattle.class_info.specs.InfoSpelling.{form};
-ghost use Rattle.device_stack.specs.Sealing.{keys_of, unsealed_at};
-ghost use Rattle.device_stack.specs.Hearing.{hears_securely, hears_sealed, hears_for, hears_plain, hears_inside, hears_nonces, gives_nonce, takes_nonce, SaysOfNonces};
-ghost use Rattle.device_stack.specs.Worded.{IsPayload};
+ghost use Rattle.device_effects.specs.Worded.{IsPayload};
+ghost use Rattle.device_stack.specs.Hearing.{hears_securely, hears_sealed, hears_for, hears_inside, hears_nonces, gives_nonce, takes_nonce, SaysOfNonces};
 
 use crate::Stack;
-use crate::answers::payload;
 use class_core::ClassFault;
 use class_info::InfoMessage;
+use device_effects::{is_sealed, nonce_report, open, payload};
 use device_kinds::{HOST, SECURITY, node};
-use encap::{Opened, Outer, WrapFault};
-use s0_crypto::{SealEnds, SealFault, keys, unseal};
+use encap::{Opened, Outer};
+use s0_crypto::{SealEnds, keys};
 use std::alloc::Global;
-use zw_base::{Bytes, NoMemory, Payload, Replies};
-
-/// The command of a Security message.
-const MESSAGE: u8 = 0x81;
+use zw_base::{NoMemory, Replies};
 
 /// Nonce Get.
 const NONCE_GET: u8 = 0x40;
@@ -44,15 +40,6 @@ pub enum Nonces {
     Unsaid,
 }
 
-/// Whether these bytes begin a Security message.
-fn is_sealed(bytes: &[u8]) -> bool
-    ensures value { result ≡ begins_with bytes.now 0x98 0x81 }
-    ensures class { IsTrue result → slice_index bytes.now 0 ≡ 0x98 }
-    ensures command { IsTrue result → slice_index bytes.now 1 ≡ 0x81 }
-{
-    bytes.len() >= 2 && bytes[0] == SECURITY && bytes[1] == MESSAGE
-}
-
 /// What a message says of nonces.
 fn nonces_of(message: &InfoMessage) -> Nonces
     ensures { SaysOfNonces result (Ok message.now) }
@@ -72,29 +59,6 @@ fn nonces_in(alloc: Global, bytes: &[u8]) -> Result<Nonces, NoMemory>
         Ok(message) => Ok(nonces_of(&message)),
         Err(ClassFault::NoMemory) => Err(NoMemory),
         Err(_) => Ok(Nonces::Unsaid),
-    }
-}
-
-/// The plain text of a message for a nonce of its receiver, where it opens.
-fn open(
-    alloc: Global,
-    key: [u8; 16],
-    nonce: [u8; 8],
-    ends: &SealEnds,
-    bytes: &[u8],
-) -> Result<Option<Bytes>, NoMemory>
-    requires long { 20 ≤ length bytes.now }
-    requires class { slice_index bytes.now 0 ≡ 0x98 }
-    requires command { slice_index bytes.now 1 ≡ 0x81 }
-    requires named { slice_index bytes.now (length bytes.now - 9) ≡ slice_index nonce 0 }
-    ensures { IfOk result (λ plain. plain ≡ unsealed_at (keys_of key) nonce ends.now bytes.now) }
-{
-    match unseal(alloc, &keys(key), nonce, ends, bytes) {
-        Ok(plain) => Ok(Some(plain)),
-        Err(SealFault::NoMemory) => Err(NoMemory),
-        Err(SealFault::Short) => Ok(None),
-        Err(SealFault::BadCode { .. }) => Ok(None),
-        Err(SealFault::Sequence(_)) => Ok(None),
     }
 }
 
@@ -262,13 +226,4 @@ fn nonce_len(nonce: &[u8; 8]) -> usize
 {
     let bytes: &[u8] = nonce;
     bytes.len()
-}
-
-/// The report of a nonce.
-fn nonce_report(alloc: Global, nonce: [u8; 8]) -> Result<Payload, NoMemory>
-    ensures value { IfOk result (λ payload. payload ≡ form (InfoMessage.NonceReport nonce)) }
-    ensures size { IfOk result (λ payload. IsPayload payload) }
-{
-    let text = class_info::write(alloc, &InfoMessage::NonceReport { nonce })?;
-    Ok(payload(text.as_slice()))
 }

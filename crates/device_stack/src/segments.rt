@@ -1,72 +1,22 @@
 //! How a device hears in segments.
 
-ghost use Rattle.std.specs.Prelude.{◌≡◌, ◌+◌, ◌<◌, ◌^◌, false, [], ℕ, List, IfOk, IfSome, OnOk, OnErr, All, Some, IsTrue, nat_lt, ◌&&◌, ◌==◌};
+ghost use Rattle.std.specs.Prelude.{◌≡◌, ◌<◌, false, [], ℕ, List, IfOk, IfSome, OnOk, OnErr, All, Some};
 ghost use Rattle.std.specs.Option.{option_map, option_to_list};
 ghost use Rattle.supervision.specs.Session.{wire_id};
 ghost use Rattle.class_info.specs.InfoSpelling.{form};
 ghost use Rattle.transport_segments.specs.Segment.{id_of, IsSegment};
-ghost use Rattle.transport_segments.specs.Taking.{taken_at, ends_its_datagram};
-ghost use Rattle.device_stack.specs.Hearing.{segment_session as session_of_segments, hears_in_segments, hears_segment, assembles, acknowledged, repeats_segment, hears_openly};
+ghost use Rattle.transport_segments.specs.Taking.{taken_at};
+ghost use Rattle.device_effects.specs.Worded.{IsPayload, IsShort};
+ghost use Rattle.device_stack.specs.Hearing.{hears_in_segments, hears_segment, assembles, acknowledged, repeats_segment, hears_openly};
 ghost use Rattle.device_stack.specs.Answers.{status_report};
-ghost use Rattle.device_stack.specs.Worded.{IsPayload, IsShort};
 
 use crate::Stack;
-use crate::answers::{bare, payload as payload_of};
 use class_info::InfoMessage;
-use device_kinds::TRANSPORT_SERVICE;
+use device_effects::{bare, complete, is_last_of, payload as payload_of, request, segment_session};
 use encap::Supervised;
 use supervision::session_id;
-use transport_segments::{SegmentFault, Taken, ends_datagram, segment_id};
-use zw_base::{Bytes, NoMemory, Payload, Replies};
-
-/// Segment Request.
-const REQUEST: u8 = 0xC8;
-
-/// Segment Complete.
-const COMPLETE: u8 = 0xE8;
-
-/// How many sessions of segments the wire tells apart.
-const TRANSPORT_IDS: u64 = 16;
-
-/// The session of segments on the wire.
-fn segment_session(session: u64) -> u8
-    ensures value { result ≡ session_of_segments session }
-    ensures range { result < 16 }
-{
-    (session % TRANSPORT_IDS) as u8
-}
-
-/// Whether a segment of that id ends the datagram of a session.
-fn is_last_of(session: u64, id: u8, segment: &[u8]) -> bool
-    requires { IsSegment segment.now }
-    ensures { result ≡ (nat_lt 0 session && (id == session_of_segments session) && ends_its_datagram segment.now) }
-{
-    session > 0 && id == segment_session(session) && ends_datagram(segment) == Some(true)
-}
-
-/// That a datagram is whole.
-fn complete(id: u8) -> Payload
-    requires { id < 16 }
-    ensures value { result ≡ form (InfoMessage.TransportComplete id) }
-    ensures size { IsPayload result }
-{
-    payload_of(&[TRANSPORT_SERVICE, COMPLETE, id * 16])
-}
-
-/// That a segment is missing.
-fn request(id: u8, offset: u16) -> Payload
-    requires id { id < 16 }
-    requires offset { offset < 2048 }
-    ensures value { result ≡ form (InfoMessage.TransportRequest id offset) }
-    ensures size { IsPayload result }
-{
-    payload_of(&[
-        TRANSPORT_SERVICE,
-        REQUEST,
-        id * 16 + (offset / 256) as u8,
-        (offset % 256) as u8,
-    ])
-}
+use transport_segments::{SegmentFault, Taken, segment_id};
+use zw_base::{Bytes, NoMemory, Replies};
 
 impl Stack {
     /// Hears a payload that may be a segment.

@@ -1,6 +1,6 @@
 //! Which encapsulation bytes begin with.
 
-ghost use Rattle.std.specs.Prelude.{◌≡◌, ℕ, ◌<◌, ◌≤◌, ◌↔◌, length, IsTrue, IfOk, IfErr};
+ghost use Rattle.std.specs.Prelude.{◌<◌, ◌↔◌, IsTrue};
 ghost use Rattle.encap.specs.Begins.{Begins, IsTransport, IsWrap, IsOuter, IsMisplaced};
 
 /// The class and the command of an encapsulation.

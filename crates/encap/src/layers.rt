@@ -1,8 +1,8 @@
 //! One wrap taken off.
 
-ghost use Rattle.std.specs.Prelude.{◌≡◌, ℕ, ◌+◌, ◌<◌, ◌^◌, ◌≤◌, ◌↔◌, length, IsTrue, IfOk, IfErr};
-ghost use Rattle.encap.specs.Begins.{IsMultiCommand, IsSupervision, IsMultiChannel, IsCrc16};
-ghost use Rattle.encap.specs.Faults.{IsCrc16Fault, IsChannelFault, IsSupervisionFault, said_check, true_check};
+ghost use Rattle.std.specs.Prelude.{◌≡◌, ◌+◌, ◌<◌, ◌^◌, ◌≤◌, length, IfOk, IfErr};
+ghost use Rattle.encap.specs.Begins.{IsSupervision, IsMultiChannel, IsCrc16};
+ghost use Rattle.encap.specs.Faults.{IsCrc16Fault, IsChannelFault, IsSupervisionFault};
 ghost use Rattle.encap.specs.Layers.{TakesCrc16Off, TakesChannelOff, TakesSupervisionOff};
 
 use crate::WrapFault;

@@ -1,6 +1,6 @@
 //! Messages taken out of their wraps.
 
-ghost use Rattle.std.specs.Prelude.{◌≡◌, ℕ, ◌≤◌, ◌↔◌, [], ◌∷◌, List as Items, true, length, IfOk, IfErr};
+ghost use Rattle.std.specs.Prelude.{◌≡◌, ℕ, ◌≤◌, [], ◌∷◌, List as Items, true, length, IfOk, IfErr};
 ghost use Rattle.encap.specs.Begins.{IsMultiCommand};
 ghost use Rattle.encap.specs.Wraps.{Wraps, IsBatchOf, IsCommand, AllCommands, has_outer_wrap};
 ghost use Rattle.encap.specs.Layers.{Peels, outer_of, seen_of};

@@ -1,6 +1,6 @@
 //! Whether a plan can be written of commands.
 
-ghost use Rattle.std.specs.Prelude.{◌≡◌, ℕ, ◌<◌, ◌≤◌, ◌↔◌, length, IsTrue};
+ghost use Rattle.std.specs.Prelude.{◌≡◌, ◌<◌, ◌↔◌, IsTrue};
 ghost use Rattle.encap.specs.Wraps.{AllCommands, is_crc16, is_within};
 ghost use Rattle.encap.specs.Written.{AreShort, IsCount, IsSession, IsWrappable};
 

@@ -1,11 +1,10 @@
 //! The events of one device: both ends of its sessions.
 
 ghost use Rattle.std.specs.Prelude.{◌≡◌, ◌<◌, length, Some, None, IfOk, OnOk, OnErr};
-ghost use Rattle.supervision.specs.Session.{wire_id};
 ghost use Rattle.supervision.specs.Host.{begun_of, open_session, told_of};
 ghost use Rattle.supervision.specs.Device.{heard_of};
-ghost use Rattle.event_flow.specs.State.{event_frame, known_count, last_event, later_of, receipt_frame, silent, unknown_count};
-ghost use Rattle.event_flow.specs.Steps.{delivers, device_hears, does, goes_on, host_hears, listed, queues, repeats, row_by, with_begun, with_known, with_queued, with_taken};
+ghost use Rattle.event_flow.specs.State.{event_frame, known_count, receipt_frame, silent, unknown_count};
+ghost use Rattle.event_flow.specs.Steps.{delivers, device_hears, does, goes_on, host_hears, listed, queues, repeats, row_by, with_begun, with_queued};
 
 use crate::frame::{Content, Effect, Frame, Notice};
 use crate::{EventEntry, EventRefusal};

@@ -1,6 +1,6 @@
 //! The host.
 
-ghost use Rattle.std.specs.Prelude.{◌≡◌, IfOk, OnOk, OnErr, length};
+ghost use Rattle.std.specs.Prelude.{◌≡◌, IfOk, OnOk, OnErr};
 ghost use Rattle.serial_frame.specs.Stream.{after_tick, no_rest};
 ghost use Rattle.host_core.specs.Network.{keys_of};
 ghost use Rattle.supervision.specs.Host.{begun_of, command_at as command_of_session};

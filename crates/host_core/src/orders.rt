@@ -1,6 +1,6 @@
 //! What a user asks of the host.
 
-ghost use Rattle.std.specs.Prelude.{◌≡◌, ◌+◌, ◌<◌, ◌≤◌, ◌∷◌, [], length, unwrap_or, Some, None, Err, IfOk, OnOk, OnErr};
+ghost use Rattle.std.specs.Prelude.{◌≡◌, ◌+◌, ◌<◌, ◌≤◌, ◌∷◌, [], length, Some, None, Err, IfOk, OnOk, OnErr};
 ghost use Rattle.zw_base.specs.Faults.{Rose};
 ghost use Rattle.host_keep.specs.Keeping.{OptAdds};
 ghost use Rattle.host_orders.specs.Errands.{RefusesOrNone, send_refusal, send_text, get_refusal, get_text};

@@ -1,12 +1,11 @@
 //! What the host does of itself: it lets nodes sleep, and submits the next request while none is under way.
 
 ghost use Rattle.std.specs.Prelude.{◌≡◌, ◌<◌, true, None, IfOk, OnOk, OnErr};
-ghost use Rattle.host_node.specs.State.{has_work};
 ghost use Rattle.host_node.specs.declared.series.Series.TheVariants.{Idle, Due, Running};
 ghost use Rattle.host_events.specs.State.{node_of};
 ghost use Rattle.host_events.specs.Facts.{HostFacts};
-ghost use Rattle.host_events.specs.May.{IsServed, IsFree};
-ghost use Rattle.host_events.specs.Pumping.{Pumps, Submits, IsNext, IsPumped, HasNothing, IsServedBy, GivesNext, turns_left};
+ghost use Rattle.host_events.specs.May.{IsServed};
+ghost use Rattle.host_events.specs.Pumping.{Pumps, Submits, IsServedBy, GivesNext, turns_left};
 ghost use Rattle.host_taking.specs.Calls.{scene, Does, Stops, DoesAlone, StopsAlone, One, Turns};
 
 use crate::sleeping::let_sleep;

@@ -1,6 +1,6 @@
 //! Records of events.
 
-ghost use Rattle.std.specs.Prelude.{◌≡◌, ◌≤◌, [], IfOk, OnOk, OnErr};
+ghost use Rattle.std.specs.Prelude.{◌≤◌, [], IfOk, OnOk, OnErr};
 ghost use Rattle.host_keep.specs.Keeping.{OptAdds, Kept};
 ghost use Rattle.host_keep.specs.Rows.{IsRecord};
 ghost use Rattle.host_keep.specs.RecordText.{record_text};

@@ -13,7 +13,7 @@ use host_node::Plan;
 use host_orders::{Form, write_message};
 use std::alloc::Global;
 use transport_segments::cut;
-use zw_base::{Bytes, List, NoMemory, Payload};
+use zw_base::{Bytes, NoMemory, Payload};
 
 /// Nonce Get (Security 0).
 const NONCE_GET: [u8; 2] = [0x98, 0x40];

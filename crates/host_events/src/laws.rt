@@ -1,6 +1,6 @@
 //! What holds of a host after every event, and of lists of events.
 
-ghost use Rattle.std.specs.Prelude.{◌≡◌, ℕ, List, ◌++◌};
+ghost use Rattle.std.specs.Prelude.{List};
 ghost use Rattle.s0_crypto.specs.declared.key_pair.Keys.{Keys};
 ghost use Rattle.host_events.specs.State.{HostState, first_host};
 ghost use Rattle.host_events.specs.Events.{HostEvent};

@@ -1,6 +1,6 @@
 //! The values that a report gives.
 
-ghost use Rattle.std.specs.Prelude.{◌≡◌, ℕ, List, [], ◌∷◌, map, take, IfOk};
+ghost use Rattle.std.specs.Prelude.{◌≡◌, [], ◌∷◌, map, IfOk};
 ghost use Rattle.host_heard.specs.Telling.{value_at, core_values, values_of};
 
 use class_core::CoreMessage;

@@ -1,10 +1,10 @@
 //! Laws of records and of what they give.
 
-ghost use Rattle.std.specs.Prelude.{◌≡◌, ◌≢◌, ℕ, ◌∷◌, [], ◌++◌, List, Option, Some, None, true, false, slice_get, take};
+ghost use Rattle.std.specs.Prelude.{◌≡◌, ℕ, ◌∷◌, [], ◌++◌, List, None, true};
 ghost use Rattle.host_keep.specs.declared.record.Record.{Record as TheRecord};
 ghost use Rattle.host_keep.specs.RecordText.{IsTextOf};
-ghost use Rattle.host_keep.specs.Kept.{Kept, after, after_all, kept_of};
-ghost use Rattle.host_keep.specs.Legal.{AreTextsOf, Give, IsFirstBad, is_legal, first_illegal};
+ghost use Rattle.host_keep.specs.Kept.{Kept, after_all};
+ghost use Rattle.host_keep.specs.Legal.{Give, IsFirstBad, is_legal, first_illegal};
 
 /// No text is that of two records.
 pub fn a_text_is_of_one_record()

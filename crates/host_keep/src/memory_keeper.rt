@@ -1,6 +1,6 @@
 //! A keeper over memory, of which chosen calls fail. It serves tests.
 
-ghost use Rattle.std.specs.Prelude.{◌≡◌, ◌↔◌, ◌+◌, ◌<◌, ◌≤◌, [], ◌∷◌, ◌++◌, length, slice_get, false, Err, Some, IfOk, IsTrue, OnOk, OnErr, Contains};
+ghost use Rattle.std.specs.Prelude.{◌≡◌, ◌↔◌, ◌+◌, ◌<◌, ◌≤◌, [], ◌∷◌, length, slice_get, false, Err, Some, IfOk, IsTrue, OnOk, OnErr, Contains};
 ghost use Rattle.zw_base.specs.Faults.{Rose, raised};
 ghost use Rattle.host_keep.specs.Keeping.{OptAdds, IsKeptAt};
 

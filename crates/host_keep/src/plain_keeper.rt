@@ -1,6 +1,6 @@
 //! A keeper over memory that never fails.
 
-ghost use Rattle.std.specs.Prelude.{◌≡◌, ◌+◌, ◌<◌, ◌≤◌, [], ◌∷◌, ◌++◌, length, Err, Some, IfOk, OnOk, OnErr};
+ghost use Rattle.std.specs.Prelude.{◌≡◌, ◌+◌, ◌<◌, ◌≤◌, [], ◌∷◌, length, Err, Some, IfOk, OnOk, OnErr};
 ghost use Rattle.zw_base.specs.Faults.{Rose, raised};
 ghost use Rattle.host_keep.specs.Keeping.{OptAdds, IsKeptAt};
 

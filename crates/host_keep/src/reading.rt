@@ -1,6 +1,6 @@
 //! From a text to its record.
 
-ghost use Rattle.std.specs.Prelude.{◌≡◌, ◌≢◌, ℕ, ◌^◌, ◌<◌, List, All, IfOk, Ok, Err};
+ghost use Rattle.std.specs.Prelude.{◌≡◌, ◌≢◌, ℕ, ◌<◌, List, IfOk, Ok, Err};
 ghost use Rattle.host_keep.specs.declared.record.Record.{Record as TheRecord};
 ghost use Rattle.host_keep.specs.RecordText.{IsTextOf, IsNoText, AreLong, row_data, row_text};
 ghost use Rattle.host_keep.specs.RowReading.{Gives};

@@ -1,7 +1,7 @@
 //! The record that numbers stand for: each number at its place, in its range.
 
-ghost use Rattle.std.specs.Prelude.{◌≡◌, ◌++◌, drop, length, IfOk};
-ghost use Rattle.host_keep.specs.RowReading.{Gives, number_at, byte_at, node_at, end_at, short_at, long_at, flag_at, status_at, bytes_at, bytes_in, byte_in, nonce_at, setpoint_at, config_at, bulk_at, member_at, comfort_at, what_at, accepted_at, classes_at, begun_at, final_at, given_at, seen_at, record_at};
+ghost use Rattle.std.specs.Prelude.{◌≡◌};
+ghost use Rattle.host_keep.specs.RowReading.{Gives, number_at, byte_at, node_at, end_at, short_at, long_at, flag_at, status_at, bytes_at, byte_in, nonce_at, setpoint_at, config_at, bulk_at, member_at, comfort_at, what_at, accepted_at, classes_at, begun_at, final_at, given_at, seen_at, record_at};
 ghost use Rattle.zw_order.specs.declared.order.What.TheVariants as what;
 
 use crate::final_status::FinalStatus;

@@ -1,9 +1,9 @@
 //! From a record to its text.
 
-ghost use Rattle.std.specs.Prelude.{◌≡◌, ◌++◌, map, IfOk, OnOk};
-ghost use Rattle.serde_json.specs.View.{view, items_view, items_of};
-ghost use Rattle.host_keep.specs.Rows.{what_numbers, numbers_of, flag_number, AreBytes, IsRecord, IsWhat, IsWord};
-ghost use Rattle.host_keep.specs.RecordText.{IsTextOf, number_data, row_data, row_text};
+ghost use Rattle.std.specs.Prelude.{◌≡◌, ◌++◌, IfOk, OnOk};
+ghost use Rattle.serde_json.specs.View.{view};
+ghost use Rattle.host_keep.specs.Rows.{what_numbers, numbers_of, AreBytes, IsRecord, IsWhat, IsWord};
+ghost use Rattle.host_keep.specs.RecordText.{IsTextOf, row_data, row_text};
 
 use crate::kinds::{
     ACCEPTED, ASSOCIATE, BEGUN, BULK, CANCELLED, CLASSES, COMFORT, CONFIG, DISSOCIATE, FINAL,

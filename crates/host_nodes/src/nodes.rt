@@ -1,6 +1,6 @@
 //! All nodes, by their number.
 
-ghost use Rattle.std.specs.Prelude.{◌≡◌, ℕ, List, IfOk};
+ghost use Rattle.std.specs.Prelude.{◌≡◌, List, IfOk};
 ghost use Rattle.host_node.specs.Facts.{NodeFacts};
 ghost use Rattle.host_nodes.specs.State.{node_of, unknown_nodes};
 ghost use Rattle.host_nodes.specs.Search.{next_of, first_wanting as least_wanting, ticking_above as least_ticking};

@@ -1,17 +1,14 @@
 //! Messages without Supervision: a Set that is not reported, and a Get.
 
-ghost use Rattle.std.specs.Prelude.{◌≡◌, ℕ, ◌≤◌, ◌<◌, ◌∷◌, [], false, length, List, Option, Some, IfOk, IfErr, OnErr};
-ghost use Rattle.class_core.specs.declared.message.CoreMessage.TheVariants as messages;
-ghost use Rattle.host_orders.specs.Messages.{channel_class};
-ghost use Rattle.host_orders.specs.Wrapping.{ends_of as ends_to, outer_for as outer_to};
-ghost use Rattle.host_orders.specs.Refusals.{Known, Refuses, is_bad_word as is_bad_for};
+ghost use Rattle.std.specs.Prelude.{◌≡◌, ℕ, ◌≤◌, ◌<◌, false, length, List, Option, Some, IfOk, IfErr};
+ghost use Rattle.host_orders.specs.Refusals.{Refuses, is_bad_word as is_bad_for};
 ghost use Rattle.host_orders.specs.Errands.{plain_text, queue_full, secured, sendable_of, sendable_refusal, send_refusal, send_text, gettable_of, gettable_class, gettable_refusal, get_command, get_refusal, get_text, RefusesOrNone};
 
 use crate::actuator::{Actuator, DOOR_LOCK, SWITCH_BINARY, SWITCH_MULTILEVEL, lists};
 use crate::judging::{is_bad_word, known, need, need_channel};
 use crate::messages::value_command;
 use crate::refused::Refused;
-use crate::wrapping::{MAX_PAYLOAD, SECURITY, ends_of, outer_for};
+use crate::wrapping::{SECURITY, ends_of, outer_for};
 use class_core::{CoreMessage, write};
 use encap::{Plan, wrap};
 use std::alloc::Global;

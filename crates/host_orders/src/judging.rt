@@ -1,11 +1,9 @@
 //! Whether a host takes an order.
 
-ghost use Rattle.std.specs.Prelude.{◌≡◌, ℕ, ◌≤◌, ◌<◌, not, false, length, Option, Some, None, List, [], ◌∷◌, IfOk, OnOk, IfErr, Ok};
-ghost use Rattle.host_orders.specs.Classes.{lists as lists_of, actuator_of};
-ghost use Rattle.host_orders.specs.Messages.{classes_in, classes_needed, channel_class, BulkHasAtMost};
-ghost use Rattle.host_orders.specs.Wrapping.{carriage_of, supervised_text, wrapped_len as wrapped_len_of};
-ghost use Rattle.host_orders.specs.Refusals.{Known, Refuses, IsFit, first_refusal, unless, unsupported, is_bad, is_bad_word, is_bad_mode, is_bad_setpoint, is_bad_bulk, is_bad_interval, is_too_long, too_long, mailbox_full};
-ghost use Rattle.host_orders.specs.declared.refused.Refused.TheVariants as refusals;
+ghost use Rattle.std.specs.Prelude.{◌≡◌, ℕ, ◌≤◌, ◌<◌, false, Option, Some, None, List, [], ◌∷◌, IfOk, IfErr, Ok};
+ghost use Rattle.host_orders.specs.Messages.{classes_in, classes_needed, channel_class};
+ghost use Rattle.host_orders.specs.Wrapping.{carriage_of};
+ghost use Rattle.host_orders.specs.Refusals.{Refuses, IsFit, first_refusal, unsupported, is_bad, is_bad_word, is_bad_mode, is_bad_setpoint, is_bad_bulk, is_too_long, too_long};
 
 use crate::actuator::{Actuator, lists};
 use crate::carriage::Carriage;

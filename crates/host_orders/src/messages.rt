@@ -1,6 +1,6 @@
 //! The messages of an order, as they are written.
 
-ghost use Rattle.std.specs.Prelude.{◌≡◌, ◌+◌, ◌<◌, ◌≤◌, ◌∷◌, [], false, length, IfOk, IsTrue};
+ghost use Rattle.std.specs.Prelude.{◌≡◌, ◌<◌, ◌≤◌, ◌∷◌, [], false, length, IfOk};
 ghost use Rattle.class_core.specs.Spelling.{form};
 ghost use Rattle.class_core.specs.declared.message.CoreMessage.TheVariants as messages;
 ghost use Rattle.class_fields.specs.declared.number.Size.TheVariants as sizes;

@@ -3,7 +3,7 @@
 ghost use Rattle.std.specs.Prelude.{◌≡◌, ◌+◌, ◌%◌, ◌≤◌, ◌<◌, false, length, IfOk};
 ghost use Rattle.host_orders.specs.declared.actuator.Actuator.{Actuator as TheActuator};
 ghost use Rattle.host_orders.specs.Messages.{takes_time, BulkHasAtMost};
-ghost use Rattle.host_orders.specs.Wrapping.{ends_of, supervised_of, plan_of, message_of, supervised_text, wrapped_len, outer_for, carriage_of};
+ghost use Rattle.host_orders.specs.Wrapping.{ends_of, plan_of, message_of, supervised_text, wrapped_len, outer_for};
 ghost use Rattle.host_orders.specs.Refusals.{IsFit};
 
 use crate::actuator::{Actuator, lists};

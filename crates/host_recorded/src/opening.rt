@@ -1,6 +1,6 @@
 //! Security messages, which are opened with the nonce that they name.
 
-ghost use Rattle.std.specs.Prelude.{◌≡◌, ◌++◌, ◌≤◌, [], ℕ, List as Items, Some, true, length, IfOk, OnOk, OnErr};
+ghost use Rattle.std.specs.Prelude.{◌≡◌, ◌++◌, ◌≤◌, [], Some, true, length, IfOk, OnOk, OnErr};
 ghost use Rattle.encap.specs.Opening.{begins_with};
 ghost use Rattle.s0_session.specs.Nonces.{live_of};
 ghost use Rattle.host_keep.specs.Keeping.{OptAdds, Kept};

@@ -1,6 +1,6 @@
 //! The laws of whole runs of `replay`: each is the contract of a function that does nothing.
 
-ghost use Rattle.std.specs.Prelude.{◌≡◌, ℕ, List, Option, [], ◌++◌};
+ghost use Rattle.std.specs.Prelude.{ℕ, List, Option, ◌++◌};
 ghost use Rattle.scenario_run.specs.declared.status.Status.{Status};
 ghost use Rattle.zw_text.specs.declared.entry.Entry.{Entry};
 ghost use Rattle.zw_text.specs.declared.line.ReplayLine.{ReplayLine};

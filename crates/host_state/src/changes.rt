@@ -1,13 +1,13 @@
 //! What an event changes that has a record, once that is kept. Whoever calls these knows that the host still has its facts after it.
 
-ghost use Rattle.std.specs.Prelude.{◌≡◌, ◌+◌, ◌^◌, ◌<◌, Some, None, true, Contains, IsSome, length, IfOk};
+ghost use Rattle.std.specs.Prelude.{◌≡◌, ◌+◌, ◌^◌, ◌<◌, Some, None, Contains, IsSome, length, IfOk};
 ghost use Rattle.std.specs.List.{AllByRecursion};
 ghost use Rattle.supervision.specs.Host.{open_session};
 ghost use Rattle.s0_session.specs.Nonces.{IsRestorable, given_of, account_of, nonce_given};
 ghost use Rattle.value_store.specs.Values.{IsReserved};
 ghost use Rattle.host_node.specs.Events.NodeEvent.{Joins, Interviews, Restores_seen, Takes_nonce, Blocks};
 ghost use Rattle.host_requests.specs.Events.RequestsEvent.{Updates};
-ghost use Rattle.host_events.specs.State.{HostState, node_of, command_at};
+ghost use Rattle.host_events.specs.State.{node_of, command_at};
 ghost use Rattle.host_events.specs.Sessions.{settings_with};
 ghost use Rattle.host_events.specs.After.{node_does, requests_do, finishing, holding, giving, spending};
 ghost use Rattle.host_events.specs.Facts.{HostFacts};

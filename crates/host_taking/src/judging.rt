@@ -1,6 +1,6 @@
 //! Bytes of the chip, item by item.
 
-ghost use Rattle.std.specs.Prelude.{◌≡◌, ◌≢◌, ◌++◌, ◌≤◌, length, Ok, IfOk, OnOk, OnErr};
+ghost use Rattle.std.specs.Prelude.{◌≡◌, ◌≢◌, ◌≤◌, length, Ok, IfOk, OnOk, OnErr};
 ghost use Rattle.std.specs.Option.{option_copied};
 ghost use Rattle.serial_frame.specs.declared.item.Item.TheVariants.{Good};
 ghost use Rattle.serial_link.specs.declared.turn.Turn.{Turn};

@@ -1,6 +1,6 @@
 //! Nonces of nodes and for them (Security 0).
 
-ghost use Rattle.std.specs.Prelude.{◌≡◌, length, slice_index, OnOk, OnErr};
+ghost use Rattle.std.specs.Prelude.{◌≡◌, slice_index, OnOk, OnErr};
 ghost use Rattle.s0_session.specs.Nonces.{live_of};
 ghost use Rattle.host_keep.specs.Rows.{AreBytes};
 ghost use Rattle.host_node.specs.State.{count_at};

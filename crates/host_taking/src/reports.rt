@@ -1,11 +1,10 @@
 //! Supervision Reports of nodes.
 
-ghost use Rattle.std.specs.Prelude.{◌≡◌, ◌<◌, ◌≤◌, Some, OnOk, OnErr};
+ghost use Rattle.std.specs.Prelude.{◌≡◌, ◌<◌, Some, OnOk, OnErr};
 ghost use Rattle.class_info.specs.Values.{status_byte};
 ghost use Rattle.supervision.specs.Host.{told_of, command_at as command_of_session};
 ghost use Rattle.host_keep.specs.Status.{status_of};
 ghost use Rattle.host_events.specs.State.{node_of};
-ghost use Rattle.host_events.specs.May.{IsFinal};
 ghost use Rattle.host_events.specs.Taking.{ReportEvents, FinalEvents};
 ghost use Rattle.supervision.specs.declared.host_node.Told.TheVariants.{Final as ends};
 ghost use Rattle.host_taking.specs.Calls.{scene, Does, Stops};

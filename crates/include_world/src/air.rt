@@ -1,9 +1,8 @@
 //! The air: frames that are sent, lost, repeated and forgotten.
 
-ghost use Rattle.std.specs.Prelude.{◌≡◌, ◌+◌, ◌-◌, ◌^◌, ◌<◌, ◌≤◌, ◌∷◌, [], ◌++◌, length, min, IfOk, OnOk, OnErr, IfSome, IfNone, slice_get, slice_index_or};
+ghost use Rattle.std.specs.Prelude.{◌≡◌, ◌+◌, ◌-◌, ◌^◌, ◌<◌, ◌≤◌, ◌∷◌, [], ◌++◌, length, IfOk, OnOk};
 ghost use Rattle.std.specs.Result.{result_err};
-ghost use Rattle.include_world.specs.Air.{AirState, first_air, arriving, air_entry, departing, forgetting, landing, losing_more, pair_of, sending, sent_entries, refusal_of, flight_at};
-ghost use Rattle.include_world.specs.declared.air.Coming.{Coming as AnyComing};
+ghost use Rattle.include_world.specs.Air.{first_air, arriving, air_entry, departing, forgetting, landing, losing_more, pair_of, sending, sent_entries, refusal_of, flight_at};
 
 use crate::{Flight, Heading, Pair};
 use include_text::{IncludeEntry, IncludeRefusal};

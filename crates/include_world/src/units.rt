@@ -1,6 +1,6 @@
 //! The units on the serial line when a node is added.
 
-ghost use Rattle.std.specs.Prelude.{◌≡◌, ◌≤◌, ◌∷◌, [], IfOk, length};
+ghost use Rattle.std.specs.Prelude.{◌≡◌, ◌≤◌, IfOk, length};
 ghost use Rattle.chip_functions.specs.AddNode.{added_spelling as added_text};
 ghost use Rattle.include_world.specs.Units.{chip_unit, host_unit, lock, units_of};
 

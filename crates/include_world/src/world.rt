@@ -1,8 +1,7 @@
 //! The host, the locks and the air as one.
 
-ghost use Rattle.std.specs.Prelude.{◌≡◌, ℕ, ◌+◌, ◌-◌, ◌<◌, ◌≤◌, ◌^◌, [], ◌∷◌, ◌++◌, List as Items, Option, Some, None, length, map, IfOk, IfSome, OnOk, OnErr, is_some};
+ghost use Rattle.std.specs.Prelude.{◌≡◌, ℕ, ◌+◌, ◌-◌, ◌<◌, ◌≤◌, [], ◌∷◌, ◌++◌, List as Items, Option, Some, None, length, map, IfOk, OnOk, OnErr, is_some};
 ghost use Rattle.std.specs.List.{range_with_len};
-ghost use Rattle.include_world.specs.Units.{in_order};
 ghost use Rattle.include_world.specs.declared.flight.Heading.TheVariants.{Outward, Homeward};
 ghost use Rattle.include_world.specs.Air.{arriving, flying, refusal_of};
 ghost use Rattle.include_world.specs.World.{IncludeEvent, Says, Lands, Did, does, ends, passes, first_joiner, first_world, hears, hears_by, lands_by, adds, repeats, resets, said_entries, table_of, node_entries, tells};

@@ -1,6 +1,6 @@
 //! The end of the host, which adds nodes.
 
-ghost use Rattle.std.specs.Prelude.{◌≡◌, ◌≢◌, ◌∷◌, ◌-◌, ◌≤◌, [], Option, Some, None, Ok, length, slice_index, slice_set, IfOk, IfSome, OnOk, OnErr, IsSome, IsNone, IsErrOf, ◌↔◌, is_some, true, false};
+ghost use Rattle.std.specs.Prelude.{◌≡◌, ◌∷◌, ◌-◌, [], Option, Some, None, Ok, slice_index, IfOk, IfSome, OnOk, OnErr, IsSome, IsErrOf, ◌↔◌, is_some, true, false};
 ghost use Rattle.s0_session.specs.Nonces.{account_of, nonce_spent};
 ghost use Rattle.inclusion.specs.Messages.{IsSealed, nonce_named, scheme_get};
 ghost use Rattle.inclusion.specs.Including.{adding, asking, asks, exchange_after, failing_in, fresh_includer, gives_nonce, held_in, includer_takes, is_secure, is_verified, is_with, sealing, seals, takes_nonce, takes_scheme, takes_sealed, without_secure};

@@ -1,8 +1,8 @@
 //! The end of a lock that joins.
 
-ghost use Rattle.std.specs.Prelude.{◌≡◌, ◌-◌, ◌≤◌, [], length, slice_index, IfOk, OnOk, OnErr, Some, None};
+ghost use Rattle.std.specs.Prelude.{◌≡◌, ◌-◌, [], length, slice_index, IfOk, OnOk, OnErr, Some, None};
 ghost use Rattle.inclusion.specs.Messages.{IsSealed};
-ghost use Rattle.inclusion.specs.Joining.{fresh_joiner, forgetful, gives_nonce, joiner_takes, takes_for, takes_key, takes_nonce, takes_sealed, tells_scheme, silent};
+ghost use Rattle.inclusion.specs.Joining.{fresh_joiner, forgetful, gives_nonce, joiner_takes, takes_for, takes_key, takes_nonce, takes_sealed, tells_scheme};
 
 use crate::Message;
 use crate::message::{

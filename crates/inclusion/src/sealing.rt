@@ -1,7 +1,6 @@
 //! How a message is opened, and how what is pending is sealed.
 
 ghost use Rattle.std.specs.Prelude.{◌≡◌, ◌-◌, ◌≤◌, length, slice_index, IfOk, IfSome, OnOk, OnErr};
-ghost use Rattle.s0_session.specs.Sending.{taken};
 ghost use Rattle.inclusion.specs.Sealing.{keys_of, opened_by, sealer_after, sent_for};
 
 use s0_crypto::{SealEnds, SealFault, keys, unseal};

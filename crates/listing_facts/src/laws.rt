@@ -8,9 +8,9 @@ ghost use Rattle.zw_text.specs.declared.line.Line.{Line};
 ghost use Rattle.zw_laws.specs.Nodes.{listing_of};
 ghost use Rattle.zw_machine.specs.State.{first_machine};
 ghost use Rattle.zw_machine.specs.Events.{Event};
-ghost use Rattle.zw_machine.specs.Did.{happens_all, MayAll};
+ghost use Rattle.zw_machine.specs.Did.{MayAll};
 ghost use Rattle.line_facts.specs.Line.{AreLines};
-ghost use Rattle.said_facts.specs.Spoken.{Spoken, AreSpoken, after_all};
+ghost use Rattle.said_facts.specs.Spoken.{Spoken, AreSpoken};
 ghost use Rattle.said_facts.specs.Said.{AllTell, LinesTell};
 ghost use Rattle.listing_facts.specs.Lines.{HearLists, AreDone};
 

@@ -1,13 +1,11 @@
 //! Frames that arrive, and what a device does that hears one.
 
-ghost use Rattle.std.specs.Prelude.{◌≡◌, ◌⊎◌, ℕ, ◌+◌, ◌-◌, ◌<◌, ◌≤◌, ◌^◌, [], ◌∷◌, ◌++◌, length, map, slice_get, option_map, Option, Some, None, OnOk, OnErr, IfOk, IsTrue, List as Items};
+ghost use Rattle.std.specs.Prelude.{◌≡◌, ℕ, ◌+◌, ◌-◌, ◌<◌, ◌≤◌, ◌^◌, [], ◌∷◌, ◌++◌, length, map, option_map, Option, Some, None, OnOk, OnErr, IfOk, List as Items};
 ghost use Rattle.std.specs.Option.{ForSome};
 ghost use Rattle.route_table.specs.declared.route.Route.{Route as TheRoute};
-ghost use Rattle.device_sim.specs.State.{State};
 ghost use Rattle.device_sim.specs.Event.{Hears, device_after, device_replies};
 ghost use Rattle.air_frames.specs.Flown.{IsSound};
 ghost use Rattle.air_frames.specs.declared.frame.Heading.TheVariants.{Homeward};
-ghost use Rattle.air_frames.specs.Frames.{landing, next_of};
 ghost use Rattle.mesh_sim.specs.Air.{is_joined, departing};
 ghost use Rattle.mesh_sim.specs.Routes.{IsRoute, backwards};
 ghost use Rattle.mesh_sim.specs.Fates.{HearsWithin};

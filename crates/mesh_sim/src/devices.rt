@@ -1,6 +1,6 @@
 //! The devices as a list of boxes: which hears the frames of a node, and what it does at one.
 
-ghost use Rattle.std.specs.Prelude.{◌≡◌, ◌+◌, ◌<◌, ◌≤◌, ◌^◌, [], length, map, Some, IfSome, OnOk, OnErr};
+ghost use Rattle.std.specs.Prelude.{◌≡◌, ◌<◌, ◌^◌, [], length, map, Some, IfSome, OnOk, OnErr};
 ghost use Rattle.device_sim.specs.Event.{Hears, device_after, device_replies};
 ghost use Rattle.mesh_sim.specs.Fates.{place_of, listener_of};
 

@@ -1,7 +1,6 @@
 //! What becomes of a frame that arrives.
 
 ghost use Rattle.std.specs.Prelude.{◌≡◌, ◌<◌, ◌^◌, length, map, All, ◌≤◌};
-ghost use Rattle.air_frames.specs.Flown.{IsSound};
 ghost use Rattle.mesh_sim.specs.Fates.{dead_hop, dead_hop_of, fate_of, HearsWithin};
 
 use crate::devices::listener_in;

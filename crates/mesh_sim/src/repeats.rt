@@ -1,13 +1,12 @@
 //! Frames that are heard again.
 
-ghost use Rattle.std.specs.Prelude.{◌≡◌, ◌⊎◌, ℕ, ◌<◌, ◌^◌, [], ◌∷◌, length, map, Option, Some, None, OnOk, OnErr, MatchResult, List as Items};
+ghost use Rattle.std.specs.Prelude.{◌≡◌, ℕ, ◌<◌, ◌^◌, [], ◌∷◌, length, map, Option, Some, None, OnOk, OnErr, MatchResult, List as Items};
 ghost use Rattle.route_table.specs.declared.route.Route.{Route as TheRoute};
-ghost use Rattle.device_sim.specs.Event.{Hears, device_after};
+ghost use Rattle.device_sim.specs.Event.{Hears};
 ghost use Rattle.air_frames.specs.Ages.{refusal_of};
 ghost use Rattle.air_frames.specs.declared.ages.Refusal.{Refusal as Refused};
 ghost use Rattle.air_frames.specs.History.{Mark, IsOf, refusal_in};
 ghost use Rattle.mesh_sim.specs.Faults.{IsFault};
-ghost use Rattle.mesh_sim.specs.Fates.{Mesh};
 ghost use Rattle.mesh_sim.specs.Steps.{Repeats, Did, IsRepeatOf, IsCut, HasHeard, HasPerhaps, ComesAgain, IsHeardAgain, IsHeardPerhaps};
 
 use crate::air::copy_of;

@@ -29,7 +29,8 @@ use Rattle.device_kinds.specs.declared.verdict.Verdict.TheVariants.{NoSupport, F
 use Rattle.device_kinds.specs.Kind.{lists}
 use Rattle.device_stack.specs.State.{State, Outcome, silent, value_of, last_level_of}
 use Rattle.device_kinds.specs.Judging.{judged_message}
-use Rattle.device_stack.specs.Effects.{end_of, effect_in_session, effect_of, takes, after_effect}
+use Rattle.device_effects.specs.Effects.{end_of, effect_in_session}
+use Rattle.device_stack.specs.Effects.{effect_of, takes, after_effect}
 use Rattle.device_stack.specs.Hearing.{answers, answers_bytes, hears_openly, hears_nonces, hears_securely, hears_in_segments, hears_by, active, hears}
 use Rattle.device_sim.specs.Event.{Hears, outcome_of, device_after}
 use Rattle.device_sim.proofs.LawLemmas.{not_working}
@@ -106,13 +107,13 @@ unfolding answers effect_of
 supervised_follows device batch asked channel outer commands known = rw known (new (is_new device.sessions asked.id) refl)
   where
     again : (b : Bool)
-        → Follows device (after_effect device (plan_with batch asked channel outer) (effect_in_session device (plan_with batch asked channel outer) commands (if b then Again device.sessions.status else Old)))
+        → Follows device (after_effect device (plan_with batch asked channel outer) (effect_in_session device.kind device.journal (plan_with batch asked channel outer) commands (if b then Again device.sessions.status else Old)))
         (judged_by device channel batch commands) (if b then Again device.sessions.status else Old)
     again true = left device
     again false = left device
 
     new : (b : Bool) → is_new device.sessions asked.id ≡ b
-        → Follows device (after_effect device (plan_with batch asked channel outer) (effect_in_session device (plan_with batch asked channel outer) commands (if b then New (device.sessions.taken + 1) else (if is_again device.sessions asked.id then Again device.sessions.status else Old))))
+        → Follows device (after_effect device (plan_with batch asked channel outer) (effect_in_session device.kind device.journal (plan_with batch asked channel outer) commands (if b then New (device.sessions.taken + 1) else (if is_again device.sessions asked.id then Again device.sessions.status else Old))))
         (judged_by device channel batch commands) (if b then New (device.sessions.taken + 1) else (if is_again device.sessions asked.id then Again device.sessions.status else Old))
     new true e = taken_as device (plan_with batch asked channel outer) asked (judged_by device channel batch commands) (not_working device.sessions asked.id e)
     new false e = again (is_again device.sessions asked.id)

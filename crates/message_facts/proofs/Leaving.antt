@@ -30,15 +30,16 @@ use Rattle.host_orders.specs.declared.errand.Gettable.{Gettable}
 use Rattle.host_orders.specs.declared.errand.Gettable.TheVariants as gettables
 use Rattle.device_kinds.specs.declared.kind.Kind.{Kind}
 use Rattle.device_kinds.specs.declared.kind.Kind.TheVariants.{Lock, Configurable}
-use Rattle.device_stack.specs.declared.effect.Effect.{Effect}
-use Rattle.device_stack.specs.declared.effect.Effect.TheVariants.{Ignores, Sleeps, Tells, Sets, Repeats, Takes}
+use Rattle.device_effects.specs.declared.effect.Effect.{Effect}
+use Rattle.device_effects.specs.declared.effect.Effect.TheVariants.{Ignores, Sleeps, Tells, Sets, Repeats, Takes}
 use Rattle.device_kinds.specs.declared.verdict.Verdict.{Verdict}
 use Rattle.device_kinds.specs.declared.verdict.Verdict.TheVariants.{NoSupport, Fails, Makes, Works}
 use Rattle.device_kinds.specs.Kind.{listens, lists, has_end}
 use Rattle.device_stack.specs.State.{State, value_of, last_level_of}
 use Rattle.device_kinds.specs.Judging.{judged_set}
 use Rattle.device_kinds.specs.Telling.{told}
-use Rattle.device_stack.specs.Effects.{end_of, set_plainly, effect_untold, telling, effect_alone, effect_by, effect_of, after_effect}
+use Rattle.device_effects.specs.Effects.{end_of, set_plainly, effect_untold, telling, effect_alone, effect_by}
+use Rattle.device_stack.specs.Effects.{effect_of, after_effect}
 use Rattle.device_stack.specs.Hearing.{answers, answers_opened, answers_bytes, sent_openly, hears_openly, seals_for, hears_nonces, hears_securely, hears_in_segments, hears_by, active}
 use Rattle.device_sim.specs.Event.{Hears, device_after}
 use Rattle.message_facts.specs.Asking.{IsLeft}
@@ -136,7 +137,7 @@ plainly_idle kind end (Works settings) known = tt
 plainly_idle kind end Fails known = tt
 plainly_idle kind end NoSupport known = tt
 
-untold_idle : (device : State) (end : ℕ) (message : InfoMessage) → lists device.kind 0x6C ≡ true → IsIdle (effect_untold device end message)
+untold_idle : (device : State) (end : ℕ) (message : InfoMessage) → lists device.kind 0x6C ≡ true → IsIdle (effect_untold device.kind device.journal end message)
 untold_idle device end (Core (SwitchBinarySet value)) known = plainly_idle device.kind end (judged_set device.kind (value_of device) (last_level_of device) end (SwitchBinarySet value)) known
 untold_idle device end WakeUpNoMoreInformation known = by (not (listens device.kind) && has_end device.kind end)
   where
@@ -149,21 +150,21 @@ telling_idle : (report : Option InfoMessage) (effect : Effect) → IsIdle effect
 telling_idle (Some report) effect is = tt
 telling_idle None effect is = is
 
-alone_idle : (device : State) (end : ℕ) (read : Result InfoMessage ClassFault) → lists device.kind 0x6C ≡ true → IsIdle (effect_alone device end read)
-alone_idle device end (Ok message) known = telling_idle (told device.kind (value_of device) end message) (effect_untold device end message) (untold_idle device end message known)
+alone_idle : (device : State) (end : ℕ) (read : Result InfoMessage ClassFault) → lists device.kind 0x6C ≡ true → IsIdle (effect_alone device.kind device.journal end read)
+alone_idle device end (Ok message) known = telling_idle (told device.kind (value_of device) end message) (effect_untold device.kind device.journal end message) (untold_idle device end message known)
 alone_idle device end (Err fault) known = tt
 
-none_idle : (device : State) (plan : Plan) (commands : List (List ℕ)) → lists device.kind 0x6C ≡ true → IsIdle (effect_by device plan commands None)
+none_idle : (device : State) (plan : Plan) (commands : List (List ℕ)) → lists device.kind 0x6C ≡ true → IsIdle (effect_by device.kind device.journal device.sessions plan commands None)
 none_idle device plan commands known = by plan.batch
   where
-    by : (b : Bool) → IsIdle (if b then Ignores else effect_alone device (end_of plan.channel) (info_at (only_of commands)))
+    by : (b : Bool) → IsIdle (if b then Ignores else effect_alone device.kind device.journal (end_of plan.channel) (info_at (only_of commands)))
     by true = tt
     by false = alone_idle device (end_of plan.channel) (info_at (only_of commands)) known
 
 message_left : (device : State) (message : Message) → message.plan.session ≡ None → lists device.kind 0x6C ≡ true → IsLeft device (answers device message).device
 unfolding answers effect_of
 message_left device message none known =
-    idle_left device message.plan (effect_by device message.plan message.commands message.plan.session) (rw none (none_idle device message.plan message.commands known))
+    idle_left device message.plan (effect_by device.kind device.journal device.sessions message.plan message.commands message.plan.session) (rw none (none_idle device message.plan message.commands known))
 
 pub openly_left : (device : State) (payload : List ℕ) → IsNoGet payload → lists device.kind 0x6C ≡ true → IsLeft device (hears_openly device payload).device
 unfolding hears_openly answers_bytes

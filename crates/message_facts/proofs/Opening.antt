@@ -31,7 +31,7 @@ use Rattle.host_orders.specs.Wrapping.{ends_of, plan_of, message_of, supervised_
 use Rattle.host_orders.specs.declared.actuator.Actuator.{Actuator}
 use Rattle.host_orders.specs.declared.actuator.Actuator.TheVariants.{Binary, Multilevel, Lock}
 use Rattle.host_orders.specs.declared.carriage.Carriage.{Carriage}
-use Rattle.device_stack.specs.Effects.{end_of}
+use Rattle.device_effects.specs.Effects.{end_of}
 use Rattle.message_facts.specs.Asking.{message_in, read_as, NamesNode}
 
 -- ---- the commands are no wraps

@@ -57,20 +57,23 @@ use Rattle.host_heard.specs.declared.told.Told.TheVariants.{Report}
 use Rattle.host_heard.specs.Telling.{told_by, told_in, heard_by, heard_at, end_of as from_end}
 use Rattle.device_kinds.specs.declared.kind.Kind.{Kind}
 use Rattle.device_kinds.specs.declared.kind.Kind.TheVariants.{Lock, Configurable}
-use Rattle.device_stack.specs.declared.effect.Effect.{Effect}
-use Rattle.device_stack.specs.declared.effect.Effect.TheVariants.{Ignores, Sleeps, Tells, Sets, Repeats, Takes}
+use Rattle.device_effects.specs.declared.effect.Effect.{Effect}
+use Rattle.device_effects.specs.declared.effect.Effect.TheVariants.{Ignores, Sleeps, Tells, Sets, Repeats, Takes}
 use Rattle.device_kinds.specs.declared.verdict.Verdict.{Verdict}
 use Rattle.device_kinds.specs.declared.verdict.Verdict.TheVariants.{NoSupport, Fails, Makes, Works}
 use Rattle.device_kinds.specs.Kind.{listens, lists, has_end, tells, nodes_from, main_name_of}
 use Rattle.device_stack.specs.State.{State, Outcome, silent, value_of, last_level_of}
 use Rattle.device_kinds.specs.Judging.{judged_set, status_of}
 use Rattle.device_kinds.specs.Telling.{report_of, asked_name, members_of, is_member_of, value_told, told, IsAnswer}
-use Rattle.device_stack.specs.Answers.{report_status, asks_to_wake, status_report, final_report, swapped, answer_plan, worded}
-use Rattle.device_stack.proofs.WordedLemmas.{wrappable}
-use Rattle.device_stack.specs.Effects.{end_of, set_plainly, effect_untold, telling, effect_alone, effect_in_session, effect_by, effect_of, takes, after_effect, answer_of}
-use Rattle.device_stack.specs.Hearing.{Answered, answers, answers_opened, answers_bytes, sent_openly, hears_openly, nonce_named, sent_sealed, hears_inside, hears_plain, hears_for, hears_sealed, seals_for, hears_nonces, hears_securely, segment_session, assembles, repeats_segment, hears_segment, hears_in_segments, hears_by, active, hears}
+use Rattle.device_effects.specs.Answers.{report_status, swapped, answer_plan, worded}
+use Rattle.device_stack.specs.Answers.{asks_to_wake, status_report, final_report}
+use Rattle.device_effects.proofs.WordedLemmas.{wrappable}
+use Rattle.device_effects.specs.Effects.{end_of, set_plainly, effect_untold, telling, effect_alone, effect_in_session, effect_by}
+use Rattle.device_stack.specs.Effects.{effect_of, takes, after_effect, answer_of}
+use Rattle.device_effects.specs.Segments.{segment_session}
+use Rattle.device_stack.specs.Hearing.{Answered, answers, answers_opened, answers_bytes, sent_openly, hears_openly, nonce_named, sent_sealed, hears_inside, hears_plain, hears_for, hears_sealed, seals_for, hears_nonces, hears_securely, assembles, repeats_segment, hears_segment, hears_in_segments, hears_by, active, hears}
 use Rattle.device_stack.specs.Ticking.{aged, works_out, ticked, woken, by_hand, main_told, tells_by_hand, set_by_hand}
-use Rattle.device_stack.specs.Sealing.{keys_of, cipher_text_of, unsealed_at, sealed_text}
+use Rattle.device_effects.specs.Sealing.{keys_of, cipher_text_of, unsealed_at, sealed_text}
 use Rattle.device_sim.specs.Event.{DeviceEvent, Hears, Ticks, Wakes, Sets, outcome_of, device_after, device_replies}
 use Rattle.message_facts.proofs.Bare.{bare, bare_opens, high_command, middle_command, low_command, never_begins, never_ends}
 use Rattle.message_facts.specs.Reporting.{TellsOwn, IsNoReport, TellsNone, TellsTrue, CanBeAnswered, CanSay}
@@ -422,7 +425,7 @@ plainly_unasked kind end (Works settings) = tt
 plainly_unasked kind end Fails = tt
 plainly_unasked kind end NoSupport = tt
 
-untold_unasked : (device : State) (end : ℕ) (message : InfoMessage) → IsUnasked (effect_untold device end message)
+untold_unasked : (device : State) (end : ℕ) (message : InfoMessage) → IsUnasked (effect_untold device.kind device.journal end message)
 untold_unasked device end (Core (SwitchBinarySet value)) = plainly_unasked device.kind end (judged_set device.kind (value_of device) (last_level_of device) end (SwitchBinarySet value))
 untold_unasked device end WakeUpNoMoreInformation = by (not (listens device.kind) && has_end device.kind end)
   where
@@ -435,15 +438,15 @@ telling_unasked : (report : Option InfoMessage) (effect : Effect) → ((message 
 telling_unasked (Some report) effect value is = value report refl
 telling_unasked None effect value is = is
 
-alone_unasked : (device : State) (end : ℕ) (read : Result InfoMessage ClassFault) → IsUnasked (effect_alone device end read)
+alone_unasked : (device : State) (end : ℕ) (read : Result InfoMessage ClassFault) → IsUnasked (effect_alone device.kind device.journal end read)
 alone_unasked device end (Ok message) =
-    telling_unasked (told device.kind (value_of device) end message) (effect_untold device end message) (told_value device.kind (value_of device) end message) (untold_unasked device end message)
+    telling_unasked (told device.kind (value_of device) end message) (effect_untold device.kind device.journal end message) (told_value device.kind (value_of device) end message) (untold_unasked device end message)
 alone_unasked device end (Err fault) = tt
 
-none_unasked : (device : State) (plan : Plan) (commands : List (List ℕ)) → IsUnasked (effect_by device plan commands None)
+none_unasked : (device : State) (plan : Plan) (commands : List (List ℕ)) → IsUnasked (effect_by device.kind device.journal device.sessions plan commands None)
 none_unasked device plan commands = by plan.batch
   where
-    by : (b : Bool) → IsUnasked (if b then Ignores else effect_alone device (end_of plan.channel) (info_at (only_of commands)))
+    by : (b : Bool) → IsUnasked (if b then Ignores else effect_alone device.kind device.journal (end_of plan.channel) (info_at (only_of commands)))
     by true = tt
     by false = alone_unasked device (end_of plan.channel) (info_at (only_of commands))
 
@@ -455,19 +458,19 @@ pub second_holds : (a b : Bool) → a && b ≡ true → b ≡ true
 second_holds true b e = e
 second_holds false b e = cc
 
-asked_said : (device : State) (plan : Plan) (commands : List (List ℕ)) (asked : Supervised) → IsSaid device asked (effect_by device plan commands (Some asked))
+asked_said : (device : State) (plan : Plan) (commands : List (List ℕ)) (asked : Supervised) → IsSaid device asked (effect_by device.kind device.journal device.sessions plan commands (Some asked))
 asked_said device plan commands asked = supervised (lists device.kind 0x6C)
   where
-    again_said : (b : Bool) → is_again device.sessions asked.id ≡ b → IsSaid device asked (effect_in_session device plan commands (if b then Again device.sessions.status else Old))
+    again_said : (b : Bool) → is_again device.sessions asked.id ≡ b → IsSaid device asked (effect_in_session device.kind device.journal plan commands (if b then Again device.sessions.status else Old))
     again_said true e = (refl, eqb-true asked.id (wire_id device.sessions.taken) (second_holds (nat_lt 0 device.sessions.taken) _ e))
     again_said false e = tt
 
     new_said : (b : Bool) → is_new device.sessions asked.id ≡ b
-        → IsSaid device asked (effect_in_session device plan commands (if b then New (device.sessions.taken + 1) else (if is_again device.sessions asked.id then Again device.sessions.status else Old)))
+        → IsSaid device asked (effect_in_session device.kind device.journal plan commands (if b then New (device.sessions.taken + 1) else (if is_again device.sessions asked.id then Again device.sessions.status else Old)))
     new_said true e = eqb-true asked.id (wire_id (device.sessions.taken + 1)) (first_holds _ (not (device.sessions.status == WORKING)) e)
     new_said false e = again_said (is_again device.sessions asked.id) refl
 
-    supervised : (b : Bool) → IsSaid device asked (if b then effect_in_session device plan commands (heard_of device.sessions asked.id) else Ignores)
+    supervised : (b : Bool) → IsSaid device asked (if b then effect_in_session device.kind device.journal plan commands (heard_of device.sessions asked.id) else Ignores)
     supervised true = new_said (is_new device.sessions asked.id) refl
     supervised false = tt
 

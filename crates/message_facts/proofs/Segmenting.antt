@@ -22,7 +22,8 @@ use Rattle.device_kinds.specs.declared.kind.Kind.{Kind}
 use Rattle.device_kinds.specs.declared.kind.Kind.TheVariants.{Relay, Switch, Dimmer, Lock, Sensor, Thermostat, Strip, Configurable}
 use Rattle.device_kinds.specs.Kind.{lists}
 use Rattle.device_stack.specs.State.{State, Outcome, silent}
-use Rattle.device_stack.specs.Hearing.{hears_openly, segment_session, assembles, repeats_segment, hears_segment, hears_in_segments, hears_by, active, hears}
+use Rattle.device_effects.specs.Segments.{segment_session}
+use Rattle.device_stack.specs.Hearing.{hears_openly, assembles, repeats_segment, hears_segment, hears_in_segments, hears_by, active, hears}
 use Rattle.device_sim.specs.Event.{Hears, outcome_of, device_after, device_replies}
 use Rattle.message_facts.specs.Asking.{IsLeft}
 use Rattle.message_facts.specs.Others.{IsNoGet}

@@ -38,11 +38,12 @@ use Rattle.device_kinds.specs.declared.kind.Kind.TheVariants.{Lock}
 use Rattle.device_kinds.specs.declared.verdict.Verdict.{Verdict}
 use Rattle.device_kinds.specs.Kind.{lists, host_node}
 use Rattle.device_stack.specs.State.{State, Outcome, value_of, last_level_of}
-use Rattle.device_stack.specs.Answers.{swapped, answer_plan, worded}
+use Rattle.device_effects.specs.Answers.{swapped, answer_plan, worded}
 use Rattle.device_kinds.specs.Judging.{judged_message}
-use Rattle.device_stack.specs.Sealing.{keys_of, cipher_text_of, unsealed_at, sealed_text}
-use Rattle.device_stack.proofs.SealingLemmas.{opened_is}
-use Rattle.device_stack.specs.Effects.{end_of, effect_of, effect_in_session, answer_of, after_effect}
+use Rattle.device_effects.specs.Sealing.{keys_of, cipher_text_of, unsealed_at, sealed_text}
+use Rattle.device_effects.proofs.SealingLemmas.{opened_is}
+use Rattle.device_effects.specs.Effects.{end_of, effect_in_session}
+use Rattle.device_stack.specs.Effects.{effect_of, answer_of, after_effect}
 use Rattle.device_stack.specs.Hearing.{Answered, answers, sent_sealed, hears_sealed, hears_securely, hears_by, active}
 use Rattle.device_sim.specs.Event.{Hears, device_after}
 use Rattle.message_facts.specs.Asking.{message_in, verdict_on, Follows}
@@ -198,8 +199,8 @@ plan_with batch asked channel outer = record { batch = batch; session = Some ask
 -- the device after commands of a session, by what its id is
 abbrev sent_by : State → Plan → List (List ℕ) → Heard → State
 sent_by device plan commands heard = (sent_sealed (record {
-  device = after_effect device plan (effect_in_session device plan commands heard);
-  answer = option_map (worded (answer_plan plan)) (answer_of device plan (effect_in_session device plan commands heard));
+  device = after_effect device plan (effect_in_session device.kind device.journal plan commands heard);
+  answer = option_map (worded (answer_plan plan)) (answer_of device plan (effect_in_session device.kind device.journal plan commands heard));
 })).device
 
 supervised_answered : (device : State) (batch : Bool) (asked : Supervised) (channel : Option Ends) (outer : Outer) (commands : List (List ℕ)) → AreEnds (swapped channel) → lists device.kind 0x6C ≡ true

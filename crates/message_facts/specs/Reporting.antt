@@ -13,7 +13,8 @@ use Rattle.host_heard.specs.declared.told.Told.{Told}
 use Rattle.host_heard.specs.declared.told.Told.TheVariants.{Report, NonceGet, NonceReport, Notification, SegmentRequest, Values}
 use Rattle.host_heard.specs.Telling.{heard_at}
 use Rattle.device_stack.specs.State.{State}
-use Rattle.device_stack.specs.Answers.{report_status, asks_to_wake, swapped}
+use Rattle.device_effects.specs.Answers.{report_status, swapped}
+use Rattle.device_stack.specs.Answers.{asks_to_wake}
 
 -- a device asks with each final status to be kept awake, if it ever asks
 abbrev pub asks_now : State → Bool

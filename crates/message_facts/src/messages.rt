@@ -13,7 +13,7 @@ ghost use Rattle.host_orders.specs.Settings.{settings};
 ghost use Rattle.host_orders.specs.Wrapping.{ends_of, message_of};
 ghost use Rattle.host_orders.specs.declared.actuator.Actuator.{Actuator};
 ghost use Rattle.host_orders.specs.declared.carriage.Carriage.{Carriage};
-ghost use Rattle.device_stack.specs.Effects.{end_of};
+ghost use Rattle.device_effects.specs.Effects.{end_of};
 ghost use Rattle.device_sim.specs.State.{State};
 ghost use Rattle.device_sim.specs.Event.{Hears, device_after};
 ghost use Rattle.message_facts.specs.Asking.{message_in, read_as, NamesNode, takes_openly, verdict_on, MakesOnly, IsLeft, Follows};

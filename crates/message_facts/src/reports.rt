@@ -5,7 +5,7 @@ ghost use Rattle.std.specs.List.{AllByRecursion};
 ghost use Rattle.supervision.specs.Session.{IsStatus};
 ghost use Rattle.class_info.specs.Values.{status_byte};
 ghost use Rattle.device_kinds.specs.declared.kind.Kind.{Kind};
-ghost use Rattle.device_stack.specs.Answers.{report_status};
+ghost use Rattle.device_effects.specs.Answers.{report_status};
 ghost use Rattle.device_sim.specs.State.{State, fresh};
 ghost use Rattle.device_sim.specs.Event.{DeviceEvent, device_after, device_replies};
 ghost use Rattle.message_facts.specs.Reporting.{TellsTrue, CanSay};

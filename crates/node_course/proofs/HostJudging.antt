@@ -38,7 +38,7 @@ use Rattle.host_heard.specs.declared.told.Told.{Told}
 use Rattle.host_heard.specs.declared.told.Told.TheVariants.{Report, NonceGet, NonceReport, Notification, SegmentRequest, Values}
 use Rattle.value_store.specs.Values.{count_with}
 use Rattle.s0_session.specs.Nonces.{live_of}
-use Rattle.device_stack.specs.Answers.{report_status}
+use Rattle.device_effects.specs.Answers.{report_status}
 use Rattle.host_events.specs.State.{HostState, node_of}
 use Rattle.host_events.specs.After.{after, is_busy, gives_up}
 use Rattle.host_events.specs.Did.{after_all}

@@ -32,17 +32,20 @@ use Rattle.host_heard.specs.declared.told.Told.{Told}
 use Rattle.host_heard.specs.declared.told.Told.TheVariants.{Report}
 use Rattle.host_heard.specs.Telling.{told_in, heard_by, heard_at}
 use Rattle.device_kinds.specs.declared.kind.Kind.{Kind}
-use Rattle.device_stack.specs.declared.effect.Effect.{Effect}
-use Rattle.device_stack.specs.declared.effect.Effect.TheVariants.{Ignores, Sleeps, Tells, Sets, Repeats, Takes}
+use Rattle.device_effects.specs.declared.effect.Effect.{Effect}
+use Rattle.device_effects.specs.declared.effect.Effect.TheVariants.{Ignores, Sleeps, Tells, Sets, Repeats, Takes}
 use Rattle.device_kinds.specs.declared.verdict.Verdict.{Verdict}
 use Rattle.device_kinds.specs.declared.verdict.Verdict.TheVariants.{NoSupport, Fails, Makes, Works}
 use Rattle.device_kinds.specs.Kind.{listens, lists, has_end, tells, main_name_of}
 use Rattle.device_stack.specs.State.{State, silent, value_of, last_level_of}
 use Rattle.device_kinds.specs.Judging.{judged_message, judged_set, status_of}
 use Rattle.device_kinds.specs.Telling.{report_of, asked_name, members_of, value_told, told}
-use Rattle.device_stack.specs.Answers.{report_status, asks_to_wake, status_report, final_report, swapped, answer_plan, worded}
-use Rattle.device_stack.specs.Effects.{end_of, set_plainly, effect_untold, telling, effect_alone, effect_in_session, effect_by, effect_of, takes, after_effect, status_answer, answer_of}
-use Rattle.device_stack.specs.Hearing.{answers, answers_opened, answers_bytes, sent_openly, hears_openly, segment_session, assembles, repeats_segment, hears_segment, hears_in_segments}
+use Rattle.device_effects.specs.Answers.{report_status, swapped, answer_plan, worded}
+use Rattle.device_stack.specs.Answers.{asks_to_wake, status_report, final_report}
+use Rattle.device_effects.specs.Effects.{end_of, set_plainly, effect_untold, telling, effect_alone, effect_in_session, effect_by}
+use Rattle.device_stack.specs.Effects.{effect_of, takes, after_effect, status_answer, answer_of}
+use Rattle.device_effects.specs.Segments.{segment_session}
+use Rattle.device_stack.specs.Hearing.{answers, answers_opened, answers_bytes, sent_openly, hears_openly, assembles, repeats_segment, hears_segment, hears_in_segments}
 use Rattle.transport_segments.specs.Segment.{id_of}
 use Rattle.transport_segments.specs.Taking.{is_segment, ends_its_datagram, taken_at}
 use Rattle.transport_segments.specs.declared.assembler.Taken.{Taken as Assembled}
@@ -170,7 +173,7 @@ plainly_bare kind end (Works settings) = tt
 plainly_bare kind end Fails = tt
 plainly_bare kind end NoSupport = tt
 
-untold_bare : (device : State) (end : ℕ) (message : InfoMessage) → IsBareEffect (effect_untold device end message)
+untold_bare : (device : State) (end : ℕ) (message : InfoMessage) → IsBareEffect (effect_untold device.kind device.journal end message)
 untold_bare device end (Core (SwitchBinarySet value)) = plainly_bare device.kind end (judged_set device.kind (value_of device) (last_level_of device) end (SwitchBinarySet value))
 untold_bare device end WakeUpNoMoreInformation = by (not (listens device.kind) && has_end device.kind end)
   where
@@ -183,34 +186,34 @@ telling_bare : (report : Option InfoMessage) (effect : Effect) → BareIf report
 telling_bare (Some report) effect bare is = bare
 telling_bare None effect bare is = is
 
-alone_bare : (device : State) (end : ℕ) (read : Result InfoMessage ClassFault) → IsBareEffect (effect_alone device end read)
+alone_bare : (device : State) (end : ℕ) (read : Result InfoMessage ClassFault) → IsBareEffect (effect_alone device.kind device.journal end read)
 alone_bare device end (Ok message) =
-    telling_bare (told device.kind (value_of device) end message) (effect_untold device end message) (told_bare device.kind (value_of device) end message) (untold_bare device end message)
+    telling_bare (told device.kind (value_of device) end message) (effect_untold device.kind device.journal end message) (told_bare device.kind (value_of device) end message) (untold_bare device end message)
 alone_bare device end (Err fault) = tt
 
-by_bare : (device : State) (plan : Plan) (commands : List (List ℕ)) (session : Option Supervised) → IsBareEffect (effect_by device plan commands session)
+by_bare : (device : State) (plan : Plan) (commands : List (List ℕ)) (session : Option Supervised) → IsBareEffect (effect_by device.kind device.journal device.sessions plan commands session)
 by_bare device plan commands None = by plan.batch
   where
-    by : (b : Bool) → IsBareEffect (if b then Ignores else effect_alone device (end_of plan.channel) (info_at (only_of commands)))
+    by : (b : Bool) → IsBareEffect (if b then Ignores else effect_alone device.kind device.journal (end_of plan.channel) (info_at (only_of commands)))
     by true = tt
     by false = alone_bare device (end_of plan.channel) (info_at (only_of commands))
 by_bare device plan commands (Some asked) = supervised (lists device.kind 0x6C)
   where
-    again : (b : Bool) → IsBareEffect (effect_in_session device plan commands (if b then Again device.sessions.status else Old))
+    again : (b : Bool) → IsBareEffect (effect_in_session device.kind device.journal plan commands (if b then Again device.sessions.status else Old))
     again true = tt
     again false = tt
 
-    new : (b : Bool) → IsBareEffect (effect_in_session device plan commands (if b then New (device.sessions.taken + 1) else (if is_again device.sessions asked.id then Again device.sessions.status else Old)))
+    new : (b : Bool) → IsBareEffect (effect_in_session device.kind device.journal plan commands (if b then New (device.sessions.taken + 1) else (if is_again device.sessions asked.id then Again device.sessions.status else Old)))
     new true = tt
     new false = again (is_again device.sessions asked.id)
 
-    supervised : (b : Bool) → IsBareEffect (if b then effect_in_session device plan commands (heard_of device.sessions asked.id) else Ignores)
+    supervised : (b : Bool) → IsBareEffect (if b then effect_in_session device.kind device.journal plan commands (heard_of device.sessions asked.id) else Ignores)
     supervised true = new (is_new device.sessions asked.id)
     supervised false = tt
 
 message_bare : (device : State) (message : Message) → AllBare (option_to_list (answers device message).answer)
 unfolding answers effect_of
-message_bare device message = effect_bare device message.plan (effect_by device message.plan message.commands message.plan.session) (by_bare device message.plan message.commands message.plan.session)
+message_bare device message = effect_bare device message.plan (effect_by device.kind device.journal device.sessions message.plan message.commands message.plan.session) (by_bare device message.plan message.commands message.plan.session)
 
 pub openly_bare : (device : State) (payload : List ℕ) → AllByRecursion IsBare (hears_openly device payload).replies
 unfolding hears_openly answers_bytes
@@ -273,16 +276,16 @@ module _ (device : State) (batch : Bool) (asked : Supervised) (channel : Option 
   abbrev Holds : Effect → Type 0
   Holds effect = Taking (after_effect device plan effect) (option_map (worded (answer_plan plan)) (answer_of device plan effect))
 
-  again : (b : Bool) → is_again device.sessions asked.id ≡ b → Holds (effect_in_session device plan commands (if b then Again device.sessions.status else Old))
+  again : (b : Bool) → is_again device.sessions asked.id ≡ b → Holds (effect_in_session device.kind device.journal plan commands (if b then Again device.sessions.status else Old))
   again true e = again_taken device.sessions asked.id e
   again false e = tt
 
   new : (b : Bool) → is_new device.sessions asked.id ≡ b
-      → Holds (effect_in_session device plan commands (if b then New (device.sessions.taken + 1) else (if is_again device.sessions asked.id then Again device.sessions.status else Old)))
+      → Holds (effect_in_session device.kind device.journal plan commands (if b then New (device.sessions.taken + 1) else (if is_again device.sessions asked.id then Again device.sessions.status else Old)))
   new true e = verdict_taken device plan asked (judged_message device.kind (value_of device) (last_level_of device) (end_of channel) batch commands)
   new false e = again (is_again device.sessions asked.id) refl
 
-  supervised : (b : Bool) → Holds (if b then effect_in_session device plan commands (heard_of device.sessions asked.id) else Ignores)
+  supervised : (b : Bool) → Holds (if b then effect_in_session device.kind device.journal plan commands (heard_of device.sessions asked.id) else Ignores)
   supervised true = new (is_new device.sessions asked.id) refl
   supervised false = tt
 
@@ -320,15 +323,6 @@ get_taken device payload message asked opened session = rw opened (message_taken
 abbrev pub later : State → State
 later device = record device { sessions = record { taken = device.sessions.taken + 1; status = device.sessions.status } }
 
-untold_same : (device : State) (end : ℕ) (message : InfoMessage) → effect_untold (later device) end message ≡ effect_untold device end message
-untold_same device end (Core (SwitchBinarySet value)) = refl
-untold_same device end WakeUpNoMoreInformation = refl
-untold_same device end _ = refl
-
-alone_same : (device : State) (end : ℕ) (read : Result InfoMessage ClassFault) → effect_alone (later device) end read ≡ effect_alone device end read
-alone_same device end (Ok message) = ap (telling (told device.kind (value_of device) end message)) (untold_same device end message)
-alone_same device end (Err fault) = refl
-
 answer_same : (device : State) (plan : Plan) (effect : Effect) → plan.session ≡ None → answer_of (later device) plan effect ≡ answer_of device plan effect
 answer_same device plan Ignores none = refl
 answer_same device plan Sleeps none = refl
@@ -337,18 +331,18 @@ answer_same device plan (Sets settings) none = refl
 answer_same device plan (Repeats status) none = rw none refl
 answer_same device plan (Takes verdict) none = rw none refl
 
+-- what a message does without Supervision goes by kind and journal alone
 none_same : (device : State) (plan : Plan) (commands : List (List ℕ)) → plan.session ≡ None
-    → answer_of (later device) plan (effect_by (later device) plan commands None) ≡ answer_of device plan (effect_by device plan commands None)
-none_same device plan commands none =
-    answer_same device plan (effect_by (later device) plan commands None) none
-    ∙ ap (λ (e : Effect). answer_of device plan (if plan.batch then Ignores else e)) (alone_same device (end_of plan.channel) (info_at (only_of commands)))
+    → answer_of (later device) plan (effect_by device.kind device.journal (later device).sessions plan commands None)
+    ≡ answer_of device plan (effect_by device.kind device.journal device.sessions plan commands None)
+none_same device plan commands none = answer_same device plan (effect_by device.kind device.journal device.sessions plan commands None) none
 
 message_same : (device : State) (message : Message) → message.plan.session ≡ None → (answers (later device) message).answer ≡ (answers device message).answer
 unfolding answers effect_of
 message_same device message none =
-    ap (λ (s : Option Supervised). option_map (worded (answer_plan message.plan)) (answer_of (later device) message.plan (effect_by (later device) message.plan message.commands s))) none
+    ap (λ (s : Option Supervised). option_map (worded (answer_plan message.plan)) (answer_of (later device) message.plan (effect_by device.kind device.journal (later device).sessions message.plan message.commands s))) none
     ∙ (ap (option_map (worded (answer_plan message.plan))) (none_same device message.plan message.commands none)
-    ∙ ap (λ (s : Option Supervised). option_map (worded (answer_plan message.plan)) (answer_of device message.plan (effect_by device message.plan message.commands s))) (sym none))
+    ∙ ap (λ (s : Option Supervised). option_map (worded (answer_plan message.plan)) (answer_of device message.plan (effect_by device.kind device.journal device.sessions message.plan message.commands s))) (sym none))
 
 pub openly_same : (device : State) (payload : List ℕ) → IsNoGet payload → (hears_openly (later device) payload).replies ≡ (hears_openly device payload).replies
 unfolding hears_openly answers_bytes

@@ -13,7 +13,7 @@ use Rattle.host_orders.specs.declared.carriage.Carriage.{Carriage}
 use Rattle.host_heard.specs.Telling.{heard_at}
 use Rattle.host_heard.specs.declared.payload.Heard.TheVariants.{Messages}
 use Rattle.host_heard.specs.declared.told.Told.TheVariants.{Report}
-use Rattle.device_stack.specs.Answers.{report_status}
+use Rattle.device_effects.specs.Answers.{report_status}
 use Rattle.message_facts.specs.Others.{IsOther}
 use Rattle.message_facts.specs.Reporting.{TellsNone}
 

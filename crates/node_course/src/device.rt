@@ -1,6 +1,6 @@
 //! The device of a node, in the course of its sessions.
 
-ghost use Rattle.std.specs.Prelude.{◌≡◌, ℕ, true, false, List, []};
+ghost use Rattle.std.specs.Prelude.{◌≡◌, ℕ, true, List, []};
 ghost use Rattle.courses.specs.Sessions.{Course, Cargo, first_course};
 ghost use Rattle.device_kinds.specs.declared.kind.Kind.{Kind};
 ghost use Rattle.device_sim.specs.State.{State, fresh};

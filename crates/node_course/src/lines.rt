@@ -1,6 +1,6 @@
 //! Labels beside what is on its way on the serial line.
 
-ghost use Rattle.std.specs.Prelude.{ℕ, List, [], Option};
+ghost use Rattle.std.specs.Prelude.{ℕ, List, Option};
 ghost use Rattle.supervision.specs.Ends.{Report};
 ghost use Rattle.chip_sim.specs.State.{ChipState};
 ghost use Rattle.chip_sim.specs.Events.{ChipEvent};

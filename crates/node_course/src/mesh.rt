@@ -1,13 +1,13 @@
 //! What arrives on the air, in the course of one node.
 
-ghost use Rattle.std.specs.Prelude.{◌≡◌, ◌≢◌, ℕ, ◌<◌, List, [], Some, None, Option, slice_get, slice_set};
+ghost use Rattle.std.specs.Prelude.{◌≡◌, ℕ, ◌<◌, List, [], Some, None, Option, slice_get, slice_set};
 ghost use Rattle.courses.specs.Sessions.{Course};
 ghost use Rattle.courses.specs.SessionFacts.{CourseFacts};
 ghost use Rattle.route_table.specs.declared.route.Route.{Route as TheRoute};
 ghost use Rattle.air_frames.specs.Ages.{refusal_of};
 ghost use Rattle.device_sim.specs.State.{State};
 ghost use Rattle.device_sim.specs.Event.{DeviceEvent, Ticks, device_after, device_replies};
-ghost use Rattle.mesh_sim.specs.Air.{AirState, is_joined};
+ghost use Rattle.mesh_sim.specs.Air.{is_joined};
 ghost use Rattle.mesh_sim.specs.Fates.{Mesh, place_of};
 ghost use Rattle.mesh_sim.specs.Steps.{Arrives, Repeats, mesh_after, mesh_outs, MayHappen, answered_if};
 ghost use Rattle.node_course.specs.Meaning.{Asked};

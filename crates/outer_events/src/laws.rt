@@ -1,6 +1,6 @@
 //! Events of one list after another.
 
-ghost use Rattle.std.specs.Prelude.{◌≡◌, List, [], ◌∷◌, ◌++◌};
+ghost use Rattle.std.specs.Prelude.{◌≡◌, List, [], ◌++◌};
 ghost use Rattle.zw_text.specs.declared.entry.Entry.{Entry};
 ghost use Rattle.outer_events.specs.State.{Outside};
 ghost use Rattle.outer_events.specs.Events.{OuterEvent};

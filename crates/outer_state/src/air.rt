@@ -1,6 +1,6 @@
 //! The air: frames that arrive or are heard again, and what is sent.
 
-ghost use Rattle.std.specs.Prelude.{◌≡◌, ◌+◌, ◌-◌, ◌<◌, ◌≤◌, ◌^◌, ◌++◌, ◌∷◌, [], ℕ, length, map, Option, Some, None, OnOk, OnErr, MatchResult, List as Items};
+ghost use Rattle.std.specs.Prelude.{◌≡◌, ◌+◌, ◌-◌, ◌<◌, ◌^◌, ◌++◌, ◌∷◌, [], ℕ, length, map, Option, Some, None, OnOk, OnErr, MatchResult, List as Items};
 ghost use Rattle.std.specs.Option.{ForSome, option_map};
 ghost use Rattle.std.specs.List.{flat_map};
 ghost use Rattle.route_table.specs.declared.route.Route.{Route as TheRoute};

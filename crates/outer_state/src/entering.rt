@@ -1,6 +1,6 @@
 //! What was told becomes entries of the transcript.
 
-ghost use Rattle.std.specs.Prelude.{◌≡◌, ◌++◌, ◌+◌, ◌≤◌, ◌∷◌, [], length, OnOk, OnErr, if◌then◌else◌, ◌&&◌, ◌||◌, not};
+ghost use Rattle.std.specs.Prelude.{◌≡◌, ◌++◌, ◌+◌, ◌≤◌, ◌∷◌, [], length, OnOk, OnErr, ◌&&◌, ◌||◌};
 ghost use Rattle.outer_events.specs.Events.{stamp, has_entered, ticked_entry};
 ghost use Rattle.outer_events.specs.Did.{Enters};
 ghost use Rattle.outer_events.specs.State.{tells};

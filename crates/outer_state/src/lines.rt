@@ -1,6 +1,6 @@
 //! What lines set of the air, the chip or time.
 
-ghost use Rattle.std.specs.Prelude.{◌≡◌, ◌+◌, ◌<◌, ◌^◌, max, OnOk, OnErr};
+ghost use Rattle.std.specs.Prelude.{◌≡◌, ◌+◌, ◌<◌, max, OnOk, OnErr};
 ghost use Rattle.chip_sim.specs.Events.{Collides, after};
 ghost use Rattle.mesh_sim.specs.Air.{linking};
 ghost use Rattle.outer_events.specs.State.{with_chip};

@@ -1,6 +1,6 @@
 //! Nodes that join, and the links that the chip learns of them.
 
-ghost use Rattle.std.specs.Prelude.{◌≡◌, ◌+◌, ◌-◌, ◌<◌, ◌≤◌, ◌&&◌};
+ghost use Rattle.std.specs.Prelude.{◌≡◌, ◌+◌, ◌-◌, ◌<◌, ◌&&◌};
 ghost use Rattle.route_table.specs.Network.{linked};
 ghost use Rattle.chip_sim.specs.Did.{after_all};
 ghost use Rattle.mesh_sim.specs.Air.{is_joined};

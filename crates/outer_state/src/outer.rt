@@ -1,6 +1,6 @@
 //! What is outside the host, but for the devices.
 
-ghost use Rattle.std.specs.Prelude.{◌≡◌, ◌+◌, ◌≤◌, true, false, nat_lt, OnOk, OnErr, IfOk};
+ghost use Rattle.std.specs.Prelude.{◌≡◌, ◌+◌, ◌≤◌, true, false, OnOk, OnErr, IfOk};
 ghost use Rattle.serial_frame.specs.Stream.{no_rest};
 ghost use Rattle.chip_sim.specs.State.{fresh_chip};
 ghost use Rattle.chip_sim.specs.Events.{Joined, Linked, after};

@@ -1,8 +1,6 @@
 //! Where the outputs of the chip go.
 
-ghost use Rattle.std.specs.Prelude.{◌≡◌, ◌++◌, ◌+◌, ◌≤◌, ◌∷◌, [], All, filter, Some, OnOk, OnErr, IfOk};
-ghost use Rattle.route_table.specs.Route.{via};
-ghost use Rattle.chip_sim.specs.Events.{Ticked, after};
+ghost use Rattle.std.specs.Prelude.{◌≡◌, All, Some, OnOk, IfOk};
 ghost use Rattle.outer_events.specs.State.{Does, each};
 ghost use Rattle.outer_events.specs.Chip.{put_out, shown_via, IsSendable, chip_ticks};
 

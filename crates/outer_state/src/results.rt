@@ -1,6 +1,6 @@
 //! Results that the chip is given: of frames, of payloads without a route, and of nodes' information.
 
-ghost use Rattle.std.specs.Prelude.{◌≡◌, ◌+◌, ◌∷◌, [], length, drop, slice_get, OnOk};
+ghost use Rattle.std.specs.Prelude.{◌≡◌, length, drop, slice_get, OnOk};
 ghost use Rattle.std.specs.Option.{option_copied};
 ghost use Rattle.chip_sim.specs.Events.{Informed, FitsProfile};
 ghost use Rattle.outer_events.specs.State.{Does};

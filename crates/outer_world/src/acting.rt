@@ -1,18 +1,12 @@
 //! What devices do of themselves or by hand.
 
-ghost use Rattle.std.specs.Prelude.{◌≡◌, ◌⊎◌, ◌+◌, ◌<◌, ◌≤◌, ◌^◌, ◌++◌, ◌∷◌, [], length, map, drop, Option, Some, None, OnOk, OnErr};
-ghost use Rattle.std.specs.Option.{ForSome, option_map};
-ghost use Rattle.std.specs.List.{flat_map};
+ghost use Rattle.std.specs.Prelude.{◌≡◌, ◌+◌, ◌<◌, ◌^◌, ◌++◌, length, map, drop, Option, Some, None, OnOk, OnErr};
 ghost use Rattle.route_table.specs.declared.route.Route.{Route as TheRoute};
-ghost use Rattle.air_frames.specs.Flown.{IsSound};
-ghost use Rattle.device_sim.specs.Event.{Wakes, Sets, device_after, device_replies};
-ghost use Rattle.mesh_sim.specs.Routes.{backwards};
+ghost use Rattle.device_sim.specs.Event.{device_after, device_replies};
 ghost use Rattle.mesh_sim.specs.Fates.{place_of};
 ghost use Rattle.outer_events.specs.State.{outside, Does};
-ghost use Rattle.outer_events.specs.Results.{device_at};
-ghost use Rattle.outer_events.specs.Air.{sent_entries};
 ghost use Rattle.outer_world.specs.Acting.{act_event, HasActed, HasActedByHand};
-ghost use Rattle.outer_events.specs.Devices.{acts, sends_over, changes_entries, HasWay, acts_by_hand, set_by_hand, MayActByHand, shown_entries};
+ghost use Rattle.outer_events.specs.Devices.{acts, changes_entries, HasWay, acts_by_hand, set_by_hand, MayActByHand};
 ghost use Rattle.outer_events.specs.Events.{Shows};
 ghost use Rattle.outer_events.specs.Did.{RunOf, FrontOf, Stops, GoesFor, Enters};
 ghost use Rattle.outer_events.specs.Schedules.{DeviceTicks, IsWake, IsSet, IsOne};

@@ -1,7 +1,6 @@
 //! Frames that arrive or are repeated.
 
-ghost use Rattle.std.specs.Prelude.{◌≡◌, ◌+◌, ◌-◌, ◌<◌, ◌≤◌, ◌^◌, ◌++◌, ◌∷◌, [], ℕ, length, map, Option, OnOk, OnErr, List as Items};
-ghost use Rattle.route_table.specs.declared.route.Route.{Route as TheRoute};
+ghost use Rattle.std.specs.Prelude.{◌≡◌, ◌-◌, ◌<◌, ◌^◌, length, map, OnOk, OnErr};
 ghost use Rattle.outer_events.specs.State.{outside, tells};
 ghost use Rattle.air_frames.specs.declared.ages.Refusal.{Refusal as Refused};
 ghost use Rattle.mesh_sim.specs.Faults.{fault_of};

@@ -1,6 +1,6 @@
 //! What happened on the air is told, and the chip learns of it.
 
-ghost use Rattle.std.specs.Prelude.{◌≡◌, ◌+◌, ◌<◌, ◌≤◌, ◌^◌, ◌++◌, ◌∷◌, [], length, map, slice_get, OnOk, OnErr, Some};
+ghost use Rattle.std.specs.Prelude.{◌≡◌, ◌+◌, ◌<◌, ◌^◌, ◌++◌, length, map, slice_get, OnOk, OnErr, Some};
 ghost use Rattle.outer_events.specs.State.{Does, each};
 ghost use Rattle.outer_events.specs.Did.{Enters};
 ghost use Rattle.outer_events.specs.Results.{device_at};

@@ -1,8 +1,7 @@
 //! What is read of a device in a box, and what it does.
 
-ghost use Rattle.std.specs.Prelude.{◌≡◌, ◌+◌, ◌<◌, ◌≤◌, ◌^◌, ◌++◌, ◌∷◌, [], length, map, All, Some, IfOk, OnOk, OnErr};
+ghost use Rattle.std.specs.Prelude.{◌≡◌, ◌+◌, ◌<◌, ◌^◌, ◌++◌, [], length, map, Some, IfOk, OnOk, OnErr};
 ghost use Rattle.chip_sim.specs.Events.{FitsProfile};
-ghost use Rattle.device_stack.specs.Worded.{IsPayload};
 ghost use Rattle.device_sim.specs.Event.{device_after, device_replies};
 ghost use Rattle.mesh_sim.specs.Fates.{place_of};
 ghost use Rattle.outer_events.specs.Results.{told_profile, device_at};

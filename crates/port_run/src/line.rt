@@ -1,6 +1,6 @@
 //! Reading the words after `host`, of which each is a line.
 
-ghost use Rattle.std.specs.Prelude.{◌≡◌, ◌^◌, ◌<◌, ℕ, length, IfOk, IfErr};
+ghost use Rattle.std.specs.Prelude.{◌≡◌, ◌^◌, ◌<◌, length, IfOk, IfErr};
 ghost use Rattle.zw_words.specs.Words.{words};
 ghost use Rattle.zw_words.specs.Fields.{Gives};
 ghost use Rattle.port_run.specs.Lines.{port_at, port_from, wanted_at, IsWanted, is_served, texts_of, AreRead, FailsBy};

@@ -1,6 +1,6 @@
 //! The steps of the host of a port: each is one call of the host, and the units that it puts out are written before the next.
 
-ghost use Rattle.std.specs.Prelude.{◌≡◌, ◌+◌, ◌≤◌, ◌∷◌, [], ℕ, List as Items, Option, length, OnOk, IfErr, IfOk, IsErrOf};
+ghost use Rattle.std.specs.Prelude.{◌+◌, ◌≤◌, ◌∷◌, [], ℕ, List as Items, Option, length, OnOk, IfErr, IfOk, IsErrOf};
 ghost use Rattle.std.specs.Io.KnownBytes.{Appends, Consumes};
 ghost use Rattle.zw_base.specs.Faults.{Rose};
 ghost use Rattle.line_stream.specs.declared.reader.TheConstants.{MAX_INPUT, PIECE};

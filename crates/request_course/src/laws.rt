@@ -1,6 +1,6 @@
 //! What holds of every course of requests.
 
-ghost use Rattle.std.specs.Prelude.{◌≡◌, ◌≤◌, ℕ, Bool, List};
+ghost use Rattle.std.specs.Prelude.{◌≤◌, Bool, List};
 ghost use Rattle.request_course.specs.Requests.{Traffic, Step, Takes, no_traffic, after, after_all, May, MayAll};
 ghost use Rattle.request_course.specs.Facts.{RequestFacts, flying};
 

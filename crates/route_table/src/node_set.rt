@@ -1,6 +1,6 @@
 //! A set of nodes as a mask of 256 bits, of which bit n stands for node n.
 
-ghost use Rattle.std.specs.Prelude.{◌≡◌, ℕ, ◌<◌, ◌||◌, ◌&&◌, not, true, false, nat_eq, MatchOption};
+ghost use Rattle.std.specs.Prelude.{◌≡◌, ℕ, ◌<◌, ◌||◌, ◌&&◌, not, false, nat_eq, MatchOption};
 ghost use Rattle.route_table.specs.NodeSet.{has, IsFirst};
 
 const WORDS: usize = 4;

@@ -1,6 +1,6 @@
 //! Routes from node 1: the search by levels, and the greedy choice of the lowest numbers.
 
-ghost use Rattle.std.specs.Prelude.{◌≡◌, ℕ, ◌≤◌, ◌<◌, length, take, drop, List, ◌≢◌, All, IfSome, IfNone, IsNone, MatchOption};
+ghost use Rattle.std.specs.Prelude.{◌≡◌, ℕ, ◌≤◌, ◌<◌, drop, List, ◌≢◌, All, IfSome, IfNone, IsNone};
 ghost use Rattle.route_table.specs.Walk.{Walk, ComesFirst};
 ghost use Rattle.route_table.specs.Route.{via};
 ghost use Rattle.route_table.specs.Levels.{Reaches, IsDepth};

@@ -1,6 +1,6 @@
 //! The table of links and repeaters.
 
-ghost use Rattle.std.specs.Prelude.{◌≡◌, ◌≢◌, ℕ, ◌<◌, ◌||◌, ◌&&◌, true, false, nat_eq, length, IsTrue, MatchOption, ◌≤◌, ◌↔◌, cond};
+ghost use Rattle.std.specs.Prelude.{◌≡◌, ◌≢◌, ℕ, ◌<◌, false, nat_eq, length, IsTrue, MatchOption, ◌≤◌, ◌↔◌, cond};
 ghost use Rattle.std.specs.FinSet as set;
 ghost use Rattle.route_table.specs.NodeSet.{has};
 ghost use Rattle.route_table.specs.Network.{link_of, linked, no_network};

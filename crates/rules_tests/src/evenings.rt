@@ -7,7 +7,6 @@ use std::alloc::Global;
 use std::process::Abort;
 use std::test::Fail;
 use supervision::{FAIL, SUCCESS, Told, WORKING};
-use wake_mailbox::NotWaiting;
 use zw_base::{Bytes, NodeId, Payload, read_node};
 
 const NETWORK: [u8; 16] = [7; 16];

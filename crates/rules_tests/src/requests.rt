@@ -4,7 +4,7 @@ mod acts;
 mod courses;
 
 use crate::rows::check_row;
-use acts::{Act, Ask, At, is_at, payload, perform, push};
+use acts::{Act, Ask, is_at, payload, perform, push};
 use courses::{COURSES, Row};
 use host_requests::{QUEUE_CAPACITY, Requests, Task};
 use serial_frame::{Frame, Unit, encode};

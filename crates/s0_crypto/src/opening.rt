@@ -1,6 +1,6 @@
 //! Opening.
 
-ghost use Rattle.std.specs.Prelude.{◌≡◌, ℕ, ◌-◌, ◌≤◌, ◌<◌, ◌↔◌, List, [], ◌∷◌, length, take, slice_index, IfOk, IsErrOf, IsTrue, MatchResult};
+ghost use Rattle.std.specs.Prelude.{◌≡◌, ℕ, ◌-◌, ◌≤◌, ◌<◌, ◌↔◌, List, length, slice_index, IfOk, IsErrOf, IsTrue, MatchResult};
 ghost use Rattle.s0_crypto.specs.Modes.{key_block, ofb_from};
 ghost use Rattle.s0_crypto.specs.Seal.{Seals};
 ghost use Rattle.s0_crypto.specs.Opening.{nonce_in, IsBadlyCoded, HasOtherSequence, IsGood};

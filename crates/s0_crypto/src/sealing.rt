@@ -1,6 +1,6 @@
 //! Sealing.
 
-ghost use Rattle.std.specs.Prelude.{◌≡◌, ◌≤◌, ◌+◌, ◌∷◌, ◌++◌, length, IfOk};
+ghost use Rattle.std.specs.Prelude.{◌≡◌, ◌≤◌, ◌+◌, ◌∷◌, length, IfOk};
 ghost use Rattle.s0_crypto.specs.Modes.{ofb};
 ghost use Rattle.s0_crypto.specs.Seal.{Seals};
 

@@ -1,6 +1,6 @@
 //! The laws of orders that were said.
 
-ghost use Rattle.std.specs.Prelude.{◌≡◌, ℕ, Option, List, [], ◌++◌};
+ghost use Rattle.std.specs.Prelude.{ℕ, Option, List, [], ◌++◌};
 ghost use Rattle.s0_crypto.specs.declared.key_pair.Keys.{Keys};
 ghost use Rattle.device_sim.specs.State.{State};
 ghost use Rattle.zw_text.specs.declared.entry.Entry.{Entry};

@@ -17,8 +17,8 @@ use Rattle.device_kinds.specs.declared.kind.Kind.{Kind}
 use Rattle.device_kinds.specs.declared.kind.Kind.TheVariants.{Lock}
 use Rattle.device_kinds.specs.declared.verdict.Verdict.{Verdict}
 use Rattle.device_kinds.specs.Kind.{listens, host_node}
-use Rattle.device_stack.specs.Answers.{report_status}
-use Rattle.device_stack.specs.Sealing.{keys_of, sealed_text}
+use Rattle.device_effects.specs.Answers.{report_status}
+use Rattle.device_effects.specs.Sealing.{keys_of, sealed_text}
 use Rattle.device_stack.specs.State.{State, fresh}
 use Rattle.device_sim.specs.Event.{Hears, device_after}
 use Rattle.message_facts.specs.Asking.{verdict_on, Follows}

@@ -26,8 +26,8 @@ use Rattle.encap.specs.declared.plan.Plan.{Plan}
 use Rattle.encap.specs.declared.plan.Supervised.{Supervised}
 use Rattle.device_kinds.specs.declared.kind.Kind.{Kind}
 use Rattle.device_kinds.specs.declared.kind.Kind.TheVariants.{Lock}
-use Rattle.device_stack.specs.declared.effect.Effect.{Effect}
-use Rattle.device_stack.specs.declared.effect.Effect.TheVariants as effects
+use Rattle.device_effects.specs.declared.effect.Effect.{Effect}
+use Rattle.device_effects.specs.declared.effect.Effect.TheVariants as effects
 use Rattle.device_kinds.specs.declared.verdict.Verdict.{Verdict}
 use Rattle.device_kinds.specs.declared.verdict.Verdict.TheVariants.{NoSupport, Fails, Makes, Works}
 use Rattle.device_kinds.specs.Kind.{listens, lists, has_end, main_name_of, tells, host_node}
@@ -36,11 +36,12 @@ use Rattle.device_kinds.specs.Values.{value_by}
 use Rattle.device_kinds.specs.Settings.{merged}
 use Rattle.device_kinds.specs.Judging.{judged_set, judged, judged_all, judged_message}
 use Rattle.device_kinds.specs.Telling.{told}
-use Rattle.device_stack.specs.Effects.{end_of, set_plainly, effect_untold, telling, effect_alone, effect_in_session, effect_by, effect_of, takes, after_effect}
+use Rattle.device_effects.specs.Effects.{end_of, set_plainly, effect_untold, telling, effect_alone, effect_in_session, effect_by}
+use Rattle.device_stack.specs.Effects.{effect_of, takes, after_effect}
 use Rattle.device_stack.specs.Hearing.{Answered, answers, sent_sealed, hears_inside, hears_plain, hears_for, hears_sealed, seals_for, takes_nonce, hears_nonces, hears_securely, hears_by, active, hears}
 use Rattle.device_stack.specs.Ticking.{aged, works_out, ticked, woken, by_hand, tells_by_hand, main_told, set_by_hand}
 use Rattle.device_kinds.specs.Telling.{report_of as value_report}
-use Rattle.device_stack.specs.Sealing.{keys_of, unsealed_at, sealed_text}
+use Rattle.device_effects.specs.Sealing.{keys_of, unsealed_at, sealed_text}
 use Rattle.device_sim.specs.Event.{DeviceEvent, Hears, Ticks, Wakes, Sets, outcome_of, device_after, device_replies}
 use Rattle.courses.specs.NodeNonces.{taken_as}
 use Rattle.seal_facts.specs.Payloads.{IsOffer, IsUnnumbered}
@@ -116,7 +117,7 @@ plainly_calm kind end (Works settings) = tt
 plainly_calm kind end Fails = tt
 plainly_calm kind end NoSupport = tt
 
-untold_calm : (device : State) (end : ℕ) (message : InfoMessage) → device.kind ≡ Lock → IsCalm (effect_untold device end message)
+untold_calm : (device : State) (end : ℕ) (message : InfoMessage) → device.kind ≡ Lock → IsCalm (effect_untold device.kind device.journal end message)
 untold_calm device end (Core (SwitchBinarySet value)) kind = plainly_calm device.kind end (judged_set device.kind (value_of device) (last_level_of device) end (SwitchBinarySet value))
 untold_calm device end WakeUpNoMoreInformation kind = rw kind tt
 untold_calm device end _ kind = tt
@@ -125,26 +126,26 @@ telling_calm : (report : Option InfoMessage) (effect : Effect) → IsCalm effect
 telling_calm (Some report) effect is = tt
 telling_calm None effect is = is
 
-alone_calm : (device : State) (end : ℕ) (read : Result InfoMessage ClassFault) → device.kind ≡ Lock → IsCalm (effect_alone device end read)
-alone_calm device end (Ok message) kind = telling_calm (told device.kind (value_of device) end message) (effect_untold device end message) (untold_calm device end message kind)
+alone_calm : (device : State) (end : ℕ) (read : Result InfoMessage ClassFault) → device.kind ≡ Lock → IsCalm (effect_alone device.kind device.journal end read)
+alone_calm device end (Ok message) kind = telling_calm (told device.kind (value_of device) end message) (effect_untold device.kind device.journal end message) (untold_calm device end message kind)
 alone_calm device end (Err fault) kind = tt
 
-in_session_calm : (device : State) (plan : Plan) (commands : List (List ℕ)) (heard : Heard) → device.kind ≡ Lock → IsCalm (effect_in_session device plan commands heard)
+in_session_calm : (device : State) (plan : Plan) (commands : List (List ℕ)) (heard : Heard) → device.kind ≡ Lock → IsCalm (effect_in_session device.kind device.journal plan commands heard)
 in_session_calm device plan commands (New session) kind =
     subst (λ (k : Kind). NoWork (judged_message k (value_of device) (last_level_of device) (end_of plan.channel) plan.batch commands)) (sym kind)
     (message_no_work (value_of device) (last_level_of device) (end_of plan.channel) plan.batch commands)
 in_session_calm device plan commands (Again status) kind = tt
 in_session_calm device plan commands Old kind = tt
 
-by_calm : (device : State) (plan : Plan) (commands : List (List ℕ)) (asked : Option Supervised) → device.kind ≡ Lock → IsCalm (effect_by device plan commands asked)
+by_calm : (device : State) (plan : Plan) (commands : List (List ℕ)) (asked : Option Supervised) → device.kind ≡ Lock → IsCalm (effect_by device.kind device.journal device.sessions plan commands asked)
 by_calm device plan commands (Some asked) kind = by (lists device.kind 0x6C)
   where
-    by : (b : Bool) → IsCalm (if b then effect_in_session device plan commands (heard_of device.sessions asked.id) else effects.Ignores)
+    by : (b : Bool) → IsCalm (if b then effect_in_session device.kind device.journal plan commands (heard_of device.sessions asked.id) else effects.Ignores)
     by true = in_session_calm device plan commands (heard_of device.sessions asked.id) kind
     by false = tt
 by_calm device plan commands None kind = by plan.batch
   where
-    by : (b : Bool) → IsCalm (if b then effects.Ignores else effect_alone device (end_of plan.channel) (info_at (only_of commands)))
+    by : (b : Bool) → IsCalm (if b then effects.Ignores else effect_alone device.kind device.journal (end_of plan.channel) (info_at (only_of commands)))
     by true = tt
     by false = alone_calm device (end_of plan.channel) (info_at (only_of commands)) kind
 
@@ -181,7 +182,7 @@ effect_keeps device plan (effects.Takes verdict) is = by plan.session refl
 
 answers_keep : (device : State) (message : Message) → device.kind ≡ Lock → Keeps device (answers device message).device
 unfolding answers effect_of
-answers_keep device message kind = effect_keeps device message.plan (effect_by device message.plan message.commands message.plan.session) (by_calm device message.plan message.commands message.plan.session kind)
+answers_keep device message kind = effect_keeps device message.plan (effect_by device.kind device.journal device.sessions message.plan message.commands message.plan.session) (by_calm device message.plan message.commands message.plan.session kind)
 
 lock_of : (old new : State) → Keeps old new → IsLock old → IsLock new
 lock_of old new keeps is = record {

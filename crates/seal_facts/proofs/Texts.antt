@@ -17,7 +17,7 @@ use Rattle.class_info.proofs.InfoLaws.{again}
 use Rattle.class_info.proofs.FormLaws.{form_spells}
 use Rattle.class_info.proofs.OwnLaws.{written_wholes}
 use Rattle.encap.specs.Opening.{begins_with}
-use Rattle.device_stack.specs.Sealing.{cipher_text_of, sealed_text}
+use Rattle.device_effects.specs.Sealing.{cipher_text_of, sealed_text}
 use Rattle.seal_facts.specs.Payloads.{report_of}
 use Rattle.message_facts.proofs.Bare.{never_ends}
 

@@ -1,6 +1,6 @@
 -- What waits at a lock to be sealed, and what it says then (this project's own rule over the Supervision and Security 0 Command Classes).
 use Rattle.std.specs.Prelude.{◌≡◌, ◌<◌, ℕ, List, [], ◌∷◌, Some}
-use Rattle.device_stack.specs.Sealing.{keys_of}
+use Rattle.device_effects.specs.Sealing.{keys_of}
 use Rattle.device_stack.specs.State.{State}
 use Rattle.message_facts.specs.Reporting.{TellsOwn}
 use Rattle.seal_facts.specs.Payloads.{IsSealed}

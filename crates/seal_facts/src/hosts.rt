@@ -1,6 +1,6 @@
 //! What the host makes of nonces and of what it seals, event by event.
 
-ghost use Rattle.std.specs.Prelude.{◌≡◌, ℕ, ◌<◌, List, Bool, Some, None, length};
+ghost use Rattle.std.specs.Prelude.{◌≡◌, ℕ, ◌<◌, List, Bool, None, length};
 ghost use Rattle.s0_session.specs.Nonces.{account_of, after_give};
 ghost use Rattle.host_node.specs.State.{NodeState};
 ghost use Rattle.host_node.specs.Events.{NodeEvent, after as after_node};

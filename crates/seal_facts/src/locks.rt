@@ -1,13 +1,12 @@
 //! What a lock makes of nonces and of what is sealed for it.
 
-ghost use Rattle.std.specs.Prelude.{◌≡◌, ◌⊎◌, ℕ, false, List, length, slice_index, is_some, None};
+ghost use Rattle.std.specs.Prelude.{◌≡◌, ◌⊎◌, ℕ, List, length, slice_index, is_some, None};
 ghost use Rattle.s0_session.specs.Nonces.{nonce_spent};
 ghost use Rattle.device_kinds.specs.declared.kind.Kind.TheVariants as kinds;
-ghost use Rattle.device_stack.specs.Sealing.{keys_of, sealed_text};
+ghost use Rattle.device_effects.specs.Sealing.{keys_of, sealed_text};
 ghost use Rattle.device_sim.specs.State.{State, fresh, host_node};
 ghost use Rattle.device_sim.specs.Event.{DeviceEvent, Hears, device_after, device_replies};
 ghost use Rattle.courses.specs.NodeNonces.{taken_as};
-ghost use Rattle.seal_facts.specs.Numbers.{IsNonce};
 ghost use Rattle.seal_facts.specs.Payloads.{IsOffer, IsUnnumbered};
 ghost use Rattle.seal_facts.specs.Locks.{IsLock, Ignores, Offers, SealsIf, Spends, SpendsNone, IsUnheard};
 

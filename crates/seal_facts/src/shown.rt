@@ -6,7 +6,7 @@ ghost use Rattle.air_frames.specs.declared.frame.Heading.TheVariants.{Outward, H
 ghost use Rattle.air_frames.specs.Ages.{is_class, stale_by};
 ghost use Rattle.air_frames.specs.History.{Mark, Goes, Begins};
 ghost use Rattle.air_frames.specs.Nonces.{nonce_in};
-ghost use Rattle.seal_facts.specs.Payloads.{IsOffer, report_of};
+ghost use Rattle.seal_facts.specs.Payloads.{IsOffer};
 ghost use Rattle.seal_facts.specs.Shown.{HasShown};
 
 /// The air counts the nonces of both ends together: each Nonce Report that shows the last nonce again, or the one after it, makes the count the sum of both numbers; nothing else between

@@ -19,7 +19,7 @@ use Rattle.courses.specs.NodeNonces.{taken_as}
 use Rattle.courses.specs.NodeNonceFacts.{NonceFacts as NodeFacts}
 use Rattle.courses.specs.HostNonces as host
 use Rattle.courses.specs.NonceLaws.{NamesLive, TakesOffer}
-use Rattle.device_stack.specs.Sealing.{keys_of}
+use Rattle.device_effects.specs.Sealing.{keys_of}
 use Rattle.device_sim.specs.State.{State, host_node}
 use Rattle.device_sim.specs.Event.{DeviceEvent, Hears, device_after, device_replies}
 use Rattle.message_facts.specs.Asking.{verdict_on, IsLeft, Follows}

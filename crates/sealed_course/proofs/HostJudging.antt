@@ -47,7 +47,7 @@ use Rattle.host_heard.specs.declared.payload.Heard.TheVariants.{Messages}
 use Rattle.host_heard.specs.declared.told.Told.{Told}
 use Rattle.host_heard.specs.declared.told.Told.TheVariants.{Report, NonceGet, NonceReport}
 use Rattle.host_node.specs.State.{SealsText, count_at}
-use Rattle.device_stack.specs.Answers.{report_status}
+use Rattle.device_effects.specs.Answers.{report_status}
 use Rattle.host_events.specs.State.{HostState, node_of}
 use Rattle.host_events.specs.After.{after, is_busy, gives_up}
 use Rattle.host_events.specs.Taking.{FinalEvents, ReportEvents, NonceGetEvents, NonceReportEvents, AreTaken, ends_from, PayloadEvents, InterviewEvents, ResponseEvents, NoticeEvents, FrameEvents, told_if, IsFollowed}

@@ -9,7 +9,7 @@ use Rattle.air_frames.specs.Ages.{is_class}
 use Rattle.air_frames.specs.Nonces.{nonce_in}
 use Rattle.s0_crypto.specs.declared.key_pair.Keys.{Keys}
 use Rattle.s0_crypto.specs.declared.ends.SealEnds.{SealEnds}
-use Rattle.device_stack.specs.Sealing.{sealed_text}
+use Rattle.device_effects.specs.Sealing.{sealed_text}
 use Rattle.courses.specs.Parts.{numbered}
 use Rattle.seal_facts.specs.Numbers.{IsNonce}
 use Rattle.seal_facts.specs.Payloads.{IsOffer, IsSealed}

@@ -4,7 +4,7 @@ use Rattle.transport_segments.specs.Kept.{Empty}
 use Rattle.s0_session.specs.declared.account.Account.{Account}
 use Rattle.courses.specs.NodeNonces as node
 use Rattle.device_sim.specs.State.{State}
-use Rattle.device_stack.specs.Sealing.{keys_of}
+use Rattle.device_effects.specs.Sealing.{keys_of}
 use Rattle.device_course.specs.Ending.{HasEnded}
 use Rattle.message_facts.specs.Reporting.{CanSay}
 use Rattle.seal_facts.specs.Numbers.{IsNonce, HasGiven}

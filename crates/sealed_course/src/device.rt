@@ -1,9 +1,9 @@
 //! A lock, in its courses.
 
-ghost use Rattle.std.specs.Prelude.{◌≡◌, ℕ, Bool, true, false, List, [], length};
+ghost use Rattle.std.specs.Prelude.{◌≡◌, ℕ, Bool, false, List, [], length};
 ghost use Rattle.courses.specs.NodeNonceFacts.{NonceFacts as NodeFacts};
 ghost use Rattle.device_kinds.specs.declared.kind.Kind.TheVariants as kinds;
-ghost use Rattle.device_stack.specs.Sealing.{keys_of};
+ghost use Rattle.device_effects.specs.Sealing.{keys_of};
 ghost use Rattle.device_sim.specs.State.{State, fresh};
 ghost use Rattle.device_sim.specs.Event.{DeviceEvent, Hears, device_after, device_replies};
 ghost use Rattle.node_course.specs.Making.{Makes, Names, HearsNone};

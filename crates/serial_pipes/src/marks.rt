@@ -1,6 +1,6 @@
 //! What is to happen to the next units of a side.
 
-ghost use Rattle.std.specs.Prelude.{◌≡◌, ◌++◌, ◌+◌, ◌-◌, ◌∷◌, [], length, IfOk, OnOk, OnErr};
+ghost use Rattle.std.specs.Prelude.{◌≡◌, ◌++◌, ◌+◌, ◌-◌, ◌∷◌, [], OnOk, OnErr};
 ghost use Rattle.serial_pipes.specs.State.{mark_for, used_up};
 
 use serial_frame::Unit;

@@ -1,6 +1,6 @@
 //! Bytes on their way.
 
-ghost use Rattle.std.specs.Prelude.{◌≡◌, ◌++◌, ◌+◌, ◌≤◌, [], length, take, drop, min, nat_le, IfOk, if◌then◌else◌};
+ghost use Rattle.std.specs.Prelude.{◌≡◌, ◌++◌, ◌+◌, ◌≤◌, [], length, take, drop, min, IfOk};
 ghost use Rattle.serial_pipes.specs.State.{fits, joined};
 
 use circular_buffer::HeapCircularBuffer;

@@ -1,7 +1,6 @@
 //! One direction of the serial line.
 
-ghost use Rattle.std.specs.Prelude.{◌≡◌, ◌++◌, ◌+◌, ◌≤◌, ◌∷◌, [], length, take, drop, min, IfOk, OnOk, OnErr};
-ghost use Rattle.serial_frame.specs.Items.{unit_text};
+ghost use Rattle.std.specs.Prelude.{◌≡◌, ◌++◌, ◌+◌, ◌≤◌, ◌∷◌, length, take, drop, min, IfOk, OnOk, OnErr};
 ghost use Rattle.serial_pipes.specs.State.{empty_way, garbled, joined, overrun};
 ghost use Rattle.serial_pipes.specs.Events.{after, told, told_by, passing, Writes, Takes, Clears, Loses, Changes};
 

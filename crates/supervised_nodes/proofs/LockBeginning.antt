@@ -3,7 +3,7 @@ use Rattle.std.proofs.Common.{◌≡◌, ℕ, List, Some, refl, sym, ap, subst, 
 use Rattle.std.specs.List.{AllByRecursion}
 use Rattle.device_kinds.specs.declared.kind.Kind.{Kind}
 use Rattle.device_kinds.specs.declared.kind.Kind.TheVariants as kinds
-use Rattle.device_stack.specs.Sealing.{keys_of}
+use Rattle.device_effects.specs.Sealing.{keys_of}
 use Rattle.device_sim.specs.State.{State, fresh}
 use Rattle.zw_laws.specs.Headline.{IsAsMade}
 use Rattle.zw_laws.specs.Nodes.{device_of}

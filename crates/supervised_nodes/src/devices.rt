@@ -2,13 +2,13 @@
 
 ghost use Rattle.std.specs.Prelude.{ℕ, List, [], Some};
 ghost use Rattle.std.specs.List.{AllByRecursion};
-ghost use Rattle.device_stack.specs.Sealing.{keys_of};
+ghost use Rattle.device_effects.specs.Sealing.{keys_of};
 ghost use Rattle.device_sim.specs.State.{State};
 ghost use Rattle.zw_text.specs.declared.line.Line.{Line};
 ghost use Rattle.zw_laws.specs.Headline.{IsAsMade};
 ghost use Rattle.zw_machine.specs.State.{first_machine};
 ghost use Rattle.zw_machine.specs.Events.{Event};
-ghost use Rattle.zw_machine.specs.Did.{happens_all, MayAll};
+ghost use Rattle.zw_machine.specs.Did.{MayAll};
 ghost use Rattle.line_facts.specs.Line.{AreLines};
 ghost use Rattle.supervised_nodes.specs.Supervised.{IsPlainOrLock, IsSupervisedNode};
 

@@ -2,7 +2,7 @@
 
 ghost use Rattle.std.specs.Prelude.{◌≡◌, ℕ, List, Some, []};
 ghost use Rattle.std.specs.List.{AllByRecursion};
-ghost use Rattle.device_stack.specs.Sealing.{keys_of};
+ghost use Rattle.device_effects.specs.Sealing.{keys_of};
 ghost use Rattle.device_sim.specs.State.{State};
 ghost use Rattle.zw_laws.specs.Headline.{IsAsMade};
 ghost use Rattle.zw_laws.specs.Nodes.{device_of};

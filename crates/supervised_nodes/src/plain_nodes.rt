@@ -13,7 +13,7 @@ ghost use Rattle.s0_crypto.specs.declared.key_pair.Keys.{Keys};
 ghost use Rattle.zw_text.specs.declared.line.Line.{Line};
 ghost use Rattle.zw_machine.specs.State.{first_machine};
 ghost use Rattle.zw_machine.specs.Events.{Event};
-ghost use Rattle.zw_machine.specs.Did.{happens_all, MayAll};
+ghost use Rattle.zw_machine.specs.Did.{MayAll};
 ghost use Rattle.line_facts.specs.Line.{AreLines};
 ghost use Rattle.node_course.specs.World.{OrdersPlain};
 ghost use Rattle.once_facts.specs.Tied.{AreTied};

@@ -6,7 +6,7 @@ use Rattle.zw_base.specs.declared.property.Setting.{Setting}
 use Rattle.encap.specs.Opening.{Message, opened_at}
 use Rattle.device_kinds.specs.declared.verdict.Verdict.{Verdict}
 use Rattle.device_kinds.specs.declared.verdict.Verdict.TheVariants as verdicts
-use Rattle.device_stack.specs.Effects.{end_of}
+use Rattle.device_effects.specs.Effects.{end_of}
 use Rattle.device_kinds.specs.Judging.{judged_message}
 use Rattle.device_stack.specs.State.{State, value_of, last_level_of}
 use Rattle.device_kinds.specs.Values.{value_by, level_by}

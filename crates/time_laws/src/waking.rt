@@ -1,13 +1,11 @@
 //! What the laws of waking, sleeping and holds say of worked transcripts, and of others with one thing wrong.
 
-ghost use Rattle.std.specs.Prelude.{[], ◌∷◌};
 ghost use Rattle.time_laws.specs.Holds.{HoldsAsAsked};
 ghost use Rattle.time_laws.specs.Waking.{WakesAsTold, FallsAsleep};
 ghost use Rattle.time_laws.specs.WorkedWaits.{given_up_asleep, held_node};
 ghost use Rattle.time_laws.specs.WrongEntries.{asleep_though_listening, held_though_listening};
 ghost use Rattle.time_laws.specs.WrongWaits.{asleep_untold, asleep_unwoken, awake_untold, given_up_awake, held_unasked, not_held, sleep_passed_over, waking_passed_over};
-ghost use Rattle.zw_laws.specs.Nodes.{listing_of};
-ghost use Rattle.zw_laws.specs.Worked.{cancelled_order, long_message, lossy_exchange, plain_exchange, repeated_exchange, restarted_host, sealed_exchange, sleeping_node, the_sensor};
+ghost use Rattle.zw_laws.specs.Worked.{cancelled_order, long_message, lossy_exchange, plain_exchange, repeated_exchange, restarted_host, sealed_exchange, sleeping_node};
 ghost use Rattle.time_laws.specs.WorkedEnds.{asleep_behind_lost, asleep_given_up, asleep_in_silence};
 ghost use Rattle.time_laws.specs.WrongEnds.{asleep_again, asleep_before_end, asleep_by_other};
 ghost use Rattle.time_laws.specs.WorkedWaking.{awake_behind_lost, awake_by_sealed, held_failing, held_unsupported};

@@ -1,9 +1,8 @@
 //! The changes of devices.
 
-ghost use Rattle.std.specs.Prelude.{◌≡◌, ℕ, ◌∷◌, ◌<◌, List as Items, Some, not, IfOk, OnOk};
+ghost use Rattle.std.specs.Prelude.{◌≡◌, ◌∷◌, ◌<◌, List as Items, Some, not, IfOk, OnOk};
 ghost use Rattle.zw_base.specs.declared.property.Setting.{Setting};
 ghost use Rattle.transcript_books.specs.Accepting.{order_at, to_node};
-ghost use Rattle.transcript_books.specs.Beginning.{command_at, sessions_of};
 ghost use Rattle.transcript_books.specs.Changing.{IsChangingAfter, breaks_by_session, breaks_change, breaks_command, breaks_dev, breaks_ending, command_of, greatest_after, greatest_of, has_changed, is_asked, no_changes};
 ghost use Rattle.transcript_books.specs.Ending.{ending_in};
 ghost use Rattle.transcript_books.specs.Groups.{IsBehind, IsGroup, maker_at, maker_by};

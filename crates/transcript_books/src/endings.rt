@@ -1,7 +1,6 @@
 //! How commands ended.
 
 ghost use Rattle.std.specs.Prelude.{◌≡◌, ℕ, OnOk};
-ghost use Rattle.zw_text.specs.declared.entry.Ended.{Ended as AnyEnded};
 ghost use Rattle.transcript_books.specs.Ending.{ended_so, ending_after, ending_in, is_failure, is_success, no_ending};
 
 use std::alloc::Global;

@@ -1,7 +1,7 @@
 //! Numbers of entries are in the ranges of their types.
 
 ghost use Rattle.std.specs.List.{AllByRecursion};
-ghost use Rattle.zw_text.specs.Fits.{AreBytes, ByFits, EntryFits, IsByte, IsEight, IsFour, IsNode, NameFits, OptionFits, PropertyFits, RefusalFits, SettingFits};
+ghost use Rattle.zw_text.specs.Fits.{AreBytes, ByFits, EntryFits, IsEight, IsFour, IsNode, NameFits, OptionFits, PropertyFits, RefusalFits, SettingFits};
 
 use zw_base::{By, Name, NodeId, Property, Setting};
 use zw_text::{Entry, Refusal};

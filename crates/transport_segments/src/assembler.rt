@@ -1,7 +1,6 @@
 //! Datagrams put together from their segments.
 
-ghost use Rattle.std.specs.Prelude.{◌≡◌, ℕ, ◌+◌, ◌-◌, ◌<◌, ◌≤◌, ◌↔◌, length, take, drop, map, replicate, Some, None, IsTrue, IfOk, IfErr, OnOk, MatchOption};
-ghost use Rattle.transport_segments.specs.Segment.{IsSegment};
+ghost use Rattle.std.specs.Prelude.{◌≡◌, ◌+◌, ◌-◌, ◌<◌, ◌≤◌, ◌↔◌, length, take, drop, map, replicate, Some, None, IsTrue, IfOk, IfErr, OnOk, MatchOption};
 ghost use Rattle.transport_segments.specs.Faults.{IsSound, MayAnswer};
 ghost use Rattle.transport_segments.specs.Places.{written, IsFull};
 ghost use Rattle.transport_segments.specs.Kept.{Empty, Partial, kept_len, with_payload};

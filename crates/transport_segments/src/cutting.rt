@@ -1,6 +1,6 @@
 //! The segments of a datagram.
 
-ghost use Rattle.std.specs.Prelude.{◌≡◌, ℕ, ◌+◌, ◌*◌, ◌<◌, ◌≤◌, ◌++◌, length, IfOk};
+ghost use Rattle.std.specs.Prelude.{◌≡◌, ◌+◌, ◌*◌, ◌<◌, ◌≤◌, ◌++◌, length, IfOk};
 ghost use Rattle.transport_segments.specs.Segment.{segment_front, segment_text};
 ghost use Rattle.transport_segments.specs.Parts.{Parts, slice_at};
 

@@ -1,6 +1,6 @@
 //! What follows of the definitions alone: the segments of a datagram, in any order and with any repeats, give it back.
 
-ghost use Rattle.std.specs.Prelude.{◌≡◌, ℕ, ◌≤◌, List, [], ◌∷◌, slice_get, Some};
+ghost use Rattle.std.specs.Prelude.{ℕ, ◌≤◌, List, []};
 ghost use Rattle.transport_segments.specs.Parts.{Parts};
 ghost use Rattle.transport_segments.specs.Kept.{Reassembly, Empty};
 ghost use Rattle.transport_segments.specs.Reassembly.{Takes};

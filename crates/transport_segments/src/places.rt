@@ -1,9 +1,8 @@
 //! The map from the places of a datagram to the bytes that came, as a list of places.
 
-ghost use Rattle.std.specs.Prelude.{◌≡◌, ℕ, ◌+◌, ◌<◌, ◌≤◌, ◌++◌, ◌↔◌, length, map, replicate, Some, None, IsTrue, IfOk, OnOk, MatchOption, slice_get};
+ghost use Rattle.std.specs.Prelude.{◌≡◌, ℕ, ◌+◌, ◌<◌, ◌≤◌, ◌++◌, ◌↔◌, length, replicate, Some, None, IsTrue, OnOk};
 ghost use Rattle.transport_segments.specs.Places.{written, IsMissing, IsThere, IsFull, present};
 
-use std::alloc::Global;
 use zw_base::{Bytes, NoMemory};
 
 /// Forgets every byte.

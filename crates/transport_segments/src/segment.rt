@@ -1,10 +1,9 @@
 //! The fields of one segment.
 
-ghost use Rattle.std.specs.Prelude.{◌≡◌, ℕ, ◌+◌, ◌<◌, ◌≤◌, ◌↔◌, length, IsTrue, IsNone, IsSome, IfSome, IfOk, IfErr};
+ghost use Rattle.std.specs.Prelude.{◌≡◌, ◌+◌, ◌<◌, ◌↔◌, length, IsTrue, IsSome, IfSome, IfOk, IfErr};
 ghost use Rattle.std.specs.Option.{SomeIff};
-ghost use Rattle.transport_segments.specs.Segment.{IsSegment, id_of, size_of, offset_of, header_len, extension_of, payload_of, check_of, covered_of};
+ghost use Rattle.transport_segments.specs.Segment.{IsSegment, id_of, size_of, offset_of, payload_of, check_of, covered_of};
 ghost use Rattle.transport_segments.specs.Faults.{IsSound, IsFaultOf};
-ghost use Rattle.zw_base.specs.Crc.{crc};
 
 use crate::SegmentFault;
 use zw_base::crc_ccitt;

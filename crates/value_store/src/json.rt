@@ -1,7 +1,7 @@
 //! The values of a node as JSON.
 
-ghost use Rattle.std.specs.Prelude.{◌≡◌, ◌++◌, IfOk, map, string_bytes};
-ghost use Rattle.serde_json.specs.View.{items_view, items_of, view};
+ghost use Rattle.std.specs.Prelude.{◌≡◌, IfOk, map, string_bytes};
+ghost use Rattle.serde_json.specs.View.{view};
 ghost use Rattle.value_store.specs.ValueText.{held_data, name_text, node_data, property_text, value_data, values_text};
 
 use crate::stored::Held;

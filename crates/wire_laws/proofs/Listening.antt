@@ -20,16 +20,17 @@ use Rattle.s0_session.specs.Nonces.{after_spend, nonce_spent}
 use Rattle.s0_session.specs.Sending.{taken_from}
 use Rattle.device_kinds.specs.declared.kind.Kind.{Kind}
 use Rattle.device_kinds.specs.declared.kind.Kind.TheVariants.{Lock}
-use Rattle.device_stack.specs.declared.effect.Effect.{Effect}
-use Rattle.device_stack.specs.declared.effect.Effect.TheVariants.{Ignores, Sleeps, Tells, Sets, Repeats, Takes}
+use Rattle.device_effects.specs.declared.effect.Effect.{Effect}
+use Rattle.device_effects.specs.declared.effect.Effect.TheVariants.{Ignores, Sleeps, Tells, Sets, Repeats, Takes}
 use Rattle.device_kinds.specs.declared.verdict.Verdict.{Verdict}
 use Rattle.device_kinds.specs.declared.verdict.Verdict.TheVariants.{NoSupport, Fails, Makes, Works}
 use Rattle.device_kinds.specs.Kind.{listens, lists, has_end}
 use Rattle.device_stack.specs.State.{State, silent, value_of, last_level_of}
 use Rattle.device_kinds.specs.Judging.{judged_set}
 use Rattle.device_kinds.specs.Telling.{told}
-use Rattle.device_stack.specs.Sealing.{keys_of, unsealed_at}
-use Rattle.device_stack.specs.Effects.{end_of, set_plainly, effect_untold, telling, effect_alone, effect_in_session, effect_by, effect_of, takes, after_effect}
+use Rattle.device_effects.specs.Sealing.{keys_of, unsealed_at}
+use Rattle.device_effects.specs.Effects.{end_of, set_plainly, effect_untold, telling, effect_alone, effect_in_session, effect_by}
+use Rattle.device_stack.specs.Effects.{effect_of, takes, after_effect}
 use Rattle.device_stack.specs.Hearing.{Answered, answers, nonce_named, sent_sealed, hears_inside, hears_plain, hears_for, hears_sealed, seals_for, hears_nonces, hears_securely, hears_by, active, hears}
 use Rattle.device_stack.specs.Ticking.{aged, works_out, ticked, woken, set_by_hand}
 use Rattle.device_sim.specs.Event.{DeviceEvent, outcome_of, device_after}
@@ -68,7 +69,7 @@ plainly_stays kind end (Works settings) = tt
 plainly_stays kind end Fails = tt
 plainly_stays kind end NoSupport = tt
 
-untold_stays : (device : State) (end : ℕ) (message : InfoMessage) → IsUp device → Stays (effect_untold device end message)
+untold_stays : (device : State) (end : ℕ) (message : InfoMessage) → IsUp device → Stays (effect_untold device.kind device.journal end message)
 untold_stays device end (Core (SwitchBinarySet value)) up =
     plainly_stays device.kind end (judged_set device.kind (value_of device) (last_level_of device) end (SwitchBinarySet value))
 untold_stays device end WakeUpNoMoreInformation up =
@@ -79,24 +80,24 @@ telling_stays : (report : Option InfoMessage) (effect : Effect) → Stays effect
 telling_stays (Some report) effect stays = tt
 telling_stays None effect stays = stays
 
-alone_stays : (device : State) (end : ℕ) (read : Result InfoMessage ClassFault) → IsUp device → Stays (effect_alone device end read)
-alone_stays device end (Ok message) up = telling_stays (told device.kind (value_of device) end message) (effect_untold device end message) (untold_stays device end message up)
+alone_stays : (device : State) (end : ℕ) (read : Result InfoMessage ClassFault) → IsUp device → Stays (effect_alone device.kind device.journal end read)
+alone_stays device end (Ok message) up = telling_stays (told device.kind (value_of device) end message) (effect_untold device.kind device.journal end message) (untold_stays device end message up)
 alone_stays device end (Err fault) up = tt
 
-session_stays : (device : State) (plan : Plan) (commands : List (List ℕ)) (heard : Heard) → Stays (effect_in_session device plan commands heard)
+session_stays : (device : State) (plan : Plan) (commands : List (List ℕ)) (heard : Heard) → Stays (effect_in_session device.kind device.journal plan commands heard)
 session_stays device plan commands (New session) = tt
 session_stays device plan commands (Again status) = tt
 session_stays device plan commands Old = tt
 
-by_stays : (device : State) (plan : Plan) (commands : List (List ℕ)) (session : Option Supervised) → IsUp device → Stays (effect_by device plan commands session)
+by_stays : (device : State) (plan : Plan) (commands : List (List ℕ)) (session : Option Supervised) → IsUp device → Stays (effect_by device.kind device.journal device.sessions plan commands session)
 by_stays device plan commands None up = alone plan.batch
   where
-    alone : (b : Bool) → Stays (if b then Ignores else effect_alone device (end_of plan.channel) (info_at (only_of commands)))
+    alone : (b : Bool) → Stays (if b then Ignores else effect_alone device.kind device.journal (end_of plan.channel) (info_at (only_of commands)))
     alone true = tt
     alone false = alone_stays device (end_of plan.channel) (info_at (only_of commands)) up
 by_stays device plan commands (Some asked) up = supervised (lists device.kind 0x6C)
   where
-    supervised : (b : Bool) → Stays (if b then effect_in_session device plan commands (heard_of device.sessions asked.id) else Ignores)
+    supervised : (b : Bool) → Stays (if b then effect_in_session device.kind device.journal plan commands (heard_of device.sessions asked.id) else Ignores)
     supervised true = session_stays device plan commands (heard_of device.sessions asked.id)
     supervised false = tt
 

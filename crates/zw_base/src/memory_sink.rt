@@ -1,6 +1,6 @@
 //! A sink into memory, of which chosen writes fail. It serves tests.
 
-ghost use Rattle.std.specs.Prelude.{◌≡◌, ◌++◌, ◌<◌, ◌≤◌, length, [], IfOk, OnOk, OnErr, IsErr, Contains, Some};
+ghost use Rattle.std.specs.Prelude.{◌≡◌, ◌<◌, ◌≤◌, length, [], IfOk, OnOk, OnErr, IsErr, Contains, Some};
 ghost use Rattle.std.specs.Io.{WritesAtMost};
 ghost use Rattle.std.specs.Io.KnownBytes.{WriteAppends};
 ghost use Rattle.zw_base.specs.Faults.{Rose, raised};

@@ -1,6 +1,6 @@
 //! What a device keeps: properties of its end points, and the settings that give them values.
 
-ghost use Rattle.std.specs.Prelude.{◌≡◌, ℕ};
+ghost use Rattle.std.specs.Prelude.{◌≡◌};
 ghost use Rattle.std.specs.Ordering.{nat_cmp};
 ghost use Rattle.std.specs.Cmp.Lexicographic.{slice_cmp};
 ghost use Rattle.zw_base.specs.PropertyOrder.{rank_of};

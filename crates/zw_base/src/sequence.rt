@@ -1,6 +1,6 @@
 //! Short lists inside values that contracts compare.
 
-ghost use Rattle.std.specs.Prelude.{◌≡◌, List as Items, [], ◌∷◌, ◌++◌, length, IfOk, OnOk, OnErr};
+ghost use Rattle.std.specs.Prelude.{◌≡◌, [], ◌∷◌, ◌++◌, length, IfOk, OnOk, OnErr};
 
 use crate::NoMemory;
 use std::alloc::Global;

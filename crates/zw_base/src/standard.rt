@@ -1,6 +1,6 @@
 //! The trusted edge: std's readers and writers as a source and a sink. They tell nothing of bytes, and count faults.
 
-ghost use Rattle.std.specs.Prelude.{◌≡◌, ◌<◌, ◌≤◌, length, IfOk, OnOk, OnErr};
+ghost use Rattle.std.specs.Prelude.{◌≡◌, ◌<◌};
 
 use crate::{Failed, Sink, Source};
 use std::io::{Read, Write};

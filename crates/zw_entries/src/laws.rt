@@ -1,6 +1,6 @@
 //! Laws on the texts of entries and transcripts. Each is the contract of a function without a body.
 
-ghost use Rattle.std.specs.Prelude.{◌≡◌, ℕ, List};
+ghost use Rattle.std.specs.Prelude.{◌≡◌, List};
 ghost use Rattle.zw_text.specs.Entry.{entry_text, transcript_text};
 ghost use Rattle.zw_text.specs.Fits.{EntryFits, IsOneLine, feeds};
 ghost use Rattle.zw_text.specs.declared.entry.Entry.{Entry as AnyEntry};

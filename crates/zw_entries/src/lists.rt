@@ -1,7 +1,7 @@
 //! Entries with a list, and those with a text that was taken from outside.
 
 ghost use Rattle.std.specs.Prelude.{◌≡◌, IfOk, drop, map, nat_lt};
-ghost use Rattle.zw_entries.specs.Reading.{air_back, at, back, neighbours_back, sessions_back, text_of, but_last, first_byte, four_back, last_of, node_back, nodes_back, numbers_back, parts};
+ghost use Rattle.zw_entries.specs.Reading.{air_back, at, back, neighbours_back, sessions_back, text_of, but_last, first_byte, last_of, nodes_back, numbers_back, parts};
 
 use crate::parts::{all_words, eight, first, four, node, part, payload};
 use crate::rows::{unit_row, word};

@@ -11,7 +11,7 @@ use Rattle.host_heard.specs.declared.payload.Heard.{Heard}
 use Rattle.host_heard.specs.declared.payload.Heard.TheVariants.{Messages, Sealed, Unread}
 use Rattle.host_heard.specs.declared.told.Told.{Told}
 use Rattle.host_heard.specs.declared.told.Told.TheVariants as told
-use Rattle.device_stack.specs.Sealing.{keys_of, unsealed_at}
+use Rattle.device_effects.specs.Sealing.{keys_of, unsealed_at}
 use Rattle.chip_functions.specs.declared.notice.Notice.TheVariants.{ApplicationUpdate}
 use Rattle.chip_functions.specs.declared.notice.Update.TheVariants.{Received}
 use Rattle.zw_text.specs.declared.entry.Ended.{Ended}

@@ -11,7 +11,7 @@ use Rattle.supervision.specs.Host.{command_at}
 use Rattle.transport_segments.specs.Segment.{segment_text}
 use Rattle.transport_segments.specs.Parts.{slice_at}
 use Rattle.std.specs.Prelude.{◌*◌, ◌<◌}
-use Rattle.device_stack.specs.Sealing.{keys_of, sealed_text}
+use Rattle.device_effects.specs.Sealing.{keys_of, sealed_text}
 use Rattle.zw_words.specs.declared.side.Side.TheVariants.{Host}
 use Rattle.zw_text.specs.declared.line.Line.{Line}
 use Rattle.zw_text.specs.declared.line.Line.TheVariants as lines

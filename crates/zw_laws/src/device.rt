@@ -1,6 +1,6 @@
 //! What the laws of devices, of the table and of records say of worked transcripts.
 
-ghost use Rattle.std.specs.Prelude.{◌≡◌, true, [], ◌∷◌, replicate, Some, None};
+ghost use Rattle.std.specs.Prelude.{◌≡◌, [], ◌∷◌, replicate, Some, None};
 ghost use Rattle.zw_base.specs.declared.property.Name.TheVariants as names;
 ghost use Rattle.host_orders.specs.Settings.{setting, config_settings};
 ghost use Rattle.host_keep.specs.declared.final_status.FinalStatus.TheVariants as final;

@@ -1,6 +1,6 @@
 //! Reading lines.
 
-ghost use Rattle.std.specs.Prelude.{◌≡◌, ◌≢◌, ℕ, Ok, Err, Some, IfOk, MatchOption};
+ghost use Rattle.std.specs.Prelude.{◌≡◌, ◌≢◌, Ok, Err, Some, IfOk, MatchOption};
 ghost use Rattle.zw_words.specs.Words.{words};
 ghost use Rattle.zw_words.specs.Fields.{Gives};
 ghost use Rattle.zw_text.specs.Line.{IsNoLine, LineText, ReplayText, line_at, line_by, line_from, replay_at, replay_from};

@@ -1,6 +1,6 @@
 //! Words that are read in turn: each answers what the next word stands for, and the text behind it.
 
-ghost use Rattle.std.specs.Prelude.{◌≡◌, ℕ, ◌<◌, ◌≤◌, [], ◌∷◌, Ok, Err, IfOk, IfErr, IfSome, IfNone};
+ghost use Rattle.std.specs.Prelude.{◌≡◌, ◌<◌, ◌≤◌, [], ◌∷◌, Ok, Err, IfOk, IfErr};
 ghost use Rattle.zw_words.specs.Words.{words};
 ghost use Rattle.zw_words.specs.Forms.{between_in, hex_in, node_in, side_in, target_in, value_in};
 ghost use Rattle.zw_words.specs.Fields.{Gives, ends, last, next};

@@ -1,6 +1,6 @@
 //! What one word stands for.
 
-ghost use Rattle.std.specs.Prelude.{◌≡◌, ℕ, ◌+◌, ◌-◌, ◌*◌, ◌<◌, ◌≤◌, ◌^◌, length, position, ◌==◌, ◌&&◌, SomeIff, IfSome, IfOk, OnErr, IsSome};
+ghost use Rattle.std.specs.Prelude.{◌≡◌, ◌+◌, ◌-◌, ◌*◌, ◌<◌, ◌≤◌, ◌^◌, length, position, ◌==◌, ◌&&◌, SomeIff, IfSome, IfOk, OnErr, IsSome};
 ghost use Rattle.std.specs.Char.{is_ascii_hexdigit};
 ghost use Rattle.std.specs.List.{list_all};
 ghost use Rattle.zw_words.specs.Forms.{begins_number, between_in, digits_in, end_behind, hex_in, hex_length, node_in, number_in, side_in, target_in, value_in};

@@ -1,7 +1,7 @@
 //! Cutting a text into words.
 
-ghost use Rattle.std.specs.Prelude.{◌≡◌, ◌≢◌, ℕ, ◌<◌, ◌≤◌, [], ◌∷◌, length, slice_index, IfOk, IfErr, IfSome, IfNone, MatchOption, true, false, Ok, Err};
-ghost use Rattle.zw_words.specs.Words.{is_blank, is_remark, line_words, without_return, words};
+ghost use Rattle.std.specs.Prelude.{◌≡◌, ◌<◌, [], ◌∷◌, length, slice_index, IfOk, IfErr, IfSome, IfNone, MatchOption, false, Ok, Err};
+ghost use Rattle.zw_words.specs.Words.{is_blank, line_words, without_return, words};
 
 use crate::LineFault;
 

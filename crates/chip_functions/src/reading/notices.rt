@@ -1,6 +1,6 @@
 //! Notices, as the host reads them.
 
-ghost use Rattle.std.specs.Prelude.{◌≡◌, ℕ, ◌+◌, ◌≤◌, IfOk, IfErr, OnOk};
+ghost use Rattle.std.specs.Prelude.{◌≡◌, ◌≤◌, IfOk, IfErr};
 ghost use Rattle.chip_functions.specs.Place.{Gives, IsBodyFault};
 ghost use Rattle.chip_functions.specs.Seen.{place_of};
 ghost use Rattle.chip_functions.specs.Notice.{handler_at, callback_at, add_notice_at, received_at, request_failed_at, update, update_at, IsNoticeBody, notice_at, notice_of};

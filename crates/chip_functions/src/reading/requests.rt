@@ -1,6 +1,6 @@
 //! Requests, as the chip reads them.
 
-ghost use Rattle.std.specs.Prelude.{◌≡◌, ℕ, IfOk, IfErr};
+ghost use Rattle.std.specs.Prelude.{◌≡◌, IfOk, IfErr};
 ghost use Rattle.chip_functions.specs.Place.{Gives, IsBodyFault};
 ghost use Rattle.chip_functions.specs.Seen.{place_of};
 ghost use Rattle.chip_functions.specs.Request.{send_data_at, add_request_at, get_routing_info_at, IsRequestBody, request_at, request_of};

@@ -1,6 +1,6 @@
 //! The attempts of the open session: what they give, and how they end.
 
-ghost use Rattle.std.specs.Prelude.{◌≡◌, ◌<◌, ◌≤◌, ℕ, Option, IsTrue, OnSome, IfSome};
+ghost use Rattle.std.specs.Prelude.{◌≡◌, ◌<◌, Option, IsTrue};
 ghost use Rattle.supervision.specs.Session.{IsStatus};
 ghost use Rattle.supervision.specs.Host.{told_of};
 ghost use Rattle.host_node.specs.State.{has_segment};

@@ -1,8 +1,8 @@
 //! Commands: from the one that is put to wait, to the session that carries it.
 
-ghost use Rattle.std.specs.Prelude.{◌≡◌, ◌<◌, ◌≤◌, ℕ, None, length, OnOk, OnErr, IsOk, ◌↔◌, Contains};
+ghost use Rattle.std.specs.Prelude.{◌≡◌, ◌<◌, None, length, OnOk, OnErr, IsOk, ◌↔◌, Contains};
 ghost use Rattle.supervision.specs.Host.{begun_of, open_session};
-ghost use Rattle.host_node.specs.Steps.{after_put, after_take_back, after_accept, after_occasion, after_cancel, after_begin, after_block, new_series, oldest};
+ghost use Rattle.host_node.specs.Steps.{after_put, after_take_back, after_accept, after_occasion, after_cancel, after_begin, after_block, oldest};
 
 use crate::Series;
 use crate::node::Node;

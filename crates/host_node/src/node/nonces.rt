@@ -1,6 +1,6 @@
 //! Nonces of the node, and the plain text that is sealed for one.
 
-ghost use Rattle.std.specs.Prelude.{◌≡◌, ◌^◌, ◌≤◌, ◌↔◌, Some, None, IsTrue, IsSome, IfOk, OnErr, length};
+ghost use Rattle.std.specs.Prelude.{◌≡◌, ◌^◌, ◌↔◌, Some, IsTrue, IsSome, IfOk, OnErr};
 ghost use Rattle.host_node.specs.State.{count_at as counted, SealsText};
 ghost use Rattle.host_node.specs.Steps.{after_nonce, after_restore_seen};
 

@@ -1,7 +1,7 @@
 //! Ticks and restarts.
 
 ghost use Rattle.std.specs.Prelude.{◌≡◌};
-ghost use Rattle.host_node.specs.Steps.{after_hold_tick, after_again_tick, after_attempt_tick, attempt_tick_end, after_tick, tick_end, as_recorded, after_restart};
+ghost use Rattle.host_node.specs.Steps.{after_again_tick, after_attempt_tick, attempt_tick_end, after_tick, tick_end, as_recorded, after_restart};
 
 use crate::node::Node;
 use crate::{AttemptEnd, Moment, NoMore, Series};

@@ -2,7 +2,7 @@
 
 ghost use Rattle.std.specs.Prelude.{◌≡◌, IsTrue};
 ghost use Rattle.host_node.specs.State.{wants_no_more};
-ghost use Rattle.host_node.specs.Steps.{asleep, after_hold, after_notification, after_sleep, falls_asleep, after_no_more, after_no_more_end};
+ghost use Rattle.host_node.specs.Steps.{after_hold, after_notification, after_sleep, falls_asleep, after_no_more, after_no_more_end};
 
 use crate::NoMore;
 use crate::node::Node;

@@ -2,7 +2,7 @@
 use Rattle.std.proofs.Common.{◌≡◌, ℕ, Bool, List, [], ◌++◌, inl, inr, Option, Some, Ok, ap, sym, subst, ◌∙◌}
 use Rattle.std.specs.List.{AllByRecursion}
 use Rattle.s0_crypto.specs.declared.key_pair.Keys.{Keys}
-use Rattle.device_stack.specs.Sealing.{keys_of as device_keys}
+use Rattle.device_effects.specs.Sealing.{keys_of as device_keys}
 use Rattle.device_kinds.specs.Kind.{lists}
 use Rattle.device_kinds.specs.declared.kind.Kind.{Kind}
 use Rattle.device_sim.specs.State.{State}

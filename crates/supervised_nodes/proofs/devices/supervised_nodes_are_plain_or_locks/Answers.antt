@@ -1,6 +1,6 @@
 -- A plain device and a lock begin their courses; the orders for a plain node go unsealed.
 use Rattle.std.proofs.Common.{inl, inr}
-use Rattle.device_stack.specs.Sealing.{keys_of}
+use Rattle.device_effects.specs.Sealing.{keys_of}
 use Rattle.supervised_nodes.proofs.Sorting.{plain_or_lock}
 use Rattle.supervised_nodes.proofs.devices.supervised_nodes_are_plain_or_locks.Goals as goal
 

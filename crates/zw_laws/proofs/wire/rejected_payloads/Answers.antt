@@ -1,6 +1,6 @@
 use Rattle.std.proofs.Common.{◌≡◌, ℕ, suc, ◌*◌, List, [], ◌∷◌, length, slice_index, refl, inl, inr, ap, ◌∙◌, arith}
 use Rattle.std.specs.Prelude.{replicate, take, drop, codes, ⊤}
-use Rattle.device_stack.specs.Sealing.{sealed_text}
+use Rattle.device_effects.specs.Sealing.{sealed_text}
 use Rattle.zw_laws.specs.Nodes.{listing_of}
 use Rattle.zw_laws.specs.Units.{Carried}
 use Rattle.zw_laws.specs.Worked.{bytes, network_key, the_switch, the_lock, the_plug}

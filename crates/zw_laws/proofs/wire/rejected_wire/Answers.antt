@@ -15,7 +15,7 @@ use Rattle.class_info.specs.declared.report_status.ReportStatus.TheVariants as s
 use Rattle.host_heard.specs.Telling.{heard_at}
 use Rattle.host_heard.specs.declared.told.Told.{Told}
 use Rattle.host_heard.specs.declared.told.Told.TheVariants as told
-use Rattle.device_stack.specs.Sealing.{keys_of, unsealed_at}
+use Rattle.device_effects.specs.Sealing.{keys_of, unsealed_at}
 use Rattle.zw_text.specs.declared.entry.Entry.{Entry}
 use Rattle.zw_text.specs.Transcript.{sessions}
 use Rattle.zw_laws.specs.Causes.{told_plainly, IsReported, OneTells, OpensTo, TellsReport}

@@ -3,8 +3,9 @@ use Rattle.s0_session.specs.Sending.{Sending, SealsPending}
 use Rattle.device_stack.specs.State.{State, Outcome}
 use Rattle.device_stack.specs.Hearing.{takes_nonce}
 use Rattle.device_stack.specs.contracts.stack.Stack.{the_view}
-use Rattle.device_stack.proofs.SizeLemmas.{sealed_payload, only_payload}
-use Rattle.device_stack.proofs.SealingLemmas.{same_keys, takes_as}
+use Rattle.device_effects.proofs.SizeLemmas.{sealed_payload, only_payload}
+use Rattle.device_effects.proofs.SealingLemmas.{same_keys}
+use Rattle.device_stack.proofs.NonceLemmas.{takes_as}
 use Rattle.device_stack.proofs.stack.Stack.take_nonce.Goals as goal
 
 pub payload-requires : goal.payload-requires

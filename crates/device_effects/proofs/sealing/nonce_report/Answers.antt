@@ -1,6 +1,6 @@
 use Rattle.std.proofs.Common.{◌∙◌}
-use Rattle.device_stack.proofs.SizeLemmas.{nonce_payload}
-use Rattle.device_stack.proofs.sealing.nonce_report.Goals as goal
+use Rattle.device_effects.proofs.SizeLemmas.{nonce_payload}
+use Rattle.device_effects.proofs.sealing.nonce_report.Goals as goal
 
 pub payload-requires : goal.payload-requires
 payload-requires c =

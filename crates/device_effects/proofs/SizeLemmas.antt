@@ -12,7 +12,7 @@ use Rattle.class_fields.specs.Cell.{written}
 use Rattle.class_info.specs.Values.{wholes}
 use Rattle.class_info.specs.declared.message.InfoMessage.TheVariants.{NonceReport}
 use Rattle.class_info.specs.InfoSpelling.{form}
-use Rattle.device_stack.specs.Worded.{IsShort, IsPayload}
+use Rattle.device_effects.specs.Worded.{IsShort, IsPayload}
 
 length-wholes : (bs : List ℕ) → length (written (wholes bs)) ≡ length bs
 length-wholes [] = refl

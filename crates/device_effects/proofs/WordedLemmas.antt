@@ -17,9 +17,9 @@ use Rattle.encap.specs.declared.plan.Plan.{Plan}
 use Rattle.encap.specs.declared.plan.Ends.{Ends}
 use Rattle.encap.specs.declared.plan.Outer.{Outer}
 use Rattle.encap.specs.declared.plan.Outer.TheVariants.{None as no_outer, Crc16, Security, Transport}
-use Rattle.device_stack.specs.Answers.{worded}
+use Rattle.device_effects.specs.Answers.{worded}
 use Rattle.device_kinds.specs.Telling.{IsAnswer}
-use Rattle.device_stack.specs.Worded.{IsShort}
+use Rattle.device_effects.specs.Worded.{IsShort}
 
 -- a class and command that begin no encapsulation
 abbrev is_plain : ℕ → ℕ → Bool

@@ -1,8 +1,8 @@
 use Rattle.std.proofs.Common.{◌≡◌, Err, ◌∙◌, ap, arith}
 use Rattle.s0_crypto.specs.declared.key_pair.Keys.{Keys}
-use Rattle.device_stack.specs.Sealing.{keys_of, unsealed_at}
-use Rattle.device_stack.proofs.SealingLemmas.{same_keys, opened_is, badly_coded, other_sequence}
-use Rattle.device_stack.proofs.sealing.open.Goals as goal
+use Rattle.device_effects.specs.Sealing.{keys_of, unsealed_at}
+use Rattle.device_effects.proofs.SealingLemmas.{same_keys, opened_is, badly_coded, other_sequence}
+use Rattle.device_effects.proofs.sealing.open.Goals as goal
 
 pub returns-in-Ok : goal.returns-in-Ok
 returns-in-Ok c =

@@ -1,9 +1,9 @@
 use Rattle.std.proofs.Common.{◌≡◌, ℕ, List, ap, sym, ◌∙◌, subst}
 use Rattle.encap.specs.Written.{written_form}
-use Rattle.device_stack.specs.Answers.{worded}
-use Rattle.device_stack.specs.Worded.{IsShort}
-use Rattle.device_stack.proofs.WordedLemmas.{worded_short, wrappable, are_short}
-use Rattle.device_stack.proofs.answers.word.Goals as goal
+use Rattle.device_effects.specs.Answers.{worded}
+use Rattle.device_effects.specs.Worded.{IsShort}
+use Rattle.device_effects.proofs.WordedLemmas.{worded_short, wrappable, are_short}
+use Rattle.device_effects.proofs.answers.word.Goals as goal
 
 pub wrap-requires-clause-wrappable : goal.wrap-requires-clause-wrappable
 wrap-requires-clause-wrappable c =

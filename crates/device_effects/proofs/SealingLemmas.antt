@@ -1,6 +1,6 @@
 -- What opens is what the function says, and so is what is sealed.
-use Rattle.std.proofs.Common.{◌≡◌, ℕ, ◌-◌, ◌≤◌, List, [], ◌∷◌, ◌++◌, length, Bool, true, false, refl, sym, ◌∙◌, ap, arith, length-drop}
-use Rattle.std.specs.Prelude.{Option, Some, None, nat_le, replicate, slice_index, ◌==◌, ◌&&◌}
+use Rattle.std.proofs.Common.{◌≡◌, ℕ, ◌-◌, ◌≤◌, List, ◌∷◌, ◌++◌, length, Bool, true, false, refl, sym, ◌∙◌, ap, arith, length-drop}
+use Rattle.std.specs.Prelude.{Some, None, nat_le, replicate, slice_index, ◌==◌, ◌&&◌}
 use Rattle.std.specs.Bool.{Decides}
 use Rattle.std.specs.Str.{bytes_eq}
 use Rattle.std.proofs.lemmas.Bool.Decides.{Decides-eqb, Decides-and, Decides-like, nat_tests}
@@ -12,10 +12,7 @@ use Rattle.s0_crypto.specs.declared.ends.SealEnds.{SealEnds}
 use Rattle.s0_crypto.specs.Seal.{Seals, code_of}
 use Rattle.s0_crypto.specs.Opening.{nonce_in, code_wanted, code_in, sequence_in, IsGood, IsBadlyCoded, HasOtherSequence}
 use Rattle.s0_crypto.proofs.OpeningLemmas.{good_from_seals, seals_from_parts, header_of}
-use Rattle.s0_session.specs.Sending.{Sending, taken_from, SealsPending}
-use Rattle.device_stack.specs.State.{State, Outcome, silent}
-use Rattle.device_stack.specs.Sealing.{keys_of, plain_in, is_good, unsealed_at, sealed_text}
-use Rattle.device_stack.specs.Hearing.{seals_for, takes_nonce}
+use Rattle.device_effects.specs.Sealing.{keys_of, plain_in, is_good, unsealed_at, sealed_text}
 
 leb_decides : (a b : ℕ) → Decides (nat_le a b) (a ≤ b)
 leb_decides a b = (λ e. grind (arith, nat_tests), λ h. grind (arith, nat_tests))
@@ -72,24 +69,3 @@ pub sealed_is : (keys : Keys) (own nonce : List ℕ) (ends : SealEnds) (plain by
 unfolding sealed_text
 sealed_is keys own nonce ends plain bytes s =
     s.layout ∙ ap (λ (t : List ℕ). 0x98 ∷ 0x81 ∷ (own ++ (t ++ slice_index nonce 0 ∷ code_of keys (own ++ nonce) ends t))) s.enciphers
-
--- a nonce that is taken: the sealer is as it is after it, and the message is sent
-pub takes_as : (device : State) (keys : Keys) (nonce drawn bytes : List ℕ) (now : Sending) → keys ≡ keys_of device.key
-    → SealsPending device.sealing keys drawn nonce bytes now
-    → takes_nonce device nonce drawn ≡ record { device = record device { sealing = now }; replies = bytes ∷ [] }
-takes_as device keys nonce drawn bytes now k s =
-    let text : bytes ≡ sealed_text (keys_of device.key) drawn nonce device.sealing.ends s.plain =
-    sealed_is keys drawn nonce device.sealing.ends s.plain bytes s.seals ∙ ap (λ (x : Keys). sealed_text x drawn nonce device.sealing.ends s.plain) k in
-    ap (λ (a : Option ℕ). seals_for device nonce drawn a device.sealing.pending) s.counts
-    ∙ ap (λ (b : Option (List ℕ)). seals_for device nonce drawn (Some now.seen) b) s.was_pending
-    ∙ ap (λ (x : Sending). let o : Outcome = record { device = record device { sealing = x }; replies = sealed_text (keys_of device.key) drawn nonce device.sealing.ends s.plain ∷ [] } in o) (sym s.after)
-    ∙ ap (λ (x : List ℕ). let o : Outcome = record { device = record device { sealing = now }; replies = x ∷ [] } in o) (sym text)
-
--- one that is not taken: nothing is sent
-pub takes_none : (device : State) (nonce drawn : List ℕ) → taken_from device.sealing.pending device.sealing.seen (slice_index nonce 0) ≡ None
-    → takes_nonce device nonce drawn ≡ silent device
-takes_none device nonce drawn e = ap (λ (a : Option ℕ). seals_for device nonce drawn a device.sealing.pending) e
-
-pub none_of : {A : Type 0} (o : Option A) → ((x : A) → o ≡ Some x → ⊥) → o ≡ None
-none_of (Some x) h = absurd (h x refl)
-none_of None h = refl

@@ -1,0 +1,3 @@
+pub mod WordedLemmas
+pub mod SizeLemmas
+pub mod SealingLemmas
