@@ -3,3 +3,4 @@ pub mod Keeping
 pub mod Reading
 pub mod Speaking
 pub mod Unentered
+pub mod Tables

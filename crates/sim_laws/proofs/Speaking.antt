@@ -1,5 +1,5 @@
 -- A story as lines that were said: the words that are entered of a line are read as it.
-use Rattle.std.proofs.Common.{◌≡◌, ℕ, List, [], ◌∷◌, ◌++◌, Some, Ok, refl, ap, ◌∙◌}
+use Rattle.std.proofs.Common.{◌≡◌, ℕ, Bool, List, [], ◌∷◌, ◌++◌, Some, Ok, refl, ap, ◌∙◌}
 use Rattle.zw_text.specs.Line.{line_at}
 use Rattle.zw_text.specs.Transcript.{read_as}
 use Rattle.zw_text.specs.declared.line.Line.{Line}
@@ -13,9 +13,12 @@ use Rattle.entry_pieces.specs.Pieces.{said_text}
 use Rattle.said_facts.specs.Spoken.{Spoken, after_all, transcript_of}
 use Rattle.listing_facts.specs.Lines.{AreDone, events_of as events_said}
 use Rattle.listing_facts.proofs.Speaking.{all_after}
-use Rattle.sim_laws.specs.Laws.{Ran, events_of, transcript_from, AreBegun}
+use Rattle.scenario_run.specs.declared.status.Status.{Status}
+use Rattle.sim_laws.specs.Around.{Around}
+use Rattle.sim_laws.specs.Laws.{Ran, Tells, events_of, first, transcript_from, AreBegun}
+use Rattle.sim_laws.proofs.Stories.{is_begun}
 use Rattle.sim_laws.proofs.Keeping.{may_front, may_rest}
-use Rattle.sim_laws.proofs.Reading.{AreRead}
+use Rattle.sim_laws.proofs.Reading.{AreRead, texts_read}
 
 -- ---- the same story
 
@@ -40,7 +43,7 @@ same_machine m story = all_after m (all_said story) ∙ ap (λ (l : List Event).
 
 -- ---- they were said and done
 
-abbrev ReadAgain : Type 0
+abbrev pub ReadAgain : Type 0
 ReadAgain = (text : List ℕ) (line : Line) → line_at text ≡ Ok (Some line) → line_at (said_text text) ≡ Ok (Some line)
 
 before_said : (more : List Ran) (line : Line) (m : Machine) (events : List Event) → IsLineBefore more line m events → IsLineBefore (all_said more) line m events
@@ -57,3 +60,12 @@ all_done again m (ran ∷ more) read are may = (
   },
   all_done again (happens_all m ran.events) more read.1 are.1 (may_rest m ran.events (events_of more) may),
 )
+
+-- ---- of a run
+
+-- the lines of its story were said and done
+pub story_done : ReadAgain → (ended : Status) (key : List ℕ) (old new : Around) (quiet : Bool) (story : List Ran) (unentered : List Event) → Tells ended quiet key old new story unentered
+    → AreDone (first key old) (all_said story)
+story_done again ended key old new quiet story unentered tells =
+    all_done again (first key old) story (texts_read tells.ran.told.end story _ tells.lines) (is_begun tells.ran.told.end (first key old) story tells.scheduled)
+    (may_front (first key old) (events_of story) unentered tells.may)

@@ -2,6 +2,9 @@
 -- and the laws are of this story.
 use Rattle.std.specs.Prelude.{◌≡◌, ℕ, Bool, true, ◌⊎◌, List, [], ◌∷◌, ◌++◌, map, Option, Some}
 use Rattle.std.specs.List.{AllByRecursion}
+use Rattle.std.specs.Io.KnownBytes.{Appends}
+use Rattle.zw_text.specs.Entry.{transcript_text}
+use Rattle.zw_text.specs.Transcript.{lines_run}
 use Rattle.zw_text.specs.Line.{line_at}
 use Rattle.zw_text.specs.declared.line.Line.{Line}
 use Rattle.zw_text.specs.declared.entry.Entry.{Entry}
@@ -16,17 +19,25 @@ use Rattle.zw_machine.specs.Fronts.{IsLineBefore}
 use Rattle.scenario_run.specs.declared.running.LinesEnd.{LinesEnd}
 use Rattle.scenario_run.specs.declared.running.LinesEnd.TheVariants.{NoMemory}
 use Rattle.scenario_run.specs.declared.status.Status.{Status}
+use Rattle.scenario_run.specs.declared.status.Status.TheVariants.{Ok}
 use Rattle.entry_pieces.specs.Pieces.{said_text}
 use Rattle.entry_pieces.specs.Lines.{TextLine, lines_in}
-use Rattle.sim_run.specs.Sim.{SimRan}
+use Rattle.sim_run.specs.Sim.{SimRan, shown_text}
 use Rattle.host_facts.specs.Facts.{AreShown}
 use Rattle.host_facts.specs.Laws.{HostLaws}
 use Rattle.host_facts.specs.Stores.{StoresLaw}
 use Rattle.device_sim.specs.State.{State}
 use Rattle.device_facts.specs.GoingOn.{AreInOrder, AreSame, TakeOnce}
 use Rattle.device_facts.specs.Showing.{AreApart, IsShown}
+use Rattle.zw_laws.specs.Answers.{CancelsWhenAsked}
+use Rattle.zw_laws.specs.Fates.{FaresInTurn, LosesMarked, NumbersFrames}
 use Rattle.zw_laws.specs.Headline.{Headline, HeadlineOf, IsAsMade}
 use Rattle.zw_laws.specs.Nodes.{device_of, first_node, is_supervised, listing_of}
+use Rattle.zw_laws.specs.Payloads.{BeginsWithUnit}
+use Rattle.zw_laws.specs.Restarts.{ticks_asked}
+use Rattle.zw_laws.specs.Stores.{StoresConfirmed}
+use Rattle.zw_laws.specs.Table.{table_of}
+use Rattle.frame_facts.specs.Lines.{IsNoRepeat}
 use Rattle.world_facts.specs.Devices.{GroupsSessions}
 use Rattle.world_facts.specs.Restarts.{AllKeepWell, BeginsEmpty}
 use Rattle.headline_facts.specs.Truly.{SucceedsAfterChangeOf}
@@ -168,6 +179,18 @@ ShowsTables ended key old new = AlwaysOf ended key old new (λ story. KeepsRecor
 abbrev pub ConfirmsValues : Status → List ℕ → Around → Around → Type 0
 ConfirmsValues ended key old new = AlwaysOf ended key old new (λ story. KeepsRecords key old story → StoresLaw (transcript key old story) (last key old story).host.state)
 
+-- a command is taken back only where a line asks for it and it waits
+abbrev pub TakesBackWhenAsked : Status → List ℕ → Around → Around → Type 0
+TakesBackWhenAsked ended key old new = AlwaysOf ended key old new (λ story. KeepsRecords key old story → CancelsWhenAsked (transcript key old story))
+
+-- the values entered as confirmed are all those that the successful commands ask for, in order, each behind its success
+abbrev pub StoresValues : Status → List ℕ → Around → Around → Type 0
+StoresValues ended key old new = AlwaysOf ended key old new (λ story. old.records ≡ Some [] → StoresConfirmed true (listing_of old.devices) (transcript key old story))
+
+-- directly behind a session that begins stands its unit
+abbrev pub WritesSessions : Status → List ℕ → Around → Around → Type 0
+WritesSessions ended key old new = AlwaysOf ended key old new (λ story. KeepsRecords key old story → BeginsWithUnit (transcript key old story))
+
 -- each device changes at most once by each session, in their order
 abbrev pub AppliesOnce : Status → List ℕ → Around → Around → Type 0
 AppliesOnce ended key old new = AlwaysOf ended key old new (λ story. AreInOrder old.devices → TakeOnce new.devices)
@@ -187,6 +210,23 @@ abbrev pub GroupsChanges : Status → List ℕ → Around → Around → Type 0
 GroupsChanges ended key old new = Always ended key old new
     (λ story unentered. AllByRecursion (IsAsMade key) old.devices → AreApart old.devices →
     AllByRecursion (GroupsSessions (transcript key old story ++ entries_all (last key old story) unentered)) new.devices)
+
+-- ---- the air
+
+-- frames that go on the air are numbered, and the controller is one end of each
+abbrev pub NumbersAir : Status → List ℕ → Around → Around → Type 0
+NumbersAir ended key old new = AlwaysOf ended key old new (λ story. NumbersFrames (transcript key old story))
+
+-- a frame that uses up a mark of `lose` is neither heard as it arrives nor unheard
+abbrev pub LosesFrames : Status → List ℕ → Around → Around → Type 0
+LosesFrames ended key old new = AlwaysOf ended key old new (λ story. LosesMarked (transcript key old story))
+
+-- where no line repeats a frame, each that is on the air when a tick begins has one fate in it, in order of numbers, and none is heard besides
+abbrev pub RepeatsNothing : List Ran → Type 0
+RepeatsNothing story = AllByRecursion (λ (ran : Ran). IsNoRepeat ran.line.line) story
+
+abbrev pub FaresFrames : Status → List ℕ → Around → Around → Type 0
+FaresFrames ended key old new = AlwaysOf ended key old new (λ story. RepeatsNothing story → FaresInTurn (transcript key old story))
 
 -- ---- the headline
 
@@ -214,6 +254,21 @@ ReportsAfterChange ended key old new = InFairRuns ended key old new (λ story. (
 abbrev pub HasWholeHeadline : Status → List ℕ → Around → Around → Type 0
 HasWholeHeadline ended key old new = InFairRuns ended key old new (λ story. IsSupervisedNode old.devices first_node → Headline old.devices new.devices (transcript key old story))
 
+-- ---- the table
+
+-- What was written is the transcript, as it is shown, and behind it the table that the transcript shows, at the clock of the ticks that its lines ask for and
+-- with the devices as they are at exit.
+pub record WritesTable (quiet : Bool) (key : List ℕ) (old new : Around) (story : List Ran) : Type 0 where
+  pub between : Option (List ℕ)
+  pub told : Appends old.written between (shown_text quiet (transcript key old story))
+  pub table : Appends between new.written
+      (transcript_text (table_of (listing_of old.devices) (ticks_asked (lines_run (transcript key old story))) (transcript key old story) new.devices))
+
+-- so ends every run that ends well, over a keeper that tells its records and had none at first
+abbrev pub EndsWithTable : Status → List ℕ → Around → Around → Type 0
+EndsWithTable ended key old new =
+    ended ≡ Ok → old.records ≡ Some [] → (quiet : Bool) (story : List Ran) (unentered : List Event) → Tells ended quiet key old new story unentered → WritesTable quiet key old new story
+
 -- ---- all of them
 
 -- What holds of every run of `sim`, at every status: its story, and the laws of every story that it has.
@@ -223,6 +278,9 @@ pub record KeepsLaws (ended : Status) (key : List ℕ) (old new : Around) : Type
   pub orders : KeepsOrders ended key old new
   pub tables : ShowsTables ended key old new
   pub values : ConfirmsValues ended key old new
+  pub taken_back : TakesBackWhenAsked ended key old new
+  pub stores : StoresValues ended key old new
+  pub written : WritesSessions ended key old new
   pub once : AppliesOnce ended key old new
   pub same : KeepsDevices ended key old new
   pub shown : ShowsChanges ended key old new
@@ -230,3 +288,7 @@ pub record KeepsLaws (ended : Status) (key : List ℕ) (old new : Around) : Type
   pub headline : HasHeadline ended key old new
   pub after_change : ReportsAfterChange ended key old new
   pub whole_headline : HasWholeHeadline ended key old new
+  pub table : EndsWithTable ended key old new
+  pub numbers : NumbersAir ended key old new
+  pub loses : LosesFrames ended key old new
+  pub fares : FaresFrames ended key old new

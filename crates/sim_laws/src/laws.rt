@@ -6,6 +6,8 @@ ghost use Rattle.sim_laws.specs.Around.{Around};
 ghost use Rattle.sim_laws.specs.Laws.{
   AppliesOnce,
   ConfirmsValues,
+  EndsWithTable,
+  FaresFrames,
   GroupsChanges,
   HasHeadline,
   HasStory,
@@ -14,11 +16,20 @@ ghost use Rattle.sim_laws.specs.Laws.{
   KeepsLaws,
   KeepsOrders,
   KeepsWell,
+  LosesFrames,
+  NumbersAir,
   ReportsAfterChange,
   ShowsChanges,
   ShowsTables,
+  StoresValues,
+  TakesBackWhenAsked,
+  WritesSessions,
 };
 
+use command_facts::{
+    commands_are_taken_back_when_asked, sessions_begin_with_their_unit, values_are_stored_as_asked,
+};
+use frame_facts::{lines_fare_in_turn, lines_lose_marked_frames, lines_number_frames};
 use host_facts::{asides_keep_facts, laws_follow};
 use run_facts::lines_keep_and_ask_well;
 use said_lines::lines_are_read_as_said;
@@ -26,6 +37,7 @@ use supervised_nodes::{
     devices_as_made_begin_courses, nodes_have_the_headline, nodes_report_after_the_change,
     runs_have_the_headline, supervised_nodes_are_plain_or_locks,
 };
+use table_facts::tables_are_what_is_shown;
 use world_facts::{restarts_go_on, runs_take_once, the_machine_keeps_facts};
 
 /// Every run of `sim` has a story, and each story that it has keeps the laws.
@@ -35,8 +47,11 @@ pub fn sim_keeps_laws()
     runs_have_stories();
     runs_keep_records();
     stories_keep_laws();
+    stories_tell_of_commands();
     stories_take_once();
     stories_have_the_headline();
+    stories_end_with_tables();
+    stories_keep_air_laws();
 }
 
 /// Each run of `sim` has a story: its lines, each with the events of the machine that it was.
@@ -63,6 +78,21 @@ fn stories_keep_laws()
     laws_follow();
 }
 
+/// What becomes of commands is entered where it belongs.
+fn stories_tell_of_commands()
+    ensures taken_back { (ended : Status) (key : List ℕ) (old new : Around) → TakesBackWhenAsked ended key old new }
+    ensures stores { (ended : Status) (key : List ℕ) (old new : Around) → StoresValues ended key old new }
+    ensures written { (ended : Status) (key : List ℕ) (old new : Around) → WritesSessions ended key old new }
+{
+    lines_are_read_as_said();
+    stories_keep_laws();
+    the_machine_keeps_facts();
+    restarts_go_on();
+    commands_are_taken_back_when_asked();
+    values_are_stored_as_asked();
+    sessions_begin_with_their_unit();
+}
+
 /// The devices change at most once by each session, and the transcript of a story shows their changes.
 fn stories_take_once()
     ensures once { (ended : Status) (key : List ℕ) (old new : Around) → AppliesOnce ended key old new }
@@ -86,4 +116,24 @@ fn stories_have_the_headline()
     nodes_report_after_the_change();
     runs_have_the_headline();
     runs_take_once();
+}
+
+/// What is written of a run that ends well ends with the table that its transcript shows.
+fn stories_end_with_tables()
+    ensures { (ended : Status) (key : List ℕ) (old new : Around) → EndsWithTable ended key old new }
+{
+    lines_are_read_as_said();
+    tables_are_what_is_shown();
+}
+
+/// The frames on the air are those of lines that were said.
+fn stories_keep_air_laws()
+    ensures numbers { (ended : Status) (key : List ℕ) (old new : Around) → NumbersAir ended key old new }
+    ensures loses { (ended : Status) (key : List ℕ) (old new : Around) → LosesFrames ended key old new }
+    ensures fares { (ended : Status) (key : List ℕ) (old new : Around) → FaresFrames ended key old new }
+{
+    lines_are_read_as_said();
+    lines_number_frames();
+    lines_lose_marked_frames();
+    lines_fare_in_turn();
 }

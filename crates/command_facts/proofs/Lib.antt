@@ -1,0 +1,10 @@
+mod Common
+mod Entering
+mod Asking
+mod Storing
+mod Heard
+mod Pairing
+mod Serving
+mod Walking
+mod Sending
+mod Following

@@ -1,0 +1,211 @@
+-- In a line, whole or cut short, each session that begins is followed by the start of its attempt: a pump is done whole or not at all.
+use Rattle.std.proofs.Common.{◌≡◌, ℕ, zero, suc, Bool, true, false, List, [], ◌∷◌, ◌++◌, map, inl, inr, sym, subst}
+use Rattle.std.specs.List.{AllByRecursion}
+use Rattle.zw_text.specs.declared.line.Line.{Line}
+use Rattle.zw_text.specs.declared.line.Line.TheVariants as line
+use Rattle.host_events.specs.Events.{HostEvent, Node_ticks}
+use Rattle.host_events.specs.Ticking.{first_ticks, tick_events, ticking_nodes}
+use Rattle.host_events.specs.Did.{after_all}
+use Rattle.outer_events.specs.Events.{OuterEvent}
+use Rattle.outer_events.specs.State.{is_stalled}
+use Rattle.zw_machine.specs.State.{Machine}
+use Rattle.zw_machine.specs.Events.{Event, Outside_does, Host_does, Decoder_ticks, happens}
+use Rattle.zw_machine.specs.Did.{happens_all, AllAlong, FrontOf, Nothing, Schedule, Then, ThenFront}
+use Rattle.zw_machine.specs.Settling.{Outside, IsPump, IsChipPart, IsHostPart, IsMove, IfMoved, Passes, Settles, TakesBy}
+use Rattle.zw_machine.specs.Ticking.{IsClockTick, IsDelivery, IsGiving, IsDeviceTick, IsChipTick, IsOutsideTick, IsHostTick, IsTick, Ticks}
+use Rattle.zw_machine.specs.Lines.{IsEffect, IsLineBegin, IsLineRest}
+use Rattle.zw_machine.specs.Fronts.{PassesFront, SettlesFront, OutsideTickFront, TickFront, TicksFront, EffectFront, LineRestFront, LinePart}
+use Rattle.zw_machine.proofs.Along.{IsAskedBy, IsOfEffect, along, anywhere, effect_along}
+use Rattle.zw_machine.proofs.Pieces.{Law, Of}
+use Rattle.command_facts.proofs.Common.{IsNoBeginning}
+use Rattle.command_facts.proofs.Pairing.{Paired, BeginsNone, both_paired, none_paired, outside_none}
+use Rattle.command_facts.proofs.Serving.{pump_paired}
+
+-- ---- where no session begins
+
+abbrev NoneAt : Machine → Event → Type 0
+NoneAt m event = BeginsNone event
+
+abbrev NoneBegin : Schedule
+NoneBegin = AllAlong NoneAt
+
+law : Law NoneBegin
+law = along NoneAt
+
+along_none : (m : Machine) (events : List Event) → AllByRecursion BeginsNone events → NoneBegin m events
+along_none m [] none = tt
+along_none m (event ∷ events) none = (none.0, along_none (happens m event) events none.1)
+
+these_none : (m : Machine) (events these : List Event) → events ≡ these → AllByRecursion BeginsNone these → NoneBegin m events
+these_none m events these are none = subst (λ (l : List Event). NoneBegin m l) (sym are) (along_none m these none)
+
+outside : (Kind : List OuterEvent → Type 0) (m : Machine) (events : List Event) → Outside Kind events → NoneBegin m events
+outside Kind m events (inner, is, are) = these_none m events (map Outside_does inner) are (outside_none inner)
+
+as_none : (event these : HostEvent) → event ≡ these → IsNoBeginning these → IsNoBeginning event
+as_none event these is none = subst IsNoBeginning (sym is) none
+
+asked_none : (said : Line) (m : Machine) (event : HostEvent) → IsAskedBy said m event → IsNoBeginning event
+asked_none (line.Command order) m event is = as_none event _ is tt
+asked_none (line.Send node word) m event asks = as_none event _ asks.is tt
+asked_none (line.Get node end) m event asks = as_none event _ asks.is tt
+asked_none (line.Join node) m event is = as_none event _ is tt
+asked_none (line.Interview node) m event asks = as_none event _ asks.is tt
+asked_none (line.Cancel command) m event is = as_none event _ is tt
+asked_none line.Discover m event is = as_none event _ is tt
+asked_none (line.Neighbours node) m event is = as_none event _ is tt
+asked_none (line.Failed node) m event is = as_none event _ is tt
+asked_none line.Probe m event is = as_none event _ is tt
+asked_none said m event is = absurd is
+
+effect_none : (said : Line) (m : Machine) (event : Event) → IsOfEffect said m event → NoneAt m event
+effect_none said m (Host_does event) is = asked_none said m event is
+effect_none said m event is = tt
+
+-- a front of what begins none
+front_none : (Kind : Schedule) → Of NoneBegin Kind → Of NoneBegin (FrontOf Kind)
+front_none Kind whole m events (inl none) = these_none m events [] none tt
+front_none Kind whole m events (inr (rest, is)) = law.front m events rest (whole m (events ++ rest) is)
+
+effect : (said : Line) → Of NoneBegin (IsEffect said)
+effect said = effect_along NoneAt said (effect_none said)
+
+effect_front : (said : Line) → Of NoneBegin (EffectFront said)
+effect_front line.Restart m events (inl none) = these_none m events [] none tt
+effect_front line.Restart m events (inr (state, are)) = these_none m events _ are (tt, (tt, tt))
+effect_front said m events is = front_none (IsEffect said) (effect said) m events is
+
+-- ---- pairs
+
+abbrev Pairs : Schedule
+Pairs m events = Paired events
+
+of_plain : (Kind : Schedule) → Of NoneBegin Kind → Of Pairs Kind
+of_plain Kind none m events is = none_paired events (anywhere BeginsNone m events (none m events is))
+
+nothing : Of Pairs Nothing
+nothing m events are = subst Paired (sym are) tt
+
+after_first : (First Second : Schedule) → Of Pairs First → Of Pairs Second → Of Pairs (Then First Second)
+after_first First Second first second m events (a, b, are, is_first, is_second) =
+    subst Paired (sym are) (both_paired a b (first m a is_first) (second (happens_all m a) b is_second))
+
+after_front : (FirstFront First SecondFront : Schedule) → Of Pairs FirstFront → Of Pairs First → Of Pairs SecondFront → Of Pairs (ThenFront FirstFront First SecondFront)
+after_front FirstFront First SecondFront front first second m events (inl is) = front m events is
+after_front FirstFront First SecondFront front first second m events (inr is) = after_first First SecondFront first second m events is
+
+pump : Of Pairs IsPump
+pump m events (inner, pumps, are) = subst Paired (sym are) (pump_paired m.host.state inner pumps)
+
+chip_part : Of Pairs IsChipPart
+chip_part m events is = of_plain IsChipPart (λ n. outside _ n) m events is
+
+taken : (stalled : Bool) (bytes : List ℕ) (events : List Event) → TakesBy stalled bytes events → Paired events
+taken true bytes events are = subst Paired (sym are) tt
+taken false [] events are = subst Paired (sym are) tt
+taken false (byte ∷ bytes) events (rest, items, inner, are) = subst Paired (sym are) tt
+
+host_part : Of Pairs IsHostPart
+host_part m events is = taken (is_stalled m.outside.outer) m.outside.outer.to_host.bytes events is
+
+nodes_none : (nodes : List ℕ) → AllByRecursion BeginsNone (map Host_does (map Node_ticks nodes))
+nodes_none [] = tt
+nodes_none (n ∷ nodes) = (tt, nodes_none nodes)
+
+host_tick : Of Pairs IsHostTick
+host_tick m events are = subst Paired (sym are) (none_paired (Decoder_ticks ∷ map Host_does (tick_events m.host.state)) (tt, (tt, (tt, nodes_none (ticking_nodes (after_all m.host.state first_ticks))))))
+
+-- ---- a settling
+
+if_moved : (moved : List Event) (More : Schedule) → Of Pairs More → Of Pairs (IfMoved moved More)
+if_moved [] More more m events is = nothing m events is
+if_moved (one ∷ moved) More more m events is = more m events is
+
+moves : Of Pairs IsMove
+moves = after_first IsChipPart IsHostPart chip_part host_part
+
+passes : (count : ℕ) → Of Pairs (Passes count)
+passes zero m events is = nothing m events is
+passes (suc more) m events (moved, rest, are, is, later) =
+    subst Paired (sym are)
+    (both_paired moved rest (moves m moved is) (after_first IsPump (IfMoved moved (Passes more)) pump (if_moved moved (Passes more) (passes more)) (happens_all m moved) rest later))
+
+settles : Of Pairs Settles
+settles = after_first IsPump (Passes 64) pump (passes 64)
+
+passes_front : (count : ℕ) → Of Pairs (PassesFront count)
+passes_front zero m events is = nothing m events is
+passes_front (suc more) m events (inl is) = after_front Nothing IsChipPart Nothing nothing chip_part nothing m events is
+passes_front (suc more) m events (inr (moved, rest, are, is, later)) =
+    subst Paired (sym are)
+    (both_paired moved rest (moves m moved is)
+    (after_front Nothing IsPump (IfMoved moved (PassesFront more)) nothing pump (if_moved moved (PassesFront more) (passes_front more)) (happens_all m moved) rest later))
+
+settles_front : Of Pairs SettlesFront
+settles_front = after_front Nothing IsPump (PassesFront 64) nothing pump (passes_front 64)
+
+-- ---- ticks
+
+delivery : Of NoneBegin IsDelivery
+delivery m events is = outside _ m events is
+
+giving : Of NoneBegin IsGiving
+giving m events is = outside _ m events is
+
+device_tick : Of NoneBegin IsDeviceTick
+device_tick m events is = outside _ m events is
+
+chip_tick : Of NoneBegin IsChipTick
+chip_tick m events are = these_none m events _ are (tt, tt)
+
+outside_tick : Of Pairs IsOutsideTick
+outside_tick =
+    after_first IsDelivery (Then IsGiving (Then IsDeviceTick IsChipTick)) (of_plain IsDelivery delivery)
+    (after_first IsGiving (Then IsDeviceTick IsChipTick) (of_plain IsGiving giving) (after_first IsDeviceTick IsChipTick (of_plain IsDeviceTick device_tick) (of_plain IsChipTick chip_tick)))
+
+outside_front : Of Pairs OutsideTickFront
+outside_front =
+    let devices : Schedule = ThenFront (FrontOf IsDeviceTick) IsDeviceTick Nothing in
+    after_front (FrontOf IsDelivery) IsDelivery (ThenFront (FrontOf IsGiving) IsGiving devices) (of_plain (FrontOf IsDelivery) (front_none IsDelivery delivery)) (of_plain IsDelivery delivery)
+    (after_front (FrontOf IsGiving) IsGiving devices (of_plain (FrontOf IsGiving) (front_none IsGiving giving)) (of_plain IsGiving giving)
+    (after_front (FrontOf IsDeviceTick) IsDeviceTick Nothing (of_plain (FrontOf IsDeviceTick) (front_none IsDeviceTick device_tick)) (of_plain IsDeviceTick device_tick) nothing))
+
+clock : Of Pairs IsClockTick
+clock m events are = subst Paired (sym are) tt
+
+tick : Of Pairs IsTick
+tick =
+    after_first IsClockTick (Then IsOutsideTick (Then IsHostTick Settles)) clock
+    (after_first IsOutsideTick (Then IsHostTick Settles) outside_tick (after_first IsHostTick Settles host_tick settles))
+
+ticks : (count : ℕ) → Of Pairs (Ticks count)
+ticks zero m events is = nothing m events is
+ticks (suc more) m events is = after_first IsTick (Ticks more) tick (ticks more) m events is
+
+tick_front : Of Pairs TickFront
+tick_front =
+    let host : Schedule = ThenFront Nothing IsHostTick SettlesFront in
+    after_front Nothing IsClockTick (ThenFront OutsideTickFront IsOutsideTick host) nothing clock
+    (after_front OutsideTickFront IsOutsideTick host outside_front outside_tick (after_front Nothing IsHostTick SettlesFront nothing host_tick settles_front))
+
+ticks_front : (count : ℕ) → Of Pairs (TicksFront count)
+ticks_front zero m events is = nothing m events is
+ticks_front (suc more) m events is = after_front TickFront IsTick (TicksFront more) tick_front tick (ticks_front more) m events is
+
+-- ---- a line
+
+begins : Of Pairs IsLineBegin
+begins m events are = subst Paired (sym are) tt
+
+line_rest : (said : Line) → Of Pairs (IsLineRest said)
+line_rest (line.Tick count) = ticks count
+line_rest said = after_first (IsEffect said) Settles (of_plain (IsEffect said) (effect said)) settles
+
+line_rest_front : (said : Line) → Of Pairs (LineRestFront said)
+line_rest_front (line.Tick count) = ticks_front count
+line_rest_front said =
+    after_front (EffectFront said) (IsEffect said) SettlesFront (of_plain (EffectFront said) (effect_front said)) (of_plain (IsEffect said) (effect said)) settles_front
+
+pub line_paired : (said : Line) (m : Machine) (events : List Event) → LinePart said m events → Paired events
+line_paired said m events (inl is) = after_first IsLineBegin (IsLineRest said) begins (line_rest said) m events is
+line_paired said m events (inr is) = after_front Nothing IsLineBegin (LineRestFront said) nothing begins (line_rest_front said) m events is

@@ -1,0 +1,15 @@
+mod Outer
+mod Noted
+mod Hosts
+mod Judged
+mod Routed
+mod Going
+mod Mild
+mod Shown
+mod Telling
+mod Over
+mod Beginning
+mod Ordered
+mod Values
+mod Nodes
+mod Ending
