@@ -5,7 +5,6 @@ use crate::evening::{BEFORE, BEHIND};
 use crate::rows::check_row;
 use audit::{Break, examine};
 use std::alloc::Global;
-use std::test::Fail;
 
 /// A switch is set, and confirms it.
 const ORDER: &str = "> set 2 on\naccepted 1 node 2\n";
@@ -293,17 +292,17 @@ const CASES: &[(&[&str], Option<(u32, Break)>)] = &[
 ];
 
 /// The pieces as one text.
-fn text_of(alloc: Global, pieces: &[&str]) -> Result<Vec<u8>, Fail> {
+fn text_of(alloc: Global, pieces: &[&str]) -> Option<Vec<u8>> {
     let mut text = Vec::new(alloc);
     for piece in pieces {
-        text.extend_from_slice(piece.as_bytes())?;
+        text.extend_from_slice(piece.as_bytes()).ok()?;
     }
-    Ok(text)
+    Some(text)
 }
 
 /// What is found of the text of these pieces.
 fn found(alloc: Global, pieces: &[&str]) -> Option<Option<(u32, Break)>> {
-    let text = text_of(alloc, pieces).ok()?;
+    let text = text_of(alloc, pieces)?;
     examine(alloc, text.as_slice()).ok()
 }
 

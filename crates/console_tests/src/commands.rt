@@ -170,11 +170,7 @@ fn comes_to(alloc: Global, words: &str, input: &[u8], want: Status, text: &[u8])
 fn commands_answer(rt: HostRuntime) {
     for (row, (words, input, status, text)) in ANSWERS.iter().enumerate() {
         let (input, text) = (input.as_bytes(), text.as_bytes());
-        check_row(
-            &rt,
-            comes_to(rt.alloc(), words, input, *status, text),
-            row,
-        );
+        check_row(&rt, comes_to(rt.alloc(), words, input, *status, text), row);
     }
 }
 

@@ -8,8 +8,7 @@ use scenario_run::Status;
 use std::alloc::Global;
 use std::io;
 use std::io::Write;
-use std::test::Fail;
-use zw_base::{Bytes, MemorySink, MemorySource, Sink, Source, StdSink, read_node};
+use zw_base::{Bytes, MemorySink, MemorySource, NoMemory, Sink, Source, StdSink, read_node};
 
 const KEY: [u8; 16] = [7; 16];
 
@@ -49,7 +48,7 @@ const SWITCHED_ON: [&str; 25] = [
 const EVENTS: usize = 21;
 
 /// So many of the lines, one after the other.
-fn lines_of(alloc: Global, count: usize) -> Result<Bytes, Fail> {
+fn lines_of(alloc: Global, count: usize) -> Result<Bytes, NoMemory> {
     let mut text = Bytes::new(alloc);
     for line in SWITCHED_ON.iter().take(count) {
         text.extend(line.as_bytes())?;
@@ -71,7 +70,7 @@ fn run_words<S: Source, K: Sink>(
 }
 
 /// The words, with a bar between each two.
-fn words_of(alloc: Global, words: &str) -> Result<Vec<String>, Fail> {
+fn words_of(alloc: Global, words: &str) -> Result<Vec<String>, NoMemory> {
     let mut list = Vec::new(alloc);
     for word in words.split('|') {
         list.push(String::from_str(alloc, word)?)?;
@@ -80,7 +79,7 @@ fn words_of(alloc: Global, words: &str) -> Result<Vec<String>, Fail> {
 }
 
 /// The switch of node 2.
-fn switch(alloc: Global) -> Result<Vec<Box<dyn Device>>, Fail> {
+fn switch(alloc: Global) -> Result<Vec<Box<dyn Device>>, NoMemory> {
     let mut devices: Vec<Box<dyn Device>> = Vec::new(alloc);
     if let Some(node) = read_node(2) {
         devices.push(Box::new(alloc, make_switch(alloc, node, KEY)?)?)?;
@@ -94,7 +93,7 @@ fn ended<S: Source, K: Sink>(
     words: &str,
     source: &mut S,
     sink: &mut K,
-) -> Result<Status, Fail> {
+) -> Result<Status, NoMemory> {
     let list = words_of(alloc, words)?;
     let mut devices = switch(alloc)?;
     Ok(run_words(
@@ -115,7 +114,7 @@ pub(crate) fn outcome(
     input: &[u8],
     read: u64,
     write: u64,
-) -> Result<(Status, Bytes), Fail> {
+) -> Result<(Status, Bytes), NoMemory> {
     let mut source = MemorySource::new(alloc, input, &[read])?;
     let mut sink = MemorySink::new(alloc, &[write])?;
     let status = ended(alloc, words, &mut source, &mut sink)?;
@@ -178,7 +177,7 @@ impl<'a> Write for Slow<'a> {
 }
 
 /// How the first scenario ends over a sink that takes a byte a call, and none at the call of that number; and what it took.
-fn slow_outcome(alloc: Global, empty: u64) -> Result<(Status, Bytes), Fail> {
+fn slow_outcome(alloc: Global, empty: u64) -> Result<(Status, Bytes), NoMemory> {
     let mut taken = Bytes::new(alloc);
     let mut source = MemorySource::new(alloc, SWITCHES_ON.as_bytes(), &[])?;
     let mut sink = StdSink::new(Slow {
@@ -191,10 +190,7 @@ fn slow_outcome(alloc: Global, empty: u64) -> Result<(Status, Bytes), Fail> {
 }
 
 /// The call at which a sink takes no more, how it ends, and how many bytes are taken.
-const TAKEN: &[(u64, Status, usize)] = &[
-    (12, Status::WriteFault, 11),
-    (0, Status::Ok, 389),
-];
+const TAKEN: &[(u64, Status, usize)] = &[(12, Status::WriteFault, 11), (0, Status::Ok, 389)];
 
 /// Whether it ends so over such a sink, with just so many bytes of the lines taken.
 fn takes(alloc: Global, row: &(u64, Status, usize)) -> bool {

@@ -1,6 +1,6 @@
 //! The texts of records, written out by hand from the description in docs/RECORDS.md, and the keeper that keeps them.
 
-use crate::rows::check_line;
+use crate::rows::check_row;
 use host_keep::{KeepFault, Keeper, PlainKeeper, Record, keep, read_record, write_record};
 use std::alloc::Global;
 use std::test::Fail;
@@ -39,8 +39,8 @@ fn has_text(alloc: Global, record: &Record, text: &str) -> bool {
 
 #[test]
 fn records_are_written_as_read(rt: HostRuntime) {
-    for text in ROWS.lines() {
-        check_line(&rt, goes_both_ways(rt.alloc(), text), text);
+    for (row, text) in ROWS.lines().enumerate() {
+        check_row(&rt, goes_both_ways(rt.alloc(), text), row);
     }
 }
 

@@ -3,7 +3,7 @@
 use crate::rows::check_row;
 use command_line::{Asked, WordsFault, read_words};
 use std::alloc::Global;
-use std::test::Fail;
+use zw_base::NoMemory;
 use zw_words::Side;
 
 const USAGE: Result<Asked, WordsFault> = Err(WordsFault::Usage);
@@ -39,7 +39,7 @@ const ROWS: &[(&str, Result<Asked, WordsFault>)] = &[
     ("simulate", USAGE),
 ];
 
-fn words_of(alloc: Global, text: &str) -> Result<Vec<String>, Fail> {
+fn words_of(alloc: Global, text: &str) -> Result<Vec<String>, NoMemory> {
     let mut words = Vec::new(alloc);
     for word in text.split_whitespace() {
         words.push(String::from_str(alloc, word)?)?;
