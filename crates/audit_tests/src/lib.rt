@@ -8,3 +8,5 @@
 mod broken;
 #[cfg(test)]
 mod evening;
+#[cfg(test)]
+mod rows;

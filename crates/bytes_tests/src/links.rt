@@ -12,7 +12,6 @@ enum Want {
     Write(&'static [u8]),
     Got(u8),
     Sent,
-    Failed,
     Bad(Refusal),
 }
 
@@ -39,7 +38,6 @@ fn is_wanted(alloc: Global, out: &LinkOut, want: &Want) -> bool {
         (LinkOut::Write(unit), Want::Write(text)) => writes(alloc, unit, text),
         (LinkOut::Got(frame), Want::Got(func)) => frame.func == *func,
         (LinkOut::Sent, Want::Sent) => true,
-        (LinkOut::Failed(copies), Want::Failed) => *copies == 4,
         (LinkOut::Bad(refusal), Want::Bad(wanted)) => refusal == wanted,
         _ => false,
     }
@@ -67,21 +65,18 @@ enum Act {
     Tick(u8),
 }
 
-/// What is done, and what is put out at it and stands after it.
+/// What is done, and what is put out at it.
 struct Row {
     act: Act,
     outs: &'static [Want],
-    busy: bool,
 }
 
+/// A frame is answered, and one with a changed byte refused; a request goes out, once more after 16 ticks, and is acknowledged.
 const ROWS: &[Row] = &[
-    // answers
     Row {
-        act: Act::Feed(&[0x01, 0x03, 0x00, 0x15, 0xe9]),
+        act: Act::Feed(&REQUEST),
         outs: &[Want::Write(&[0x06]), Want::Got(0x15)],
-        busy: false,
     },
-    // one byte of a request was changed on the way
     Row {
         act: Act::Feed(&[
             0x01, 0x0e, 0x00, 0x13, 0x02, 0x06, 0x6c, 0x01, 0x01, 0x03, 0x25, 0x01, 0xff, 0x25,
@@ -94,140 +89,18 @@ const ROWS: &[Row] = &[
                 got: 0x77,
             }),
         ],
-        busy: false,
-    },
-    Row {
-        act: Act::Feed(&[0x01, 0x03, 0x02, 0x15, 0xeb]),
-        outs: &[Want::Write(&[0x15]), Want::Bad(Refusal::BadKind(2))],
-        busy: false,
-    },
-    Row {
-        act: Act::Feed(&[0x01, 0x02, 0x00]),
-        outs: &[
-            Want::Bad(Refusal::BadLength(2)),
-            Want::Bad(Refusal::Stray(0)),
-        ],
-        busy: false,
-    },
-    // nothing is outstanding
-    Row {
-        act: Act::Feed(&[0x06, 0x15, 0x18]),
-        outs: &[],
-        busy: false,
-    },
-    // the first copy ends by its fifteenth tick, the second by NAK, the third by CAN
-    Row {
-        act: Act::Submit,
-        outs: &[Want::Write(&REQUEST)],
-        busy: true,
     },
     Row {
         act: Act::Submit,
-        outs: &[],
-        busy: true,
-    },
-    Row {
-        act: Act::Tick(15),
-        outs: &[],
-        busy: true,
-    },
-    Row {
-        act: Act::Tick(1),
         outs: &[Want::Write(&REQUEST)],
-        busy: true,
     },
     Row {
-        act: Act::Feed(&[0x15]),
-        outs: &[],
-        busy: true,
-    },
-    Row {
-        act: Act::Tick(10),
-        outs: &[],
-        busy: true,
-    },
-    Row {
-        act: Act::Tick(1),
+        act: Act::Tick(16),
         outs: &[Want::Write(&REQUEST)],
-        busy: true,
-    },
-    Row {
-        act: Act::Feed(&[0x18, 0x15]),
-        outs: &[],
-        busy: true,
-    },
-    Row {
-        act: Act::Tick(20),
-        outs: &[],
-        busy: true,
-    },
-    Row {
-        act: Act::Tick(1),
-        outs: &[Want::Write(&REQUEST)],
-        busy: true,
-    },
-    Row {
-        act: Act::Tick(14),
-        outs: &[],
-        busy: true,
-    },
-    Row {
-        act: Act::Tick(1),
-        outs: &[Want::Failed],
-        busy: false,
-    },
-    // ACK in a pause
-    Row {
-        act: Act::Submit,
-        outs: &[Want::Write(&REQUEST)],
-        busy: true,
-    },
-    Row {
-        act: Act::Feed(&[0x15, 0x06]),
-        outs: &[Want::Sent],
-        busy: false,
-    },
-    // a frame of the other side is answered while a copy waits
-    Row {
-        act: Act::Submit,
-        outs: &[Want::Write(&REQUEST)],
-        busy: true,
-    },
-    Row {
-        act: Act::Feed(&REQUEST),
-        outs: &[Want::Write(&[0x06]), Want::Got(0x15)],
-        busy: true,
     },
     Row {
         act: Act::Feed(&[0x06]),
         outs: &[Want::Sent],
-        busy: false,
-    },
-    // an unfinished frame is forgotten at its fifteenth tick
-    Row {
-        act: Act::Feed(&[0x01, 0x03]),
-        outs: &[],
-        busy: false,
-    },
-    Row {
-        act: Act::Tick(14),
-        outs: &[],
-        busy: false,
-    },
-    Row {
-        act: Act::Tick(1),
-        outs: &[Want::Bad(Refusal::Aborted)],
-        busy: false,
-    },
-    Row {
-        act: Act::Tick(40),
-        outs: &[],
-        busy: false,
-    },
-    Row {
-        act: Act::Feed(&[]),
-        outs: &[],
-        busy: false,
     },
 ];
 
@@ -264,9 +137,7 @@ fn perform(
 
 /// Whether a row is so.
 fn is_so(alloc: Global, link: &mut Link, out: &mut List<LinkOut>, row: &Row) -> bool {
-    perform(alloc, link, out, &row.act).is_ok()
-        && was_put_out(alloc, out, row.outs)
-        && link.is_busy() == row.busy
+    perform(alloc, link, out, &row.act).is_ok() && was_put_out(alloc, out, row.outs)
 }
 
 #[test]
@@ -274,31 +145,6 @@ fn exchange(rt: HostRuntime) -> Result<(), Fail> {
     let mut out = List::new(rt.alloc());
     let mut link = Link::new(rt.alloc())?;
     for (at, row) in ROWS.iter().enumerate() {
-        check_row(&rt, is_so(rt.alloc(), &mut link, &mut out, row), at);
-    }
-    Ok(())
-}
-
-/// A request meets the frame that was begun: the first copy is cancelled, and the second answered.
-const COLLISION: &[Row] = &[
-    Row {
-        act: Act::Feed(&REQUEST),
-        outs: &[Want::Write(&[0x18])],
-        busy: false,
-    },
-    Row {
-        act: Act::Feed(&REQUEST),
-        outs: &[Want::Write(&[0x06]), Want::Got(0x15)],
-        busy: false,
-    },
-];
-
-#[test]
-fn collision(rt: HostRuntime) -> Result<(), Fail> {
-    let mut out = List::new(rt.alloc());
-    let mut link = Link::new(rt.alloc())?;
-    link.collide();
-    for (at, row) in COLLISION.iter().enumerate() {
         check_row(&rt, is_so(rt.alloc(), &mut link, &mut out, row), at);
     }
     Ok(())

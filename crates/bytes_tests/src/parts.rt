@@ -1,4 +1,4 @@
-//! Tables of bytes: a line is a part or two, and a part is a count and that many bytes.
+//! Tables of bytes: a line is a part, and a part is a count and that many bytes.
 
 /// The first part of a table, and what follows it.
 pub fn part(table: &[u8]) -> Option<(&[u8], &[u8])> {
@@ -8,11 +8,4 @@ pub fn part(table: &[u8]) -> Option<(&[u8], &[u8])> {
         return None;
     }
     Some(rest.split_at(count))
-}
-
-/// The first two parts of a table, and what follows them.
-pub fn pair(table: &[u8]) -> Option<(&[u8], &[u8], &[u8])> {
-    let (first, rest) = part(table)?;
-    let (second, rest) = part(rest)?;
-    Some((first, second, rest))
 }

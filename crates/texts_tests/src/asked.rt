@@ -1,8 +1,9 @@
 //! Words that ask, and words that do not.
 
+use crate::rows::check_row;
 use command_line::{Asked, WordsFault, read_words};
 use std::alloc::Global;
-use std::test::Fail;
+use zw_base::NoMemory;
 use zw_words::Side;
 
 const USAGE: Result<Asked, WordsFault> = Err(WordsFault::Usage);
@@ -38,7 +39,7 @@ const ROWS: &[(&str, Result<Asked, WordsFault>)] = &[
     ("simulate", USAGE),
 ];
 
-fn words_of(alloc: Global, text: &str) -> Result<Vec<String>, Fail> {
+fn words_of(alloc: Global, text: &str) -> Result<Vec<String>, NoMemory> {
     let mut words = Vec::new(alloc);
     for word in text.split_whitespace() {
         words.push(String::from_str(alloc, word)?)?;
@@ -46,15 +47,17 @@ fn words_of(alloc: Global, text: &str) -> Result<Vec<String>, Fail> {
     Ok(words)
 }
 
-fn read(alloc: Global, words: &[String]) -> Result<Asked, WordsFault> {
-    read_words(alloc, words)
+/// Whether the words ask for that.
+fn are_read(alloc: Global, text: &str, asked: &Result<Asked, WordsFault>) -> bool {
+    match words_of(alloc, text) {
+        Ok(words) => read_words(alloc, words.as_slice()) == *asked,
+        Err(_) => false,
+    }
 }
 
 #[test]
-fn words_ask(rt: HostRuntime) -> Result<(), Fail> {
-    for (text, asked) in ROWS {
-        let words = words_of(rt.alloc(), text)?;
-        assert!(rt; read(rt.alloc(), words.as_slice()) == *asked, "at {text:?}");
+fn words_ask(rt: HostRuntime) {
+    for (row, (text, asked)) in ROWS.iter().enumerate() {
+        check_row(&rt, are_read(rt.alloc(), text, asked), row);
     }
-    Ok(())
 }

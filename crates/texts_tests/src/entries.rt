@@ -1,9 +1,7 @@
 //! Values from outside: entries as docs/TRANSCRIPT.md describes them, one of each kind.
 
+use crate::rows::check_row;
 use std::alloc::Global;
-use std::process::Abort;
-use std::test::Fail;
-use zw_base::Bytes;
 use zw_entries::read_entry;
 use zw_print::print_entry;
 use zw_text::Entry;
@@ -76,9 +74,6 @@ const TEXTS: &[&str] = &[
     "unkept 2",
     "t 1",
     "end 0",
-];
-
-const TABLE: &[&str] = &[
     "node 2 sessions -",
     "node 2 sessions 1 15 16",
     "value 2 0/lock confirmed 255 heard -",
@@ -88,65 +83,25 @@ const TABLE: &[&str] = &[
     "badline 1 TooLong",
 ];
 
-/// Texts of no entry.
-const OTHERS: &[&str] = &[
-    "",
-    " ",
-    "heard",
-    "heard 1 ",
-    "heard  1",
-    " heard 1",
-    "heard 01",
-    "heard 18446744073709551616",
-    "heard 1 2",
-    "h 0e",
-    "h 0",
-    "c0",
-    "awake 0",
-    "awake 233",
-    "refused unsupported 8f",
-    "refused mailboxfull",
-    "refused notjoined 1",
-    "store 2 128/switch 1",
-    "store 2 0/switch",
-    "store 2 0/setpoint 1",
-    "out 1 Success",
-    "badline 1 unknown",
-    "node 2 sessions",
-    "json",
-];
-
-fn read(alloc: Global, text: &str) -> Option<Entry> {
-    read_entry(alloc, text.as_bytes()).ok()
+/// Whether the entry is printed as the text.
+fn is_printed(alloc: Global, entry: &Entry, text: &str) -> bool {
+    match print_entry(alloc, entry) {
+        Ok(printed) => printed.as_slice() == text.as_bytes(),
+        Err(_) => false,
+    }
 }
 
-fn print(alloc: Global, entry: &Entry) -> Option<Bytes> {
-    print_entry(alloc, entry).ok()
-}
-
-/// What is printed of the entry that is read is the text.
-fn is_printed_again(rt: &impl Abort, alloc: Global, text: &str) -> Result<(), Fail> {
-    let entry = read(alloc, text).ok_or(text)?;
-    let printed = print(alloc, &entry).ok_or("no memory")?;
-    assert!(rt; printed.as_slice() == text.as_bytes(), "{text}");
-    Ok(())
+/// Whether the text is read as an entry, and this printed as the text.
+fn is_printed_again(alloc: Global, text: &str) -> bool {
+    match read_entry(alloc, text.as_bytes()) {
+        Ok(entry) => is_printed(alloc, &entry, text),
+        Err(_) => false,
+    }
 }
 
 #[test]
-fn what_is_printed_is_read(rt: HostRuntime) -> Result<(), Fail> {
-    for text in TEXTS {
-        is_printed_again(&rt, rt.alloc(), text)?;
+fn what_is_read_is_printed(rt: HostRuntime) {
+    for (row, text) in TEXTS.iter().enumerate() {
+        check_row(&rt, is_printed_again(rt.alloc(), text), row);
     }
-    for text in TABLE {
-        is_printed_again(&rt, rt.alloc(), text)?;
-    }
-    Ok(())
-}
-
-#[test]
-fn other_texts_are_none(rt: HostRuntime) -> Result<(), Fail> {
-    for text in OTHERS {
-        assert!(rt; read(rt.alloc(), text).is_none(), "{text}");
-    }
-    Ok(())
 }

@@ -1,8 +1,8 @@
-//! Tests of the crates of texts: lines, entries, events, reports of units and words of the command line, against forms that
+//! Tests of the crates of texts: entries, reports of units, words of the command line and the texts of faults, against forms that
 //! were worked by hand from docs/.
 //!
 //! A crate that has tests is proved once with them and once without. So the crates below have none, and this one, which
-//! promises nothing, has theirs. Each public call is called here once with ample memory.
+//! promises nothing, has theirs.
 #![tactic(auto)]
 
 #[cfg(test)]
@@ -10,10 +10,8 @@ mod asked;
 #[cfg(test)]
 mod entries;
 #[cfg(test)]
-mod events;
+mod faults;
 #[cfg(test)]
-mod lines;
-#[cfg(test)]
-mod printed;
+mod rows;
 #[cfg(test)]
 mod units;

@@ -1,9 +1,8 @@
 //! What `check` writes of texts, with ample memory.
 
+use crate::rows::check_row;
 use std::alloc::Global;
-use std::test::Fail;
-use unit_report::{CheckFault, check};
-use zw_base::Bytes;
+use unit_report::check;
 use zw_words::Side;
 
 /// Every word of a line, at least once.
@@ -35,27 +34,17 @@ const CASES: &[(&str, Side, &str)] = &[
     ),
 ];
 
-/// Texts that are no hex, and the first place where they are not.
-const REFUSED: &[(&str, u64)] = &[("0103001", 7), ("01 0g", 4), ("0 1 0", 5), ("0x", 1)];
-
-fn said(alloc: Global, text: &str, from: Side) -> Result<Bytes, CheckFault> {
-    check(alloc, text.as_bytes(), from)
+/// Whether the lines are written of a text.
+fn is_said(alloc: Global, text: &str, from: Side, lines: &str) -> bool {
+    match check(alloc, text.as_bytes(), from) {
+        Ok(written) => written.as_slice() == lines.as_bytes(),
+        Err(_) => false,
+    }
 }
 
 #[test]
-fn texts_are_named(rt: HostRuntime) -> Result<(), Fail> {
-    for (text, from, lines) in CASES {
-        let written = said(rt.alloc(), text, *from).ok().ok_or("no lines")?;
-        assert!(rt; written.as_slice() == lines.as_bytes(), "at {text:?}");
+fn texts_are_named(rt: HostRuntime) {
+    for (row, (text, from, lines)) in CASES.iter().enumerate() {
+        check_row(&rt, is_said(rt.alloc(), text, *from, lines), row);
     }
-    Ok(())
-}
-
-#[test]
-fn other_texts_are_refused(rt: HostRuntime) -> Result<(), Fail> {
-    for (text, place) in REFUSED {
-        let refused = said(rt.alloc(), text, Side::Chip).err();
-        assert!(rt; refused == Some(CheckFault::BadHex(*place)), "at {text:?}");
-    }
-    Ok(())
 }
