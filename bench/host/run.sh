@@ -4,7 +4,7 @@ set -eu
 top=$(cd "$(dirname "$0")/../.." && pwd)
 . "$top/bench/workspace.sh"
 
-uses="zw_base zw_order serial_frame host_keep host_core"
+uses="zw_base zw_base serial_frame host_keep host_core"
 workspace_of host_bench "$top/bench/host/main.txt" $(all_below $uses)
 sed -i "s/^host_bench: .*/host_bench: $uses/" "$work/crates.txt"
 run_program

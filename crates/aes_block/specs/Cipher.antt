@@ -44,7 +44,7 @@ word_of f = f 0 ∷ f 1 ∷ f 2 ∷ f 3 ∷ []
 abbrev pub sum_of_words : List ℕ → List ℕ → List ℕ
 sum_of_words a b = word_of (λ r. bit_xor (slice_index a r) (slice_index b r))
 
--- RotWord: each byte one place to the front (5.2)
+-- RotWord: each byte one place to the prefix (5.2)
 abbrev pub rot_word : List ℕ → List ℕ
 rot_word w = word_of (λ r. slice_index w ((r + 1) % 4))
 

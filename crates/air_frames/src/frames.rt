@@ -1,6 +1,27 @@
 //! The frames that are kept.
 
-ghost use Rattle.std.specs.Prelude.{◌≡◌, ◌+◌, ◌-◌, ◌<◌, ◌≤◌, ◌^◌, ◌⊎◌, [], ◌∷◌, ◌++◌, nat_lt, length, slice_set, IfOk, OnOk, OnErr, IsSome, MatchResult, Some, None};
+ghost use Rattle.std.specs.Prelude.{
+  ◌≡◌,
+  ◌+◌,
+  ◌-◌,
+  ◌<◌,
+  ◌≤◌,
+  ◌^◌,
+  ◌⊎◌,
+  [],
+  ◌∷◌,
+  ◌++◌,
+  nat_lt,
+  length,
+  slice_set,
+  IfOk,
+  OnOk,
+  OnErr,
+  IsSome,
+  MatchResult,
+  Some,
+  None,
+};
 ghost use Rattle.std.specs.Option.{option_copied};
 ghost use Rattle.air_frames.specs.Flown.{IsSound};
 ghost use Rattle.air_frames.specs.Frames.{no_frames, peer_of, putting, landing, next_of, remembered};
@@ -204,7 +225,7 @@ impl Frames {
     }
 }
 
-/// Puts a frame behind those of the ring, where so many are on the air then. The oldest gives way where the ring is full,
+/// Puts a frame after those of the ring, where so many are on the air then. The oldest gives way where the ring is full,
 /// and is kept apart where it is still on the air.
 fn keep(ring: &mut HeapCircularBuffer<Frame>, late: &mut VecDeque<Frame>, frame: Frame, flying: u64)
     requires capacity { ring.old.capacity ≡ 4097 }

@@ -5,10 +5,10 @@ use Rattle.std.proofs.lemmas.Bool.{cases_eq}
 use Rattle.zw_base.specs.declared.property.Setting.{Setting}
 use Rattle.zw_text.specs.declared.entry.Entry.{Entry}
 use Rattle.zw_text.specs.Entry.{entry_text}
-use Rattle.transcript_books.specs.declared.group.Maker.{Maker}
-use Rattle.transcript_books.specs.Groups.{EndsGroup, IsBehind, IsGroup, maker_at, setting_by}
-use Rattle.transcript_books.specs.Lines.{IsNext, IsNoLine}
-use Rattle.transcript_books.proofs.Cuts.{next-entry, next-rest}
+use Rattle.audit_books.specs.declared.group.Maker.{Maker}
+use Rattle.audit_books.specs.Groups.{EndsGroup, IsFollowing, IsGroup, maker_at, setting_by}
+use Rattle.audit_books.specs.Lines.{IsNext, IsNoLine}
+use Rattle.audit_books.proofs.Cuts.{next-entry, next-rest}
 use Rattle.audit.specs.Breaking.{Ends, HasOneAnswer, IsBroken, IsJudged, Keeps}
 use Rattle.audit.specs.declared.breaks.Break.{Break}
 use Rattle.audit.specs.declared.breaks.Break.TheVariants.{Air, Once, Payload, Sessions, Store, Table, Text}
@@ -38,12 +38,12 @@ group-there zero maker text low none = omega (arith, low)
 group-there (suc fuel) maker text low none =
     none [] (ends-group maker text (λ rest less. group-there fuel maker rest (omega (arith, low, less))) none)
 
-behind-there : (maker : Option Maker) (text : List ℕ) → ((settings : List Setting) → IsBehind maker text settings → ⊥) → ⊥
-behind-there None text none = none [] refl
-behind-there (Some maker) text none = group-there (suc (length text)) maker text (omega arith) none
+following-there : (maker : Option Maker) (text : List ℕ) → ((settings : List Setting) → IsFollowing maker text settings → ⊥) → ⊥
+following-there None text none = none [] refl
+following-there (Some maker) text none = group-there (suc (length text)) maker text (omega arith) none
 
 judged-apart : (past : List Entry) (entry : Entry) (text : List ℕ) (a b : Option Break) → IsJudged past entry text a → IsJudged past entry text b → (a ≡ b → ⊥) → ⊥
-judged-apart past entry text a b first second apart = behind-there (maker_at entry) text (λ settings is. apart (first settings is ∙ sym (second settings is)))
+judged-apart past entry text a b first second apart = following-there (maker_at entry) text (λ settings is. apart (first settings is ∙ sym (second settings is)))
 
 -- ---- rules
 
@@ -152,7 +152,7 @@ ends-once past text (Some (line, broken)) None first second = absurd (broken-the
 ends-once past text (Some (line, broken)) (Some (at, rule)) first second =
     ap₂ (λ (n : ℕ) (b : Break). Some (n, b)) (first.0 ∙ sym second.0) (broken-once past text broken rule first.1 second.1)
 
--- behind entries of which none breaks a rule the answer is not at an entry that breaks none
+-- after entries of which none breaks a rule the answer is not at an entry that breaks none
 ends-later : (past : List Entry) (text : List ℕ) (found : Option (ℕ × Break)) (entry : Entry) (more : List ℕ) → Ends past text found →
     IsNext text entry more → IsJudged past entry more None → ⊥
 ends-later past text None entry more ends next judged = not-empty text entry more next ends

@@ -1,40 +1,40 @@
 -- All that is kept goes with the transcript, and judges the next entry.
 use Rattle.std.proofs.Common.{◌≡◌, ℕ, cond, Bool, true, false, List, [], ◌∷◌, ◌++◌, Option, Some, None, ap, ap₂, refl, sym, subst, ◌∙◌}
 use Rattle.zw_base.specs.declared.property.Setting.{Setting}
-use Rattle.zw_order.specs.declared.order.Order.{Order}
+use Rattle.zw_base.specs.declared.order.Order.{Order}
 use Rattle.zw_text.specs.declared.line.Line.{Line}
 use Rattle.zw_text.specs.declared.entry.Entry.{Entry}
 use Rattle.zw_text.specs.declared.entry.Entry.TheVariants.{Said}
 use Rattle.zw_text.specs.Fits.{EntryFits}
-use Rattle.transcript_books.specs.declared.endings.Ending.{Ending}
-use Rattle.transcript_books.specs.Accepting.{order_at, orders_after}
-use Rattle.transcript_books.specs.Beginning.{no_sessions, sessions_after}
-use Rattle.transcript_books.specs.Changing.{IsChangingAfter, no_changes}
-use Rattle.transcript_books.specs.Ending.{ending_after, ending_in, no_ending}
-use Rattle.transcript_books.specs.Groups.{IsBehind, maker_at}
-use Rattle.transcript_books.specs.Keeping.{AreChangesOf, AreOf, BeginSo, ChangesBegin, ChangesGoOn, GoOn}
-use Rattle.transcript_books.specs.Scenes.{Scenery, no_line, scene_after}
-use Rattle.transcript_books.specs.OnceRule.{breaks_once}
-use Rattle.transcript_books.specs.SessionRule.{breaks_sessions}
+use Rattle.audit_books.specs.declared.endings.Ending.{Ending}
+use Rattle.audit_books.specs.Accepting.{order_at, orders_after}
+use Rattle.audit_books.specs.Beginning.{no_sessions, sessions_after}
+use Rattle.audit_books.specs.Changing.{IsChangingAfter, no_changes}
+use Rattle.audit_books.specs.Ending.{ending_after, ending_in, no_ending}
+use Rattle.audit_books.specs.Groups.{IsFollowing, maker_at}
+use Rattle.audit_books.specs.Keeping.{AreChangesOf, AreOf, BeginSo, ChangesBegin, ChangesGoOn, GoOn}
+use Rattle.audit_books.specs.Scenes.{Scenery, no_line, scene_after}
+use Rattle.audit_books.specs.OnceRule.{breaks_once}
+use Rattle.audit_books.specs.SessionRule.{breaks_sessions}
 use Rattle.audit.specs.declared.breaks.Break.{Break}
 use Rattle.audit.specs.declared.breaks.Break.TheVariants.{Air, Once, Payload, Sessions, Store, Table}
-use Rattle.audit_table.specs.OrdersGiven.{Accepting, accepting_at, accepting_behind, line_shown}
-use Rattle.audit_frames.specs.Ticks.{ticks_behind}
-use Rattle.audit_frames.specs.AirRule.{breaks_air}
-use Rattle.audit_payloads.specs.PayloadRule.{breaks_payload}
-use Rattle.audit_table.specs.StoreRule.{breaks_store, breaks_storing, storing_behind}
+use Rattle.audit_table.specs.OrdersGiven.{Accepting, accepting_at, accepting_after, line_shown}
+use Rattle.audit_rules.specs.Ticks.{ticks_following}
+use Rattle.audit_rules.specs.AirRule.{breaks_air}
+use Rattle.audit_rules.specs.PayloadRule.{breaks_payload}
+use Rattle.audit_table.specs.StoreRule.{breaks_store, breaks_storing, storing_after}
 use Rattle.audit_table.specs.TableRule.{breaks_table}
 use Rattle.audit.specs.Breaking.{IsJudged, first_of_rest}
-use Rattle.audit_frames.specs.Flying.{breaks_flying, flying_after, no_frames}
+use Rattle.audit_rules.specs.Flying.{breaks_flying, flying_after, no_frames}
 use Rattle.audit_table.specs.Knowing.{IsWithin, breaks_closing, closing_after, no_closing}
-use Rattle.audit_payloads.specs.Sending.{breaks_sending, no_sendings, sendings_after}
+use Rattle.audit_rules.specs.Sending.{breaks_sending, no_sendings, sendings_after}
 use Rattle.audit_table.specs.Keeping.{AreClosingOf}
-use Rattle.audit_frames.specs.Keeping.{AreFlyingOf}
-use Rattle.audit_payloads.specs.Keeping.{AreSendingsOf}
+use Rattle.audit_rules.specs.KeepingFrames.{AreFlyingOf}
+use Rattle.audit_rules.specs.KeepingPayloads.{AreSendingsOf}
 use Rattle.audit.specs.Keeping.{IsKeptOf, Kept, KeepsTables}
 use Rattle.zw_text.proofs.Views.{folded-append}
-use Rattle.audit_frames.proofs.Flies.{air-begins, goes-air, judges-air}
-use Rattle.audit_payloads.proofs.Picks.{goes-payload, judges-payload, payloads-begin}
+use Rattle.audit_rules.proofs.Flies.{air-begins, goes-air, judges-air}
+use Rattle.audit_rules.proofs.Picks.{goes-payload, judges-payload, payloads-begin}
 use Rattle.audit_table.proofs.Closes.{closing-begins, goes-closing, judges-table, none-some}
 
 -- ---- judging
@@ -76,18 +76,18 @@ same-judged : (sessions sessions' once once' : Bool) (rest rest' : Option Break)
 same-judged sessions sessions' once once' rest rest' s o r = ap₂ (λ b c. cond b (Some Sessions) c) s (ap₂ (λ b c. cond b (Some Once) c) o r)
 
 pub judged-sessions : (past : List Entry) (entry : Entry) (rest : List ℕ) → breaks_sessions past entry ≡ true → IsJudged past entry rest (Some Sessions)
-judged-sessions past entry rest broken behind group =
-    same-judged true (breaks_sessions past entry) (breaks_once past entry behind) (breaks_once past entry behind) (first_of_rest past entry) (first_of_rest past entry) (sym broken) refl refl
+judged-sessions past entry rest broken following group =
+    same-judged true (breaks_sessions past entry) (breaks_once past entry following) (breaks_once past entry following) (first_of_rest past entry) (first_of_rest past entry) (sym broken) refl refl
 
 pub judged-once : (past : List Entry) (entry : Entry) (rest : List ℕ) → breaks_sessions past entry ≡ false →
-    ((behind : List Setting) → IsBehind (maker_at entry) rest behind → breaks_once past entry behind ≡ true) → IsJudged past entry rest (Some Once)
-judged-once past entry rest keeps broken behind group =
-    same-judged false (breaks_sessions past entry) true (breaks_once past entry behind) (first_of_rest past entry) (first_of_rest past entry) (sym keeps) (sym (broken behind group)) refl
+    ((following : List Setting) → IsFollowing (maker_at entry) rest following → breaks_once past entry following ≡ true) → IsJudged past entry rest (Some Once)
+judged-once past entry rest keeps broken following group =
+    same-judged false (breaks_sessions past entry) true (breaks_once past entry following) (first_of_rest past entry) (first_of_rest past entry) (sym keeps) (sym (broken following group)) refl
 
 pub judged-rest : (past : List Entry) (entry : Entry) (rest : List ℕ) (found : Option Break) → breaks_sessions past entry ≡ false →
-    ((behind : List Setting) → IsBehind (maker_at entry) rest behind → breaks_once past entry behind ≡ false) → found ≡ first_of_rest past entry → IsJudged past entry rest found
-judged-rest past entry rest found keeps once is behind group =
-    same-judged false (breaks_sessions past entry) false (breaks_once past entry behind) found (first_of_rest past entry) (sym keeps) (sym (once behind group)) is
+    ((following : List Setting) → IsFollowing (maker_at entry) rest following → breaks_once past entry following ≡ false) → found ≡ first_of_rest past entry → IsJudged past entry rest found
+judged-rest past entry rest found keeps once is following group =
+    same-judged false (breaks_sessions past entry) false (breaks_once past entry following) found (first_of_rest past entry) (sym keeps) (sym (once following group)) is
 
 -- ---- the first tables
 
@@ -110,7 +110,7 @@ begins-kept kept begin change scene orders ended sessions changes air payloads s
 
 -- ---- one entry more
 
-ticks-more : (scene : Scenery) (entry : Entry) → (scene_after scene entry).ticks ≡ ticks_behind scene.ticks entry
+ticks-more : (scene : Scenery) (entry : Entry) → (scene_after scene entry).ticks ≡ ticks_following scene.ticks entry
 ticks-more scene (Said words) = refl
 ticks-more scene other = refl
 
@@ -118,8 +118,8 @@ line-more : (scene : Scenery) (entry : Entry) → (scene_after scene entry).line
 line-more scene (Said words) = refl
 line-more scene other = refl
 
-accepting-more : (past : List Entry) (entry : Entry) → accepting_at (past ++ (entry ∷ [])) ≡ accepting_behind (accepting_at past) entry
-accepting-more past entry = folded-append accepting_behind (record { orders = []; line = None }) past (entry ∷ [])
+accepting-more : (past : List Entry) (entry : Entry) → accepting_at (past ++ (entry ∷ [])) ≡ accepting_after (accepting_at past) entry
+accepting-more past entry = folded-append accepting_after (record { orders = []; line = None }) past (entry ∷ [])
 
 same-tables : (line line' : Option Line) (orders orders' : List (Option Order)) (endings : List (ℕ × Ending)) (sessions sessions' : List (List ℕ)) (past : List Entry) →
     line' ≡ line → orders' ≡ orders → sessions' ≡ sessions → AreOf line orders endings sessions past → AreOf line' orders' endings sessions' past
@@ -131,7 +131,7 @@ pub takes-kept : (kept after : Kept) (past : List Entry) (entry : Entry) → GoO
     after.scene ≡ scene_after kept.scene entry → after.orders ≡ orders_after kept.orders kept.scene.line entry →
     ((command : ℕ) → ending_in after.endings command ≡ ending_after (ending_in kept.endings command) command entry) → after.sessions ≡ sessions_after kept.sessions entry →
     IsChangingAfter kept.changes kept.sessions entry after.changes → after.air ≡ flying_after kept.air kept.scene kept.sessions entry → after.payloads ≡ sendings_after kept.payloads entry →
-    after.stores ≡ storing_behind kept.stores entry → after.closing ≡ closing_after kept.closing kept.scene.line (ending_in kept.endings) kept.orders kept.sessions entry →
+    after.stores ≡ storing_after kept.stores entry → after.closing ≡ closing_after kept.closing kept.scene.line (ending_in kept.endings) kept.orders kept.sessions entry →
     IsKeptOf after (past ++ (entry ∷ []))
 takes-kept kept after past entry go change are fits keeps within scene orders ended sessions changing air payloads stores closing = record {
   books =
@@ -139,8 +139,8 @@ takes-kept kept after past entry go change are fits keeps within scene orders en
       (sessions_after kept.sessions entry) after.sessions (past ++ (entry ∷ [])) (ap (λ (s : Scenery). s.line) scene) orders sessions
       (go kept.scene kept.orders kept.endings after.endings kept.sessions past entry are.books fits keeps.sessions ended);
   ticks =
-      ap (λ (s : Scenery). s.ticks) scene ∙ ticks-more kept.scene entry ∙ ap (λ t. ticks_behind t entry) are.ticks
-      ∙ sym (folded-append ticks_behind false past (entry ∷ []));
+      ap (λ (s : Scenery). s.ticks) scene ∙ ticks-more kept.scene entry ∙ ap (λ t. ticks_following t entry) are.ticks
+      ∙ sym (folded-append ticks_following false past (entry ∷ []));
   line = ap (λ (s : Scenery). s.line) scene ∙ line-more kept.scene entry ∙ sym (ap (λ (a : Accepting). a.line) (accepting-more past entry));
   orders =
       orders ∙ ap₂ (λ o l. orders_after o l entry) are.orders are.line ∙ sym (ap (λ (a : Accepting). a.orders) (accepting-more past entry));
@@ -149,7 +149,7 @@ takes-kept kept after past entry go change are fits keeps within scene orders en
       subst (λ a. AreFlyingOf a (past ++ (entry ∷ []))) (sym air)
       (goes-air kept.air kept.scene kept.sessions past entry are.air are.ticks (λ node below. are.books.sessions node below) fits keeps.air);
   payloads = subst (λ a. AreSendingsOf a (past ++ (entry ∷ []))) (sym payloads) (goes-payload kept.payloads past entry are.payloads keeps.payload);
-  stores = stores ∙ ap (λ s. storing_behind s entry) are.stores ∙ sym (folded-append storing_behind None past (entry ∷ []));
+  stores = stores ∙ ap (λ s. storing_after s entry) are.stores ∙ sym (folded-append storing_after None past (entry ∷ []));
   closing =
       subst (λ a. AreClosingOf a (past ++ (entry ∷ []))) (sym closing)
       (goes-closing kept.closing kept.scene.line (ending_in kept.endings) kept.orders kept.sessions past entry are.closing within fits are.books.line

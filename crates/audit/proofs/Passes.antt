@@ -3,7 +3,7 @@ use Rattle.std.proofs.Common.{◌≡◌, ℕ, ◌+◌, eqb, true, length, List, 
 use Rattle.std.proofs.lemmas.Bool.{eqb-true}
 use Rattle.std.proofs.lemmas.List.{append_assoc}
 use Rattle.zw_text.specs.declared.entry.Entry.{Entry}
-use Rattle.transcript_books.specs.Lines.{IsNext}
+use Rattle.audit_books.specs.Lines.{IsNext}
 use Rattle.audit.specs.Breaking.{Examined, IsBroken, IsJudged, Keeps}
 use Rattle.audit.specs.Keeping.{IsKeptOf, IsTaken, Kept}
 use Rattle.audit.specs.declared.breaks.Break.{Break}

@@ -3,12 +3,12 @@
 use Rattle.std.specs.Prelude.{◌≡◌, ℕ, ◌+◌, if◌then◌else◌, List, [], ◌∷◌, ◌++◌, length, Option, Some, None}
 use Rattle.zw_base.specs.declared.property.Setting.{Setting}
 use Rattle.zw_text.specs.declared.entry.Entry.{Entry}
-use Rattle.transcript_books.specs.Lines.{IsNext, IsNoLine}
-use Rattle.transcript_books.specs.Groups.{IsBehind, maker_at}
-use Rattle.transcript_books.specs.SessionRule.{breaks_sessions}
-use Rattle.transcript_books.specs.OnceRule.{breaks_once}
-use Rattle.audit_frames.specs.AirRule.{breaks_air}
-use Rattle.audit_payloads.specs.PayloadRule.{breaks_payload}
+use Rattle.audit_books.specs.Lines.{IsNext, IsNoLine}
+use Rattle.audit_books.specs.Groups.{IsFollowing, maker_at}
+use Rattle.audit_books.specs.SessionRule.{breaks_sessions}
+use Rattle.audit_books.specs.OnceRule.{breaks_once}
+use Rattle.audit_rules.specs.AirRule.{breaks_air}
+use Rattle.audit_rules.specs.PayloadRule.{breaks_payload}
 use Rattle.audit_table.specs.StoreRule.{breaks_store}
 use Rattle.audit_table.specs.TableRule.{breaks_table}
 use Rattle.audit.specs.declared.breaks.Break.{Break}
@@ -23,16 +23,16 @@ first_of_rest past entry =
     else if breaks_table past entry then Some Table
     else None
 
--- the first rule that an entry breaks; `behind` are the settings of the lines that go on with its change
+-- the first rule that an entry breaks; `following` are the settings of the lines that go on with its change
 abbrev pub first_broken : List Entry → Entry → List Setting → Option Break
-first_broken past entry behind =
+first_broken past entry following =
     if breaks_sessions past entry then Some Sessions
-    else if breaks_once past entry behind then Some Once
+    else if breaks_once past entry following then Some Once
     else first_of_rest past entry
 
 -- an entry before that text is judged so
 abbrev pub IsJudged : List Entry → Entry → List ℕ → Option Break → Type 0
-IsJudged past entry text broken = (behind : List Setting) → IsBehind (maker_at entry) text behind → broken ≡ first_broken past entry behind
+IsJudged past entry text broken = (following : List Setting) → IsFollowing (maker_at entry) text following → broken ≡ first_broken past entry following
 
 -- the text goes on with the lines of these entries, of which none breaks a rule, and then with that rest
 abbrev pub Keeps : List Entry → List ℕ → List Entry → List ℕ → Type 0
@@ -45,7 +45,7 @@ abbrev pub IsBroken : List Entry → List ℕ → Break → Type 0
 IsBroken past text Text = (text ≡ [] → ⊥) × IsNoLine text
 IsBroken past text broken = (entry : Entry) × (more : List ℕ) × IsNext text entry more × IsJudged past entry more (Some broken)
 
--- behind entries of which none breaks a rule the text is at its end, or goes on with the line that breaks that one
+-- after entries of which none breaks a rule the text is at its end, or goes on with the line that breaks that one
 abbrev pub Ends : List Entry → List ℕ → Option (ℕ × Break) → Type 0
 Ends past text None = text ≡ []
 Ends past text (Some (line, broken)) = (line ≡ length past + 1) × IsBroken past text broken

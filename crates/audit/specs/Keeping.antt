@@ -1,25 +1,25 @@
 -- That all that is kept is that of a transcript.
 use Rattle.std.specs.Prelude.{◌≡◌, ℕ, false, List, [], ◌∷◌, ◌++◌, Option, None}
-use Rattle.zw_order.specs.declared.order.Order.{Order}
+use Rattle.zw_base.specs.declared.order.Order.{Order}
 use Rattle.zw_text.specs.declared.entry.Entry.{Entry}
-use Rattle.transcript_books.specs.declared.endings.Ending.{Ending}
-use Rattle.transcript_books.specs.Scenes.{Scenery}
-use Rattle.transcript_books.specs.Changing.{Changing}
-use Rattle.transcript_books.specs.SessionRule.{breaks_sessions}
-use Rattle.transcript_books.specs.Keeping.{AreChangesOf, AreOf}
-use Rattle.transcript_books.specs.Lines.{IsNext}
-use Rattle.audit_frames.specs.Keeping.{AreFlyingOf}
-use Rattle.audit_payloads.specs.Keeping.{AreSendingsOf}
+use Rattle.audit_books.specs.declared.endings.Ending.{Ending}
+use Rattle.audit_books.specs.Scenes.{Scenery}
+use Rattle.audit_books.specs.Changing.{Changing}
+use Rattle.audit_books.specs.SessionRule.{breaks_sessions}
+use Rattle.audit_books.specs.Keeping.{AreChangesOf, AreOf}
+use Rattle.audit_books.specs.Lines.{IsNext}
+use Rattle.audit_rules.specs.KeepingFrames.{AreFlyingOf}
+use Rattle.audit_rules.specs.KeepingPayloads.{AreSendingsOf}
 use Rattle.audit_table.specs.Keeping.{AreClosingOf}
 use Rattle.audit.specs.Breaking.{IsJudged}
 use Rattle.audit_table.specs.declared.stores.Storing.{Storing}
 use Rattle.audit_table.specs.OrdersGiven.{accepting_at}
-use Rattle.audit_frames.specs.Ticks.{runs_ticks}
+use Rattle.audit_rules.specs.Ticks.{runs_ticks}
 use Rattle.audit_table.specs.StoreRule.{storing_last}
-use Rattle.audit_frames.specs.AirRule.{breaks_air}
-use Rattle.audit_payloads.specs.PayloadRule.{breaks_payload}
-use Rattle.audit_frames.specs.Flying.{Flying}
-use Rattle.audit_payloads.specs.Sending.{Sendings}
+use Rattle.audit_rules.specs.AirRule.{breaks_air}
+use Rattle.audit_rules.specs.PayloadRule.{breaks_payload}
+use Rattle.audit_rules.specs.Flying.{Flying}
+use Rattle.audit_rules.specs.Sending.{Sendings}
 use Rattle.audit_table.specs.Knowing.{Closing}
 
 -- all that is kept of the entries so far

@@ -8,12 +8,11 @@ ghost use Rattle.audit.specs.declared.breaks.Break.TheVariants.{Text};
 ghost use Rattle.audit.specs.Keeping.{IsKeptOf, KeepsTables};
 
 use crate::Break;
-use audit_frames::Air;
-use audit_payloads::Payloads;
+use audit_books::{Changes, Endings, Orders, Scene, Sessions, changes_follow, tables_follow};
+use audit_rules::{Air, Payloads};
 use audit_table::{Closing, Stores};
 use std::alloc::Global;
 use std::marker::Model;
-use transcript_books::{Changes, Endings, Orders, Scene, Sessions, changes_follow, tables_follow};
 use zw_base::NoMemory;
 use zw_text::Entry;
 
@@ -84,10 +83,12 @@ impl Ledger {
         }
     }
 
-    /// The first rule that the next entry breaks; that text stands behind it.
+    /// The first rule that the next entry breaks; that text stands after it.
     pub fn judge(&self, entry: &Entry, rest: &[u8]) -> Result<Option<Break>, NoMemory>
-        ensures judged { IfOk result (λ broken. (past : Items AnyEntry) → IsKeptOf self.now past → EntryFits entry.now → IsJudged past entry.now rest.now broken) }
-        ensures keeps { IfOk result (λ broken. (past : Items AnyEntry) → IsKeptOf self.now past → EntryFits entry.now → broken ≡ None → KeepsTables past entry.now) }
+        ensures judged { IfOk result (λ broken. (past : Items AnyEntry) → IsKeptOf self.now past → EntryFits entry.now →
+            IsJudged past entry.now rest.now broken) }
+        ensures keeps { IfOk result (λ broken. (past : Items AnyEntry) → IsKeptOf self.now past → EntryFits entry.now → broken ≡ None →
+            KeepsTables past entry.now) }
         ensures no_text { IfOk result (λ broken. broken ≡ Some Text → ⊥) }
     {
         tables_follow();
@@ -106,7 +107,8 @@ impl Ledger {
 
     /// Takes the next entry.
     pub fn take(&mut self, entry: &Entry) -> Result<(), NoMemory>
-        ensures { OnOk result ((past : Items AnyEntry) → IsKeptOf self.old past → EntryFits entry.now → KeepsTables past entry.now → IsKeptOf self.new (past ++ (entry.now ∷ []))) }
+        ensures { OnOk result ((past : Items AnyEntry) → IsKeptOf self.old past → EntryFits entry.now → KeepsTables past entry.now →
+            IsKeptOf self.new (past ++ (entry.now ∷ []))) }
     {
         tables_follow();
         changes_follow();

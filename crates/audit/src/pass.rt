@@ -7,8 +7,8 @@ ghost use Rattle.audit.specs.Keeping.{IsKeptOf, IsTaken};
 
 use crate::Break;
 use crate::ledger::Ledger;
+use audit_books::next_entry;
 use std::alloc::Global;
-use transcript_books::next_entry;
 use zw_base::NoMemory;
 
 /// A text has one answer at most.
@@ -16,14 +16,15 @@ pub fn one_answer()
     ensures { HasOneAnswer }
 {}
 
-/// Judges the first line of a text, and takes it: what is behind it, or the rule that it breaks.
+/// Judges the first line of a text, and takes it: what is after it, or the rule that it breaks.
 fn take_line<'a>(
     alloc: Global,
     ledger: &mut Ledger,
     text: &'a [u8],
 ) -> Result<Result<&'a [u8], Break>, NoMemory>
     ensures taken { IfOk result (λ line. IfOk line (λ rest. (past : Items AnyEntry) → IsKeptOf ledger.old past → IsTaken past text.now rest.now ledger.new)) }
-    ensures broken { IfOk result (λ line. IfErr line (λ rule. (past : Items AnyEntry) → IsKeptOf ledger.old past → (text.now ≡ [] → ⊥) → IsBroken past text.now rule)) }
+    ensures broken { IfOk result (λ line. IfErr line (λ rule. (past : Items AnyEntry) → IsKeptOf ledger.old past → (text.now ≡ [] → ⊥) →
+        IsBroken past text.now rule)) }
 {
     let Some((entry, rest)) = next_entry(alloc, text)? else {
         return Ok(Err(Break::Text));

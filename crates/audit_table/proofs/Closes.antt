@@ -9,30 +9,30 @@ use Rattle.std.proofs.lemmas.List.{get_or-set_same, get_or-set_other, length-rep
 use Rattle.std.proofs.lemmas.List.Folds.{list_any-append}
 use Rattle.std.proofs.lemmas.Bool.{false≢true, cases_eq, eq-eqb, ne_eqb}
 use Rattle.zw_base.specs.declared.property.Setting.{Setting}
-use Rattle.zw_order.specs.declared.order.Order.{Order}
+use Rattle.zw_base.specs.declared.order.Order.{Order}
 use Rattle.zw_text.specs.declared.line.Line.{Line}
 use Rattle.zw_text.specs.declared.line.Line.TheVariants as lines
 use Rattle.zw_text.specs.declared.entry.Entry.{Entry}
 use Rattle.zw_text.specs.declared.entry.Entry.TheVariants.{Refused, Dev, Report, TableEnd, TableNode, TableValue, Device}
 use Rattle.zw_text.specs.Fits.{EntryFits}
-use Rattle.zw_text.specs.Transcript.{Doing, Made, doing_step, endings, folded, join_of, line_behind, line_last, line_of, lines_done, made, made_at, reported, reported_at, sessions}
-use Rattle.zw_laws.specs.Restarts.{begins_refused, is_restart, since_restart, since_restart_from}
-use Rattle.transcript_books.specs.declared.endings.Ending.{Ending}
-use Rattle.transcript_books.specs.Beginning.{sessions_of}
-use Rattle.transcript_books.specs.Ending.{no_ending}
-use Rattle.transcript_books.specs.Keeping.{ending_from, lines_of}
-use Rattle.transcript_books.proofs.Views.{same-at}
+use Rattle.zw_text.specs.Transcript.{Doing, Made, doing_step, endings, folded, join_of, line_after, line_last, line_of, lines_done, made, made_at, reported, reported_at, sessions}
+use Rattle.law_transcript.specs.Restarts.{begins_refused, is_restart, since_restart, since_restart_from}
+use Rattle.audit_books.specs.declared.endings.Ending.{Ending}
+use Rattle.audit_books.specs.Beginning.{sessions_of}
+use Rattle.audit_books.specs.Ending.{no_ending}
+use Rattle.audit_books.specs.Keeping.{ending_from, lines_of}
+use Rattle.audit_books.proofs.Views.{same-at}
 use Rattle.audit_table.specs.OrdersGiven.{accepting_at}
-use Rattle.audit_table.specs.TableRule.{before_end, behind_end, breaks_end, breaks_row, breaks_table, has_end, is_end, is_row, next_row, rows, settings_made}
+use Rattle.audit_table.specs.TableRule.{before_end, following_end, breaks_end, breaks_row, breaks_table, has_end, is_end, is_row, next_row, rows, settings_made}
 use Rattle.audit_table.specs.Knowing.{Closing, IsWithin, Knowns, after_line, all_rows, breaks_closing, breaks_closing_by, breaks_due, closing_after, closing_shown, counts_row, ends_with, first_joined, line_done, no_closing, no_values, values_of, values_with, with_last}
-use Rattle.audit_table.specs.Keeping.{AreClosingOf, AreLast, Since, doing, is_joined, is_refusal, since, since_behind}
+use Rattle.audit_table.specs.Keeping.{AreClosingOf, AreLast, Since, doing, is_joined, is_refusal, since, since_after}
 use Rattle.zw_text.proofs.Views.{folded-append, shown-append}
 use Rattle.audit_table.proofs.Knows.{last-more, none-last}
 use Rattle.audit_table.proofs.TableLines.{rows-are}
 
 -- ---- lines
 
-last-kept : (past : List Entry) (d : Doing) (lines : List Line) → d.last ≡ lines → (folded doing_step d past).last ≡ folded line_behind lines past
+last-kept : (past : List Entry) (d : Doing) (lines : List Line) → d.last ≡ lines → (folded doing_step d past).last ≡ folded line_after lines past
 last-kept [] d ls same = same
 last-kept (Refused refusal ∷ past) d ls same = last-kept past (doing_step d (Refused refusal)) [] refl
 last-kept (entry ∷ past) d ls same = last-kept past (doing_step d entry) (line_of entry) refl
@@ -132,15 +132,15 @@ after-within closing past line entry are within same =
 
 -- ---- restarts
 
-since-line : (past : List Entry) (s : Since) (ls : List Line) → s.line ≡ ls → (folded since_behind s past).line ≡ folded line_behind ls past
+since-line : (past : List Entry) (s : Since) (ls : List Line) → s.line ≡ ls → (folded since_after s past).line ≡ folded line_after ls past
 since-line [] s ls same = same
-since-line (entry ∷ past) s ls same = since-line past (since_behind s entry) (line_of entry) refl
+since-line (entry ∷ past) s ls same = since-line past (since_after s entry) (line_of entry) refl
 
 since-last : (past : List Entry) → (since past).line ≡ line_last past
 since-last past = since-line past (record { entries = []; line = [] }) [] refl
 
-since-more : (past : List Entry) (entry : Entry) → since (past ++ (entry ∷ [])) ≡ since_behind (since past) entry
-since-more past entry = folded-append since_behind (record { entries = []; line = [] }) past (entry ∷ [])
+since-more : (past : List Entry) (entry : Entry) → since (past ++ (entry ∷ [])) ≡ since_after (since past) entry
+since-more past entry = folded-append since_after (record { entries = []; line = [] }) past (entry ∷ [])
 
 -- the line of the last entry counts as done
 abbrev resolved : Since → List Entry
@@ -150,10 +150,10 @@ refusal-begins : (entry : Entry) (rest : List Entry) → begins_refused (entry �
 refusal-begins (Refused refusal) rest = refl
 refusal-begins other rest = refl
 
-since-from : (xs : List Entry) (s : Since) → resolved (folded since_behind s xs) ≡ since_restart_from (cond (is_restart s.line && not (begins_refused xs)) [] s.entries) xs
+since-from : (xs : List Entry) (s : Since) → resolved (folded since_after s xs) ≡ since_restart_from (cond (is_restart s.line && not (begins_refused xs)) [] s.entries) xs
 since-from [] s = ap (λ b. cond b [] s.entries) (sym (and-true (is_restart s.line)))
 since-from (entry ∷ xs) s =
-    since-from xs (since_behind s entry)
+    since-from xs (since_after s entry)
     ∙ ap (λ b. since_restart_from (cond (is_restart (line_of entry) && not (begins_refused xs)) [] (cond (is_restart s.line && not b) [] s.entries ++ (entry ∷ []))) xs)
     (sym (refusal-begins entry xs))
 
@@ -237,24 +237,24 @@ before-more (first ∷ past) entry = by (is_end first) (before-more past entry)
     by true later = refl
     by false later = ap (λ l. first ∷ l) later ∙ push (has_end past)
 
-behind-more : (past : List Entry) (entry : Entry) → behind_end (past ++ (entry ∷ [])) ≡ cond (has_end past) (behind_end past ++ (entry ∷ [])) []
-behind-more [] entry = by (is_end entry)
+following-more : (past : List Entry) (entry : Entry) → following_end (past ++ (entry ∷ [])) ≡ cond (has_end past) (following_end past ++ (entry ∷ [])) []
+following-more [] entry = by (is_end entry)
   where
     by : (b : Bool) → cond {A = List Entry} b [] [] ≡ []
     by true = refl
     by false = refl
-behind-more (first ∷ past) entry = by (is_end first) (behind-more past entry)
+following-more (first ∷ past) entry = by (is_end first) (following-more past entry)
   where
-    by : (b : Bool) → behind_end (past ++ (entry ∷ [])) ≡ cond (has_end past) (behind_end past ++ (entry ∷ [])) [] →
-        cond b (past ++ (entry ∷ [])) (behind_end (past ++ (entry ∷ []))) ≡ cond (b || has_end past) (cond b past (behind_end past) ++ (entry ∷ [])) []
+    by : (b : Bool) → following_end (past ++ (entry ∷ [])) ≡ cond (has_end past) (following_end past ++ (entry ∷ [])) [] →
+        cond b (past ++ (entry ∷ [])) (following_end (past ++ (entry ∷ []))) ≡ cond (b || has_end past) (cond b past (following_end past) ++ (entry ∷ [])) []
     by true later = refl
     by false later = later
 
-behind-none : (past : List Entry) → has_end past ≡ false → behind_end past ≡ []
-behind-none [] e = refl
-behind-none (first ∷ past) e = by (is_end first) (behind-none past) e
+following-none : (past : List Entry) → has_end past ≡ false → following_end past ≡ []
+following-none [] e = refl
+following-none (first ∷ past) e = by (is_end first) (following-none past) e
   where
-    by : (b : Bool) → (has_end past ≡ false → behind_end past ≡ []) → (b || has_end past) ≡ false → cond b past (behind_end past) ≡ []
+    by : (b : Bool) → (has_end past ≡ false → following_end past ≡ []) → (b || has_end past) ≡ false → cond b past (following_end past) ≡ []
     by true later e = absurd (false≢true (sym e))
     by false later e = later e
 
@@ -408,13 +408,13 @@ or-rows-some None rows e = none-some e
 or-rows-some (Some before) rows e = none-some e
 
 -- what was heard, as long as there is no table
-shown-heard : (closing : Closing) (rows : List Entry) (entry : Entry) (front : List Entry) (n : ℕ) → length closing.heard ≡ 233 → EntryFits entry →
-    (closing_shown closing rows entry).rows ≡ None → (closing.rows ≡ None → AreLast (values_of closing.heard n) (reported n front)) →
-    AreLast (values_of (closing_shown closing rows entry).heard n) (reported n front ++ reported_at n entry)
-shown-heard closing rows (Report node setting) front n places fits none are =
-    value-table closing.heard node n setting (reported n front) (omega (arith, places, fits.0.1)) (are none)
-shown-heard closing rows (TableEnd ticks) front n places fits none are = absurd (or-rows-some closing.rows rows (sym (ends-rows closing closing.rows rows refl) ∙ none))
-shown-heard closing rows other front n places fits none are = subst (AreLast (values_of closing.heard n)) (sym (append-nil (reported n front))) (are none)
+shown-heard : (closing : Closing) (rows : List Entry) (entry : Entry) (prefix : List Entry) (n : ℕ) → length closing.heard ≡ 233 → EntryFits entry →
+    (closing_shown closing rows entry).rows ≡ None → (closing.rows ≡ None → AreLast (values_of closing.heard n) (reported n prefix)) →
+    AreLast (values_of (closing_shown closing rows entry).heard n) (reported n prefix ++ reported_at n entry)
+shown-heard closing rows (Report node setting) prefix n places fits none are =
+    value-table closing.heard node n setting (reported n prefix) (omega (arith, places, fits.0.1)) (are none)
+shown-heard closing rows (TableEnd ticks) prefix n places fits none are = absurd (or-rows-some closing.rows rows (sym (ends-rows closing closing.rows rows refl) ∙ none))
+shown-heard closing rows other prefix n places fits none are = subst (AreLast (values_of closing.heard n)) (sym (append-nil (reported n prefix))) (are none)
 
 -- the rows, once the table has begun
 shown-rows : (closing : Closing) (past : List Entry) (entry : Entry) (made : List Entry) → closing.rows ≡ cond (has_end past) (Some (rows (before_end past))) None →
@@ -461,11 +461,11 @@ shown-counts closing made (TableEnd ticks) = ends-shown closing closing.rows mad
 shown-counts closing made other = refl
 
 shown-shown : (closing : Closing) (past : List Entry) (entry : Entry) (made : List Entry) → closing.rows ≡ cond (has_end past) (Some (rows (before_end past))) None →
-    closing.shown ≡ length (filter is_row (behind_end past)) →
-    (closing_shown closing made entry).shown ≡ length (filter is_row (behind_end (past ++ (entry ∷ []))))
+    closing.shown ≡ length (filter is_row (following_end past)) →
+    (closing_shown closing made entry).shown ≡ length (filter is_row (following_end (past ++ (entry ∷ []))))
 shown-shown closing past entry made are count =
     shown-counts closing made entry ∙ ap₂ (λ r s. counts r (is_row entry) s) are count ∙ by (has_end past) refl
-    ∙ ap (λ l. length (filter is_row l)) (sym (behind-more past entry))
+    ∙ ap (λ l. length (filter is_row l)) (sym (following-more past entry))
   where
     one : (b : Bool) (n : ℕ) → cond b (n + 1) n ≡ n + cond b 1 0
     one true n = refl
@@ -475,10 +475,10 @@ shown-shown closing past entry made are count =
     none true n = refl
     none false n = refl
 
-    by : (b : Bool) → has_end past ≡ b → counts (cond b (Some (rows (before_end past))) None) (is_row entry) (length (filter is_row (behind_end past)))
-        ≡ length (filter is_row (cond b (behind_end past ++ (entry ∷ [])) []))
-    by true is = one (is_row entry) (length (filter is_row (behind_end past))) ∙ sym (filter-more (behind_end past) entry)
-    by false is = none (is_row entry) (length (filter is_row (behind_end past))) ∙ ap (λ l. length (filter is_row l)) (behind-none past is)
+    by : (b : Bool) → has_end past ≡ b → counts (cond b (Some (rows (before_end past))) None) (is_row entry) (length (filter is_row (following_end past)))
+        ≡ length (filter is_row (cond b (following_end past ++ (entry ∷ [])) []))
+    by true is = one (is_row entry) (length (filter is_row (following_end past))) ∙ sym (filter-more (following_end past) entry)
+    by false is = none (is_row entry) (length (filter is_row (following_end past))) ∙ ap (λ l. length (filter is_row l)) (following-none past is)
 
 not-refusal : (entry : Entry) → is_end entry ≡ true → is_refusal entry ≡ false
 not-refusal (Refused refusal) e = absurd (false≢true e)
@@ -511,7 +511,7 @@ pub goes-closing : (closing : Closing) (line : Option Line) (endings_by : ℕ �
 goes-closing closing line endings_by orders nodes past entry are within fits same begun ended ordered =
     let c = after_line closing line entry in
     let made-rows = all_rows c endings_by orders nodes in
-    let front = cond (is_restart (since past).line && not (is_refusal entry)) [] (since past).entries in
+    let prefix = cond (is_restart (since past).line && not (is_refusal entry)) [] (since past).entries in
     let heard-places : length c.heard ≡ 233 = after-heard-places closing line entry are.heard_places in
     let rows-same : c.rows ≡ closing.rows = after-part (λ (k : Closing). k.rows) closing line entry (line-rows closing line) in
     let made-same : c.made ≡ closing.made = after-part (λ (k : Closing). k.made) closing line entry (line-made closing line) in
@@ -530,8 +530,8 @@ goes-closing closing line endings_by orders nodes past entry are within fits sam
           (subst (λ m. AreLast (values_of m node) (settings_made (made node past))) (sym made-same) (are.made_are node below)));
       heard_are = λ none node below.
           subst (AreLast (values_of (closing_shown c made-rows entry).heard node))
-          (sym (ap (λ (s : Since). reported node s.entries) (since-more past entry) ∙ reported-more node front entry))
-          (shown-heard c made-rows entry front node heard-places fits none
+          (sym (ap (λ (s : Since). reported node s.entries) (since-more past entry) ∙ reported-more node prefix entry))
+          (shown-heard c made-rows entry prefix node heard-places fits none
           (λ empty. after-heard closing past line entry node same (are.heard_are (sym rows-same ∙ empty) node below)));
       rows_are =
           shown-rows c past entry made-rows (rows-same ∙ are.rows_are)

@@ -2,7 +2,7 @@
 use Rattle.std.proofs.Common.{◌≡◌, ℕ, zero, suc, ◌<◌, ◌+◌, cond, Bool, true, false, List, [], ◌∷◌, length, drop, get_or, Option, Some, None, arith, ap, add-one, drop-cons, refl, sym, subst, ◌∙◌}
 use Rattle.std.specs.Prelude.{filter, slice_get}
 use Rattle.zw_base.specs.declared.property.Setting.{Setting}
-use Rattle.transcript_books.specs.Asking.{IsNoneThere, is_setting}
+use Rattle.audit_books.specs.Asking.{IsNoneThere, is_setting}
 use Rattle.audit_table.specs.Knowing.{Knowns, with_commands, with_settings}
 
 none-some : {A : Type 0} {x : A} → None ≡ Some x → ⊥

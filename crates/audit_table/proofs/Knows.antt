@@ -18,9 +18,9 @@ use Rattle.zw_base.specs.declared.property.Property.{Property}
 use Rattle.zw_base.specs.declared.property.Setting.{Setting}
 use Rattle.host_keep.specs.Kept.{or_else, value_among}
 use Rattle.host_orders.specs.Settings.{properties_of}
-use Rattle.zw_laws.specs.Stores.{last_value}
-use Rattle.zw_laws.specs.Table.{compare_properties, in_order, put_in_order}
-use Rattle.zw_laws.specs.Values.{last_given}
+use Rattle.law_transcript.specs.Stores.{last_value}
+use Rattle.law_transcript.specs.Table.{compare_properties, in_order, put_in_order}
+use Rattle.law_transcript.specs.Values.{last_given}
 use Rattle.audit_table.specs.declared.values.Known.{Known}
 use Rattle.audit_table.specs.Knowing.{Knowns, known_at, nothing_known, with_commands, with_last, with_settings}
 use Rattle.audit_table.specs.Keeping.{AreLast}

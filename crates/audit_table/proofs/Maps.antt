@@ -6,7 +6,7 @@ use Rattle.std.specs.Map.{lookup}
 use Rattle.std.specs.BTreeMap.{insert_entry, is_at}
 use Rattle.zw_base.specs.declared.property.Property.{Property}
 use Rattle.zw_base.specs.declared.property.Setting.{Setting}
-use Rattle.zw_laws.specs.Table.{compare_properties}
+use Rattle.law_transcript.specs.Table.{compare_properties}
 use Rattle.audit_table.specs.declared.values.Known.{Known}
 use Rattle.audit_table.specs.Knowing.{Knowns, values_of, values_with, with_last}
 

@@ -4,12 +4,12 @@ use Rattle.std.specs.List.{flat_map}
 use Rattle.std.specs.Prelude.{is_some, option_map}
 use Rattle.std.proofs.lemmas.List.{append_assoc}
 use Rattle.std.proofs.lemmas.Bool.{false≢true}
-use Rattle.zw_order.specs.declared.order.Order.{Order}
+use Rattle.zw_base.specs.declared.order.Order.{Order}
 use Rattle.zw_text.specs.declared.line.Line.{Line}
 use Rattle.zw_text.specs.declared.entry.Entry.{Entry}
 use Rattle.zw_text.specs.declared.entry.Entry.TheVariants.{TableEnd, TableNode}
-use Rattle.transcript_books.specs.declared.endings.Ending.{Ending}
-use Rattle.transcript_books.specs.Beginning.{sessions_of}
+use Rattle.audit_books.specs.declared.endings.Ending.{Ending}
+use Rattle.audit_books.specs.Beginning.{sessions_of}
 use Rattle.audit_table.specs.Knowing.{Closing, Knowns, after_line, all_rows, closing_after, closing_shown, confirmed_of, ends_with, known_lines, lines_of_node, marked, no_values, nodes_marked, values_of, with_commands}
 
 -- the rows so far, and those of the marks that are left, are all of them

@@ -6,7 +6,7 @@ use Rattle.std.specs.Cmp.{IsTotalOrder}
 use Rattle.std.specs.Ordering.{is_eq, ordering_reverse}
 use Rattle.std.specs.Map.{keys_of, lookup}
 use Rattle.std.specs.BTreeMap.{insert_entry, is_at}
-use Rattle.zw_laws.specs.Table.{in_order, put_in_order}
+use Rattle.law_transcript.specs.Table.{in_order, put_in_order}
 
 -- these are put among those, the last one first
 abbrev pub putting : {K : Type 0} → (K → K → Ordering) → List K → List K → List K

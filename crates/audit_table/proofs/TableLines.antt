@@ -9,23 +9,23 @@ use Rattle.std.proofs.lemmas.Bool.{cases_eq, eq-eqb, ne_eqb}
 use Rattle.std.proofs.lemmas.Bool.Decides.{leb_tells}
 use Rattle.zw_base.specs.declared.property.Property.{Property}
 use Rattle.zw_base.specs.declared.property.Setting.{Setting}
-use Rattle.zw_order.specs.declared.order.Order.{Order}
+use Rattle.zw_base.specs.declared.order.Order.{Order}
 use Rattle.host_keep.specs.Kept.{or_else, value_among}
 use Rattle.host_orders.specs.Settings.{properties_of}
 use Rattle.zw_text.specs.declared.entry.Ended.{Ended}
 use Rattle.zw_text.specs.declared.entry.Entry.{Entry}
 use Rattle.zw_text.specs.declared.entry.Entry.TheVariants.{TableNode}
 use Rattle.zw_text.specs.Transcript.{endings, joined, reported, sessions}
-use Rattle.zw_laws.specs.Restarts.{since_restart}
-use Rattle.zw_laws.specs.Stores.{heard_value}
-use Rattle.zw_laws.specs.Table.{compare_properties, in_order, put_in_order, value_line}
-use Rattle.zw_laws.specs.Values.{last_given}
-use Rattle.transcript_books.specs.declared.endings.Ending.{Ending}
-use Rattle.transcript_books.specs.Accepting.{order_at}
-use Rattle.transcript_books.specs.Asking.{is_setting}
-use Rattle.transcript_books.specs.Beginning.{sessions_of}
-use Rattle.transcript_books.specs.Ending.{ended_so, no_ending}
-use Rattle.transcript_books.specs.Keeping.{ending_from}
+use Rattle.law_transcript.specs.Restarts.{since_restart}
+use Rattle.law_transcript.specs.Stores.{heard_value}
+use Rattle.law_transcript.specs.Table.{compare_properties, in_order, put_in_order, value_line}
+use Rattle.law_transcript.specs.Values.{last_given}
+use Rattle.audit_books.specs.declared.endings.Ending.{Ending}
+use Rattle.audit_books.specs.Accepting.{order_at}
+use Rattle.audit_books.specs.Asking.{is_setting}
+use Rattle.audit_books.specs.Beginning.{sessions_of}
+use Rattle.audit_books.specs.Ending.{ended_so, no_ending}
+use Rattle.audit_books.specs.Keeping.{ending_from}
 use Rattle.audit_table.specs.OrdersGiven.{accepting_at, settings_by}
 use Rattle.audit_table.specs.TableRule.{confirmed, confirmed_by, ends_well, node_rows, properties_known, rows}
 use Rattle.audit_table.specs.Knowing.{Closing, Knowns, all_rows, confirmed_of, known_at, known_line, known_lines, lines_of_node, marked, nodes_marked, values_of, with_commands}

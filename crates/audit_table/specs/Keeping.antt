@@ -9,10 +9,10 @@ use Rattle.zw_text.specs.declared.line.Line.{Line}
 use Rattle.zw_text.specs.declared.entry.Entry.{Entry}
 use Rattle.zw_text.specs.declared.entry.Entry.TheVariants.{Refused}
 use Rattle.zw_text.specs.Transcript.{Doing, doing_step, folded, join_of, line_of, made, reported}
-use Rattle.zw_laws.specs.Restarts.{is_restart}
-use Rattle.zw_laws.specs.Stores.{last_value}
-use Rattle.zw_laws.specs.Table.{compare_properties, in_order}
-use Rattle.audit_table.specs.TableRule.{before_end, behind_end, has_end, is_row, rows, settings_made}
+use Rattle.law_transcript.specs.Restarts.{is_restart}
+use Rattle.law_transcript.specs.Stores.{last_value}
+use Rattle.law_transcript.specs.Table.{compare_properties, in_order}
+use Rattle.audit_table.specs.TableRule.{before_end, following_end, has_end, is_row, rows, settings_made}
 use Rattle.audit_table.specs.Knowing.{Closing, Knowns, known_at, values_of}
 
 abbrev pub is_refusal : Entry → Bool
@@ -28,14 +28,14 @@ pub record Since : Type 0 where
   pub entries : List Entry
   pub line : List Line
 
-abbrev pub since_behind : Since → Entry → Since
-since_behind before entry = record {
+abbrev pub since_after : Since → Entry → Since
+since_after before entry = record {
   entries = (if is_restart before.line && not (is_refusal entry) then [] else before.entries) ++ (entry ∷ []);
   line = line_of entry;
 }
 
 abbrev pub since : List Entry → Since
-since past = folded since_behind (record { entries = []; line = [] }) past
+since past = folded since_after (record { entries = []; line = [] }) past
 
 -- what is known of properties is what these settings show, and nothing is confirmed
 pub record AreLast (knowns : Knowns) (settings : List Setting) : Type 0 where
@@ -55,4 +55,4 @@ pub record AreClosingOf (closing : Closing) (past : List Entry) : Type 0 where
   pub made_are : (node : ℕ) → node < 233 → AreLast (values_of closing.made node) (settings_made (made node past))
   pub heard_are : closing.rows ≡ None → (node : ℕ) → node < 233 → AreLast (values_of closing.heard node) (reported node (since past).entries)
   pub rows_are : closing.rows ≡ (if has_end past then Some (rows (before_end past)) else None)
-  pub shown_are : closing.shown ≡ length (filter is_row (behind_end past))
+  pub shown_are : closing.shown ≡ length (filter is_row (following_end past))

@@ -5,16 +5,16 @@ use Rattle.std.specs.Map.{keys_of, lookup}
 use Rattle.std.specs.BTreeMap.{insert_entry, is_at}
 use Rattle.zw_base.specs.declared.property.Property.{Property}
 use Rattle.zw_base.specs.declared.property.Setting.{Setting}
-use Rattle.zw_order.specs.declared.order.Order.{Order}
+use Rattle.zw_base.specs.declared.order.Order.{Order}
 use Rattle.zw_text.specs.declared.line.Line.{Line}
 use Rattle.zw_text.specs.declared.line.Line.TheVariants.{Join, Restart}
 use Rattle.zw_text.specs.declared.entry.Entry.{Entry}
 use Rattle.zw_text.specs.declared.entry.Entry.TheVariants.{Refused, Dev, Report, TableEnd, TableNode, TableValue, Device}
-use Rattle.zw_laws.specs.Table.{compare_properties, value_line}
-use Rattle.transcript_books.specs.declared.endings.Ending.{Ending}
-use Rattle.transcript_books.specs.Accepting.{order_at}
-use Rattle.transcript_books.specs.Asking.{is_setting}
-use Rattle.transcript_books.specs.Beginning.{sessions_of}
+use Rattle.law_transcript.specs.Table.{compare_properties, value_line}
+use Rattle.audit_books.specs.declared.endings.Ending.{Ending}
+use Rattle.audit_books.specs.Accepting.{order_at}
+use Rattle.audit_books.specs.Asking.{is_setting}
+use Rattle.audit_books.specs.Beginning.{sessions_of}
 use Rattle.audit_table.specs.declared.values.Known.{Known}
 use Rattle.audit_table.specs.OrdersGiven.{settings_by}
 use Rattle.audit_table.specs.TableRule.{breaks_row}
@@ -127,7 +127,7 @@ line_done closing (Some (Join node)) = record closing { joined = slice_set closi
 line_done closing (Some Restart) = record closing { heard = no_values }
 line_done closing _ = closing
 
--- unless the entry behind it is a refusal
+-- unless the entry after it is a refusal
 abbrev pub after_line : Closing → Option Line → Entry → Closing
 after_line closing line (Refused refusal) = closing
 after_line closing line _ = line_done closing line

@@ -1,14 +1,14 @@
 -- The orders of accepted commands, by the entries before a line (this project's own rule).
 use Rattle.std.specs.Prelude.{ℕ, List, [], Option, Some, None}
 use Rattle.zw_base.specs.declared.property.Setting.{Setting}
-use Rattle.zw_order.specs.declared.order.Order.{Order}
+use Rattle.zw_base.specs.declared.order.Order.{Order}
 use Rattle.zw_text.specs.declared.line.Line.{Line}
 use Rattle.zw_text.specs.declared.entry.Entry.{Entry}
 use Rattle.zw_text.specs.declared.entry.Entry.TheVariants.{Said}
 use Rattle.zw_text.specs.Transcript.{folded}
-use Rattle.transcript_books.specs.Accepting.{order_at, orders_after}
-use Rattle.transcript_books.specs.Asking.{settings_asked}
-use Rattle.transcript_books.specs.Scenes.{line_in}
+use Rattle.audit_books.specs.Accepting.{order_at, orders_after}
+use Rattle.audit_books.specs.Asking.{settings_asked}
+use Rattle.audit_books.specs.Scenes.{line_in}
 
 -- the orders of the accepted commands, by number, and the line that stands directly before the next entry
 pub record Accepting : Type 0 where
@@ -19,11 +19,11 @@ abbrev pub line_shown : Entry → Option Line
 line_shown (Said words) = line_in words
 line_shown _ = None
 
-abbrev pub accepting_behind : Accepting → Entry → Accepting
-accepting_behind before entry = record { orders = orders_after before.orders before.line entry; line = line_shown entry }
+abbrev pub accepting_after : Accepting → Entry → Accepting
+accepting_after before entry = record { orders = orders_after before.orders before.line entry; line = line_shown entry }
 
 abbrev pub accepting_at : List Entry → Accepting
-accepting_at past = folded accepting_behind (record { orders = []; line = None }) past
+accepting_at past = folded accepting_after (record { orders = []; line = None }) past
 
 -- the order of an accepted command: that of the line directly before, where it is one to the command's node
 abbrev pub order_of : List Entry → ℕ → Option Order

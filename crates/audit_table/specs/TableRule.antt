@@ -1,4 +1,4 @@
--- The rule of the table: behind the first `end` stands what the entries before it show (this project's own rule).
+-- The rule of the table: after the first `end` stands what the entries before it show (this project's own rule).
 use Rattle.std.specs.Prelude.{ℕ, ◌==◌, ◌&&◌, not, bytes_eq, Bool, true, false, if◌then◌else◌, List, [], ◌∷◌, ◌++◌, length, slice_get, Option, Some, None, unwrap_or, filter}
 use Rattle.std.specs.List.{flat_map, list_any}
 use Rattle.std.specs.Ordering.{nat_cmp}
@@ -11,12 +11,12 @@ use Rattle.zw_text.specs.declared.entry.Ended.{Ended}
 use Rattle.zw_text.specs.declared.entry.Entry.{Entry}
 use Rattle.zw_text.specs.declared.entry.Entry.TheVariants.{Device, TableEnd, TableNode, TableValue}
 use Rattle.zw_text.specs.Transcript.{Made, endings, joined, made, reported, sessions}
-use Rattle.transcript_books.specs.Asking.{is_setting}
-use Rattle.transcript_books.specs.Ending.{is_success}
-use Rattle.zw_laws.specs.Restarts.{since_restart}
-use Rattle.zw_laws.specs.Stores.{heard_value, last_value}
-use Rattle.zw_laws.specs.Table.{compare_properties, in_order, value_line}
-use Rattle.zw_laws.specs.Values.{last_given}
+use Rattle.audit_books.specs.Asking.{is_setting}
+use Rattle.audit_books.specs.Ending.{is_success}
+use Rattle.law_transcript.specs.Restarts.{since_restart}
+use Rattle.law_transcript.specs.Stores.{heard_value, last_value}
+use Rattle.law_transcript.specs.Table.{compare_properties, in_order, value_line}
+use Rattle.law_transcript.specs.Values.{last_given}
 use Rattle.audit_table.specs.OrdersGiven.{settings_of}
 
 -- whether the last of a command's endings is success
@@ -50,7 +50,7 @@ node_rows past node =
 abbrev pub rows : List Entry → List Entry
 rows past = flat_map (node_rows past) (in_order nat_cmp (joined past))
 
--- the entries before the first `end`, and those behind it
+-- the entries before the first `end`, and those after it
 abbrev pub is_end : Entry → Bool
 is_end (TableEnd ticks) = true
 is_end _ = false
@@ -59,9 +59,9 @@ abbrev pub before_end : List Entry → List Entry
 before_end [] = []
 before_end (entry ∷ rest) = if is_end entry then [] else entry ∷ before_end rest
 
-abbrev pub behind_end : List Entry → List Entry
-behind_end [] = []
-behind_end (entry ∷ rest) = if is_end entry then rest else behind_end rest
+abbrev pub following_end : List Entry → List Entry
+following_end [] = []
+following_end (entry ∷ rest) = if is_end entry then rest else following_end rest
 
 abbrev pub has_end : List Entry → Bool
 has_end past = list_any is_end past
@@ -74,7 +74,7 @@ is_row _ = false
 
 -- the line of the table that is next
 abbrev pub next_row : List Entry → Option Entry
-next_row past = slice_get (rows (before_end past)) (length (filter is_row (behind_end past)))
+next_row past = slice_get (rows (before_end past)) (length (filter is_row (following_end past)))
 
 -- the settings of changes
 abbrev pub settings_made : List Made → List Setting
@@ -104,7 +104,7 @@ abbrev pub breaks_row : Option Entry → Entry → Bool
 breaks_row None entry = true
 breaks_row (Some row) entry = not (same_row row entry)
 
--- whether a line behind `end` breaks the rule
+-- whether a line after `end` breaks the rule
 abbrev pub breaks_end : List Entry → Entry → Bool
 breaks_end past (TableNode node commands) = breaks_row (next_row past) (TableNode node commands)
 breaks_end past (TableValue node property confirmed heard) = breaks_row (next_row past) (TableValue node property confirmed heard)

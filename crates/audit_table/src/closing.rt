@@ -3,15 +3,28 @@
 ghost use Rattle.std.specs.Prelude.{◌≡◌, ◌<◌, None, Some, IfOk, OnOk, length, not, unwrap_or, ◌==◌, vec_len};
 ghost use Rattle.std.specs.Option.{option_copied};
 ghost use Rattle.zw_base.specs.PropertyOrder.{same_property};
-ghost use Rattle.transcript_books.specs.Ending.{ending_in};
-ghost use Rattle.audit_table.specs.Knowing.{IsWithin, after_line, all_rows as rows_by, breaks_closing, closing_after, ends_with, first_joined, known_at, line_done, no_closing, row_shown, values_of};
+ghost use Rattle.audit_books.specs.Ending.{ending_in};
+ghost use Rattle.audit_table.specs.Knowing.{
+  IsWithin,
+  after_line,
+  all_rows as rows_by,
+  breaks_closing,
+  closing_after,
+  ends_with,
+  first_joined,
+  known_at,
+  line_done,
+  no_closing,
+  row_shown,
+  values_of,
+};
 ghost use Rattle.audit_table.specs.TableRule.{same_option, same_row};
 
 use crate::rows::all_rows;
 use crate::values::Values;
+use audit_books::{Endings, Orders, PLACES, Scene, Sessions};
 use std::alloc::Global;
 use std::marker::Model;
-use transcript_books::{Endings, Orders, PLACES, Scene, Sessions};
 use zw_base::{NoMemory, NodeId, Property, Setting, properties_in_order};
 use zw_text::{Entry, Line};
 
@@ -180,7 +193,7 @@ impl Closing {
         Ok(())
     }
 
-    /// The line that was run is done, unless the entry behind it is a refusal.
+    /// The line that was run is done, unless the entry after it is a refusal.
     fn run(&mut self, line: Option<&Line>, entry: &Entry) -> Result<(), NoMemory>
         ensures done { OnOk result (self.new ≡ after_line self.old (option_copied line.entry) entry.now) }
         ensures within { IsWithin (option_copied line.entry) }

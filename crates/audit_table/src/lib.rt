@@ -1,9 +1,10 @@
-//! What a transcript that is read line by line confirms: behind each success, and in the table at the end.
+//! Two rules of the audit on values: the rule of confirmed values after each success, and the rule of the table at the
+//! end.
 //!
-//! It promises that a line is found to break the rule of confirmed values, and that of the table, exactly where it does, by the
-//! lines before it; that what is kept goes with the transcript, entry by entry, is proved in `proofs/Closes`. The rules stand in
-//! `specs/StoreRule` and `specs/TableRule`, over the lists that a transcript shows; `Knowing` says what is kept in place of
-//! them, and `Keeping` that it is of a transcript.
+//! The crate promises that a line is found to break its rule exactly when it does, judged by the lines before it. That
+//! what is kept follows the transcript, entry by entry, is proved in `proofs/Closes`.
+//! The rules are in `specs/StoreRule` and `specs/TableRule`, over the lists that a transcript shows. `Knowing` says
+//! what is kept in place of these lists, and `Keeping` that it belongs to a transcript.
 #![tactic(auto)]
 
 mod closing;

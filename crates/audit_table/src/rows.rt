@@ -2,17 +2,16 @@
 
 ghost use Rattle.std.specs.Prelude.{◌≡◌, ◌++◌, ℕ, ◌<◌, IsTrue, IfOk, OnOk, length, filter};
 ghost use Rattle.std.specs.List.{flat_map};
-ghost use Rattle.transcript_books.specs.Asking.{is_named, is_setting as is_one, settings_asked};
-ghost use Rattle.transcript_books.specs.Ending.{ending_in};
-ghost use Rattle.zw_laws.specs.Table.{value_line};
+ghost use Rattle.audit_books.specs.Asking.{is_named, is_setting as is_one, settings_asked};
+ghost use Rattle.audit_books.specs.Ending.{ending_in};
+ghost use Rattle.law_transcript.specs.Table.{value_line};
 ghost use Rattle.audit_table.specs.Knowing.{confirmed_of, known_lines, lines_of_node, nodes_marked, values_of, with_commands, with_settings};
 
 use crate::values::{Known, Values, confirm, known_of};
+use audit_books::{Endings, Orders, PLACES, Sessions, setting_at, setting_count};
 use std::alloc::Global;
 use std::collections::BTreeMap;
-use transcript_books::{Endings, Orders, PLACES, Sessions, setting_at, setting_count};
-use zw_base::{Name, NoMemory, NodeId, Property, Sequence, Setting, read_node};
-use zw_order::Order;
+use zw_base::{Name, NoMemory, NodeId, Order, Property, Sequence, Setting, read_node};
 use zw_text::Entry;
 
 /// A parameter has a number of one byte.

@@ -1,25 +1,24 @@
-//! What is confirmed behind a success.
+//! What is confirmed after a success.
 
 ghost use Rattle.std.specs.Prelude.{◌≡◌, None, IfOk, OnOk, slice_get};
 ghost use Rattle.std.specs.Option.{option_copied};
-ghost use Rattle.audit_table.specs.StoreRule.{breaks_storing, storing_behind};
-ghost use Rattle.transcript_books.specs.Accepting.{order_at};
-ghost use Rattle.transcript_books.specs.Asking.{settings_asked};
+ghost use Rattle.audit_table.specs.StoreRule.{breaks_storing, storing_after};
+ghost use Rattle.audit_books.specs.Accepting.{order_at};
+ghost use Rattle.audit_books.specs.Asking.{settings_asked};
 
+use audit_books::{Orders, makes, setting_count};
 use std::marker::Model;
-use transcript_books::{Orders, makes, setting_count};
-use zw_base::NoMemory;
-use zw_order::Order;
+use zw_base::{NoMemory, Order};
 use zw_text::{Ended, Entry};
 
-/// The command of a success, and how many `store` lines stand directly behind it.
+/// The command of a success, and how many `store` lines stand directly after it.
 #[derive(Clone, Copy, Debug)]
 pub struct Storing {
     command: u32,
     count: usize,
 }
 
-/// The values that are still to be confirmed. Contracts see the success behind which the next line stands, with `store` lines
+/// The values that are still to be confirmed. Contracts see the success after which the next line stands, with `store` lines
 /// alone between them.
 #[derive(Clone, Copy, Debug)]
 pub struct Stores {
@@ -54,7 +53,7 @@ fn confirms(entry: &Entry, order: &Order, at: usize) -> bool
     }
 }
 
-/// Whether the entry is none that may stand behind so many values of the order.
+/// Whether the entry is none that may stand after so many values of the order.
 fn breaks_order(order: Option<&Order>, count: usize, entry: &Entry) -> bool
     ensures { result ≡ Rattle.audit_table.specs.StoreRule.breaks_order (option_copied order.entry) count entry.now }
 {
@@ -116,7 +115,7 @@ impl Stores {
 
     /// Takes the next entry.
     pub fn take(&mut self, entry: &Entry) -> Result<(), NoMemory>
-        ensures { OnOk result (self.new ≡ storing_behind self.old entry.now) }
+        ensures { OnOk result (self.new ≡ storing_after self.old entry.now) }
     {
         self.last = match entry {
             Entry::Out { command, ended } => success_by(*command, *ended),

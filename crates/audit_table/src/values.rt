@@ -1,14 +1,14 @@
 //! What is known of the properties of nodes.
 
 ghost use Rattle.std.specs.Prelude.{◌≡◌, [], slice_set, IfOk, OnOk};
-ghost use Rattle.zw_laws.specs.Table.{compare_properties};
+ghost use Rattle.law_transcript.specs.Table.{compare_properties};
 ghost use Rattle.audit_table.specs.Knowing.{known_at, no_values, values_of, values_with, with_confirmed, with_last};
 
+use audit_books::PLACES;
 use std::alloc::Global;
 use std::collections::BTreeMap;
 use std::marker::Model;
 use std::mem;
-use transcript_books::PLACES;
 use zw_base::{NoMemory, NodeId, Property, Setting};
 
 /// What is known of a property: the value that is confirmed, and the one that was shown last.

@@ -63,10 +63,10 @@ zero_cases : {A R : Type 0} (n : ℕ) (x y z : A) → cond (eqb n 0) x y ≡ z �
 zero_cases n x y z e hit miss = if_cases (eqb n 0) x y z e (λ t. hit (eqb-true n 0 t)) (λ f. let some : n ≡ 0 → ⊥ = eqb-false n 0 f in miss (omega arith))
 
 -- the first byte, and then the rest
-front_takes : (p q r : Place) (n code : ℕ) (text : List ℕ) → n ≡ code → Takes p q (n ∷ []) → Takes q r text → Takes p r (code ∷ text)
-front_takes p q r n code text same first rest = subst (λ (k : ℕ). Takes p r (k ∷ text)) same (Takes-then p q r (n ∷ []) text first rest)
+prefix_takes : (p q r : Place) (n code : ℕ) (text : List ℕ) → n ≡ code → Takes p q (n ∷ []) → Takes q r text → Takes p r (code ∷ text)
+prefix_takes p q r n code text same first rest = subst (λ (k : ℕ). Takes p r (k ∷ text)) same (Takes-then p q r (n ∷ []) text first rest)
 
--- what was read behind a node that is none of 0 and the numbers above 232
+-- what was read after a node that is invalid of 0 and the numbers above 232
 named_takes : (p q r : Place) (n : ℕ) (said : AddedNode) → IsNode n → Takes p q (n ∷ []) → named_at n q ≡ Ok (said, r) → Takes p r (added_spelling said) × IsAdded said
 unfolding named_at
 named_takes p q r n said node first e =
@@ -77,8 +77,8 @@ named_takes p q r n said node first e =
     subst (λ (y : AddedNode × Place). Takes p y.1 (added_spelling y.0) × IsAdded y.0) (ok_is (Named n, a.0.1) (said, r) h)
     (Takes-then p q a.0.1 (n ∷ []) (0 ∷ []) first (subst (λ (k : ℕ). Takes q a.0.1 (k ∷ [])) f len), node)) (λ h.
     let c = as_takes (λ (x : Classes). Described n x.0 x.1.0 x.1.1.0 x.1.1.1) (classes_after q.before a.0.0 a.0.1) said r h in
-    let behind = with_length q a.0.1 r a.0.0 c.0 len (after_takes q.before a.0.0 a.0.1 r c.0 t.1 c.1) in
-    subst (λ (y : AddedNode). Takes p r (added_spelling y) × IsAdded y) c.2 (Takes-then p q r (n ∷ []) (classes.spell c.0) first behind, node))
+    let following = with_length q a.0.1 r a.0.0 c.0 len (after_takes q.before a.0.0 a.0.1 r c.0 t.1 c.1) in
+    subst (λ (y : AddedNode). Takes p r (added_spelling y) × IsAdded y) c.2 (Takes-then p q r (n ∷ []) (classes.spell c.0) first following, node))
 
 added_takes : (p : Place) (said : AddedNode) (q : Place) → IsBytes p.rest → added.read p ≡ Ok (said, q) → Takes p q (added.spell said) × IsAdded said
 unfolding unnamed_at
@@ -86,7 +86,7 @@ added_takes p said q fits e =
     let a = bind_ok (byte_from p.before p.rest) (λ n. cond (eqb n.0 0) (unnamed_at n.1) (cond (ltb 232 n.0) (Err (BadField p.before)) (named_at n.0 n.1))) (said, q) e in
     let t = byte_takes p.before p.rest a.0.0 a.0.1 fits a.1 in
     let first = byte_step p a.0.1 a.0.0 t in
-    zero_cases a.0.0 _ _ _ a.2 (λ f h. row_takes (mark_lawful 0) _ a.0.1 q said (λ v. Takes p q (added.spell v) × IsAdded v) t.1 (λ x tx g. (front_takes p a.0.1 q a.0.0 0 (0 ∷ []) f first tx, tt)) h) (λ above h.
+    zero_cases a.0.0 _ _ _ a.2 (λ f h. row_takes (mark_lawful 0) _ a.0.1 q said (λ v. Takes p q (added.spell v) × IsAdded v) t.1 (λ x tx g. (prefix_takes p a.0.1 q a.0.0 0 (0 ∷ []) f first tx, tt)) h) (λ above h.
     let g = guard_ok (ltb 232 a.0.0) (BadField p.before) (named_at a.0.0 a.0.1) (said, q) h in
     named_takes p a.0.1 q a.0.0 said (above, ltb-false _ _ g.0) first g.1)
 

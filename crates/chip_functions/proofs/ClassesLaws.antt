@@ -30,12 +30,12 @@ after_again before x p rest e =
     let r = (classes_of_lawful len).again x p rest (tt, (tt, (tt, omega arith))) e in
     (r.place, rw enough r.is, r.after)
 
--- a fault behind a length that stands in the body
+-- a fault after a length that stands in the body
 pub after_faults : (before : Place) (len : ℕ) (p : Place) (fault : BodyFault) → Takes before p (len ∷ []) → classes_after before.before len p ≡ Err fault → IsFaultFrom before fault
 after_faults before len p fault t e =
     guard_err (ltb len DEVICE_CLASSES) (BadField before.before) ((classes_of len).read p) fault e (λ same. bad_here before len p.rest fault t.parts same) (λ _ k. fault_back before p fault t.moves t.sum ((classes_of_lawful len).faults p fault t.fits k))
 
--- the length and what stands behind it
+-- the length and what stands after it
 pub with_length : (p q r : Place) (len : ℕ) (x : Classes) → Takes p q (len ∷ []) → IsAfter len q r x → Takes p r (classes.spell x)
 with_length p q r len x first a =
     let text = x.0 ∷ x.1.0 ∷ x.1.1.0 ∷ x.1.1.1 in

@@ -274,10 +274,10 @@ number_lawful w limit wide = record {
   takes = λ p n q fits e.
       let a = bind_ok (piece_from (byte_len w) p.before p.rest) (λ x. Ok (from_be_bytes w x.0, x.1)) (n, q) e in
       let t = piece_takes (byte_len w) p.before p.rest a.0.0 a.0.1 fits a.1 in
-      let front : to_be_bytes w (from_be_bytes w a.0.0) ≡ a.0.0 = wide.back a.0.0 t.2 t.3 in
+      let prefix : to_be_bytes w (from_be_bytes w a.0.0) ≡ a.0.0 = wide.back a.0.0 t.2 t.3 in
       let made : ℕ × Place = (from_be_bytes w a.0.0, a.0.1) in
       subst (λ (y : ℕ × Place). Takes p y.1 (to_be_bytes w y.0) × (y.0 < limit)) (ok_is made (n, q) a.2)
-      (subst (Takes p a.0.1) (sym front) (piece_step (byte_len w) p a.0.1 a.0.0 t), wide.below a.0.0 t.3);
+      (subst (Takes p a.0.1) (sym prefix) (piece_step (byte_len w) p a.0.1 a.0.0 t), wide.below a.0.0 t.3);
   again = λ n p rest lt e.
       record { place = record { before = p.before + byte_len w; rest = rest }; is = rw (piece_again (byte_len w) p (to_be_bytes w n) rest (wide.len n) e, wide.again n lt) refl; after = refl };
   faults = λ p fault _ e.

@@ -298,10 +298,10 @@ pub all_below : (nodes : List ℕ) → AreNodes nodes → nodes_below nodes 232 
 all_below nodes h = among_again (is_among nodes) 232 1 nodes refl h (λ m le lt. refl)
 
 -- a node that is not there adds nothing
-pub skip_next : (nodes front : List ℕ) (place n : ℕ) (b : Bool) → n ≡ place + 1 → IsTrue b ↔ Contains nodes n → b ≡ false → front ≡ front ++ cond (is_among nodes (place + 1)) ((place + 1) ∷ []) []
-skip_next nodes front place n b same known none =
+pub skip_next : (nodes prefix : List ℕ) (place n : ℕ) (b : Bool) → n ≡ place + 1 → IsTrue b ↔ Contains nodes n → b ≡ false → prefix ≡ prefix ++ cond (is_among nodes (place + 1)) ((place + 1) ∷ []) []
+skip_next nodes prefix place n b same known none =
     let miss : is_among nodes (place + 1) ≡ false =
     false_from_ne_true (is_among nodes (place + 1)) (λ t.
     let there : Contains nodes n = subst (λ (k : ℕ). Contains nodes k) (sym same) ((among_contains nodes (place + 1)).0 t) in
     both_ways b none (known.1 there)) in
-    rw miss (sym (append-nil front))
+    rw miss (sym (append-nil prefix))

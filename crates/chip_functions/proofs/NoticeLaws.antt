@@ -50,16 +50,16 @@ request_failed_lawful : Lawful request_failed (λ _. Unit {0} × Unit {0})
 request_failed_lawful = then_lawful (mark_lawful 0) (mark_lawful 0)
 
 -- a status, and then what follows it
-update_front : (p q r : Place) (n code : ℕ) (text : List ℕ) → n ≡ code → Takes p q (n ∷ []) → Takes q r text → Takes p r (code ∷ text)
-update_front p q r n code text same first rest = subst (λ (k : ℕ). Takes p r (k ∷ text)) same (Takes-then p q r (n ∷ []) text first rest)
+update_prefix : (p q r : Place) (n code : ℕ) (text : List ℕ) → n ≡ code → Takes p q (n ∷ []) → Takes q r text → Takes p r (code ∷ text)
+update_prefix p q r n code text same first rest = subst (λ (k : ℕ). Takes p r (k ∷ text)) same (Takes-then p q r (n ∷ []) text first rest)
 
 update_takes : (p : Place) (u : Update) (q : Place) → IsBytes p.rest → update.read p ≡ Ok (u, q) → Takes p q (update.spell u) × IsUpdate u
 unfolding received_at request_failed_at
 update_takes p u q fits e =
     let a = bind_ok (byte_from p.before p.rest) (λ status. cond (eqb status.0 UPDATE_RECEIVED) (received_at status.1) (cond (eqb status.0 UPDATE_FAILED) (request_failed_at status.1) (Err (BadField p.before)))) (u, q) e in
     let t = byte_takes p.before p.rest a.0.0 a.0.1 fits a.1 in
-    row_cases a.0.0 UPDATE_RECEIVED _ _ _ a.2 (λ f h. row_takes received_lawful _ a.0.1 q u (λ v. Takes p q (update.spell v) × IsUpdate v) t.1 (λ x tx g. (update_front p a.0.1 q a.0.0 UPDATE_RECEIVED (received.spell x) f (byte_step p a.0.1 a.0.0 t) tx, g.0)) h) (λ e.
-    row_cases a.0.0 UPDATE_FAILED _ _ _ e (λ f h. row_takes request_failed_lawful _ a.0.1 q u (λ v. Takes p q (update.spell v) × IsUpdate v) t.1 (λ x tx g. (update_front p a.0.1 q a.0.0 UPDATE_FAILED (request_failed.spell x) f (byte_step p a.0.1 a.0.0 t) tx, tt)) h) (λ e.
+    row_cases a.0.0 UPDATE_RECEIVED _ _ _ a.2 (λ f h. row_takes received_lawful _ a.0.1 q u (λ v. Takes p q (update.spell v) × IsUpdate v) t.1 (λ x tx g. (update_prefix p a.0.1 q a.0.0 UPDATE_RECEIVED (received.spell x) f (byte_step p a.0.1 a.0.0 t) tx, g.0)) h) (λ e.
+    row_cases a.0.0 UPDATE_FAILED _ _ _ e (λ f h. row_takes request_failed_lawful _ a.0.1 q u (λ v. Takes p q (update.spell v) × IsUpdate v) t.1 (λ x tx g. (update_prefix p a.0.1 q a.0.0 UPDATE_FAILED (request_failed.spell x) f (byte_step p a.0.1 a.0.0 t) tx, tt)) h) (λ e.
     absurd (no_row (BadField p.before) u q e)))
 
 update_again : (u : Update) (p : Place) (rest : List ℕ) → IsUpdate u → p.rest ≡ update.spell u ++ rest → Reads update u p rest

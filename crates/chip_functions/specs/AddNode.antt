@@ -49,7 +49,7 @@ status_of b =
     if b == 7 then Some Failed else
     None
 
--- a node, or 0, and then a length, which is 0 or that of the node's information behind it
+-- a node, or 0, and then a length, which is 0 or that of the node's information after it
 abbrev pub added_spelling : AddedNode → List ℕ
 added_spelling Unnamed = 0 ∷ 0 ∷ []
 added_spelling (Named n) = n ∷ 0 ∷ []

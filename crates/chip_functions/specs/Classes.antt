@@ -17,7 +17,7 @@ classes_of len = byte then byte then byte then piece (len - DEVICE_CLASSES)
 abbrev pub classes_after : ℕ → ℕ → Place → Reading Classes
 classes_after before len p = if nat_lt len DEVICE_CLASSES then Err (BadField before) else (classes_of len).read p
 
--- these behind their length
+-- these after their length
 abbrev pub classes : Field Classes
 classes = record {
   spell = λ x. (length x.1.1.1 + DEVICE_CLASSES) ∷ (classes_of (length x.1.1.1 + DEVICE_CLASSES)).spell x;

@@ -16,7 +16,7 @@ use Rattle.chip_functions.specs.Field.{Field, byte, IsNode, node, mark, counted,
 use Rattle.chip_functions.specs.Classes.{Classes, classes}
 use Rattle.chip_functions.specs.AddNode.{add_notice, IsAdded}
 
--- an ApplicationCommandHandler: the status of its receipt, the source, and a payload of at least one byte behind its length
+-- an ApplicationCommandHandler: the status of its receipt, the source, and a payload of at least one byte after its length
 abbrev pub handler : Field (ℕ × (ℕ × List ℕ))
 handler = byte then node then counted 1
 

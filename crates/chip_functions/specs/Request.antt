@@ -9,7 +9,7 @@ use Rattle.chip_functions.specs.Place.{Place, Reading, ◌>>=◌, start_of, ende
 use Rattle.chip_functions.specs.Field.{Field, byte, byte_within, IsNode, node, counted, ◌then◌, read_as}
 use Rattle.chip_functions.specs.AddNode.{add_request}
 
--- a SendData: the node, a payload of at least one byte behind its length, the options and a callback id that is not 0
+-- a SendData: the node, a payload of at least one byte after its length, the options and a callback id that is not 0
 abbrev pub send_data : Field (ℕ × (List ℕ × (ℕ × ℕ)))
 send_data = node then counted 1 then byte then byte_within 1 255
 

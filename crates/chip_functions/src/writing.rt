@@ -12,19 +12,19 @@ pub use responses::write_response;
 use std::alloc::Global;
 use zw_base::{Bytes, NoMemory};
 
-/// These bytes, and more behind them.
-fn joined(alloc: Global, front: &[u8], rest: &[u8]) -> Result<Bytes, NoMemory>
-    ensures { IfOk result (λ body. body ≡ front.now ++ rest.now) }
+/// These bytes, and more after them.
+fn joined(alloc: Global, prefix: &[u8], rest: &[u8]) -> Result<Bytes, NoMemory>
+    ensures { IfOk result (λ body. body ≡ prefix.now ++ rest.now) }
 {
-    let mut body = Bytes::from_slice(alloc, front)?;
+    let mut body = Bytes::from_slice(alloc, prefix)?;
     body.extend(rest)?;
     Ok(body)
 }
 
 /// These bytes between others.
-fn between(alloc: Global, front: &[u8], middle: &[u8], last: &[u8]) -> Result<Bytes, NoMemory>
-    ensures { IfOk result (λ body. body ≡ front.now ++ (middle.now ++ last.now)) }
+fn between(alloc: Global, prefix: &[u8], middle: &[u8], last: &[u8]) -> Result<Bytes, NoMemory>
+    ensures { IfOk result (λ body. body ≡ prefix.now ++ (middle.now ++ last.now)) }
 {
     let rest = joined(alloc, middle, last)?;
-    joined(alloc, front, rest.as_slice())
+    joined(alloc, prefix, rest.as_slice())
 }

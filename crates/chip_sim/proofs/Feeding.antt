@@ -11,7 +11,7 @@ use Rattle.chip_sim.specs.Waiting.{PortState, PortParts}
 use Rattle.chip_sim.specs.State.{ChipState, ChipParts}
 use Rattle.chip_sim.specs.declared.chip.Chip.TheInside.{Inside}
 use Rattle.chip_sim.specs.Events.{ChipEvent, Judged, after, outs, May}
-use Rattle.chip_sim.specs.Did.{Did, judged_all, Fed, FedFront}
+use Rattle.chip_sim.specs.Did.{Did, judged_all, Fed, FedPrefix}
 use Rattle.chip_sim.specs.declared.out.ChipOut.{ChipOut}
 use Rattle.chip_sim.proofs.Doing.{did_nothing, did_one, did_both}
 

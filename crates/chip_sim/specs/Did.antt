@@ -41,14 +41,14 @@ pub record Fed (old : ChipParts) (bytes : List ℕ) (new : ChipParts) (before al
   pub stream : GoesOn old.decoder (piece_of bytes) new.decoder (map (λ p. p.0) ways)
   pub did : Did (judged_all ways) old.state new.state before all
 
--- a front of these bytes was taken, and the rest was not
-pub record FedFront (old : ChipParts) (bytes : List ℕ) (new : ChipParts) (before all : List ChipOut) : Type 0 where
-  pub front : List ℕ
+-- a prefix of these bytes was taken, and the rest was not
+pub record FedPrefix (old : ChipParts) (bytes : List ℕ) (new : ChipParts) (before all : List ChipOut) : Type 0 where
+  pub prefix : List ℕ
   pub left : List ℕ
-  pub parts : bytes ≡ front ++ left
-  pub fed : Fed old front new before all
+  pub parts : bytes ≡ prefix ++ left
+  pub fed : Fed old prefix new before all
 
--- a front of the bytes ends an item, and what is left is shorter; or all of them end none
+-- a prefix of the bytes ends an item, and what is left is shorter; or all of them end none
 abbrev pub FedOne : ChipParts → List ℕ → ChipParts → List ChipOut → List ChipOut → Option (Bor (List ℕ)) → Type 0
-FedOne old bytes new before all (Some left) = (front : List ℕ) × (bytes ≡ front ++ left.now) × (length left.now < length bytes) × Fed old front new before all
+FedOne old bytes new before all (Some left) = (prefix : List ℕ) × (bytes ≡ prefix ++ left.now) × (length left.now < length bytes) × Fed old prefix new before all
 FedOne old bytes new before all None = Fed old bytes new before all

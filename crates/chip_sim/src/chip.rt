@@ -9,7 +9,7 @@ ghost use Rattle.chip_sim.specs.Waiting.{queued_outs};
 ghost use Rattle.chip_sim.specs.Answers.{notice_frame};
 ghost use Rattle.chip_sim.specs.Requests.{given, closed};
 ghost use Rattle.chip_sim.specs.Events.{after, outs, update_of, FitsProfile, OwesCall, Ticked, Heard, Done, Informed, Joined, Linked, Forgets, Collides};
-ghost use Rattle.chip_sim.specs.Did.{Fed, FedFront, FedOne};
+ghost use Rattle.chip_sim.specs.Did.{Fed, FedPrefix, FedOne};
 
 use crate::marks::Marks;
 use crate::port::Port;
@@ -125,7 +125,7 @@ impl Chip {
     /// Takes bytes of the host. Each item that ends in them is one event.
     pub fn feed(&mut self, piece: &[u8], out: &mut List<ChipOut>) -> Result<(), NoMemory>
         ensures ok { OnOk result (Fed self.old piece.now self.new out.old.items out.new.items) }
-        ensures err { OnErr result (FedFront self.old piece.now self.new out.old.items out.new.items) }
+        ensures err { OnErr result (FedPrefix self.old piece.now self.new out.old.items out.new.items) }
     {
         let mut left = piece;
         while let Some(rest) = self.take_item(left, out)? {

@@ -13,7 +13,24 @@ ghost use Rattle.chip_sim.specs.Answers.{takes};
 ghost use Rattle.chip_sim.specs.Nodes.{is_marked};
 ghost use Rattle.chip_sim.specs.Requests.{passed, asked, heard, reply_to};
 ghost use Rattle.chip_sim.specs.Events.{ChipEvent, Judged, collides, outs};
-ghost use Rattle.chip_sim.specs.Rules.{Always, over, listed, WaitsWell, posts, kept, begun_at, taken, called, done, starts, asks, drops, is_start, is_ask, is_drop};
+ghost use Rattle.chip_sim.specs.Rules.{
+  Always,
+  over,
+  listed,
+  WaitsWell,
+  posts,
+  kept,
+  begun_at,
+  taken,
+  called,
+  done,
+  starts,
+  asks,
+  drops,
+  is_start,
+  is_ask,
+  is_drop,
+};
 
 /// What each event puts out beside units, whatever the chip is.
 pub fn rules_of_events()

@@ -3,7 +3,22 @@
 ghost use Rattle.std.specs.Prelude.{◌≡◌, ◌++◌, ◌+◌, ◌<◌, ◌≤◌, ◌^◌, [], IfOk, OnErr, if◌then◌else◌};
 ghost use Rattle.std.specs.Option.{option_copied};
 ghost use Rattle.chip_sim.specs.Answers.{takes, capabilities, init_data, protocol_info, response_frame};
-ghost use Rattle.chip_sim.specs.Requests.{IsWay, IsWayIf, HasWay, IsInformation, passed, asked, answer_outs, abort_frame, reply_to, reply_if, requested, requested_outs, sent, stopped};
+ghost use Rattle.chip_sim.specs.Requests.{
+  IsWay,
+  IsWayIf,
+  HasWay,
+  IsInformation,
+  passed,
+  asked,
+  answer_outs,
+  abort_frame,
+  reply_to,
+  reply_if,
+  requested,
+  requested_outs,
+  sent,
+  stopped,
+};
 ghost use Rattle.chip_sim.specs.Events.{after, outs, collides, May, Judged};
 
 use crate::answers::{
@@ -269,7 +284,11 @@ impl Chip {
     ) -> Option<Route>
         requires { 0 < out.old.room }
         ensures may { IsWayIf (takes self.old.state node payload) self.old.state.table node result }
-        ensures state { self.new.state ≡ (if takes self.old.state node payload then record self.old.state { sending = Some (record { node = node; callback_id = callback_id }) } else self.old.state) }
+        ensures state { self.new.state ≡
+            (if takes self.old.state node payload then record self.old.state {
+              sending = Some
+                  (record { node = node; callback_id = callback_id });
+            } else self.old.state) }
         ensures outs { out.new.items ≡ out.old.items ++ (if takes self.old.state node payload then sent node payload result else []) }
         ensures decoder { self.new.decoder ≡ self.old.decoder }
     {
@@ -330,7 +349,7 @@ fn home() -> NodeId
     read_node(HOME).unwrap()
 }
 
-/// The answer to an item: a good frame is acknowledged, or collides; a whole frame that is none is refused.
+/// The answer to an item: a good frame is acknowledged, or collides; a whole frame that is invalid is refused.
 fn put_answer(collides: bool, item: &Item, out: &mut List<ChipOut>)
     requires { 0 < out.old.room }
     ensures outs { out.new.items ≡ out.old.items ++ answer_outs collides item.now }

@@ -1,8 +1,8 @@
 -- The written form of a message spells it.
 use Rattle.std.proofs.Common.{[], arith}
-use Rattle.class_fields.specs.Ranges.{size_of, value_of}
-use Rattle.class_fields.specs.Cell.{HasAll}
-use Rattle.class_fields.proofs.WrittenLaws.{written_stand, has_number_last, has_numbers, has_nodes, has_default, has_scaled}
+use Rattle.class_core.specs.Ranges.{size_of, value_of}
+use Rattle.class_core.specs.Cell.{HasAll}
+use Rattle.class_core.proofs.WrittenLaws.{written_stand, has_number_last, has_numbers, has_nodes, has_default, has_scaled}
 use Rattle.class_core.specs.declared.message.CoreMessage.{CoreMessage}
 use Rattle.class_core.specs.declared.message.CoreMessage.TheVariants.{BasicSet, BasicGet, BasicReport, SwitchBinarySet, SwitchBinaryGet, SwitchBinaryReport, SwitchMultilevelSet, SwitchMultilevelGet, SwitchMultilevelReport, ThermostatModeSet, ThermostatModeGet, ThermostatModeReport, ThermostatSetpointSet, ThermostatSetpointGet, ThermostatSetpointReport, DoorLockOperationSet, DoorLockOperationGet, DoorLockOperationReport, ConfigurationSet, ConfigurationGet, ConfigurationReport, ConfigurationBulkSet, AssociationSet, AssociationRemove, WakeUpIntervalSet}
 use Rattle.class_core.specs.Spelling.{cells, form, Spells, IsInRange}

@@ -3,15 +3,15 @@ use Rattle.std.proofs.Common.{◌≡◌, ℕ, ◌≤◌, eqb, Some, Result, Ok, 
 use Rattle.std.specs.Prelude.{slice_get, IfOk}
 use Rattle.std.proofs.lemmas.Bool.{eqb-true}
 use Rattle.std.proofs.lemmas.Option.{slice_get_within}
-use Rattle.class_fields.specs.declared.fault.ClassFault.{ClassFault}
-use Rattle.class_fields.specs.declared.fault.ClassFault.TheVariants.{Empty, UnknownClass, UnknownCommand}
-use Rattle.class_fields.specs.Ranges.{is_level, is_node, bytes_in, size_of, Scaled}
-use Rattle.class_fields.specs.Cell.{Whole, Divided, Stand, bits}
-use Rattle.class_fields.specs.Fields.{part, scaled, nodes}
-use Rattle.class_fields.specs.Reading.{Gives, byte_at, limited_at, bits_at, switch_at, lock_at, word_at, three_at, number_at, numbers_at, size_at, size_byte_at, flag_at, scaled_at, nodes_at, in_class}
-use Rattle.class_fields.proofs.Heads.{Headed, narrowed, class_takes}
-use Rattle.class_fields.proofs.Steps.{bind_ok, chosen, ok_is, not_ok, some_is, made_of}
-use Rattle.class_fields.proofs.FieldLaws.{IsBytes, byte_takes, byte_again, limited_takes, limited_again, switch_takes, switch_again, lock_takes, lock_again, bits_takes, bits_again, has_of, size_takes, size_again, size_byte_takes, size_byte_again, flag_takes, flag_again, word_takes, word_again, three_takes, three_again, number_takes, number_again, scaled_takes, scaled_again, numbers_take, numbers_again, nodes_take, nodes_again}
+use Rattle.class_core.specs.declared.fault.ClassFault.{ClassFault}
+use Rattle.class_core.specs.declared.fault.ClassFault.TheVariants.{Empty, UnknownClass, UnknownCommand}
+use Rattle.class_core.specs.Ranges.{is_level, is_node, bytes_in, size_of, Scaled}
+use Rattle.class_core.specs.Cell.{Whole, Divided, Stand, bits}
+use Rattle.class_core.specs.Fields.{part, scaled, nodes}
+use Rattle.class_core.specs.Reading.{Gives, byte_at, limited_at, bits_at, switch_at, lock_at, word_at, three_at, number_at, numbers_at, size_at, size_byte_at, flag_at, scaled_at, nodes_at, in_class}
+use Rattle.class_core.proofs.Heads.{Headed, narrowed, class_takes}
+use Rattle.class_core.proofs.Steps.{bind_ok, chosen, ok_is, not_ok, some_is, made_of}
+use Rattle.class_core.proofs.FieldLaws.{IsBytes, byte_takes, byte_again, limited_takes, limited_again, switch_takes, switch_again, lock_takes, lock_again, bits_takes, bits_again, has_of, size_takes, size_again, size_byte_takes, size_byte_again, flag_takes, flag_again, word_takes, word_again, three_takes, three_again, number_takes, number_again, scaled_takes, scaled_again, numbers_take, numbers_again, nodes_take, nodes_again}
 use Rattle.class_core.specs.declared.message.CoreMessage.{CoreMessage}
 use Rattle.class_core.specs.declared.message.CoreMessage.TheVariants.{BasicSet, BasicGet, BasicReport, SwitchBinarySet, SwitchBinaryGet, SwitchBinaryReport, SwitchMultilevelSet, SwitchMultilevelGet, SwitchMultilevelReport, ThermostatModeSet, ThermostatModeGet, ThermostatModeReport, ThermostatSetpointSet, ThermostatSetpointGet, ThermostatSetpointReport, DoorLockOperationSet, DoorLockOperationGet, DoorLockOperationReport, ConfigurationSet, ConfigurationGet, ConfigurationReport, ConfigurationBulkSet, AssociationSet, AssociationRemove, WakeUpIntervalSet}
 use Rattle.class_core.specs.Spelling.{Spells}

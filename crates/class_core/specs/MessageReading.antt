@@ -1,11 +1,11 @@
 -- Reading a message from the left: its class, its command, then its fields in their order, each at its offset.
 use Rattle.std.specs.Prelude.{ℕ, List, [], ◌∷◌, Result, Ok, Err, ◌==◌, if◌then◌else◌}
-use Rattle.class_fields.specs.declared.fault.ClassFault.{ClassFault}
-use Rattle.class_fields.specs.declared.fault.ClassFault.TheVariants.{Empty, UnknownClass, UnknownCommand}
+use Rattle.class_core.specs.declared.fault.ClassFault.{ClassFault}
+use Rattle.class_core.specs.declared.fault.ClassFault.TheVariants.{Empty, UnknownClass, UnknownCommand}
 use Rattle.class_core.specs.declared.message.CoreMessage.{CoreMessage}
 use Rattle.class_core.specs.declared.message.CoreMessage.TheVariants.{BasicSet, BasicGet, BasicReport, SwitchBinarySet, SwitchBinaryGet, SwitchBinaryReport, SwitchMultilevelSet, SwitchMultilevelGet, SwitchMultilevelReport, ThermostatModeSet, ThermostatModeGet, ThermostatModeReport, ThermostatSetpointSet, ThermostatSetpointGet, ThermostatSetpointReport, DoorLockOperationSet, DoorLockOperationGet, DoorLockOperationReport, ConfigurationSet, ConfigurationGet, ConfigurationReport, ConfigurationBulkSet, AssociationSet, AssociationRemove, WakeUpIntervalSet}
-use Rattle.class_fields.specs.Ranges.{is_level, is_node, Scaled}
-use Rattle.class_fields.specs.Reading.{◌>>=◌, byte_at, limited_at, bits_at, switch_at, lock_at, word_at, three_at, number_at, numbers_at, size_at, size_byte_at, flag_at, scaled_at, nodes_at, in_class}
+use Rattle.class_core.specs.Ranges.{is_level, is_node, Scaled}
+use Rattle.class_core.specs.Reading.{◌>>=◌, byte_at, limited_at, bits_at, switch_at, lock_at, word_at, three_at, number_at, numbers_at, size_at, size_byte_at, flag_at, scaled_at, nodes_at, in_class}
 
 -- Basic, by its command
 abbrev pub basic_by : List ℕ → ℕ → Result CoreMessage ClassFault

@@ -3,9 +3,9 @@
 use Rattle.std.specs.Prelude.{ℕ, ◌<◌, List, [], ◌∷◌, ◌++◌, length, IsTrue}
 use Rattle.class_core.specs.declared.message.CoreMessage.{CoreMessage}
 use Rattle.class_core.specs.declared.message.CoreMessage.TheVariants.{BasicSet, BasicGet, BasicReport, SwitchBinarySet, SwitchBinaryGet, SwitchBinaryReport, SwitchMultilevelSet, SwitchMultilevelGet, SwitchMultilevelReport, ThermostatModeSet, ThermostatModeGet, ThermostatModeReport, ThermostatSetpointSet, ThermostatSetpointGet, ThermostatSetpointReport, DoorLockOperationSet, DoorLockOperationGet, DoorLockOperationReport, ConfigurationSet, ConfigurationGet, ConfigurationReport, ConfigurationBulkSet, AssociationSet, AssociationRemove, WakeUpIntervalSet}
-use Rattle.class_fields.specs.Ranges.{is_level, is_node, bytes_in, size_of, value_of, IsScaled, AreNodes}
-use Rattle.class_fields.specs.Cell.{Cell, Whole, Limited, Divided, Stand, written}
-use Rattle.class_fields.specs.Fields.{switch_byte, lock_byte, part, flag, word, three, number, numbers, scaled, node, nodes}
+use Rattle.class_core.specs.Ranges.{is_level, is_node, bytes_in, size_of, value_of, IsScaled, AreNodes}
+use Rattle.class_core.specs.Cell.{Cell, Whole, Limited, Divided, Stand, written}
+use Rattle.class_core.specs.Fields.{switch_byte, lock_byte, part, flag, word, three, number, numbers, scaled, node, nodes}
 
 -- class, command and fields of each message
 abbrev pub cells : CoreMessage → List Cell

@@ -1,11 +1,11 @@
 //! Association (Association Command Class).
 
-ghost use Rattle.class_fields.specs.Reading.{Gives, in_class};
+ghost use Rattle.class_core.specs.Reading.{Gives, in_class};
 ghost use Rattle.class_core.specs.MessageReading.{association_by, association_at};
 
+use crate::ClassFault;
+use crate::fields::{byte, nodes};
 use crate::message::CoreMessage;
-use class_fields::ClassFault;
-use class_fields::fields::{byte, nodes};
 use std::alloc::Global;
 
 /// The class.
@@ -16,7 +16,7 @@ pub(crate) const SET: u8 = 1;
 pub(crate) const REMOVE: u8 = 4;
 
 /// The message of this class that the bytes spell.
-#[tactic(auto, unfolding(class_fields::specs::Reading::in_class, crate::specs::MessageReading::association_at))]
+#[tactic(auto, unfolding(crate::specs::Reading::in_class, crate::specs::MessageReading::association_at))]
 pub fn read_association(alloc: Global, bytes: &[u8]) -> Result<CoreMessage, ClassFault>
     ensures { Gives result (in_class association_by bytes.now) }
 {

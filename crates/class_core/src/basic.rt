@@ -1,12 +1,12 @@
 //! Basic (Basic Command Class).
 
 ghost use Rattle.std.specs.Prelude.{◌≡◌};
-ghost use Rattle.class_fields.specs.Reading.{in_class};
+ghost use Rattle.class_core.specs.Reading.{in_class};
 ghost use Rattle.class_core.specs.MessageReading.{basic_by};
 
+use crate::ClassFault;
+use crate::fields::byte;
 use crate::message::CoreMessage;
-use class_fields::ClassFault;
-use class_fields::fields::byte;
 
 /// The class.
 pub const BASIC: u8 = 0x20;
@@ -18,7 +18,7 @@ pub(crate) const GET: u8 = 2;
 pub(crate) const REPORT: u8 = 3;
 
 /// The message of this class that the bytes spell.
-#[tactic(auto, unfolding(class_fields::specs::Reading::in_class))]
+#[tactic(auto, unfolding(crate::specs::Reading::in_class))]
 pub fn read_basic(bytes: &[u8]) -> Result<CoreMessage, ClassFault>
     ensures { result ≡ in_class basic_by bytes.now }
 {

@@ -1,12 +1,12 @@
 //! Configuration (Configuration Command Class).
 
 ghost use Rattle.std.specs.Prelude.{◌≡◌};
-ghost use Rattle.class_fields.specs.Reading.{Gives, in_class};
+ghost use Rattle.class_core.specs.Reading.{Gives, in_class};
 ghost use Rattle.class_core.specs.MessageReading.{configuration_by, configuration_set_at, configuration_report_at, configuration_bulk_at};
 
+use crate::ClassFault;
+use crate::fields::{byte, high_bit, number, numbers, size, size_byte, word};
 use crate::message::CoreMessage;
-use class_fields::ClassFault;
-use class_fields::fields::{byte, high_bit, number, numbers, size, size_byte, word};
 use std::alloc::Global;
 
 /// The class.
@@ -21,7 +21,7 @@ pub(crate) const REPORT: u8 = 6;
 pub(crate) const BULK_SET: u8 = 7;
 
 /// The message of this class that the bytes spell.
-#[tactic(auto, unfolding(class_fields::specs::Reading::in_class))]
+#[tactic(auto, unfolding(crate::specs::Reading::in_class))]
 pub fn read_configuration(alloc: Global, bytes: &[u8]) -> Result<CoreMessage, ClassFault>
     ensures { Gives result (in_class configuration_by bytes.now) }
 {

@@ -1,12 +1,12 @@
 //! Door Lock (Door Lock Command Class).
 
 ghost use Rattle.std.specs.Prelude.{◌≡◌};
-ghost use Rattle.class_fields.specs.Reading.{in_class};
+ghost use Rattle.class_core.specs.Reading.{in_class};
 ghost use Rattle.class_core.specs.MessageReading.{door_lock_by};
 
+use crate::ClassFault;
+use crate::fields::{byte, lock_mode};
 use crate::message::CoreMessage;
-use class_fields::ClassFault;
-use class_fields::fields::{byte, lock_mode};
 
 /// The class.
 pub const DOOR_LOCK: u8 = 0x62;
@@ -18,7 +18,7 @@ pub(crate) const OPERATION_GET: u8 = 2;
 pub(crate) const OPERATION_REPORT: u8 = 3;
 
 /// The message of this class that the bytes spell.
-#[tactic(auto, unfolding(class_fields::specs::Reading::in_class, crate::specs::MessageReading::lock_report_at))]
+#[tactic(auto, unfolding(crate::specs::Reading::in_class, crate::specs::MessageReading::lock_report_at))]
 pub fn read_door_lock(bytes: &[u8]) -> Result<CoreMessage, ClassFault>
     ensures { result ≡ in_class door_lock_by bytes.now }
 {

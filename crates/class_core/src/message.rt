@@ -1,6 +1,6 @@
 //! The messages of the actuator command classes.
 
-use class_fields::{
+use crate::{
     Decimal, Level, LockMode, Mode, NodeList, Number, NumberList, Seconds, SetpointKind, Switch,
 };
 use zw_base::NodeId;

@@ -3,9 +3,10 @@
 ghost use Rattle.std.specs.Prelude.{◌≡◌, ℕ, List, IfOk, Ok};
 ghost use Rattle.class_core.specs.declared.message.CoreMessage.{CoreMessage};
 ghost use Rattle.class_core.specs.Spelling.{Spells};
-ghost use Rattle.class_fields.specs.Reading.{Gives};
+ghost use Rattle.class_core.specs.Reading.{Gives};
 ghost use Rattle.class_core.specs.MessageReading.{message_at};
 
+use crate::ClassFault;
 use crate::association::{ASSOCIATION, read_association};
 use crate::basic::{BASIC, read_basic};
 use crate::configuration::{CONFIGURATION, read_configuration};
@@ -16,7 +17,6 @@ use crate::switch_multilevel::{SWITCH_MULTILEVEL, read_switch_multilevel};
 use crate::thermostat_mode::{THERMOSTAT_MODE, read_thermostat_mode};
 use crate::thermostat_setpoint::{THERMOSTAT_SETPOINT, read_thermostat_setpoint};
 use crate::wake_up::{WAKE_UP, read_wake_up};
-use class_fields::ClassFault;
 use std::alloc::Global;
 
 #[tactic(auto, unfolding(crate::specs::MessageReading::message_at))]
@@ -38,7 +38,7 @@ fn read_row(alloc: Global, bytes: &[u8]) -> Result<CoreMessage, ClassFault>
     }
 }
 
-/// The message that the bytes spell. A tail behind its fields, and bits that its row does not name, are ignored.
+/// The message that the bytes spell. A tail after its fields, and bits that its row does not name, are ignored.
 pub fn read(alloc: Global, bytes: &[u8]) -> Result<CoreMessage, ClassFault>
     // What is read is spelled so.
     ensures found { IfOk result (λ message. Spells message bytes.now) }

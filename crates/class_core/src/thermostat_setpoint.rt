@@ -1,12 +1,12 @@
 //! Thermostat Setpoint (Thermostat Setpoint Command Class).
 
 ghost use Rattle.std.specs.Prelude.{◌≡◌};
-ghost use Rattle.class_fields.specs.Reading.{in_class};
+ghost use Rattle.class_core.specs.Reading.{in_class};
 ghost use Rattle.class_core.specs.MessageReading.{setpoint_at, thermostat_setpoint_by};
 
+use crate::ClassFault;
+use crate::fields::{byte, decimal, setpoint_kind};
 use crate::message::CoreMessage;
-use class_fields::ClassFault;
-use class_fields::fields::{byte, decimal, setpoint_kind};
 
 /// The class.
 pub const THERMOSTAT_SETPOINT: u8 = 0x43;
@@ -18,7 +18,7 @@ pub(crate) const GET: u8 = 2;
 pub(crate) const REPORT: u8 = 3;
 
 /// The message of this class that the bytes spell.
-#[tactic(auto, unfolding(class_fields::specs::Reading::in_class, crate::specs::MessageReading::setpoint_at))]
+#[tactic(auto, unfolding(crate::specs::Reading::in_class, crate::specs::MessageReading::setpoint_at))]
 pub fn read_thermostat_setpoint(bytes: &[u8]) -> Result<CoreMessage, ClassFault>
     ensures { result ≡ in_class thermostat_setpoint_by bytes.now }
 {

@@ -7,16 +7,16 @@ use crate::association::{self, ASSOCIATION};
 use crate::basic::{self, BASIC};
 use crate::configuration::{self, CONFIGURATION};
 use crate::door_lock::{self, DOOR_LOCK};
+use crate::forms::{
+    default_and_size, node_number, put_decimal, put_nodes, put_number, put_numbers, put_seconds,
+    put_word,
+};
 use crate::message::CoreMessage;
 use crate::switch_binary::{self, SWITCH_BINARY};
 use crate::switch_multilevel::{self, SWITCH_MULTILEVEL};
 use crate::thermostat_mode::{self, THERMOSTAT_MODE};
 use crate::thermostat_setpoint::{self, THERMOSTAT_SETPOINT};
 use crate::wake_up::{self, WAKE_UP};
-use class_fields::forms::{
-    default_and_size, node_number, put_decimal, put_nodes, put_number, put_numbers, put_seconds,
-    put_word,
-};
 use std::alloc::Global;
 use zw_base::{Bytes, NoMemory};
 
@@ -65,7 +65,7 @@ pub fn head(message: &CoreMessage) -> [u8; 2]
     }
 }
 
-/// Adds the fields behind the command.
+/// Adds the fields after the command.
 pub fn put_fields(out: &mut Bytes, message: &CoreMessage) -> Result<(), NoMemory>
     ensures ok { OnOk result (out.new ≡ out.old ++ drop 2 (form message.now)) }
     ensures range { OnOk result (IsInRange message.now) }

@@ -1,8 +1,8 @@
 -- The written form of a message spells it.
 use Rattle.std.proofs.Common.{ℕ, ◌<◌, Bool, true, false, [], ◌∷◌, arith}
-use Rattle.class_fields.specs.Cell.{HasAll, HasParts, byte_of}
-use Rattle.class_fields.specs.Fields.{part, flag}
-use Rattle.class_fields.proofs.WrittenLaws.{written_stand, has_nodes, has_scaled}
+use Rattle.class_core.specs.Cell.{HasAll, HasParts, byte_of}
+use Rattle.class_core.specs.Fields.{part, flag}
+use Rattle.class_core.proofs.WrittenLaws.{written_stand, has_nodes, has_scaled}
 use Rattle.class_core.proofs.FormLaws.{has_all as core_has_all}
 use Rattle.class_info.specs.declared.message.InfoMessage.{InfoMessage}
 use Rattle.class_info.specs.declared.message.InfoMessage.TheVariants.{Core, SensorBinaryGet, SensorBinaryReport, SensorMultilevelGet, SensorMultilevelReport, NotificationReport, ManufacturerSpecificGet, ManufacturerSpecificReport, BatteryGet, BatteryReport, WakeUpIntervalGet, WakeUpIntervalReport, WakeUpNotification, WakeUpNoMoreInformation, AssociationGet, AssociationReport, AssociationGroupingsGet, AssociationGroupingsReport, VersionGet, VersionReport, VersionClassGet, VersionClassReport, SupervisionReport, NonceGet, NonceReport, TransportRequest, TransportComplete, TransportWait}

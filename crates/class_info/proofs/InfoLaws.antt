@@ -3,19 +3,19 @@ use Rattle.std.proofs.Common.{◌≡◌, ℕ, ◌+◌, ◌*◌, ◌/◌, ◌%◌
 use Rattle.std.specs.Prelude.{slice_get, IfOk}
 use Rattle.std.proofs.lemmas.Bool.{eqb-true}
 use Rattle.std.proofs.lemmas.Option.{slice_get_within, get_or_from_slice_get}
-use Rattle.class_fields.specs.declared.fault.ClassFault.{ClassFault}
-use Rattle.class_fields.specs.declared.fault.ClassFault.TheVariants.{Empty, UnknownClass, UnknownCommand, Short, BadValue, NoMemory}
-use Rattle.class_fields.specs.Reading.{◌>>=◌, Gives, byte_at, limited_at, bits_at, switch_at, word_at, three_at, flag_at, scaled_at, nodes_at, in_class}
-use Rattle.class_fields.proofs.Steps.{bind_ok, chosen, ok_is, not_ok, made_of}
-use Rattle.class_fields.proofs.FieldLaws.{IsBytes, byte_takes, byte_again, limited_takes, limited_again, switch_takes, switch_again, bits_takes, bits_again, has_of, flag_takes, flag_again, word_takes, word_again, three_takes, three_again, scaled_takes, scaled_again, nodes_take, nodes_again}
-use Rattle.class_fields.specs.Ranges.{is_node}
-use Rattle.class_fields.proofs.Heads.{Headed, narrowed, class_takes}
+use Rattle.class_core.specs.declared.fault.ClassFault.{ClassFault}
+use Rattle.class_core.specs.declared.fault.ClassFault.TheVariants.{Empty, UnknownClass, UnknownCommand, Short, BadValue, NoMemory}
+use Rattle.class_core.specs.Reading.{◌>>=◌, Gives, byte_at, limited_at, bits_at, switch_at, word_at, three_at, flag_at, scaled_at, nodes_at, in_class}
+use Rattle.class_core.proofs.Steps.{bind_ok, chosen, ok_is, not_ok, made_of}
+use Rattle.class_core.proofs.FieldLaws.{IsBytes, byte_takes, byte_again, limited_takes, limited_again, switch_takes, switch_again, bits_takes, bits_again, has_of, flag_takes, flag_again, word_takes, word_again, three_takes, three_again, scaled_takes, scaled_again, nodes_take, nodes_again}
+use Rattle.class_core.specs.Ranges.{is_node}
+use Rattle.class_core.proofs.Heads.{Headed, narrowed, class_takes}
 use Rattle.class_core.specs.declared.message.CoreMessage.{CoreMessage}
 use Rattle.class_core.specs.MessageReading.{wake_up_by as core_wake_up_by, association_by as core_association_by, message_by, message_at}
 use Rattle.class_core.proofs.MessageLaws.{by_class, takes as core_takes, again as core_again}
 use Rattle.class_info.specs.declared.message.InfoMessage.{InfoMessage}
 use Rattle.class_info.specs.declared.message.InfoMessage.TheVariants.{Core, SensorBinaryGet, SensorBinaryReport, SensorMultilevelGet, SensorMultilevelReport, NotificationReport, ManufacturerSpecificGet, ManufacturerSpecificReport, BatteryGet, BatteryReport, WakeUpIntervalGet, WakeUpIntervalReport, WakeUpNotification, WakeUpNoMoreInformation, AssociationGet, AssociationReport, AssociationGroupingsGet, AssociationGroupingsReport, VersionGet, VersionReport, VersionClassGet, VersionClassReport, SupervisionReport, NonceGet, NonceReport, TransportRequest, TransportComplete, TransportWait}
-use Rattle.class_fields.specs.Fields.{flag}
+use Rattle.class_core.specs.Fields.{flag}
 use Rattle.class_info.specs.Values.{is_battery}
 use Rattle.class_info.specs.InfoSpelling.{Spells}
 use Rattle.class_info.specs.InfoReading.{status_at, nonce_at, sensor_binary_by, sensor_report_at, sensor_multilevel_by, notification_at, notification_by, manufacturer_at, manufacturer_by, battery_by, interval_report_at, wake_up_by, association_report_at, association_by, version_report_at, version_class_at, version_by, supervision_report_at, supervision_by, security_by, transport_request_at, transport_by, own_by, own_at, shared_by, shared_at, beside, info_at}

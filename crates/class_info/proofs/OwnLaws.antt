@@ -4,11 +4,11 @@ use Rattle.std.proofs.Math.Seq.{drop-cons}
 use Rattle.std.proofs.lemmas.Bool.{eqb-true}
 use Rattle.std.proofs.lemmas.List.{length-take, length-drop}
 use Rattle.std.proofs.lemmas.Option.{slice_get_within, slice_get-get_or, get_or_from_slice_get}
-use Rattle.class_fields.specs.declared.fault.ClassFault.TheVariants.{BadValue}
-use Rattle.class_fields.specs.Cell.{Whole, StandsAt, Stand, written, HasAll}
-use Rattle.class_fields.specs.Reading.{byte_at}
-use Rattle.class_fields.proofs.Steps.{bind_ok, chosen, ok_is, not_ok, whole_takes, whole_again}
-use Rattle.class_fields.proofs.FieldLaws.{byte_takes, byte_again}
+use Rattle.class_core.specs.declared.fault.ClassFault.TheVariants.{BadValue}
+use Rattle.class_core.specs.Cell.{Whole, StandsAt, Stand, written, HasAll}
+use Rattle.class_core.specs.Reading.{byte_at}
+use Rattle.class_core.proofs.Steps.{bind_ok, chosen, ok_is, not_ok, whole_takes, whole_again}
+use Rattle.class_core.proofs.FieldLaws.{byte_takes, byte_again}
 use Rattle.class_info.specs.declared.report_status.ReportStatus.{ReportStatus}
 use Rattle.class_info.specs.declared.report_status.ReportStatus.TheVariants.{NoSupport, Working, Fail, Success}
 use Rattle.class_info.specs.Values.{status_byte, wholes}

@@ -1,10 +1,10 @@
 -- Reading a message of both tables from the left: its class, its command, then its fields in their order, each at
 -- its offset.
 use Rattle.std.specs.Prelude.{ℕ, ◌+◌, ◌*◌, List, take, drop, Result, Ok, Err, ◌==◌, if◌then◌else◌}
-use Rattle.class_fields.specs.declared.fault.ClassFault.{ClassFault}
-use Rattle.class_fields.specs.declared.fault.ClassFault.TheVariants.{Empty, UnknownClass, UnknownCommand, Short, BadValue, NoMemory}
-use Rattle.class_fields.specs.Ranges.{is_node}
-use Rattle.class_fields.specs.Reading.{◌>>=◌, whole, byte_at, limited_at, bits_at, switch_at, word_at, three_at, flag_at, scaled_at, nodes_at, in_class}
+use Rattle.class_core.specs.declared.fault.ClassFault.{ClassFault}
+use Rattle.class_core.specs.declared.fault.ClassFault.TheVariants.{Empty, UnknownClass, UnknownCommand, Short, BadValue, NoMemory}
+use Rattle.class_core.specs.Ranges.{is_node}
+use Rattle.class_core.specs.Reading.{◌>>=◌, whole, byte_at, limited_at, bits_at, switch_at, word_at, three_at, flag_at, scaled_at, nodes_at, in_class}
 use Rattle.class_core.specs.declared.message.CoreMessage.{CoreMessage}
 use Rattle.class_core.specs.MessageReading.{message_at}
 use Rattle.class_info.specs.declared.message.InfoMessage.{InfoMessage}
@@ -194,7 +194,7 @@ own_by bytes class =
     else if class == 0x55 then in_class transport_by bytes
     else Err (UnknownClass class)
 
--- the same, by the class at the front
+-- the same, by the class at the prefix
 unfoldable pub own_at : List ℕ → Result InfoMessage ClassFault
 own_at bytes = byte_at 0 bytes >>= own_by bytes
 
@@ -205,7 +205,7 @@ shared_by bytes class =
     else if class == 0x85 then in_class association_by bytes
     else (byte_at 1 bytes >>= λ command. Err (UnknownCommand class command))
 
--- the same, by the class at the front
+-- the same, by the class at the prefix
 unfoldable pub shared_at : List ℕ → Result InfoMessage ClassFault
 shared_at bytes = byte_at 0 bytes >>= shared_by bytes
 

@@ -1,9 +1,9 @@
 -- Which cells each message of both tables is made of, and so which bytes spell it (Z-Wave Application, Management
 -- and Transport-Encapsulation Command Class Specifications, in this project's profile of values).
 use Rattle.std.specs.Prelude.{◌≡◌, ℕ, ◌/◌, ◌%◌, ◌<◌, List, [], ◌∷◌, ◌++◌, length, IsTrue}
-use Rattle.class_fields.specs.Ranges.{is_node, IsScaled, AreNodes}
-use Rattle.class_fields.specs.Cell.{Cell, Whole, Limited, Divided, Stand, written}
-use Rattle.class_fields.specs.Fields.{switch_byte, part, flag, word, three, scaled, node, nodes}
+use Rattle.class_core.specs.Ranges.{is_node, IsScaled, AreNodes}
+use Rattle.class_core.specs.Cell.{Cell, Whole, Limited, Divided, Stand, written}
+use Rattle.class_core.specs.Fields.{switch_byte, part, flag, word, three, scaled, node, nodes}
 use Rattle.class_core.specs.Spelling.{cells as core_cells, IsInRange as IsCoreInRange}
 use Rattle.class_info.specs.declared.message.InfoMessage.{InfoMessage}
 use Rattle.class_info.specs.declared.message.InfoMessage.TheVariants.{Core, SensorBinaryGet, SensorBinaryReport, SensorMultilevelGet, SensorMultilevelReport, NotificationReport, ManufacturerSpecificGet, ManufacturerSpecificReport, BatteryGet, BatteryReport, WakeUpIntervalGet, WakeUpIntervalReport, WakeUpNotification, WakeUpNoMoreInformation, AssociationGet, AssociationReport, AssociationGroupingsGet, AssociationGroupingsReport, VersionGet, VersionReport, VersionClassGet, VersionClassReport, SupervisionReport, NonceGet, NonceReport, TransportRequest, TransportComplete, TransportWait}

@@ -1,6 +1,6 @@
 -- Which values the own fields of these classes have.
 use Rattle.std.specs.Prelude.{ℕ, ◌||◌, ◌==◌, nat_le, Bool, List, [], ◌∷◌}
-use Rattle.class_fields.specs.Cell.{Cell, Whole}
+use Rattle.class_core.specs.Cell.{Cell, Whole}
 use Rattle.class_info.specs.declared.report_status.ReportStatus.{ReportStatus}
 use Rattle.class_info.specs.declared.report_status.ReportStatus.TheVariants.{NoSupport, Working, Fail, Success}
 

@@ -4,7 +4,7 @@
 //! message is spelled by them, and else which fault stands first from the left.
 //! `specs/Values.antt` says which values their own fields have, `specs/InfoSpelling.antt` which bytes spell each
 //! message, and `specs/InfoReading.antt` which fault other bytes have. What both tables share stands in
-//! `class_fields`, and the messages of actuators in `class_core`.
+//! `class_core`, and the messages of actuators in `class_core`.
 #![tactic(auto)]
 
 mod battery_level;

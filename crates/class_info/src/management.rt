@@ -2,13 +2,13 @@
 //! the command class of that name.
 
 ghost use Rattle.std.specs.Prelude.{◌≡◌};
-ghost use Rattle.class_fields.specs.Reading.{Gives, in_class};
+ghost use Rattle.class_core.specs.Reading.{Gives, in_class};
 ghost use Rattle.class_info.specs.InfoReading.{notification_by, manufacturer_by, battery_by, wake_up_by, association_by, version_by};
 
 use crate::message::InfoMessage;
 use crate::own_fields::battery_level;
-use class_fields::ClassFault;
-use class_fields::fields::{byte, node, nodes, seconds, word};
+use class_core::ClassFault;
+use class_core::fields::{byte, node, nodes, seconds, word};
 use std::alloc::Global;
 
 pub(crate) const NOTIFICATION: u8 = 0x71;
@@ -58,7 +58,7 @@ pub(crate) const VERSION_CLASS_GET: u8 = 0x13;
 pub(crate) const VERSION_CLASS_REPORT: u8 = 0x14;
 
 /// The message of Notification that the bytes spell.
-#[tactic(auto, unfolding(class_fields::specs::Reading::in_class, crate::specs::InfoReading::notification_at))]
+#[tactic(auto, unfolding(class_core::specs::Reading::in_class, crate::specs::InfoReading::notification_at))]
 pub(crate) fn read_notification(bytes: &[u8]) -> Result<InfoMessage, ClassFault>
     ensures { result ≡ in_class notification_by bytes.now }
 {
@@ -72,7 +72,7 @@ pub(crate) fn read_notification(bytes: &[u8]) -> Result<InfoMessage, ClassFault>
 }
 
 /// The message of Manufacturer Specific that the bytes spell.
-#[tactic(auto, unfolding(class_fields::specs::Reading::in_class, crate::specs::InfoReading::manufacturer_at))]
+#[tactic(auto, unfolding(class_core::specs::Reading::in_class, crate::specs::InfoReading::manufacturer_at))]
 pub(crate) fn read_manufacturer(bytes: &[u8]) -> Result<InfoMessage, ClassFault>
     ensures { result ≡ in_class manufacturer_by bytes.now }
 {
@@ -88,7 +88,7 @@ pub(crate) fn read_manufacturer(bytes: &[u8]) -> Result<InfoMessage, ClassFault>
 }
 
 /// The message of Battery that the bytes spell.
-#[tactic(auto, unfolding(class_fields::specs::Reading::in_class))]
+#[tactic(auto, unfolding(class_core::specs::Reading::in_class))]
 pub(crate) fn read_battery(bytes: &[u8]) -> Result<InfoMessage, ClassFault>
     ensures { result ≡ in_class battery_by bytes.now }
 {
@@ -102,7 +102,7 @@ pub(crate) fn read_battery(bytes: &[u8]) -> Result<InfoMessage, ClassFault>
 }
 
 /// The message of Wake Up that the bytes spell, where it asks or tells.
-#[tactic(auto, unfolding(class_fields::specs::Reading::in_class, crate::specs::InfoReading::interval_report_at))]
+#[tactic(auto, unfolding(class_core::specs::Reading::in_class, crate::specs::InfoReading::interval_report_at))]
 pub(crate) fn read_wake_up(bytes: &[u8]) -> Result<InfoMessage, ClassFault>
     ensures { result ≡ in_class wake_up_by bytes.now }
 {
@@ -119,7 +119,7 @@ pub(crate) fn read_wake_up(bytes: &[u8]) -> Result<InfoMessage, ClassFault>
 }
 
 /// The message of Association that the bytes spell, where it asks or tells.
-#[tactic(auto, unfolding(class_fields::specs::Reading::in_class, crate::specs::InfoReading::association_report_at))]
+#[tactic(auto, unfolding(class_core::specs::Reading::in_class, crate::specs::InfoReading::association_report_at))]
 pub(crate) fn read_association(alloc: Global, bytes: &[u8]) -> Result<InfoMessage, ClassFault>
     ensures { Gives result (in_class association_by bytes.now) }
 {
@@ -142,7 +142,7 @@ pub(crate) fn read_association(alloc: Global, bytes: &[u8]) -> Result<InfoMessag
 }
 
 /// The message of Version that the bytes spell.
-#[tactic(auto, unfolding(class_fields::specs::Reading::in_class, crate::specs::InfoReading::version_report_at, crate::specs::InfoReading::version_class_at))]
+#[tactic(auto, unfolding(class_core::specs::Reading::in_class, crate::specs::InfoReading::version_report_at, crate::specs::InfoReading::version_class_at))]
 pub(crate) fn read_version(bytes: &[u8]) -> Result<InfoMessage, ClassFault>
     ensures { result ≡ in_class version_by bytes.now }
 {

@@ -1,21 +1,21 @@
 //! The fields that these classes alone have, each read at its offset from the class byte.
 
 ghost use Rattle.std.specs.Prelude.{◌≡◌};
-ghost use Rattle.class_fields.specs.Reading.{bits_at, flag_at, limited_at};
+ghost use Rattle.class_core.specs.Reading.{bits_at, flag_at, limited_at};
 ghost use Rattle.class_info.specs.Values.{is_battery};
 ghost use Rattle.class_info.specs.InfoReading.{nonce_at, status_at};
 
 use crate::battery_level::BatteryLevel;
 use crate::report_status::{FAIL, NO_SUPPORT, ReportStatus, SUCCESS, WORKING};
 use crate::session::{SessionId, TransportId};
-use class_fields::ClassFault;
-use class_fields::fields::byte;
+use class_core::ClassFault;
+use class_core::fields::byte;
 
 /// How many bytes a nonce has.
 const NONCE_LEN: u8 = 8;
 
 /// The charge of a battery at an offset.
-#[tactic(auto, unfolding(class_fields::specs::Reading::limited_at))]
+#[tactic(auto, unfolding(class_core::specs::Reading::limited_at))]
 pub(crate) fn battery_level(bytes: &[u8], at: u8) -> Result<BatteryLevel, ClassFault>
     ensures { result ≡ limited_at is_battery at bytes.now }
 {
@@ -40,7 +40,7 @@ pub(crate) fn report_status(bytes: &[u8], at: u8) -> Result<ReportStatus, ClassF
 }
 
 /// Bit 6 of the byte at an offset.
-#[tactic(auto, unfolding(class_fields::specs::Reading::bits_at, class_fields::specs::Reading::flag_at))]
+#[tactic(auto, unfolding(class_core::specs::Reading::bits_at, class_core::specs::Reading::flag_at))]
 pub(crate) fn bit_six(bytes: &[u8], at: u8) -> Result<bool, ClassFault>
     ensures { result ≡ flag_at 6 at bytes.now }
 {
@@ -48,7 +48,7 @@ pub(crate) fn bit_six(bytes: &[u8], at: u8) -> Result<bool, ClassFault>
 }
 
 /// The session in the low six bits of the byte at an offset.
-#[tactic(auto, unfolding(class_fields::specs::Reading::bits_at))]
+#[tactic(auto, unfolding(class_core::specs::Reading::bits_at))]
 pub(crate) fn session_id(bytes: &[u8], at: u8) -> Result<SessionId, ClassFault>
     ensures { result ≡ bits_at 0 6 at bytes.now }
 {
@@ -56,7 +56,7 @@ pub(crate) fn session_id(bytes: &[u8], at: u8) -> Result<SessionId, ClassFault>
 }
 
 /// The session in the high four bits of the byte at an offset.
-#[tactic(auto, unfolding(class_fields::specs::Reading::bits_at))]
+#[tactic(auto, unfolding(class_core::specs::Reading::bits_at))]
 pub(crate) fn transport_id(bytes: &[u8], at: u8) -> Result<TransportId, ClassFault>
     ensures { result ≡ bits_at 4 4 at bytes.now }
 {

@@ -1,7 +1,7 @@
 //! From bytes to messages.
 
 ghost use Rattle.std.specs.Prelude.{◌≡◌, ℕ, List, IfOk, Ok};
-ghost use Rattle.class_fields.specs.Reading.{Gives};
+ghost use Rattle.class_core.specs.Reading.{Gives};
 ghost use Rattle.class_info.specs.declared.message.InfoMessage.{InfoMessage};
 ghost use Rattle.class_info.specs.InfoSpelling.{Spells};
 ghost use Rattle.class_info.specs.InfoReading.{own_at, shared_at, info_at};
@@ -15,8 +15,8 @@ use crate::sensor::{SENSOR_BINARY, SENSOR_MULTILEVEL, read_sensor_binary, read_s
 use crate::transport::{
     SECURITY, SUPERVISION, TRANSPORT, read_security, read_supervision, read_transport,
 };
-use class_fields::ClassFault;
-use class_fields::fields::byte;
+use class_core::ClassFault;
+use class_core::fields::byte;
 use std::alloc::Global;
 
 /// A message of a class that no actuator has.
@@ -62,7 +62,7 @@ fn read_row(alloc: Global, bytes: &[u8]) -> Result<InfoMessage, ClassFault>
     }
 }
 
-/// The message that the bytes spell. A tail behind its fields, and bits that its row does not name, are ignored.
+/// The message that the bytes spell. A tail after its fields, and bits that its row does not name, are ignored.
 pub fn read(alloc: Global, bytes: &[u8]) -> Result<InfoMessage, ClassFault>
     // What is read is spelled so.
     ensures found { IfOk result (λ message. Spells message bytes.now) }

@@ -2,12 +2,12 @@
 //! Command Class).
 
 ghost use Rattle.std.specs.Prelude.{◌≡◌};
-ghost use Rattle.class_fields.specs.Reading.{in_class};
+ghost use Rattle.class_core.specs.Reading.{in_class};
 ghost use Rattle.class_info.specs.InfoReading.{sensor_binary_by, sensor_multilevel_by};
 
 use crate::message::InfoMessage;
-use class_fields::ClassFault;
-use class_fields::fields::{byte, decimal, switch};
+use class_core::ClassFault;
+use class_core::fields::{byte, decimal, switch};
 
 pub(crate) const SENSOR_BINARY: u8 = 0x30;
 
@@ -22,7 +22,7 @@ pub(crate) const MULTILEVEL_GET: u8 = 4;
 pub(crate) const MULTILEVEL_REPORT: u8 = 5;
 
 /// The message of Sensor Binary that the bytes spell.
-#[tactic(auto, unfolding(class_fields::specs::Reading::in_class))]
+#[tactic(auto, unfolding(class_core::specs::Reading::in_class))]
 pub(crate) fn read_sensor_binary(bytes: &[u8]) -> Result<InfoMessage, ClassFault>
     ensures { result ≡ in_class sensor_binary_by bytes.now }
 {
@@ -36,7 +36,7 @@ pub(crate) fn read_sensor_binary(bytes: &[u8]) -> Result<InfoMessage, ClassFault
 }
 
 /// The message of Sensor Multilevel that the bytes spell.
-#[tactic(auto, unfolding(class_fields::specs::Reading::in_class, crate::specs::InfoReading::sensor_report_at))]
+#[tactic(auto, unfolding(class_core::specs::Reading::in_class, crate::specs::InfoReading::sensor_report_at))]
 pub(crate) fn read_sensor_multilevel(bytes: &[u8]) -> Result<InfoMessage, ClassFault>
     ensures { result ≡ in_class sensor_multilevel_by bytes.now }
 {

@@ -2,7 +2,7 @@
 
 ghost use Rattle.std.specs.Prelude.{◌≡◌, ℕ, ◌+◌, ◌*◌, ◌<◌};
 ghost use Rattle.std.specs.Option.{SomeIff};
-ghost use Rattle.class_fields.specs.Cell.{bits};
+ghost use Rattle.class_core.specs.Cell.{bits};
 
 use std::marker::Model;
 

@@ -2,14 +2,14 @@
 //! name. Their wraps and segments are no messages of this crate.
 
 ghost use Rattle.std.specs.Prelude.{◌≡◌};
-ghost use Rattle.class_fields.specs.Reading.{in_class};
+ghost use Rattle.class_core.specs.Reading.{in_class};
 ghost use Rattle.class_info.specs.InfoReading.{supervision_by, security_by, transport_by, transport_request_at};
 
 use crate::message::InfoMessage;
 use crate::own_fields::{bit_six, nonce, report_status, session_id, transport_id};
 use crate::session::SegmentOffset;
-use class_fields::ClassFault;
-use class_fields::fields::{byte, high_bit};
+use class_core::ClassFault;
+use class_core::fields::{byte, high_bit};
 
 pub(crate) const SUPERVISION: u8 = 0x6C;
 
@@ -30,7 +30,7 @@ pub(crate) const SEGMENT_COMPLETE: u8 = 0xE8;
 pub(crate) const SEGMENT_WAIT: u8 = 0xF0;
 
 /// The message of Supervision that the bytes spell.
-#[tactic(auto, unfolding(class_fields::specs::Reading::in_class, crate::specs::InfoReading::supervision_report_at))]
+#[tactic(auto, unfolding(class_core::specs::Reading::in_class, crate::specs::InfoReading::supervision_report_at))]
 pub(crate) fn read_supervision(bytes: &[u8]) -> Result<InfoMessage, ClassFault>
     ensures { result ≡ in_class supervision_by bytes.now }
 {
@@ -47,7 +47,7 @@ pub(crate) fn read_supervision(bytes: &[u8]) -> Result<InfoMessage, ClassFault>
 }
 
 /// The message of Security 0 that the bytes spell.
-#[tactic(auto, unfolding(class_fields::specs::Reading::in_class))]
+#[tactic(auto, unfolding(class_core::specs::Reading::in_class))]
 pub(crate) fn read_security(bytes: &[u8]) -> Result<InfoMessage, ClassFault>
     ensures { result ≡ in_class security_by bytes.now }
 {
@@ -61,7 +61,7 @@ pub(crate) fn read_security(bytes: &[u8]) -> Result<InfoMessage, ClassFault>
 }
 
 /// The request of a segment.
-#[tactic(auto, unfolding(class_fields::specs::Reading::bits_at, crate::specs::InfoReading::transport_request_at))]
+#[tactic(auto, unfolding(class_core::specs::Reading::bits_at, crate::specs::InfoReading::transport_request_at))]
 fn read_request(bytes: &[u8]) -> Result<InfoMessage, ClassFault>
     ensures { result ≡ transport_request_at bytes.now }
 {
@@ -75,7 +75,7 @@ fn read_request(bytes: &[u8]) -> Result<InfoMessage, ClassFault>
 }
 
 /// The message of Transport Service that the bytes spell.
-#[tactic(auto, unfolding(class_fields::specs::Reading::in_class))]
+#[tactic(auto, unfolding(class_core::specs::Reading::in_class))]
 pub(crate) fn read_transport(bytes: &[u8]) -> Result<InfoMessage, ClassFault>
     ensures { result ≡ in_class transport_by bytes.now }
 {

@@ -1,8 +1,8 @@
 //! From messages to bytes.
 
 ghost use Rattle.std.specs.Prelude.{◌≡◌, ◌<◌, [], ◌∷◌, ◌++◌, take, drop, length, OnOk, IfOk};
-ghost use Rattle.class_fields.specs.Cell.{byte_of, written};
-ghost use Rattle.class_fields.specs.Fields.{flag, part};
+ghost use Rattle.class_core.specs.Cell.{byte_of, written};
+ghost use Rattle.class_core.specs.Fields.{flag, part};
 ghost use Rattle.class_info.specs.Values.{wholes};
 ghost use Rattle.class_info.specs.InfoSpelling.{form, IsInRange, Spells};
 
@@ -22,7 +22,7 @@ use crate::transport::{
     NONCE_GET, NONCE_REPORT, SECURITY, SEGMENT_COMPLETE, SEGMENT_REQUEST, SEGMENT_WAIT,
     SUPERVISION, SUPERVISION_REPORT, TRANSPORT,
 };
-use class_fields::forms::{node_number, put_decimal, put_nodes, put_seconds, put_word};
+use class_core::forms::{node_number, put_decimal, put_nodes, put_seconds, put_word};
 use std::alloc::Global;
 use zw_base::{Bytes, NoMemory};
 
@@ -84,7 +84,7 @@ fn put_nonce(out: &mut Bytes, nonce: &[u8; 8]) -> Result<(), NoMemory>
     out.extend(nonce)
 }
 
-/// Adds the fields behind the command.
+/// Adds the fields after the command.
 fn put_fields(out: &mut Bytes, message: &InfoMessage) -> Result<(), NoMemory>
     ensures ok { OnOk result (out.new ≡ out.old ++ drop 2 (form message.now)) }
     ensures range { OnOk result (IsInRange message.now) }

@@ -2,3 +2,6 @@ pub mod NodeLemmas
 pub mod CacheLemmas
 pub mod PlaceLemmas
 pub mod JudgingLemmas
+pub mod WordedLemmas
+pub mod SizeLemmas
+pub mod SealingLemmas

@@ -67,7 +67,7 @@ members_in p before found total less in_it is =
     ap (filter p) (nodes_more before less) ∙ ap (λ (b : Bool). cond b ((before + 1) ∷ filter p (nodes_from (before + 1))) (filter p (nodes_from (before + 1)))) in_it in
     ap (take 5) (append_assoc found ((before + 1) ∷ []) (filter p (nodes_from (before + 1))) ∙ ap (λ (x : List ℕ). found ++ x) (sym more)) ∙ is
 
--- with one that is none
+-- with one that is invalid
 pub members_out : (p : ℕ → Bool) (before : ℕ) (found total : List ℕ) → before < 232 → p (before + 1) ≡ false
     → take 5 (found ++ filter p (nodes_from before)) ≡ total → take 5 (found ++ filter p (nodes_from (before + 1))) ≡ total
 members_out p before found total less out is =

@@ -6,11 +6,11 @@ use Rattle.zw_base.specs.declared.property.Name.TheVariants as names
 use Rattle.zw_base.specs.declared.property.Property.{Property}
 use Rattle.zw_base.specs.declared.property.Setting.{Setting}
 use Rattle.supervision.specs.declared.session.TheConstants.{NO_SUPPORT, WORKING, FAIL, SUCCESS}
-use Rattle.class_fields.specs.Ranges.{Scaled, value_of as number_of}
-use Rattle.class_fields.specs.Fields.{switch_byte, lock_byte}
-use Rattle.class_fields.specs.declared.number.Number.{Number}
-use Rattle.class_fields.specs.declared.number.Number.TheVariants.{One, Two, Four}
-use Rattle.class_fields.specs.declared.fault.ClassFault.{ClassFault}
+use Rattle.class_core.specs.Ranges.{Scaled, value_of as number_of}
+use Rattle.class_core.specs.Fields.{switch_byte, lock_byte}
+use Rattle.class_core.specs.declared.number.Number.{Number}
+use Rattle.class_core.specs.declared.number.Number.TheVariants.{One, Two, Four}
+use Rattle.class_core.specs.declared.fault.ClassFault.{ClassFault}
 use Rattle.class_core.specs.declared.message.CoreMessage.{CoreMessage}
 use Rattle.class_core.specs.declared.message.CoreMessage.TheVariants.{SwitchBinarySet, SwitchMultilevelSet, ThermostatModeSet, ThermostatSetpointSet, DoorLockOperationSet, ConfigurationSet, ConfigurationBulkSet, AssociationSet, AssociationRemove, WakeUpIntervalSet}
 use Rattle.class_info.specs.declared.message.InfoMessage.{InfoMessage}

@@ -5,3 +5,8 @@ pub mod Settings
 pub mod Places
 pub mod Judging
 pub mod Telling
+pub mod Answers
+pub mod Worded
+pub mod Effects
+pub mod Sealing
+pub mod Segments

@@ -5,8 +5,8 @@ use Rattle.std.specs.Option.{option_and_then}
 use Rattle.zw_base.specs.declared.property.Name.{Name}
 use Rattle.zw_base.specs.declared.property.Name.TheVariants as names
 use Rattle.zw_base.specs.declared.property.Property.{Property}
-use Rattle.class_fields.specs.declared.number.Number.TheVariants.{Two, Four}
-use Rattle.class_fields.specs.declared.switch.Switch.TheVariants.{On, Off}
+use Rattle.class_core.specs.declared.number.Number.TheVariants.{Two, Four}
+use Rattle.class_core.specs.declared.switch.Switch.TheVariants.{On, Off}
 use Rattle.class_core.specs.declared.message.CoreMessage.{CoreMessage}
 use Rattle.class_core.specs.declared.message.CoreMessage.TheVariants.{SwitchBinaryGet, SwitchBinaryReport, SwitchMultilevelGet, SwitchMultilevelReport, ThermostatModeGet, ThermostatModeReport, ThermostatSetpointGet, ThermostatSetpointReport, ConfigurationGet, ConfigurationReport}
 use Rattle.class_info.specs.declared.message.InfoMessage.{InfoMessage}

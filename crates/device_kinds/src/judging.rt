@@ -4,7 +4,23 @@ ghost use Rattle.std.specs.Prelude.{◌≡◌, ◌+◌, ◌≤◌, [], ◌∷◌
 ghost use Rattle.supervision.specs.Session.{IsStatus};
 ghost use Rattle.class_info.specs.InfoReading.{info_at};
 ghost use Rattle.device_kinds.specs.Values.{value_by, value_after, level_after};
-ghost use Rattle.device_kinds.specs.Judging.{setting_of, level_meant, where_listed, where_inside, is_setpoint, in_tenths, configured, memberships, member_count, judged_members, judged_set, judged, judged_all, judged_message, status_of};
+ghost use Rattle.device_kinds.specs.Judging.{
+  setting_of,
+  level_meant,
+  where_listed,
+  where_inside,
+  is_setpoint,
+  in_tenths,
+  configured,
+  memberships,
+  member_count,
+  judged_members,
+  judged_set,
+  judged,
+  judged_all,
+  judged_message,
+  status_of,
+};
 
 use crate::journal::Journal;
 use crate::kind::{
@@ -173,7 +189,8 @@ impl Bench<'_> {
     /// How many members the group has with these settings besides.
     #[tactic(auto, unfolding(crate::specs::Judging::member_count))]
     fn count(&self, settings: &[Setting]) -> u16
-        ensures value { result ≡ member_count (λ property. value_by self.now.made.now property (value_after self.now.journal.now property 0)) settings.now self.now.end }
+        ensures value { result ≡ member_count
+            (λ property. value_by self.now.made.now property (value_after self.now.journal.now property 0)) settings.now self.now.end }
         ensures small { result ≤ 232 }
     {
         let mut count = 0;
@@ -192,7 +209,8 @@ impl Bench<'_> {
     /// Members of a group that are set or removed.
     #[tactic(auto, unfolding(crate::specs::Judging::judged_members))]
     fn judge_members(&self, value: u32, group: u8, nodes: &[NodeId]) -> Result<Verdict, NoMemory>
-        ensures { IfOk result (λ verdict. verdict ≡ judged_members (λ property. value_by self.now.made.now property (value_after self.now.journal.now property 0)) self.now.end value group nodes.now) }
+        ensures { IfOk result (λ verdict. verdict ≡
+            judged_members (λ property. value_by self.now.made.now property (value_after self.now.journal.now property 0)) self.now.end value group nodes.now) }
     {
         let settings = members(self.alloc, self.end, value, nodes)?;
         let inside = group == GROUP
@@ -208,7 +226,9 @@ impl Bench<'_> {
         default: bool,
         values: &NumberList,
     ) -> Result<Verdict, NoMemory>
-        ensures { IfOk result (λ verdict. verdict ≡ judged_set self.now.kind (λ property. value_by self.now.made.now property (value_after self.now.journal.now property 0)) (level_after self.now.journal.now 99) self.now.end (CoreMessage.ConfigurationBulkSet first default values.now)) }
+        ensures { IfOk result (λ verdict. verdict ≡
+            judged_set self.now.kind (λ property. value_by self.now.made.now property (value_after self.now.journal.now property 0))
+            (level_after self.now.journal.now 99) self.now.end (CoreMessage.ConfigurationBulkSet first default values.now)) }
     {
         if !self.kind.lists(CONFIGURATION) {
             return Ok(Verdict::NoSupport);
@@ -235,7 +255,9 @@ impl Bench<'_> {
 
     /// A level, which takes time.
     fn judge_level(&self, level: u8) -> Result<Verdict, NoMemory>
-        ensures { IfOk result (λ verdict. verdict ≡ where_listed self.now.kind 0x26 (Verdict.Works (setting_of self.now.end Name.Level (level_meant (level_after self.now.journal.now 99) level) ∷ []))) }
+        ensures { IfOk result (λ verdict. verdict ≡
+            where_listed self.now.kind 0x26
+            (Verdict.Works (setting_of self.now.end Name.Level (level_meant (level_after self.now.journal.now 99) level) ∷ []))) }
     {
         let value = if level == LAST_LEVEL {
             self.journal.last_level()
@@ -248,7 +270,9 @@ impl Bench<'_> {
 
     /// A command that sets.
     pub fn judge_set(&self, message: &CoreMessage) -> Result<Verdict, NoMemory>
-        ensures { IfOk result (λ verdict. verdict ≡ judged_set self.now.kind (λ property. value_by self.now.made.now property (value_after self.now.journal.now property 0)) (level_after self.now.journal.now 99) self.now.end message.now) }
+        ensures { IfOk result (λ verdict. verdict ≡
+            judged_set self.now.kind (λ property. value_by self.now.made.now property (value_after self.now.journal.now property 0))
+            (level_after self.now.journal.now 99) self.now.end message.now) }
     {
         match message {
             CoreMessage::SwitchBinarySet { value } => {
@@ -316,7 +340,9 @@ impl Bench<'_> {
 
     /// A command in its bytes.
     fn judge(&self, command: &[u8]) -> Result<Verdict, NoMemory>
-        ensures { IfOk result (λ verdict. verdict ≡ judged self.now.kind (λ property. value_by self.now.made.now property (value_after self.now.journal.now property 0)) (level_after self.now.journal.now 99) self.now.end (info_at command.now)) }
+        ensures { IfOk result (λ verdict. verdict ≡
+            judged self.now.kind (λ property. value_by self.now.made.now property (value_after self.now.journal.now property 0))
+            (level_after self.now.journal.now 99) self.now.end (info_at command.now)) }
     {
         match class_info::read(self.alloc, command) {
             Ok(InfoMessage::Core(message)) => self.judge_set(&message),
@@ -336,7 +362,8 @@ fn judge_next(
     made: &[Setting],
     command: &[u8],
 ) -> Result<Verdict, NoMemory>
-    ensures { IfOk result (λ verdict. verdict ≡ judged kind (λ property. value_by made.now property (value_after journal.now property 0)) (level_after journal.now 99) end (info_at command.now)) }
+    ensures { IfOk result (λ verdict. verdict ≡
+        judged kind (λ property. value_by made.now property (value_after journal.now property 0)) (level_after journal.now 99) end (info_at command.now)) }
 {
     let bench = Bench {
         alloc,
@@ -356,7 +383,8 @@ fn judge_all(
     end: EndPoint,
     commands: &[Bytes],
 ) -> Result<Verdict, NoMemory>
-    ensures { IfOk result (λ verdict. verdict ≡ judged_all kind (λ property. value_after journal.now property 0) (level_after journal.now 99) end [] commands.now) }
+    ensures { IfOk result (λ verdict. verdict ≡
+        judged_all kind (λ property. value_after journal.now property 0) (level_after journal.now 99) end [] commands.now) }
 {
     let mut made = Sequence::new(alloc);
     for command in commands {
@@ -387,7 +415,8 @@ pub fn judge_message(
     batch: bool,
     commands: &[Bytes],
 ) -> Result<Verdict, NoMemory>
-    ensures { IfOk result (λ verdict. verdict ≡ judged_message kind (λ property. value_after journal.now property 0) (level_after journal.now 99) end batch commands.now) }
+    ensures { IfOk result (λ verdict. verdict ≡
+        judged_message kind (λ property. value_after journal.now property 0) (level_after journal.now 99) end batch commands.now) }
 {
     if !kind.has_end(end) {
         return Ok(Verdict::NoSupport);

@@ -20,7 +20,8 @@ pub fn when_changes_come()
     ensures heard { (device : State) (payload drawn : List ℕ) → IsHeard device (device_after device (Hears payload drawn)) }
     ensures ticked { (device : State) (drawn : List ℕ) → IsTicked device (device_after device (Ticks drawn)) }
     ensures woken { (device : State) → (device_after device Wakes).journal ≡ device.journal }
-    ensures by_hand { (device : State) (value : ℕ) → (settings : List Setting) × IsChanged device.journal Local settings (device_after device (Sets value)).journal }
+    ensures by_hand { (device : State) (value : ℕ) → (settings : List Setting) ×
+        IsChanged device.journal Local settings (device_after device (Sets value)).journal }
 {}
 
 /// The session numbers of changes rise strictly, whatever happens to a device from its making on.

@@ -8,7 +8,7 @@ use Rattle.class_info.specs.declared.message.InfoMessage.TheVariants.{Supervisio
 use Rattle.class_info.specs.declared.report_status.ReportStatus.TheVariants.{Working, Success}
 use Rattle.encap.specs.declared.plan.Supervised.{Supervised}
 use Rattle.device_kinds.specs.Kind.{listens}
-use Rattle.device_effects.specs.Answers.{report_status}
+use Rattle.device_kinds.specs.Answers.{report_status}
 use Rattle.device_stack.specs.State.{State}
 
 -- it asks with each final status to be kept awake

@@ -9,9 +9,9 @@ use Rattle.transport_segments.specs.Kept.{Empty}
 use Rattle.device_kinds.specs.declared.verdict.Verdict.{Verdict}
 use Rattle.device_kinds.specs.declared.verdict.Verdict.TheVariants.{NoSupport, Fails, Makes, Works}
 use Rattle.device_kinds.specs.Judging.{status_of}
-use Rattle.device_effects.specs.declared.effect.Effect.{Effect}
-use Rattle.device_effects.specs.declared.effect.Effect.TheVariants.{Ignores, Sleeps, Tells, Sets, Repeats, Takes}
-use Rattle.device_effects.specs.Effects.{effect_by}
+use Rattle.device_kinds.specs.declared.effect.Effect.{Effect}
+use Rattle.device_kinds.specs.declared.effect.Effect.TheVariants.{Ignores, Sleeps, Tells, Sets, Repeats, Takes}
+use Rattle.device_kinds.specs.Effects.{effect_by}
 use Rattle.device_stack.specs.State.{State, with_change}
 use Rattle.device_stack.specs.Answers.{status_report}
 

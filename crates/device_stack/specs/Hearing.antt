@@ -5,7 +5,7 @@ use Rattle.std.specs.Option.{option_map, option_to_list}
 use Rattle.supervision.specs.Session.{wire_id}
 use Rattle.s0_session.specs.Nonces.{nonce_given, after_give, nonce_spent, after_spend}
 use Rattle.s0_session.specs.Sending.{taken_from}
-use Rattle.class_fields.specs.declared.fault.ClassFault.{ClassFault}
+use Rattle.class_core.specs.declared.fault.ClassFault.{ClassFault}
 use Rattle.class_info.specs.declared.message.InfoMessage.{InfoMessage}
 use Rattle.class_info.specs.declared.message.InfoMessage.TheVariants.{NonceGet, NonceReport, TransportRequest, TransportComplete}
 use Rattle.class_info.specs.InfoReading.{info_at}
@@ -19,9 +19,9 @@ use Rattle.transport_segments.specs.declared.assembler.Taken.{Taken}
 use Rattle.transport_segments.specs.declared.assembler.Taken.TheVariants.{Kept, Need, Whole}
 use Rattle.device_kinds.specs.declared.kind.Kind.{Kind}
 use Rattle.device_kinds.specs.declared.kind.Kind.TheVariants.{Lock, Configurable}
-use Rattle.device_effects.specs.Answers.{answer_plan, worded}
-use Rattle.device_effects.specs.Sealing.{unsealed_at, sealed_text, keys_of}
-use Rattle.device_effects.specs.Segments.{segment_session}
+use Rattle.device_kinds.specs.Answers.{answer_plan, worded}
+use Rattle.device_kinds.specs.Sealing.{unsealed_at, sealed_text, keys_of}
+use Rattle.device_kinds.specs.Segments.{segment_session}
 use Rattle.device_stack.specs.declared.sealing.Nonces.{Nonces}
 use Rattle.device_stack.specs.declared.sealing.Nonces.TheVariants.{Asked, Told, Unsaid}
 use Rattle.device_stack.specs.State.{State, Outcome, silent}

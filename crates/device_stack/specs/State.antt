@@ -12,7 +12,7 @@ use Rattle.device_kinds.specs.declared.kind.Kind.{Kind}
 use Rattle.device_kinds.specs.declared.change.Change.{Change}
 use Rattle.device_stack.specs.declared.work.Work.{Work}
 use Rattle.device_kinds.specs.Kind.{host_node}
-use Rattle.device_effects.specs.Effects.{value_in, level_in}
+use Rattle.device_kinds.specs.Effects.{value_in, level_in}
 
 -- no work
 abbrev pub idle : Work

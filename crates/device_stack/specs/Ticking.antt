@@ -13,7 +13,7 @@ use Rattle.class_info.specs.InfoSpelling.{form}
 use Rattle.device_kinds.specs.declared.kind.Kind.{Kind}
 use Rattle.device_kinds.specs.declared.kind.Kind.TheVariants.{Configurable}
 use Rattle.device_kinds.specs.Kind.{listens, main_name_of, tells}
-use Rattle.device_effects.specs.Answers.{answer_plan, worded}
+use Rattle.device_kinds.specs.Answers.{answer_plan, worded}
 use Rattle.device_stack.specs.State.{State, Outcome, silent, idle, with_change}
 use Rattle.device_kinds.specs.Judging.{setting_of}
 use Rattle.device_kinds.specs.Telling.{report_of}

@@ -6,7 +6,7 @@ ghost use Rattle.device_stack.specs.Answers.{asks_to_wake, status_report, final_
 
 use crate::Stack;
 use class_info::{InfoMessage, ReportStatus};
-use device_effects::{session, status_of};
+use device_kinds::{session, status_of};
 use encap::Supervised;
 use supervision::{WORKING, session_id};
 

@@ -5,16 +5,15 @@ ghost use Rattle.std.specs.Option.{option_map};
 ghost use Rattle.supervision.specs.Device.{is_new};
 ghost use Rattle.supervision.specs.Session.{IsStatus};
 ghost use Rattle.transport_segments.specs.Kept.{Empty};
-ghost use Rattle.device_effects.specs.Answers.{answer_plan, worded};
-ghost use Rattle.device_effects.specs.Effects.{effect_by, IsDue};
-ghost use Rattle.device_effects.specs.Worded.{IsShort};
+ghost use Rattle.device_kinds.specs.Answers.{answer_plan, worded};
+ghost use Rattle.device_kinds.specs.Effects.{effect_by, IsDue};
+ghost use Rattle.device_kinds.specs.Worded.{IsShort};
 ghost use Rattle.device_stack.specs.Answers.{status_report};
 ghost use Rattle.device_stack.specs.Effects.{takes, after_effect, answer_of};
 
 use crate::Stack;
 use crate::work::Work;
-use device_effects::{Effect, Grounds, answered};
-use device_kinds::{Change, Verdict};
+use device_kinds::{Change, Effect, Grounds, Verdict, answered};
 use encap::{Opened, Plan, Supervised};
 use zw_base::{By, Bytes, NoMemory};
 
@@ -24,7 +23,8 @@ const WORK_TICKS: u8 = 5;
 impl Stack {
     /// What a message does.
     pub(crate) fn effect(&self, opened: &Opened) -> Result<Effect, NoMemory>
-        ensures value { IfOk result (λ effect. effect ≡ effect_by self.now.kind self.now.journal self.now.sessions opened.now.plan opened.now.commands.items opened.now.plan.session) }
+        ensures value { IfOk result (λ effect. effect ≡
+            effect_by self.now.kind self.now.journal self.now.sessions opened.now.plan opened.now.commands.items opened.now.plan.session) }
         ensures due { IfOk result (λ effect. IsDue self.now.sessions opened.now.plan.session effect) }
     {
         let grounds = Grounds {

@@ -3,13 +3,12 @@
 ghost use Rattle.std.specs.Prelude.{◌≡◌, [], IfOk, IfSome, OnOk, OnErr, All};
 ghost use Rattle.std.specs.Option.{option_map};
 ghost use Rattle.encap.specs.Opening.{Message, opened_at};
-ghost use Rattle.device_effects.specs.Worded.{IsShort, IsPayload};
+ghost use Rattle.device_kinds.specs.Worded.{IsShort, IsPayload};
 ghost use Rattle.device_stack.specs.Hearing.{answers, answers_bytes, hears_openly, hears_by, hears};
 
 use crate::Stack;
 use crate::sealing::MOST;
-use device_effects::send;
-use device_kinds::Kind;
+use device_kinds::{Kind, send};
 use encap::{Opened, WrapFault, unpack};
 use zw_base::{Bytes, NoMemory, Replies};
 

@@ -4,14 +4,13 @@ ghost use Rattle.std.specs.Prelude.{◌≡◌, ◌-◌, ◌≤◌, [], length, s
 ghost use Rattle.encap.specs.Opening.{opened_at};
 ghost use Rattle.class_info.specs.InfoReading.{info_at};
 ghost use Rattle.class_info.specs.InfoSpelling.{form};
-ghost use Rattle.device_effects.specs.Worded.{IsPayload};
+ghost use Rattle.device_kinds.specs.Worded.{IsPayload};
 ghost use Rattle.device_stack.specs.Hearing.{hears_securely, hears_sealed, hears_for, hears_inside, hears_nonces, gives_nonce, takes_nonce, SaysOfNonces};
 
 use crate::Stack;
 use class_core::ClassFault;
 use class_info::InfoMessage;
-use device_effects::{is_sealed, nonce_report, open, payload};
-use device_kinds::{HOST, SECURITY, node};
+use device_kinds::{HOST, SECURITY, is_sealed, node, nonce_report, open, payload};
 use encap::{Opened, Outer};
 use s0_crypto::{SealEnds, keys};
 use std::alloc::Global;
@@ -204,7 +203,9 @@ impl Stack {
 
     /// Answers what was sealed, and says whether the answer waits for a nonce.
     fn answer_sealed(&mut self, opened: &Opened) -> Result<bool, NoMemory>
-        ensures ok { IfOk result (λ waits. hears_inside self.old (Some (record { plan = opened.now.plan; commands = opened.now.commands.items })) ≡ record { device = self.new; replies = if waits then form InfoMessage.NonceGet ∷ [] else [] }) }
+        ensures ok { IfOk result (λ waits. hears_inside self.old
+            (Some (record { plan = opened.now.plan; commands = opened.now.commands.items })) ≡
+            record { device = self.new; replies = if waits then form InfoMessage.NonceGet ∷ [] else [] }) }
         ensures err { OnErr result (self.new ≡ self.old) }
     {
         if opened.plan.outer == Outer::Crc16 {

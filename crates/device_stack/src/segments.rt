@@ -6,13 +6,13 @@ ghost use Rattle.supervision.specs.Session.{wire_id};
 ghost use Rattle.class_info.specs.InfoSpelling.{form};
 ghost use Rattle.transport_segments.specs.Segment.{id_of, IsSegment};
 ghost use Rattle.transport_segments.specs.Taking.{taken_at};
-ghost use Rattle.device_effects.specs.Worded.{IsPayload, IsShort};
+ghost use Rattle.device_kinds.specs.Worded.{IsPayload, IsShort};
 ghost use Rattle.device_stack.specs.Hearing.{hears_in_segments, hears_segment, assembles, acknowledged, repeats_segment, hears_openly};
 ghost use Rattle.device_stack.specs.Answers.{status_report};
 
 use crate::Stack;
 use class_info::InfoMessage;
-use device_effects::{bare, complete, is_last_of, payload as payload_of, request, segment_session};
+use device_kinds::{bare, complete, is_last_of, payload as payload_of, request, segment_session};
 use encap::Supervised;
 use supervision::session_id;
 use transport_segments::{SegmentFault, Taken, segment_id};
@@ -125,7 +125,8 @@ impl Stack {
     #[tactic(auto, unfolding(transport_segments::specs::Taking::kept_after))]
     fn keep_part(&mut self, segment: &[u8]) -> Result<Option<u16>, NoMemory>
         requires part { (datagram : List ℕ) → taken_at self.old.reassembly segment.now ≡ Some (Taken.Whole datagram) → ⊥ }
-        ensures ok { IfOk result (λ missing. assembles self.old segment.now (taken_at self.old.reassembly segment.now) ≡ record { device = self.new; replies = option_to_list (option_map (λ at. form (InfoMessage.TransportRequest (id_of segment.now) at)) missing) }) }
+        ensures ok { IfOk result (λ missing. assembles self.old segment.now (taken_at self.old.reassembly segment.now) ≡
+            record { device = self.new; replies = option_to_list (option_map (λ at. form (InfoMessage.TransportRequest (id_of segment.now) at)) missing) }) }
         ensures range { IfOk result (λ missing. IfSome missing (λ at. at < 2048)) }
         ensures err { OnErr result (self.new ≡ self.old) }
     {
@@ -156,7 +157,8 @@ impl Stack {
 
     /// The text that tells the status of the last session taken.
     fn last_status(&self) -> Result<Bytes, NoMemory>
-        ensures value { IfOk result (λ text. text ≡ form (status_report self.now (record { updates = false; id = wire_id self.now.sessions.taken }) self.now.sessions.status)) }
+        ensures value { IfOk result (λ text. text ≡
+            form (status_report self.now (record { updates = false; id = wire_id self.now.sessions.taken }) self.now.sessions.status)) }
         ensures short { IfOk result (λ text. IsShort text) }
     {
         let asked = Supervised {

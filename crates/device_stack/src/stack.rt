@@ -36,7 +36,7 @@ pub struct Stack {
 impl Model for Stack {
     ghost use Rattle.std.specs.Option.{ForSome};
     ghost use Rattle.device_stack.specs.State.{State};
-    ghost use Rattle.device_effects.specs.Worded.{IsShort};
+    ghost use Rattle.device_kinds.specs.Worded.{IsShort};
 
     ghost Value = { State };
 

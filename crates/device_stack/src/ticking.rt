@@ -6,16 +6,18 @@ ghost use Rattle.class_info.specs.InfoSpelling.{form};
 ghost use Rattle.device_kinds.specs.Kind.{main_name_of, tells};
 ghost use Rattle.device_stack.specs.State.{with_change};
 ghost use Rattle.device_kinds.specs.Judging.{setting_of};
-ghost use Rattle.device_effects.specs.Answers.{worded, answer_plan};
-ghost use Rattle.device_effects.specs.Worded.{IsShort, IsPayload};
+ghost use Rattle.device_kinds.specs.Answers.{worded, answer_plan};
+ghost use Rattle.device_kinds.specs.Worded.{IsShort, IsPayload};
 ghost use Rattle.device_stack.specs.Answers.{final_report};
 ghost use Rattle.device_stack.specs.Ticking.{aged, works_out, ticked, woken, by_hand, tells_by_hand, main_told, set_by_hand};
 ghost use Rattle.device_stack.specs.Showing.{shown_of, shown_at};
 
 use crate::Stack;
 use crate::work::Work;
-use device_effects::{answered, bare, payload as payload_of, send};
-use device_kinds::{Change, Kind, WAKE_UP, is_same, one_setting, report, root};
+use device_kinds::{
+    Change, Kind, WAKE_UP, answered, bare, is_same, one_setting, payload as payload_of, report,
+    root, send,
+};
 use std::alloc::Global;
 use supervision::SUCCESS;
 use zw_base::{By, Bytes, EndPoint, List, Name, NoMemory, Property, Replies, Sequence, Setting};

@@ -96,34 +96,34 @@ peels_of plan commands bytes wraps =
 
 -- ---- each wrap is taken off in one way
 
-length-with_check : (front : List ℕ) → length (with_check front) ≡ length front + 2
-length-with_check front = length-append front (crc front / 256 ∷ crc front % 256 ∷ [])
+length-with_check : (prefix : List ℕ) → length (with_check prefix) ≡ length prefix + 2
+length-with_check prefix = length-append prefix (crc prefix / 256 ∷ crc prefix % 256 ∷ [])
 
-pub front-with_check : (front : List ℕ) → take (length (with_check front) - 2) (with_check front) ≡ front
-front-with_check front =
-    let len = length-with_check front in
-    let same : length (with_check front) - 2 ≡ length front = omega arith in
-    ap (λ (n : ℕ). take n (with_check front)) same
-    ∙ take-append-le (length front) front (crc front / 256 ∷ crc front % 256 ∷ []) (omega arith)
-    ∙ take_all (length front) front (omega arith)
+pub prefix-with_check : (prefix : List ℕ) → take (length (with_check prefix) - 2) (with_check prefix) ≡ prefix
+prefix-with_check prefix =
+    let len = length-with_check prefix in
+    let same : length (with_check prefix) - 2 ≡ length prefix = omega arith in
+    ap (λ (n : ℕ). take n (with_check prefix)) same
+    ∙ take-append-le (length prefix) prefix (crc prefix / 256 ∷ crc prefix % 256 ∷ []) (omega arith)
+    ∙ take_all (length prefix) prefix (omega arith)
 
-said-with_check : (front : List ℕ) → said_check (with_check front) ≡ crc front
-said-with_check front =
-    let len = length-with_check front in
-    let pair : List ℕ = crc front / 256 ∷ crc front % 256 ∷ [] in
-    let zeroth : length (with_check front) - 2 - length front ≡ 0 = omega arith in
-    let first : length (with_check front) - 1 - length front ≡ 1 = omega arith in
-    let high : get_or (with_check front) (length (with_check front) - 2) 0 ≡ crc front / 256 =
-    get_or-append_right front pair (length front) (length (with_check front) - 2) 0 refl (omega arith) ∙ ap (λ (n : ℕ). get_or pair n 0) zeroth in
-    let low : get_or (with_check front) (length (with_check front) - 1) 0 ≡ crc front % 256 =
-    get_or-append_right front pair (length front) (length (with_check front) - 1) 0 refl (omega arith) ∙ ap (λ (n : ℕ). get_or pair n 0) first in
+said-with_check : (prefix : List ℕ) → said_check (with_check prefix) ≡ crc prefix
+said-with_check prefix =
+    let len = length-with_check prefix in
+    let pair : List ℕ = crc prefix / 256 ∷ crc prefix % 256 ∷ [] in
+    let zeroth : length (with_check prefix) - 2 - length prefix ≡ 0 = omega arith in
+    let first : length (with_check prefix) - 1 - length prefix ≡ 1 = omega arith in
+    let high : get_or (with_check prefix) (length (with_check prefix) - 2) 0 ≡ crc prefix / 256 =
+    get_or-append_right prefix pair (length prefix) (length (with_check prefix) - 2) 0 refl (omega arith) ∙ ap (λ (n : ℕ). get_or pair n 0) zeroth in
+    let low : get_or (with_check prefix) (length (with_check prefix) - 1) 0 ≡ crc prefix % 256 =
+    get_or-append_right prefix pair (length prefix) (length (with_check prefix) - 1) 0 refl (omega arith) ∙ ap (λ (n : ℕ). get_or pair n 0) first in
     omega arith
 
 crc16_same : (inner inner' : List ℕ) → crc16_text inner ≡ crc16_text inner' → inner ≡ inner'
 crc16_same inner inner' e =
-    let fronts : 86 ∷ 1 ∷ inner ≡ 86 ∷ 1 ∷ inner' =
-    sym (front-with_check (86 ∷ 1 ∷ inner)) ∙ ap (λ (x : List ℕ). take (length x - 2) x) e ∙ front-with_check (86 ∷ 1 ∷ inner') in
-    ap (drop 2) fronts
+    let prefixes : 86 ∷ 1 ∷ inner ≡ 86 ∷ 1 ∷ inner' =
+    sym (prefix-with_check (86 ∷ 1 ∷ inner)) ∙ ap (λ (x : List ℕ). take (length x - 2) x) e ∙ prefix-with_check (86 ∷ 1 ∷ inner') in
+    ap (drop 2) prefixes
 
 pub crc16_begins : (inner bytes : List ℕ) → bytes ≡ crc16_text inner → IsCrc16 bytes
 crc16_begins inner bytes e = subst (λ (x : List ℕ). IsCrc16 x) (sym e)
@@ -288,7 +288,7 @@ no_crc16_fault : (inner bytes : List ℕ) (fault : WrapFault) → bytes ≡ crc1
 no_crc16_fault inner bytes (Length said got) text fault = omega (arith, ap length text, length-with_check (86 ∷ 1 ∷ inner), fault.0)
 no_crc16_fault inner bytes (BadCrc want got) text fault =
     let said : said_check bytes ≡ crc (86 ∷ 1 ∷ inner) = ap said_check text ∙ said-with_check (86 ∷ 1 ∷ inner) in
-    let right : true_check bytes ≡ crc (86 ∷ 1 ∷ inner) = ap true_check text ∙ ap crc (front-with_check (86 ∷ 1 ∷ inner)) in
+    let right : true_check bytes ≡ crc (86 ∷ 1 ∷ inner) = ap true_check text ∙ ap crc (prefix-with_check (86 ∷ 1 ∷ inner)) in
     fault.3 (fault.1 ∙ right ∙ sym said ∙ sym fault.2)
 no_crc16_fault inner bytes (OutOfOrder class) text fault = fault
 no_crc16_fault inner bytes (TooLong len) text fault = fault

@@ -19,7 +19,7 @@ use Rattle.encap.specs.declared.plan.Ends.{Ends}
 use Rattle.encap.specs.declared.plan.Outer.{Outer}
 use Rattle.encap.specs.declared.fault.WrapFault.{WrapFault}
 use Rattle.encap.specs.declared.fault.WrapFault.TheVariants.{OutOfOrder, Length, BadCrc, TooLong, BitAddress, NoMemory}
-use Rattle.encap.proofs.ExactLemmas.{front-with_check, crc16_begins, channel_begins, supervision_begins, peels_of, command_of}
+use Rattle.encap.proofs.ExactLemmas.{prefix-with_check, crc16_begins, channel_begins, supervision_begins, peels_of, command_of}
 use Rattle.encap.proofs.OpenLemmas.{opens}
 
 -- ---- the tests
@@ -106,7 +106,7 @@ abbrev crc_inner : List ℕ → List ℕ
 crc_inner bytes = drop 2 (take (length bytes - 2) bytes)
 
 crc_inner_is : (inner bytes : List ℕ) → bytes ≡ crc16_text inner → crc_inner bytes ≡ inner
-crc_inner_is inner bytes e = ap (λ (x : List ℕ). crc_inner x) e ∙ ap (λ (x : List ℕ). drop 2 x) (front-with_check (86 ∷ 1 ∷ inner))
+crc_inner_is inner bytes e = ap (λ (x : List ℕ). crc_inner x) e ∙ ap (λ (x : List ℕ). drop 2 x) (prefix-with_check (86 ∷ 1 ∷ inner))
 
 crc16_there : (wrap : Bool) (inner bytes : List ℕ) → TakesCrc16Off wrap inner bytes → crc16_opened bytes ≡ Some (record { wrap = wrap; inner = inner })
 crc16_there true inner bytes off =
@@ -214,14 +214,14 @@ supervision_back bytes p e =
 cut_off_listed : (commands : List (List ℕ)) → cut_off (length commands) (listed commands) ≡ commands
 cut_off_listed [] = refl
 cut_off_listed (command ∷ commands) =
-    let front : take (length command) (command ++ listed commands) ≡ command =
+    let prefix : take (length command) (command ++ listed commands) ≡ command =
     take-append-le (length command) command (listed commands) (omega arith) ∙ take_all (length command) command (omega arith) in
-    let rest : drop (length command) (command ++ listed commands) ≡ listed commands = drop-front command (listed commands) in
-    rw (front, rest, cut_off_listed commands) refl
+    let rest : drop (length command) (command ++ listed commands) ≡ listed commands = drop-prefix command (listed commands) in
+    rw (prefix, rest, cut_off_listed commands) refl
   where
-    drop-front : (xs ys : List ℕ) → drop (length xs) (xs ++ ys) ≡ ys
-    drop-front [] ys = refl
-    drop-front (x ∷ xs) ys = drop-front xs ys
+    drop-prefix : (xs ys : List ℕ) → drop (length xs) (xs ++ ys) ≡ ys
+    drop-prefix [] ys = refl
+    drop-prefix (x ∷ xs) ys = drop-prefix xs ys
 
 abbrev batch_commands : List ℕ → List (List ℕ)
 batch_commands bytes = cut_off (slice_index bytes 2) (drop 3 bytes)

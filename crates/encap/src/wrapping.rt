@@ -2,7 +2,23 @@
 
 ghost use Rattle.std.specs.Prelude.{◌≡◌, ◌+◌, ◌^◌, ◌<◌, ◌≤◌, ◌++◌, length, None, IfOk, IfErr};
 ghost use Rattle.encap.specs.Wraps.{Wraps, listed, crc16_text};
-ghost use Rattle.encap.specs.Written.{AreEnds, AreShort, IsSession, IsWrapFault, IsWrappable, addressed_form, batch_text, checked_form, first_long, only_of, supervised_form, too_long, too_long_by, written_form, long_inside};
+ghost use Rattle.encap.specs.Written.{
+  AreEnds,
+  AreShort,
+  IsSession,
+  IsWrapFault,
+  IsWrappable,
+  addressed_form,
+  batch_text,
+  checked_form,
+  first_long,
+  only_of,
+  supervised_form,
+  too_long,
+  too_long_by,
+  written_form,
+  long_inside,
+};
 
 use crate::WrapFault;
 use crate::plan::{Ends, Outer, Plan, Supervised};

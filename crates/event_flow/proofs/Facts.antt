@@ -10,7 +10,7 @@ use Rattle.event_flow.specs.declared.frame.Content.{Content}
 use Rattle.event_flow.specs.declared.frame.Content.TheVariants.{Event as EventContent, Receipt}
 use Rattle.event_flow.specs.declared.frame.Frame.{Frame}
 use Rattle.event_flow.specs.State.{NodeState, known_count, unknown_count, may_begin}
-use Rattle.event_flow.specs.Flow.{IsFront}
+use Rattle.event_flow.specs.Flow.{IsPrefix}
 
 -- what a frame that was sent still says: an event is that of its session, and an answer is of a session that the host took
 abbrev pub FitsBy : NodeState → ℕ → ℕ → Content → Type 0
@@ -26,7 +26,7 @@ pub record Loose (n : NodeState) : Type 0 where
   pub agrees : EndsAgree n.device n.host
   pub success : n.host.status ≡ SUCCESS
   pub counted : n.host.taken ≡ length n.taken
-  pub front : IsFront n.taken n.queued
+  pub prefix : IsPrefix n.taken n.queued
   pub begun : begun_of n.device ≤ length n.queued
   pub few : unknown_count n ≤ 16
 
@@ -66,7 +66,7 @@ known_taken n loose =
       | inr one ↦
           let known = known-open n one.0 one.1 in
           let last = (open_session-Some n.device one.0 one.1).0 in
-          omega (arith, known, last, loose.counted, loose.agrees.one_behind)
+          omega (arith, known, last, loose.counted, loose.agrees.one_after)
     ]
 
 -- where no session is open, all events have had theirs

@@ -28,14 +28,14 @@ record Place (T before : List Ran) : Type 0 where
   state : FlowState
   facts : Facts (T ++ before) state
 
--- a front of a run is a run
-front_facts : (T : List Ran) (w : FlowState) (lines : List EventLine) → All NamesNode lines → Facts T w → (before rest : List Ran) → run w lines ≡ before ++ rest → Place T before
-front_facts T w lines good facts [] rest e = record { state = w; facts = subst (λ U. Facts U w) (sym (append-nil T)) facts }
-front_facts T w [] good facts (ran ∷ before) rest e = absurd (grind arith)
-front_facts T w (line ∷ more) good facts (ran ∷ before) rest e =
+-- a prefix of a run is a run
+prefix_facts : (T : List Ran) (w : FlowState) (lines : List EventLine) → All NamesNode lines → Facts T w → (before rest : List Ran) → run w lines ≡ before ++ rest → Place T before
+prefix_facts T w lines good facts [] rest e = record { state = w; facts = subst (λ U. Facts U w) (sym (append-nil T)) facts }
+prefix_facts T w [] good facts (ran ∷ before) rest e = absurd (grind arith)
+prefix_facts T w (line ∷ more) good facts (ran ∷ before) rest e =
     let first : Ran = record { line = line; entries = entries w line } in
     let parts = cons_is first ran (run (after w line) more) (before ++ rest) e in
-    let place = front_facts (T ++ first ∷ []) (after w line) more (others_good line more good) (Facts-line T w line (first_good line more good) facts) before rest parts.1 in
+    let place = prefix_facts (T ++ first ∷ []) (after w line) more (others_good line more good) (Facts-line T w line (first_good line more good) facts) before rest parts.1 in
     record {
       state = place.state;
       facts = subst (λ U. Facts U place.state) (append_assoc T (first ∷ []) before ∙ ap (λ (r : Ran). T ++ (r ∷ before)) parts.0) place.facts;
@@ -77,13 +77,13 @@ node_flows lines good node there =
     let facts = Facts-run [] all_silent lines good Facts-start in
     let told = facts.told node there in
     let inv = facts.nodes node there in
-    let front = inv.loose.front in
+    let prefix = inv.loose.prefix in
     record {
-      in_order = (front.0, told.queued ∙ front.1 ∙ ap (λ xs. xs ++ front.0) (sym told.taken));
+      in_order = (prefix.0, told.queued ∙ prefix.1 ∙ ap (λ xs. xs ++ prefix.0) (sym told.taken));
       numbers = told.numbers ∙ ap (λ xs. count_up (length xs)) (sym told.queued);
       known = told.known ∙ ap count_up (sym (ap (λ xs. length xs) told.known ∙ length-count_up (known_count (node_of (after_all all_silent lines).nodes node))));
       after_taken = λ before rest e.
-          let place = front_facts [] all_silent lines good Facts-start before rest e in
+          let place = prefix_facts [] all_silent lines good Facts-start before rest e in
           known_is_taken node before (node_of place.state.nodes node) (place.facts.told node there) (place.facts.nodes node there);
     }
 

@@ -31,11 +31,11 @@ event_takes ws line e =
     let bn = next_number 0 255 a.0.rest b.0 b.1 in
     let z = made_of (Event a.0.value b.0.value) (last (between_in 0 255) b.0.rest) line b.2 in
     let zn = last_number 0 255 b.0.rest z.0 z.1 in
-    let front = λ (rest : List (List ℕ)). codes "event" ∷ rest in
-    let behind = λ (rest : List (List ℕ)). codes "event" ∷ decimal a.0.value ∷ rest in
+    let prefix = λ (rest : List (List ℕ)). codes "event" ∷ rest in
+    let following = λ (rest : List (List ℕ)). codes "event" ∷ decimal a.0.value ∷ rest in
     let last_word = λ (rest : List (List ℕ)). codes "event" ∷ decimal a.0.value ∷ decimal b.0.value ∷ rest in
     subst (IsRead (codes "event" ∷ ws)) z.2
-    (record { ranges = (an.range, bn.range.1, zn.range.1); words_are = ap front an.words_are ∙ ap behind bn.words_are ∙ ap last_word zn.words_are })
+    (record { ranges = (an.range, bn.range.1, zn.range.1); words_are = ap prefix an.words_are ∙ ap following bn.words_are ∙ ap last_word zn.words_are })
 
 again_takes : (ws : List (List ℕ)) (line : EventLine) → again_by ws ≡ Ok line → IsRead (codes "again" ∷ ws) line
 unfolding again_by

@@ -33,7 +33,7 @@ queued-loose n notice loose few =
       agrees = loose.agrees;
       success = loose.success;
       counted = loose.counted;
-      front = (loose.front.0 ++ notice ∷ [], ap (λ xs. xs ++ notice ∷ []) loose.front.1 ∙ append_assoc n.taken loose.front.0 (notice ∷ []));
+      prefix = (loose.prefix.0 ++ notice ∷ [], ap (λ xs. xs ++ notice ∷ []) loose.prefix.1 ∙ append_assoc n.taken loose.prefix.0 (notice ∷ []));
       begun = omega (arith, longer, loose.begun);
       few = omega (arith, longer, few);
     }
@@ -78,7 +78,7 @@ begun-inv n loose may =
         agrees = EndsAgree-begins n.device n.host EVENT loose.agrees is.none;
         success = loose.success;
         counted = loose.counted;
-        front = loose.front;
+        prefix = loose.prefix;
         begun = omega (arith, longer, is.waits);
         few = omega (arith, begun-known n may, loose.few);
       };
@@ -129,9 +129,9 @@ new-next n session begun notice loose fits fresh named e =
     let names : GetNames n.host get = get_in_time n.device n.host get loose.agrees fits.1 fresh in
     let next : session ≡ n.host.taken + 1 = (names.fresh named e).1 in
     let place : session - 1 ≡ length n.taken = omega (arith, next, loose.counted) in
-    let there : slice_get (n.taken ++ loose.front.0) (length n.taken) ≡ Some notice = subst (λ (xs : List Notice). slice_get xs (length n.taken) ≡ Some notice) loose.front.1 (subst (λ (k : ℕ). slice_get n.queued k ≡ Some notice) place fits.2) in
-    let rest = next_is n.taken loose.front.0 notice there in
-    record { number = omega (arith, next, loose.counted); more = rest.0; queued = loose.front.1 ∙ ap (λ xs. n.taken ++ xs) rest.1 }
+    let there : slice_get (n.taken ++ loose.prefix.0) (length n.taken) ≡ Some notice = subst (λ (xs : List Notice). slice_get xs (length n.taken) ≡ Some notice) loose.prefix.1 (subst (λ (k : ℕ). slice_get n.queued k ≡ Some notice) place fits.2) in
+    let rest = next_is n.taken loose.prefix.0 notice there in
+    record { number = omega (arith, next, loose.counted); more = rest.0; queued = loose.prefix.1 ∙ ap (λ xs. n.taken ++ xs) rest.1 }
 
 -- the host's book after a new one
 pub new-host : (n : NodeState) (id named : ℕ) → heard_of n.host id ≡ New named → after_get n.host id ≡ record { taken = n.host.taken + 1; status = WORKING }
@@ -151,7 +151,7 @@ taken-loose n session begun notice loose fits fresh named e =
           (ap (λ (t : Taken). t.status) host);
       success = refl;
       counted = omega (arith, count, longer, loose.counted);
-      front = (next.more, next.queued ∙ sym (append_assoc n.taken (notice ∷ []) next.more));
+      prefix = (next.more, next.queued ∙ sym (append_assoc n.taken (notice ∷ []) next.more));
       begun = loose.begun;
       few = loose.few;
     }
@@ -206,7 +206,7 @@ known-loose n session begun loose fits fresh named e =
       agrees = EndsAgree-reported n.device n.host report loose.agrees fits (report_near n.device n.host report fits (omega (arith, fresh)));
       success = loose.success;
       counted = loose.counted;
-      front = loose.front;
+      prefix = loose.prefix;
       begun = omega (arith, counts.begun, loose.begun);
       few = omega (arith, counts.before, counts.after, loose.few);
     }

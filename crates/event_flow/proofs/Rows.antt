@@ -16,10 +16,10 @@ rows-append from (x ∷ xs) ys =
 
 pub rows-more : (xs : List NodeState) (i : ℕ) (x : NodeState) → i < length xs → get_or xs i silent ≡ x → rows_from 1 (take (i + 1) xs) ≡ rows_from 1 (take i xs) ++ row_by (i + 1) x x.queued
 rows-more xs i x within is =
-    let front : length (take i xs) ≡ i = length-take-le i xs (omega arith) in
+    let prefix : length (take i xs) ≡ i = length-take-le i xs (omega arith) in
     ap (rows_from 1) (take_more xs i silent within)
     ∙ rows-append 1 (take i xs) (get_or xs i silent ∷ [])
-    ∙ ap (λ n. rows_from 1 (take i xs) ++ rows_from n (get_or xs i silent ∷ [])) (omega (arith, front))
+    ∙ ap (λ n. rows_from 1 (take i xs) ++ rows_from n (get_or xs i silent ∷ [])) (omega (arith, prefix))
     ∙ ap (λ y. rows_from 1 (take i xs) ++ rows_from (i + 1) (y ∷ [])) is
     ∙ ap (λ t. rows_from 1 (take i xs) ++ t) (append-nil (row_by (i + 1) x x.queued))
 

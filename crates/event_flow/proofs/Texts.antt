@@ -5,9 +5,9 @@ use Rattle.std.specs.List.{AllByRecursion, join_with_byte}
 use Rattle.hex.specs.Hex.{encode_upper}
 use Rattle.zw_text.specs.Entry.{ends_word}
 use Rattle.zw_text.specs.Fits.{IsNode}
-use Rattle.zw_entries.specs.Reading.{at, byte_back, eight_back, hex_back, node_back, parts}
-use Rattle.zw_entries.proofs.Pieces.{Solid, all-lack, hex-back, hex-solid, lacks-append, number-lacks, number-solid, parts-joined}
-use Rattle.zw_entries.proofs.Words.{byte-back, byte64, eight-back, node-back, node64, solid_byte}
+use Rattle.zw_parse.specs.Reading.{at, byte_back, eight_back, hex_back, node_back, parts}
+use Rattle.zw_parse.proofs.Pieces.{Solid, all-lack, hex-back, hex-solid, lacks-append, number-lacks, number-solid, parts-joined}
+use Rattle.zw_parse.proofs.Words.{byte-back, byte64, eight-back, node-back, node64, solid_byte}
 use Rattle.event_flow.specs.declared.entry.EventRefusal.{EventRefusal}
 use Rattle.event_flow.specs.declared.entry.EventRefusal.TheVariants.{Full, Idle, NeverSent, Stale}
 use Rattle.event_flow.specs.declared.entry.EventEntry.{EventEntry}

@@ -304,7 +304,7 @@ Loose-silent = record {
   agrees = EndsAgree-start;
   success = refl;
   counted = refl;
-  front = ([], refl);
+  prefix = ([], refl);
   begun = omega arith;
   few = omega arith;
 }

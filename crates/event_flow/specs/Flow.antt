@@ -37,9 +37,9 @@ NamesNode (Event node kind level) = IsNode 1 node
 NamesNode (Again node) = IsNode 1 node
 NamesNode (Deliver frame) = Unit {0}
 
--- the one list is a front of the other
-abbrev pub IsFront : {A : Type 0} → List A → List A → Type 0
-IsFront {A} front whole = (rest : List A) × (whole ≡ front ++ rest)
+-- the one list is a prefix of the other
+abbrev pub IsPrefix : {A : Type 0} → List A → List A → Type 0
+IsPrefix {A} prefix whole = (rest : List A) × (whole ≡ prefix ++ rest)
 
 -- 1, 2, 3 and so on, so many of them
 abbrev pub count_up : ℕ → List ℕ
@@ -137,10 +137,10 @@ abbrev pub refusal_in : List EventEntry → Option EventRefusal
 refusal_in (Refused refusal ∷ more) = Some refusal
 refusal_in entries = None
 
--- what the transcript says of one node: the host took a front of the events that were queued, in their order; the events have
+-- what the transcript says of one node: the host took a prefix of the events that were queued, in their order; the events have
 -- the numbers 1, 2, 3 and so on, and so do those that became known; and none became known before it was taken
 pub record FlowOf (node : ℕ) (T : List Ran) : Type 0 where
-  pub in_order : IsFront (taken_in node T) (queued_in node T)
+  pub in_order : IsPrefix (taken_in node T) (queued_in node T)
   pub numbers : numbers_in node T ≡ count_up (length (queued_in node T))
   pub known : known_in node T ≡ count_up (length (known_in node T))
   pub after_taken : (before rest : List Ran) → T ≡ before ++ rest → length (known_in node before) ≤ length (taken_in node before)

@@ -28,7 +28,7 @@ pub record EventText (text : List ℕ) (line : EventLine) : Type 0 where
   pub ranges : IsEventLine line
   pub words_are : words (without_return text) ≡ event_line_words line
 
--- the words of each line behind the first
+-- the words of each line after the first
 unfoldable pub event_by : List (List ℕ) → Result EventLine LineFault
 event_by ws = do
   node ← next (node_in 2) ws

@@ -2,7 +2,7 @@
 
 use zw_base::{NodeId, Payload};
 
-/// Why a line is refused, with the number that is printed behind the name.
+/// Why a line is refused, with the number that is printed after the name.
 #[derive(Clone, Copy, Debug)]
 pub enum EventRefusal {
     /// So many events of the node are not known to be taken.

@@ -27,11 +27,13 @@ pub fn what_is_next_is_heard()
     ensures taken { (lines : List AnyLine) → All NamesNode lines → (number : ℕ) (frame : AnyFrame) (notice : AnyNotice) →
         IsNextEvent (after_all all_silent lines) number frame notice →
         entries (after_all all_silent lines) (EventLine.Deliver number)
-        ≡ EventEntry.Taken frame.node notice.kind notice.level ∷ EventEntry.Frame (length (after_all all_silent lines).frames + 1) 1 frame.node (108 ∷ 2 ∷ wire_id frame.session ∷ SUCCESS ∷ 0 ∷ []) ∷ [] }
+        ≡ EventEntry.Taken frame.node notice.kind notice.level ∷ EventEntry.Frame
+        (length (after_all all_silent lines).frames + 1) 1 frame.node (108 ∷ 2 ∷ wire_id frame.session ∷ SUCCESS ∷ 0 ∷ []) ∷ [] }
     // It is the one that comes next in the queue of its device.
     ensures queued { (lines : List AnyLine) → All NamesNode lines → (number : ℕ) (frame : AnyFrame) (notice : AnyNotice) →
         IsNextEvent (after_all all_silent lines) number frame notice →
-        slice_get (node_of (after_all all_silent lines).nodes frame.node).queued (length (node_of (after_all all_silent lines).nodes frame.node).taken) ≡ Some notice }
+        slice_get (node_of (after_all all_silent lines).nodes frame.node).queued
+        (length (node_of (after_all all_silent lines).nodes frame.node).taken) ≡ Some notice }
     // The answer to the open session makes its event known.
     ensures known { (lines : List AnyLine) → All NamesNode lines → (number : ℕ) (frame : AnyFrame) →
         IsAnswer (after_all all_silent lines) number frame →

@@ -1,10 +1,11 @@
-//! Events of devices on their way to the host: supervised Notification Reports over frames that are delivered late, often
-//! or never.
+//! Events of devices on their way to the host: supervised Notification Reports over frames that arrive late, often or
+//! never.
 //!
-//! It promises that each line does exactly what the table of lines says, that a text is read exactly where it is that of a
-//! line, and that the host takes each node's events once and in order whatever is delivered, and in whatever order.
-//! The definitions stand in `specs/`: `Line` and `Entry` for the texts, `State` and `Steps` for the table of lines, `Flow`
-//! for what holds of a transcript.
+//! It promises that each line does exactly what the table of lines says, that a text is read as a line exactly when it
+//! is that line's text, and that the host takes each node's events once and in order, whatever is delivered and in
+//! whatever order.
+//! The definitions are in `specs/`: `Line` and `Entry` for the texts, `State` and `Steps` for the table of lines,
+//! `Flow` for what holds of a transcript.
 #![tactic(auto)]
 
 mod entry;

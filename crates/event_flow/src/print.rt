@@ -89,7 +89,8 @@ fn show_frame(
     receiver: NodeId,
     payload: &[u8],
 ) -> Result<String, AllocError>
-    ensures { IfOk result (λ text. string_bytes text ≡ codes "frame " ++ (decimal frame ++ (codes " " ++ (decimal sender ++ (codes ">" ++ (decimal receiver ++ (codes " " ++ encode_upper payload.now))))))) }
+    ensures { IfOk result (λ text. string_bytes text ≡ codes "frame " ++
+        (decimal frame ++ (codes " " ++ (decimal sender ++ (codes ">" ++ (decimal receiver ++ (codes " " ++ encode_upper payload.now))))))) }
 {
     let sender = sender.number();
     let receiver = receiver.number();
@@ -112,7 +113,8 @@ fn print_row(
     taken: u64,
     known: u64,
 ) -> Result<Bytes, NoMemory>
-    ensures { IfOk result (λ text. text ≡ join_with_byte 32 (codes "node" ∷ decimal node ∷ codes "queued" ∷ decimal queued ∷ codes "taken" ∷ decimal taken ∷ codes "known" ∷ decimal known ∷ [])) }
+    ensures { IfOk result (λ text. text ≡
+        join_with_byte 32 (codes "node" ∷ decimal node ∷ codes "queued" ∷ decimal queued ∷ codes "taken" ∷ decimal taken ∷ codes "known" ∷ decimal known ∷ [])) }
 {
     let node = node.number();
     let text = format!(in alloc; "node {node} queued {queued} taken {taken} known {known}")?;

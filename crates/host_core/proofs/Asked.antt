@@ -8,15 +8,15 @@ use Rattle.host_keep.specs.Rows.{IsRecord}
 use Rattle.host_keep.specs.RecordText.{record_text}
 use Rattle.host_keep.specs.declared.record.Record.TheVariants.{Accepted}
 use Rattle.host_requests.specs.declared.task.Task.TheVariants.{Plain}
-use Rattle.host_events.specs.Events.{Accepts, Queues}
-use Rattle.host_events.specs.Did.{Shelf}
-use Rattle.host_events.specs.After.{after}
+use Rattle.host_model.specs.Events.{Accepts, Queues}
+use Rattle.host_model.specs.Did.{Shelf}
+use Rattle.host_model.specs.After.{after}
 use Rattle.host_core.specs.Orders.{question_event}
 use Rattle.host_core.specs.declared.orders.Question.{Question}
-use Rattle.host_taking.specs.Calls.{beside, Does, DoesAlone, Are}
-use Rattle.host_taking.proofs.Doing.{does_one, one_alone}
-use Rattle.zw_order.specs.declared.order.Word.{Word}
-use Rattle.zw_order.specs.declared.order.Order.{Order}
+use Rattle.host_step_bytes.specs.Calls.{beside, Does, DoesAlone, Are}
+use Rattle.host_step_bytes.proofs.Doing.{does_one, one_alone}
+use Rattle.zw_base.specs.declared.order.Word.{Word}
+use Rattle.zw_base.specs.declared.order.Order.{Order}
 use Rattle.class_core.specs.Spelling.{form}
 use Rattle.encap.specs.declared.plan.Ends.{Ends}
 use Rattle.encap.specs.declared.plan.Outer.{Outer}
@@ -30,10 +30,10 @@ use Rattle.host_orders.specs.declared.errand.Gettable.TheVariants as asks
 use Rattle.host_orders.specs.Wrapping.{ends_of, carriage_of}
 use Rattle.host_orders.specs.Settings.{settings, properties_of}
 use Rattle.host_node.specs.State.{NodeState}
-use Rattle.host_events.specs.State.{HostState, HostParts, node_of}
-use Rattle.host_events.specs.May.{IsAccepted, known_of}
-use Rattle.host_events.specs.Asking.{carriage_for, refusal_for}
-use Rattle.host_effects.specs.Choices.{Judges}
+use Rattle.host_model.specs.State.{HostState, HostParts, node_of}
+use Rattle.host_model.specs.May.{IsAccepted, known_of}
+use Rattle.host_model.specs.Asking.{carriage_for, refusal_for}
+use Rattle.host_parts.specs.Choices.{Judges}
 use Rattle.host_orders.specs.declared.refused.Refused.{Refused}
 use Rattle.host_orders.specs.declared.refused.Refused.TheVariants.{NotJoined, QueueFull, StoreFull}
 use Rattle.host_orders.specs.Refusals.{Known, classes_of, first_some, unless, first_refusal, refusal_or, store_full}
@@ -159,7 +159,7 @@ order_is_accepted h order e =
 
 -- ---- what was asked
 
--- a message waits behind the others
+-- a message waits after the others
 pub queued_alone : (h new : HostState) (n : ℕ) (payload text : List ℕ) → payload ≡ text → 1 ≤ length payload → length h.requests.queue < 64 → new ≡ after h (Queues (Plain n payload))
     → DoesAlone (Are (Queues (Plain n text) ∷ [])) h [] new []
 queued_alone h new n payload text is some room host =

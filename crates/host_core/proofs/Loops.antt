@@ -2,24 +2,24 @@
 use Rattle.std.proofs.Common.{◌≡◌, ℕ, ◌<◌, ◌≤◌, List, [], ◌∷◌, ◌++◌, map, refl, ap, sym, ◌∙◌, subst, arith}
 use Rattle.std.specs.Prelude.{Bool, true, false, Some}
 use Rattle.host_node.specs.State.{needs_tick}
-use Rattle.host_nodes.specs.Search.{ticking_above}
-use Rattle.host_nodes.specs.State.{node_of as node_among}
-use Rattle.host_nodes.proofs.Searches.{what_is_least}
-use Rattle.host_events.specs.State.{HostState, HostParts}
-use Rattle.host_events.specs.Events.{HostEvent, Line_ticks, Requests_do, Node_ticks, Queues_no_more, Drops_no_more}
+use Rattle.host_node.specs.Search.{ticking_above}
+use Rattle.host_node.specs.TableState.{node_of as node_among}
+use Rattle.host_node.proofs.Searches.{what_is_least}
+use Rattle.host_model.specs.State.{HostState, HostParts}
+use Rattle.host_model.specs.Events.{HostEvent, Line_ticks, Requests_do, Node_ticks, Queues_no_more, Drops_no_more}
 use Rattle.host_requests.specs.Events.RequestsEvent.{Ticks as request_ticks}
 use Rattle.host_node.specs.declared.attempt.Moment.TheVariants.{BeforeItsTick}
-use Rattle.host_events.specs.May.{May}
-use Rattle.host_events.specs.Records.{records_at}
-use Rattle.host_events.specs.After.{after, is_full}
-use Rattle.host_events.specs.Outs.{outs}
-use Rattle.host_events.specs.Did.{after_all, is_unkept, Shelf}
-use Rattle.host_events.specs.Pumping.{no_more_event, LetsSome, LetsSleep}
-use Rattle.host_events.specs.Ticking.{first_ticks, tick_events, ticking_nodes, TickedTo}
-use Rattle.host_events.specs.declared.out.HostOut.{HostOut}
-use Rattle.host_events.proofs.Doing.{after_all-append}
-use Rattle.host_taking.specs.Calls.{beside, Does, Stops, DoesAlone, StopsAlone, Are}
-use Rattle.host_taking.proofs.Doing.{nothing_alone, one_alone, alone_then, does_as}
+use Rattle.host_model.specs.May.{May}
+use Rattle.host_model.specs.Records.{records_at}
+use Rattle.host_model.specs.After.{after, is_full}
+use Rattle.host_model.specs.Outs.{outs}
+use Rattle.host_model.specs.Did.{after_all, is_unkept, Shelf}
+use Rattle.host_model.specs.Pumping.{no_more_event, LetsSome, LetsSleep}
+use Rattle.host_model.specs.Ticking.{first_ticks, tick_events, ticking_nodes, TickedTo}
+use Rattle.host_model.specs.declared.out.HostOut.{HostOut}
+use Rattle.host_model.proofs.Doing.{after_all-append}
+use Rattle.host_step_bytes.specs.Calls.{beside, Does, Stops, DoesAlone, StopsAlone, Are}
+use Rattle.host_step_bytes.proofs.Doing.{nothing_alone, one_alone, alone_then, does_as}
 
 -- ---- ticks of nodes
 

@@ -11,10 +11,10 @@ use Rattle.host_keep.specs.declared.record.Record.{Record}
 use Rattle.host_keep.specs.RecordText.{IsTextOf}
 use Rattle.host_keep.specs.Kept.{Kept, first_kept, after_all as kept_after_all, kept_of}
 use Rattle.host_keep.specs.Legal.{AreTextsOf, AreLegal, IsFirstBad, first_illegal, is_legal}
-use Rattle.host_events.specs.State.{HostState, HostParts, first_host}
-use Rattle.host_records.specs.Restoring.{may_restore, restored}
-use Rattle.host_records.specs.Opening.{restored_all, restarted}
-use Rattle.host_records.specs.Holding.{HoldsAlone}
+use Rattle.host_model.specs.State.{HostState, HostParts, first_host}
+use Rattle.host_model.specs.Restoring.{may_restore, restored}
+use Rattle.host_model.specs.Opening.{restored_all, restarted}
+use Rattle.host_model.specs.Holding.{HoldsAlone}
 use Rattle.host_core.specs.Opening.{AreTold, Opens, ReadEach, IsRecordAt, Takes, MayTakeNone}
 
 -- ---- what is known of records
@@ -38,15 +38,15 @@ One = (h : HostState) (one : Record) → restored_all h (one ∷ []) ≡ restore
 -- ---- the first of them
 
 -- the first texts, so many, where they are told
-abbrev pub front : ℕ → Option (List (List ℕ)) → Option (List (List ℕ))
-front at None = None
-front at (Some texts) = Some (take at texts)
+abbrev pub prefix : ℕ → Option (List (List ℕ)) → Option (List (List ℕ))
+prefix at None = None
+prefix at (Some texts) = Some (take at texts)
 
 none_of : (texts : List (List ℕ)) → take 0 texts ≡ []
 none_of [] = refl
 none_of (text ∷ texts) = refl
 
-none_told : (told : Option (List (List ℕ))) → AreTold [] (front 0 told)
+none_told : (told : Option (List (List ℕ))) → AreTold [] (prefix 0 told)
 none_told None = tt
 none_told (Some texts) = subst (λ (l : List (List ℕ)). AreTextsOf [] l) (sym (none_of texts)) tt
 
@@ -69,7 +69,7 @@ texts_more (r ∷ records) (first ∷ texts) zero one text are stands is = absur
 texts_more [] (first ∷ texts) (suc at) one text are stands is = absurd are
 texts_more (r ∷ records) (first ∷ texts) (suc at) one text are stands is = (are.0, texts_more records texts at one text are.1 stands is)
 
-told_more : (records : List Record) (told : Option (List (List ℕ))) (at : ℕ) (one : Record) → AreTold records (front at told) → IsRecordAt told at one → AreTold (records ++ one ∷ []) (front (at + 1) told)
+told_more : (records : List Record) (told : Option (List (List ℕ))) (at : ℕ) (one : Record) → AreTold records (prefix at told) → IsRecordAt told at one → AreTold (records ++ one ∷ []) (prefix (at + 1) told)
 told_more records None at one are found = tt
 told_more records (Some texts) at one are found =
     subst (λ (k : ℕ). AreTextsOf (records ++ one ∷ []) (take k texts)) next (texts_more records texts at one found.0 are found.1 found.2)
@@ -77,7 +77,7 @@ told_more records (Some texts) at one are found =
     next : suc at ≡ at + 1
     next = omega arith
 
-all_told : (records : List Record) (told : Option (List (List ℕ))) (number : ℕ) → ((texts : List (List ℕ)) → told ≡ Some texts → number ≡ length texts) → AreTold records (front number told) → AreTold records told
+all_told : (records : List Record) (told : Option (List (List ℕ))) (number : ℕ) → ((texts : List (List ℕ)) → told ≡ Some texts → number ≡ length texts) → AreTold records (prefix number told) → AreTold records told
 all_told records None number tells are = tt
 all_told records (Some texts) number tells are =
     subst (λ (l : List (List ℕ)). AreTextsOf records l) (take_all number texts (subst (λ (k : ℕ). length texts ≤ k) (sym (tells texts refl)) (omega arith))) are
@@ -88,7 +88,7 @@ all_told records (Some texts) number tells are =
 pub record TookUp (keys : Keys) (told : Option (List (List ℕ))) (at : ℕ) (core : HostParts) : Type 0 where
   pub records : List Record
   pub many : length records ≡ at
-  pub are : AreTold records (front at told)
+  pub are : AreTold records (prefix at told)
   pub legal : AreLegal records
   pub state : core ≡ record { decoder = no_rest; state = restored_all (first_host keys) records }
 

@@ -6,22 +6,22 @@ use Rattle.host_node.specs.State.{NodeState}
 use Rattle.host_node.specs.declared.series.Series.{Series}
 use Rattle.host_node.specs.declared.series.Series.TheVariants.{Idle, Due}
 use Rattle.host_node.specs.declared.attempt.Plan.{Plan}
-use Rattle.host_events.specs.State.{HostState, node_of}
-use Rattle.host_events.specs.Events.{HostEvent, Submits_abort, Submits_front, Begins, Begin_unkept, Starts, Gives_text, Gives_segment}
-use Rattle.host_events.specs.Outs.{outs}
+use Rattle.host_model.specs.State.{HostState, node_of}
+use Rattle.host_model.specs.Events.{HostEvent, Submits_abort, Submits_front, Begins, Begin_unkept, Starts, Gives_text, Gives_segment}
+use Rattle.host_model.specs.Outs.{outs}
 use Rattle.host_keep.specs.Keeping.{OptAdds, Kept}
 use Rattle.host_keep.specs.Rows.{IsRecord}
 use Rattle.host_keep.specs.RecordText.{record_text}
 use Rattle.host_keep.specs.declared.record.Record.TheVariants.{Begun}
-use Rattle.host_recorded.specs.Choices.{chosen}
-use Rattle.host_events.specs.After.{after}
-use Rattle.host_events.specs.Facts.{HostFacts}
-use Rattle.host_events.specs.May.{May, IsFree, IsServed}
-use Rattle.host_events.specs.Pumping.{IsNext, IsServedBy, GivesNext}
-use Rattle.host_events.specs.declared.out.HostOut.{HostOut}
-use Rattle.host_taking.specs.Calls.{Scene, Does, DoesAlone, One}
-use Rattle.host_taking.proofs.Doing.{does_one, does_kept, one_alone}
-use Rattle.host_core.proofs.Submitted.{served_is_next, abort_is_next, front_is_next}
+use Rattle.host_step_kept.specs.Choices.{chosen}
+use Rattle.host_model.specs.After.{after}
+use Rattle.host_model.specs.Facts.{HostFacts}
+use Rattle.host_model.specs.May.{May, IsFree, IsServed}
+use Rattle.host_model.specs.Pumping.{IsNext, IsServedBy, GivesNext}
+use Rattle.host_model.specs.declared.out.HostOut.{HostOut}
+use Rattle.host_step_bytes.specs.Calls.{Scene, Does, DoesAlone, One}
+use Rattle.host_step_bytes.proofs.Doing.{does_one, does_kept, one_alone}
+use Rattle.host_core.proofs.Submitted.{served_is_next, abort_is_next, prefix_is_next}
 
 pub some_unless_none : {X : Type 0} (o : Option X) → (o ≡ None → ⊥) → IsSome o
 some_unless_none None there = absurd (there refl)
@@ -113,7 +113,7 @@ pub abort_submitted : (a b : Scene) → IsFree a.host → a.host.requests.owes �
 abort_submitted a b free owes host put records falls =
     does_one (One (IsNext a.host)) Submits_abort a b (Submits_abort, abort_is_next a.host free owes, refl) (free, owes) tt host put records tt falls
 
-pub front_submitted : (a b : Scene) → IsFree a.host → a.host.requests.owes ≡ false → (a.host.requests.queue ≡ [] → ⊥) → b.host ≡ after a.host Submits_front → b.outs ≡ a.outs ++ outs a.host Submits_front
+pub prefix_submitted : (a b : Scene) → IsFree a.host → a.host.requests.owes ≡ false → (a.host.requests.queue ≡ [] → ⊥) → b.host ≡ after a.host Submits_front → b.outs ≡ a.outs ++ outs a.host Submits_front
     → OptAdds a.shelf.records b.shelf.records [] → a.shelf.faults ≤ b.shelf.faults → Does (One (IsNext a.host)) a b
-front_submitted a b free paid some host put records falls =
-    does_one (One (IsNext a.host)) Submits_front a b (Submits_front, front_is_next a.host free paid some, refl) (free, paid, some) tt host put records tt falls
+prefix_submitted a b free paid some host put records falls =
+    does_one (One (IsNext a.host)) Submits_front a b (Submits_front, prefix_is_next a.host free paid some, refl) (free, paid, some) tt host put records tt falls

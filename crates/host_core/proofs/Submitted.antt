@@ -3,13 +3,13 @@ use Rattle.std.proofs.Common.{◌≡◌, ℕ, List, [], ◌∷◌, ◌++◌, ref
 use Rattle.std.proofs.lemmas.List.{append-nil}
 use Rattle.std.specs.Prelude.{Bool, true, false, Option}
 use Rattle.host_requests.specs.declared.task.Task.{Task}
-use Rattle.host_events.specs.State.{HostState, node_of}
-use Rattle.host_events.specs.Events.{HostEvent, Submits_abort, Submits_front}
-use Rattle.host_events.specs.Did.{after_all}
-use Rattle.host_events.specs.May.{IsFree, IsServed}
-use Rattle.host_events.specs.Pumping.{IsNext, IsNextOf, IsNextOfNodes, IsServedBy, IsPumped, SubmitsSome, Submits, LetsSleep, Pumps}
-use Rattle.host_taking.specs.Calls.{Scene, Does, Are, One, Turns}
-use Rattle.host_taking.proofs.Doing.{then_does}
+use Rattle.host_model.specs.State.{HostState, node_of}
+use Rattle.host_model.specs.Events.{HostEvent, Submits_abort, Submits_front}
+use Rattle.host_model.specs.Did.{after_all}
+use Rattle.host_model.specs.May.{IsFree, IsServed}
+use Rattle.host_model.specs.Pumping.{IsNext, IsNextOf, IsNextOfNodes, IsServedBy, IsPumped, SubmitsSome, Submits, LetsSleep, Pumps}
+use Rattle.host_step_bytes.specs.Calls.{Scene, Does, Are, One, Turns}
+use Rattle.host_step_bytes.proofs.Doing.{then_does}
 
 -- what a node that is served gives is next
 pub served_is_next : (h : HostState) (n : ℕ) (event : HostEvent) → IsServed h n → IsServedBy h n (node_of h n).series event → IsNext h event
@@ -23,8 +23,8 @@ served_is_next h n event served gives = (
 pub abort_is_next : (h : HostState) → IsFree h → h.requests.owes ≡ true → IsNext h Submits_abort
 abort_is_next h free owes = (free, subst (λ (b : Bool). IsNextOf h b h.requests.queue Submits_abort) (sym owes) refl)
 
-pub front_is_next : (h : HostState) → IsFree h → h.requests.owes ≡ false → (h.requests.queue ≡ [] → ⊥) → IsNext h Submits_front
-front_is_next h free paid some = (free, subst (λ (b : Bool). IsNextOf h b h.requests.queue Submits_front) (sym paid) (by_queue h.requests.queue some))
+pub prefix_is_next : (h : HostState) → IsFree h → h.requests.owes ≡ false → (h.requests.queue ≡ [] → ⊥) → IsNext h Submits_front
+prefix_is_next h free paid some = (free, subst (λ (b : Bool). IsNextOf h b h.requests.queue Submits_front) (sym paid) (by_queue h.requests.queue some))
   where
     by_queue : (q : List Task) → (q ≡ [] → ⊥) → IsNextOf h false q Submits_front
     by_queue [] some = absurd (some refl)

@@ -7,9 +7,9 @@ use Rattle.host_keep.specs.declared.record.Record.{Record}
 use Rattle.host_keep.specs.Keeping.{IsKeptAt}
 use Rattle.host_keep.specs.RecordText.{IsTextOf, IsNoText}
 use Rattle.host_keep.specs.Legal.{AreTextsOf, AreLegal}
-use Rattle.host_events.specs.State.{HostState, HostParts}
-use Rattle.host_records.specs.Restoring.{may_restore, restored}
-use Rattle.host_records.specs.Opening.{opened}
+use Rattle.host_model.specs.State.{HostState, HostParts}
+use Rattle.host_model.specs.Restoring.{may_restore, restored}
+use Rattle.host_model.specs.Opening.{opened}
 
 -- records have the texts that a keeper tells. Of one that does not tell them, nothing is said
 abbrev pub AreTold : List Record → Option (List (List ℕ)) → Type 0

@@ -4,8 +4,8 @@ use Rattle.zw_text.specs.declared.entry.Outcome.{Outcome}
 use Rattle.host_requests.specs.declared.task.Task.TheVariants as task
 use Rattle.host_orders.specs.declared.refused.Refused.{Refused}
 use Rattle.host_orders.specs.declared.refused.Refused.TheVariants.{KeeperFault, NoMemory}
-use Rattle.host_events.specs.State.{Command}
-use Rattle.host_events.specs.Events.{HostEvent, Queues, Queues_probe}
+use Rattle.host_model.specs.State.{Command}
+use Rattle.host_model.specs.Events.{HostEvent, Queues, Queues_probe}
 use Rattle.host_core.specs.declared.orders.Question.{Question}
 use Rattle.host_core.specs.declared.orders.Question.TheVariants.{Members, Neighbours, Failed, Probe}
 use Rattle.host_core.specs.declared.orders.CancelFault.{CancelFault}

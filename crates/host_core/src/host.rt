@@ -6,18 +6,18 @@ ghost use Rattle.host_core.specs.Network.{keys_of};
 ghost use Rattle.supervision.specs.Host.{begun_of, command_at as command_of_session};
 ghost use Rattle.value_store.specs.Values.{held_of, known_of};
 ghost use Rattle.value_store.specs.ValueText.{values_text};
-ghost use Rattle.host_events.specs.State.{first_host, node_of, command_at};
-ghost use Rattle.host_events.specs.Pumping.{Pumps};
-ghost use Rattle.host_events.specs.Taking.{Fed, FedFront};
-ghost use Rattle.host_events.specs.Ticking.{tick_events};
-ghost use Rattle.host_taking.specs.Calls.{scene, Are, Does, Stops};
+ghost use Rattle.host_model.specs.State.{first_host, node_of, command_at};
+ghost use Rattle.host_model.specs.Pumping.{Pumps};
+ghost use Rattle.host_model.specs.Taking.{Fed, FedPrefix};
+ghost use Rattle.host_model.specs.Ticking.{tick_events};
+ghost use Rattle.host_step_bytes.specs.Calls.{scene, Are, Does, Stops};
 ghost use Rattle.host_core.specs.Orders.{outcome_at};
 
 use crate::pumping::pump;
 use crate::ticking::tick;
-use host_events::HostOut;
 use host_keep::Keeper;
-use host_state::Core;
+use host_model::HostOut;
+use host_step::HostCore;
 use s0_crypto::keys;
 use std::alloc::Global;
 use std::marker::Model;
@@ -25,17 +25,17 @@ use value_store::{Held, Stored};
 use zw_base::{Bytes, Draw, List, NoMemory, NodeId, Property};
 use zw_text::Outcome;
 
-/// The host: commands, sessions, requests and values of 231 nodes, behind one serial link. Contracts see what is unfinished of
+/// The host: commands, sessions, requests and values of 231 nodes, after one serial link. Contracts see what is unfinished of
 /// the chip's bytes, and a `HostState`.
 #[derive(Drop)]
 pub struct Host {
-    pub(crate) core: Core,
+    pub(crate) core: HostCore,
 }
 
 impl Model for Host {
     ghost use Rattle.std.specs.Coded.{codes};
     ghost use Rattle.value_store.specs.Values.{values_code};
-    ghost use Rattle.host_events.specs.State.{HostParts};
+    ghost use Rattle.host_model.specs.State.{HostParts};
 
     ghost Value = { HostParts };
 
@@ -50,7 +50,7 @@ impl Host {
         ensures { IfOk result (λ host. host ≡ record { decoder = no_rest; state = first_host (keys_of key) }) }
     {
         Ok(Host {
-            core: Core::new(alloc, keys(key))?,
+            core: HostCore::new(alloc, keys(key))?,
         })
     }
 
@@ -61,9 +61,12 @@ impl Host {
         out: &mut List<HostOut>,
         keeper: &mut P,
     ) -> Result<(), NoMemory>
-        ensures ok { OnOk result (Does (Pumps self.old.state) (scene self.old.state out.old.items (P.records keeper.old) (P.faults keeper.old)) (scene self.new.state out.new.items (P.records keeper.new) (P.faults keeper.new))) }
+        ensures ok { OnOk result (Does (Pumps self.old.state)
+            (scene self.old.state out.old.items (P.records keeper.old) (P.faults keeper.old))
+            (scene self.new.state out.new.items (P.records keeper.new) (P.faults keeper.new))) }
         ensures decoder { self.new.decoder ≡ self.old.decoder }
-        ensures err { OnErr result (Stops (scene self.old.state out.old.items (P.records keeper.old) (P.faults keeper.old)) (scene self.new.state out.new.items (P.records keeper.new) (P.faults keeper.new))) }
+        ensures err { OnErr result (Stops (scene self.old.state out.old.items (P.records keeper.old) (P.faults keeper.old))
+            (scene self.new.state out.new.items (P.records keeper.new) (P.faults keeper.new))) }
     {
         pump(&mut self.core, out, keeper)
     }
@@ -76,10 +79,14 @@ impl Host {
         out: &mut List<HostOut>,
         keeper: &mut P,
     ) -> Result<(), NoMemory>
-        ensures ok { OnOk result (Fed self.old piece.now self.new out.old.items out.new.items (scene self.old.state out.old.items (P.records keeper.old) (P.faults keeper.old)).shelf (scene self.new.state out.new.items (P.records keeper.new) (P.faults keeper.new)).shelf) }
-        ensures err { OnErr result (FedFront self.old piece.now self.new out.old.items out.new.items (scene self.old.state out.old.items (P.records keeper.old) (P.faults keeper.old)).shelf (scene self.new.state out.new.items (P.records keeper.new) (P.faults keeper.new)).shelf) }
+        ensures ok { OnOk result (Fed self.old piece.now self.new out.old.items out.new.items
+            (scene self.old.state out.old.items (P.records keeper.old) (P.faults keeper.old)).shelf
+            (scene self.new.state out.new.items (P.records keeper.new) (P.faults keeper.new)).shelf) }
+        ensures err { OnErr result (FedPrefix self.old piece.now self.new out.old.items out.new.items
+            (scene self.old.state out.old.items (P.records keeper.old) (P.faults keeper.old)).shelf
+            (scene self.new.state out.new.items (P.records keeper.new) (P.faults keeper.new)).shelf) }
     {
-        host_taking::feed(&mut self.core, piece, draw, out, keeper)
+        host_step_bytes::feed(&mut self.core, piece, draw, out, keeper)
     }
 
     /// A tick of 100 ms passes: of the line, of the request under way, and of the nodes that have a wait. It asks no keeper.
@@ -89,9 +96,12 @@ impl Host {
         out: &mut List<HostOut>,
         _keeper: &mut P,
     ) -> Result<(), NoMemory>
-        ensures ok { OnOk result (Does (Are (tick_events self.old.state)) (scene self.old.state out.old.items (P.records _keeper.old) (P.faults _keeper.old)) (scene self.new.state out.new.items (P.records _keeper.new) (P.faults _keeper.new))) }
+        ensures ok { OnOk result (Does (Are (tick_events self.old.state))
+            (scene self.old.state out.old.items (P.records _keeper.old) (P.faults _keeper.old))
+            (scene self.new.state out.new.items (P.records _keeper.new) (P.faults _keeper.new))) }
         ensures decoder { OnOk result (self.new.decoder ≡ after_tick self.old.decoder) }
-        ensures err { OnErr result (Stops (scene self.old.state out.old.items (P.records _keeper.old) (P.faults _keeper.old)) (scene self.new.state out.new.items (P.records _keeper.new) (P.faults _keeper.new))) }
+        ensures err { OnErr result (Stops (scene self.old.state out.old.items (P.records _keeper.old) (P.faults _keeper.old))
+            (scene self.new.state out.new.items (P.records _keeper.new) (P.faults _keeper.new))) }
     {
         tick(&mut self.core, out)?;
         Ok(())

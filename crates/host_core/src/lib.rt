@@ -1,9 +1,11 @@
 //! The host of a Z-Wave controller chip: an object that bytes, ticks and orders drive, over a keeper of records.
 //!
-//! It takes orders or refuses them, carries each as a session of at most three attempts a series, and reports what became of it; it
-//! interviews nodes, asks and sends, gives and takes nonces, wakes and lets sleep. All that it must not forget is kept as a record
-//! before it takes effect. It promises which events each call is; the events and the calls that they are stand in `host_events`, and
-//! what bytes of the chip make of a host in `host_taking`, whose `specs/Calls` has the words of this crate's clauses.
+//! It accepts orders or refuses them, carries each as a session of at most three attempts a series, and reports what
+//! became of it. It interviews nodes, sends Sets and Gets, gives and takes nonces, and lets nodes wake and sleep.
+//! Everything that it must not forget is kept as a record before it takes effect.
+//! It promises which events each call is. The events, and the calls that they make up, are defined in `host_model`.
+//! What bytes of the chip do to a host is in `host_step_bytes`, whose `specs/Calls` has the words of this crate's
+//! clauses.
 #![tactic(auto)]
 
 mod host;
@@ -14,6 +16,6 @@ mod sleeping;
 mod ticking;
 
 pub use host::Host;
-pub use host_events::HostOut;
+pub use host_model::HostOut;
 pub use opening::OpenFault;
 pub use orders::{CancelFault, Question};

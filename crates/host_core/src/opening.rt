@@ -11,8 +11,8 @@ use crate::Host;
 use host_keep::{
     KeepFault, Keeper, Record, RecordFault, a_text_is_of_one_record, read_record, records_go_on,
 };
-use host_records::{a_record_restores_what_it_says, legal_records_restore_the_host};
-use host_state::Core;
+use host_model::{a_record_restores_what_it_says, legal_records_restore_the_host};
+use host_step::HostCore;
 use s0_crypto::keys;
 use std::alloc::Global;
 use zw_base::NoMemory;
@@ -22,7 +22,7 @@ use zw_base::NoMemory;
 pub enum OpenFault {
     /// The keeper failed, and counted that.
     KeeperFault,
-    /// The record of that place, from 0, is none, or may not follow those before it.
+    /// The record of that place, from 0, is invalid, or may not follow those before it.
     BadRecord(u64),
     /// There was no memory.
     NoMemory,
@@ -55,7 +55,7 @@ impl Host {
         legal_records_restore_the_host();
         a_record_restores_what_it_says();
         records_go_on();
-        let mut core = Core::new(alloc, keys(key))?;
+        let mut core = HostCore::new(alloc, keys(key))?;
         for at in 0..keeper.count() {
             if let Err(fault) = take_up(&mut core, alloc, keeper, at) {
                 return Err(fault);
@@ -68,7 +68,7 @@ impl Host {
 
 // The record of a place is read and taken up.
 fn take_up<P: Keeper>(
-    core: &mut Core,
+    core: &mut HostCore,
     alloc: Global,
     keeper: &mut P,
     at: u64,
@@ -87,7 +87,7 @@ fn take_up<P: Keeper>(
         Ok(next) => next,
         Err(fault) => return Err(fault),
     };
-    if host_recorded::restore(core, next)? {
+    if host_step_kept::restore(core, next)? {
         Ok(())
     } else {
         Err(OpenFault::BadRecord(at))

@@ -7,20 +7,19 @@ ghost use Rattle.host_orders.specs.Errands.{RefusesOrNone, send_refusal, send_te
 ghost use Rattle.host_orders.specs.Refusals.{Refuses, classes_of};
 ghost use Rattle.host_requests.specs.Frames.{StandsAlone};
 ghost use Rattle.host_requests.specs.declared.task.Task.TheVariants.{Plain};
-ghost use Rattle.host_events.specs.Asking.{carriage_for, refusal_for, join_refusal, interview_refusal, places_refusal, Waits};
-ghost use Rattle.host_effects.specs.Choices.{Judges};
-ghost use Rattle.host_events.specs.State.{node_of};
-ghost use Rattle.host_events.specs.May.{known_of};
-ghost use Rattle.host_events.specs.Events.{Accepts, Cancels, Joins, Queues, Queues_interview};
-ghost use Rattle.host_taking.specs.Calls.{scene, Are, Does, DoesAlone};
+ghost use Rattle.host_model.specs.Asking.{carriage_for, refusal_for, join_refusal, interview_refusal, places_refusal, Waits};
+ghost use Rattle.host_parts.specs.Choices.{Judges};
+ghost use Rattle.host_model.specs.State.{node_of};
+ghost use Rattle.host_model.specs.May.{known_of};
+ghost use Rattle.host_model.specs.Events.{Accepts, Cancels, Joins, Queues, Queues_interview};
+ghost use Rattle.host_step_bytes.specs.Calls.{scene, Are, Does, DoesAlone};
 ghost use Rattle.host_core.specs.Orders.{places_of, question_event, KeptOrRefused, CancelsOrNot};
 
 use crate::Host;
 use host_keep::Keeper;
 use host_orders::{Refused, get_payload, send_payload};
 use host_requests::{QUEUE_CAPACITY, Task};
-use zw_base::{EndPoint, NoMemory, NodeId, Payload};
-use zw_order::{Order, Word};
+use zw_base::{EndPoint, NoMemory, NodeId, Order, Payload, Word};
 
 /// The requests of an interview, and those of a probe.
 const INTERVIEW: u8 = 2;
@@ -69,7 +68,8 @@ impl Host {
     /// A node joins, once that is kept.
     pub fn join<P: Keeper>(&mut self, node: NodeId, keeper: &mut P) -> Result<(), Refused>
         ensures judged { KeptOrRefused result (join_refusal self.old.state node) }
-        ensures ok { OnOk result (Does (Are (Joins node ∷ [])) (scene self.old.state [] (P.records keeper.old) (P.faults keeper.old)) (scene self.new.state [] (P.records keeper.new) (P.faults keeper.new))) }
+        ensures ok { OnOk result (Does (Are (Joins node ∷ [])) (scene self.old.state [] (P.records keeper.old) (P.faults keeper.old))
+            (scene self.new.state [] (P.records keeper.new) (P.faults keeper.new))) }
         ensures decoder { self.new.decoder ≡ self.old.decoder }
         ensures err { OnErr result (self.new ≡ self.old) }
         ensures no_record { OnErr result (OptAdds (P.records keeper.old) (P.records keeper.new) []) }
@@ -79,7 +79,7 @@ impl Host {
         if self.core.node(node).is_joined() || node.number() == CONTROLLER {
             return Err(Refused::AlreadyJoined);
         }
-        if host_recorded::join(&mut self.core, node, keeper)? {
+        if host_step_kept::join(&mut self.core, node, keeper)? {
             Ok(())
         } else {
             Err(Refused::KeeperFault)
@@ -91,7 +91,8 @@ impl Host {
     pub fn command<P: Keeper>(&mut self, order: &Order, keeper: &mut P) -> Result<u32, Refused>
         ensures judged { Judges result (refusal_for self.old.state order.now) }
         ensures number { IfOk result (λ number. number ≡ length self.old.state.commands + 1) }
-        ensures ok { OnOk result (Does (Are (Accepts order.now (carriage_for self.old.state order.now) ∷ [])) (scene self.old.state [] (P.records keeper.old) (P.faults keeper.old)) (scene self.new.state [] (P.records keeper.new) (P.faults keeper.new))) }
+        ensures ok { OnOk result (Does (Are (Accepts order.now (carriage_for self.old.state order.now) ∷ []))
+            (scene self.old.state [] (P.records keeper.old) (P.faults keeper.old)) (scene self.new.state [] (P.records keeper.new) (P.faults keeper.new))) }
         ensures decoder { self.new.decoder ≡ self.old.decoder }
         ensures err { OnErr result (self.new ≡ self.old) }
         ensures no_record { OnErr result (OptAdds (P.records keeper.old) (P.records keeper.new) []) }
@@ -104,7 +105,8 @@ impl Host {
     /// A command that waits is taken out of its mailbox, once that is kept.
     pub fn cancel<P: Keeper>(&mut self, command: u32, keeper: &mut P) -> Result<(), CancelFault>
         ensures judged { CancelsOrNot result (Waits self.old.state command) }
-        ensures ok { OnOk result (Does (Are (Cancels command ∷ [])) (scene self.old.state [] (P.records keeper.old) (P.faults keeper.old)) (scene self.new.state [] (P.records keeper.new) (P.faults keeper.new))) }
+        ensures ok { OnOk result (Does (Are (Cancels command ∷ [])) (scene self.old.state [] (P.records keeper.old) (P.faults keeper.old))
+            (scene self.new.state [] (P.records keeper.new) (P.faults keeper.new))) }
         ensures decoder { self.new.decoder ≡ self.old.decoder }
         ensures err { OnErr result (self.new ≡ self.old) }
         ensures no_record { OnErr result (OptAdds (P.records keeper.old) (P.records keeper.new) []) }
@@ -118,7 +120,7 @@ impl Host {
         if !self.core.node(node).waits(command) {
             return Err(CancelFault::NotWaiting);
         }
-        if host_recorded::cancel(&mut self.core, node, command, keeper)? {
+        if host_step_kept::cancel(&mut self.core, node, command, keeper)? {
             Ok(())
         } else {
             Err(CancelFault::KeeperFault)
@@ -128,7 +130,8 @@ impl Host {
     /// A Set that is not reported waits to be sent.
     pub fn send(&mut self, node: NodeId, word: Word) -> Result<(), Refused>
         ensures judged { RefusesOrNone result (send_refusal (known_of (node_of self.old.state node)) (length self.old.state.requests.queue) word) }
-        ensures ok { OnOk result (DoesAlone (Are (Queues (Plain node (send_text (classes_of (known_of (node_of self.old.state node))) word)) ∷ [])) self.old.state [] self.new.state []) }
+        ensures ok { OnOk result (DoesAlone
+            (Are (Queues (Plain node (send_text (classes_of (known_of (node_of self.old.state node))) word)) ∷ [])) self.old.state [] self.new.state []) }
         ensures decoder { self.new.decoder ≡ self.old.decoder }
         ensures err { OnErr result (self.new ≡ self.old) }
     {
@@ -140,7 +143,8 @@ impl Host {
     /// A Get waits to be sent.
     pub fn get(&mut self, node: NodeId, end: EndPoint) -> Result<(), Refused>
         ensures judged { RefusesOrNone result (get_refusal (known_of (node_of self.old.state node)) (length self.old.state.requests.queue) end) }
-        ensures ok { OnOk result (DoesAlone (Are (Queues (Plain node (get_text (classes_of (known_of (node_of self.old.state node))) end)) ∷ [])) self.old.state [] self.new.state []) }
+        ensures ok { OnOk result (DoesAlone
+            (Are (Queues (Plain node (get_text (classes_of (known_of (node_of self.old.state node))) end)) ∷ [])) self.old.state [] self.new.state []) }
         ensures decoder { self.new.decoder ≡ self.old.decoder }
         ensures err { OnErr result (self.new ≡ self.old) }
     {
@@ -219,7 +223,7 @@ impl Host {
         )
     }
 
-    // A task that stands alone waits behind the others, where it finds a place.
+    // A task that stands alone waits after the others, where it finds a place.
     fn queue_one(&mut self, task: Task) -> Result<(), Refused>
         requires { StandsAlone task }
         ensures judged { Refuses result (places_refusal self.old.state 1) }

@@ -2,17 +2,17 @@
 
 ghost use Rattle.std.specs.Prelude.{◌≡◌, ◌<◌, true, None, IfOk, OnOk, OnErr};
 ghost use Rattle.host_node.specs.declared.series.Series.TheVariants.{Idle, Due, Running};
-ghost use Rattle.host_events.specs.State.{node_of};
-ghost use Rattle.host_events.specs.Facts.{HostFacts};
-ghost use Rattle.host_events.specs.May.{IsServed};
-ghost use Rattle.host_events.specs.Pumping.{Pumps, Submits, IsServedBy, GivesNext, turns_left};
-ghost use Rattle.host_taking.specs.Calls.{scene, Does, Stops, DoesAlone, StopsAlone, One, Turns};
+ghost use Rattle.host_model.specs.State.{node_of};
+ghost use Rattle.host_model.specs.Facts.{HostFacts};
+ghost use Rattle.host_model.specs.May.{IsServed};
+ghost use Rattle.host_model.specs.Pumping.{Pumps, Submits, IsServedBy, GivesNext, turns_left};
+ghost use Rattle.host_step_bytes.specs.Calls.{scene, Does, Stops, DoesAlone, StopsAlone, One, Turns};
 
 use crate::sleeping::let_sleep;
-use host_events::{HostOut, a_pump_ends, attempts_have_what_they_give, turns_of_a_pump_go_on};
 use host_keep::Keeper;
+use host_model::{HostOut, a_pump_ends, attempts_have_what_they_give, turns_of_a_pump_go_on};
 use host_node::Series;
-use host_state::Core;
+use host_step::HostCore;
 use zw_base::{List, NoMemory, NodeId, Payload, read_node};
 
 /// The controller's own node.
@@ -20,13 +20,15 @@ const CONTROLLER: u8 = 1;
 
 /// Lets sleep what nothing keeps awake, and submits the next request.
 pub(crate) fn pump<P: Keeper>(
-    core: &mut Core,
+    core: &mut HostCore,
     out: &mut List<HostOut>,
     keeper: &mut P,
 ) -> Result<(), NoMemory>
-    ensures ok { OnOk result (Does (Pumps core.old.state) (scene core.old.state out.old.items (P.records keeper.old) (P.faults keeper.old)) (scene core.new.state out.new.items (P.records keeper.new) (P.faults keeper.new))) }
+    ensures ok { OnOk result (Does (Pumps core.old.state) (scene core.old.state out.old.items (P.records keeper.old) (P.faults keeper.old))
+        (scene core.new.state out.new.items (P.records keeper.new) (P.faults keeper.new))) }
     ensures decoder { core.new.decoder ≡ core.old.decoder }
-    ensures err { OnErr result (Stops (scene core.old.state out.old.items (P.records keeper.old) (P.faults keeper.old)) (scene core.new.state out.new.items (P.records keeper.new) (P.faults keeper.new))) }
+    ensures err { OnErr result (Stops (scene core.old.state out.old.items (P.records keeper.old) (P.faults keeper.old))
+        (scene core.new.state out.new.items (P.records keeper.new) (P.faults keeper.new))) }
 {
     let_sleep(core, out)?;
     submit(core, out, keeper)?;
@@ -35,13 +37,16 @@ pub(crate) fn pump<P: Keeper>(
 
 // The next requests are submitted, until one is under way, the line is busy, or there is nothing to submit.
 fn submit<P: Keeper>(
-    core: &mut Core,
+    core: &mut HostCore,
     out: &mut List<HostOut>,
     keeper: &mut P,
 ) -> Result<(), NoMemory>
-    ensures ok { OnOk result (Does (Submits core.old.state) (scene core.old.state out.old.items (P.records keeper.old) (P.faults keeper.old)) (scene core.new.state out.new.items (P.records keeper.new) (P.faults keeper.new))) }
+    ensures ok { OnOk result (Does (Submits core.old.state)
+        (scene core.old.state out.old.items (P.records keeper.old) (P.faults keeper.old))
+        (scene core.new.state out.new.items (P.records keeper.new) (P.faults keeper.new))) }
     ensures decoder { core.new.decoder ≡ core.old.decoder }
-    ensures err { OnErr result (Stops (scene core.old.state out.old.items (P.records keeper.old) (P.faults keeper.old)) (scene core.new.state out.new.items (P.records keeper.new) (P.faults keeper.new))) }
+    ensures err { OnErr result (Stops (scene core.old.state out.old.items (P.records keeper.old) (P.faults keeper.old))
+        (scene core.new.state out.new.items (P.records keeper.new) (P.faults keeper.new))) }
 {
     turns_of_a_pump_go_on();
     while submit_next(core, out, keeper)? {}
@@ -50,14 +55,17 @@ fn submit<P: Keeper>(
 
 // The next request by the rules of choosing. False where none can be submitted.
 fn submit_next<P: Keeper>(
-    core: &mut Core,
+    core: &mut HostCore,
     out: &mut List<HostOut>,
     keeper: &mut P,
 ) -> Result<bool, NoMemory>
-    ensures turns { IfOk result (λ submitted. Turns submitted (scene core.old.state out.old.items (P.records keeper.old) (P.faults keeper.old)) (scene core.new.state out.new.items (P.records keeper.new) (P.faults keeper.new))) }
+    ensures turns { IfOk result (λ submitted. Turns submitted
+        (scene core.old.state out.old.items (P.records keeper.old) (P.faults keeper.old))
+        (scene core.new.state out.new.items (P.records keeper.new) (P.faults keeper.new))) }
     ensures fewer { IfOk result (λ submitted. submitted ≡ true → turns_left core.new.state < turns_left core.old.state) }
     ensures decoder { core.new.decoder ≡ core.old.decoder }
-    ensures err { OnErr result (Stops (scene core.old.state out.old.items (P.records keeper.old) (P.faults keeper.old)) (scene core.new.state out.new.items (P.records keeper.new) (P.faults keeper.new))) }
+    ensures err { OnErr result (Stops (scene core.old.state out.old.items (P.records keeper.old) (P.faults keeper.old))
+        (scene core.new.state out.new.items (P.records keeper.new) (P.faults keeper.new))) }
 {
     a_pump_ends();
     know_facts(core);
@@ -83,15 +91,18 @@ fn submit_next<P: Keeper>(
 
 // A node with work gives what its attempt still has, starts the attempt that is due, or begins a session.
 fn serve<P: Keeper>(
-    core: &mut Core,
+    core: &mut HostCore,
     node: NodeId,
     out: &mut List<HostOut>,
     keeper: &mut P,
 ) -> Result<(), NoMemory>
     requires { IsServed core.old.state node }
-    ensures ok { OnOk result (Does (One (IsServedBy core.old.state node (node_of core.old.state node).series)) (scene core.old.state out.old.items (P.records keeper.old) (P.faults keeper.old)) (scene core.new.state out.new.items (P.records keeper.new) (P.faults keeper.new))) }
+    ensures ok { OnOk result (Does (One (IsServedBy core.old.state node (node_of core.old.state node).series))
+        (scene core.old.state out.old.items (P.records keeper.old) (P.faults keeper.old))
+        (scene core.new.state out.new.items (P.records keeper.new) (P.faults keeper.new))) }
     ensures decoder { core.new.decoder ≡ core.old.decoder }
-    ensures err { OnErr result (Stops (scene core.old.state out.old.items (P.records keeper.old) (P.faults keeper.old)) (scene core.new.state out.new.items (P.records keeper.new) (P.faults keeper.new))) }
+    ensures err { OnErr result (Stops (scene core.old.state out.old.items (P.records keeper.old) (P.faults keeper.old))
+        (scene core.new.state out.new.items (P.records keeper.new) (P.faults keeper.new))) }
 {
     match core.node(node).series() {
         Series::Running => {
@@ -110,10 +121,11 @@ fn serve<P: Keeper>(
 }
 
 // The sealed text of the running attempt, or its next segment.
-fn go_on(core: &mut Core, node: NodeId, out: &mut List<HostOut>) -> Result<(), NoMemory>
+fn go_on(core: &mut HostCore, node: NodeId, out: &mut List<HostOut>) -> Result<(), NoMemory>
     requires served { IsServed core.old.state node }
     requires running { (node_of core.old.state node).series ≡ Running }
-    ensures ok { OnOk result (DoesAlone (One (GivesNext core.old.state node (node_of core.old.state node).text)) core.old.state out.old.items core.new.state out.new.items) }
+    ensures ok { OnOk result (DoesAlone
+        (One (GivesNext core.old.state node (node_of core.old.state node).text)) core.old.state out.old.items core.new.state out.new.items) }
     ensures decoder { core.new.decoder ≡ core.old.decoder }
     ensures err { OnErr result (StopsAlone core.old.state out.old.items core.new.state out.new.items) }
 {
@@ -132,7 +144,7 @@ fn go_on(core: &mut Core, node: NodeId, out: &mut List<HostOut>) -> Result<(), N
 }
 
 // The next segment of the running attempt.
-fn give_segment(core: &mut Core, node: NodeId, out: &mut List<HostOut>) -> Result<(), NoMemory>
+fn give_segment(core: &mut HostCore, node: NodeId, out: &mut List<HostOut>) -> Result<(), NoMemory>
     requires served { IsServed core.old.state node }
     requires running { (node_of core.old.state node).series ≡ Running }
     requires text { (node_of core.old.state node).text ≡ None }
@@ -152,7 +164,7 @@ fn give_segment(core: &mut Core, node: NodeId, out: &mut List<HostOut>) -> Resul
 }
 
 // The attempt that is due.
-fn start(core: &mut Core, node: NodeId, out: &mut List<HostOut>) -> Result<(), NoMemory>
+fn start(core: &mut HostCore, node: NodeId, out: &mut List<HostOut>) -> Result<(), NoMemory>
     requires served { IsServed core.old.state node }
     requires due { (node_of core.old.state node).series ≡ Due }
     ensures ok { OnOk result (DoesAlone (One (IsServedBy core.old.state node Due)) core.old.state out.old.items core.new.state out.new.items) }
@@ -169,16 +181,19 @@ fn start(core: &mut Core, node: NodeId, out: &mut List<HostOut>) -> Result<(), N
 
 // A session for the command that waited longest.
 fn begin<P: Keeper>(
-    core: &mut Core,
+    core: &mut HostCore,
     node: NodeId,
     out: &mut List<HostOut>,
     keeper: &mut P,
 ) -> Result<(), NoMemory>
     requires served { IsServed core.old.state node }
     requires idle { (node_of core.old.state node).series ≡ Idle }
-    ensures ok { OnOk result (Does (One (IsServedBy core.old.state node Idle)) (scene core.old.state out.old.items (P.records keeper.old) (P.faults keeper.old)) (scene core.new.state out.new.items (P.records keeper.new) (P.faults keeper.new))) }
+    ensures ok { OnOk result (Does (One (IsServedBy core.old.state node Idle))
+        (scene core.old.state out.old.items (P.records keeper.old) (P.faults keeper.old))
+        (scene core.new.state out.new.items (P.records keeper.new) (P.faults keeper.new))) }
     ensures decoder { core.new.decoder ≡ core.old.decoder }
-    ensures err { OnErr result (Stops (scene core.old.state out.old.items (P.records keeper.old) (P.faults keeper.old)) (scene core.new.state out.new.items (P.records keeper.new) (P.faults keeper.new))) }
+    ensures err { OnErr result (Stops (scene core.old.state out.old.items (P.records keeper.old) (P.faults keeper.old))
+        (scene core.new.state out.new.items (P.records keeper.new) (P.faults keeper.new))) }
 {
     a_pump_ends();
     let state = core.node(node);
@@ -187,12 +202,12 @@ fn begin<P: Keeper>(
     if before == u64::MAX {
         return Err(NoMemory);
     }
-    let _ = host_recorded::begin(core, node, before + 1, command, out, keeper)?;
+    let _ = host_step_kept::begin(core, node, before + 1, command, out, keeper)?;
     Ok(())
 }
 
 // What holds of the host.
-fn know_facts(core: &Core)
+fn know_facts(core: &HostCore)
     ensures { HostFacts core.now.state }
 {
     if let Some(controller) = read_node(CONTROLLER) {

@@ -1,18 +1,18 @@
 //! Nodes that nothing keeps awake are let sleep.
 
 ghost use Rattle.std.specs.Prelude.{◌≡◌, ◌++◌, Some, OnOk, OnErr};
-ghost use Rattle.host_nodes.specs.Search.{first_wanting};
-ghost use Rattle.host_events.specs.After.{after};
-ghost use Rattle.host_events.specs.Outs.{outs};
-ghost use Rattle.host_events.specs.Pumping.{LetsSleep, no_more_event};
-ghost use Rattle.host_taking.specs.Calls.{DoesAlone, StopsAlone};
+ghost use Rattle.host_node.specs.Search.{first_wanting};
+ghost use Rattle.host_model.specs.After.{after};
+ghost use Rattle.host_model.specs.Outs.{outs};
+ghost use Rattle.host_model.specs.Pumping.{LetsSleep, no_more_event};
+ghost use Rattle.host_step_bytes.specs.Calls.{DoesAlone, StopsAlone};
 
-use host_events::{HostOut, nodes_are_told_in_few_turns, turns_of_a_pump_go_on};
-use host_state::Core;
+use host_model::{HostOut, nodes_are_told_in_few_turns, turns_of_a_pump_go_on};
+use host_step::HostCore;
 use zw_base::{List, NoMemory, NodeId};
 
 /// Each node that is to be told that there is no more for it is told, the least first.
-pub(crate) fn let_sleep(core: &mut Core, out: &mut List<HostOut>) -> Result<(), NoMemory>
+pub(crate) fn let_sleep(core: &mut HostCore, out: &mut List<HostOut>) -> Result<(), NoMemory>
     ensures ok { OnOk result (DoesAlone (LetsSleep core.old.state) core.old.state out.old.items core.new.state out.new.items) }
     ensures decoder { core.new.decoder ≡ core.old.decoder }
     ensures err { OnErr result (StopsAlone core.old.state out.old.items core.new.state out.new.items) }
@@ -26,7 +26,7 @@ pub(crate) fn let_sleep(core: &mut Core, out: &mut List<HostOut>) -> Result<(), 
 }
 
 // No More Information is queued for a node, or finds the queue full.
-fn let_one_sleep(core: &mut Core, node: NodeId, out: &mut List<HostOut>) -> Result<(), NoMemory>
+fn let_one_sleep(core: &mut HostCore, node: NodeId, out: &mut List<HostOut>) -> Result<(), NoMemory>
     requires { first_wanting core.old.state.nodes ≡ Some node }
     ensures state { OnOk result (core.new ≡ record core.old { state = after core.old.state (no_more_event core.old.state node) }) }
     ensures outs { OnOk result (out.new.items ≡ out.old.items ++ outs core.old.state (no_more_event core.old.state node)) }

@@ -2,16 +2,16 @@
 
 ghost use Rattle.std.specs.Prelude.{◌≡◌, map, OnOk, OnErr};
 ghost use Rattle.serial_frame.specs.Stream.{after_tick};
-ghost use Rattle.host_events.specs.Events.{Node_ticks};
-ghost use Rattle.host_events.specs.Ticking.{tick_events, ticking_nodes};
-ghost use Rattle.host_taking.specs.Calls.{Are, DoesAlone, StopsAlone};
+ghost use Rattle.host_model.specs.Events.{Node_ticks};
+ghost use Rattle.host_model.specs.Ticking.{tick_events, ticking_nodes};
+ghost use Rattle.host_step_bytes.specs.Calls.{Are, DoesAlone, StopsAlone};
 
-use host_events::{HostOut, ticks_of_nodes_go_on};
-use host_state::Core;
+use host_model::{HostOut, ticks_of_nodes_go_on};
+use host_step::HostCore;
 use zw_base::{List, NoMemory};
 
 /// A tick passes.
-pub(crate) fn tick(core: &mut Core, out: &mut List<HostOut>) -> Result<(), NoMemory>
+pub(crate) fn tick(core: &mut HostCore, out: &mut List<HostOut>) -> Result<(), NoMemory>
     ensures ok { OnOk result (DoesAlone (Are (tick_events core.old.state)) core.old.state out.old.items core.new.state out.new.items) }
     ensures decoder { OnOk result (core.new.decoder ≡ after_tick core.old.decoder) }
     ensures err { OnErr result (StopsAlone core.old.state out.old.items core.new.state out.new.items) }
@@ -23,7 +23,7 @@ pub(crate) fn tick(core: &mut Core, out: &mut List<HostOut>) -> Result<(), NoMem
 }
 
 // Each node with a wait counts the tick, in the order of their numbers.
-fn tick_nodes(core: &mut Core, out: &mut List<HostOut>) -> Result<(), NoMemory>
+fn tick_nodes(core: &mut HostCore, out: &mut List<HostOut>) -> Result<(), NoMemory>
     ensures ok { OnOk result (DoesAlone (Are (map Node_ticks (ticking_nodes core.old.state))) core.old.state out.old.items core.new.state out.new.items) }
     ensures decoder { core.new.decoder ≡ core.old.decoder }
     ensures err { OnErr result (StopsAlone core.old.state out.old.items core.new.state out.new.items) }

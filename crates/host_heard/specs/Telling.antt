@@ -4,13 +4,13 @@ use Rattle.std.specs.Prelude.{ℕ, List, [], ◌∷◌, map, Option, Some, None,
 use Rattle.zw_base.specs.declared.property.Setting.{Setting}
 use Rattle.zw_base.specs.declared.property.Name.{Name}
 use Rattle.zw_base.specs.declared.property.Name.TheVariants.{Switch, Level, Lock, Mode, Setpoint, Config, Member, Interval, Sensor, Battery}
-use Rattle.class_fields.specs.Ranges.{value_of}
-use Rattle.class_fields.specs.Fields.{switch_byte, lock_byte}
+use Rattle.class_core.specs.Ranges.{value_of}
+use Rattle.class_core.specs.Fields.{switch_byte, lock_byte}
 use Rattle.class_core.specs.declared.message.CoreMessage.{CoreMessage}
 use Rattle.class_core.specs.declared.message.CoreMessage.TheVariants.{SwitchBinaryReport, SwitchMultilevelReport, ThermostatModeReport, ThermostatSetpointReport, DoorLockOperationReport, ConfigurationReport}
 use Rattle.class_info.specs.declared.message.InfoMessage.{InfoMessage}
 use Rattle.class_info.specs.declared.message.InfoMessage.TheVariants.{Core, SensorMultilevelReport, BatteryReport, WakeUpIntervalReport, AssociationReport, SupervisionReport, NonceGet as asks_nonce, NonceReport as gives_nonce, WakeUpNotification, TransportRequest}
-use Rattle.class_fields.specs.declared.fault.ClassFault.{ClassFault}
+use Rattle.class_core.specs.declared.fault.ClassFault.{ClassFault}
 use Rattle.class_info.specs.InfoReading.{info_at}
 use Rattle.encap.specs.declared.plan.Ends.{Ends}
 use Rattle.encap.specs.Opening.{Message, begins_with, opened_at}

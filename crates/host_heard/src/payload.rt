@@ -6,7 +6,7 @@ ghost use Rattle.host_heard.specs.Telling.{told_all, end_of, heard_by, heard_at}
 
 use crate::Told;
 use crate::told::told_of;
-use class_fields::ClassFault;
+use class_core::ClassFault;
 use class_info::read;
 use encap::{Ends, WrapFault, unpack};
 use std::alloc::Global;

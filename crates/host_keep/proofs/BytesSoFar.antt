@@ -22,13 +22,13 @@ one_more : (r : Result (List ℕ) RecordFault) (done : List ℕ) (b : ℕ)
 one_more (Ok bytes) done b = ap Ok (sym (append_assoc done (b ∷ []) bytes))
 one_more (Err fault) done b = refl
 
-front : (numbers : List ℕ) (i : ℕ) → i < length numbers → drop i numbers ≡ get_or numbers i 0 ∷ drop (i + 1) numbers
-front numbers i h = rw add-one (drop-cons numbers i 0 h)
+prefix : (numbers : List ℕ) (i : ℕ) → i < length numbers → drop i numbers ≡ get_or numbers i 0 ∷ drop (i + 1) numbers
+prefix numbers i h = rw add-one (drop-cons numbers i 0 h)
 
 pub so_far_one : (at : ℕ) (numbers done : List ℕ) (i b : ℕ) → i < length numbers → byte_in (get_or numbers i 0) ≡ Ok b → IsSoFar at numbers done i → IsSoFar at numbers (done ++ b ∷ []) (i + 1)
 so_far_one at numbers done i b h is so = record {
   all = so.all
-      ∙ ap (λ xs. bytes_in xs >>= λ rest. Ok (done ++ rest)) (front numbers i h)
+      ∙ ap (λ xs. bytes_in xs >>= λ rest. Ok (done ++ rest)) (prefix numbers i h)
       ∙ ap (λ x. (x >>= λ byte. (bytes_in (drop (i + 1) numbers) >>= λ bytes. Ok (byte ∷ bytes))) >>= λ rest. Ok (done ++ rest)) is
       ∙ one_more (bytes_in (drop (i + 1) numbers)) done b;
 }
@@ -36,7 +36,7 @@ so_far_one at numbers done i b h is so = record {
 pub so_far_bad : (at : ℕ) (numbers done : List ℕ) (i : ℕ) → i < length numbers → byte_in (get_or numbers i 0) ≡ Err Bad → IsSoFar at numbers done i → bytes_in (drop at numbers) ≡ Err Bad
 so_far_bad at numbers done i h is so =
     so.all
-    ∙ ap (λ xs. bytes_in xs >>= λ rest. Ok (done ++ rest)) (front numbers i h)
+    ∙ ap (λ xs. bytes_in xs >>= λ rest. Ok (done ++ rest)) (prefix numbers i h)
     ∙ ap (λ x. (x >>= λ byte. (bytes_in (drop (i + 1) numbers) >>= λ bytes. Ok (byte ∷ bytes))) >>= λ rest. Ok (done ++ rest)) is
 
 pub so_far_end : (at : ℕ) (numbers done : List ℕ) (i : ℕ) → length numbers ≤ i → IsSoFar at numbers done i → bytes_in (drop at numbers) ≡ Ok done

@@ -4,11 +4,11 @@ use Rattle.std.proofs.lemmas.Bool.Decides.{nat_tests}
 use Rattle.std.proofs.lemmas.Bool.{and_from}
 use Rattle.std.proofs.lemmas.Slice.Eq.{bytes_eq-Decides}
 use Rattle.std.specs.Str.{bytes_eq}
-use Rattle.zw_order.specs.declared.order.Word.{Word}
-use Rattle.zw_order.specs.declared.order.Word.TheVariants.{On, Off, Level}
-use Rattle.zw_order.specs.declared.order.What.{What}
-use Rattle.zw_order.specs.declared.order.What.TheVariants as what
-use Rattle.zw_order.specs.declared.order.Order.{Order}
+use Rattle.zw_base.specs.declared.order.Word.{Word}
+use Rattle.zw_base.specs.declared.order.Word.TheVariants.{On, Off, Level}
+use Rattle.zw_base.specs.declared.order.What.{What}
+use Rattle.zw_base.specs.declared.order.What.TheVariants as what
+use Rattle.zw_base.specs.declared.order.Order.{Order}
 use Rattle.host_keep.specs.Status.{status_byte}
 use Rattle.host_keep.specs.Rows.{what_numbers, numbers_of, flag_number, IsNode, AreBytes, IsWord, IsWhat, IsOrder, IsRecord}
 use Rattle.host_keep.specs.RecordText.{AreLong, IsTextOf, row_text}
@@ -214,7 +214,7 @@ one_record one other text p q =
 
 -- ---- what is found of a text
 
--- a fault that is not Bad is want of memory
+-- a fault that is not Bad is an allocation failure
 pub not_bad : {A : Type 0} (fault : RecordFault) (kept : Record) → ((let r : Result A RecordFault = Err fault in r) ≡ Err Bad → ⊥) → Gives {X = Record} (Err fault) (Ok kept)
 not_bad Bad kept h = absurd (h refl)
 not_bad NoMemory kept h = tt

@@ -4,7 +4,7 @@ use Rattle.std.specs.List.{flat_map, list_any}
 use Rattle.zw_base.specs.PropertyOrder.{same_property}
 use Rattle.zw_base.specs.declared.property.Property.{Property}
 use Rattle.zw_base.specs.declared.property.Setting.{Setting}
-use Rattle.zw_order.specs.declared.order.Order.{Order}
+use Rattle.zw_base.specs.declared.order.Order.{Order}
 use Rattle.host_orders.specs.declared.carriage.Carriage.{Carriage}
 use Rattle.host_orders.specs.Settings.{settings, properties_of}
 use Rattle.host_orders.specs.Wrapping.{carriage_of}
@@ -112,7 +112,7 @@ is_among numbers number = list_any (λ other. other == number) numbers
 
 -- ---- one record more
 
--- an order is taken: it is carried as the node's classes say then, and waits behind the others
+-- an order is taken: it is carried as the node's classes say then, and waits after the others
 abbrev pub taking : Kept → ℕ → Order → Kept
 taking kept command order =
     let node = node_of kept order.node in

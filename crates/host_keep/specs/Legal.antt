@@ -2,7 +2,7 @@
 use Rattle.std.specs.Prelude.{◌≡◌, ℕ, suc, ◌+◌, ◌%◌, ◌==◌, ◌&&◌, ◌<◌, not, if◌then◌else◌, Bool, true, false, List, [], ◌∷◌, ◌++◌, length, take, slice_get, slice_index, Option, Some, None, is_none, is_some, option_map}
 use Rattle.std.specs.Set.{distinct_count}
 use Rattle.zw_base.specs.PropertyOrder.{same_property}
-use Rattle.zw_order.specs.declared.order.Order.{Order}
+use Rattle.zw_base.specs.declared.order.Order.{Order}
 use Rattle.host_orders.specs.Classes.{actuator_of}
 use Rattle.host_orders.specs.Settings.{settings, properties_of}
 use Rattle.host_orders.specs.Refusals.{Known, refusal_of}

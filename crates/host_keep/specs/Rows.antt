@@ -1,10 +1,10 @@
 -- The numbers of a record, and their ranges (this project's own rule).
 use Rattle.std.specs.Prelude.{◌≡◌, ℕ, ◌^◌, ◌<◌, ◌≤◌, Bool, true, false, List, [], ◌∷◌, length, EachIndex, slice_index}
-use Rattle.zw_order.specs.declared.order.Word.{Word}
-use Rattle.zw_order.specs.declared.order.Word.TheVariants.{On, Off, Level}
-use Rattle.zw_order.specs.declared.order.What.{What}
-use Rattle.zw_order.specs.declared.order.What.TheVariants as what
-use Rattle.zw_order.specs.declared.order.Order.{Order}
+use Rattle.zw_base.specs.declared.order.Word.{Word}
+use Rattle.zw_base.specs.declared.order.Word.TheVariants.{On, Off, Level}
+use Rattle.zw_base.specs.declared.order.What.{What}
+use Rattle.zw_base.specs.declared.order.What.TheVariants as what
+use Rattle.zw_base.specs.declared.order.Order.{Order}
 use Rattle.host_keep.specs.Status.{status_byte}
 use Rattle.host_keep.specs.declared.record.Record.{Record}
 use Rattle.host_keep.specs.declared.record.Record.TheVariants.{Accepted, Joined, Classes, Begun, Final, Cancelled, Given, Spent, Seen}

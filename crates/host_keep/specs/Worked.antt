@@ -2,9 +2,9 @@
 use Rattle.std.specs.Prelude.{ℕ, List, [], ◌∷◌}
 use Rattle.zw_base.specs.declared.property.Name.TheVariants as names
 use Rattle.zw_base.specs.declared.property.Property.{Property}
-use Rattle.zw_order.specs.declared.order.Word.TheVariants.{On}
-use Rattle.zw_order.specs.declared.order.What.TheVariants.{Value}
-use Rattle.zw_order.specs.declared.order.Order.{Order}
+use Rattle.zw_base.specs.declared.order.Word.TheVariants.{On}
+use Rattle.zw_base.specs.declared.order.What.TheVariants.{Value}
+use Rattle.zw_base.specs.declared.order.Order.{Order}
 use Rattle.host_keep.specs.declared.final_status.FinalStatus.TheVariants.{Success}
 use Rattle.host_keep.specs.declared.record.Record.{Record}
 use Rattle.host_keep.specs.declared.record.Record.TheVariants.{Accepted, Joined, Begun, Final, Cancelled, Given, Spent, Seen}

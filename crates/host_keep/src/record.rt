@@ -1,8 +1,7 @@
 //! The records of a host.
 
 use crate::final_status::FinalStatus;
-use zw_base::{Bytes, NodeId};
-use zw_order::Order;
+use zw_base::{Bytes, NodeId, Order};
 
 /// What a host keeps of one event. Commands are numbered from 1, and so are the sessions of each node.
 #[derive(Drop)]

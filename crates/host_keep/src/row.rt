@@ -1,8 +1,34 @@
 //! The record that numbers stand for: each number at its place, in its range.
 
 ghost use Rattle.std.specs.Prelude.{◌≡◌};
-ghost use Rattle.host_keep.specs.RowReading.{Gives, number_at, byte_at, node_at, end_at, short_at, long_at, flag_at, status_at, bytes_at, byte_in, nonce_at, setpoint_at, config_at, bulk_at, member_at, comfort_at, what_at, accepted_at, classes_at, begun_at, final_at, given_at, seen_at, record_at};
-ghost use Rattle.zw_order.specs.declared.order.What.TheVariants as what;
+ghost use Rattle.host_keep.specs.RowReading.{
+  Gives,
+  number_at,
+  byte_at,
+  node_at,
+  end_at,
+  short_at,
+  long_at,
+  flag_at,
+  status_at,
+  bytes_at,
+  byte_in,
+  nonce_at,
+  setpoint_at,
+  config_at,
+  bulk_at,
+  member_at,
+  comfort_at,
+  what_at,
+  accepted_at,
+  classes_at,
+  begun_at,
+  final_at,
+  given_at,
+  seen_at,
+  record_at,
+};
+ghost use Rattle.zw_base.specs.declared.order.What.TheVariants as what;
 
 use crate::final_status::FinalStatus;
 use crate::kinds::{
@@ -12,8 +38,7 @@ use crate::kinds::{
 use crate::reading::RecordFault;
 use crate::record::Record;
 use std::alloc::Global;
-use zw_base::{Bytes, EndPoint, NodeId, read_end, read_node};
-use zw_order::{Order, What, Word};
+use zw_base::{Bytes, EndPoint, NodeId, Order, What, Word, read_end, read_node};
 
 #[tactic(auto, unfolding(crate::specs::RowReading::number_at))]
 fn number(numbers: &[u64], at: usize) -> Result<u64, RecordFault>

@@ -12,8 +12,7 @@ use crate::kinds::{
 use crate::record::Record;
 use serde_json::Value;
 use std::alloc::{AllocError, Global};
-use zw_base::{Bytes, NoMemory, NodeId};
-use zw_order::{What, Word};
+use zw_base::{Bytes, NoMemory, NodeId, What, Word};
 
 /// Adds bytes as numbers.
 fn put_bytes(numbers: &mut Vec<u64>, bytes: &[u8]) -> Result<(), AllocError>

@@ -3,3 +3,8 @@ pub mod Steps
 pub mod Events
 pub mod Facts
 pub mod Inside
+pub mod TableState
+pub mod Search
+pub mod TableFacts
+pub mod Marks
+pub mod TableInside

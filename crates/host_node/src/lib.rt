@@ -1,16 +1,23 @@
-//! What the host keeps of one node: what waits for it, its sessions and their attempts, whether it is awake, and the plain
-//! text that waits for its nonce.
+//! What the host keeps of its nodes: of each one what waits for it, its sessions and their attempts, whether it is awake,
+//! and the plain text that waits for its nonce; and of all of them which is to be looked at next.
 //!
 //! Each event of a node is one method, which does the whole of it or nothing, and its contract is a function of the state
-//! before. `facts_are_kept` says what holds of every node after every event.
-//! The definitions stand in `specs/`: `State`, `Steps` (the node after each event), `Events` and `Facts`.
+//! before. `facts_are_kept` says what holds of every node after every event. In the table of all nodes an event changes
+//! the node at its number and no other. The next node to be served, told or ticked is found by sets that follow each
+//! event, so no call walks all nodes.
+//! The definitions stand in `specs/`: `State`, `Steps` (the node after each event), `Events` and `Facts` of one node;
+//! `TableState` (the nodes by number), `Search` (which is next) and `TableFacts` of all.
 #![tactic(auto)]
 
+mod agenda;
 mod attempt;
 mod laws;
 mod no_more;
 mod node;
+mod node_set;
+mod nodes;
 mod series;
+mod table_laws;
 
 pub use attempt::{AttemptEnd, Moment, Plan};
 pub use laws::{
@@ -19,4 +26,6 @@ pub use laws::{
 };
 pub use no_more::NoMore;
 pub use node::{Begun, Node};
+pub use nodes::Nodes;
 pub use series::Series;
+pub use table_laws::{facts_of_all_are_kept, the_least_is_found};

@@ -4,7 +4,15 @@ ghost use Rattle.std.specs.Prelude.{◌≡◌, ◌↔◌, ◌<◌, ◌≤◌, Op
 ghost use Rattle.std.specs.Option.{option_copied};
 ghost use Rattle.supervision.specs.Session.{IsStatus};
 ghost use Rattle.supervision.specs.Host.{begun_of, open_session, command_at, told_of};
-ghost use Rattle.host_node.specs.State.{unknown, is_up as up, has_segment as segment_left, has_work as to_be_served, wants_no_more as to_be_told, needs_tick as has_ticks, Lists};
+ghost use Rattle.host_node.specs.State.{
+  unknown,
+  is_up as up,
+  has_segment as segment_left,
+  has_work as to_be_served,
+  wants_no_more as to_be_told,
+  needs_tick as has_ticks,
+  Lists,
+};
 ghost use Rattle.host_node.specs.Facts.{NodeFacts};
 ghost use Rattle.host_node.specs.Steps.{after_join, after_interview};
 

@@ -1,12 +1,12 @@
 -- How long the messages of parameters in a row are.
 use Rattle.std.proofs.Common.{◌≡◌, ℕ, ◌+◌, ◌≤◌, List, [], ◌∷◌, length, false, nat_lt, refl, arith}
 use Rattle.std.proofs.lemmas.Bool.Decides.{nat_tests}
-use Rattle.class_fields.specs.Cell.{written}
-use Rattle.class_fields.specs.Fields.{numbers}
-use Rattle.class_fields.specs.declared.number.Size.TheVariants.{One}
+use Rattle.class_core.specs.Cell.{written}
+use Rattle.class_core.specs.Fields.{numbers}
+use Rattle.class_core.specs.declared.number.Size.TheVariants.{One}
 use Rattle.encap.specs.Written.{batched_form}
-use Rattle.zw_order.specs.declared.order.What.{What}
-use Rattle.zw_order.specs.declared.order.What.TheVariants.{Value, Mode, Setpoint, Config, Bulk, Associate, Dissociate, Interval, Comfort}
+use Rattle.zw_base.specs.declared.order.What.{What}
+use Rattle.zw_base.specs.declared.order.What.TheVariants.{Value, Mode, Setpoint, Config, Bulk, Associate, Dissociate, Interval, Comfort}
 use Rattle.host_orders.specs.declared.actuator.Actuator.{Actuator}
 use Rattle.host_orders.specs.Messages.{commands_of, is_batch, BulkHasAtMost}
 

@@ -1,7 +1,7 @@
 -- Messages without Supervision that a user asks for: a Set that is not reported, and a Get (Z-Wave Application Command
 -- Class Specification; which class is taken and what is refused is this project's own rule).
 use Rattle.std.specs.Prelude.{◌≡◌, ℕ, ◌≤◌, ◌⊎◌, nat_le, not, if◌then◌else◌, false, List, [], ◌∷◌, length, slice_index, Option, Some, None, is_some, Result, Ok, Err}
-use Rattle.zw_order.specs.declared.order.Word.{Word}
+use Rattle.zw_base.specs.declared.order.Word.{Word}
 use Rattle.class_core.specs.declared.message.CoreMessage.TheVariants.{SwitchBinaryGet, SwitchMultilevelGet, DoorLockOperationGet, ThermostatModeGet}
 use Rattle.class_core.specs.Spelling.{form}
 use Rattle.encap.specs.declared.plan.Plan.{Plan}
@@ -117,7 +117,7 @@ get_text classes end = plain_text classes end (get_command (gettable_of classes)
 
 -- ---- what both answer
 
--- the call refuses as said, or for want of memory where nothing else refuses
+-- the call refuses as said, or for lack of memory where nothing else refuses
 abbrev pub RefusesOrNone : {A : Type 0} → Result A Refused → Option Refused → Type 0
 RefusesOrNone (Ok value) refusal = refusal ≡ None
 RefusesOrNone (Err refused) refusal = (refusal ≡ Some refused) ⊎ ((refused ≡ NoMemory) × (refusal ≡ None))

@@ -1,16 +1,16 @@
 -- The messages that an order is sent as (Z-Wave Application and Management Command Class Specifications; which messages
 -- stand for which order is this project's own rule).
 use Rattle.std.specs.Prelude.{ℕ, ◌≤◌, nat_lt, if◌then◌else◌, Bool, true, false, List, [], ◌∷◌, ◌++◌, map, length}
-use Rattle.zw_order.specs.declared.order.Word.{Word}
-use Rattle.zw_order.specs.declared.order.Word.TheVariants.{On, Off, Level}
-use Rattle.zw_order.specs.declared.order.What.{What}
-use Rattle.zw_order.specs.declared.order.What.TheVariants as what
-use Rattle.class_fields.specs.declared.switch.Switch.{Switch}
-use Rattle.class_fields.specs.declared.switch.Switch.TheVariants as switches
-use Rattle.class_fields.specs.declared.switch.LockMode.{LockMode}
-use Rattle.class_fields.specs.declared.switch.LockMode.TheVariants as locks
-use Rattle.class_fields.specs.declared.number.Number.TheVariants as numbers
-use Rattle.class_fields.specs.declared.number.Size.TheVariants as sizes
+use Rattle.zw_base.specs.declared.order.Word.{Word}
+use Rattle.zw_base.specs.declared.order.Word.TheVariants.{On, Off, Level}
+use Rattle.zw_base.specs.declared.order.What.{What}
+use Rattle.zw_base.specs.declared.order.What.TheVariants as what
+use Rattle.class_core.specs.declared.switch.Switch.{Switch}
+use Rattle.class_core.specs.declared.switch.Switch.TheVariants as switches
+use Rattle.class_core.specs.declared.switch.LockMode.{LockMode}
+use Rattle.class_core.specs.declared.switch.LockMode.TheVariants as locks
+use Rattle.class_core.specs.declared.number.Number.TheVariants as numbers
+use Rattle.class_core.specs.declared.number.Size.TheVariants as sizes
 use Rattle.class_core.specs.declared.message.CoreMessage.{CoreMessage}
 use Rattle.class_core.specs.declared.message.CoreMessage.TheVariants.{SwitchBinarySet, SwitchMultilevelSet, DoorLockOperationSet, ThermostatModeSet, ThermostatSetpointSet, ConfigurationSet, ConfigurationBulkSet, AssociationSet, AssociationRemove, WakeUpIntervalSet}
 use Rattle.class_core.specs.Spelling.{form}

@@ -1,10 +1,10 @@
 -- When an order is refused, and as what: the first of eight rules that applies (this project's own rule).
 use Rattle.std.specs.Prelude.{◌≡◌, ℕ, ◌+◌, ◌&&◌, ◌||◌, ◌==◌, nat_lt, nat_le, not, if◌then◌else◌, Bool, true, false, List, [], ◌∷◌, length, Option, Some, None, is_some, unwrap_or, Result, Ok, Err}
-use Rattle.zw_order.specs.declared.order.Word.{Word}
-use Rattle.zw_order.specs.declared.order.Word.TheVariants.{On, Off, Level}
-use Rattle.zw_order.specs.declared.order.What.{What}
-use Rattle.zw_order.specs.declared.order.What.TheVariants as what
-use Rattle.zw_order.specs.declared.order.Order.{Order}
+use Rattle.zw_base.specs.declared.order.Word.{Word}
+use Rattle.zw_base.specs.declared.order.Word.TheVariants.{On, Off, Level}
+use Rattle.zw_base.specs.declared.order.What.{What}
+use Rattle.zw_base.specs.declared.order.What.TheVariants as what
+use Rattle.zw_base.specs.declared.order.Order.{Order}
 use Rattle.host_orders.specs.Classes.{lists, actuator_of}
 use Rattle.host_orders.specs.Messages.{classes_needed}
 use Rattle.host_orders.specs.Wrapping.{supervised_text, wrapped_len}

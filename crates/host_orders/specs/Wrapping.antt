@@ -1,7 +1,7 @@
 -- How an order's messages are wrapped (Z-Wave Transport-Encapsulation Command Class Specification; the choice of the
 -- outermost wrap is this project's own rule).
 use Rattle.std.specs.Prelude.{ℕ, ◌+◌, ◌%◌, ◌&&◌, nat_lt, nat_le, if◌then◌else◌, List, length, Option, Some, None}
-use Rattle.zw_order.specs.declared.order.Order.{Order}
+use Rattle.zw_base.specs.declared.order.Order.{Order}
 use Rattle.encap.specs.declared.plan.Outer.{Outer}
 use Rattle.encap.specs.declared.plan.Outer.TheVariants.{None as no_outer, Crc16, Security, Transport}
 use Rattle.encap.specs.declared.plan.Plan.{Plan}

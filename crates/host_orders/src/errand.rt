@@ -2,7 +2,22 @@
 
 ghost use Rattle.std.specs.Prelude.{◌≡◌, ℕ, ◌≤◌, ◌<◌, false, length, List, Option, Some, IfOk, IfErr};
 ghost use Rattle.host_orders.specs.Refusals.{Refuses, is_bad_word as is_bad_for};
-ghost use Rattle.host_orders.specs.Errands.{plain_text, queue_full, secured, sendable_of, sendable_refusal, send_refusal, send_text, gettable_of, gettable_class, gettable_refusal, get_command, get_refusal, get_text, RefusesOrNone};
+ghost use Rattle.host_orders.specs.Errands.{
+  plain_text,
+  queue_full,
+  secured,
+  sendable_of,
+  sendable_refusal,
+  send_refusal,
+  send_text,
+  gettable_of,
+  gettable_class,
+  gettable_refusal,
+  get_command,
+  get_refusal,
+  get_text,
+  RefusesOrNone,
+};
 
 use crate::actuator::{Actuator, DOOR_LOCK, SWITCH_BINARY, SWITCH_MULTILEVEL, lists};
 use crate::judging::{is_bad_word, known, need, need_channel};
@@ -12,8 +27,7 @@ use crate::wrapping::{SECURITY, ends_of, outer_for};
 use class_core::{CoreMessage, write};
 use encap::{Plan, wrap};
 use std::alloc::Global;
-use zw_base::{Bytes, EndPoint, List as Listed, NoMemory, Payload};
-use zw_order::Word;
+use zw_base::{Bytes, EndPoint, List as Listed, NoMemory, Payload, Word};
 
 /// Thermostat Mode.
 const THERMOSTAT_MODE: u8 = 0x40;

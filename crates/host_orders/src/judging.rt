@@ -3,14 +3,25 @@
 ghost use Rattle.std.specs.Prelude.{◌≡◌, ℕ, ◌≤◌, ◌<◌, false, Option, Some, None, List, [], ◌∷◌, IfOk, IfErr, Ok};
 ghost use Rattle.host_orders.specs.Messages.{classes_in, classes_needed, channel_class};
 ghost use Rattle.host_orders.specs.Wrapping.{carriage_of};
-ghost use Rattle.host_orders.specs.Refusals.{Refuses, IsFit, first_refusal, unsupported, is_bad, is_bad_word, is_bad_mode, is_bad_setpoint, is_bad_bulk, is_too_long, too_long};
+ghost use Rattle.host_orders.specs.Refusals.{
+  Refuses,
+  IsFit,
+  first_refusal,
+  unsupported,
+  is_bad,
+  is_bad_word,
+  is_bad_mode,
+  is_bad_setpoint,
+  is_bad_bulk,
+  is_too_long,
+  too_long,
+};
 
 use crate::actuator::{Actuator, lists};
 use crate::carriage::Carriage;
 use crate::refused::Refused;
 use crate::wrapping::{MAX_PAYLOAD, SECURITY, TRANSPORT, outer_for, supervised_len, wrapped_len};
-use zw_base::Bytes;
-use zw_order::{Order, What, Word};
+use zw_base::{Bytes, Order, What, Word};
 
 /// Supervision.
 const SUPERVISION: u8 = 0x6C;

@@ -3,8 +3,8 @@
 ghost use Rattle.std.specs.Prelude.{◌≡◌, ◌<◌, ◌≤◌, ◌∷◌, [], false, length, IfOk};
 ghost use Rattle.class_core.specs.Spelling.{form};
 ghost use Rattle.class_core.specs.declared.message.CoreMessage.TheVariants as messages;
-ghost use Rattle.class_fields.specs.declared.number.Size.TheVariants as sizes;
-ghost use Rattle.class_fields.specs.declared.number.Number.TheVariants as numbers;
+ghost use Rattle.class_core.specs.declared.number.Size.TheVariants as sizes;
+ghost use Rattle.class_core.specs.declared.number.Number.TheVariants as numbers;
 ghost use Rattle.host_orders.specs.Messages.{switch_of, lock_of, value_message, setpoint_message, commands_of, first_command_of, is_batch, BulkHasAtMost};
 ghost use Rattle.host_orders.specs.Refusals.{is_bad, is_bad_word, is_bad_mode, is_bad_setpoint, is_bad_interval};
 
@@ -15,12 +15,11 @@ use class_core::{
     SetpointKind, Size, Switch, write,
 };
 use std::alloc::Global;
-use zw_base::{Bytes, List, NoMemory, NodeId, read_node};
-use zw_order::{What, Word};
+use zw_base::{Bytes, List, NoMemory, NodeId, What, Word, read_node};
 
 /// The controller, which a node that wakes tells so.
 const CONTROLLER: u8 = 1;
-/// A temperature has one digit behind the decimal point.
+/// A temperature has one digit after the decimal point.
 const TENTHS: u8 = 1;
 /// Degrees Celsius.
 const CELSIUS: u8 = 0;

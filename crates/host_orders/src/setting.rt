@@ -7,8 +7,7 @@ ghost use Rattle.host_orders.specs.Refusals.{is_bad};
 
 use crate::actuator::Actuator;
 use std::alloc::Global;
-use zw_base::{EndPoint, List, Name, NoMemory, Property, Setting};
-use zw_order::{Order, What, Word};
+use zw_base::{EndPoint, List, Name, NoMemory, Order, Property, Setting, What, Word};
 
 /// The level of a dimmer that is all the way on, in per cent.
 const FULL_LEVEL: u8 = 99;

@@ -11,8 +11,7 @@ use crate::carriage::Carriage;
 use crate::messages::{commands, is_batch};
 use encap::{Ends, Outer, Plan, Supervised, wrap};
 use std::alloc::Global;
-use zw_base::{Bytes, EndPoint, NoMemory};
-use zw_order::{Order, What};
+use zw_base::{Bytes, EndPoint, NoMemory, Order, What};
 
 /// Security 0.
 pub(crate) const SECURITY: u8 = 0x98;

@@ -11,7 +11,7 @@ use Rattle.host_requests.specs.Frames.{function_of}
 use Rattle.host_requests.specs.State.{RequestsState}
 use Rattle.host_requests.specs.Next.{is_answered, is_sent, sent_from, at_sent, taken, judged, at_response, at_callback, ends_at_update, at_update, counted_down, on_with, at_tick, went_on, end_of, next_from, end_from, after_next, end_of_next}
 use Rattle.host_requests.specs.Events.{RequestsEvent, after, end_at, May, MayAll}
-use Rattle.host_requests.specs.Events.RequestsEvent.{Pushes, PushesInterview, PushesProbe, BeginsAbort, BeginsFront, BeginsAttempt, IsSent, Fails, Responds, CallsBack, Updates, Ticks, Forgets}
+use Rattle.host_requests.specs.Events.RequestsEvent.{Pushes, PushesInterview, PushesProbe, BeginsAbort, BeginsPrefix, BeginsAttempt, IsSent, Fails, Responds, CallsBack, Updates, Ticks, Forgets}
 use Rattle.host_requests.specs.Facts.{Waits, IsUnderWay, IsEither, IsRequests, IsWaiting, most_left, tick_of, ticks_in, EndsAmong}
 use Rattle.host_requests.specs.declared.end.How.TheVariants.{LinkFailed}
 use Rattle.host_requests.specs.declared.next.Next.{Next}
@@ -102,7 +102,7 @@ goes s (Pushes t) u e waiting may = inr (inr (record { now = u; under_way = e; w
 goes s (PushesInterview n) u e waiting may = inr (inr (record { now = u; under_way = e; waiting = waiting; less = omega arith }))
 goes s PushesProbe u e waiting may = inr (inr (record { now = u; under_way = e; waiting = waiting; less = omega arith }))
 goes s BeginsAbort u e waiting may = busy s u e may.0
-goes s BeginsFront u e waiting may = busy s u e may.0
+goes s BeginsPrefix u e waiting may = busy s u e may.0
 goes s (BeginsAttempt n more payload) u e waiting may = busy s u e may.0
 goes s IsSent u e waiting may = told s IsSent u (event_down s 0 u at_sent e (sent_down u.purpose u.progress waiting))
 goes s Fails u e waiting may = told s Fails u (event_down s 0 u (λ _. Ends LinkFailed) e tt)

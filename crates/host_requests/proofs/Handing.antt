@@ -5,8 +5,8 @@ use Rattle.chip_functions.specs.declared.function.TheConstants.{GET_NODE_PROTOCO
 use Rattle.host_requests.specs.Frames.{function_of}
 use Rattle.host_requests.specs.State.{RequestsState, no_requests}
 use Rattle.host_requests.specs.Next.{at_sent, at_response, at_callback, at_update, at_tick, capability_at, went_on, end_of, next_from, end_from}
-use Rattle.host_requests.specs.Events.{RequestsEvent, with_tasks, front_begun, after, May, after_all, MayAll}
-use Rattle.host_requests.specs.Events.RequestsEvent.{Pushes, PushesInterview, PushesProbe, BeginsAbort, BeginsFront, BeginsAttempt, IsSent, Fails, Responds, CallsBack, Updates, Ticks, Forgets}
+use Rattle.host_requests.specs.Events.{RequestsEvent, with_tasks, prefix_begun, after, May, after_all, MayAll}
+use Rattle.host_requests.specs.Events.RequestsEvent.{Pushes, PushesInterview, PushesProbe, BeginsAbort, BeginsPrefix, BeginsAttempt, IsSent, Fails, Responds, CallsBack, Updates, Ticks, Forgets}
 use Rattle.host_requests.specs.Facts.{Waits, first_asked, second_asked, ArePaired, due_second, IsUnderWay, IsEither, IsRequests}
 use Rattle.host_requests.specs.Interviews.{Brought, brought_of, brought_by, brought_after, brought_in}
 use Rattle.host_requests.specs.declared.end.How.TheVariants.{LinkFailed}
@@ -87,9 +87,9 @@ due_node s b holds none x e = subst (λ (o : Option UnderWay). second_node o s.q
 other : {A : Type 0} (o : Option ℕ) (n : ℕ) → o ≡ None → o ≡ Some n → A
 other o n none some = absurd (cc)
 
-front_holds : (s : RequestsState) (b : Option Brought) (queue : List Task) → s.queue ≡ queue → Holds s b → s.under_way ≡ None → Holds (front_begun s queue) b
-front_holds s b [] e holds none = holds
-front_holds s b (t ∷ rest) e holds none = record { same = holds.same; node = λ x f. sym (ap due_second e) ∙ due_node s b holds none x f }
+prefix_holds : (s : RequestsState) (b : Option Brought) (queue : List Task) → s.queue ≡ queue → Holds s b → s.under_way ≡ None → Holds (prefix_begun s queue) b
+prefix_holds s b [] e holds none = holds
+prefix_holds s b (t ∷ rest) e holds none = record { same = holds.same; node = λ x f. sym (ap due_second e) ∙ due_node s b holds none x f }
 
 event_holds : (s : RequestsState) (b : Option Brought) (event : RequestsEvent) → IsRequests s → May s event → Holds s b → Holds (after s event) (brought_after s b event)
 event_holds s b (Pushes t) facts may holds = push_holds s b (t ∷ []) (alone_paired t may.0) holds
@@ -97,7 +97,7 @@ event_holds s b (PushesInterview n) facts may holds = push_holds s b (First n �
 event_holds s b PushesProbe facts may holds = push_holds s b (Version ∷ MemoryId ∷ Capabilities ∷ []) (refl, (refl, (refl, refl))) holds
 event_holds s b BeginsAbort facts (none, owes) holds =
     record { same = holds.same; node = λ x f. other (due_second s.queue) x.node ((idle_of s facts none).owed owes) (due_node s b holds none x f) }
-event_holds s b BeginsFront facts (none, paid) holds = front_holds s b s.queue refl holds none
+event_holds s b BeginsPrefix facts (none, paid) holds = prefix_holds s b s.queue refl holds none
 event_holds s b (BeginsAttempt n more payload) facts (none, paid, empty, bytes) holds =
     record { same = holds.same; node = λ x f. other (due_second s.queue) x.node (ap due_second empty) (due_node s b holds none x f) }
 event_holds s b IsSent facts may holds = from_holds s b at_sent s.under_way refl facts holds fits_sent

@@ -14,8 +14,8 @@ use Rattle.chip_functions.specs.declared.response.TheConstants.{REFUSED}
 use Rattle.host_requests.specs.Frames.{function_of, HasPayload}
 use Rattle.host_requests.specs.State.{RequestsState, no_requests, begun}
 use Rattle.host_requests.specs.Next.{response_ticks, notice_ticks, is_answered, acknowledged, sent_from, at_sent, taken, judged, at_response, at_callback, ends_at_update, at_update, counted_down, on_with, at_tick, owes_abort, capability_at, went_on, next_from}
-use Rattle.host_requests.specs.Events.{RequestsEvent, with_tasks, front_begun, after, May, after_all, MayAll}
-use Rattle.host_requests.specs.Events.RequestsEvent.{Pushes, PushesInterview, PushesProbe, BeginsAbort, BeginsFront, BeginsAttempt, IsSent, Fails, Responds, CallsBack, Updates, Ticks, Forgets}
+use Rattle.host_requests.specs.Events.{RequestsEvent, with_tasks, prefix_begun, after, May, after_all, MayAll}
+use Rattle.host_requests.specs.Events.RequestsEvent.{Pushes, PushesInterview, PushesProbe, BeginsAbort, BeginsPrefix, BeginsAttempt, IsSent, Fails, Responds, CallsBack, Updates, Ticks, Forgets}
 use Rattle.host_requests.specs.Facts.{HasNotice, Waits, first_of, second_of, first_asked, second_asked, ArePaired, due_second, IsUnderWay, IsIdle, IsEither, IsRequests}
 use Rattle.host_requests.specs.declared.end.How.{How}
 use Rattle.host_requests.specs.declared.end.How.TheVariants.{LinkFailed}
@@ -30,7 +30,7 @@ use Rattle.host_requests.specs.declared.under_way.Progress.TheVariants.{Submitte
 use Rattle.host_requests.specs.declared.under_way.UnderWay.{UnderWay}
 use Rattle.host_requests.proofs.Purposes.{alone_payload, alone_paired, send_first, capable_first, task_no_abort, due-paired, paired-append, due-append, id_given, id_fits}
 
--- tasks that wait behind the others
+-- tasks that wait after the others
 
 pushed_either : (s : RequestsState) (tasks : List Task) (o : Option UnderWay) → ArePaired None tasks → IsEither o s → IsEither o (with_tasks s tasks)
 pushed_either s tasks None paired idle =
@@ -71,9 +71,9 @@ begins s p few payloads ids paired paid due brought =
 pub idle_of : (s : RequestsState) → IsRequests s → s.under_way ≡ None → IsIdle s
 idle_of s facts none = subst (λ (o : Option UnderWay). IsEither o s) none facts.either
 
-front_begins : (s : RequestsState) (queue : List Task) → s.queue ≡ queue → IsRequests s → s.under_way ≡ None → s.owes ≡ false → IsRequests (front_begun s queue)
-front_begins s [] e facts none paid = facts
-front_begins s (t ∷ rest) e facts none paid =
+prefix_begins : (s : RequestsState) (queue : List Task) → s.queue ≡ queue → IsRequests s → s.under_way ≡ None → s.owes ≡ false → IsRequests (prefix_begun s queue)
+prefix_begins s [] e facts none paid = facts
+prefix_begins s (t ∷ rest) e facts none paid =
     let idle = idle_of s facts none in
     let few : length (t ∷ rest) ≤ 64 = subst (λ (q : List Task). length q ≤ 64) e facts.few in
     let paired : ArePaired (second_of t) (t ∷ rest) = subst (λ (q : List Task). ArePaired (due_second q) q) e facts.paired in
@@ -208,7 +208,7 @@ kept s PushesProbe facts room = pushed s (Version ∷ MemoryId ∷ Capabilities 
 kept s BeginsAbort facts (none, owes) =
     let idle = idle_of s facts none in
     begins (record s { owes = false }) Abort facts.few facts.payloads facts.ids facts.paired refl (idle.owed owes) (λ _. idle.brought (idle.owed owes))
-kept s BeginsFront facts (none, paid) = front_begins s s.queue refl facts none paid
+kept s BeginsPrefix facts (none, paid) = prefix_begins s s.queue refl facts none paid
 kept s (BeginsAttempt n more payload) facts (none, paid, empty, bytes) =
     let idle = idle_of s facts none in
     let due : due_second s.queue ≡ None = ap due_second empty in

@@ -24,7 +24,7 @@ pub data RequestsEvent : Type 0 where
   PushesInterview : (node : ℕ) → RequestsEvent
   PushesProbe : RequestsEvent
   BeginsAbort : RequestsEvent
-  BeginsFront : RequestsEvent
+  BeginsPrefix : RequestsEvent
   BeginsAttempt : (node : ℕ) (more : Bool) (payload : List ℕ) → RequestsEvent
   IsSent : RequestsEvent
   Fails : RequestsEvent
@@ -34,14 +34,14 @@ pub data RequestsEvent : Type 0 where
   Ticks : RequestsEvent
   Forgets : RequestsEvent
 
--- these tasks wait behind the others
+-- these tasks wait after the others
 abbrev pub with_tasks : RequestsState → List Task → RequestsState
 with_tasks s tasks = record s { queue = s.queue ++ tasks }
 
 -- the task that waited longest is submitted
-abbrev pub front_begun : RequestsState → List Task → RequestsState
-front_begun s [] = s
-front_begun s (task ∷ rest) = begun (record s { queue = rest }) (Housekeeping task)
+abbrev pub prefix_begun : RequestsState → List Task → RequestsState
+prefix_begun s [] = s
+prefix_begun s (task ∷ rest) = begun (record s { queue = rest }) (Housekeeping task)
 
 -- the state after an event
 abbrev pub after : RequestsState → RequestsEvent → RequestsState
@@ -49,7 +49,7 @@ after s (Pushes task) = with_tasks s (task ∷ [])
 after s (PushesInterview n) = with_tasks s (First n ∷ Second n ∷ [])
 after s PushesProbe = with_tasks s (Version ∷ MemoryId ∷ Capabilities ∷ [])
 after s BeginsAbort = begun (record s { owes = false }) Abort
-after s BeginsFront = front_begun s s.queue
+after s BeginsPrefix = prefix_begun s s.queue
 after s (BeginsAttempt n more payload) = begun s (Attempt n more payload)
 after s IsSent = after_next s at_sent
 after s Fails = after_next s (λ _. Ends LinkFailed)
@@ -80,7 +80,7 @@ May s (Pushes task) = StandsAlone task × HasRoom s 1
 May s (PushesInterview n) = HasRoom s 2
 May s PushesProbe = HasRoom s 3
 May s BeginsAbort = (s.under_way ≡ None) × IsTrue s.owes
-May s BeginsFront = (s.under_way ≡ None) × (s.owes ≡ false)
+May s BeginsPrefix = (s.under_way ≡ None) × (s.owes ≡ false)
 May s (BeginsAttempt n more payload) = (s.under_way ≡ None) × (s.owes ≡ false) × (s.queue ≡ []) × (1 ≤ length payload)
 May s event = Unit {0}
 

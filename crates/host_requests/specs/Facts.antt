@@ -43,7 +43,7 @@ second_asked (Housekeeping task) = second_of task
 second_asked purpose = None
 
 -- where the second task of this node is due, each second task has the first of the same node directly before it, and each
--- first the second behind it
+-- first the second after it
 abbrev pub ArePaired : Option ℕ → List Task → Type 0
 ArePaired due [] = due ≡ None
 ArePaired due (task ∷ rest) = (second_of task ≡ due) × ArePaired (first_of task) rest

@@ -28,7 +28,8 @@ pub fn each_request_ends()
 pub fn interviews_are_whole()
     ensures { (events : List RequestsEvent) (u : TheUnderWay) (node capability : ℕ) → MayAll no_requests events
         → (after_all no_requests events).under_way ≡ Some u → second_asked u.purpose ≡ Some node
-        → ((after_all no_requests events).first ≡ Some capability) ↔ (brought_in no_requests None events ≡ Some (record { node = node; capability = capability })) }
+        → ((after_all no_requests events).first ≡ Some capability) ↔
+        (brought_in no_requests None events ≡ Some (record { node = node; capability = capability })) }
 {}
 
 /// Two callback ids in a row differ, and are 1 to 255. A request has its function whatever its callback id.

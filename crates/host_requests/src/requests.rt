@@ -6,7 +6,21 @@ ghost use Rattle.host_requests.specs.Frames.{StandsAlone, frame_of};
 ghost use Rattle.host_requests.specs.State.{no_requests, next_id, begun};
 ghost use Rattle.host_requests.specs.Next.{after_next, end_of_next, finished};
 ghost use Rattle.host_requests.specs.Events.{after, end_at, interviewed_by};
-ghost use Rattle.host_requests.specs.Events.RequestsEvent.{Pushes, PushesInterview, PushesProbe, BeginsAbort, BeginsFront, BeginsAttempt, IsSent, Fails, Responds, CallsBack, Updates, Ticks, Forgets};
+ghost use Rattle.host_requests.specs.Events.RequestsEvent.{
+  Pushes,
+  PushesInterview,
+  PushesProbe,
+  BeginsAbort,
+  BeginsPrefix,
+  BeginsAttempt,
+  IsSent,
+  Fails,
+  Responds,
+  CallsBack,
+  Updates,
+  Ticks,
+  Forgets,
+};
 ghost use Rattle.host_requests.specs.declared.task.Purpose.TheVariants.{Housekeeping, Attempt, Abort};
 
 use crate::frame::{send, task_frame};
@@ -112,7 +126,7 @@ impl Requests {
         self.queue.front()
     }
 
-    /// A task waits behind the others. The two of an interview come by `push_interview`.
+    /// A task waits after the others. The two of an interview come by `push_interview`.
     pub fn push(&mut self, task: Task)
         requires alone { StandsAlone task }
         requires room { length self.old.queue < QUEUE_CAPACITY }
@@ -121,7 +135,7 @@ impl Requests {
         self.queue.push_back_reserved(task);
     }
 
-    /// The two tasks of an interview wait behind the others.
+    /// The two tasks of an interview wait after the others.
     pub fn push_interview(&mut self, node: NodeId)
         requires { length self.old.queue + 2 ≤ QUEUE_CAPACITY }
         ensures { self.new ≡ after self.old (PushesInterview node) }
@@ -130,7 +144,7 @@ impl Requests {
         self.queue.push_back_reserved(Task::Second { node });
     }
 
-    /// The three tasks of a probe wait behind the others.
+    /// The three tasks of a probe wait after the others.
     pub fn push_probe(&mut self)
         requires { length self.old.queue + 3 ≤ QUEUE_CAPACITY }
         ensures { self.new ≡ after self.old PushesProbe }
@@ -193,7 +207,7 @@ impl Requests {
     pub fn begin_front(&mut self)
         requires idle { self.old.under_way ≡ None }
         requires paid { self.old.owes ≡ false }
-        ensures { self.new ≡ after self.old BeginsFront }
+        ensures { self.new ≡ after self.old BeginsPrefix }
     {
         if let Some(task) = self.queue.pop_front() {
             self.begin(Purpose::Housekeeping(task));

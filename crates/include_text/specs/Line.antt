@@ -71,7 +71,7 @@ line_of WLose n = Lose n
 line_of WRepeat n = Repeat n
 line_of WTick n = Tick n
 
--- the number behind a first word is the last word
+-- the number after a first word is the last word
 unfoldable pub line_by : IncludeWord → List (List ℕ) → Result IncludeLine LineFault
 line_by word ws = make (line_of word) (last (between_in (least_of word) (most_of word)) ws)
 

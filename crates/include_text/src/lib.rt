@@ -1,8 +1,8 @@
 //! The text of `include`: the lines that it reads, and the entries that it prints.
 //!
-//! It promises that a line is read exactly where the text is that line's, and else which fault is the first from the
-//! left; and that an entry is printed as its one text.
-//! The definitions stand in `specs/`: `Line` for the lines, `Entry` for the texts of entries.
+//! It promises that a text is read as a line exactly when it is that line's text, and otherwise answers the first fault
+//! from the left; and that an entry is printed as its one text.
+//! The definitions are in `specs/`: `Line` for the lines, `Entry` for the texts of entries.
 #![tactic(auto)]
 
 mod entry;

@@ -80,7 +80,8 @@ fn print_air(
     to: NodeId,
     payload: &[u8],
 ) -> Result<Bytes, NoMemory>
-    ensures { IfOk result (λ text. text ≡ codes "air " ++ (decimal frame ++ (codes " " ++ (decimal from ++ (codes ">" ++ (decimal to ++ (codes " via - " ++ encode_upper payload.now))))))) }
+    ensures { IfOk result (λ text. text ≡ codes "air " ++
+        (decimal frame ++ (codes " " ++ (decimal from ++ (codes ">" ++ (decimal to ++ (codes " via - " ++ encode_upper payload.now))))))) }
 {
     let from = from.number();
     let to = to.number();

@@ -55,7 +55,7 @@ fn read_words(word: &[u8], rest: &[u8]) -> Result<IncludeLine, LineFault>
     }
 }
 
-/// The line with this first word that has these words behind it.
+/// The line with this first word that has these words after it.
 #[tactic(auto, unfolding(crate::specs::Line::line_by))]
 fn read_rest(word: IncludeWord, rest: &[u8]) -> Result<IncludeLine, LineFault>
     ensures { result ≡ line_by word (words rest.now) }

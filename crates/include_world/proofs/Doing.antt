@@ -1,4 +1,4 @@
--- Events that are done: one, one after another, and a front of them.
+-- Events that are done: one, one after another, and a prefix of them.
 use Rattle.std.proofs.Common.{◌≡◌, ℕ, suc, ◌+◌, ◌-◌, ◌<◌, ◌≤◌, Option, Some, None, Result, Ok, Err, OnErr, List, [], ◌∷◌, ◌++◌, length, map, refl, ap, sym, subst, ◌∙◌, append_assoc, length-append, arith}
 use Rattle.std.proofs.lemmas.List.{append-nil, map-append}
 use Rattle.include_text.specs.declared.entry.IncludeEntry.{IncludeEntry}
@@ -122,18 +122,18 @@ one_arrived count old mid new before told all drawn a eight enough moves tells =
 pub tick_is : (a b c d : WorldState) (before one two all : List IncludeEntry) (draws : List (List ℕ)) → Did (Passes ∷ []) a b before one → length draws ≡ flying a.air
     → Did (map Lands draws) b c one two → Did (Ends ∷ []) c d two all → (events : List IncludeEvent) × IsTick a events × Did events a d before all
 tick_is a b c d before one two all draws passed each arrived ended =
-    let front = did_both (Passes ∷ []) (map Lands draws) a b c before one two passed arrived in
-    (Passes ∷ map Lands draws ++ Ends ∷ [], record { draws = draws; each = each; are = refl }, did_both (Passes ∷ map Lands draws) (Ends ∷ []) a c d before two all front ended)
+    let prefix = did_both (Passes ∷ []) (map Lands draws) a b c before one two passed arrived in
+    (Passes ∷ map Lands draws ++ Ends ∷ [], record { draws = draws; each = each; are = refl }, did_both (Passes ∷ map Lands draws) (Ends ∷ []) a c d before two all prefix ended)
 
 -- ticks were done; any that follow make them whole
 pub record Ticked (count done : ℕ) (old new : WorldState) (before all : List IncludeEntry) : Type 0 where
-  pub front : List IncludeEvent
-  pub did : Did front old new before all
-  pub completes : (more : List IncludeEvent) → IsTicks (count - done) new more → IsTicks count old (front ++ more)
+  pub prefix : List IncludeEvent
+  pub did : Did prefix old new before all
+  pub completes : (more : List IncludeEvent) → IsTicks (count - done) new more → IsTicks count old (prefix ++ more)
 
 pub not_ticked : (count : ℕ) (w : WorldState) (all : List IncludeEntry) → Ticked count 0 w w all all
 not_ticked count w all = record {
-  front = [];
+  prefix = [];
   did = did_nothing w w all all refl refl;
   completes = λ more is. let all : count - 0 ≡ count = omega arith in subst (λ (n : ℕ). IsTicks n w more) all is;
 }
@@ -146,19 +146,19 @@ pub ticked_more : (count done : ℕ) (old mid new : WorldState) (before told all
 ticked_more count done old mid new before told all enough t tick =
     let k = one_less count done enough in
     record {
-      front = t.front ++ tick.0;
-      did = did_both t.front tick.0 old mid new before told all t.did tick.2;
+      prefix = t.prefix ++ tick.0;
+      did = did_both t.prefix tick.0 old mid new before told all t.did tick.2;
       completes = λ more is.
           let next : IsTicks (suc k.0) mid (tick.0 ++ more) = (tick.0, more, refl, tick.1, subst (λ (w : WorldState). IsTicks k.0 w more) tick.2.state (subst (λ (n : ℕ). IsTicks n new more) k.2 is)) in
-          subst (λ (es : List IncludeEvent). IsTicks count old es) (sym (append_assoc t.front tick.0 more)) (t.completes (tick.0 ++ more) (subst (λ (n : ℕ). IsTicks n mid (tick.0 ++ more)) (sym k.1) next));
+          subst (λ (es : List IncludeEvent). IsTicks count old es) (sym (append_assoc t.prefix tick.0 more)) (t.completes (tick.0 ++ more) (subst (λ (n : ℕ). IsTicks n mid (tick.0 ++ more)) (sym k.1) next));
     }
 
 pub all_ticked : (count done : ℕ) (old new : WorldState) (before all : List IncludeEntry) → count ≤ done → Ticked count done old new before all
     → (events : List IncludeEvent) × IsTicks count old events × Did events old new before all
 all_ticked count done old new before all past t =
     let none : count - done ≡ 0 = omega arith in
-    let whole : IsTicks count old (t.front ++ []) = t.completes [] (subst (λ (n : ℕ). IsTicks n new []) (sym none) refl) in
-    (t.front, subst (λ (es : List IncludeEvent). IsTicks count old es) (append-nil t.front) whole, t.did)
+    let whole : IsTicks count old (t.prefix ++ []) = t.completes [] (subst (λ (n : ℕ). IsTicks n new []) (sym none) refl) in
+    (t.prefix, subst (λ (es : List IncludeEvent). IsTicks count old es) (append-nil t.prefix) whole, t.did)
 
 -- a line, from its own effect and its ticks
 pub line_is : (line : IncludeLine) (drawn : List ℕ) (a b c : WorldState) (before mid all : List IncludeEntry) → Did (Says line drawn ∷ []) a b before mid

@@ -177,8 +177,8 @@ named_at : (own text code : List ℕ) (first : ℕ) (bytes : List ℕ) → lengt
 named_at own text code first bytes n c e =
     let size : length bytes ≡ length text + 19 = length_of_layout own text code first n c e in
     let regroup : 0x98 ∷ 0x81 ∷ (own ++ (text ++ first ∷ code)) ≡ (0x98 ∷ 0x81 ∷ (own ++ text)) ++ first ∷ code = ap (λ l. 0x98 ∷ 0x81 ∷ l) (sym (append_assoc own text (first ∷ code))) in
-    let front : length (0x98 ∷ 0x81 ∷ (own ++ text)) ≡ length bytes - 9 = omega (arith, size, n, length-append own text) in
-    ap (λ l. slice_index l (length bytes - 9)) (e ∙ regroup) ∙ get_or_at (0x98 ∷ 0x81 ∷ (own ++ text)) first code 0 (length bytes - 9) front
+    let prefix : length (0x98 ∷ 0x81 ∷ (own ++ text)) ≡ length bytes - 9 = omega (arith, size, n, length-append own text) in
+    ap (λ l. slice_index l (length bytes - 9)) (e ∙ regroup) ∙ get_or_at (0x98 ∷ 0x81 ∷ (own ++ text)) first code 0 (length bytes - 9) prefix
 
 pub seals_text : (keys : Keys) (own nonce : List ℕ) (ends : SealEnds) (plain : List ℕ) → Seals keys own nonce ends plain (sealed_text keys own nonce ends plain)
 unfolding sealed_text

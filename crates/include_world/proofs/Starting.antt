@@ -121,12 +121,12 @@ near_does key node w Ends eight f n none = near_ends key node w n
 
 -- ---- a lock that took no key
 
-no_front : {A : Type 0} (xs ys : List A) → xs ++ ys ≡ [] → xs ≡ []
-no_front [] ys e = refl
-no_front (x ∷ xs) ys e = absurd cc
+no_prefix : {A : Type 0} (xs ys : List A) → xs ++ ys ≡ [] → xs ≡ []
+no_prefix [] ys e = refl
+no_prefix (x ∷ xs) ys e = absurd cc
 
-took_front : (node : ℕ) (xs ys : List IncludeEntry) → TookNone node (xs ++ ys) → TookNone node xs
-took_front node xs ys e = no_front (flat_map (key_taken node) xs) (flat_map (key_taken node) ys) (sym (flat_map-append (key_taken node) xs ys) ∙ e)
+took_prefix : (node : ℕ) (xs ys : List IncludeEntry) → TookNone node (xs ++ ys) → TookNone node xs
+took_prefix node xs ys e = no_prefix (flat_map (key_taken node) xs) (flat_map (key_taken node) ys) (sym (flat_map-append (key_taken node) xs ys) ∙ e)
 
 -- after a mark, or none
 reset_mark : (b : Bool) (before : Option Bool) (rest : List Bool) → (before ≡ Some true → ⊥) → ((x : Option Bool) → (x ≡ Some true → ⊥) → last_of x rest ≡ Some true → ⊥)
@@ -178,7 +178,7 @@ fresh_all key node T w (event ∷ events) drawn none f =
     (fresh_all key node (T ++ (does w event).entries) (does w event).world events drawn.1 rest (record {
       holds = next;
       near = near_does key node w event drawn.0 f.holds.fact f.near f.none;
-      none = still_none key node (T ++ (does w event).entries) (does w event).world next (took_front node (T ++ (does w event).entries) (entries_all (does w event).world events) rest);
+      none = still_none key node (T ++ (does w event).entries) (does w event).world next (took_prefix node (T ++ (does w event).entries) (entries_all (does w event).world events) rest);
     }))
 
 first_near : (key : List ℕ) (node : ℕ) → 1 ≤ node → node ≤ 232 → Near key node (first_world key) × ((joiner_of (first_world key) node).key ≡ None)

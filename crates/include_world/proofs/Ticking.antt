@@ -306,9 +306,9 @@ calm_ends key node w c = record {
   within = subst (λ (a : AirState). a.landed ≤ length a.frames) (sym (same_air_ends w)) c.within;
 }
 
-pub drawn_front : (xs ys : List IncludeEvent) → AllDrawn (xs ++ ys) → AllDrawn xs
-drawn_front [] ys d = tt
-drawn_front (x ∷ xs) ys d = (d.0, drawn_front xs ys d.1)
+pub drawn_prefix : (xs ys : List IncludeEvent) → AllDrawn (xs ++ ys) → AllDrawn xs
+drawn_prefix [] ys d = tt
+drawn_prefix (x ∷ xs) ys d = (d.0, drawn_prefix xs ys d.1)
 
 pub drawn_rest : (xs ys : List IncludeEvent) → AllDrawn (xs ++ ys) → AllDrawn ys
 drawn_rest [] ys d = d
@@ -336,7 +336,7 @@ tick_by key node left k w draws each drawn enough c a =
 tick : (key : List ℕ) (node left k : ℕ) (w : WorldState) (events : List IncludeEvent) → IsTick w events → AllDrawn events → 2 ≤ left → Calm key node w → Ahead node left (suc k) w
     → Calm key node (after_all w events) × Ahead node (left - 1) k (after_all w events)
 tick key node left k w events t drawn enough c a =
-    let landing_drawn : AllDrawn (map Lands t.draws) = drawn_front (map Lands t.draws) (Ends ∷ []) (drawn_of (subst (λ (es : List IncludeEvent). AllDrawn es) t.are drawn)) in
+    let landing_drawn : AllDrawn (map Lands t.draws) = drawn_prefix (map Lands t.draws) (Ends ∷ []) (drawn_of (subst (λ (es : List IncludeEvent). AllDrawn es) t.are drawn)) in
     subst (λ (es : List IncludeEvent). Calm key node (after_all w es) × Ahead node (left - 1) k (after_all w es)) (sym t.are)
     (tick_by key node left k w t.draws t.each landing_drawn enough c a)
   where
@@ -360,6 +360,6 @@ ticks_end key node left zero w events none drawn enough c (inl secure) = ap (λ 
 ticks_end key node left zero w events none drawn enough c (inr x) = absurd (no_rank x.0 x.4)
 ticks_end key node left (suc k) w events ts drawn enough c a =
     let both : AllDrawn (ts.0 ++ ts.1) = subst (λ (es : List IncludeEvent). AllDrawn es) ts.2 drawn in
-    let t = tick key node left k w ts.0 ts.3 (drawn_front ts.0 ts.1 both) (omega (arith, enough)) c a in
+    let t = tick key node left k w ts.0 ts.3 (drawn_prefix ts.0 ts.1 both) (omega (arith, enough)) c a in
     ap (λ (x : WorldState). is_secure x.includer node) (ap (λ (es : List IncludeEvent). after_all w es) ts.2 ∙ after_all-append w ts.0 ts.1)
     ∙ ticks_end key node (left - 1) k (after_all w ts.0) ts.1 ts.4 (drawn_rest ts.0 ts.1 both) (omega (arith, enough)) t.0 t.1

@@ -2,7 +2,20 @@
 
 ghost use Rattle.std.specs.Prelude.{◌≡◌, ◌+◌, ◌-◌, ◌^◌, ◌<◌, ◌≤◌, ◌∷◌, [], ◌++◌, length, IfOk, OnOk};
 ghost use Rattle.std.specs.Result.{result_err};
-ghost use Rattle.include_world.specs.Air.{first_air, arriving, air_entry, departing, forgetting, landing, losing_more, pair_of, sending, sent_entries, refusal_of, flight_at};
+ghost use Rattle.include_world.specs.Air.{
+  first_air,
+  arriving,
+  air_entry,
+  departing,
+  forgetting,
+  landing,
+  losing_more,
+  pair_of,
+  sending,
+  sent_entries,
+  refusal_of,
+  flight_at,
+};
 
 use crate::{Flight, Heading, Pair};
 use include_text::{IncludeEntry, IncludeRefusal};

@@ -16,6 +16,7 @@ pub fn what_is_said_is_so()
 /// eight ticks with no line between, `secure` is the last word on the node. That no more frames arrived than were sent is so of a
 /// new world, and each line keeps it.
 pub fn exchange_ends()
-    ensures { (key : List ℕ) (T : List AnyEntry) (world : WorldState) → Reached key T world → AllSent world → (node : ℕ) → 1 ≤ node → node ≤ 232 → TookNone node T → Accepts node world →
+    ensures { (key : List ℕ) (T : List AnyEntry) (world : WorldState) → Reached key T world → AllSent world → (node : ℕ) → 1 ≤ node →
+        node ≤ 232 → TookNone node T → Accepts node world →
         (events : List IncludeEvent) → AddsAndTicks node 8 world events → last_word node (T ++ entries_all world events) ≡ Some IsSecure }
 {}

@@ -4,7 +4,27 @@ ghost use Rattle.std.specs.Prelude.{◌≡◌, ℕ, ◌+◌, ◌-◌, ◌<◌, �
 ghost use Rattle.std.specs.List.{range_with_len};
 ghost use Rattle.include_world.specs.declared.flight.Heading.TheVariants.{Outward, Homeward};
 ghost use Rattle.include_world.specs.Air.{arriving, flying, refusal_of};
-ghost use Rattle.include_world.specs.World.{IncludeEvent, Says, Lands, Did, does, ends, passes, first_joiner, first_world, hears, hears_by, lands_by, adds, repeats, resets, said_entries, table_of, node_entries, tells};
+ghost use Rattle.include_world.specs.World.{
+  IncludeEvent,
+  Says,
+  Lands,
+  Did,
+  does,
+  ends,
+  passes,
+  first_joiner,
+  first_world,
+  hears,
+  hears_by,
+  lands_by,
+  adds,
+  repeats,
+  resets,
+  said_entries,
+  table_of,
+  node_entries,
+  tells,
+};
 ghost use Rattle.include_text.specs.declared.entry.IncludeEntry.{IncludeEntry as AnyEntry};
 ghost use Rattle.include_world.specs.Added.{Reached, TellsOn};
 ghost use Rattle.include_world.specs.Line.{IsLine, IsTick, IsTicks, ticks_of};
@@ -212,7 +232,8 @@ impl IncludeWorld {
     fn add(&mut self, node: NodeId, out: &mut List<IncludeEntry>) -> Result<(), NoMemory>
         requires { 11 ≤ out.old.room }
         ensures ok { OnOk result (self.new ≡ (adds self.old node self.old.includer.exchange).world) }
-        ensures outs { OnOk result (out.new.items ≡ out.old.items ++ IncludeEntry.Said (IncludeLine.Add node) ∷ (adds self.old node self.old.includer.exchange).entries) }
+        ensures outs { OnOk result (out.new.items ≡ out.old.items ++
+            IncludeEntry.Said (IncludeLine.Add node) ∷ (adds self.old node self.old.includer.exchange).entries) }
         ensures err { OnErr result (self.new ≡ self.old) }
         ensures no_outs { OnErr result (out.new.items ≡ out.old.items) }
     {
@@ -257,7 +278,8 @@ impl IncludeWorld {
     ) -> Result<(), NoMemory>
         requires { 11 ≤ out.old.room }
         ensures ok { OnOk result (self.new ≡ (repeats self.old number drawn (refusal_of self.old.air number)).world) }
-        ensures outs { OnOk result (out.new.items ≡ out.old.items ++ IncludeEntry.Said (IncludeLine.Repeat number) ∷ (repeats self.old number drawn (refusal_of self.old.air number)).entries) }
+        ensures outs { OnOk result (out.new.items ≡ out.old.items ++
+            IncludeEntry.Said (IncludeLine.Repeat number) ∷ (repeats self.old number drawn (refusal_of self.old.air number)).entries) }
         ensures err { OnErr result (self.new ≡ self.old) }
         ensures no_outs { OnErr result (out.new.items ≡ out.old.items) }
     {
@@ -411,7 +433,8 @@ impl IncludeWorld {
         draw: &mut D,
         out: &mut List<IncludeEntry>,
     ) -> Result<(), NoMemory>
-        ensures ok { OnOk result ((draws : Items (Items ℕ)) × (length draws ≡ flying self.old.air) × Did (map Lands draws) self.old self.new out.old.items out.new.items) }
+        ensures ok { OnOk result ((draws : Items (Items ℕ)) × (length draws ≡ flying self.old.air) ×
+            Did (map Lands draws) self.old self.new out.old.items out.new.items) }
         ensures err { OnErr result ((draws : Items (Items ℕ)) × Did (map Lands draws) self.old self.new out.old.items out.new.items) }
     {
         for _ in 0..self.air.flying() {

@@ -14,7 +14,7 @@ use Rattle.s0_session.specs.Sending.{Sending, taken}
 unfoldable pub keys_of : List ℕ → Keys
 keys_of key = record { encrypt = aes key (replicate 16 0xAA); code = aes key (replicate 16 0x55) }
 
--- the text behind the sequence byte of a message
+-- the text after the sequence byte of a message
 abbrev pub plain_in : Keys → List ℕ → List ℕ → List ℕ
 plain_in keys nonce bytes =
     ofb_from keys.encrypt (vector_of nonce bytes) 1 (take (length (cipher_text_in bytes) - 1) (drop 1 (cipher_text_in bytes)))

@@ -1,9 +1,48 @@
 //! The end of the host, which adds nodes.
 
-ghost use Rattle.std.specs.Prelude.{◌≡◌, ◌∷◌, ◌-◌, [], Option, Some, None, Ok, slice_index, IfOk, IfSome, OnOk, OnErr, IsSome, IsErrOf, ◌↔◌, is_some, true, false};
+ghost use Rattle.std.specs.Prelude.{
+  ◌≡◌,
+  ◌∷◌,
+  ◌-◌,
+  [],
+  Option,
+  Some,
+  None,
+  Ok,
+  slice_index,
+  IfOk,
+  IfSome,
+  OnOk,
+  OnErr,
+  IsSome,
+  IsErrOf,
+  ◌↔◌,
+  is_some,
+  true,
+  false,
+};
 ghost use Rattle.s0_session.specs.Nonces.{account_of, nonce_spent};
 ghost use Rattle.inclusion.specs.Messages.{IsSealed, nonce_named, scheme_get};
-ghost use Rattle.inclusion.specs.Including.{adding, asking, asks, exchange_after, failing_in, fresh_includer, gives_nonce, held_in, includer_takes, is_secure, is_verified, is_with, sealing, seals, takes_nonce, takes_scheme, takes_sealed, without_secure};
+ghost use Rattle.inclusion.specs.Including.{
+  adding,
+  asking,
+  asks,
+  exchange_after,
+  failing_in,
+  fresh_includer,
+  gives_nonce,
+  held_in,
+  includer_takes,
+  is_secure,
+  is_verified,
+  is_with,
+  sealing,
+  seals,
+  takes_nonce,
+  takes_scheme,
+  takes_sealed,
+  without_secure,
+};
 
 use crate::joiner::host;
 use crate::message::{
@@ -247,7 +286,8 @@ impl Includer {
     /// Whether a Security message names the live nonce and holds a Verify.
     fn is_verified(&self, node: NodeId, payload: &[u8]) -> Result<bool, NoMemory>
         requires { IsSealed payload.now }
-        ensures { IfOk result (λ told. told ≡ is_verified (held_in self.now node payload.now (nonce_spent (account_of self.now.book node) (nonce_named payload.now)))) }
+        ensures { IfOk result (λ told. told ≡
+            is_verified (held_in self.now node payload.now (nonce_spent (account_of self.now.book node) (nonce_named payload.now)))) }
     {
         let Some(nonce) = self.live(node, nonce_named(payload)) else {
             return Ok(false);

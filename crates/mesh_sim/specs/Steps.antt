@@ -255,7 +255,7 @@ pub record Delivers (old : AirState) (devices : List State) (new : AirState) (la
 abbrev pub IsCut : (AirStep → Type 0) → Mesh → List State → Type 0
 IsCut Which mesh later = (later ≡ mesh.devices) ⊎ ((step : AirStep) × Which step × MayHappen mesh step × (later ≡ (mesh_after mesh step).devices))
 
--- a front was done, and told whole; the device of one further arrival may have done its part
+-- a prefix was done, and told whole; the device of one further arrival may have done its part
 pub record Stops (old : AirState) (devices : List State) (new : AirState) (later : List State) (before all : List AirEvent) : Type 0 where
   pub steps : List AirStep
   pub arrivals : All IsArrival steps

@@ -1,6 +1,28 @@
 //! The air, but for what is heard: links, joined nodes, marks, and frames that go on it.
 
-ghost use Rattle.std.specs.Prelude.{◌≡◌, ◌≢◌, ◌↔◌, ◌+◌, ◌-◌, ◌<◌, ◌≤◌, ◌^◌, ◌⊎◌, true, false, length, option_map, IfOk, IfSome, OnOk, OnErr, Option, Some, None, Ok};
+ghost use Rattle.std.specs.Prelude.{
+  ◌≡◌,
+  ◌≢◌,
+  ◌↔◌,
+  ◌+◌,
+  ◌-◌,
+  ◌<◌,
+  ◌≤◌,
+  ◌^◌,
+  ◌⊎◌,
+  true,
+  false,
+  length,
+  option_map,
+  IfOk,
+  IfSome,
+  OnOk,
+  OnErr,
+  Option,
+  Some,
+  None,
+  Ok,
+};
 ghost use Rattle.std.specs.Option.{option_copied, ForSome};
 ghost use Rattle.route_table.specs.declared.route.Route.{Route as TheRoute};
 ghost use Rattle.route_table.specs.Network.{linked};

@@ -1,6 +1,27 @@
 //! Frames that arrive, and what a device does that hears one.
 
-ghost use Rattle.std.specs.Prelude.{◌≡◌, ℕ, ◌+◌, ◌-◌, ◌<◌, ◌≤◌, ◌^◌, [], ◌∷◌, ◌++◌, length, map, option_map, Option, Some, None, OnOk, OnErr, IfOk, List as Items};
+ghost use Rattle.std.specs.Prelude.{
+  ◌≡◌,
+  ℕ,
+  ◌+◌,
+  ◌-◌,
+  ◌<◌,
+  ◌≤◌,
+  ◌^◌,
+  [],
+  ◌∷◌,
+  ◌++◌,
+  length,
+  map,
+  option_map,
+  Option,
+  Some,
+  None,
+  OnOk,
+  OnErr,
+  IfOk,
+  List as Items,
+};
 ghost use Rattle.std.specs.Option.{ForSome};
 ghost use Rattle.route_table.specs.declared.route.Route.{Route as TheRoute};
 ghost use Rattle.device_sim.specs.Event.{Hears, device_after, device_replies};
@@ -9,7 +30,27 @@ ghost use Rattle.air_frames.specs.declared.frame.Heading.TheVariants.{Homeward};
 ghost use Rattle.mesh_sim.specs.Air.{is_joined, departing};
 ghost use Rattle.mesh_sim.specs.Routes.{IsRoute, backwards};
 ghost use Rattle.mesh_sim.specs.Fates.{HearsWithin};
-ghost use Rattle.mesh_sim.specs.Steps.{Arrives, Did, Stops, IsArrival, IsCut, Delivers, landed, acknowledged, status_of, done_of, changed, sent_event, answered, answers, answered_if, answers_if, HasHeard, HasPerhaps, Comes};
+ghost use Rattle.mesh_sim.specs.Steps.{
+  Arrives,
+  Did,
+  Stops,
+  IsArrival,
+  IsCut,
+  Delivers,
+  landed,
+  acknowledged,
+  status_of,
+  done_of,
+  changed,
+  sent_event,
+  answered,
+  answers,
+  answered_if,
+  answers_if,
+  HasHeard,
+  HasPerhaps,
+  Comes,
+};
 
 use crate::air::{NO_ROUTE, copy_of};
 use crate::devices::{changes_of, hear_one};
@@ -55,7 +96,7 @@ pub(crate) struct Arrival {
 impl Air {
     /// Delivers each frame that is on the air now, in the order of numbers. At each what became of it is first, then the
     /// changes of the device that heard it, then the frames that the device sends, then the end of a frame of node 1.
-    /// `draw` gives the bytes for the nonces of the devices. Where memory is wanting a front of that was done, and the
+    /// `draw` gives the bytes for the nonces of the devices. Where memory is wanting a prefix of that was done, and the
     /// device of one further frame may have heard.
     pub fn deliver<D: Draw>(
         &mut self,
@@ -64,8 +105,10 @@ impl Air {
         out: &mut List<AirEvent>,
     ) -> Result<(), NoMemory>
         requires few { length devices.old.items < 2 ^ 64 }
-        ensures ok { OnOk result (Delivers self.old.state (map (λ d. state d) devices.old.items) self.new.state (map (λ d. state d) devices.new.items) out.old.items out.new.items) }
-        ensures err { OnErr result (Stops self.old.state (map (λ d. state d) devices.old.items) self.new.state (map (λ d. state d) devices.new.items) out.old.items out.new.items) }
+        ensures ok { OnOk result (Delivers self.old.state (map (λ d. state d) devices.old.items) self.new.state
+            (map (λ d. state d) devices.new.items) out.old.items out.new.items) }
+        ensures err { OnErr result (Stops self.old.state (map (λ d. state d) devices.old.items) self.new.state
+            (map (λ d. state d) devices.new.items) out.old.items out.new.items) }
         ensures kept { length devices.new.items ≡ length devices.old.items }
     {
         for _ in 0..self.frames.flying() {
@@ -93,8 +136,10 @@ impl Air {
         requires flying { self.old.state.frames.landed < self.old.state.frames.sent }
         ensures ok { OnOk result ((drawn : Items ℕ) × (route : Option TheRoute) × Did (Arrives drawn route ∷ [])
             self.old.state (map (λ d. state d) devices.old.items) self.new.state (map (λ d. state d) devices.new.items) out.old.items out.new.items) }
-        ensures err { OnErr result (Stops self.old.state (map (λ d. state d) devices.old.items) self.new.state (map (λ d. state d) devices.new.items) out.old.items out.new.items) }
-        ensures cut { OnErr result (IsCut IsArrival (record { air = self.old.state; devices = map (λ d. state d) devices.old.items }) (map (λ d. state d) devices.new.items)) }
+        ensures err { OnErr result (Stops self.old.state (map (λ d. state d) devices.old.items) self.new.state
+            (map (λ d. state d) devices.new.items) out.old.items out.new.items) }
+        ensures cut { OnErr result (IsCut IsArrival (record { air = self.old.state; devices = map (λ d. state d) devices.old.items })
+            (map (λ d. state d) devices.new.items)) }
         ensures kept { length devices.new.items ≡ length devices.old.items }
     {
         let coming = self.coming(devices);
@@ -126,7 +171,8 @@ impl Air {
     fn coming(&self, devices: &Vec<Box<dyn Device>>) -> Coming
         requires few { length devices.now.items < 2 ^ 64 }
         requires flying { self.now.state.frames.landed < self.now.state.frames.sent }
-        ensures comes { Comes self.now.state (map (λ d. state d) devices.now.items) result.heading result.fate result.arrival.number result.arrival.node result.arrival.payload }
+        ensures comes { Comes self.now.state
+            (map (λ d. state d) devices.now.items) result.heading result.fate result.arrival.number result.arrival.node result.arrival.payload }
         ensures within { HearsWithin result.fate (length devices.now.items) }
     {
         let Some(frame) = self.frames.next() else {
@@ -175,7 +221,8 @@ impl Air {
     fn arrive_at_chip(&mut self, arrival: Arrival, out: &mut List<AirEvent>) -> Result<(), NoMemory>
         requires { self.old.state.frames.landed < self.old.state.frames.sent }
         ensures ok { OnOk result (self.new.state ≡ landed self.old.state) }
-        ensures outs { OnOk result (out.new.items ≡ out.old.items ++ AirEvent.Heard arrival.number ∷ AirEvent.ToChip arrival.number arrival.node arrival.payload ∷ []) }
+        ensures outs { OnOk result (out.new.items ≡ out.old.items ++
+            AirEvent.Heard arrival.number ∷ AirEvent.ToChip arrival.number arrival.node arrival.payload ∷ []) }
         ensures err { OnErr result (self.new.state ≡ self.old.state) }
         ensures no_outs { OnErr result (out.new.items ≡ out.old.items) }
     {
@@ -278,7 +325,8 @@ impl Air {
         requires out_room { hearing.now.changes + 10 ≤ out.old.room }
         requires places { hearing.now.first_change + hearing.now.changes < 2 ^ 64 }
         requires sound { ForSome hearing.now.way (λ r. IsSound r) }
-        ensures state { self.new.state ≡ answered_if (is_joined self.old.state arrival.now.node) self.old.state arrival.now.node hearing.now.way hearing.now.replies }
+        ensures state { self.new.state ≡
+            answered_if (is_joined self.old.state arrival.now.node) self.old.state arrival.now.node hearing.now.way hearing.now.replies }
         ensures outs { out.new.items ≡ out.old.items ++ AirEvent.Heard arrival.now.number
             ∷ changed arrival.now.node hearing.now.first_change hearing.now.changes
             ++ answers_if (is_joined self.old.state arrival.now.node) self.old.state arrival.now.node hearing.now.way hearing.now.replies }
@@ -383,7 +431,8 @@ fn enter_changes(node: NodeId, first: u64, changes: u64, out: &mut List<AirEvent
 
 /// Enters that a frame was heard by node 1.
 pub(crate) fn enter_at_chip(arrival: Arrival, out: &mut List<AirEvent>) -> Result<(), NoMemory>
-    ensures outs { OnOk result (out.new.items ≡ out.old.items ++ AirEvent.Heard arrival.number ∷ AirEvent.ToChip arrival.number arrival.node arrival.payload ∷ []) }
+    ensures outs { OnOk result (out.new.items ≡ out.old.items ++
+        AirEvent.Heard arrival.number ∷ AirEvent.ToChip arrival.number arrival.node arrival.payload ∷ []) }
     ensures no_outs { OnErr result (out.new.items ≡ out.old.items) }
 {
     out.reserve(2)?;

@@ -35,15 +35,18 @@ impl Air {
         out: &mut List<AirEvent>,
     ) -> Result<(), RepeatFault>
         requires few { length devices.old.items < 2 ^ 64 }
-        ensures refused { MatchResult result (λ _. refusal_of self.old.state.frames frame ≡ None) (λ fault. IsFault (refusal_of self.old.state.frames frame) fault) }
+        ensures refused { MatchResult result (λ _. refusal_of self.old.state.frames frame ≡ None)
+            (λ fault. IsFault (refusal_of self.old.state.frames frame) fault) }
         ensures by_history { (log : Items Mark) → IsOf log self.old.state.frames
             → MatchResult result (λ _. refusal_in log frame ≡ None) (λ fault. IsFault (refusal_in log frame) fault) }
-        ensures still { (refusal : Refused) → refusal_of self.old.state.frames frame ≡ Some refusal → map (λ d. state d) devices.new.items ≡ map (λ d. state d) devices.old.items }
+        ensures still { (refusal : Refused) → refusal_of self.old.state.frames frame ≡ Some refusal →
+            map (λ d. state d) devices.new.items ≡ map (λ d. state d) devices.old.items }
         ensures ok { OnOk result ((drawn : Items ℕ) × (route : Option TheRoute) × Did (Repeats frame drawn route ∷ [])
             self.old.state (map (λ d. state d) devices.old.items) self.new.state (map (λ d. state d) devices.new.items) out.old.items out.new.items) }
         ensures err { OnErr result (self.new.state ≡ self.old.state) }
         ensures no_outs { OnErr result (out.new.items ≡ out.old.items) }
-        ensures cut { OnErr result (IsCut (IsRepeatOf frame) (record { air = self.old.state; devices = map (λ d. state d) devices.old.items }) (map (λ d. state d) devices.new.items)) }
+        ensures cut { OnErr result (IsCut (IsRepeatOf frame)
+            (record { air = self.old.state; devices = map (λ d. state d) devices.old.items }) (map (λ d. state d) devices.new.items)) }
         ensures kept { length devices.new.items ≡ length devices.old.items }
     {
         ages_are_those_of_the_history();
@@ -84,7 +87,8 @@ impl Air {
             self.new.state (map (λ d. state d) devices.new.items) arrival.now.number arrival.now.node arrival.now.payload drawn route out.old.items out.new.items) }
         ensures err { OnErr result (self.new.state ≡ self.old.state) }
         ensures no_outs { OnErr result (out.new.items ≡ out.old.items) }
-        ensures cut { OnErr result (IsHeardPerhaps self.old.state (map (λ d. state d) devices.old.items) (map (λ d. state d) devices.new.items) arrival.now.node arrival.now.payload) }
+        ensures cut { OnErr result (IsHeardPerhaps self.old.state (map (λ d. state d) devices.old.items)
+            (map (λ d. state d) devices.new.items) arrival.now.node arrival.now.payload) }
         ensures kept { length devices.new.items ≡ length devices.old.items }
     {
         match listener_in(devices, arrival.node) {

@@ -4,7 +4,7 @@ use Rattle.std.specs.Prelude.{String, string_bytes}
 use Rattle.std.proofs.lemmas.List.{take_more, drop_all, map-append, length-map}
 use Rattle.std.proofs.lemmas.List.Elements.{All-push}
 use Rattle.std.proofs.Math.ListN.{get_or-map}
-use Rattle.host_events.specs.State.{HostState}
+use Rattle.host_model.specs.State.{HostState}
 use Rattle.port_run.specs.declared.asking.Answer.{Answer}
 use Rattle.port_run.specs.declared.line.PortLine.{PortLine}
 use Rattle.port_run.specs.Ending.{is_done, AreDone}

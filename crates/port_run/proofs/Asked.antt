@@ -1,17 +1,17 @@
 -- Lines that ask the host alone and are taken.
 use Rattle.std.proofs.Common.{◌≡◌, ℕ, List, [], ◌∷◌, length, refl, sym, subst}
 use Rattle.std.specs.Prelude.{Option, None}
-use Rattle.zw_order.specs.declared.order.Word.{Word}
+use Rattle.zw_base.specs.declared.order.Word.{Word}
 use Rattle.zw_text.specs.declared.line.Line.{Line}
 use Rattle.zw_text.specs.declared.line.Line.TheVariants.{Send, Get, Interview, Probe}
 use Rattle.host_orders.specs.Errands.{send_refusal, send_text, get_refusal, get_text}
 use Rattle.host_orders.specs.Refusals.{classes_of}
 use Rattle.host_requests.specs.declared.task.Task.TheVariants.{Plain}
-use Rattle.host_events.specs.State.{HostParts, node_of}
-use Rattle.host_events.specs.Events.{Queues, Queues_interview, Queues_probe}
-use Rattle.host_events.specs.May.{known_of}
-use Rattle.host_events.specs.Asking.{interview_refusal, places_refusal}
-use Rattle.host_taking.specs.Calls.{Are, DoesAlone}
+use Rattle.host_model.specs.State.{HostParts, node_of}
+use Rattle.host_model.specs.Events.{Queues, Queues_interview, Queues_probe}
+use Rattle.host_model.specs.May.{known_of}
+use Rattle.host_model.specs.Asking.{interview_refusal, places_refusal}
+use Rattle.host_step_bytes.specs.Calls.{Are, DoesAlone}
 use Rattle.port_run.specs.declared.asking.Answer.TheVariants.{Taken}
 use Rattle.port_run.specs.Steps.{place, Asked}
 

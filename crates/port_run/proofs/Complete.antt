@@ -6,9 +6,9 @@ use Rattle.zw_words.specs.declared.fault.LineFault.{LineFault}
 use Rattle.s0_crypto.specs.declared.key_pair.Keys.{Keys}
 use Rattle.host_core.specs.Network.{keys_of}
 use Rattle.host_core.specs.declared.opening.OpenFault.TheVariants as opening
-use Rattle.scenario_run.specs.Run.{IsShort}
-use Rattle.scenario_run.specs.declared.status.Status.{Status}
-use Rattle.scenario_run.specs.declared.status.Status.TheVariants as status
+use Rattle.run_lines.specs.Run.{IsShort}
+use Rattle.run_lines.specs.declared.status.Status.{Status}
+use Rattle.run_lines.specs.declared.status.Status.TheVariants as status
 use Rattle.port_run.specs.declared.ending.Served.{Served}
 use Rattle.port_run.specs.declared.ending.Served.TheVariants as served
 use Rattle.port_run.specs.declared.line.PortLine.{PortLine}

@@ -4,10 +4,10 @@ use Rattle.std.specs.Prelude.{Option, Some, None}
 use Rattle.std.proofs.lemmas.Grind.{flat_map-append}
 use Rattle.std.specs.Io.KnownBytes.{Keeps, Consumes, Appends}
 use Rattle.std.proofs.KnownBytes.{Keeps-refl, Keeps-trans, Appends-nil, Appends-trans}
-use Rattle.scenario_run.specs.Writing.{AppendsFront}
-use Rattle.scenario_run.proofs.Pieces.{AppendsFront-append}
-use Rattle.line_stream.specs.declared.reader.TheConstants.{MAX_INPUT}
-use Rattle.host_events.specs.declared.out.HostOut.{HostOut}
+use Rattle.run_lines.specs.Writing.{AppendsPrefix}
+use Rattle.run_lines.proofs.Pieces.{AppendsPrefix-append}
+use Rattle.run_lines.specs.declared.reader.TheConstants.{MAX_INPUT}
+use Rattle.host_model.specs.declared.out.HostOut.{HostOut}
 use Rattle.port_run.specs.declared.stop.Stop.{Stop}
 use Rattle.port_run.specs.declared.stop.Stop.TheVariants.{ReadFault, WriteFault, InputTooLong, NoMemory}
 use Rattle.port_run.specs.Steps.{Place, Step, Asks, Takes, Rests, Ticks, Pumps, Ran, AllRan}
@@ -41,7 +41,7 @@ halts_after InputTooLong first later a b c s t u one two = wrote_both first late
 halts_after WriteFault first later a b c s t u one two = record {
   outs = one.outs ++ two.outs;
   ran = ran_both first later a b c one.outs two.outs one.ran two.ran;
-  written = subst (λ (l : List ℕ). AppendsFront s u l) (sym (units-append one.outs two.outs)) (AppendsFront-append s t u (units_of one.outs) (units_of two.outs) one.written two.written);
+  written = subst (λ (l : List ℕ). AppendsPrefix s u l) (sym (units-append one.outs two.outs)) (AppendsPrefix-append s t u (units_of one.outs) (units_of two.outs) one.written two.written);
 }
 halts_after NoMemory first later a b c s t u one two = record {
   mid = two.mid;
@@ -57,7 +57,7 @@ halts_after NoMemory first later a b c s t u one two = record {
     rose = two.did.rose;
     never_falls = two.did.never_falls;
   };
-  written = subst (λ (l : List ℕ). AppendsFront s u l) (sym (units-append one.outs two.all)) (AppendsFront-append s t u (units_of one.outs) (units_of two.all) one.written two.written);
+  written = subst (λ (l : List ℕ). AppendsPrefix s u l) (sym (units-append one.outs two.all)) (AppendsPrefix-append s t u (units_of one.outs) (units_of two.all) one.written two.written);
 }
 
 -- ---- what is read

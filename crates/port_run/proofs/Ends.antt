@@ -1,11 +1,11 @@
 -- How a run ends, from what its calls answer.
 use Rattle.std.proofs.Common.{◌≡◌, ℕ, ◌≤◌, List, [], Result, Ok, Err, inl, inr, refl, sym, subst, arith}
 use Rattle.std.specs.Prelude.{Option, OnOk, IfErr, MatchResult}
-use Rattle.line_stream.specs.declared.reader.TheConstants.{MAX_INPUT}
+use Rattle.run_lines.specs.declared.reader.TheConstants.{MAX_INPUT}
 use Rattle.s0_crypto.specs.declared.key_pair.Keys.{Keys}
 use Rattle.host_keep.specs.Keeping.{OptAdds}
-use Rattle.host_events.proofs.Doing.{none_added}
-use Rattle.host_events.specs.State.{HostParts}
+use Rattle.host_model.proofs.Doing.{none_added}
+use Rattle.host_model.specs.State.{HostParts}
 use Rattle.host_core.specs.Opening.{Opens}
 use Rattle.port_run.specs.declared.asking.Answer.{Answer}
 use Rattle.port_run.specs.declared.line.PortLine.{PortLine}

@@ -1,7 +1,7 @@
 -- Calls one after another, as they answer.
 use Rattle.std.proofs.Common.{ℕ, ◌≤◌, List, ◌++◌, Result, Ok, Err, ap, sym, ◌∙◌, append_assoc}
 use Rattle.std.specs.Prelude.{Option, OnOk, IfErr}
-use Rattle.line_stream.specs.declared.reader.TheConstants.{MAX_INPUT}
+use Rattle.run_lines.specs.declared.reader.TheConstants.{MAX_INPUT}
 use Rattle.port_run.specs.declared.stop.Stop.{Stop}
 use Rattle.port_run.specs.Steps.{Place, Step}
 use Rattle.port_run.specs.Schedule.{CutIn}
@@ -35,13 +35,13 @@ pub broke_still : (Cut Whole : Stop → List Step → Type 0) (stop : Stop) (a b
     → BrokeStill Whole stop a b s t
 broke_still Cut Whole stop a b s t so one = λ l n within. broke_as Cut Whole stop a b s t l l n (one l n within) so
 
--- a front of a front
-pub cut-front : (whole after : List Step) (stop : Stop) (steps : List Step) → CutIn whole stop steps → CutIn (whole ++ after) stop steps
-cut-front whole after stop steps (late, (rest, are)) = (late, (rest ++ after, ap (λ (l : List Step). l ++ after) are ∙ append_assoc steps rest after))
+-- a prefix of a prefix
+pub cut-prefix : (whole after : List Step) (stop : Stop) (steps : List Step) → CutIn whole stop steps → CutIn (whole ++ after) stop steps
+cut-prefix whole after stop steps (late, (rest, are)) = (late, (rest ++ after, ap (λ (l : List Step). l ++ after) are ∙ append_assoc steps rest after))
 
--- what comes behind
-pub cut-behind : (before whole : List Step) (stop : Stop) (steps : List Step) → CutIn whole stop steps → CutIn (before ++ whole) stop (before ++ steps)
-cut-behind before whole stop steps (late, (rest, are)) = (late, (rest, ap (λ (l : List Step). before ++ l) are ∙ sym (append_assoc before steps rest)))
+-- what comes after
+pub cut-following : (before whole : List Step) (stop : Stop) (steps : List Step) → CutIn whole stop steps → CutIn (before ++ whole) stop (before ++ steps)
+cut-following before whole stop steps (late, (rest, are)) = (late, (rest, ap (λ (l : List Step). before ++ l) are ∙ sym (append_assoc before steps rest)))
 
 pub still_both : (first later : List Step) (a b c : Place) (s t u : Option (List ℕ)) → WentStill first a b s t → WentStill later b c t u → WentStill (first ++ later) a c s u
 still_both first later a b c s t u one two = λ l n. went_both first later a b c s t u l l l n n n (one l n) (two l n)

@@ -3,7 +3,7 @@ use Rattle.std.proofs.Common.{◌≡◌, ℕ, suc, ◌+◌, ◌≤◌, ◌<◌, 
 use Rattle.std.specs.Prelude.{Option, OnOk, IfOk, IfErr}
 use Rattle.std.proofs.lemmas.List.{take_more, drop_all}
 use Rattle.std.proofs.Math.Seq.{drop-cons}
-use Rattle.line_stream.specs.declared.reader.TheConstants.{MAX_INPUT}
+use Rattle.run_lines.specs.declared.reader.TheConstants.{MAX_INPUT}
 use Rattle.port_run.specs.declared.asking.Answer.{Answer}
 use Rattle.zw_text.specs.declared.line.Line.{Line}
 use Rattle.port_run.specs.declared.line.PortLine.{PortLine}

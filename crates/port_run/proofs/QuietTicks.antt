@@ -51,8 +51,8 @@ follow_first rested (Pumps ∷ first) later both = follow_first false first late
 follow_in : (whole : List Step) (stop : Stop) (steps : List Step) → Follow false whole → CutIn whole stop steps → Follow false steps
 follow_in whole stop steps follow (late, (rest, are)) = follow_first false steps rest (subst (λ (l : List Step). Follow false l) are follow)
 
-follow_behind : (before whole : List Step) (stop : Stop) (steps : List Step) → Follow false (before ++ whole) → CutIn whole stop steps → Follow false (before ++ steps)
-follow_behind before whole stop steps follow (late, (rest, are)) =
+follow_after : (before whole : List Step) (stop : Stop) (steps : List Step) → Follow false (before ++ whole) → CutIn whole stop steps → Follow false (before ++ steps)
+follow_after before whole stop steps follow (late, (rest, are)) =
     follow_first false (before ++ steps) rest (subst (λ (l : List Step). Follow false l) (ap (λ (l : List Step). before ++ l) are ∙ sym (append_assoc before steps rest)) follow)
 
 -- ---- turns
@@ -107,7 +107,7 @@ taking_follows : (bytes : List ℕ) (stop : Stop) (steps : List Step) → CutTak
 taking_follows bytes ReadFault steps cut = absurd cut
 taking_follows bytes InputTooLong steps cut = absurd cut
 taking_follows bytes WriteFault steps cut = subst (λ (l : List Step). Follow false l) (sym cut) tt
-taking_follows bytes NoMemory steps (front, rest, parts, cut) = subst (λ (l : List Step). Follow false l) (sym cut) tt
+taking_follows bytes NoMemory steps (prefix, rest, parts, cut) = subst (λ (l : List Step). Follow false l) (sym cut) tt
 
 read_follows : (bytes : List ℕ) (stop : Stop) (steps : List Step) → CutRead bytes stop steps → Follow false steps
 read_follows bytes stop steps (some, inl cut) = follow_in (Takes bytes ∷ Pumps ∷ []) stop steps tt cut
@@ -116,7 +116,7 @@ read_follows bytes stop steps (some, inr cut) = taking_follows bytes stop steps 
 in_turn_follows : (left : ℕ) (turn : Turn) (stop : Stop) (steps : List Step) → IsTurn is_quiet left turn → CutSteps turn stop steps → Follow false steps
 in_turn_follows left turn stop steps is (inl cut) = read_follows turn.piece stop steps cut
 in_turn_follows left turn stop steps is (inr (ticks, are, cut)) =
-    subst (λ (l : List Step). Follow false l) (sym are) (follow_behind (piece_steps turn.piece) (tick_steps turn.ticks) stop ticks (turn_follows left turn.piece turn.ticks is) cut)
+    subst (λ (l : List Step). Follow false l) (sym are) (follow_after (piece_steps turn.piece) (tick_steps turn.ticks) stop ticks (turn_follows left turn.piece turn.ticks is) cut)
 
 cut_turn_follows : (left : ℕ) (stop : Stop) (steps : List Step) → CutTurn is_quiet left stop steps → Follow false steps
 cut_turn_follows left ReadFault steps cut = subst (λ (l : List Step). Follow false l) (sym cut) tt

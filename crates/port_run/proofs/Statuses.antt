@@ -1,6 +1,6 @@
 -- Which end a status is of.
 use Rattle.std.proofs.Common.{◌≡◌, refl}
-use Rattle.scenario_run.specs.declared.status.Status.TheVariants as status
+use Rattle.run_lines.specs.declared.status.Status.TheVariants as status
 use Rattle.host_core.specs.declared.opening.OpenFault.TheVariants as opening
 use Rattle.port_run.specs.declared.ending.Served.{Served}
 use Rattle.port_run.specs.declared.ending.Served.TheVariants as served

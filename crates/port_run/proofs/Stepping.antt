@@ -3,12 +3,12 @@ use Rattle.std.proofs.Common.{◌≡◌, ℕ, suc, ◌+◌, ◌≤◌, ◌<◌, 
 use Rattle.std.specs.Prelude.{Option, Some, None, OnOk, IfErr}
 use Rattle.std.specs.Io.KnownBytes.{Consumes, Appends}
 use Rattle.std.proofs.KnownBytes.{Consumes-nil, Appends-nil, Keeps-refl}
-use Rattle.scenario_run.specs.Writing.{AppendsFront}
-use Rattle.line_stream.specs.declared.reader.TheConstants.{PIECE, MAX_INPUT}
-use Rattle.host_events.specs.State.{HostParts}
-use Rattle.host_events.specs.declared.out.HostOut.{HostOut}
-use Rattle.host_events.proofs.Doing.{none_added, did_nothing}
-use Rattle.host_taking.specs.Calls.{beside, Stops}
+use Rattle.run_lines.specs.Writing.{AppendsPrefix}
+use Rattle.run_lines.specs.declared.reader.TheConstants.{PIECE, MAX_INPUT}
+use Rattle.host_model.specs.State.{HostParts}
+use Rattle.host_model.specs.declared.out.HostOut.{HostOut}
+use Rattle.host_model.proofs.Doing.{none_added, did_nothing}
+use Rattle.host_step_bytes.specs.Calls.{beside, Stops}
 use Rattle.port_run.specs.declared.stop.Stop.{Stop}
 use Rattle.port_run.specs.declared.stop.Stop.TheVariants.{ReadFault, WriteFault, InputTooLong, NoMemory}
 use Rattle.port_run.specs.Steps.{Place, Step, Asks, Takes, Ticks, Pumps, Ran}
@@ -16,12 +16,12 @@ use Rattle.port_run.specs.Schedule.{IsLate}
 use Rattle.port_run.specs.Serving.{units_of, WritesPart, Halts, bytes_of, Reads, Went, EndsReading, Broke}
 use Rattle.port_run.proofs.Doing.{units-append, ran_one, went_one}
 use Rattle.port_run.proofs.Joining.{WentStill, BrokeStill}
-use Rattle.scenario_run.proofs.Pieces.{AppendsFront-append, AppendsFront-more}
+use Rattle.run_lines.proofs.Pieces.{AppendsPrefix-append, AppendsPrefix-more}
 use Rattle.serial_frame.specs.Stream.{after_tick}
-use Rattle.host_taking.specs.Calls.{Does, Are, scene}
-use Rattle.host_events.specs.Pumping.{Pumps as pump_events}
-use Rattle.host_events.specs.Ticking.{tick_events}
-use Rattle.host_events.specs.Taking.{Fed, FedFront}
+use Rattle.host_step_bytes.specs.Calls.{Does, Are, scene}
+use Rattle.host_model.specs.Pumping.{Pumps as pump_events}
+use Rattle.host_model.specs.Ticking.{tick_events}
+use Rattle.host_model.specs.Taking.{Fed, FedPrefix}
 use Rattle.port_run.specs.Steps.{place, Asked, IsStill}
 use Rattle.port_run.specs.Schedule.{CutPlain}
 use Rattle.zw_text.specs.declared.line.Line.{Line}
@@ -32,13 +32,13 @@ use Rattle.port_run.specs.Serving.{unit_bytes}
 use Rattle.std.proofs.Math.Seq.{drop-cons}
 
 -- bytes that are read in two parts
-consumed_parts : (l m : Option (List ℕ)) (front left : List ℕ) → Consumes l m (front ++ left) → (k : Option (List ℕ)) × Consumes l k front × Consumes k m left
-consumed_parts None m front left took = (None, tt, tt)
-consumed_parts (Some xs) None front left took = absurd took
-consumed_parts (Some xs) (Some ys) front left took = (Some (left ++ ys), took ∙ append_assoc front left ys, refl)
+consumed_parts : (l m : Option (List ℕ)) (prefix left : List ℕ) → Consumes l m (prefix ++ left) → (k : Option (List ℕ)) × Consumes l k prefix × Consumes k m left
+consumed_parts None m prefix left took = (None, tt, tt)
+consumed_parts (Some xs) None prefix left took = absurd took
+consumed_parts (Some xs) (Some ys) prefix left took = (Some (left ++ ys), took ∙ append_assoc prefix left ys, refl)
 
-front_nothing : (s : Option (List ℕ)) (xs : List ℕ) → AppendsFront s s xs
-front_nothing s xs = ([], (xs, refl), Appends-nil s)
+prefix_nothing : (s : Option (List ℕ)) (xs : List ℕ) → AppendsPrefix s s xs
+prefix_nothing s xs = ([], (xs, refl), Appends-nil s)
 
 -- the step was done, and its units were written in part
 half : (stop : Stop) (step : Step) (old new : Place) (outs : List HostOut) (s t : Option (List ℕ)) → Ran step old new outs → WritesPart stop s t (units_of outs) → Halts stop (step ∷ []) old new s t
@@ -89,7 +89,7 @@ broke_host Cut old new outs s l n stops within cut = record {
     ran = (refl, refl);
     events = stops.events;
     did = stops.did;
-    written = front_nothing s (units_of outs);
+    written = prefix_nothing s (units_of outs);
   };
   mid = l;
   reads = Keeps-refl l;
@@ -136,25 +136,25 @@ take_err (Err stop) bytes old new outs shown s t same ran part = λ l m n took w
     cut_taken bytes' WriteFault late = refl
     cut_taken bytes' NoMemory late = (bytes', [], sym (append-nil bytes'), refl)
 
--- of bytes a front was taken, and of the next item some events happened; nothing was written
-pub broke_feed : (old new : Place) (bytes : List ℕ) (outs : List HostOut) (s l m : Option (List ℕ)) (n : ℕ) → FedFront old.host bytes new.host [] outs old.shelf new.shelf → Consumes l m bytes → length bytes ≤ PIECE
+-- of bytes a prefix was taken, and of the next item some events happened; nothing was written
+pub broke_feed : (old new : Place) (bytes : List ℕ) (outs : List HostOut) (s l m : Option (List ℕ)) (n : ℕ) → FedPrefix old.host bytes new.host [] outs old.shelf new.shelf → Consumes l m bytes → length bytes ≤ PIECE
     → n + length bytes ≤ MAX_INPUT → Broke (CutTaking bytes) NoMemory old new s s l m n
 broke_feed old new bytes outs s l m n fed took short within =
     let mid : Place = record { host = fed.mid; shelf = fed.kept } in
-    let parts : length bytes ≡ length fed.front + length fed.left = ap length fed.parts ∙ length-append fed.front fed.left in
-    let own : length (bytes_of (Takes fed.front ∷ [])) ≡ length fed.front = ap length (append-nil fed.front) in
-    let cut = consumed_parts l m fed.front fed.left (subst (λ (b : List ℕ). Consumes l m b) fed.parts took) in
+    let parts : length bytes ≡ length fed.prefix + length fed.left = ap length fed.parts ∙ length-append fed.prefix fed.left in
+    let own : length (bytes_of (Takes fed.prefix ∷ [])) ≡ length fed.prefix = ap length (append-nil fed.prefix) in
+    let cut = consumed_parts l m fed.prefix fed.left (subst (λ (b : List ℕ). Consumes l m b) fed.parts took) in
     record {
-      steps = Takes fed.front ∷ [];
-      cut = (fed.front, fed.left, fed.parts, refl);
+      steps = Takes fed.prefix ∷ [];
+      cut = (fed.prefix, fed.left, fed.parts, refl);
       halts = record {
         mid = mid;
         some = fed.some;
         all = outs;
-        ran = ran_one (Takes fed.front) old mid fed.some fed.fed;
+        ran = ran_one (Takes fed.prefix) old mid fed.some fed.fed;
         events = fed.begun;
         did = fed.did;
-        written = front_nothing s (units_of outs);
+        written = prefix_nothing s (units_of outs);
       };
       mid = cut.0;
       reads = (cut.0, cut.1, Keeps-refl cut.0);
@@ -189,15 +189,15 @@ call_stopped Cut host host' r r' puts outs f g s none stops cut = λ l n within.
     (subst (λ (o : List HostOut). Stops (scene host.state o r f) (scene host'.state outs r' g)) none stops) within cut
 
 pub feed_stopped : (host host' : HostParts) (bytes : List ℕ) (r r' : Option (List (List ℕ))) (puts outs : List HostOut) (f g : ℕ) (s : Option (List ℕ)) → puts ≡ []
-    → FedFront host bytes host' puts outs (record { records = r; faults = f }) (record { records = r'; faults = g }) → length bytes ≤ PIECE
+    → FedPrefix host bytes host' puts outs (record { records = r; faults = f }) (record { records = r'; faults = g }) → length bytes ≤ PIECE
     → (l m : Option (List ℕ)) (n : ℕ) → Consumes l m bytes → n + length bytes ≤ MAX_INPUT → Broke (CutTaking bytes) NoMemory (place host r f) (place host' r' g) s s l m n
 feed_stopped host host' bytes r r' puts outs f g s none fed short l m n took within =
     broke_feed (place host r f) (place host' r' g) bytes outs s l m n
-    (subst (λ (o : List HostOut). FedFront host bytes host' o outs (record { records = r; faults = f }) (record { records = r'; faults = g })) none fed) took short within
+    (subst (λ (o : List HostOut). FedPrefix host bytes host' o outs (record { records = r; faults = f }) (record { records = r'; faults = g })) none fed) took short within
 
 -- ---- units
 
--- of a list of outputs a front was written, and then a part of the next
+-- of a list of outputs a prefix was written, and then a part of the next
 pub outs_part : (stop : Stop) (a b c : Option (List ℕ)) (outs : List HostOut) (i : ℕ) (one : HostOut) → i < length outs → one ≡ get_or outs i one → Appends a b (units_of (take i outs))
     → WritesPart stop b c (unit_bytes one) → WritesPart stop a c (units_of outs)
 outs_part stop a b c outs i one within at so_far (late, part) =
@@ -209,7 +209,7 @@ outs_part stop a b c outs i one within at so_far (late, part) =
     ∙ ap (λ (l : List HostOut). before ++ units_of l) (drop-cons outs i one within)
     ∙ ap (λ (o : HostOut). before ++ (unit_bytes o ++ after)) (sym at)
     ∙ sym (append_assoc before (unit_bytes one) after) in
-    (late, subst (λ (l : List ℕ). AppendsFront a c l) (sym whole) (AppendsFront-more a c (before ++ unit_bytes one) after (AppendsFront-append a b c before (unit_bytes one) so_far part)))
+    (late, subst (λ (l : List ℕ). AppendsPrefix a c l) (sym whole) (AppendsPrefix-more a c (before ++ unit_bytes one) after (AppendsPrefix-append a b c before (unit_bytes one) so_far part)))
 
 -- ---- a line
 
@@ -227,7 +227,7 @@ unasked line old new s still = λ l n within. record {
     ran = (refl, refl);
     events = [];
     did = did_nothing old.host.state new.host.state [] [] old.shelf new.shelf (ap (λ (p : HostParts). p.state) still.host) refl still.records still.never_falls;
-    written = front_nothing s [];
+    written = prefix_nothing s [];
   };
   mid = l;
   reads = Keeps-refl l;

@@ -3,13 +3,13 @@ use Rattle.std.proofs.Common.{◌≡◌, ℕ, ◌+◌, ◌≤◌, ◌<◌, List,
 use Rattle.std.specs.Prelude.{Option, OnOk, IfErr}
 use Rattle.std.specs.Io.KnownBytes.{Consumes, IsAtEnd, Appends}
 use Rattle.std.proofs.KnownBytes.{Keeps-refl, Appends-nil}
-use Rattle.line_stream.specs.declared.reader.TheConstants.{MAX_INPUT}
+use Rattle.run_lines.specs.declared.reader.TheConstants.{MAX_INPUT}
 use Rattle.port_run.specs.declared.stop.Stop.{Stop}
 use Rattle.port_run.specs.Steps.{Place, Step, Takes, Pumps}
 use Rattle.port_run.specs.Schedule.{CutIn, CutTaking, CutPiece, CutRead, piece_steps}
 use Rattle.port_run.specs.Serving.{Went, Broke}
 use Rattle.port_run.proofs.Doing.{went_both, broke_after, broke_as}
-use Rattle.port_run.proofs.Joining.{WentStill, BrokeStill, cut-behind}
+use Rattle.port_run.proofs.Joining.{WentStill, BrokeStill, cut-following}
 
 -- bytes that were read at these steps
 abbrev pub WentOver : List ℕ → List Step → Place → Place → Option (List ℕ) → Option (List ℕ) → Type 0
@@ -29,7 +29,7 @@ pub taken_err : {T : Type 0} (answer : Result T Stop) (bytes : List ℕ) (a b c 
 taken_err (Ok value) bytes a b c s t u one two = tt
 taken_err (Err stop) bytes a b c s t u one two = λ l m n took within.
     broke_after (CutIn (Pumps ∷ [])) (CutPiece bytes) stop (Takes bytes ∷ []) a b c s t u l m m n (n + length bytes) (one l m n took) (two m (n + length bytes) within)
-    (λ later cut. inl (cut-behind (Takes bytes ∷ []) (Pumps ∷ []) stop later cut))
+    (λ later cut. inl (cut-following (Takes bytes ∷ []) (Pumps ∷ []) stop later cut))
 
 pub broke_taking : (bytes : List ℕ) (stop : Stop) (a b : Place) (s t : Option (List ℕ)) → BrokeOver bytes (CutTaking bytes) stop a b s t → BrokeOver bytes (CutPiece bytes) stop a b s t
 broke_taking bytes stop a b s t one = λ l m n took within. broke_as (CutTaking bytes) (CutPiece bytes) stop a b s t l m n (one l m n took within) (λ steps cut. inr cut)

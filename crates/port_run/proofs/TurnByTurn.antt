@@ -3,7 +3,7 @@ use Rattle.std.proofs.Common.{◌≡◌, ℕ, ◌+◌, ◌-◌, ◌≤◌, ◌<�
 use Rattle.std.specs.Prelude.{Option}
 use Rattle.std.specs.Io.KnownBytes.{Consumes, Keeps, IsAtEnd}
 use Rattle.std.proofs.KnownBytes.{Keeps-refl, Appends-nil, Consumes-nil, Consumes-kept}
-use Rattle.line_stream.specs.declared.reader.TheConstants.{PIECE, MAX_INPUT}
+use Rattle.run_lines.specs.declared.reader.TheConstants.{PIECE, MAX_INPUT}
 use Rattle.port_run.specs.declared.stop.Stop.{Stop}
 use Rattle.port_run.specs.declared.stop.Stop.TheVariants.{ReadFault, WriteFault, InputTooLong, NoMemory}
 use Rattle.port_run.specs.Steps.{Place, Step}

@@ -1,21 +1,21 @@
 -- How a run of `host` ends, and why (this project's own rule).
 use Rattle.std.specs.Prelude.{◌≡◌, ℕ, ◌+◌, ◌<◌, ◌≤◌, ◌⊎◌, Bool, true, false, List, [], length, take, slice_index_or, Option, Some, None, All}
-use Rattle.line_stream.specs.declared.reader.TheConstants.{MAX_INPUT}
+use Rattle.run_lines.specs.declared.reader.TheConstants.{MAX_INPUT}
 use Rattle.zw_text.specs.declared.entry.Outcome.{Outcome}
 use Rattle.zw_text.specs.declared.entry.Outcome.TheVariants.{Success}
 use Rattle.host_keep.specs.Keeping.{OptAdds}
 use Rattle.host_keep.specs.Legal.{IsFirstBad as IsFirstBadRecord}
-use Rattle.host_events.specs.State.{HostState, HostParts, command_at}
-use Rattle.host_events.specs.Did.{Shelf}
+use Rattle.host_model.specs.State.{HostState, HostParts, command_at}
+use Rattle.host_model.specs.Did.{Shelf}
 use Rattle.s0_crypto.specs.declared.key_pair.Keys.{Keys}
 use Rattle.host_core.specs.Network.{keys_of}
 use Rattle.host_core.specs.Opening.{Opens}
 use Rattle.host_core.specs.Orders.{outcome_at}
 use Rattle.host_core.specs.declared.opening.OpenFault.{OpenFault}
 use Rattle.host_core.specs.declared.opening.OpenFault.TheVariants.{KeeperFault as no_keeper, BadRecord as bad_record, NoMemory as unopened}
-use Rattle.scenario_run.specs.Run.{IsShort}
-use Rattle.scenario_run.specs.declared.status.Status.{Status}
-use Rattle.scenario_run.specs.declared.status.Status.TheVariants as status
+use Rattle.run_lines.specs.Run.{IsShort}
+use Rattle.run_lines.specs.declared.status.Status.{Status}
+use Rattle.run_lines.specs.declared.status.Status.TheVariants as status
 use Rattle.port_run.specs.declared.asking.Answer.{Answer}
 use Rattle.port_run.specs.declared.asking.Answer.TheVariants.{Taken, Command, Refused}
 use Rattle.port_run.specs.declared.line.PortLine.{PortLine}

@@ -37,7 +37,7 @@ abbrev pub served_word : Option LineWord → Option LineWord
 served_word None = None
 served_word (Some word) = if is_served word then Some word else None
 
--- the line that a first word and the words behind it are
+-- the line that a first word and the words after it are
 abbrev pub port_from : List ℕ → List (List ℕ) → Result PortLine LineFault
 port_from word ws =
     if bytes_eq word (codes "wait") then make Wait (last (between_in 1 100000) ws)

@@ -1,7 +1,7 @@
 -- Which steps the lines of `host` are (this project's own rule).
 use Rattle.std.specs.Prelude.{◌≡◌, ℕ, zero, suc, ◌-◌, ◌<◌, ◌≤◌, ◌==◌, ◌&&◌, ◌⊎◌, min, if◌then◌else◌, List, [], ◌∷◌, ◌++◌, length}
 use Rattle.std.specs.List.{flat_map}
-use Rattle.line_stream.specs.declared.reader.TheConstants.{PIECE}
+use Rattle.run_lines.specs.declared.reader.TheConstants.{PIECE}
 use Rattle.zw_text.specs.declared.line.Line.{Line}
 use Rattle.port_run.specs.declared.asking.Answer.{Answer}
 use Rattle.port_run.specs.declared.asking.Answer.TheVariants.{Taken}
@@ -106,12 +106,12 @@ IsLate InputTooLong = ⊥
 abbrev pub CutIn : List Step → Stop → List Step → Type 0
 CutIn whole stop steps = IsLate stop × IsFirst steps whole
 
--- as bytes were taken: where there was no memory, perhaps a front of them
+-- as bytes were taken: where there was no memory, perhaps a prefix of them
 abbrev pub CutTaking : List ℕ → Stop → List Step → Type 0
 CutTaking bytes ReadFault steps = ⊥
 CutTaking bytes InputTooLong steps = ⊥
 CutTaking bytes WriteFault steps = steps ≡ Takes bytes ∷ []
-CutTaking bytes NoMemory steps = (front rest : List ℕ) × (bytes ≡ front ++ rest) × (steps ≡ Takes front ∷ [])
+CutTaking bytes NoMemory steps = (prefix rest : List ℕ) × (bytes ≡ prefix ++ rest) × (steps ≡ Takes prefix ∷ [])
 
 -- as bytes were taken and what may be was submitted
 abbrev pub CutPiece : List ℕ → Stop → List Step → Type 0

@@ -2,13 +2,13 @@
 use Rattle.std.specs.Prelude.{◌≡◌, ℕ, ◌+◌, ◌<◌, ◌≤◌, List, [], ◌∷◌, length, Option}
 use Rattle.std.specs.List.{flat_map}
 use Rattle.std.specs.Io.KnownBytes.{Keeps, Consumes, Appends, IsAtEnd}
-use Rattle.line_stream.specs.declared.reader.TheConstants.{PIECE, MAX_INPUT}
+use Rattle.run_lines.specs.declared.reader.TheConstants.{PIECE, MAX_INPUT}
 use Rattle.serial_frame.specs.Items.{unit_text}
-use Rattle.host_events.specs.Did.{Did}
-use Rattle.host_events.specs.Events.{HostEvent}
-use Rattle.host_events.specs.declared.out.HostOut.{HostOut}
-use Rattle.host_events.specs.declared.out.HostOut.TheVariants.{Write, Note}
-use Rattle.scenario_run.specs.Writing.{AppendsFront}
+use Rattle.host_model.specs.Did.{Did}
+use Rattle.host_model.specs.Events.{HostEvent}
+use Rattle.host_model.specs.declared.out.HostOut.{HostOut}
+use Rattle.host_model.specs.declared.out.HostOut.TheVariants.{Write, Note}
+use Rattle.run_lines.specs.Writing.{AppendsPrefix}
 use Rattle.port_run.specs.declared.stop.Stop.{Stop}
 use Rattle.port_run.specs.declared.stop.Stop.TheVariants.{ReadFault, WriteFault, InputTooLong, NoMemory}
 use Rattle.port_run.specs.Schedule.{IsLate}
@@ -24,9 +24,9 @@ unit_bytes (Note entry) = []
 abbrev pub units_of : List HostOut → List ℕ
 units_of outs = flat_map unit_bytes outs
 
--- a write failed, or there was no memory for a unit; a front of the bytes was written
+-- a write failed, or there was no memory for a unit; a prefix of the bytes was written
 abbrev pub WritesPart : Stop → Option (List ℕ) → Option (List ℕ) → List ℕ → Type 0
-WritesPart stop sink sink' bytes = IsLate stop × AppendsFront sink sink' bytes
+WritesPart stop sink sink' bytes = IsLate stop × AppendsPrefix sink sink' bytes
 
 -- steps were done, and the units that the host put out were written
 pub record Wrote (steps : List Step) (old new : Place) (sink sink' : Option (List ℕ)) : Type 0 where
@@ -34,13 +34,13 @@ pub record Wrote (steps : List Step) (old new : Place) (sink sink' : Option (Lis
   pub ran : AllRan steps old new outs
   pub written : Appends sink sink' (units_of outs)
 
--- steps were done, and a front of the units was written
-pub record WroteFront (steps : List Step) (old new : Place) (sink sink' : Option (List ℕ)) : Type 0 where
+-- steps were done, and a prefix of the units was written
+pub record WrotePrefix (steps : List Step) (old new : Place) (sink sink' : Option (List ℕ)) : Type 0 where
   pub outs : List HostOut
   pub ran : AllRan steps old new outs
-  pub written : AppendsFront sink sink' (units_of outs)
+  pub written : AppendsPrefix sink sink' (units_of outs)
 
--- steps were done, then events of the next one, and then there was no memory; a front of the units was written
+-- steps were done, then events of the next one, and then there was no memory; a prefix of the units was written
 pub record Stopped (steps : List Step) (old new : Place) (sink sink' : Option (List ℕ)) : Type 0 where
   pub mid : Place
   pub some : List HostOut
@@ -48,12 +48,12 @@ pub record Stopped (steps : List Step) (old new : Place) (sink sink' : Option (L
   pub ran : AllRan steps old mid some
   pub events : List HostEvent
   pub did : Did events mid.host.state new.host.state some all mid.shelf new.shelf
-  pub written : AppendsFront sink sink' (units_of all)
+  pub written : AppendsPrefix sink sink' (units_of all)
 
 abbrev pub Halts : Stop → List Step → Place → Place → Option (List ℕ) → Option (List ℕ) → Type 0
 Halts ReadFault steps old new sink sink' = Wrote steps old new sink sink'
 Halts InputTooLong steps old new sink sink' = Wrote steps old new sink sink'
-Halts WriteFault steps old new sink sink' = WroteFront steps old new sink sink'
+Halts WriteFault steps old new sink sink' = WrotePrefix steps old new sink sink'
 Halts NoMemory steps old new sink sink' = Stopped steps old new sink sink'
 
 -- ---- what is read

@@ -9,16 +9,16 @@ use Rattle.host_orders.specs.declared.refused.Refused.{Refused}
 use Rattle.host_orders.specs.Errands.{send_refusal, send_text, get_refusal, get_text}
 use Rattle.host_orders.specs.Refusals.{classes_of}
 use Rattle.host_requests.specs.declared.task.Task.TheVariants.{Plain}
-use Rattle.host_events.specs.State.{HostState, HostParts, node_of}
-use Rattle.host_events.specs.Events.{HostEvent, Accepts, Joins, Queues, Queues_interview, Queues_probe}
-use Rattle.host_events.specs.May.{known_of}
-use Rattle.host_events.specs.Asking.{carriage_for, refusal_for, join_refusal, interview_refusal, places_refusal}
-use Rattle.host_events.specs.Did.{Shelf}
-use Rattle.host_events.specs.Pumping.{Pumps as pump_events}
-use Rattle.host_events.specs.Taking.{Fed}
-use Rattle.host_events.specs.Ticking.{tick_events}
-use Rattle.host_events.specs.declared.out.HostOut.{HostOut}
-use Rattle.host_taking.specs.Calls.{beside, Are, Does}
+use Rattle.host_model.specs.State.{HostState, HostParts, node_of}
+use Rattle.host_model.specs.Events.{HostEvent, Accepts, Joins, Queues, Queues_interview, Queues_probe}
+use Rattle.host_model.specs.May.{known_of}
+use Rattle.host_model.specs.Asking.{carriage_for, refusal_for, join_refusal, interview_refusal, places_refusal}
+use Rattle.host_model.specs.Did.{Shelf}
+use Rattle.host_model.specs.Pumping.{Pumps as pump_events}
+use Rattle.host_model.specs.Taking.{Fed}
+use Rattle.host_model.specs.Ticking.{tick_events}
+use Rattle.host_model.specs.declared.out.HostOut.{HostOut}
+use Rattle.host_step_bytes.specs.Calls.{beside, Are, Does}
 use Rattle.port_run.specs.declared.asking.Answer.{Answer}
 use Rattle.port_run.specs.declared.asking.Answer.TheVariants.{Taken, Command as numbered, Refused as refused}
 

@@ -26,8 +26,10 @@ pub(crate) fn ask<P: Keeper>(
     line: &Line,
     keeper: &mut P,
 ) -> Result<Answer, NoMemory>
-    ensures ok { IfOk result (λ answer. Asked line.now answer (place host.old (P.records keeper.old) (P.faults keeper.old)) (place host.new (P.records keeper.new) (P.faults keeper.new))) }
-    ensures err { OnErr result (IsStill (place host.old (P.records keeper.old) (P.faults keeper.old)) (place host.new (P.records keeper.new) (P.faults keeper.new))) }
+    ensures ok { IfOk result (λ answer. Asked line.now answer (place host.old (P.records keeper.old) (P.faults keeper.old))
+        (place host.new (P.records keeper.new) (P.faults keeper.new))) }
+    ensures err { OnErr result (IsStill (place host.old (P.records keeper.old) (P.faults keeper.old))
+        (place host.new (P.records keeper.new) (P.faults keeper.new))) }
 {
     match line {
         Line::Command { order } => match host.command(order, keeper) {
@@ -58,7 +60,7 @@ pub(crate) fn ask<P: Keeper>(
     }
 }
 
-// Want of memory is no refusal.
+// An allocation failure is no refusal.
 fn refusal(refused: Refused) -> Result<Answer, NoMemory>
     ensures ok { IfOk result (λ answer. (answer ≡ Answer.Refused) × (refused ≢ Refused.NoMemory)) }
     ensures err { OnErr result (refused ≡ Refused.NoMemory) }

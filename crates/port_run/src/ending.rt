@@ -6,7 +6,7 @@ ghost use Rattle.port_run.specs.Ending.{is_done, AreDone, IsFirstUndone, unread_
 use crate::asking::Answer;
 use crate::{LinesFault, Stop};
 use host_core::{Host, OpenFault};
-use scenario_run::Status;
+use run_lines::Status;
 use zw_text::Outcome;
 use zw_words::LineFault;
 

@@ -1,9 +1,11 @@
-//! The host on a serial port: lines of words drive it, a source and a sink are the two directions of the port, and a clock tells time.
+//! The host on a serial port: lines given as words drive it, a source and a sink are the port, and a clock tells time.
 //!
-//! It promises that the words are read before the host starts; that what is written are the units that the host puts out at the words that
-//! were run, the bytes that were read and the ticks that passed, in their order; and the cause of each end.
-//! The definitions stand in `specs/`: `Lines` (what a word is), `Steps` (what the host does at one), `Schedule` (which steps words are),
-//! `Serving` (what was read and written), `Ending` (how it ends) and `Quiet` (what a clock that takes a quiet moment for a tick makes of it).
+//! It promises that the words are read before the host starts; that what is written is the units that the host puts out
+//! at the words that were run, the bytes that were read and the ticks that passed, in their order; and the cause of
+//! each end.
+//! The definitions are in `specs/`: `Lines` (what a word is), `Steps` (what the host does at one), `Schedule` (which
+//! steps words are), `Serving` (what was read and written), `Ending` (how it ends) and `Quiet` (what follows from a
+//! clock that counts a quiet moment as a tick).
 #![tactic(auto)]
 
 mod asking;

@@ -53,7 +53,7 @@ pub fn read_port(alloc: Global, text: &[u8]) -> Result<Option<PortLine>, ReadLin
     Ok(Some(line))
 }
 
-// The line with this first word that has these words behind it.
+// The line with this first word that has these words after it.
 fn read_words(alloc: Global, word: &[u8], rest: &[u8]) -> Result<PortLine, ReadLineFault>
     ensures { Gives result (port_from word.now (words rest.now)) }
 {

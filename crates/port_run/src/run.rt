@@ -7,7 +7,7 @@ ghost use Rattle.port_run.specs.Ending.{desk, HostRan, HasGoodPort, IsServed};
 
 use crate::{QuietClock, serve};
 use host_keep::Keeper;
-use scenario_run::Status;
+use run_lines::Status;
 use std::alloc::Global;
 use zw_base::{Draw, Sink, Source};
 
@@ -22,7 +22,9 @@ pub fn run_host<S: Source, K: Sink, D: Draw, P: Keeper>(
     draw: &mut D,
     keeper: &mut P,
 ) -> Status
-    ensures ran { HostRan result key (P.number keeper.old) (texts_of lines.now) (desk (S.left source.old) (K.written sink.old) (P.records keeper.old) (P.faults keeper.old)) (desk (S.left source.new) (K.written sink.new) (P.records keeper.new) (P.faults keeper.new)) }
+    ensures ran { HostRan result key (P.number keeper.old) (texts_of lines.now)
+        (desk (S.left source.old) (K.written sink.old) (P.records keeper.old) (P.faults keeper.old))
+        (desk (S.left source.new) (K.written sink.new) (P.records keeper.new) (P.faults keeper.new)) }
     ensures source_never_falls { S.faults source.old ≤ S.faults source.new }
     ensures sink_never_falls { K.faults sink.old ≤ K.faults sink.new }
     ensures read_fault { result ≡ Status.ReadFault → Rose (S.faults source.old) (S.faults source.new) }

@@ -3,7 +3,7 @@
 ghost use Rattle.std.specs.Prelude.{◌+◌, ◌≤◌, ◌∷◌, [], ℕ, List as Items, Option, length, OnOk, IfErr, IfOk, IsErrOf};
 ghost use Rattle.std.specs.Io.KnownBytes.{Appends, Consumes};
 ghost use Rattle.zw_base.specs.Faults.{Rose};
-ghost use Rattle.line_stream.specs.declared.reader.TheConstants.{MAX_INPUT, PIECE};
+ghost use Rattle.run_lines.specs.declared.reader.TheConstants.{MAX_INPUT, PIECE};
 ghost use Rattle.port_run.specs.Steps.{place, Asks, Takes, Ticks, Pumps};
 ghost use Rattle.port_run.specs.Schedule.{tick_steps, CutIn, CutTaking, CutPiece, CutPlain};
 ghost use Rattle.port_run.specs.Serving.{unit_bytes, units_of, WritesPart, Went, Broke};
@@ -12,7 +12,7 @@ use crate::Stop;
 use crate::asking::{Answer, ask};
 use host_core::{Host, HostOut};
 use host_keep::Keeper;
-use scenario_run::write_piece;
+use run_lines::write_piece;
 use serial_frame::encode;
 use std::alloc::Global;
 use zw_base::{Draw, List, Sink};
@@ -62,8 +62,12 @@ pub(crate) fn pump<K: Sink, D: Draw, P: Keeper>(
     draw: &mut D,
     keeper: &mut P,
 ) -> Result<(), Stop>
-    ensures ok { OnOk result ((left : Option (Items ℕ)) (taken : ℕ) → Went (Pumps ∷ []) (place host.old (P.records keeper.old) (P.faults keeper.old)) (place host.new (P.records keeper.new) (P.faults keeper.new)) (K.written sink.old) (K.written sink.new) left left taken taken) }
-    ensures err { IfErr result (λ stop. (left : Option (Items ℕ)) (taken : ℕ) → taken ≤ MAX_INPUT → Broke (CutIn (Pumps ∷ [])) stop (place host.old (P.records keeper.old) (P.faults keeper.old)) (place host.new (P.records keeper.new) (P.faults keeper.new)) (K.written sink.old) (K.written sink.new) left left taken) }
+    ensures ok { OnOk result ((left : Option (Items ℕ)) (taken : ℕ) →
+        Went (Pumps ∷ []) (place host.old (P.records keeper.old) (P.faults keeper.old))
+        (place host.new (P.records keeper.new) (P.faults keeper.new)) (K.written sink.old) (K.written sink.new) left left taken taken) }
+    ensures err { IfErr result (λ stop. (left : Option (Items ℕ)) (taken : ℕ) → taken ≤ MAX_INPUT →
+        Broke (CutIn (Pumps ∷ [])) stop (place host.old (P.records keeper.old) (P.faults keeper.old))
+        (place host.new (P.records keeper.new) (P.faults keeper.new)) (K.written sink.old) (K.written sink.new) left left taken) }
     ensures never_falls { K.faults sink.old ≤ K.faults sink.new }
     ensures failed { IsErrOf result Stop.WriteFault → Rose (K.faults sink.old) (K.faults sink.new) }
 {
@@ -84,8 +88,13 @@ fn take<K: Sink, D: Draw, P: Keeper>(
     keeper: &mut P,
 ) -> Result<(), Stop>
     requires { length piece.now ≤ PIECE }
-    ensures ok { OnOk result ((left left' : Option (Items ℕ)) (taken : ℕ) → Consumes left left' piece.now → Went (Takes piece.now ∷ []) (place host.old (P.records keeper.old) (P.faults keeper.old)) (place host.new (P.records keeper.new) (P.faults keeper.new)) (K.written sink.old) (K.written sink.new) left left' taken (taken + length piece.now)) }
-    ensures err { IfErr result (λ stop. (left left' : Option (Items ℕ)) (taken : ℕ) → Consumes left left' piece.now → taken + length piece.now ≤ MAX_INPUT → Broke (CutTaking piece.now) stop (place host.old (P.records keeper.old) (P.faults keeper.old)) (place host.new (P.records keeper.new) (P.faults keeper.new)) (K.written sink.old) (K.written sink.new) left left' taken) }
+    ensures ok { OnOk result ((left left' : Option (Items ℕ)) (taken : ℕ) → Consumes left left' piece.now →
+        Went (Takes piece.now ∷ []) (place host.old (P.records keeper.old) (P.faults keeper.old))
+        (place host.new (P.records keeper.new) (P.faults keeper.new)) (K.written sink.old) (K.written sink.new) left left' taken (taken + length piece.now)) }
+    ensures err { IfErr result (λ stop. (left left' : Option (Items ℕ)) (taken : ℕ) → Consumes left left' piece.now →
+        taken + length piece.now ≤ MAX_INPUT →
+        Broke (CutTaking piece.now) stop (place host.old (P.records keeper.old) (P.faults keeper.old))
+        (place host.new (P.records keeper.new) (P.faults keeper.new)) (K.written sink.old) (K.written sink.new) left left' taken) }
     ensures never_falls { K.faults sink.old ≤ K.faults sink.new }
     ensures failed { IsErrOf result Stop.WriteFault → Rose (K.faults sink.old) (K.faults sink.new) }
 {
@@ -104,8 +113,12 @@ fn tick<K: Sink, D: Draw, P: Keeper>(
     draw: &mut D,
     keeper: &mut P,
 ) -> Result<(), Stop>
-    ensures ok { OnOk result ((left : Option (Items ℕ)) (taken : ℕ) → Went (Ticks ∷ []) (place host.old (P.records keeper.old) (P.faults keeper.old)) (place host.new (P.records keeper.new) (P.faults keeper.new)) (K.written sink.old) (K.written sink.new) left left taken taken) }
-    ensures err { IfErr result (λ stop. (left : Option (Items ℕ)) (taken : ℕ) → taken ≤ MAX_INPUT → Broke (CutIn (Ticks ∷ [])) stop (place host.old (P.records keeper.old) (P.faults keeper.old)) (place host.new (P.records keeper.new) (P.faults keeper.new)) (K.written sink.old) (K.written sink.new) left left taken) }
+    ensures ok { OnOk result ((left : Option (Items ℕ)) (taken : ℕ) →
+        Went (Ticks ∷ []) (place host.old (P.records keeper.old) (P.faults keeper.old))
+        (place host.new (P.records keeper.new) (P.faults keeper.new)) (K.written sink.old) (K.written sink.new) left left taken taken) }
+    ensures err { IfErr result (λ stop. (left : Option (Items ℕ)) (taken : ℕ) → taken ≤ MAX_INPUT →
+        Broke (CutIn (Ticks ∷ [])) stop (place host.old (P.records keeper.old) (P.faults keeper.old))
+        (place host.new (P.records keeper.new) (P.faults keeper.new)) (K.written sink.old) (K.written sink.new) left left taken) }
     ensures never_falls { K.faults sink.old ≤ K.faults sink.new }
     ensures failed { IsErrOf result Stop.WriteFault → Rose (K.faults sink.old) (K.faults sink.new) }
 {
@@ -124,8 +137,12 @@ fn tick_and_pump<K: Sink, D: Draw, P: Keeper>(
     draw: &mut D,
     keeper: &mut P,
 ) -> Result<(), Stop>
-    ensures ok { OnOk result ((left : Option (Items ℕ)) (taken : ℕ) → Went (Ticks ∷ Pumps ∷ []) (place host.old (P.records keeper.old) (P.faults keeper.old)) (place host.new (P.records keeper.new) (P.faults keeper.new)) (K.written sink.old) (K.written sink.new) left left taken taken) }
-    ensures err { IfErr result (λ stop. (left : Option (Items ℕ)) (taken : ℕ) → taken ≤ MAX_INPUT → Broke (CutIn (Ticks ∷ Pumps ∷ [])) stop (place host.old (P.records keeper.old) (P.faults keeper.old)) (place host.new (P.records keeper.new) (P.faults keeper.new)) (K.written sink.old) (K.written sink.new) left left taken) }
+    ensures ok { OnOk result ((left : Option (Items ℕ)) (taken : ℕ) →
+        Went (Ticks ∷ Pumps ∷ []) (place host.old (P.records keeper.old) (P.faults keeper.old))
+        (place host.new (P.records keeper.new) (P.faults keeper.new)) (K.written sink.old) (K.written sink.new) left left taken taken) }
+    ensures err { IfErr result (λ stop. (left : Option (Items ℕ)) (taken : ℕ) → taken ≤ MAX_INPUT →
+        Broke (CutIn (Ticks ∷ Pumps ∷ [])) stop (place host.old (P.records keeper.old) (P.faults keeper.old))
+        (place host.new (P.records keeper.new) (P.faults keeper.new)) (K.written sink.old) (K.written sink.new) left left taken) }
     ensures never_falls { K.faults sink.old ≤ K.faults sink.new }
     ensures failed { IsErrOf result Stop.WriteFault → Rose (K.faults sink.old) (K.faults sink.new) }
 {
@@ -144,8 +161,12 @@ pub(crate) fn tick_all<K: Sink, D: Draw, P: Keeper>(
     draw: &mut D,
     keeper: &mut P,
 ) -> Result<(), Stop>
-    ensures ok { OnOk result ((left : Option (Items ℕ)) (taken : ℕ) → Went (tick_steps ticks) (place host.old (P.records keeper.old) (P.faults keeper.old)) (place host.new (P.records keeper.new) (P.faults keeper.new)) (K.written sink.old) (K.written sink.new) left left taken taken) }
-    ensures err { IfErr result (λ stop. (left : Option (Items ℕ)) (taken : ℕ) → taken ≤ MAX_INPUT → Broke (CutIn (tick_steps ticks)) stop (place host.old (P.records keeper.old) (P.faults keeper.old)) (place host.new (P.records keeper.new) (P.faults keeper.new)) (K.written sink.old) (K.written sink.new) left left taken) }
+    ensures ok { OnOk result ((left : Option (Items ℕ)) (taken : ℕ) →
+        Went (tick_steps ticks) (place host.old (P.records keeper.old) (P.faults keeper.old))
+        (place host.new (P.records keeper.new) (P.faults keeper.new)) (K.written sink.old) (K.written sink.new) left left taken taken) }
+    ensures err { IfErr result (λ stop. (left : Option (Items ℕ)) (taken : ℕ) → taken ≤ MAX_INPUT →
+        Broke (CutIn (tick_steps ticks)) stop (place host.old (P.records keeper.old) (P.faults keeper.old))
+        (place host.new (P.records keeper.new) (P.faults keeper.new)) (K.written sink.old) (K.written sink.new) left left taken) }
     ensures never_falls { K.faults sink.old ≤ K.faults sink.new }
     ensures failed { IsErrOf result Stop.WriteFault → Rose (K.faults sink.old) (K.faults sink.new) }
 {
@@ -167,8 +188,13 @@ pub(crate) fn take_and_pump<K: Sink, D: Draw, P: Keeper>(
     keeper: &mut P,
 ) -> Result<(), Stop>
     requires { length piece.now ≤ PIECE }
-    ensures ok { OnOk result ((left left' : Option (Items ℕ)) (taken : ℕ) → Consumes left left' piece.now → Went (Takes piece.now ∷ Pumps ∷ []) (place host.old (P.records keeper.old) (P.faults keeper.old)) (place host.new (P.records keeper.new) (P.faults keeper.new)) (K.written sink.old) (K.written sink.new) left left' taken (taken + length piece.now)) }
-    ensures err { IfErr result (λ stop. (left left' : Option (Items ℕ)) (taken : ℕ) → Consumes left left' piece.now → taken + length piece.now ≤ MAX_INPUT → Broke (CutPiece piece.now) stop (place host.old (P.records keeper.old) (P.faults keeper.old)) (place host.new (P.records keeper.new) (P.faults keeper.new)) (K.written sink.old) (K.written sink.new) left left' taken) }
+    ensures ok { OnOk result ((left left' : Option (Items ℕ)) (taken : ℕ) → Consumes left left' piece.now →
+        Went (Takes piece.now ∷ Pumps ∷ []) (place host.old (P.records keeper.old) (P.faults keeper.old))
+        (place host.new (P.records keeper.new) (P.faults keeper.new)) (K.written sink.old) (K.written sink.new) left left' taken (taken + length piece.now)) }
+    ensures err { IfErr result (λ stop. (left left' : Option (Items ℕ)) (taken : ℕ) → Consumes left left' piece.now →
+        taken + length piece.now ≤ MAX_INPUT →
+        Broke (CutPiece piece.now) stop (place host.old (P.records keeper.old) (P.faults keeper.old))
+        (place host.new (P.records keeper.new) (P.faults keeper.new)) (K.written sink.old) (K.written sink.new) left left' taken) }
     ensures never_falls { K.faults sink.old ≤ K.faults sink.new }
     ensures failed { IsErrOf result Stop.WriteFault → Rose (K.faults sink.old) (K.faults sink.new) }
 {
@@ -187,8 +213,12 @@ pub(crate) fn run_plain<K: Sink, D: Draw, P: Keeper>(
     draw: &mut D,
     keeper: &mut P,
 ) -> Result<Answer, Stop>
-    ensures ok { IfOk result (λ answer. (left : Option (Items ℕ)) (taken : ℕ) → Went (Asks line.now answer ∷ Pumps ∷ []) (place host.old (P.records keeper.old) (P.faults keeper.old)) (place host.new (P.records keeper.new) (P.faults keeper.new)) (K.written sink.old) (K.written sink.new) left left taken taken) }
-    ensures err { IfErr result (λ stop. (left : Option (Items ℕ)) (taken : ℕ) → taken ≤ MAX_INPUT → Broke (CutPlain line.now) stop (place host.old (P.records keeper.old) (P.faults keeper.old)) (place host.new (P.records keeper.new) (P.faults keeper.new)) (K.written sink.old) (K.written sink.new) left left taken) }
+    ensures ok { IfOk result (λ answer. (left : Option (Items ℕ)) (taken : ℕ) →
+        Went (Asks line.now answer ∷ Pumps ∷ []) (place host.old (P.records keeper.old) (P.faults keeper.old))
+        (place host.new (P.records keeper.new) (P.faults keeper.new)) (K.written sink.old) (K.written sink.new) left left taken taken) }
+    ensures err { IfErr result (λ stop. (left : Option (Items ℕ)) (taken : ℕ) → taken ≤ MAX_INPUT →
+        Broke (CutPlain line.now) stop (place host.old (P.records keeper.old) (P.faults keeper.old))
+        (place host.new (P.records keeper.new) (P.faults keeper.new)) (K.written sink.old) (K.written sink.new) left left taken) }
     ensures never_falls { K.faults sink.old ≤ K.faults sink.new }
     ensures failed { IsErrOf result Stop.WriteFault → Rose (K.faults sink.old) (K.faults sink.new) }
 {

@@ -53,7 +53,7 @@ module _ (net : Network) (to : ℕ) where
   after a (c ∷ cs) zero d m t long = let same : length cs ≡ m = omega arith in subst (λ n. Reaches net to n c) same (trail-reaches c cs t.2)
   after a (c ∷ cs) (suc j) d m t long = after c cs j d m t.2 (omega arith)
 
-  -- and up to the repeater at a place, the front of the trail leads to it
+  -- and up to the repeater at a place, the prefix of the trail leads to it
   before : (a : ℕ) (cs : List ℕ) (i d m : ℕ) → Trail a cs → i < length cs → Reaches net to m (get_or cs i d) → Reaches net to (suc (i + m)) a
   before a [] i d m t less r = absurd (omega arith)
   before a (c ∷ cs) zero d m t less r = let same : suc (0 + m) ≡ suc m = omega arith in subst (λ n. Reaches net to n a) (sym same) (c, t.0, t.1, r)

@@ -25,8 +25,8 @@ pub code_of_layout : (nonce text code : List ℕ) (named : ℕ) (bytes : List �
 code_of_layout nonce text code named bytes n c e =
     let size = length_of_layout nonce text code named n c e in
     let regroup : (nonce ++ (text ++ named ∷ [])) ++ code ≡ nonce ++ (text ++ named ∷ code) = simp append_assoc in
-    let front : length (0x98 ∷ 0x81 ∷ (nonce ++ (text ++ named ∷ []))) ≡ length bytes - 8 = simp length-append (omega arith) in
-    ap (drop (length bytes - 8)) (e ∙ ap (λ l. 0x98 ∷ 0x81 ∷ l) (sym regroup)) ∙ drop_at (0x98 ∷ 0x81 ∷ (nonce ++ (text ++ named ∷ []))) code (length bytes - 8) front
+    let prefix : length (0x98 ∷ 0x81 ∷ (nonce ++ (text ++ named ∷ []))) ≡ length bytes - 8 = simp length-append (omega arith) in
+    ap (drop (length bytes - 8)) (e ∙ ap (λ l. 0x98 ∷ 0x81 ∷ l) (sym regroup)) ∙ drop_at (0x98 ∷ 0x81 ∷ (nonce ++ (text ++ named ∷ []))) code (length bytes - 8) prefix
 
 -- from the parts
 pub layout_of_parts : (bytes : List ℕ) (named : ℕ) → 20 ≤ length bytes → take 2 bytes ≡ 0x98 ∷ 0x81 ∷ []

@@ -177,7 +177,7 @@ coded keys rn ends bytes long nonce_is vector_is want_is got_is told is_true = r
   code = sym (wanted_is keys rn ends bytes nonce_is vector_is want_is) ∙ is_same told is_true ∙ got_is ∙ take_rest bytes (length bytes - 8);
 }
 
--- two bytes are the front
+-- two bytes are the prefix
 pub header_of : (bytes : List ℕ) → 20 ≤ length bytes → slice_index bytes 0 ≡ 0x98 → slice_index bytes 1 ≡ 0x81 → take 2 bytes ≡ 0x98 ∷ 0x81 ∷ []
 header_of [] long p q = absurd (omega arith)
 header_of (x ∷ []) long p q = absurd (omega arith)

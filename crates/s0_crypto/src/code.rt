@@ -1,4 +1,4 @@
-//! The code of a sealed message: the front of the CBC-MAC of what it covers.
+//! The code of a sealed message: the prefix of the CBC-MAC of what it covers.
 
 ghost use Rattle.std.specs.Prelude.{◌≡◌, ℕ, ◌+◌, ◌*◌, ◌^◌, ◌<◌, take, slice_index};
 ghost use Rattle.s0_crypto.specs.Modes.{sum_of_blocks, block_at, cbc_mac};
@@ -58,8 +58,8 @@ fn add_block(
     sum
 }
 
-/// The front of a block.
-fn front(b: &[u8; 16]) -> [u8; 8]
+/// The prefix of a block.
+fn prefix(b: &[u8; 16]) -> [u8; 8]
     ensures { result ≡ take 8 b.now }
 {
     [b[0], b[1], b[2], b[3], b[4], b[5], b[6], b[7]]
@@ -74,5 +74,5 @@ pub(crate) fn code(key: &Aes128, vector: &[u8; 16], ends: &SealEnds, cipher_text
     for i in 0..blocks {
         chained = key.encrypt(add_block(&chained, vector, ends, cipher_text, BLOCK * i));
     }
-    front(&chained)
+    prefix(&chained)
 }

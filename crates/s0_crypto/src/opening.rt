@@ -42,7 +42,7 @@ fn same(a: &[u8; 8], b: &[u8; 8]) -> bool
     a == b
 }
 
-/// What stands behind the sequence byte of a cipher text. `block` is the first key block.
+/// What stands after the sequence byte of a cipher text. `block` is the first key block.
 fn decipher(alloc: Global, cipher: &Aes128, block: [u8; 16], text: &[u8]) -> Result<Bytes, NoMemory>
     ensures { (vector : List ℕ) → block ≡ key_block cipher.now vector 1
         → IfOk result (λ plain. plain ≡ ofb_from cipher.now vector 1 text.now) }

@@ -1,7 +1,18 @@
 //! The nonces that one side gives, by node.
 
 ghost use Rattle.std.specs.Prelude.{◌≡◌, ◌+◌, ◌^◌, ◌<◌, replicate, slice_index, slice_set, IfOk, IfSome};
-ghost use Rattle.s0_session.specs.Nonces.{unused, account_of, given_of, live_of, nonce_given, after_give, nonce_spent, after_spend, restored_account, IsRestorable};
+ghost use Rattle.s0_session.specs.Nonces.{
+  unused,
+  account_of,
+  given_of,
+  live_of,
+  nonce_given,
+  after_give,
+  nonce_spent,
+  after_spend,
+  restored_account,
+  IsRestorable,
+};
 
 use crate::Account;
 use std::alloc::Global;

@@ -43,10 +43,10 @@ only_added old piece new added before after e feeds items rest reads =
     let same = one_reading (old.bytes ++ piece) added items new.bytes rest feeds.reads reads in
     (e ∙ ap (λ (t : List Item). before ++ t) same.0, same.1)
 
--- a front of the piece ends the item
-pub item_front : (old new : Rest) (held piece text rest : List ℕ) (item : Item) → held ≡ old.bytes → IsUnfinished held → ItemText item text
-    → held ++ piece ≡ text ++ rest → new ≡ record { bytes = []; ticks = 0 } → (front : List ℕ) × (piece ≡ front ++ rest) × Feeds old front new (item ∷ []) × GoesOn old (piece_of front) new (item ∷ [])
-item_front old new held piece text rest item same unfinished whole cut e =
+-- a prefix of the piece ends the item
+pub item_prefix : (old new : Rest) (held piece text rest : List ℕ) (item : Item) → held ≡ old.bytes → IsUnfinished held → ItemText item text
+    → held ++ piece ≡ text ++ rest → new ≡ record { bytes = []; ticks = 0 } → (prefix : List ℕ) × (piece ≡ prefix ++ rest) × Feeds old prefix new (item ∷ []) × GoesOn old (piece_of prefix) new (item ∷ [])
+item_prefix old new held piece text rest item same unfinished whole cut e =
     elim (cut_twice held piece text rest cut) [
       | inl w ↦
           (let feeds = feeds_whole old new held w.between item [] [] [] text same e whole (sym w.longer ∙ sym (append-nil text)) (tt, refl) in

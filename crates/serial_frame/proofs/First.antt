@@ -46,7 +46,7 @@ pub first : List ℕ → Option (Item × List ℕ)
 first [] = None
 first (b ∷ bytes) = if b == 1 then first_frame bytes else Some (first_single b, bytes)
 
--- a whole frame at the front
+-- a whole frame at the prefix
 first_framed : (counted : List ℕ) (got : ℕ) (x : List ℕ) → IsCounted counted → first (framed counted got ++ x) ≡ Some (judged counted got, x)
 unfolding first first_frame first_end
 first_framed counted got x counts =
@@ -56,10 +56,10 @@ first_framed counted got x counts =
     let enough : nat_lt (length ((counted ++ got ∷ []) ++ x)) (length counted + 1) ≡ false = le-ltb _ _ (omega arith) in
     let less : length counted + 1 - 1 ≡ length counted = omega arith in
     let regroup : (counted ++ got ∷ []) ++ x ≡ counted ++ (got ∷ x) = append_assoc counted (got ∷ []) x in
-    let front : take (length counted + 1 - 1) ((counted ++ got ∷ []) ++ x) ≡ counted = rw (less, regroup) (take-append_seam counted (got ∷ x)) in
+    let prefix : take (length counted + 1 - 1) ((counted ++ got ∷ []) ++ x) ≡ counted = rw (less, regroup) (take-append_seam counted (got ∷ x)) in
     let last : get_or ((counted ++ got ∷ []) ++ x) (length counted + 1 - 1) 0 ≡ got = rw (less, regroup) (get_or-append_seam counted got x 0) in
     let back : drop (length counted + 1) ((counted ++ got ∷ []) ++ x) ≡ x = rw (← len) (drop-append_seam (counted ++ got ∷ []) x) in
-    rw (low, enough, front, last, back) refl
+    rw (low, enough, prefix, last, back) refl
 
 -- the item of a frame with the right sum
 judged_good : (f : FrameParts) → judged (counted_of f) (checksum (counted_of f)) ≡ Good (Framed f)
@@ -92,7 +92,7 @@ first_short : (n : ℕ) (x : List ℕ) → n < 3 → first (1 ∷ n ∷ x) ≡ S
 unfolding first first_frame
 first_short n x low = rw (lt-ltb n 3 low) refl
 
--- the text of an item at the front gives that item
+-- the text of an item at the prefix gives that item
 pub first-item : (i : Item) (a x : List ℕ) → ItemText i a → first (a ++ x) ≡ Some (i, x)
 unfolding first first_single
 first-item (Good Ack) a x h = subst (λ (t : List ℕ). first (t ++ x) ≡ Some (Good Ack, x)) (sym h.1) refl
@@ -152,7 +152,7 @@ whole_not_unfinished (Refused (BadSum want got)) a x h u = framed_whole h.0 got 
 whole_not_unfinished (Refused (BadKind k)) a x h u = framed_whole (k ∷ h.0) _ x (subst (λ (t : List ℕ). IsUnfinished (t ++ x)) h.3 u)
 whole_not_unfinished (Refused Aborted) a x h u = absurd h
 
--- two texts at the front of the same bytes are of the same item
+-- two texts at the prefix of the same bytes are of the same item
 pub one_item : (i j : Item) (a b x y : List ℕ) → ItemText i a → ItemText j b → a ++ x ≡ b ++ y → (i ≡ j) × (x ≡ y)
 one_item i j a b x y h k e =
     let same : Some (i, x) ≡ Some (j, y) = sym (first-item i a x h) ∙ ap first e ∙ first-item j b y k in

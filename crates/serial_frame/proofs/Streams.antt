@@ -50,15 +50,15 @@ cut_twice (h ∷ a) x (k ∷ b) y e =
 
 -- the last element of a list that is not empty
 pub record Snoc {A : Type 0} (l : List A) : Type 0 where
-  pub front : List A
+  pub prefix : List A
   pub last : A
-  pub parts : l ≡ front ++ last ∷ []
+  pub parts : l ≡ prefix ++ last ∷ []
 
 pub snoc : {A : Type 0} (x : A) (xs : List A) → Snoc (x ∷ xs)
-snoc x [] = record { front = []; last = x; parts = refl }
+snoc x [] = record { prefix = []; last = x; parts = refl }
 snoc x (y ∷ xs) =
     let s = snoc y xs in
-    record { front = x ∷ s.front; last = s.last; parts = ap (λ t. x ∷ t) s.parts }
+    record { prefix = x ∷ s.prefix; last = s.last; parts = ap (λ t. x ∷ t) s.parts }
 
 pub starts-append : (s t : List Signal) → Starts s → Starts (s ++ t)
 starts-append [] t h = absurd h
@@ -113,10 +113,10 @@ starts_or_none s piece (inr h) = inr (starts-append s (piece_of piece) h)
 starts_or_none s [] (inl e) = inl (append-nil s ∙ e)
 starts_or_none s (b ∷ piece) (inl e) = inr (starts-piece s b (piece_of piece) (inl e))
 
--- nothing in front of nothing
-front_empty : (a b : List ℕ) → a ++ b ≡ [] → a ≡ []
-front_empty [] b e = refl
-front_empty (x ∷ a) b e = cc
+-- nothing before nothing
+prefix_empty : (a b : List ℕ) → a ++ b ≡ [] → a ≡ []
+prefix_empty [] b e = refl
+prefix_empty (x ∷ a) b e = cc
 
 -- all of the piece is of the unfinished frame
 leaves-piece : (old : Rest) (tail : List Signal) (piece : List ℕ) (new : Rest) → Leaves old tail
@@ -126,7 +126,7 @@ leaves-piece old tail piece new leaves e unfinished ticks =
       is_rest = record {
         unfinished = unfinished;
         ticks = omega (arith, leaves.is_rest.ticks);
-        idle = λ none. ticks ∙ leaves.is_rest.idle (front_empty old.bytes piece (e ∙ none));
+        idle = λ none. ticks ∙ leaves.is_rest.idle (prefix_empty old.bytes piece (e ∙ none));
       };
       bytes = bytes_of-append tail (piece_of piece) ∙ ap (λ (t : List ℕ). bytes_of tail ++ t) (bytes_of-piece piece) ∙ ap (λ (t : List ℕ). t ++ piece) leaves.bytes ∙ e;
       ticks = omega (arith, marks_of-append tail (piece_of piece), marks_of-piece piece, leaves.ticks);
@@ -138,19 +138,19 @@ spans-piece : (old : Rest) (tail : List Signal) (item : Item) (b : ℕ) (bs : Li
     → ItemText item (old.bytes ++ b ∷ bs) → Spans item (tail ++ piece_of (b ∷ bs))
 spans-piece old tail item b bs leaves whole =
     let s = snoc b bs in
-    let cut : piece_of (b ∷ bs) ≡ piece_of s.front ++ byte s.last ∷ [] = ap piece_of s.parts ∙ piece_of-append s.front (s.last ∷ []) in
-    let text : bytes_of (tail ++ piece_of s.front) ++ s.last ∷ [] ≡ old.bytes ++ b ∷ bs =
-    ap (λ (t : List ℕ). t ++ s.last ∷ []) (bytes_of-append tail (piece_of s.front) ∙ ap (λ (t : List ℕ). bytes_of tail ++ t) (bytes_of-piece s.front) ∙ ap (λ (t : List ℕ). t ++ s.front) leaves.bytes)
-    ∙ append_assoc old.bytes s.front (s.last ∷ [])
+    let cut : piece_of (b ∷ bs) ≡ piece_of s.prefix ++ byte s.last ∷ [] = ap piece_of s.parts ∙ piece_of-append s.prefix (s.last ∷ []) in
+    let text : bytes_of (tail ++ piece_of s.prefix) ++ s.last ∷ [] ≡ old.bytes ++ b ∷ bs =
+    ap (λ (t : List ℕ). t ++ s.last ∷ []) (bytes_of-append tail (piece_of s.prefix) ∙ ap (λ (t : List ℕ). bytes_of tail ++ t) (bytes_of-piece s.prefix) ∙ ap (λ (t : List ℕ). t ++ s.prefix) leaves.bytes)
+    ∙ append_assoc old.bytes s.prefix (s.last ∷ [])
     ∙ ap (λ (t : List ℕ). old.bytes ++ t) (sym s.parts)
     in
     record {
-      front = tail ++ piece_of s.front;
+      prefix = tail ++ piece_of s.prefix;
       last = byte s.last;
-      parts = ap (λ (t : List Signal). tail ++ t) cut ∙ sym (append_assoc tail (piece_of s.front) (byte s.last ∷ []));
+      parts = ap (λ (t : List Signal). tail ++ t) cut ∙ sym (append_assoc tail (piece_of s.prefix) (byte s.last ∷ []));
       starts = starts-piece tail b (piece_of bs) leaves.starts;
       closes = (
-        omega (arith, marks_of-append tail (piece_of s.front), marks_of-piece s.front, leaves.ticks, leaves.is_rest.ticks),
+        omega (arith, marks_of-append tail (piece_of s.prefix), marks_of-piece s.prefix, leaves.ticks, leaves.is_rest.ticks),
         subst (λ (t : List ℕ). ItemText item t) (sym text) whole,
       );
     }
@@ -253,7 +253,7 @@ goes-abort old some ticks stream items splits =
       is_idle,
       append_assoc idle tail (mark ∷ []) ∙ sym (append-nil (idle ++ (tail ++ mark ∷ []))),
       record {
-        front = tail;
+        prefix = tail;
         last = mark;
         parts = refl;
         starts = starts-append tail (mark ∷ []) (starts_tail old tail leaves some);
@@ -264,21 +264,21 @@ goes-abort old some ticks stream items splits =
 
 -- the last signal stays the last
 record EndsBetween (a c : List Signal) (z : Signal) : Type 0 where
-  pub front : List Signal
-  pub parts : c ≡ front ++ z ∷ []
+  pub prefix : List Signal
+  pub parts : c ≡ prefix ++ z ∷ []
 
-last_stays : (a c front : List Signal) (z : Signal) → a ++ c ≡ front ++ z ∷ [] → (c ≡ []) ⊎ EndsBetween a c z
-last_stays [] c front z e = inr (record { front = front; parts = e })
+last_stays : (a c prefix : List Signal) (z : Signal) → a ++ c ≡ prefix ++ z ∷ [] → (c ≡ []) ⊎ EndsBetween a c z
+last_stays [] c prefix z e = inr (record { prefix = prefix; parts = e })
 last_stays (x ∷ a) c [] z e = let tail : a ++ c ≡ [] = cc in inl (back_empty a c tail)
   where
     back_empty : (a c : List Signal) → a ++ c ≡ [] → c ≡ []
     back_empty [] c e = e
     back_empty (x ∷ a) c e = cc
-last_stays (x ∷ a) c (y ∷ front) z e =
-    let tail : a ++ c ≡ front ++ z ∷ [] = cc in
-    elim (last_stays a c front z tail) [
+last_stays (x ∷ a) c (y ∷ prefix) z e =
+    let tail : a ++ c ≡ prefix ++ z ∷ [] = cc in
+    elim (last_stays a c prefix z tail) [
       | inl none ↦ inl none
-      | inr w ↦ inr (record { front = w.front; parts = w.parts })
+      | inr w ↦ inr (record { prefix = w.prefix; parts = w.parts })
     ]
 
 snoc_some : (xs : List ℕ) (x : ℕ) → xs ++ x ∷ [] ≡ [] → ⊥
@@ -286,66 +286,66 @@ snoc_some [] x e = cc
 snoc_some (y ∷ xs) x e = cc
 
 -- an item that ends with a byte
-whole_span : (item : Item) (span front : List Signal) (b : ℕ) → span ≡ front ++ byte b ∷ [] → Closes item front (byte b)
+whole_span : (item : Item) (span prefix : List Signal) (b : ℕ) → span ≡ prefix ++ byte b ∷ [] → Closes item prefix (byte b)
     → ItemText item (bytes_of span) × (marks_of span < 15)
-whole_span item span front b parts (few, text) = (
-  subst (λ (t : List ℕ). ItemText item t) (sym (ap bytes_of parts ∙ bytes_of-append front (byte b ∷ []))) text,
-  omega (arith, ap marks_of parts, marks_of-append front (byte b ∷ [])),
+whole_span item span prefix b parts (few, text) = (
+  subst (λ (t : List ℕ). ItemText item t) (sym (ap bytes_of parts ∙ bytes_of-append prefix (byte b ∷ []))) text,
+  omega (arith, ap marks_of parts, marks_of-append prefix (byte b ∷ [])),
 )
 
 -- an item that ends with a tick
-aborted_span : (item : Item) (span front : List Signal) → span ≡ front ++ mark ∷ [] → Closes item front mark
+aborted_span : (item : Item) (span prefix : List Signal) → span ≡ prefix ++ mark ∷ [] → Closes item prefix mark
     → IsUnfinished (bytes_of span) × (marks_of span ≡ 15)
-aborted_span item span front parts (all, unfinished, aborted) = (
-  subst (λ (t : List ℕ). IsUnfinished t) (sym (ap bytes_of parts ∙ bytes_of-append front (mark ∷ []) ∙ append-nil (bytes_of front))) unfinished,
-  omega (arith, ap marks_of parts, marks_of-append front (mark ∷ [])),
+aborted_span item span prefix parts (all, unfinished, aborted) = (
+  subst (λ (t : List ℕ). IsUnfinished t) (sym (ap bytes_of parts ∙ bytes_of-append prefix (mark ∷ []) ∙ append-nil (bytes_of prefix))) unfinished,
+  omega (arith, ap marks_of parts, marks_of-append prefix (mark ∷ [])),
 )
 
 -- after a whole item no byte comes, and after fifteen ticks no tick
-byte_stays : (a c front : List Signal) (b : ℕ) → a ++ c ≡ front ++ byte b ∷ [] → bytes_of c ≡ [] → c ≡ []
-byte_stays a c front b e none =
-    elim (last_stays a c front (byte b) e) [
+byte_stays : (a c prefix : List Signal) (b : ℕ) → a ++ c ≡ prefix ++ byte b ∷ [] → bytes_of c ≡ [] → c ≡ []
+byte_stays a c prefix b e none =
+    elim (last_stays a c prefix (byte b) e) [
       | inl empty ↦ empty
-      | inr w ↦ absurd (snoc_some (bytes_of w.front) b (sym (ap bytes_of w.parts ∙ bytes_of-append w.front (byte b ∷ [])) ∙ none))
+      | inr w ↦ absurd (snoc_some (bytes_of w.prefix) b (sym (ap bytes_of w.parts ∙ bytes_of-append w.prefix (byte b ∷ [])) ∙ none))
     ]
 
-mark_stays : (a c front : List Signal) → a ++ c ≡ front ++ mark ∷ [] → marks_of c ≡ 0 → c ≡ []
-mark_stays a c front e none =
-    elim (last_stays a c front mark e) [
+mark_stays : (a c prefix : List Signal) → a ++ c ≡ prefix ++ mark ∷ [] → marks_of c ≡ 0 → c ≡ []
+mark_stays a c prefix e none =
+    elim (last_stays a c prefix mark e) [
       | inl empty ↦ empty
-      | inr w ↦ absurd (omega (arith, none, ap marks_of w.parts, marks_of-append w.front (mark ∷ [])))
+      | inr w ↦ absurd (omega (arith, none, ap marks_of w.parts, marks_of-append w.prefix (mark ∷ [])))
     ]
 
 -- a span that begins another is all of it
-longer_span : (i j : Item) (a c front : List Signal) (last : Signal) (front' : List Signal) (last' : Signal)
-    → a ≡ front ++ last ∷ [] → Closes i front last → a ++ c ≡ front' ++ last' ∷ [] → Closes j front' last'
+longer_span : (i j : Item) (a c prefix : List Signal) (last : Signal) (prefix' : List Signal) (last' : Signal)
+    → a ≡ prefix ++ last ∷ [] → Closes i prefix last → a ++ c ≡ prefix' ++ last' ∷ [] → Closes j prefix' last'
     → (i ≡ j) × (c ≡ [])
-longer_span i j a c front (byte b) front' (byte b') parts closes parts' closes' =
-    let short = whole_span i a front b parts closes in
-    let long = whole_span j (a ++ c) front' b' parts' closes' in
+longer_span i j a c prefix (byte b) prefix' (byte b') parts closes parts' closes' =
+    let short = whole_span i a prefix b parts closes in
+    let long = whole_span j (a ++ c) prefix' b' parts' closes' in
     let same = no_longer i j (bytes_of a) (bytes_of c) short.0 (subst (λ (t : List ℕ). ItemText j t) (bytes_of-append a c) long.0) in
-    (same.0, byte_stays a c front' b' parts' same.1)
-longer_span i j a c front (byte b) front' mark parts closes parts' closes' =
-    let short = whole_span i a front b parts closes in
-    let long = aborted_span j (a ++ c) front' parts' closes' in
+    (same.0, byte_stays a c prefix' b' parts' same.1)
+longer_span i j a c prefix (byte b) prefix' mark parts closes parts' closes' =
+    let short = whole_span i a prefix b parts closes in
+    let long = aborted_span j (a ++ c) prefix' parts' closes' in
     absurd (whole_not_unfinished i (bytes_of a) (bytes_of c) short.0 (subst (λ (t : List ℕ). IsUnfinished t) (bytes_of-append a c) long.0))
-longer_span i j a c front mark front' (byte b') parts closes parts' closes' =
-    let short = aborted_span i a front parts closes in
-    let long = whole_span j (a ++ c) front' b' parts' closes' in
+longer_span i j a c prefix mark prefix' (byte b') parts closes parts' closes' =
+    let short = aborted_span i a prefix parts closes in
+    let long = whole_span j (a ++ c) prefix' b' parts' closes' in
     absurd (omega (arith, short.1, long.1, marks_of-append a c))
-longer_span i j a c front mark front' mark parts closes parts' closes' =
-    let short = aborted_span i a front parts closes in
-    let long = aborted_span j (a ++ c) front' parts' closes' in
-    (closes.2 ∙ sym closes'.2, mark_stays a c front' parts' (omega (arith, short.1, long.1, marks_of-append a c)))
+longer_span i j a c prefix mark prefix' mark parts closes parts' closes' =
+    let short = aborted_span i a prefix parts closes in
+    let long = aborted_span j (a ++ c) prefix' parts' closes' in
+    (closes.2 ∙ sym closes'.2, mark_stays a c prefix' parts' (omega (arith, short.1, long.1, marks_of-append a c)))
 
 -- what is left unfinished begins with no item
-item_in_tail : (i : Item) (a c front : List Signal) (last : Signal) (rest : Rest) → a ≡ front ++ last ∷ [] → Closes i front last → Leaves rest (a ++ c) → ⊥
-item_in_tail i a c front (byte b) rest parts closes leaves =
-    let short = whole_span i a front b parts closes in
+item_in_tail : (i : Item) (a c prefix : List Signal) (last : Signal) (rest : Rest) → a ≡ prefix ++ last ∷ [] → Closes i prefix last → Leaves rest (a ++ c) → ⊥
+item_in_tail i a c prefix (byte b) rest parts closes leaves =
+    let short = whole_span i a prefix b parts closes in
     let bytes : rest.bytes ≡ bytes_of a ++ bytes_of c = sym leaves.bytes ∙ bytes_of-append a c in
     whole_not_unfinished i (bytes_of a) (bytes_of c) short.0 (subst (λ (t : List ℕ). IsUnfinished t) bytes leaves.is_rest.unfinished)
-item_in_tail i a c front mark rest parts closes leaves =
-    let short = aborted_span i a front parts closes in
+item_in_tail i a c prefix mark rest parts closes leaves =
+    let short = aborted_span i a prefix parts closes in
     omega (arith, short.1, leaves.ticks, leaves.is_rest.ticks, marks_of-append a c)
 
 -- what begins with a byte does not begin with a tick
@@ -370,15 +370,15 @@ idle_same (mark ∷ idle) s (mark ∷ idle') s' i i' h h' e =
 same_rest : (r e : Rest) → r.bytes ≡ e.bytes → r.ticks ≡ e.ticks → r ≡ e
 same_rest r e bytes ticks = ap (λ (b : List ℕ). record { bytes = b; ticks = r.ticks }) bytes ∙ ap (λ (t : ℕ). record { bytes = e.bytes; ticks = t }) ticks
 
--- two items at the front of one stream are the same
-same_front : (i j : Item) (span more span' more' : List Signal) → Spans i span → Spans j span' → span ++ more ≡ span' ++ more' → (i ≡ j) × (more ≡ more')
-same_front i j span more span' more' spans spans' e =
+-- two items at the prefix of one stream are the same
+same_prefix : (i j : Item) (span more span' more' : List Signal) → Spans i span → Spans j span' → span ++ more ≡ span' ++ more' → (i ≡ j) × (more ≡ more')
+same_prefix i j span more span' more' spans spans' e =
     elim (cut_twice span more span' more' e) [
       | inl w ↦
-          (let same = longer_span i j span w.between spans.front spans.last spans'.front spans'.last spans.parts spans.closes (sym w.longer ∙ spans'.parts) spans'.closes in
+          (let same = longer_span i j span w.between spans.prefix spans.last spans'.prefix spans'.last spans.parts spans.closes (sym w.longer ∙ spans'.parts) spans'.closes in
           (same.0, w.left ∙ ap (λ (t : List Signal). t ++ more') same.1))
       | inr w ↦
-          (let same = longer_span j i span' w.between spans'.front spans'.last spans.front spans.last spans'.parts spans'.closes (sym w.longer ∙ spans.parts) spans.closes in
+          (let same = longer_span j i span' w.between spans'.prefix spans'.last spans.prefix spans.last spans'.parts spans'.closes (sym w.longer ∙ spans.parts) spans.closes in
           (sym same.0, sym (w.left ∙ ap (λ (t : List Signal). t ++ more) same.1)))
     ]
 
@@ -389,14 +389,14 @@ one-splitting stream [] [] rest end (idle, tail, is_idle, e, leaves) (idle', tai
     (refl, same_rest rest end (sym leaves.bytes ∙ ap bytes_of same ∙ leaves'.bytes) (sym leaves.ticks ∙ ap marks_of same ∙ leaves'.ticks))
 one-splitting stream [] (j ∷ others) rest end (idle, tail, is_idle, e, leaves) (idle', span, more, is_idle', e', spans, splits) =
     let same = idle_same idle tail idle' (span ++ more) is_idle is_idle' leaves.starts (inr (starts-append span more spans.starts)) (sym e ∙ e' ∙ append_assoc idle' span more) in
-    absurd (item_in_tail j span more spans.front spans.last rest spans.parts spans.closes (subst (λ (t : List Signal). Leaves rest t) same leaves))
+    absurd (item_in_tail j span more spans.prefix spans.last rest spans.parts spans.closes (subst (λ (t : List Signal). Leaves rest t) same leaves))
 one-splitting stream (i ∷ items) [] rest end (idle, span, more, is_idle, e, spans, splits) (idle', tail, is_idle', e', leaves) =
     let same = idle_same idle' tail idle (span ++ more) is_idle' is_idle leaves.starts (inr (starts-append span more spans.starts)) (sym e' ∙ e ∙ append_assoc idle span more) in
-    absurd (item_in_tail i span more spans.front spans.last end spans.parts spans.closes (subst (λ (t : List Signal). Leaves end t) same leaves))
+    absurd (item_in_tail i span more spans.prefix spans.last end spans.parts spans.closes (subst (λ (t : List Signal). Leaves end t) same leaves))
 one-splitting stream (i ∷ items) (j ∷ others) rest end (idle, span, more, is_idle, e, spans, splits) (idle', span', more', is_idle', e', spans', splits') =
     let same = idle_same idle (span ++ more) idle' (span' ++ more') is_idle is_idle' (inr (starts-append span more spans.starts)) (inr (starts-append span' more' spans'.starts))
     (sym (append_assoc idle span more) ∙ sym e ∙ e' ∙ append_assoc idle' span' more')
     in
-    let first = same_front i j span more span' more' spans spans' same in
+    let first = same_prefix i j span more span' more' spans spans' same in
     let later = one-splitting more' items others rest end (subst (λ (t : List Signal). Splits t items rest) first.1 splits) splits' in
     ((cc (first.0, later.0)), later.1)

@@ -45,16 +45,16 @@ IsIdle idle = bytes_of idle ≡ []
 
 -- An item ends with the last byte of its text, before the fifteenth tick; an unfinished frame ends at the fifteenth tick.
 abbrev pub Closes : Item → List Signal → Signal → Type 0
-Closes item front (byte b) = (marks_of front < 15) × ItemText item (bytes_of front ++ b ∷ [])
-Closes item front mark = (marks_of front ≡ 14) × IsUnfinished (bytes_of front) × (item ≡ Refused Aborted)
+Closes item prefix (byte b) = (marks_of prefix < 15) × ItemText item (bytes_of prefix ++ b ∷ [])
+Closes item prefix mark = (marks_of prefix ≡ 14) × IsUnfinished (bytes_of prefix) × (item ≡ Refused Aborted)
 
 -- the signals of an item, from the first byte to where it ends
 pub record Spans (item : Item) (span : List Signal) : Type 0 where
-  pub front : List Signal
+  pub prefix : List Signal
   pub last : Signal
-  pub parts : span ≡ front ++ last ∷ []
+  pub parts : span ≡ prefix ++ last ∷ []
   pub starts : Starts span
-  pub closes : Closes item front last
+  pub closes : Closes item prefix last
 
 -- an unfinished frame and the number of ticks since its first byte
 pub record Rest : Type 0 where
@@ -105,10 +105,10 @@ pub record Feeds (old : Rest) (piece : List ℕ) (new : Rest) (added : List Item
 abbrev pub GoesOn : Rest → List Signal → Rest → List Item → Type 0
 GoesOn old signals new added = (stream : List Signal) (items : List Item) → Splits stream items old → Splits (stream ++ signals) (items ++ added) new
 
--- From the old rest, a front of the piece ends the one item, or the whole piece ends none; each splitting of the stream so far goes on.
+-- From the old rest, a prefix of the piece ends the one item, or the whole piece ends none; each splitting of the stream so far goes on.
 abbrev pub FeedsOne : Rest → List ℕ → Rest → Option Item → List ℕ → Type 0
 FeedsOne old piece new None left = (left ≡ []) × Feeds old piece new [] × GoesOn old (piece_of piece) new []
-FeedsOne old piece new (Some item) left = (front : List ℕ) × (piece ≡ front ++ left) × Feeds old front new (item ∷ []) × GoesOn old (piece_of front) new (item ∷ [])
+FeedsOne old piece new (Some item) left = (prefix : List ℕ) × (piece ≡ prefix ++ left) × Feeds old prefix new (item ∷ []) × GoesOn old (piece_of prefix) new (item ∷ [])
 
 -- ticks are counted where a frame is unfinished
 abbrev pub next_tick : List ℕ → ℕ → ℕ

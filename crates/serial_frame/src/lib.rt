@@ -1,4 +1,4 @@
-//! Units of the Z-Wave Serial API: what stands on the line between host and chip.
+//! Units of the Z-Wave Serial API: what depends on the line between host and chip.
 //!
 //! It promises that a unit is written in its one layout, and that a stream of bytes and tick marks is split in
 //! the one way that there is, in whatever pieces it comes.

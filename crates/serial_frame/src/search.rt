@@ -129,14 +129,14 @@ fn judge(alloc: Global, counted: &[u8], last: &[u8], want: u8, got: u8) -> Resul
 }
 
 /// The byte at a place in two parts.
-fn byte_at(front: &[u8], back: &[u8], i: usize) -> u8
-    requires { i < length front.now + length back.now }
-    ensures { result ≡ slice_index (front.now ++ back.now) i }
+fn byte_at(prefix: &[u8], back: &[u8], i: usize) -> u8
+    requires { i < length prefix.now + length back.now }
+    ensures { result ≡ slice_index (prefix.now ++ back.now) i }
 {
-    if i < front.len() {
-        front[i]
+    if i < prefix.len() {
+        prefix[i]
     } else {
-        back[i - front.len()]
+        back[i - prefix.len()]
     }
 }
 

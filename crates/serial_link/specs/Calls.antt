@@ -46,14 +46,14 @@ abbrev pub OnlyTakes : LinkState → List ℕ → LinkState → List LinkOut →
 OnlyTakes old bytes new before after = (items : List Item) (rest : List ℕ) → Reads (old.decoder.bytes ++ bytes) items rest →
     (new ≡ record { decoder = record { bytes = rest; ticks = ticks_after old.decoder.ticks items }; side = hear_all old.side items }) × (after ≡ before ++ outs_of (heard_steps old.side items))
 
--- a front of these bytes was taken, and the rest was not
-pub record TakesFront (old : LinkState) (bytes : List ℕ) (new : LinkState) (before after : List LinkOut) : Type 0 where
-  pub front : List ℕ
+-- a prefix of these bytes was taken, and the rest was not
+pub record TakesPrefix (old : LinkState) (bytes : List ℕ) (new : LinkState) (before after : List LinkOut) : Type 0 where
+  pub prefix : List ℕ
   pub left : List ℕ
-  pub parts : bytes ≡ front ++ left
-  pub takes : Takes old front new before after
+  pub parts : bytes ≡ prefix ++ left
+  pub takes : Takes old prefix new before after
 
--- One event: a front of the bytes ends an item, and what is left is shorter; or all of them end none.
+-- One event: a prefix of the bytes ends an item, and what is left is shorter; or all of them end none.
 abbrev pub TakesOne : LinkState → List ℕ → LinkState → List LinkOut → List LinkOut → Option (Bor (List ℕ)) → Type 0
-TakesOne old bytes new before after (Some left) = (front : List ℕ) × (bytes ≡ front ++ left.now) × (length left.now < length bytes) × Takes old front new before after
+TakesOne old bytes new before after (Some left) = (prefix : List ℕ) × (bytes ≡ prefix ++ left.now) × (length left.now < length bytes) × Takes old prefix new before after
 TakesOne old bytes new before after None = Takes old bytes new before after

@@ -3,9 +3,21 @@
 ghost use Rattle.std.specs.Prelude.{◌≡◌, ◌↔◌, ◌+◌, ◌-◌, ◌^◌, ◌<◌, ◌≤◌, ◌++◌, [], ◌∷◌, false, nat_lt, length, IsTrue, IfOk, OnOk, OnErr, OnSome};
 ghost use Rattle.serial_frame.specs.Stream.{mark, after_tick, IsRest, FeedsOne};
 ghost use Rattle.serial_link.specs.State;
-ghost use Rattle.serial_link.specs.State.{copy_due, fresh, IsBusy, IsTurn, answer, turn_heard, outs_heard, collisions_after, hear_all, tick_side, submitted_link};
+ghost use Rattle.serial_link.specs.State.{
+  copy_due,
+  fresh,
+  IsBusy,
+  IsTurn,
+  answer,
+  turn_heard,
+  outs_heard,
+  collisions_after,
+  hear_all,
+  tick_side,
+  submitted_link,
+};
 ghost use Rattle.serial_link.specs.Rules.{Obeys, KeepsRules, outs_of, asked};
-ghost use Rattle.serial_link.specs.Calls.{Takes, OnlyTakes, TakesFront, TakesOne, submit_step, aborted_at, tick_steps};
+ghost use Rattle.serial_link.specs.Calls.{Takes, OnlyTakes, TakesPrefix, TakesOne, submit_step, aborted_at, tick_steps};
 
 use crate::{LinkOut, SubmitFault, Turn, turn};
 use serial_frame::{Decoder, Frame, Item, Refusal, Unit};
@@ -82,7 +94,7 @@ impl Link {
         ensures outs { OnOk result (out.new.items ≡ out.old.items ++ LinkOut.Write (Unit.Framed frame) ∷ []) }
         ensures rules { OnOk result (KeepsRules self.old [] (submit_step frame ∷ []) self.new) }
 
-        // Busy comes before want of memory, and both leave all as it was.
+        // Busy comes before an allocation failure, and both leave all as it was.
         ensures busy { (result ≡ Err SubmitFault.Busy) ↔ IsBusy self.old.side.turn }
         ensures err { OnErr result ((self.new ≡ self.old) × (out.new.items ≡ out.old.items)) }
     {
@@ -105,7 +117,7 @@ impl Link {
     pub fn feed(&mut self, piece: &[u8], out: &mut List<LinkOut>) -> Result<(), NoMemory>
         ensures ok { OnOk result (Takes self.old piece.now self.new out.old.items out.new.items) }
         ensures only { OnOk result (OnlyTakes self.old piece.now self.new out.old.items out.new.items) }
-        ensures err { OnErr result (TakesFront self.old piece.now self.new out.old.items out.new.items) }
+        ensures err { OnErr result (TakesPrefix self.old piece.now self.new out.old.items out.new.items) }
     {
         let mut left = piece;
         while let Some(rest) = self.take_item(left, out)? {

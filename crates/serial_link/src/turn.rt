@@ -1,7 +1,19 @@
 //! The frame that a side submitted, from its first copy to Sent or Failed.
 
 ghost use Rattle.std.specs.Prelude.{◌≡◌, ◌++◌, ◌+◌, ◌<◌, ◌≤◌, ◌↔◌, IsTrue, IfOk};
-ghost use Rattle.serial_link.specs.State.{IsBusy, IsTurn, pause_after, outs_acknowledged, turn_ended, outs_ended, turn_refused, outs_refused, copy_due, turn_ticked, outs_ticked};
+ghost use Rattle.serial_link.specs.State.{
+  IsBusy,
+  IsTurn,
+  pause_after,
+  outs_acknowledged,
+  turn_ended,
+  outs_ended,
+  turn_refused,
+  outs_refused,
+  copy_due,
+  turn_ticked,
+  outs_ticked,
+};
 
 use crate::LinkOut;
 use serial_frame::{Frame, Unit};

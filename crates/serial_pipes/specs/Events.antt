@@ -1,4 +1,4 @@
--- What happens to one direction of the serial line, and what is told of it (this project's own rule, docs/OUTSIDE.md).
+-- What happens to one direction of the serial line, and what is told of it (this project's own rule, docs/MACHINE.md).
 use Rattle.std.specs.Prelude.{ℕ, ◌+◌, List, [], ◌∷◌, ◌++◌, drop}
 use Rattle.serial_frame.specs.declared.unit.Unit.{Unit as LineUnit}
 use Rattle.serial_frame.specs.Items.{unit_text}

@@ -1,4 +1,4 @@
--- One direction of the serial line between host and chip (this project's own rule, docs/OUTSIDE.md).
+-- One direction of the serial line between host and chip (this project's own rule, docs/MACHINE.md).
 use Rattle.std.specs.Prelude.{ℕ, ◌+◌, ◌-◌, Bool, nat_le, nat_lt, min, if◌then◌else◌, List, [], ◌∷◌, ◌++◌, length, drop, slice_set, slice_index, bit_xor}
 use Rattle.serial_frame.specs.declared.unit.Unit.{Unit as LineUnit}
 use Rattle.serial_frame.specs.declared.unit.Unit.TheVariants.{Ack, Nak, Can, Framed}
@@ -46,7 +46,7 @@ used_up marks Free = marks
 used_up marks Lost = record marks { drops = marks.drops - 1 }
 used_up marks (Changed garble) = record marks { garbles = drop 1 marks.garbles }
 
--- the place of the byte that is changed: counted from the Type on, and that of the Checksum where it lies behind it
+-- the place of the byte that is changed: counted from the Type on, and that of the Checksum where it lies after it
 abbrev pub garbled_place : Garble → List ℕ → ℕ
 garbled_place garble text = min (2 + garble.place) (length text - 1)
 

@@ -1,9 +1,9 @@
-//! The serial line between host and chip, one direction at a time: the bytes on their way, and the marks of units that
-//! are to be lost or changed.
+//! One direction of the serial line between host and chip: the bytes on their way, and the marks of units to be lost or
+//! changed.
 //!
-//! It promises that what each event makes of a direction, and what is told of a unit that is written, are functions of
-//! the direction before, and that an event that finds no memory is not done.
-//! The definitions stand in `specs/`: `State` (what a direction is) and `Events` (what happens to it).
+//! It promises that what each event does to a direction, and what is told of a unit that is written, are functions of
+//! the direction before, and that an event for which memory runs out is not done.
+//! The definitions are in `specs/`: `State` (what a direction is) and `Events` (what happens to it).
 #![tactic(auto)]
 
 mod marks;

@@ -61,7 +61,7 @@ impl Pipe {
         }
     }
 
-    /// Moves the first bytes to the front of `into`, as many as there are and as it takes, and answers how many.
+    /// Moves the first bytes to the prefix of `into`, as many as there are and as it takes, and answers how many.
     pub(crate) fn take(&mut self, into: &mut [u8]) -> usize
         ensures count { result ≡ min (length into.old) (length self.old) }
         ensures moved { into.new ≡ take result self.old ++ drop result into.old }

@@ -135,7 +135,7 @@ impl Way {
         self.pipe.put(text);
     }
 
-    /// Moves the first bytes to the front of `into`, as many as there are and as it takes, and answers how many.
+    /// Moves the first bytes to the prefix of `into`, as many as there are and as it takes, and answers how many.
     pub fn take(&mut self, into: &mut [u8]) -> usize
         ensures count { result ≡ min (length into.old) (length self.old.bytes) }
         ensures moved { into.new ≡ take result self.old.bytes ++ drop result into.old }

@@ -78,14 +78,14 @@ EndsAgree-begins host device command agree none =
     let longer : length (host.commands ++ command ∷ []) ≡ length host.commands + 1 = grind (arith, length-append) in
     record {
       not_ahead = omega arith;
-      one_behind = omega arith;
+      one_after = omega arith;
       settled = λ status e. absurd (grind arith);
     }
 
 pub EndsAgree-attempts : (host : HostBook) (device : Taken) (now : ℕ) → EndsAgree host device → EndsAgree (with_attempts host now) device
 EndsAgree-attempts host device now agree = record {
   not_ahead = agree.not_ahead;
-  one_behind = agree.one_behind;
+  one_after = agree.one_after;
   settled = λ status e. let was : IsSettled host device status = agree.settled status e in record {
     begun = was.begun;
     taken = was.taken;
@@ -97,7 +97,7 @@ EndsAgree-attempts host device now agree = record {
 pub EndsAgree-taken : (host : HostBook) (device : Taken) → EndsAgree host device → device.taken + 1 ≤ begun_of host → EndsAgree host (record { taken = device.taken + 1; status = WORKING })
 EndsAgree-taken host device agree below = record {
   not_ahead = below;
-  one_behind = let behind : begun_of host ≤ device.taken + 1 = agree.one_behind in omega arith;
+  one_after = let following : begun_of host ≤ device.taken + 1 = agree.one_after in omega arith;
   settled = λ status e.
       let all : device.taken ≡ begun_of host = (agree.settled status e).taken in absurd (omega arith);
 }
@@ -105,7 +105,7 @@ EndsAgree-taken host device agree below = record {
 pub EndsAgree-finished : (host : HostBook) (device : Taken) (status : ℕ) → EndsAgree host device → device.status ≡ WORKING → EndsAgree host (finished device status)
 EndsAgree-finished host device status agree working = record {
   not_ahead = agree.not_ahead;
-  one_behind = agree.one_behind;
+  one_after = agree.one_after;
   settled = λ other e. let was : IsSettled host device other = agree.settled other e in absurd (was.final (sym was.status_kept ∙ working));
 }
 
@@ -118,7 +118,7 @@ EndsAgree-told host device report agree fits is_open final =
     let same : report.session ≡ device.taken = omega arith in
     record {
       not_ahead = agree.not_ahead;
-      one_behind = agree.one_behind;
+      one_after = agree.one_after;
       settled = λ status e.
           let equal : report.status ≡ status = grind arith in
           record {
@@ -179,7 +179,7 @@ get_names device get within near = record {
 pub get_in_time : (host : HostBook) (device : Taken) (get : Get) → EndsAgree host device → GetFits host.commands get → begun_of host ≤ get.begun + 61 → GetNames device get
 get_in_time host device get agree fits fresh =
     let below : device.taken ≤ begun_of host = agree.not_ahead in
-    let behind : begun_of host ≤ device.taken + 1 = agree.one_behind in
+    let following : begun_of host ≤ device.taken + 1 = agree.one_after in
     let after : get.session ≤ get.begun = fits.after_begin in
     let before : get.begun ≤ get.session + 1 = fits.before_second in
     let already : get.begun ≤ begun_of host = fits.already in
@@ -192,7 +192,7 @@ ReportFits-sent host device agree some = record {
   from_one = some;
   of_taken = omega arith;
   after_begin = agree.not_ahead;
-  before_second = agree.one_behind;
+  before_second = agree.one_after;
   already = omega arith;
   tells = λ _ _. refl;
 }
@@ -278,7 +278,7 @@ pub EndsAgree-heard : (host : HostBook) (device : Taken) (get : Get) → EndsAgr
 EndsAgree-heard host device get agree fits near =
     let after : get.session ≤ get.begun = fits.after_begin in
     let already : get.begun ≤ begun_of host = fits.already in
-    let behind : begun_of host ≤ device.taken + 1 = agree.one_behind in
+    let following : begun_of host ≤ device.taken + 1 = agree.one_after in
     let names : GetNames device get = get_names device get (omega arith) near in
     elim (after_get-cases device (wire_id get.session)) [
       | inl same ↦ rw same agree
@@ -322,7 +322,7 @@ EndsAgree-reported host device report agree fits near =
 pub EndsAgree-start : EndsAgree no_sessions none_taken
 EndsAgree-start = record {
   not_ahead = omega arith;
-  one_behind = omega arith;
+  one_after = omega arith;
   settled = λ status e. absurd (grind arith);
 }
 

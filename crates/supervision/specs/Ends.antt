@@ -39,7 +39,7 @@ pub record IsSettled (host : HostBook) (device : Taken) (status : ℕ) : Type 0 
 -- the device has taken every session begun, or all but the last, and knows how the last one ended where the host does
 pub record EndsAgree (host : HostBook) (device : Taken) : Type 0 where
   pub not_ahead : device.taken ≤ begun_of host
-  pub one_behind : begun_of host ≤ device.taken + 1
+  pub one_after : begun_of host ≤ device.taken + 1
   pub settled : (status : ℕ) → host.outcome ≡ Some status → IsSettled host device status
 
 -- a Get is of a session begun, carries that session's command, and was first sent before the second one after it

@@ -105,7 +105,7 @@ impl HostNode {
             (result ≡ Err (BeginFault.StillBegun session)) ↔ (open_session self.old.book ≡ Some session) }
         ensures err { OnErr result (self.new ≡ self.old) }
 
-        // After `reserve` it cannot fail for want of memory, and it takes up one place.
+        // After `reserve` it cannot fail for lack of memory, and it takes up one place.
         ensures room { 0 < self.old.room → result ≢ Err BeginFault.NoMemory }
         ensures places { self.old.room ≤ self.new.room + 1 }
     {

@@ -8,7 +8,24 @@ ghost use Rattle.supervision.specs.Host.{HostBook, no_sessions, begun_of, open_s
 ghost use Rattle.supervision.specs.Device.{Taken, none_taken, heard_of, after_get, finished};
 ghost use Rattle.supervision.specs.Ends.{Get, Report, EndsAgree, GetFits, ReportFits, is_fresh, is_fresh_on_line, is_fresh_segment};
 ghost use Rattle.supervision.specs.declared.session.TheConstants.{SUCCESS, WORKING, FAIL};
-ghost use Rattle.supervision.specs.Once.{Always, IsEarlier, IsBegun, GetsNameOne, ReportsNameOne, MayHearGet, MayHearReport, KnowsEnd, SuccessIsChange, RefusalIsNoChange, EachEndedBefore, changes, run, start, worked_events, ended_as};
+ghost use Rattle.supervision.specs.Once.{
+  Always,
+  IsEarlier,
+  IsBegun,
+  GetsNameOne,
+  ReportsNameOne,
+  MayHearGet,
+  MayHearReport,
+  KnowsEnd,
+  SuccessIsChange,
+  RefusalIsNoChange,
+  EachEndedBefore,
+  changes,
+  run,
+  start,
+  worked_events,
+  ended_as,
+};
 
 use crate::{Heard, Told};
 
@@ -21,7 +38,7 @@ pub fn once_only()
     ensures begun { Always (λ w. All (IsBegun w.host.commands) w.done) }
     // The device has taken all the sessions begun, or all but the last.
     ensures not_ahead { Always (λ w. w.device.taken ≤ begun_of w.host) }
-    ensures one_behind { Always (λ w. begun_of w.host ≤ w.device.taken + 1) }
+    ensures one_after { Always (λ w. begun_of w.host ≤ w.device.taken + 1) }
 
     // An id names one session, at either end.
     ensures get_names_one { Always (λ w. (get : Get) → MayHearGet w get → GetsNameOne w get) }

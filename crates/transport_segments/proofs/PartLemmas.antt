@@ -4,34 +4,34 @@ use Rattle.std.specs.Prelude.{nat_lt, cond, slice_get}
 use Rattle.std.proofs.lemmas.Bool.{lt-ltb, le-ltb, eq-eqb, ne_eqb, cases_lt}
 use Rattle.std.proofs.lemmas.Option.{slice_get_within}
 use Rattle.std.proofs.lemmas.List.{take_all, take-append-le, get_or-append_right, get_or-take, get_or-drop, length-take}
-use Rattle.transport_segments.specs.Segment.{IsSegment, size_of, id_of, extension_of, offset_of, covered_of, payload_of, check_of, with_check, segment_front, segment_text}
+use Rattle.transport_segments.specs.Segment.{IsSegment, size_of, id_of, extension_of, offset_of, covered_of, payload_of, check_of, with_check, segment_prefix, segment_text}
 use Rattle.transport_segments.specs.Parts.{Parts, slice_at}
 use Rattle.transport_segments.specs.Runs.{IsDatagram, IsPart, IsAmong}
 use Rattle.zw_base.specs.Crc.{crc}
 
-length-with_check : (front : List ℕ) → length (with_check front) ≡ length front + 2
-length-with_check front = length-append front (crc front / 256 ∷ crc front % 256 ∷ [])
+length-with_check : (prefix : List ℕ) → length (with_check prefix) ≡ length prefix + 2
+length-with_check prefix = length-append prefix (crc prefix / 256 ∷ crc prefix % 256 ∷ [])
 
-covered-with_check : (front : List ℕ) → covered_of (with_check front) ≡ front
-covered-with_check front =
-    let len = length-with_check front in
-    let same : length (with_check front) - 2 ≡ length front = omega arith in
-    ap (λ (n : ℕ). take n (with_check front)) same
-    ∙ take-append-le (length front) front (crc front / 256 ∷ crc front % 256 ∷ []) (omega arith)
-    ∙ take_all (length front) front (omega arith)
+covered-with_check : (prefix : List ℕ) → covered_of (with_check prefix) ≡ prefix
+covered-with_check prefix =
+    let len = length-with_check prefix in
+    let same : length (with_check prefix) - 2 ≡ length prefix = omega arith in
+    ap (λ (n : ℕ). take n (with_check prefix)) same
+    ∙ take-append-le (length prefix) prefix (crc prefix / 256 ∷ crc prefix % 256 ∷ []) (omega arith)
+    ∙ take_all (length prefix) prefix (omega arith)
 
-check-with_check : (front : List ℕ) → check_of (with_check front) ≡ crc front
-check-with_check front =
-    let len = length-with_check front in
-    let pair : List ℕ = crc front / 256 ∷ crc front % 256 ∷ [] in
-    let high : get_or (with_check front) (length (with_check front) - 2) 0 ≡ get_or pair (length (with_check front) - 2 - length front) 0 =
-    get_or-append_right front pair (length front) (length (with_check front) - 2) 0 refl (omega arith) in
-    let low : get_or (with_check front) (length (with_check front) - 1) 0 ≡ get_or pair (length (with_check front) - 1 - length front) 0 =
-    get_or-append_right front pair (length front) (length (with_check front) - 1) 0 refl (omega arith) in
-    let zeroth : length (with_check front) - 2 - length front ≡ 0 = omega arith in
-    let first : length (with_check front) - 1 - length front ≡ 1 = omega arith in
-    let high' : get_or (with_check front) (length (with_check front) - 2) 0 ≡ crc front / 256 = high ∙ ap (λ (n : ℕ). get_or pair n 0) zeroth in
-    let low' : get_or (with_check front) (length (with_check front) - 1) 0 ≡ crc front % 256 = low ∙ ap (λ (n : ℕ). get_or pair n 0) first in
+check-with_check : (prefix : List ℕ) → check_of (with_check prefix) ≡ crc prefix
+check-with_check prefix =
+    let len = length-with_check prefix in
+    let pair : List ℕ = crc prefix / 256 ∷ crc prefix % 256 ∷ [] in
+    let high : get_or (with_check prefix) (length (with_check prefix) - 2) 0 ≡ get_or pair (length (with_check prefix) - 2 - length prefix) 0 =
+    get_or-append_right prefix pair (length prefix) (length (with_check prefix) - 2) 0 refl (omega arith) in
+    let low : get_or (with_check prefix) (length (with_check prefix) - 1) 0 ≡ get_or pair (length (with_check prefix) - 1 - length prefix) 0 =
+    get_or-append_right prefix pair (length prefix) (length (with_check prefix) - 1) 0 refl (omega arith) in
+    let zeroth : length (with_check prefix) - 2 - length prefix ≡ 0 = omega arith in
+    let first : length (with_check prefix) - 1 - length prefix ≡ 1 = omega arith in
+    let high' : get_or (with_check prefix) (length (with_check prefix) - 2) 0 ≡ crc prefix / 256 = high ∙ ap (λ (n : ℕ). get_or pair n 0) zeroth in
+    let low' : get_or (with_check prefix) (length (with_check prefix) - 1) 0 ≡ crc prefix % 256 = low ∙ ap (λ (n : ℕ). get_or pair n 0) first in
     omega arith
 
 -- what is needed of the fields
@@ -44,27 +44,27 @@ record Fields (bytes payload : List ℕ) (offset : ℕ) : Type 0 where
 first_fields : (command low tag : ℕ) (payload : List ℕ) → 192 ≤ command → command < 200 → 1 ≤ length payload
     → Fields (with_check (85 ∷ command ∷ low ∷ tag ∷ payload)) payload 0
 first_fields command low tag payload from to some =
-    let front : List ℕ = 85 ∷ command ∷ low ∷ tag ∷ payload in
-    let len = length-with_check front in
+    let prefix : List ℕ = 85 ∷ command ∷ low ∷ tag ∷ payload in
+    let len = length-with_check prefix in
     let first : nat_lt command 224 ≡ true = lt-ltb command 224 (omega arith) in
     record {
       segment = record { of_class = refl; of_command = inl ((from, to), omega arith) };
-      check = check-with_check front ∙ ap crc (sym (covered-with_check front));
-      offset_is = ap (λ b. cond b 0 (tag % 8 * 256 + get_or (with_check front) 4 0)) first;
-      payload_is = ap (λ b. drop (cond b 4 5) (covered_of (with_check front))) first ∙ ap (drop 4) (covered-with_check front);
+      check = check-with_check prefix ∙ ap crc (sym (covered-with_check prefix));
+      offset_is = ap (λ b. cond b 0 (tag % 8 * 256 + get_or (with_check prefix) 4 0)) first;
+      payload_is = ap (λ b. drop (cond b 4 5) (covered_of (with_check prefix))) first ∙ ap (drop 4) (covered-with_check prefix);
     }
 
 subsequent_fields : (command low tag last : ℕ) (payload : List ℕ) → 224 ≤ command → command < 232 → 1 ≤ length payload
     → Fields (with_check (85 ∷ command ∷ low ∷ tag ∷ last ∷ payload)) payload (tag % 8 * 256 + last)
 subsequent_fields command low tag last payload from to some =
-    let front : List ℕ = 85 ∷ command ∷ low ∷ tag ∷ last ∷ payload in
-    let len = length-with_check front in
+    let prefix : List ℕ = 85 ∷ command ∷ low ∷ tag ∷ last ∷ payload in
+    let len = length-with_check prefix in
     let later : nat_lt command 224 ≡ false = le-ltb command 224 from in
     record {
       segment = record { of_class = refl; of_command = inr ((from, to), omega arith) };
-      check = check-with_check front ∙ ap crc (sym (covered-with_check front));
+      check = check-with_check prefix ∙ ap crc (sym (covered-with_check prefix));
       offset_is = ap (λ b. cond b 0 (tag % 8 * 256 + last)) later;
-      payload_is = ap (λ b. drop (cond b 4 5) (covered_of (with_check front))) later ∙ ap (drop 5) (covered-with_check front);
+      payload_is = ap (λ b. drop (cond b 4 5) (covered_of (with_check prefix))) later ∙ ap (drop 5) (covered-with_check prefix);
     }
 
 -- a segment with these fields is a part
@@ -107,10 +107,10 @@ part_at datagram id offset payload is small some inside same =
 
     headed : offset ≡ 0 → IsPart datagram id (segment_text id (length datagram) offset payload)
     headed zeroth =
-        let front : segment_front id (length datagram) offset payload ≡ 85 ∷ (192 + length datagram / 256) ∷ length datagram % 256 ∷ id * 16 ∷ payload =
+        let prefix : segment_prefix id (length datagram) offset payload ≡ 85 ∷ (192 + length datagram / 256) ∷ length datagram % 256 ∷ id * 16 ∷ payload =
         ap (λ b. cond b (85 ∷ (192 + length datagram / 256) ∷ length datagram % 256 ∷ id * 16 ∷ payload) (85 ∷ (224 + length datagram / 256) ∷ length datagram % 256 ∷ (id * 16 + offset / 256) ∷ offset % 256 ∷ payload)) (eq-eqb offset 0 zeroth) in
         let most : length datagram ≤ 512 = fits in
-        subst (λ (f : List ℕ). IsPart datagram id (with_check f)) (sym front)
+        subst (λ (f : List ℕ). IsPart datagram id (with_check f)) (sym prefix)
         (part_of datagram id (with_check (85 ∷ (192 + length datagram / 256) ∷ length datagram % 256 ∷ id * 16 ∷ payload)) payload 0 is
         (first_fields (192 + length datagram / 256) (length datagram % 256) (id * 16) payload (omega arith) (omega arith) some)
         (omega arith) (omega arith) (omega arith) (omega arith)
@@ -118,11 +118,11 @@ part_at datagram id offset payload is small some inside same =
 
     written : 0 < offset → IsPart datagram id (segment_text id (length datagram) offset payload)
     written later =
-        let front : segment_front id (length datagram) offset payload ≡ 85 ∷ (224 + length datagram / 256) ∷ length datagram % 256 ∷ (id * 16 + offset / 256) ∷ offset % 256 ∷ payload =
+        let prefix : segment_prefix id (length datagram) offset payload ≡ 85 ∷ (224 + length datagram / 256) ∷ length datagram % 256 ∷ (id * 16 + offset / 256) ∷ offset % 256 ∷ payload =
         ap (λ b. cond b (85 ∷ (192 + length datagram / 256) ∷ length datagram % 256 ∷ id * 16 ∷ payload) (85 ∷ (224 + length datagram / 256) ∷ length datagram % 256 ∷ (id * 16 + offset / 256) ∷ offset % 256 ∷ payload)) (ne_eqb offset 0 (omega arith)) in
         let most : length datagram ≤ 512 = fits in
         let place : (id * 16 + offset / 256) % 8 * 256 + offset % 256 ≡ offset = omega arith in
-        subst (λ (f : List ℕ). IsPart datagram id (with_check f)) (sym front)
+        subst (λ (f : List ℕ). IsPart datagram id (with_check f)) (sym prefix)
         (part_of datagram id (with_check (85 ∷ (224 + length datagram / 256) ∷ length datagram % 256 ∷ (id * 16 + offset / 256) ∷ offset % 256 ∷ payload)) payload offset is
         (subst (λ (o : ℕ). Fields (with_check (85 ∷ (224 + length datagram / 256) ∷ length datagram % 256 ∷ (id * 16 + offset / 256) ∷ offset % 256 ∷ payload)) payload o) place
         (subsequent_fields (224 + length datagram / 256) (length datagram % 256) (id * 16 + offset / 256) (offset % 256) payload (omega arith) (omega arith) some))

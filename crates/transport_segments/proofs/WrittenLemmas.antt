@@ -57,13 +57,13 @@ pub take-written : (n : ℕ) (places : List (Option ℕ)) (offset : ℕ) (payloa
     → take n (written places offset payload) ≡ written (take n places) offset payload
 take-written n places offset payload within fits =
     let whole : length (written places offset payload) ≡ length places = length-written places offset payload (omega arith) in
-    let front : length (take n places) ≡ n = length-take-le n places fits in
+    let prefix : length (take n places) ≡ n = length-take-le n places fits in
     let left : length (take n (written places offset payload)) ≡ n = length-take-le n (written places offset payload) (omega arith) in
     let right : length (written (take n places) offset payload) ≡ length (take n places) = length-written (take n places) offset payload (omega arith) in
-    ext_get_or None _ _ (omega arith) (λ at less. get_or-take n (written places offset payload) at None (omega arith) ∙ same at (omega arith) front)
+    ext_get_or None _ _ (omega arith) (λ at less. get_or-take n (written places offset payload) at None (omega arith) ∙ same at (omega arith) prefix)
   where
     same : (at : ℕ) → at < n → length (take n places) ≡ n → get_or (written places offset payload) at None ≡ get_or (written (take n places) offset payload) at None
-    same at less front =
+    same at less prefix =
         elim (cases_lt at offset) [
           | inl before ↦ written-before places offset payload at (omega arith) before
               ∙ sym (get_or-take n places at None less) ∙ sym (written-before (take n places) offset payload at (omega arith) before)

@@ -26,7 +26,7 @@ pub record IsSound (bytes : List ℕ) : Type 0 where
   pub sized : IsSized bytes
   pub inside : offset_of bytes + length (payload_of bytes) ≤ size_of bytes
 
--- the fault of the bytes; want of memory is no fault of theirs
+-- the fault of the bytes; an allocation failure is no fault of theirs
 abbrev pub IsFaultOf : List ℕ → SegmentFault → Type 0
 IsFaultOf bytes Short = ¬ IsSegment bytes
 IsFaultOf bytes (BadCrc want got) =

@@ -203,7 +203,8 @@ fn joined(
     payload: &[u8],
 ) -> Result<Option<Bytes>, NoMemory>
     requires { offset + length payload.now ≤ length places.now }
-    ensures { IfOk result (λ joined. MatchOption joined (¬ IsFull (written places.now offset payload.now)) (λ datagram. written places.now offset payload.now ≡ map Some datagram)) }
+    ensures { IfOk result (λ joined. MatchOption joined (¬ IsFull (written places.now offset payload.now))
+        (λ datagram. written places.now offset payload.now ≡ map Some datagram)) }
 {
     let end = offset + payload.len();
     if !is_full_around(places, offset, end) {

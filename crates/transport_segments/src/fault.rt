@@ -4,7 +4,7 @@ use thiserror::Error;
 use zw_base::NoMemory;
 
 /// Why a segment is not taken. The first that applies, in this order: Short, BadCrc, Extension, BadSize, BadOffset;
-/// want of memory comes after them.
+/// an allocation failure comes after them.
 #[derive(Clone, Copy, Debug, PartialEq, Eq, Error)]
 pub enum SegmentFault {
     /// Its check is `got`, and the check of what it carries is `want`.

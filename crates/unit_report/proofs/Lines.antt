@@ -23,13 +23,13 @@ of_items-append side (item ∷ items) others lines more one p = (
 )
 
 -- an item that ends in a piece, and what the rest of it reads as
-reads-one : (held front rest left : List ℕ) (item : Item) (items : List Item) (end : List ℕ) → Reads (held ++ front) (item ∷ []) rest
-    → Reads (rest ++ left) items end → Reads (held ++ (front ++ left)) (item ∷ items) end
-reads-one held front rest left item items end one more = (
+reads-one : (held prefix rest left : List ℕ) (item : Item) (items : List Item) (end : List ℕ) → Reads (held ++ prefix) (item ∷ []) rest
+    → Reads (rest ++ left) items end → Reads (held ++ (prefix ++ left)) (item ∷ items) end
+reads-one held prefix rest left item items end one more = (
   one.0,
   rest ++ left,
   one.2,
-  sym (append_assoc held front left) ∙ ap (λ (b : List ℕ). b ++ left) (one.3 ∙ ap (λ (m : List ℕ). one.0 ++ m) one.4.1) ∙ append_assoc one.0 rest left,
+  sym (append_assoc held prefix left) ∙ ap (λ (b : List ℕ). b ++ left) (one.3 ∙ ap (λ (m : List ℕ). one.0 ++ m) one.4.1) ∙ append_assoc one.0 rest left,
   more,
 )
 

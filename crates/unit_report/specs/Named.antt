@@ -21,7 +21,7 @@ use Rattle.chip_functions.specs.declared.request.Request.{Request}
 use Rattle.chip_functions.specs.declared.request.Request.TheVariants.{SendData}
 use Rattle.chip_functions.specs.declared.notice.Notice.{Notice}
 use Rattle.chip_functions.specs.declared.notice.Notice.TheVariants.{ApplicationCommandHandler}
-use Rattle.class_fields.specs.declared.fault.ClassFault.{ClassFault}
+use Rattle.class_core.specs.declared.fault.ClassFault.{ClassFault}
 use Rattle.class_info.specs.InfoReading.{info_at}
 use Rattle.class_info.specs.declared.message.InfoMessage.{InfoMessage}
 use Rattle.encap.specs.Opening.{Message, begins_segment, opened_at}
@@ -54,7 +54,7 @@ first_fault (command ∷ commands) = fault_or (info_at command) (first_fault com
     fault_or (Ok message) later = later
     fault_or (Err fault) later = Some fault
 
--- the line of a payload that opens: all its commands are messages, or the first that is none
+-- the line of a payload that opens: all its commands are messages, or the first that is invalid
 abbrev pub commands_line : Option ClassFault → List ℕ
 commands_line None = said (codes "  payload" ∷ codes "ok" ∷ [])
 commands_line (Some fault) = said (codes "  payload" ∷ class_words fault)

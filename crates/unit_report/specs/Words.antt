@@ -3,8 +3,8 @@ use Rattle.std.specs.Prelude.{ℕ, ◌/◌, ◌%◌, List, [], ◌∷◌, codes,
 use Rattle.hex.specs.Hex.{encode_upper}
 use Rattle.chip_functions.specs.declared.fault.BodyFault.{BodyFault}
 use Rattle.chip_functions.specs.declared.fault.BodyFault.TheVariants.{UnknownFunction, Short, BadField, NoMemory}
-use Rattle.class_fields.specs.declared.fault.ClassFault.{ClassFault}
-use Rattle.class_fields.specs.declared.fault.ClassFault.TheVariants.{Empty, UnknownClass, UnknownCommand, Short as short_message, BadValue, NoMemory as no_message_memory}
+use Rattle.class_core.specs.declared.fault.ClassFault.{ClassFault}
+use Rattle.class_core.specs.declared.fault.ClassFault.TheVariants.{Empty, UnknownClass, UnknownCommand, Short as short_message, BadValue, NoMemory as no_message_memory}
 use Rattle.encap.specs.declared.fault.WrapFault.{WrapFault}
 use Rattle.encap.specs.declared.fault.WrapFault.TheVariants.{OutOfOrder, Length, BadCrc, TooLong, BitAddress, NoMemory as no_wrap_memory}
 

@@ -4,7 +4,7 @@ ghost use Rattle.std.specs.Prelude.{◌≡◌, ◌≤◌, length, string_bytes, 
 ghost use Rattle.unit_report.specs.Named.{form_of, first_fault, commands_line, IsWrappedLine, IsLineOf};
 
 use crate::words::{show_class_fault, show_wrap_fault};
-use class_fields::ClassFault;
+use class_core::ClassFault;
 use class_info::read;
 use encap::{WrapFault, unpack};
 use std::alloc::Global;
@@ -62,7 +62,7 @@ fn wrapped_line(alloc: Global, payload: &[u8]) -> Result<String, NoMemory>
     }
 }
 
-/// The line of commands: all of them are messages, or the first that is none.
+/// The line of commands: all of them are messages, or the first that is invalid.
 fn commands_line(alloc: Global, commands: &[Bytes]) -> Result<String, NoMemory>
     ensures { IfOk result (λ text. string_bytes text ≡ commands_line (first_fault commands.now)) }
 {

@@ -5,7 +5,7 @@ ghost use Rattle.std.specs.List.{join_with_byte};
 ghost use Rattle.unit_report.specs.Words.{byte_word, check_word, bytes_word, body_words, wrap_words, class_words};
 
 use chip_functions::BodyFault;
-use class_fields::ClassFault;
+use class_core::ClassFault;
 use encap::WrapFault;
 use std::alloc::{AllocError, Global};
 

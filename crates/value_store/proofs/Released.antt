@@ -145,12 +145,12 @@ missing-seen es order node ps =
     missing_same (λ p. is_some (find key_cmp (node, p) es)) (λ p. is_some (map.get (seen es) (node, p))) ps (λ p. ap is_some (sym (get-seen es order (node, p))))
 
 -- a step of the search for what is missing
-module _ (f : Property → Bool) (found rest later all : List Property) (p : Property) (m : Bool) (front : rest ≡ p ∷ later) (so_far : found ++ missing_by f rest ≡ all) (is : m ≡ (is_among later p || f p)) where
-  to_front : found ++ missing_by f (p ∷ later) ≡ all
-  to_front = ap (λ (l : List Property). found ++ missing_by f l) (sym front) ∙ so_far
+module _ (f : Property → Bool) (found rest later all : List Property) (p : Property) (m : Bool) (prefix : rest ≡ p ∷ later) (so_far : found ++ missing_by f rest ≡ all) (is : m ≡ (is_among later p || f p)) where
+  to_prefix : found ++ missing_by f (p ∷ later) ≡ all
+  to_prefix = ap (λ (l : List Property). found ++ missing_by f l) (sym prefix) ∙ so_far
 
   chosen : (b : Bool) → (is_among later p || f p) ≡ b → found ++ (if b then missing_by f later else p ∷ missing_by f later) ≡ all
-  chosen b e = ap (λ (t : Bool). found ++ (if t then missing_by f later else p ∷ missing_by f later)) (sym e) ∙ to_front
+  chosen b e = ap (λ (t : Bool). found ++ (if t then missing_by f later else p ∷ missing_by f later)) (sym e) ∙ to_prefix
 
   was : (b : Bool) → b ≡ not m → (is_among later p || f p) ≡ not b
   was b e = sym is ∙ twice m ∙ ap not (sym e)

@@ -196,9 +196,9 @@ is_true : (b : Bool) → false ≡ not b → b ≡ true
 is_true true h = refl
 is_true false h = h
 
-module _ (m total : ℕ) (rest later kept : List Property) (p : Property) (front : rest ≡ p ∷ later) (counted : m + distinct_count same_property (rest ++ kept) ≡ total) where
+module _ (m total : ℕ) (rest later kept : List Property) (p : Property) (prefix : rest ≡ p ∷ later) (counted : m + distinct_count same_property (rest ++ kept) ≡ total) where
   one : distinct_count same_property (rest ++ kept) ≡ cond (is_member same_property (later ++ kept) p) (distinct_count same_property (later ++ kept)) (suc (distinct_count same_property (later ++ kept)))
-  one = ap (λ (l : List Property). distinct_count same_property (l ++ kept)) front ∙ count-cons p (later ++ kept)
+  one = ap (λ (l : List Property). distinct_count same_property (l ++ kept)) prefix ∙ count-cons p (later ++ kept)
 
   -- a step of the count at a property that counts, and at one that does not
   pub count-more : true ≡ not (is_member same_property (later ++ kept) p) → m + 1 + distinct_count same_property (later ++ kept) ≡ total

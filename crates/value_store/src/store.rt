@@ -5,7 +5,19 @@ ghost use Rattle.std.specs.List.{AllByRecursion};
 ghost use Rattle.std.specs.List.Sorted.{IsStrictlySortedBy};
 ghost use Rattle.std.specs.FinMap as finmap;
 ghost use Rattle.zw_base.specs.declared.property.Property.{Property as PropertyValue};
-ghost use Rattle.value_store.specs.Values.{IsReserved, Reserves, count_with, held_of, known_of, listed_of, missing_of as not_kept, property_cmp, releasing, reserving, stored_of};
+ghost use Rattle.value_store.specs.Values.{
+  IsReserved,
+  Reserves,
+  count_with,
+  held_of,
+  known_of,
+  listed_of,
+  missing_of as not_kept,
+  property_cmp,
+  releasing,
+  reserving,
+  stored_of,
+};
 ghost use Rattle.value_store.specs.ValueText.{values_text};
 
 use crate::entries::{

@@ -1,6 +1,29 @@
 //! A queue of command numbers that is bounded.
 
-ghost use Rattle.std.specs.Prelude.{◌≡◌, ℕ, ◌-◌, ◌++◌, ◌∷◌, [], ◌<◌, ◌≤◌, ◌↔◌, length, slice_get, drop, Contains, ◌==◌, position, IsSome, IsTrue, IsOk, IsErr, IfOk, OnOk, OnErr};
+ghost use Rattle.std.specs.Prelude.{
+  ◌≡◌,
+  ℕ,
+  ◌-◌,
+  ◌++◌,
+  ◌∷◌,
+  [],
+  ◌<◌,
+  ◌≤◌,
+  ◌↔◌,
+  length,
+  slice_get,
+  drop,
+  Contains,
+  ◌==◌,
+  position,
+  IsSome,
+  IsTrue,
+  IsOk,
+  IsErr,
+  IfOk,
+  OnOk,
+  OnErr,
+};
 ghost use Rattle.wake_mailbox.specs.Mailbox.{last_of, without_last, nothing_waits, holding, counting, ticked, ticked_by, TakesOut, Waiting as TheWaiting};
 
 use std::alloc::Global;
@@ -53,7 +76,7 @@ impl Mailbox {
         })
     }
 
-    /// Puts a command behind those that wait.
+    /// Puts a command after those that wait.
     pub fn put(&mut self, command: u32) -> Result<(), Full>
         ensures full { IsErr result ↔ (length self.old.commands ≡ CAPACITY) }
         ensures ok { OnOk result (self.new ≡ holding self.old (self.old.commands ++ command ∷ [])) }

@@ -1,1 +1,2 @@
 pub mod CrcLemmas
+pub mod Each

@@ -1,9 +1,9 @@
-//! What every crate of this project speaks of: nodes, end points, lists of bytes, payloads, properties and
-//! settings, and the three traits of the outside.
+//! What every crate of this project speaks of: nodes, end points, lists of bytes, payloads, properties and settings, the
+//! orders that a user gives, and the three traits of what is outside the program.
 //!
-//! It promises that an id is in its range, that a list that finds no memory is as before, and that a source or a
+//! It promises that an id is in its range, that a list that runs out of memory is as before, and that a source or a
 //! sink answers `Failed` only where its count of faults rose.
-//! The definitions stand in `specs/`, named like the modules.
+//! The definitions stand in `specs/`, named like the modules; `proofs/Each` has lemmas on lists that the library lacks.
 #![tactic(auto)]
 
 mod bytes;
@@ -15,6 +15,7 @@ mod memory;
 mod memory_sink;
 mod memory_source;
 mod node;
+mod order;
 mod outside;
 mod payload;
 mod plain;
@@ -32,6 +33,7 @@ pub use memory::NoMemory;
 pub use memory_sink::MemorySink;
 pub use memory_source::MemorySource;
 pub use node::{NodeId, read_node};
+pub use order::{Order, What, Word};
 pub use outside::{Draw, Failed, Sink, Source};
 pub use payload::{Payload, Replies};
 pub use plain::{PlainSink, PlainSource};

@@ -17,7 +17,7 @@ pub trait Source {
     /// How often a read failed, up to the greatest u64.
     ghost faults: { Self → ℕ };
 
-    /// Puts the next bytes at the front of `into` and answers how many. 0 for an `into` with room is the end.
+    /// Puts the next bytes at the prefix of `into` and answers how many. 0 for an `into` with room is the end.
     fn read(&mut self, into: &mut [u8]) -> Result<usize, Failed>
         ensures at_most { ReadsAtMost result into.new }
         ensures consumes { ReadConsumes (left self.old) (left self.new) result into.new }
@@ -33,7 +33,7 @@ pub trait Sink {
     /// How often a write failed, up to the greatest u64.
     ghost faults: { Self → ℕ };
 
-    /// Takes bytes from the front of the piece and answers how many: at least one, where the piece has one.
+    /// Takes bytes from the prefix of the piece and answers how many: at least one, where the piece has one.
     fn write(&mut self, piece: &[u8]) -> Result<usize, Failed>
         ensures at_most { WritesAtMost result piece.now }
         ensures takes { IfOk result (λ taken. 0 < length piece.now → 0 < taken) }

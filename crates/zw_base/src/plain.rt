@@ -50,14 +50,14 @@ impl Source for PlainSource {
         ensures gives { IfOk result (λ n. n ≡ min (length into.new) (length self.old)) }
         ensures never_fails { IsOk result }
     {
-        let count = copy_front(&self.bytes.as_slice()[self.at..], into);
+        let count = copy_prefix(&self.bytes.as_slice()[self.at..], into);
         self.at += count;
         Ok(count)
     }
 }
 
-// Copies what fits from the front of `from` to the front of `into`, and answers how much.
-fn copy_front(from: &[u8], into: &mut [u8]) -> usize
+// Copies what fits from the prefix of `from` to the prefix of `into`, and answers how much.
+fn copy_prefix(from: &[u8], into: &mut [u8]) -> usize
     ensures count { result ≡ min (length into.new) (length from.now) }
     ensures copied { from.now ≡ take result into.new ++ drop result from.now }
     ensures fits { result ≤ length into.new }

@@ -18,7 +18,9 @@ pub fn print_air(
     repeaters: &[NodeId],
     payload: &[u8],
 ) -> Result<Bytes, NoMemory>
-    ensures { IfOk result (λ text. text ≡ join_with_byte 32 (codes "air" ∷ decimal frame ∷ ends_word sender receiver ∷ codes "via" ∷ number_words repeaters.now (encode_upper payload.now ∷ []))) }
+    ensures { IfOk result (λ text. text ≡
+        join_with_byte 32 (codes "air" ∷ decimal frame ∷ ends_word sender receiver ∷ codes "via" ∷ number_words repeaters.now
+        (encode_upper payload.now ∷ []))) }
 {
     let text = show_air(alloc, frame, sender, receiver, repeaters, payload)?;
     let bytes = Bytes::from_slice(alloc, text.as_bytes())?;
@@ -33,7 +35,9 @@ fn show_air(
     repeaters: &[NodeId],
     payload: &[u8],
 ) -> Result<String, AllocError>
-    ensures { IfOk result (λ text. string_bytes text ≡ codes "air " ++ (decimal frame ++ (codes " " ++ (decimal sender ++ (codes ">" ++ (decimal receiver ++ (codes " via " ++ (list_text repeaters.now ++ (codes " " ++ encode_upper payload.now))))))))) }
+    ensures { IfOk result (λ text. string_bytes text ≡ codes "air " ++
+        (decimal frame ++ (codes " " ++
+        (decimal sender ++ (codes ">" ++ (decimal receiver ++ (codes " via " ++ (list_text repeaters.now ++ (codes " " ++ encode_upper payload.now))))))))) }
 {
     let sender = sender.number();
     let receiver = receiver.number();

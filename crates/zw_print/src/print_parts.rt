@@ -154,7 +154,8 @@ pub fn print_property_of(
 
 /// `dev N BY P X`
 pub fn print_made(alloc: Global, node: NodeId, by: By, setting: Setting) -> Result<Bytes, NoMemory>
-    ensures { IfOk result (λ text. text ≡ join_with_byte 32 (codes "dev" ∷ decimal node ∷ by_word by ∷ property_word setting.property ∷ decimal setting.value ∷ [])) }
+    ensures { IfOk result (λ text. text ≡
+        join_with_byte 32 (codes "dev" ∷ decimal node ∷ by_word by ∷ property_word setting.property ∷ decimal setting.value ∷ [])) }
 {
     let node = node.number();
     let by = show_by(alloc, by)?;
@@ -172,7 +173,8 @@ pub fn print_value(
     confirmed: Option<u32>,
     heard: Option<u32>,
 ) -> Result<Bytes, NoMemory>
-    ensures { IfOk result (λ text. text ≡ join_with_byte 32 (codes "value" ∷ decimal node ∷ property_word property ∷ codes "confirmed" ∷ number_word confirmed ∷ codes "heard" ∷ number_word heard ∷ [])) }
+    ensures { IfOk result (λ text. text ≡
+        join_with_byte 32 (codes "value" ∷ decimal node ∷ property_word property ∷ codes "confirmed" ∷ number_word confirmed ∷ codes "heard" ∷ number_word heard ∷ [])) }
 {
     let node = node.number();
     let property = show_property(alloc, property)?;

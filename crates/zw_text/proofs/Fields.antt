@@ -1,7 +1,7 @@
 -- Fields of lines, both ways.
 use Rattle.std.proofs.Common.{◌≡◌, ℕ, ◌<◌, ◌≤◌, ◌^◌, Ok, List, [], ◌∷◌, length, decimal, arith, ap, ◌∙◌}
 use Rattle.hex.specs.Hex.{decode_of}
-use Rattle.zw_order.specs.declared.order.Word.{Word}
+use Rattle.zw_base.specs.declared.order.Word.{Word}
 use Rattle.zw_words.specs.declared.forms.Target.{Target}
 use Rattle.zw_words.specs.declared.side.Side.{Side}
 use Rattle.zw_words.specs.Fields.{Taken, last, next}
@@ -11,8 +11,8 @@ use Rattle.zw_words.proofs.FieldLaws.{last_again, last_takes, next_again, next_t
 use Rattle.zw_words.proofs.FormLaws.{IsLevel, between_again, between_takes, hex_again, hex_takes, side_again, side_takes, target_again, target_takes, value_again, value_takes}
 use Rattle.zw_text.specs.Line.{IsIn}
 
-abbrev front : List ℕ → List (List ℕ) → List (List ℕ)
-front w rest = w ∷ rest
+abbrev prefix : List ℕ → List (List ℕ) → List (List ℕ)
+prefix w rest = w ∷ rest
 
 -- ---- what was read stands there
 
@@ -24,27 +24,27 @@ pub next_number : (least most : ℕ) (ws : List (List ℕ)) (t : Taken ℕ) → 
 next_number least most ws t e =
     let a = next_takes (between_in least most) ws t e in
     let b = between_takes least most a.word t.value a.stands in
-    record { range = (b.low, b.high); words_are = a.words_are ∙ ap (λ w. front w t.rest) b.word_is }
+    record { range = (b.low, b.high); words_are = a.words_are ∙ ap (λ w. prefix w t.rest) b.word_is }
 
 pub last_number : (least most : ℕ) (ws : List (List ℕ)) (n : ℕ) → last (between_in least most) ws ≡ Ok n → NumberThen least most ws [] n
 last_number least most ws n e =
     let a = last_takes (between_in least most) ws n e in
     let b = between_takes least most a.word n a.stands in
-    record { range = (b.low, b.high); words_are = a.words_are ∙ ap (λ w. front w []) b.word_is }
+    record { range = (b.low, b.high); words_are = a.words_are ∙ ap (λ w. prefix w []) b.word_is }
 
 pub next_side : (ws : List (List ℕ)) (t : Taken Side) → next side_in ws ≡ Ok t → ws ≡ side_word t.value ∷ t.rest
 next_side ws t e =
-    let a = next_takes side_in ws t e in a.words_are ∙ ap (λ w. front w t.rest) (side_takes a.word t.value a.stands)
+    let a = next_takes side_in ws t e in a.words_are ∙ ap (λ w. prefix w t.rest) (side_takes a.word t.value a.stands)
 
 pub last_side : (ws : List (List ℕ)) (side : Side) → last side_in ws ≡ Ok side → ws ≡ side_word side ∷ []
 last_side ws side e =
-    let a = last_takes side_in ws side e in a.words_are ∙ ap (λ w. front w []) (side_takes a.word side a.stands)
+    let a = last_takes side_in ws side e in a.words_are ∙ ap (λ w. prefix w []) (side_takes a.word side a.stands)
 
 pub last_value : (ws : List (List ℕ)) (value : Word) → last value_in ws ≡ Ok value → IsLevel value × (ws ≡ value_word value ∷ [])
 last_value ws value e =
     let a = last_takes value_in ws value e in
     let b = value_takes a.word value a.stands in
-    (b.0, a.words_are ∙ ap (λ w. front w []) b.1)
+    (b.0, a.words_are ∙ ap (λ w. prefix w []) b.1)
 
 pub record TargetThen (least : ℕ) (ws rest : List (List ℕ)) (t : Target) : Type 0 where
   pub range : IsIn least 232 t.node
@@ -55,13 +55,13 @@ pub next_target : (least : ℕ) (ws : List (List ℕ)) (t : Taken Target) → ne
 next_target least ws t e =
     let a = next_takes (target_in least) ws t e in
     let b = target_takes least a.word t.value a.stands in
-    record { range = (b.low, b.high); end = b.end; words_are = a.words_are ∙ ap (λ w. front w t.rest) b.word_is }
+    record { range = (b.low, b.high); end = b.end; words_are = a.words_are ∙ ap (λ w. prefix w t.rest) b.word_is }
 
 pub last_target : (least : ℕ) (ws : List (List ℕ)) (t : Target) → last (target_in least) ws ≡ Ok t → TargetThen least ws [] t
 last_target least ws t e =
     let a = last_takes (target_in least) ws t e in
     let b = target_takes least a.word t a.stands in
-    record { range = (b.low, b.high); end = b.end; words_are = a.words_are ∙ ap (λ w. front w []) b.word_is }
+    record { range = (b.low, b.high); end = b.end; words_are = a.words_are ∙ ap (λ w. prefix w []) b.word_is }
 
 pub record HexThen (least most : ℕ) (ws : List (List ℕ)) (bytes : List ℕ) : Type 0 where
   pub low : least ≤ length bytes

@@ -1,9 +1,9 @@
 -- A line's words are read as that line.
 use Rattle.std.proofs.Common.{◌≡◌, ℕ, ◌≤◌, Result, Ok, List, [], ◌∷◌, decimal, arith, ap, refl, ◌∙◌, sym}
-use Rattle.zw_order.specs.declared.order.What.{What}
-use Rattle.zw_order.specs.declared.order.What.TheVariants.{Value, Mode, Setpoint, Config, Bulk, Associate, Dissociate, Interval, Comfort}
-use Rattle.zw_order.specs.declared.order.Word.{Word}
-use Rattle.zw_order.specs.declared.order.Word.TheVariants.{On, Off, Level}
+use Rattle.zw_base.specs.declared.order.What.{What}
+use Rattle.zw_base.specs.declared.order.What.TheVariants.{Value, Mode, Setpoint, Config, Bulk, Associate, Dissociate, Interval, Comfort}
+use Rattle.zw_base.specs.declared.order.Word.{Word}
+use Rattle.zw_base.specs.declared.order.Word.TheVariants.{On, Off, Level}
 use Rattle.zw_words.specs.declared.fault.LineFault.{LineFault}
 use Rattle.zw_words.specs.declared.forms.Target.{Target}
 use Rattle.zw_words.specs.Fields.{last, make}

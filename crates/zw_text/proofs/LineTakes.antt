@@ -1,9 +1,9 @@
 -- What is read as a line is that line's words.
 use Rattle.std.proofs.Common.{◌≡◌, ℕ, Ok, List, [], ◌∷◌, decimal, ap, refl, ◌∙◌, subst}
-use Rattle.zw_order.specs.declared.order.What.{What}
-use Rattle.zw_order.specs.declared.order.What.TheVariants.{Value, Mode, Setpoint, Config, Bulk, Associate, Dissociate, Interval, Comfort}
-use Rattle.zw_order.specs.declared.order.Word.{Word}
-use Rattle.zw_order.specs.declared.order.Word.TheVariants.{On, Off, Level}
+use Rattle.zw_base.specs.declared.order.What.{What}
+use Rattle.zw_base.specs.declared.order.What.TheVariants.{Value, Mode, Setpoint, Config, Bulk, Associate, Dissociate, Interval, Comfort}
+use Rattle.zw_base.specs.declared.order.Word.{Word}
+use Rattle.zw_base.specs.declared.order.Word.TheVariants.{On, Off, Level}
 use Rattle.zw_words.specs.declared.forms.Target.{Target}
 use Rattle.zw_words.specs.Fields.{ends, last, next}
 use Rattle.zw_words.specs.Forms.{between_in, hex_in, node_in, side_in, target_in, value_in}

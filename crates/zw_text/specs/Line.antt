@@ -1,10 +1,10 @@
 -- The lines of a scenario and of `replay`: which words each has, and what a text is read as from left to right. All of it is this project's own rule.
 use Rattle.std.specs.Prelude.{◌≡◌, ℕ, ◌≤◌, ◌⊎◌, if◌then◌else◌, Bool, true, false, List, [], ◌∷◌, length, codes, decimal, bytes_eq, find, Option, Some, None, Result, Ok, Err, IsTrue}
 use Rattle.hex.specs.Hex.{decode_of}
-use Rattle.zw_order.specs.declared.order.What.{What}
-use Rattle.zw_order.specs.declared.order.What.TheVariants.{Value, Mode, Setpoint, Config, Bulk, Associate, Dissociate, Interval, Comfort}
-use Rattle.zw_order.specs.declared.order.Word.{Word}
-use Rattle.zw_order.specs.declared.order.Word.TheVariants.{On, Off, Level}
+use Rattle.zw_base.specs.declared.order.What.{What}
+use Rattle.zw_base.specs.declared.order.What.TheVariants.{Value, Mode, Setpoint, Config, Bulk, Associate, Dissociate, Interval, Comfort}
+use Rattle.zw_base.specs.declared.order.Word.{Word}
+use Rattle.zw_base.specs.declared.order.Word.TheVariants.{On, Off, Level}
 use Rattle.zw_words.specs.declared.fault.LineFault.{LineFault}
 use Rattle.zw_words.specs.declared.fault.LineFault.TheVariants.{Unknown}
 use Rattle.zw_words.specs.Words.{is_remark, without_return, words}
@@ -142,7 +142,7 @@ IsValue On = Unit {0}
 IsValue Off = Unit {0}
 IsValue (Level level) = level ≤ 99
 
--- what stands behind the node of an order; bytes may be in hex of either case
+-- what stands after the node of an order; bytes may be in hex of either case
 abbrev pub WhatWords : What → List (List ℕ) → Type 0
 WhatWords (Value word) ws = IsValue word × (ws ≡ value_word word ∷ [])
 WhatWords (Mode mode) ws = (mode ≤ 255) × (ws ≡ decimal mode ∷ [])
@@ -159,7 +159,7 @@ abbrev pub EndStands : What → ℕ → Type 0
 EndStands (Value word) end = end ≤ 127
 EndStands _ end = end ≡ 0
 
--- what stands behind the first word of a line, each number in its range; the node of an order is 2 to 232
+-- what stands after the first word of a line, each number in its range; the node of an order is 2 to 232
 abbrev pub LineWords : Line → List (List ℕ) → Type 0
 LineWords (Command order) ws =
     IsNode 2 order.node × EndStands order.what order.end × ((more : List (List ℕ)) × WhatWords order.what more × (ws ≡ target_word order.node order.end ∷ more))
@@ -217,7 +217,7 @@ ReplayText text (Chip bytes) = MayBeLine text × (1 ≤ length bytes) × (length
 abbrev pub order_line : ℕ → What → Line
 order_line node what = Command (record { node = node; end = 0; what = what })
 
--- the words of each line behind the first
+-- the words of each line after the first
 unfoldable pub line_by : LineWord → List (List ℕ) → Result Line LineFault
 line_by WSet ws = do
   target ← next (target_in 2) ws

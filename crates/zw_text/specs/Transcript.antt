@@ -7,7 +7,7 @@ use Rattle.std.specs.List.{flat_map}
 use Rattle.zw_base.specs.declared.property.Setting.{Setting}
 use Rattle.zw_base.specs.declared.property.By.{By}
 use Rattle.zw_base.specs.declared.property.By.TheVariants.{Session}
-use Rattle.zw_order.specs.declared.order.Order.{Order}
+use Rattle.zw_base.specs.declared.order.Order.{Order}
 use Rattle.zw_words.specs.declared.fault.LineFault.{LineFault}
 use Rattle.zw_words.specs.declared.side.Side.{Side}
 use Rattle.zw_words.specs.declared.side.Side.TheVariants.{Host, Chip}
@@ -74,12 +74,12 @@ refusal_of _ = []
 abbrev pub refusals : List Entry → List Refusal
 refusals entries = shown refusal_of entries
 
--- what stands behind the line of the last entry: the line, where that entry shows one
-abbrev pub line_behind : List Line → Entry → List Line
-line_behind before entry = line_of entry
+-- what stands after the line of the last entry: the line, where that entry shows one
+abbrev pub line_after : List Line → Entry → List Line
+line_after before entry = line_of entry
 
 abbrev pub line_last : List Entry → List Line
-line_last entries = folded line_behind [] entries
+line_last entries = folded line_after [] entries
 
 -- ---- commands
 
@@ -98,7 +98,7 @@ abbrev pub numbered : ℕ → List Order → List Command
 numbered i [] = []
 numbered i (order ∷ orders) = record { number = i; order = order } ∷ numbered i orders
 
--- the command of node n that an entry directly behind that line shows
+-- the command of node n that an entry directly after that line shows
 abbrev pub accepted_at : ℕ → List Line → Entry → List Command
 accepted_at n lines (Accepted command node) = if node == n then numbered command (flat_map (order_for n) lines) else []
 accepted_at n lines _ = []
@@ -375,7 +375,7 @@ marks n entries = shown (mark_at n) entries
 
 -- ---- lines that were not refused
 
--- the lines that have been done: each line behind which no refusal directly stands; the last one may still be refused
+-- the lines that have been done: each line after which no refusal directly stands; the last one may still be refused
 pub record Doing : Type 0 where
   pub earlier : List Line
   pub last : List Line

@@ -46,7 +46,7 @@ pub enum Done {
     LinkFailed,
 }
 
-/// Why a line is refused, with the value that is printed behind the name.
+/// Why a line is refused, with the value that is printed after the name.
 #[derive(Clone, Copy, PartialEq, Eq)]
 pub enum Refusal {
     /// The node is not joined.

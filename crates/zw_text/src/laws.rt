@@ -21,7 +21,8 @@ pub fn shown_grows<T>()
 
 /// What entries show one after another, where entries are added: the added ones go on from what the first ones gave.
 pub fn folded_grows<S>()
-    ensures { (step : S → AnyEntry → S) (start : S) (before added : List AnyEntry) → folded step start (before ++ added) ≡ folded step (folded step start before) added }
+    ensures { (step : S → AnyEntry → S) (start : S) (before added : List AnyEntry) →
+        folded step start (before ++ added) ≡ folded step (folded step start before) added }
 {}
 
 /// The quiet transcript, where entries are added.

@@ -1,7 +1,6 @@
 //! The lines of a scenario, and those that the host alone is driven by.
 
-use zw_base::{Bytes, EndPoint, NodeId};
-use zw_order::{Order, Word};
+use zw_base::{Bytes, EndPoint, NodeId, Order, Word};
 use zw_words::Side;
 
 /// A line of a scenario (this project's own). Ticks are of 100 ms.

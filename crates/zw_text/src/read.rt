@@ -108,7 +108,7 @@ fn read_replay_words(alloc: Global, word: &[u8], rest: &[u8]) -> Result<ReplayLi
     }
 }
 
-/// The line with this first word that has these words behind it.
+/// The line with this first word that has these words after it.
 pub fn read_rest(alloc: Global, word: LineWord, rest: &[u8]) -> Result<Line, ReadLineFault>
     ensures { Gives result (line_by word (words rest.now)) }
 {

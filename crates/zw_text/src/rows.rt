@@ -1,4 +1,4 @@
-//! Lines of several words, behind the first.
+//! Lines of several words, after the first.
 
 ghost use Rattle.std.specs.Prelude.{◌≡◌};
 ghost use Rattle.zw_words.specs.Words.{words};
@@ -8,8 +8,7 @@ ghost use Rattle.zw_text.specs.declared.word.LineWord.{LineWord};
 
 use crate::{Line, LineFault, ReadLineFault};
 use std::alloc::Global;
-use zw_base::{EndPoint, NodeId};
-use zw_order::{Order, What};
+use zw_base::{EndPoint, NodeId, Order, What};
 use zw_words::{
     last_hex, last_node, last_number, last_value, take_node, take_number, take_side, take_target,
 };

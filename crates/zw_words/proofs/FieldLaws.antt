@@ -53,7 +53,7 @@ pub last_bad : {A : Type 0} (form : List ℕ → Option A) (ws : List (List ℕ)
 unfolding last next
 last_bad form ws w rest e bad = ap (last form) e ∙ ap (λ o. formed rest o >>= alone) bad
 
--- a word behind the last one
+-- a word after the last one
 pub last_extra : {A : Type 0} (form : List ℕ → Option A) (ws : List (List ℕ)) (w : List ℕ) (rest : List (List ℕ)) (x : A) (f : LineFault) → ws ≡ w ∷ rest → form w ≡ Some x → Err f ≡ ends rest → last form ws ≡ Err f
 unfolding last
 last_extra form ws w rest x f e good more =

@@ -13,8 +13,8 @@ use Rattle.std.proofs.lemmas.Slice.Eq.{bytes_eq-Decides}
 use Rattle.hex.specs.Hex.{decode_of, is_hex_digit}
 use Rattle.hex.specs.declared.error.FromHexError.{FromHexError}
 use Rattle.hex.proofs.HexLemmas.{decode_of-digits, decode_of-ok}
-use Rattle.zw_order.specs.declared.order.Word.{Word}
-use Rattle.zw_order.specs.declared.order.Word.TheVariants.{On, Off, Level}
+use Rattle.zw_base.specs.declared.order.Word.{Word}
+use Rattle.zw_base.specs.declared.order.Word.TheVariants.{On, Off, Level}
 use Rattle.std.proofs.lemmas.Bool.{le-ltb}
 use Rattle.std.proofs.lemmas.List.{get_or_default, length-append, take-append-drop}
 use Rattle.std.proofs.lemmas.List.Elements.{recursion_from_All}
@@ -23,7 +23,7 @@ use Rattle.std.proofs.Math.Seq.{drop-append-add, take-append_seam}
 use Rattle.zw_words.specs.declared.forms.Target.{Target}
 use Rattle.zw_words.specs.declared.side.Side.{Side}
 use Rattle.zw_words.specs.declared.side.Side.TheVariants.{Host, Chip}
-use Rattle.zw_words.specs.Forms.{begins_number, between_in, decoded, digits_after, digits_in, end_behind, hex_in, hex_length, node_in, number_in, side_in, target_at, target_in, value_in, within}
+use Rattle.zw_words.specs.Forms.{begins_number, between_in, decoded, digits_after, digits_in, end_after, hex_in, hex_length, node_in, number_in, side_in, target_at, target_in, value_in, within}
 use Rattle.zw_words.specs.Texts.{side_word, target_word, value_word}
 use Rattle.zw_words.proofs.Choices.{both, chosen, kept, not_some, some, some_is, then_some}
 
@@ -261,7 +261,7 @@ pub record IsTarget (least : ℕ) (word : List ℕ) (target : Target) : Type 0 w
   pub end : target.end ≤ 127
   pub word_is : word ≡ target_word target.node target.end
 
-ends_of : (node end : Option ℕ) (t : Target) → end_behind node end ≡ some t → (n e : ℕ) × (node ≡ some n) × (end ≡ some e) × (record { node = n; end = e } ≡ t)
+ends_of : (node end : Option ℕ) (t : Target) → end_after node end ≡ some t → (n e : ℕ) × (node ≡ some n) × (end ≡ some e) × (record { node = n; end = e } ≡ t)
 ends_of (Some n) (Some e) t h = (n, e, refl, refl, some_is (record { node = n; end = e }) t h)
 ends_of (Some n) None t h = absurd (not_some t h)
 ends_of None end t h = absurd (not_some t h)
@@ -308,10 +308,10 @@ target_again least t low high end = again least t.node t.end low high end
         rw (target_alone node zero refl, position_none (decimal node) (no_point (decimal node) (pointless node (omega (arith, high)))), between_again least 232 node low high (omega (arith, high))) refl
     again least node (suc end) low high last =
         let word = decimal node ++ (46 ∷ decimal (suc end)) in
-        let front : take (length (decimal node)) word ≡ decimal node = take-append_seam (decimal node) (46 ∷ decimal (suc end)) in
+        let prefix : take (length (decimal node)) word ≡ decimal node = take-append_seam (decimal node) (46 ∷ decimal (suc end)) in
         let back : drop (length (decimal node) + 1) word ≡ decimal (suc end) = drop-append-add (decimal node) (46 ∷ decimal (suc end)) 1 in
         ap (λ w. target_at least w (position (λ b. b == 46) w)) (target_both node (suc end) (omega arith))
         ∙ ap (target_at least word) (position_some (decimal node) (decimal (suc end)) (point_at (decimal node) (decimal (suc end)) (pointless node (omega (arith, high)))))
-        ∙ ap (λ w. end_behind (node_in least w) (between_in 1 127 (drop (length (decimal node) + 1) word))) front
-        ∙ ap (λ w. end_behind (node_in least (decimal node)) (between_in 1 127 w)) back
+        ∙ ap (λ w. end_after (node_in least w) (between_in 1 127 (drop (length (decimal node) + 1) word))) prefix
+        ∙ ap (λ w. end_after (node_in least (decimal node)) (between_in 1 127 w)) back
         ∙ rw (between_again least 232 node low high (omega (arith, high)), between_again 1 127 (suc end) (omega arith) last (omega (arith, last))) refl

@@ -1,4 +1,4 @@
--- The words of a text, cut off from its front.
+-- The words of a text, cut off from its prefix.
 use Rattle.std.proofs.Common.{◌≡◌, ℕ, zero, suc, ◌+◌, ◌<◌, ◌≤◌, true, false, cond, List, [], ◌∷◌, ◌++◌, length, get_or, take, drop, arith, ap, refl, ◌∙◌, sym, subst, add-one, drop-cons}
 use Rattle.std.specs.Prelude.{All, filter}
 use Rattle.std.specs.List.{slice_split}
@@ -60,11 +60,11 @@ pub words-cut :
     (text : List ℕ) (i : ℕ) → i < length text → is_blank (get_or text 0 0) ≡ false → is_blank (get_or text i 0) ≡ true
     → ((k : ℕ) → k < i → is_blank (get_or text k 0) ≡ false)
     → words text ≡ take i text ∷ words (drop i text)
-words-cut text zero below front blank none = absurd (yes_no (get_or text 0 0) blank front)
+words-cut text zero below prefix blank none = absurd (yes_no (get_or text 0 0) blank prefix)
   where
     yes_no : (b : ℕ) → is_blank b ≡ true → is_blank b ≡ false → ⊥
     yes_no b e f = cc
-words-cut text (suc i) below front blank none =
+words-cut text (suc i) below prefix blank none =
     let long : length (take (suc i) text) ≡ suc i = length-take-le (suc i) text (omega (arith, below)) in
     let rest : drop (suc i) text ≡ get_or text (suc i) 0 ∷ drop (suc (suc i)) text = drop-cons text (suc i) 0 below in
     ap words (sym (take-append-drop (suc i) text) ∙ ap (λ r. take (suc i) text ++ r) rest)

@@ -11,7 +11,7 @@ abbrev pub ◌>>=◌ : {A B : Type 0} → Result A LineFault → (A → Result B
 (Ok x) >>= f = f x
 (Err e) >>= f = Err e
 
--- what was read, and the words behind it
+-- what was read, and the words after it
 pub record Taken (A : Type 0) : Type 0 where
   pub value : A
   pub rest : List (List ℕ)

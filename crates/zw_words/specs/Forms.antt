@@ -5,8 +5,8 @@ use Rattle.std.specs.List.{list_all}
 use Rattle.std.specs.Str.{all_ascii_digits}
 use Rattle.hex.specs.Hex.{decode_of}
 use Rattle.hex.specs.declared.error.FromHexError.{FromHexError}
-use Rattle.zw_order.specs.declared.order.Word.{Word}
-use Rattle.zw_order.specs.declared.order.Word.TheVariants.{On, Off, Level}
+use Rattle.zw_base.specs.declared.order.Word.{Word}
+use Rattle.zw_base.specs.declared.order.Word.TheVariants.{On, Off, Level}
 use Rattle.zw_words.specs.declared.forms.Target.{Target}
 use Rattle.zw_words.specs.declared.side.Side.{Side}
 use Rattle.zw_words.specs.declared.side.Side.TheVariants.{Host, Chip}
@@ -39,16 +39,16 @@ between_in least most word = option_and_then (within least most) (number_in word
 abbrev pub node_in : ℕ → List ℕ → Option ℕ
 node_in least word = between_in least 232 word
 
--- an end point behind a node
-abbrev pub end_behind : Option ℕ → Option ℕ → Option Target
-end_behind (Some node) (Some end) = Some (record { node = node; end = end })
-end_behind (Some node) None = None
-end_behind None end = None
+-- an end point after a node
+abbrev pub end_after : Option ℕ → Option ℕ → Option Target
+end_after (Some node) (Some end) = Some (record { node = node; end = end })
+end_after (Some node) None = None
+end_after None end = None
 
--- a node alone, or a node before the point at that place and an end point from 1 on behind it
+-- a node alone, or a node before the point at that place and an end point from 1 on after it
 abbrev pub target_at : ℕ → List ℕ → Option ℕ → Option Target
-target_at least word None = end_behind (node_in least word) (Some 0)
-target_at least word (Some at) = end_behind (node_in least (take at word)) (between_in 1 127 (drop (at + 1) word))
+target_at least word None = end_after (node_in least word) (Some 0)
+target_at least word (Some at) = end_after (node_in least (take at word)) (between_in 1 127 (drop (at + 1) word))
 
 unfoldable pub target_in : ℕ → List ℕ → Option Target
 target_in least word = target_at least word (position (λ b. b == 46) word)

@@ -4,7 +4,7 @@ use thiserror::Error;
 use zw_base::NoMemory;
 
 /// What is wrong with a line (this project's own rule). The first of these that applies is the one that is named: the length, the
-/// first word, the words from left to right, what stands behind the last one.
+/// first word, the words from left to right, what stands after the last one.
 #[derive(Clone, Copy, Debug, PartialEq, Eq, Error)]
 pub enum LineFault {
     /// The first word is no line's word.

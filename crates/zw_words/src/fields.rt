@@ -1,4 +1,4 @@
-//! Words that are read in turn: each answers what the next word stands for, and the text behind it.
+//! Words that are read in turn: each answers what the next word stands for, and the text after it.
 
 ghost use Rattle.std.specs.Prelude.{◌≡◌, ◌<◌, ◌≤◌, [], ◌∷◌, Ok, Err, IfOk, IfErr};
 ghost use Rattle.zw_words.specs.Words.{words};
@@ -9,8 +9,7 @@ use crate::forms::{Target, hex_of, is_hex, node_of, number_between, side_of, tar
 use crate::words::cut_word;
 use crate::{LineFault, ReadLineFault, Side};
 use std::alloc::Global;
-use zw_base::{Bytes, NodeId};
-use zw_order::Word;
+use zw_base::{Bytes, NodeId, Word};
 
 /// The next word of the text, which has to be there, and what follows it.
 fn next_word(text: &[u8]) -> Result<(&[u8], &[u8]), LineFault>

@@ -3,12 +3,11 @@
 ghost use Rattle.std.specs.Prelude.{◌≡◌, ◌+◌, ◌-◌, ◌*◌, ◌<◌, ◌≤◌, ◌^◌, length, position, ◌==◌, ◌&&◌, SomeIff, IfSome, IfOk, OnErr, IsSome};
 ghost use Rattle.std.specs.Char.{is_ascii_hexdigit};
 ghost use Rattle.std.specs.List.{list_all};
-ghost use Rattle.zw_words.specs.Forms.{begins_number, between_in, digits_in, end_behind, hex_in, hex_length, node_in, number_in, side_in, target_in, value_in};
+ghost use Rattle.zw_words.specs.Forms.{begins_number, between_in, digits_in, end_after, hex_in, hex_length, node_in, number_in, side_in, target_in, value_in};
 
 use crate::Side;
 use std::alloc::Global;
-use zw_base::{Bytes, EndPoint, NoMemory, NodeId, read_end, read_node};
-use zw_order::Word;
+use zw_base::{Bytes, EndPoint, NoMemory, NodeId, Word, read_end, read_node};
 
 /// The greatest node.
 const MAX_NODE: u32 = 232;
@@ -124,7 +123,7 @@ fn point_in(word: &[u8]) -> Option<usize>
 /// A node from `least` on, and an end point from 1 on.
 fn target_of_parts(node: &[u8], end: &[u8], least: u32) -> Option<Target>
     requires { 1 ≤ least }
-    ensures { result ≡ end_behind (node_in least node.now) (between_in 1 127 end.now) }
+    ensures { result ≡ end_after (node_in least node.now) (between_in 1 127 end.now) }
 {
     let node = node_of(node, least)?;
     let end = number_between(end, 1, MAX_END)?;

@@ -48,7 +48,7 @@ fn drop_return(text: &[u8]) -> &[u8]
     ensures { result.now ≡ without_return text.now }
 {
     match text {
-        [front @ .., b'\r'] => front,
+        [prefix @ .., b'\r'] => prefix,
         _ => text,
     }
 }

@@ -6,8 +6,8 @@ use Rattle.zw_base.specs.Faults.{Rose}
 use Rattle.serial_frame.specs.Stream.{Rest}
 use Rattle.s0_crypto.specs.declared.key_pair.Keys.{Keys}
 use Rattle.device_sim.specs.State.{State}
-use Rattle.zw_order.specs.declared.order.Word.{Word}
-use Rattle.zw_order.specs.declared.order.Order.{Order}
+use Rattle.zw_base.specs.declared.order.Word.{Word}
+use Rattle.zw_base.specs.declared.order.Order.{Order}
 use Rattle.zw_text.specs.declared.line.Line.{Line}
 use Rattle.zw_text.specs.declared.line.Line.TheVariants.{Command, Join, Cancel, Store}
 use Rattle.zw_text.specs.declared.entry.Entry.{Entry}
@@ -24,34 +24,34 @@ use Rattle.host_orders.specs.Refusals.{Known, Refuses, classes_of, first_some, u
 use Rattle.host_orders.specs.Errands.{RefusesOrNone, send_refusal, sendable_refusal, get_refusal, gettable_refusal, gettable_of, gettable_class, secured, queue_full, sendable_of}
 use Rattle.host_orders.specs.Messages.{channel_class}
 use Rattle.host_keep.specs.Keeping.{OptAdds}
-use Rattle.host_events.specs.State.{HostState, HostParts}
-use Rattle.host_events.specs.Events.{HostEvent, Accepts, Cancels}
-use Rattle.host_events.specs.Events.{Joins as joins_host}
-use Rattle.host_events.specs.Did.{Did, RoseIf, after_all, outs_all, records_all, texts_of}
-use Rattle.host_events.specs.Asking.{places_refusal, carriage_for, Waits}
-use Rattle.host_events.specs.declared.out.HostOut.{HostOut}
-use Rattle.host_taking.specs.Calls.{DoesAlone, Are, scene}
-use Rattle.host_taking.specs.Calls as calls
-use Rattle.host_effects.specs.Choices.{Judges}
+use Rattle.host_model.specs.State.{HostState, HostParts}
+use Rattle.host_model.specs.Events.{HostEvent, Accepts, Cancels}
+use Rattle.host_model.specs.Events.{Joins as joins_host}
+use Rattle.host_model.specs.Did.{Did, RoseIf, after_all, outs_all, records_all, texts_of}
+use Rattle.host_model.specs.Asking.{places_refusal, carriage_for, Waits}
+use Rattle.host_model.specs.declared.out.HostOut.{HostOut}
+use Rattle.host_step_bytes.specs.Calls.{DoesAlone, Are, scene}
+use Rattle.host_step_bytes.specs.Calls as calls
+use Rattle.host_parts.specs.Choices.{Judges}
 use Rattle.host_core.specs.Orders.{KeptOrRefused, CancelsOrNot, question_event, places_of}
 use Rattle.host_core.specs.declared.orders.Question.{Question}
 use Rattle.host_core.specs.declared.orders.Question.TheVariants.{Members, Neighbours, Failed, Probe}
 use Rattle.host_core.specs.declared.orders.CancelFault.{CancelFault}
 use Rattle.host_core.specs.declared.orders.CancelFault.TheVariants as cancel
-use Rattle.outer_events.specs.State.{OuterState, Outside, outside}
-use Rattle.outer_events.specs.Events.{Host_notes, Joins, Discovers}
-use Rattle.outer_events.specs.Did.{Goes, GoesFor, happens_all as happens_all_outside, entries_all as entries_all_outside}
-use Rattle.outer_events.specs.Schedules.{IsOne}
-use Rattle.zw_machine.specs.State.{Machine, machine, routed, with_texts}
-use Rattle.zw_machine.specs.Refusals.{shown, IsRefused, IsRefusedBy, IsRefusedOrUnkept, IsUncancelled}
-use Rattle.zw_machine.specs.Events.{Event, Host_does, Outside_does, Refuses as refuses, Shows_values, notes, answers, happens, entries, May}
-use Rattle.zw_machine.specs.Did.{Run, Does, Nothing, Stops, is_keeper_fault}
-use Rattle.zw_machine.specs.Lines.{Asks, IsDone, IsDiscovery, IsEffect}
-use Rattle.zw_machine.proofs.Doing.{ran_both}
-use Rattle.zw_machine.proofs.Hosting.{Silent, adds_is, rose_any}
-use Rattle.zw_machine.proofs.Outside.{ran_outside}
-use Rattle.world_sides.specs.Scene.{scene_of}
-use Rattle.world_sides.proofs.Scenes.{ran_hosted, nothing_goes, quiet_goes, stopped_hosted, stopped_still}
+use Rattle.outside_model.specs.State.{OuterState, Outside, outside}
+use Rattle.outside_model.specs.Events.{Host_notes, Joins, Discovers}
+use Rattle.outside_model.specs.Did.{Goes, GoesFor, happens_all as happens_all_outside, entries_all as entries_all_outside}
+use Rattle.outside_model.specs.Schedules.{IsOne}
+use Rattle.world_model.specs.State.{Machine, machine, routed, with_texts}
+use Rattle.world_model.specs.Refusals.{shown, IsRefused, IsRefusedBy, IsRefusedOrUnkept, IsUncancelled}
+use Rattle.world_model.specs.Events.{Event, Host_does, Outside_does, Refuses as refuses, Shows_values, notes, answers, happens, entries, May}
+use Rattle.world_model.specs.Did.{Run, Does, Nothing, Stops, is_keeper_fault}
+use Rattle.world_model.specs.Lines.{Asks, IsDone, IsDiscovery, IsEffect}
+use Rattle.world_model.proofs.Doing.{ran_both}
+use Rattle.world_model.proofs.Hosting.{Silent, adds_is, rose_any}
+use Rattle.world_model.proofs.Outside.{ran_outside}
+use Rattle.world_step.specs.Scene.{scene_of}
+use Rattle.world_step.proofs.Scenes.{ran_hosted, nothing_goes, quiet_goes, stopped_hosted, stopped_still}
 use Rattle.zw_world.specs.Effects.{Answers, IsAsked, shown_uncancelled}
 use Rattle.zw_world.proofs.Scenes.{ran_refuses, quiet_run, none_more, did_as}
 
@@ -320,7 +320,7 @@ joins node keys host host' o o' ds r r' before f g did decoder (es, are, run) = 
   ran_both (Host_does (joins_host node) ∷ []) (Outside_does (Joins node) ∷ []) (scene_of keys host o ds r before f) (scene_of keys host' o ds r' before g) (scene_of keys host' o' ds r' before g)
       (ran_hosted (joins_host node ∷ []) keys host host' o o ds r r' [] [] before before f g ((λ h. refl), tt) refl did decoder (nothing_goes o before))
       (ran_outside (Joins node ∷ []) (machine keys host' o r' ds) (outside o' ds) before before g (refl, tt)
-      (quiet_run (Joins node ∷ []) (outside o ds) (outside o' ds) before (subst (λ x. Rattle.outer_events.specs.Did.Run x (outside o ds) (outside o' ds) [] []) are run))),
+      (quiet_run (Joins node ∷ []) (outside o ds) (outside o' ds) before (subst (λ x. Rattle.outside_model.specs.Did.Run x (outside o ds) (outside o' ds) [] []) are run))),
 )
 
 -- ---- whole lines, by what a call of the host answered
@@ -354,7 +354,7 @@ cancelled (Ok value) command keys keys' host mid host' o o' r r' before all f g 
           (subst (λ (l : List HostEvent). Did l host.state mid.state [] [] (record { records = r; faults = f }) (record { records = r'; faults = g })) does.are does.did) decoder goes,
     )
 
--- the host did its event, and then memory was wanting
+-- the host did its event, and then memory ran out
 pub event_stops : {T E : Type 0} (answer : Result T E) (e : HostEvent) (keys keys' : Keys) (host mid host' : HostParts) (o o' : OuterState) (r r' : Option (List (List ℕ))) (before all : List Entry) (f g : ℕ)
     → calls.Does (Are (e ∷ [])) (scene host.state [] r f) (scene mid.state [] r' g) → OnErr answer (all ≡ before)
     → OnErr answer ((ds : List State) → Stops Nothing (scene_of keys host o ds r before f) (scene_of keys' host' o' ds r' all g))
@@ -362,7 +362,7 @@ event_stops (Ok value) e keys keys' host mid host' o o' r r' before all f g does
 event_stops (Err fault) e keys keys' host mid host' o o' r r' before all f g does same = λ ds.
     stopped_hosted does.events keys keys' host host' o o' ds r r' mid.state [] [] before all f g does.did same
 
--- the line is refused, or memory was wanting
+-- the line is refused, or memory ran out
 pub refusal_done : {T E : Type 0} (answer : Result T E) (line : Line) (these : List Event) (seen : Option Refusal) (keys keys' : Keys) (host mid host' : HostParts) (o o' : OuterState) (r r' : Option (List (List ℕ))) (before all : List Entry) (f g : ℕ)
     → ((entered : Refusal) → seen ≡ Some entered → (ds : List State) → IsRefused (machine keys host o r ds) line entered)
     → ((entered : Refusal) → seen ≡ Some entered → RoseIf (is_keeper_fault entered) f g)

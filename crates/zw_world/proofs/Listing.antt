@@ -8,9 +8,9 @@ use Rattle.supervision.specs.Host.{command_at}
 use Rattle.std.proofs.lemmas.Grind.{flat_map-append}
 use Rattle.zw_text.specs.declared.entry.Entry.{Entry}
 use Rattle.zw_text.specs.declared.entry.Entry.TheVariants.{TableEnd}
-use Rattle.host_events.specs.State.{node_of}
-use Rattle.zw_machine.specs.State.{Machine}
-use Rattle.zw_machine.specs.Table.{node_entries, table_entries}
+use Rattle.host_model.specs.State.{node_of}
+use Rattle.world_model.specs.State.{Machine}
+use Rattle.world_model.specs.Table.{node_entries, table_entries}
 use Rattle.zw_world.specs.Listing.{listed}
 
 -- a range with one more number

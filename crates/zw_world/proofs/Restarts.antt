@@ -14,27 +14,27 @@ use Rattle.zw_text.specs.declared.entry.Refusal.{Refusal}
 use Rattle.zw_text.specs.declared.entry.Refusal.TheVariants.{KeeperFault as keeper_fault}
 use Rattle.host_keep.specs.Keeping.{OptAdds}
 use Rattle.host_keep.specs.Legal.{IsFirstBad}
-use Rattle.host_events.specs.State.{HostParts}
-use Rattle.host_events.specs.Did.{RoseIf}
+use Rattle.host_model.specs.State.{HostParts}
+use Rattle.host_model.specs.Did.{RoseIf}
 use Rattle.host_core.specs.Opening.{Opens}
 use Rattle.host_core.specs.declared.opening.OpenFault.{OpenFault}
 use Rattle.host_core.specs.declared.opening.OpenFault.TheVariants as opening
-use Rattle.outer_events.specs.State.{OuterState, outside}
-use Rattle.outer_events.specs.Events.{OuterEvent, Clears_pipe, Host_notes}
-use Rattle.outer_events.specs.Did.{Goes}
-use Rattle.outer_events.proofs.Doing.{ran_both as ran_both_outside}
-use Rattle.zw_machine.specs.State.{Machine, machine}
-use Rattle.zw_machine.specs.Refusals.{IsUnopened, HasBad}
-use Rattle.zw_machine.specs.Events.{Event, Outside_does, Refuses, Restarts, OpensFrom, happens, entries, May}
-use Rattle.zw_machine.specs.Did.{Nothing, Run, Does, Stops, is_keeper_fault}
-use Rattle.zw_machine.specs.Fronts.{RestartFront}
-use Rattle.zw_machine.specs.Lines.{IsRestart, restart_events}
-use Rattle.zw_machine.proofs.Doing.{ran_both, stopped_later}
-use Rattle.zw_machine.proofs.Outside.{ran_outside}
-use Rattle.world_sides.specs.Scene.{scene_of}
-use Rattle.world_sides.proofs.Scenes.{stopped_still}
+use Rattle.outside_model.specs.State.{OuterState, outside}
+use Rattle.outside_model.specs.Events.{OuterEvent, Clears_pipe, Host_notes}
+use Rattle.outside_model.specs.Did.{Goes}
+use Rattle.outside_model.proofs.Doing.{ran_both as ran_both_outside}
+use Rattle.world_model.specs.State.{Machine, machine}
+use Rattle.world_model.specs.Refusals.{IsUnopened, HasBad}
+use Rattle.world_model.specs.Events.{Event, Outside_does, Refuses, Restarts, OpensFrom, happens, entries, May}
+use Rattle.world_model.specs.Did.{Nothing, Run, Does, Stops, is_keeper_fault}
+use Rattle.world_model.specs.Prefixes.{RestartPrefix}
+use Rattle.world_model.specs.Lines.{IsRestart, restart_events}
+use Rattle.world_model.proofs.Doing.{ran_both, stopped_later}
+use Rattle.world_model.proofs.Outside.{ran_outside}
+use Rattle.world_step.specs.Scene.{scene_of}
+use Rattle.world_step.proofs.Scenes.{stopped_still}
 use Rattle.zw_world.specs.Effects.{ClearsInPart, shown_unopened}
-use Rattle.zw_machine.proofs.Hosting.{stopped_by}
+use Rattle.world_model.proofs.Hosting.{stopped_by}
 use Rattle.zw_world.proofs.Scenes.{ran_refuses, none_more, did_as}
 use Rattle.zw_world.proofs.Asking.{fault_in, IsNothing}
 
@@ -68,32 +68,32 @@ restarted keys number host host' o o' ds r r' before all f g opens kept falls go
       subst (λ (x : Option (List (List ℕ))). Run (restart_events host'.state) (scene_of keys host o ds r before f) (scene_of keys host' o' ds x all g)) (sym (none_more r r' kept)) ran,
     )
 
--- for want of memory the bytes to the chip alone were lost, or none
+-- for lack of memory the bytes to the chip alone were lost, or none
 started_alone : (keys keys' : Keys) (number : ℕ) (host host' host'' : HostParts) (o o' : OuterState) (ds : List State) (r : Option (List (List ℕ))) (before all : List Entry) (f g : ℕ)
-    → Opens keys number r host' → f ≤ g → all ≡ before → Stops RestartFront (scene_of keys host o ds r before f) (scene_of keys' host'' o' ds r all g)
+    → Opens keys number r host' → f ≤ g → all ≡ before → Stops RestartPrefix (scene_of keys host o ds r before f) (scene_of keys' host'' o' ds r all g)
 unfolding happens May
 started_alone keys keys' number host host' host'' o o' ds r before all f g opens falls same =
-    stopped_by RestartFront (Restarts host'.state ∷ []) (machine keys host o r ds) (machine keys' host'' o' r ds) before all f g (inl refl) (tt, tt) (opens_from keys number r host' opens, tt) refl refl same falls
+    stopped_by RestartPrefix (Restarts host'.state ∷ []) (machine keys host o r ds) (machine keys' host'' o' r ds) before all f g (inl refl) (tt, tt) (opens_from keys number r host' opens, tt) refl refl same falls
 
 cleared_one : (keys keys' : Keys) (number : ℕ) (host host' host'' : HostParts) (o mid o' : OuterState) (ds : List State) (r : Option (List (List ℕ))) (before all : List Entry) (f g : ℕ)
-    → Opens keys number r host' → f ≤ g → Goes (Clears_pipe side.Host ∷ []) o mid before all → Stops RestartFront (scene_of keys host o ds r before f) (scene_of keys' host'' o' ds r all g)
+    → Opens keys number r host' → f ≤ g → Goes (Clears_pipe side.Host ∷ []) o mid before all → Stops RestartPrefix (scene_of keys host o ds r before f) (scene_of keys' host'' o' ds r all g)
 cleared_one keys keys' number host host' host'' o mid o' ds r before all f g opens falls goes =
     let cleared : List Event = Outside_does (Clears_pipe side.Host) ∷ [] in
     let ran : Run (Restarts host'.state ∷ cleared) (scene_of keys host o ds r before f) (scene_of keys host' mid ds r all g) =
     ran_both (Restarts host'.state ∷ []) cleared (scene_of keys host o ds r before f) (scene_of keys host' o ds r before g) (scene_of keys host' mid ds r all g)
     (starts keys number host host' o ds r before f g opens falls)
     (ran_outside (Clears_pipe side.Host ∷ []) (machine keys host' o r ds) (outside mid ds) before all g (refl, tt) (goes ds)) in
-    stopped_later RestartFront Nothing (Restarts host'.state ∷ cleared) (scene_of keys host o ds r before f) (scene_of keys host' mid ds r all g) (scene_of keys' host'' o' ds r all g)
+    stopped_later RestartPrefix Nothing (Restarts host'.state ∷ cleared) (scene_of keys host o ds r before f) (scene_of keys host' mid ds r all g) (scene_of keys' host'' o' ds r all g)
     (λ events none. inr (host'.state, ap (λ (l : List Event). Restarts host'.state ∷ Outside_does (Clears_pipe side.Host) ∷ l) none)) ran
     (stopped_still Nothing keys keys' host' host'' mid o' ds r r all all g g refl refl refl (omega arith))
 
 pub restart_stops : (keys keys' : Keys) (number : ℕ) (host host' host'' : HostParts) (o o' : OuterState) (ds : List State) (r r' : Option (List (List ℕ))) (before all : List Entry) (f g : ℕ)
     → Opens keys number r host' → OptAdds r r' [] → f ≤ g → ClearsInPart o before all
-    → Stops RestartFront (scene_of keys host o ds r before f) (scene_of keys' host'' o' ds r' all g)
+    → Stops RestartPrefix (scene_of keys host o ds r before f) (scene_of keys' host'' o' ds r' all g)
 restart_stops keys keys' number host host' host'' o o' ds r r' before all f g opens kept falls stops =
-    subst (λ (x : Option (List (List ℕ))). Stops RestartFront (scene_of keys host o ds r before f) (scene_of keys' host'' o' ds x all g)) (sym (none_more r r' kept)) (by stops)
+    subst (λ (x : Option (List (List ℕ))). Stops RestartPrefix (scene_of keys host o ds r before f) (scene_of keys' host'' o' ds x all g)) (sym (none_more r r' kept)) (by stops)
   where
-    by : ClearsInPart o before all → Stops RestartFront (scene_of keys host o ds r before f) (scene_of keys' host'' o' ds r all g)
+    by : ClearsInPart o before all → Stops RestartPrefix (scene_of keys host o ds r before f) (scene_of keys' host'' o' ds r all g)
     by (inl same) = started_alone keys keys' number host host' host'' o o' ds r before all f g opens falls same
     by (inr (mid, goes)) = cleared_one keys keys' number host host' host'' o mid o' ds r before all f g opens falls goes
 

@@ -1,4 +1,4 @@
--- What calls of the parts of a world are as events of the machine, beside those of `world_sides`.
+-- What calls of the parts of a world are as events of the machine, beside those of `world_step`.
 use Rattle.std.proofs.Common.{◌≡◌, ℕ, ◌≤◌, Bool, true, false, List, [], ◌∷◌, ◌++◌, refl, ap, sym, ◌∙◌, subst}
 use Rattle.std.specs.Prelude.{Option, Some, None, ◌||◌}
 use Rattle.std.proofs.lemmas.List.{append-nil}
@@ -9,20 +9,20 @@ use Rattle.zw_text.specs.declared.entry.Entry.{Entry}
 use Rattle.zw_text.specs.declared.entry.Entry.TheVariants.{Refused as refused_entry}
 use Rattle.zw_text.specs.declared.entry.Refusal.{Refusal}
 use Rattle.host_keep.specs.Keeping.{OptAdds}
-use Rattle.host_events.specs.State.{HostParts}
-use Rattle.host_events.specs.Did.{RoseIf}
-use Rattle.outer_events.specs.State.{OuterState, Outside, outside}
-use Rattle.outer_events.specs.Events.{OuterEvent, Host_notes, is_own}
-use Rattle.outer_events.specs.Did.{Run as RunOutside, Goes, GoesFor, FrontOf as FrontOfOutside, Stops as StopsOutside}
-use Rattle.outer_events.specs.Schedules.{IsOne as IsOneOutside}
-use Rattle.zw_machine.specs.State.{Machine, machine, with_outside}
-use Rattle.zw_machine.specs.Refusals.{IsRefused}
-use Rattle.zw_machine.specs.Events.{Event, Outside_does, Refuses, happens, entries, May}
-use Rattle.zw_machine.specs.Did.{Schedule, Scene, Run, Does, FrontOf, Stops, These, is_keeper_fault}
-use Rattle.zw_machine.specs.Settling.{Outside as OutsideOf}
-use Rattle.zw_machine.proofs.Outside.{ran_outside}
-use Rattle.world_sides.specs.Scene.{scene_of}
-use Rattle.world_sides.proofs.Scenes.{stopped_out, fronts_of, front_of}
+use Rattle.host_model.specs.State.{HostParts}
+use Rattle.host_model.specs.Did.{RoseIf}
+use Rattle.outside_model.specs.State.{OuterState, Outside, outside}
+use Rattle.outside_model.specs.Events.{OuterEvent, Host_notes, is_own}
+use Rattle.outside_model.specs.Did.{Run as RunOutside, Goes, GoesFor, PrefixOf as PrefixOfOutside, Stops as StopsOutside}
+use Rattle.outside_model.specs.Schedules.{IsOne as IsOneOutside}
+use Rattle.world_model.specs.State.{Machine, machine, with_outside}
+use Rattle.world_model.specs.Refusals.{IsRefused}
+use Rattle.world_model.specs.Events.{Event, Outside_does, Refuses, happens, entries, May}
+use Rattle.world_model.specs.Did.{Schedule, Scene, Run, Does, PrefixOf, Stops, These, is_keeper_fault}
+use Rattle.world_model.specs.Settling.{Outside as OutsideOf}
+use Rattle.world_model.proofs.Outside.{ran_outside}
+use Rattle.world_step.specs.Scene.{scene_of}
+use Rattle.world_step.proofs.Scenes.{stopped_out, prefixes_of, prefix_of}
 
 -- no record was added
 pub none_more : (r r' : Option (List (List ℕ))) → OptAdds r r' [] → r' ≡ r
@@ -45,10 +45,10 @@ did_run e keys host o o' ds r before all f own (es, are, run) =
 
 -- some of a kind were done in part
 pub stopped_of : (Kind : List OuterEvent → Type 0) (keys keys' : Keys) (host host' : HostParts) (o o' : OuterState) (ds ds' : List State) (r : Option (List (List ℕ))) (before all : List Entry) (f : ℕ)
-    → StopsOutside (FrontOfOutside Kind) (outside o ds) ds' before all
-    → Stops (FrontOf (λ (m : Machine) (es : List Event). OutsideOf Kind es)) (scene_of keys host o ds r before f) (scene_of keys' host' o' ds' r all f)
+    → StopsOutside (PrefixOfOutside Kind) (outside o ds) ds' before all
+    → Stops (PrefixOf (λ (m : Machine) (es : List Event). OutsideOf Kind es)) (scene_of keys host o ds r before f) (scene_of keys' host' o' ds' r all f)
 stopped_of Kind keys keys' host host' o o' ds ds' r before all f stops =
-    stopped_out (FrontOf (λ (m : Machine) (es : List Event). OutsideOf Kind es)) (FrontOfOutside Kind) keys keys' host host' o o' ds ds' r before all f (fronts_of Kind) (front_of Kind (machine keys host o r ds)) stops
+    stopped_out (PrefixOf (λ (m : Machine) (es : List Event). OutsideOf Kind es)) (PrefixOfOutside Kind) keys keys' host host' o o' ds ds' r before all f (prefixes_of Kind) (prefix_of Kind (machine keys host o r ds)) stops
 
 -- ---- a line is refused
 

@@ -3,19 +3,19 @@ use Rattle.std.proofs.Common.{◌≡◌, ℕ, Bool, true, false, List, [], refl,
 use Rattle.std.specs.Prelude.{Option, Result, Ok, Err, OnOk, OnErr}
 use Rattle.device_sim.specs.State.{State}
 use Rattle.zw_text.specs.declared.line.Line.{Line}
-use Rattle.zw_order.specs.declared.order.Order.{Order}
-use Rattle.zw_order.specs.declared.order.Word.{Word}
+use Rattle.zw_base.specs.declared.order.Order.{Order}
+use Rattle.zw_base.specs.declared.order.Word.{Word}
 use Rattle.zw_words.specs.declared.side.Side.{Side}
 use Rattle.zw_text.specs.declared.line.Line.TheVariants.{Command, Tick, Cut, Stall, Drop, Garble, Collide, Send, Get, Join, Interview, Lose, LoseAck, Repeat, Wake, Cancel, Link, Unlink, Discover, Neighbours, Failed, Probe, Local, Show, Store, Restart}
-use Rattle.zw_machine.specs.State.{Machine}
-use Rattle.zw_machine.specs.Events.{Event}
-use Rattle.zw_machine.specs.Did.{Scene, Does, Nothing, ThenFront, Stops, Then}
-use Rattle.zw_machine.specs.Fronts.{SettlesFront, TicksFront, EffectFront, LineRestFront, LineFront}
-use Rattle.zw_machine.specs.Settling.{Settles}
-use Rattle.zw_machine.specs.Ticking.{Ticks}
-use Rattle.zw_machine.specs.Lines.{IsEffect, IsLineBegin, IsLineRest, IsLine}
-use Rattle.zw_machine.proofs.Doing.{stopped_as}
-use Rattle.zw_machine.proofs.Schedules.{did_then, stopped_first, stopped_then}
+use Rattle.world_model.specs.State.{Machine}
+use Rattle.world_model.specs.Events.{Event}
+use Rattle.world_model.specs.Did.{Scene, Does, Nothing, ThenPrefix, Stops, Then}
+use Rattle.world_model.specs.Prefixes.{SettlesPrefix, TicksPrefix, EffectPrefix, LineRestPrefix, LinePrefix}
+use Rattle.world_model.specs.Settling.{Settles}
+use Rattle.world_model.specs.Ticking.{Ticks}
+use Rattle.world_model.specs.Lines.{IsEffect, IsLineBegin, IsLineRest, IsLine}
+use Rattle.world_model.proofs.Doing.{stopped_as}
+use Rattle.world_model.proofs.Schedules.{did_then, stopped_first, stopped_then}
 use Rattle.zw_world.specs.Effects.{is_tick, asks_or_sets, IsSetting}
 
 pub not_tick : (line : Line) → ((count : ℕ) → line ≡ Tick count → ⊥) → is_tick line ≡ false
@@ -49,43 +49,43 @@ rest_done (Ok value) line s t u not first later = rest_as line s u not (did_then
 rest_done (Err fault) line s t u not first later = tt
 
 -- in part
-rest_front : (line : Line) (m : Machine) (events : List Event) → is_tick line ≡ false → ThenFront (EffectFront line) (IsEffect line) SettlesFront m events → LineRestFront line m events
-rest_front (Tick count) m events not front = absurd (subst So not tt)
-rest_front line m events not front = front
+rest_prefix : (line : Line) (m : Machine) (events : List Event) → is_tick line ≡ false → ThenPrefix (EffectPrefix line) (IsEffect line) SettlesPrefix m events → LineRestPrefix line m events
+rest_prefix (Tick count) m events not prefix = absurd (subst So not tt)
+rest_prefix line m events not prefix = prefix
 
-in_rest : (line : Line) (s u : Scene) → is_tick line ≡ false → Stops (ThenFront (EffectFront line) (IsEffect line) SettlesFront) s u → Stops (LineRestFront line) s u
+in_rest : (line : Line) (s u : Scene) → is_tick line ≡ false → Stops (ThenPrefix (EffectPrefix line) (IsEffect line) SettlesPrefix) s u → Stops (LineRestPrefix line) s u
 in_rest line s u not stops =
-    stopped_as (ThenFront (EffectFront line) (IsEffect line) SettlesFront) (LineRestFront line) s u (λ events front. rest_front line s.machine events not front) stops
+    stopped_as (ThenPrefix (EffectPrefix line) (IsEffect line) SettlesPrefix) (LineRestPrefix line) s u (λ events prefix. rest_prefix line s.machine events not prefix) stops
 
-pub effect_stops : (line : Line) (s u : Scene) → is_tick line ≡ false → Stops (EffectFront line) s u → Stops (LineRestFront line) s u
-effect_stops line s u not stops = in_rest line s u not (stopped_first (IsEffect line) (EffectFront line) SettlesFront s u stops)
+pub effect_stops : (line : Line) (s u : Scene) → is_tick line ≡ false → Stops (EffectPrefix line) s u → Stops (LineRestPrefix line) s u
+effect_stops line s u not stops = in_rest line s u not (stopped_first (IsEffect line) (EffectPrefix line) SettlesPrefix s u stops)
 
-pub rest_stops : {T E : Type 0} (answer : Result T E) (line : Line) (s t u : Scene) → is_tick line ≡ false → Does (IsEffect line) s t → OnErr answer (Stops SettlesFront t u) → OnErr answer (Stops (LineRestFront line) s u)
+pub rest_stops : {T E : Type 0} (answer : Result T E) (line : Line) (s t u : Scene) → is_tick line ≡ false → Does (IsEffect line) s t → OnErr answer (Stops SettlesPrefix t u) → OnErr answer (Stops (LineRestPrefix line) s u)
 rest_stops (Ok value) line s t u not first later = tt
-rest_stops (Err fault) line s t u not first later = in_rest line s u not (stopped_then (IsEffect line) (EffectFront line) SettlesFront s t u first later)
+rest_stops (Err fault) line s t u not first later = in_rest line s u not (stopped_then (IsEffect line) (EffectPrefix line) SettlesPrefix s t u first later)
 
-pub ticks_stop_as : {T E : Type 0} (answer : Result T E) (line : Line) (count : ℕ) (s u : Scene) → line ≡ Tick count → OnErr answer (Stops (TicksFront count) s u) → OnErr answer (Stops (LineRestFront line) s u)
-ticks_stop_as answer line count s u is stops = subst (λ (l : Line). OnErr answer (Stops (LineRestFront l) s u)) (sym is) stops
+pub ticks_stop_as : {T E : Type 0} (answer : Result T E) (line : Line) (count : ℕ) (s u : Scene) → line ≡ Tick count → OnErr answer (Stops (TicksPrefix count) s u) → OnErr answer (Stops (LineRestPrefix line) s u)
+ticks_stop_as answer line count s u is stops = subst (λ (l : Line). OnErr answer (Stops (LineRestPrefix l) s u)) (sym is) stops
 
 -- nothing of the effect was done
-pub none_in : (line : Line) (m : Machine) → EffectFront line m []
+pub none_in : (line : Line) (m : Machine) → EffectPrefix line m []
 none_in Restart m = inl refl
 none_in line m = inl refl
 
-pub nothing_in : (line : Line) (s t : Scene) → Stops Nothing s t → Stops (EffectFront line) s t
-nothing_in line s t stops = stopped_as Nothing (EffectFront line) s t (λ events none. subst (λ (l : List Event). EffectFront line s.machine l) (sym none) (none_in line s.machine)) stops
+pub nothing_in : (line : Line) (s t : Scene) → Stops Nothing s t → Stops (EffectPrefix line) s t
+nothing_in line s t stops = stopped_as Nothing (EffectPrefix line) s t (λ events none. subst (λ (l : List Event). EffectPrefix line s.machine l) (sym none) (none_in line s.machine)) stops
 
 -- of the effect of a line that was matched
-pub front_as : {T E : Type 0} (answer : Result T E) (line known : Line) (s u : Scene) → line ≡ known → OnErr answer (Stops (EffectFront known) s u) → OnErr answer (Stops (EffectFront line) s u)
-front_as answer line known s u is stops = subst (λ (l : Line). OnErr answer (Stops (EffectFront l) s u)) (sym is) stops
+pub prefix_as : {T E : Type 0} (answer : Result T E) (line known : Line) (s u : Scene) → line ≡ known → OnErr answer (Stops (EffectPrefix known) s u) → OnErr answer (Stops (EffectPrefix line) s u)
+prefix_as answer line known s u is stops = subst (λ (l : Line). OnErr answer (Stops (EffectPrefix l) s u)) (sym is) stops
 
 pub line_done : {T E : Type 0} (answer : Result T E) (line : Line) (s t u : Scene) → Does IsLineBegin s t → OnOk answer (Does (IsLineRest line) t u) → OnOk answer (Does (IsLine line) s u)
 line_done (Ok value) line s t u first later = did_then IsLineBegin (IsLineRest line) s t u first later
 line_done (Err fault) line s t u first later = tt
 
-pub line_stops : {T E : Type 0} (answer : Result T E) (line : Line) (s t u : Scene) → Does IsLineBegin s t → OnErr answer (Stops (LineRestFront line) t u) → OnErr answer (Stops (LineFront line) s u)
+pub line_stops : {T E : Type 0} (answer : Result T E) (line : Line) (s t u : Scene) → Does IsLineBegin s t → OnErr answer (Stops (LineRestPrefix line) t u) → OnErr answer (Stops (LinePrefix line) s u)
 line_stops (Ok value) line s t u first later = tt
-line_stops (Err fault) line s t u first later = stopped_then IsLineBegin Nothing (LineRestFront line) s t u first later
+line_stops (Err fault) line s t u first later = stopped_then IsLineBegin Nothing (LineRestPrefix line) s t u first later
 
 pub effect_plain : (line known : Line) (s u : Scene) → line ≡ known → Does (IsEffect known) s u → Does (IsEffect line) s u
 effect_plain line known s u is done = subst (λ (l : Line). Does (IsEffect l) s u) (sym is) done

@@ -8,7 +8,7 @@ use Rattle.zw_text.specs.declared.entry.Entry.TheVariants.{Refused as refused_en
 use Rattle.zw_text.specs.declared.entry.Refusal.{Refusal}
 use Rattle.zw_text.specs.declared.entry.Refusal.TheVariants.{NotWaiting, KeeperFault, BadRecord}
 use Rattle.host_orders.specs.declared.refused.Refused.{Refused}
-use Rattle.host_events.specs.Asking.{places_refusal}
+use Rattle.host_model.specs.Asking.{places_refusal}
 use Rattle.host_core.specs.declared.orders.Question.{Question}
 use Rattle.host_core.specs.declared.orders.Question.TheVariants.{Members, Neighbours, Failed, Probe}
 use Rattle.host_core.specs.declared.opening.OpenFault.{OpenFault}
@@ -16,12 +16,12 @@ use Rattle.host_core.specs.declared.opening.OpenFault.TheVariants as opening
 use Rattle.host_core.specs.declared.orders.CancelFault.{CancelFault}
 use Rattle.host_core.specs.declared.orders.CancelFault.TheVariants as cancel
 use Rattle.host_core.specs.Orders.{places_of, question_event}
-use Rattle.outer_events.specs.State.{OuterState}
-use Rattle.outer_events.specs.Events.{Host_notes, Clears_pipe}
-use Rattle.outer_events.specs.Did.{Goes}
-use Rattle.zw_machine.specs.Refusals.{shown}
-use Rattle.zw_machine.specs.Did.{Schedule}
-use Rattle.zw_machine.specs.Lines.{Asks}
+use Rattle.outside_model.specs.State.{OuterState}
+use Rattle.outside_model.specs.Events.{Host_notes, Clears_pipe}
+use Rattle.outside_model.specs.Did.{Goes}
+use Rattle.world_model.specs.Refusals.{shown}
+use Rattle.world_model.specs.Did.{Schedule}
+use Rattle.world_model.specs.Lines.{Asks}
 
 abbrev pub is_tick : Line → Bool
 is_tick (Tick count) = true
@@ -69,13 +69,13 @@ line_of Probe = probe
 abbrev pub IsAsked : Question → Schedule
 IsAsked question m events = Asks (places_refusal m.host.state (places_of question)) (line_of question) (question_event question) events
 
--- what is entered of a command that is not cancelled; want of memory is no refusal
+-- what is entered of a command that is not cancelled; an allocation failure is no refusal
 abbrev pub shown_uncancelled : ℕ → CancelFault → Option Refusal
 shown_uncancelled command cancel.NotWaiting = Some (NotWaiting command)
 shown_uncancelled command cancel.KeeperFault = Some KeeperFault
 shown_uncancelled command cancel.NoMemory = None
 
--- at want of memory the bytes on their way to the chip are lost, and those to the host are not; or neither, and nothing is entered
+-- on an allocation failure the bytes on their way to the chip are lost, and those to the host are not; or neither, and nothing is entered
 abbrev pub ClearsInPart : OuterState → List Entry → List Entry → Type 0
 ClearsInPart old before all = (all ≡ before) ⊎ ((mid : OuterState) × Goes (Clears_pipe side.Host ∷ []) old mid before all)
 

@@ -1,9 +1,9 @@
 -- What a call of the world tells of the final table (this project's own).
 use Rattle.std.specs.Prelude.{ℕ, List, [], if◌then◌else◌}
 use Rattle.zw_text.specs.declared.entry.Entry.{Entry}
-use Rattle.host_events.specs.State.{node_of}
-use Rattle.zw_machine.specs.State.{Machine}
-use Rattle.zw_machine.specs.Table.{node_entries}
+use Rattle.host_model.specs.State.{node_of}
+use Rattle.world_model.specs.State.{Machine}
+use Rattle.world_model.specs.Table.{node_entries}
 
 -- the lines of a node, where it is joined
 abbrev pub listed : Machine → ℕ → List Entry

@@ -5,10 +5,10 @@ use Rattle.s0_crypto.specs.declared.key_pair.Keys.{Keys}
 use Rattle.device_sim.specs.State.{State}
 use Rattle.zw_text.specs.declared.entry.Entry.{Entry}
 use Rattle.host_core.specs.Network.{keys_of}
-use Rattle.host_events.specs.State.{HostParts, first_host}
-use Rattle.outer_events.specs.State.{OuterState, first_outer}
-use Rattle.zw_machine.specs.State.{Machine, machine}
-use Rattle.zw_machine.specs.Did.{Scene}
+use Rattle.host_model.specs.State.{HostParts, first_host}
+use Rattle.outside_model.specs.State.{OuterState, first_outer}
+use Rattle.world_model.specs.State.{Machine, machine}
+use Rattle.world_model.specs.Did.{Scene}
 
 -- the keys of the network, the host, and what is outside it but for the devices
 pub record WorldState : Type 0 where

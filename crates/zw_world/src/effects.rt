@@ -4,9 +4,9 @@ ghost use Rattle.std.specs.Prelude.{◌≡◌, ◌<◌, ◌^◌, ℕ, length, ma
 ghost use Rattle.device_sim.specs.State.{State};
 ghost use Rattle.zw_text.specs.declared.line.Line.TheVariants as line;
 ghost use Rattle.zw_text.specs.declared.entry.Entry.{Entry as TheEntry};
-ghost use Rattle.zw_machine.specs.Did.{Does, Nothing, Stops};
-ghost use Rattle.zw_machine.specs.Fronts.{EffectFront};
-ghost use Rattle.zw_machine.specs.Lines.{IsEffect};
+ghost use Rattle.world_model.specs.Did.{Does, Nothing, Stops};
+ghost use Rattle.world_model.specs.Prefixes.{EffectPrefix};
+ghost use Rattle.world_model.specs.Lines.{IsEffect};
 ghost use Rattle.zw_world.specs.World.{scene};
 ghost use Rattle.zw_world.specs.Effects.{IsSetting, IsAsked, is_tick, asks_or_sets};
 
@@ -15,8 +15,7 @@ use device_sim::Device;
 use host_core::Question;
 use host_keep::Keeper;
 use serial_pipes::Garble;
-use zw_base::{Draw, EndPoint, List, NoMemory, NodeId};
-use zw_order::{Order, Word};
+use zw_base::{Draw, EndPoint, List, NoMemory, NodeId, Order, Word};
 use zw_text::{Ended, Entry, Line};
 
 impl World {
@@ -31,8 +30,12 @@ impl World {
     ) -> Result<(), NoMemory>
         requires few { length devices.old.items < 2 ^ 64 }
         requires effect { is_tick line.now ≡ Rattle.std.specs.Prelude.false }
-        ensures ok { OnOk result (Does (IsEffect line.now) (scene self.old (map (λ d. state d) devices.old.items) (P.records keeper.old) out.old.items (P.faults keeper.old)) (scene self.new (map (λ d. state d) devices.new.items) (P.records keeper.new) out.new.items (P.faults keeper.new))) }
-        ensures err { OnErr result (Stops (EffectFront line.now) (scene self.old (map (λ d. state d) devices.old.items) (P.records keeper.old) out.old.items (P.faults keeper.old)) (scene self.new (map (λ d. state d) devices.new.items) (P.records keeper.new) out.new.items (P.faults keeper.new))) }
+        ensures ok { OnOk result (Does (IsEffect line.now)
+            (scene self.old (map (λ d. state d) devices.old.items) (P.records keeper.old) out.old.items (P.faults keeper.old))
+            (scene self.new (map (λ d. state d) devices.new.items) (P.records keeper.new) out.new.items (P.faults keeper.new))) }
+        ensures err { OnErr result (Stops (EffectPrefix line.now)
+            (scene self.old (map (λ d. state d) devices.old.items) (P.records keeper.old) out.old.items (P.faults keeper.old))
+            (scene self.new (map (λ d. state d) devices.new.items) (P.records keeper.new) out.new.items (P.faults keeper.new))) }
         ensures kept { length devices.new.items ≡ length devices.old.items }
     {
         match line {
@@ -51,7 +54,8 @@ impl World {
     // A line that asks the host for something, or sets something outside it: nothing is kept, and no device hears.
     fn ask_or_set(&mut self, line: &Line, out: &mut List<Entry>) -> Result<(), NoMemory>
         requires { asks_or_sets line.now ≡ Rattle.std.specs.Prelude.true }
-        ensures ok { OnOk result ((ds : Items State) (records : Option (Items (Items ℕ))) (faults : ℕ) → Does (IsEffect line.now) (scene self.old ds records out.old.items faults) (scene self.new ds records out.new.items faults)) }
+        ensures ok { OnOk result ((ds : Items State) (records : Option (Items (Items ℕ))) (faults : ℕ) →
+            Does (IsEffect line.now) (scene self.old ds records out.old.items faults) (scene self.new ds records out.new.items faults)) }
         ensures err { OnErr result (out.new.items ≡ out.old.items) }
     {
         match line {
@@ -70,7 +74,8 @@ impl World {
     // A line that sets something of the air, the chip, the serial line or time.
     fn set(&mut self, line: &Line) -> Result<(), NoMemory>
         requires { IsSetting line.now }
-        ensures ok { OnOk result ((ds : Items State) (records : Option (Items (Items ℕ))) (before : Items TheEntry) (faults : ℕ) → Does (IsEffect line.now) (scene self.old ds records before faults) (scene self.new ds records before faults)) }
+        ensures ok { OnOk result ((ds : Items State) (records : Option (Items (Items ℕ))) (before : Items TheEntry) (faults : ℕ) →
+            Does (IsEffect line.now) (scene self.old ds records before faults) (scene self.new ds records before faults)) }
     {
         match line {
             Line::Cut { size } => {
@@ -108,8 +113,12 @@ impl World {
         keeper: &mut P,
         out: &mut List<Entry>,
     ) -> Result<(), NoMemory>
-        ensures ok { OnOk result ((ds : Items State) → Does (IsEffect (line.Command order.now)) (scene self.old ds (P.records keeper.old) out.old.items (P.faults keeper.old)) (scene self.new ds (P.records keeper.new) out.new.items (P.faults keeper.new))) }
-        ensures err { OnErr result ((ds : Items State) → Stops Nothing (scene self.old ds (P.records keeper.old) out.old.items (P.faults keeper.old)) (scene self.new ds (P.records keeper.new) out.new.items (P.faults keeper.new))) }
+        ensures ok { OnOk result ((ds : Items State) →
+            Does (IsEffect (line.Command order.now)) (scene self.old ds (P.records keeper.old) out.old.items (P.faults keeper.old))
+            (scene self.new ds (P.records keeper.new) out.new.items (P.faults keeper.new))) }
+        ensures err { OnErr result ((ds : Items State) →
+            Stops Nothing (scene self.old ds (P.records keeper.old) out.old.items (P.faults keeper.old))
+            (scene self.new ds (P.records keeper.new) out.new.items (P.faults keeper.new))) }
     {
         match self.sides.host.command(order, keeper) {
             Ok(command) => self.sides.outer.note(
@@ -125,7 +134,8 @@ impl World {
 
     // A Set that is not reported is asked for.
     fn send(&mut self, node: NodeId, word: Word, out: &mut List<Entry>) -> Result<(), NoMemory>
-        ensures ok { OnOk result ((ds : Items State) (records : Option (Items (Items ℕ))) (faults : ℕ) → Does (IsEffect (line.Send node word)) (scene self.old ds records out.old.items faults) (scene self.new ds records out.new.items faults)) }
+        ensures ok { OnOk result ((ds : Items State) (records : Option (Items (Items ℕ))) (faults : ℕ) →
+            Does (IsEffect (line.Send node word)) (scene self.old ds records out.old.items faults) (scene self.new ds records out.new.items faults)) }
         ensures err { OnErr result (out.new.items ≡ out.old.items) }
     {
         let answer = self.sides.host.send(node, word);
@@ -134,7 +144,8 @@ impl World {
 
     // A Get is asked for.
     fn get(&mut self, node: NodeId, end: EndPoint, out: &mut List<Entry>) -> Result<(), NoMemory>
-        ensures ok { OnOk result ((ds : Items State) (records : Option (Items (Items ℕ))) (faults : ℕ) → Does (IsEffect (line.Get node end)) (scene self.old ds records out.old.items faults) (scene self.new ds records out.new.items faults)) }
+        ensures ok { OnOk result ((ds : Items State) (records : Option (Items (Items ℕ))) (faults : ℕ) →
+            Does (IsEffect (line.Get node end)) (scene self.old ds records out.old.items faults) (scene self.new ds records out.new.items faults)) }
         ensures err { OnErr result (out.new.items ≡ out.old.items) }
     {
         let answer = self.sides.host.get(node, end);
@@ -143,7 +154,8 @@ impl World {
 
     // An interview is asked for.
     fn interview(&mut self, node: NodeId, out: &mut List<Entry>) -> Result<(), NoMemory>
-        ensures ok { OnOk result ((ds : Items State) (records : Option (Items (Items ℕ))) (faults : ℕ) → Does (IsEffect (line.Interview node)) (scene self.old ds records out.old.items faults) (scene self.new ds records out.new.items faults)) }
+        ensures ok { OnOk result ((ds : Items State) (records : Option (Items (Items ℕ))) (faults : ℕ) →
+            Does (IsEffect (line.Interview node)) (scene self.old ds records out.old.items faults) (scene self.new ds records out.new.items faults)) }
         ensures err { OnErr result (out.new.items ≡ out.old.items) }
     {
         let answer = self.sides.host.interview(node);
@@ -152,7 +164,8 @@ impl World {
 
     // A question to the chip is asked for.
     fn ask(&mut self, question: Question, out: &mut List<Entry>) -> Result<(), NoMemory>
-        ensures ok { OnOk result ((ds : Items State) (records : Option (Items (Items ℕ))) (faults : ℕ) → Does (IsAsked question) (scene self.old ds records out.old.items faults) (scene self.new ds records out.new.items faults)) }
+        ensures ok { OnOk result ((ds : Items State) (records : Option (Items (Items ℕ))) (faults : ℕ) →
+            Does (IsAsked question) (scene self.old ds records out.old.items faults) (scene self.new ds records out.new.items faults)) }
         ensures err { OnErr result (out.new.items ≡ out.old.items) }
     {
         let answer = self.sides.host.ask(question);
@@ -161,7 +174,8 @@ impl World {
 
     // The chip's table becomes the live links between known nodes, and then the members are asked for.
     fn discover(&mut self, out: &mut List<Entry>) -> Result<(), NoMemory>
-        ensures ok { OnOk result ((ds : Items State) (records : Option (Items (Items ℕ))) (faults : ℕ) → Does (IsEffect line.Discover) (scene self.old ds records out.old.items faults) (scene self.new ds records out.new.items faults)) }
+        ensures ok { OnOk result ((ds : Items State) (records : Option (Items (Items ℕ))) (faults : ℕ) →
+            Does (IsEffect line.Discover) (scene self.old ds records out.old.items faults) (scene self.new ds records out.new.items faults)) }
         ensures err { OnErr result (out.new.items ≡ out.old.items) }
     {
         self.sides.outer.discover();
@@ -177,8 +191,12 @@ impl World {
         out: &mut List<Entry>,
     ) -> Result<(), NoMemory>
         requires few { length devices.now.items < 2 ^ 64 }
-        ensures ok { OnOk result (Does (IsEffect (line.Join node)) (scene self.old (map (λ d. state d) devices.now.items) (P.records keeper.old) out.old.items (P.faults keeper.old)) (scene self.new (map (λ d. state d) devices.now.items) (P.records keeper.new) out.new.items (P.faults keeper.new))) }
-        ensures err { OnErr result (Stops Nothing (scene self.old (map (λ d. state d) devices.now.items) (P.records keeper.old) out.old.items (P.faults keeper.old)) (scene self.new (map (λ d. state d) devices.now.items) (P.records keeper.new) out.new.items (P.faults keeper.new))) }
+        ensures ok { OnOk result (Does (IsEffect (line.Join node))
+            (scene self.old (map (λ d. state d) devices.now.items) (P.records keeper.old) out.old.items (P.faults keeper.old))
+            (scene self.new (map (λ d. state d) devices.now.items) (P.records keeper.new) out.new.items (P.faults keeper.new))) }
+        ensures err { OnErr result (Stops Nothing
+            (scene self.old (map (λ d. state d) devices.now.items) (P.records keeper.old) out.old.items (P.faults keeper.old))
+            (scene self.new (map (λ d. state d) devices.now.items) (P.records keeper.new) out.new.items (P.faults keeper.new))) }
     {
         match self.sides.host.join(node, keeper) {
             Ok(()) => self.sides.outer.join(node, devices),
@@ -193,8 +211,12 @@ impl World {
         keeper: &mut P,
         out: &mut List<Entry>,
     ) -> Result<(), NoMemory>
-        ensures ok { OnOk result ((ds : Items State) → Does (IsEffect (line.Cancel command)) (scene self.old ds (P.records keeper.old) out.old.items (P.faults keeper.old)) (scene self.new ds (P.records keeper.new) out.new.items (P.faults keeper.new))) }
-        ensures err { OnErr result ((ds : Items State) → Stops Nothing (scene self.old ds (P.records keeper.old) out.old.items (P.faults keeper.old)) (scene self.new ds (P.records keeper.new) out.new.items (P.faults keeper.new))) }
+        ensures ok { OnOk result ((ds : Items State) →
+            Does (IsEffect (line.Cancel command)) (scene self.old ds (P.records keeper.old) out.old.items (P.faults keeper.old))
+            (scene self.new ds (P.records keeper.new) out.new.items (P.faults keeper.new))) }
+        ensures err { OnErr result ((ds : Items State) →
+            Stops Nothing (scene self.old ds (P.records keeper.old) out.old.items (P.faults keeper.old))
+            (scene self.new ds (P.records keeper.new) out.new.items (P.faults keeper.new))) }
     {
         match self.sides.host.cancel(command, keeper) {
             Ok(()) => self.sides.outer.note(
@@ -210,7 +232,8 @@ impl World {
 
     // The stored values of a node are shown.
     fn store(&mut self, node: NodeId, out: &mut List<Entry>) -> Result<(), NoMemory>
-        ensures ok { OnOk result ((ds : Items State) (records : Option (Items (Items ℕ))) (faults : ℕ) → Does (IsEffect (line.Store node)) (scene self.old ds records out.old.items faults) (scene self.new ds records out.new.items faults)) }
+        ensures ok { OnOk result ((ds : Items State) (records : Option (Items (Items ℕ))) (faults : ℕ) →
+            Does (IsEffect (line.Store node)) (scene self.old ds records out.old.items faults) (scene self.new ds records out.new.items faults)) }
         ensures err { OnErr result (out.new.items ≡ out.old.items) }
     {
         let text = self.sides.host.json(self.sides.alloc, node)?;

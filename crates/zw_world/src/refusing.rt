@@ -3,9 +3,9 @@
 ghost use Rattle.std.specs.Prelude.{◌≡◌, ◌∷◌, [], Some, IfOk, OnOk, OnErr};
 ghost use Rattle.zw_text.specs.declared.entry.Entry.TheVariants.{Refused as refused_entry};
 ghost use Rattle.zw_text.specs.declared.entry.Refusal.{Refusal as TheRefusal};
-ghost use Rattle.outer_events.specs.Events.{Host_notes};
-ghost use Rattle.outer_events.specs.Did.{Goes};
-ghost use Rattle.zw_machine.specs.Refusals.{shown};
+ghost use Rattle.outside_model.specs.Events.{Host_notes};
+ghost use Rattle.outside_model.specs.Did.{Goes};
+ghost use Rattle.world_model.specs.Refusals.{shown};
 ghost use Rattle.zw_world.specs.Effects.{Answers, shown_uncancelled};
 
 use crate::World;
@@ -25,7 +25,7 @@ impl World {
         self.sides.outer.note(Entry::Refused { refusal }, out)
     }
 
-    /// The host refuses a line; want of memory is no refusal.
+    /// The host refuses a line; an allocation failure is no refusal.
     pub(crate) fn refused(
         &mut self,
         refused: Refused,
@@ -41,7 +41,7 @@ impl World {
         self.refuse(refusal, out)
     }
 
-    /// A command is not taken back; want of memory is no refusal.
+    /// A command is not taken back; an allocation failure is no refusal.
     pub(crate) fn uncancelled(
         &mut self,
         command: u32,

@@ -6,11 +6,11 @@ ghost use Rattle.zw_words.specs.declared.side.Side.TheVariants as side;
 ghost use Rattle.zw_text.specs.declared.line.Line.TheVariants as line;
 ghost use Rattle.zw_text.specs.declared.entry.Entry.TheVariants.{Refused as refused_entry};
 ghost use Rattle.zw_text.specs.declared.entry.Refusal.{Refusal as TheRefusal};
-ghost use Rattle.outer_events.specs.Events.{Clears_pipe, Host_notes};
-ghost use Rattle.outer_events.specs.Did.{Goes};
-ghost use Rattle.zw_machine.specs.Did.{Does, Stops};
-ghost use Rattle.zw_machine.specs.Fronts.{RestartFront};
-ghost use Rattle.zw_machine.specs.Lines.{IsEffect};
+ghost use Rattle.outside_model.specs.Events.{Clears_pipe, Host_notes};
+ghost use Rattle.outside_model.specs.Did.{Goes};
+ghost use Rattle.world_model.specs.Did.{Does, Stops};
+ghost use Rattle.world_model.specs.Prefixes.{RestartPrefix};
+ghost use Rattle.world_model.specs.Lines.{IsEffect};
 ghost use Rattle.zw_world.specs.World.{scene};
 ghost use Rattle.zw_world.specs.Effects.{ClearsInPart, shown_unopened};
 
@@ -27,8 +27,12 @@ impl World {
         keeper: &mut P,
         out: &mut List<Entry>,
     ) -> Result<(), NoMemory>
-        ensures ok { OnOk result ((ds : Items State) → Does (IsEffect line.Restart) (scene self.old ds (P.records keeper.old) out.old.items (P.faults keeper.old)) (scene self.new ds (P.records keeper.new) out.new.items (P.faults keeper.new))) }
-        ensures err { OnErr result ((ds : Items State) → Stops RestartFront (scene self.old ds (P.records keeper.old) out.old.items (P.faults keeper.old)) (scene self.new ds (P.records keeper.new) out.new.items (P.faults keeper.new))) }
+        ensures ok { OnOk result ((ds : Items State) →
+            Does (IsEffect line.Restart) (scene self.old ds (P.records keeper.old) out.old.items (P.faults keeper.old))
+            (scene self.new ds (P.records keeper.new) out.new.items (P.faults keeper.new))) }
+        ensures err { OnErr result ((ds : Items State) →
+            Stops RestartPrefix (scene self.old ds (P.records keeper.old) out.old.items (P.faults keeper.old))
+            (scene self.new ds (P.records keeper.new) out.new.items (P.faults keeper.new))) }
     {
         match Host::open(self.sides.alloc, self.key, keeper) {
             Ok(host) => self.go_on_with(host, out),
@@ -48,7 +52,7 @@ impl World {
         self.sides.outer.clear(Side::Chip, out)
     }
 
-    // No host starts, and the old one stays; want of memory is no refusal.
+    // No host starts, and the old one stays; an allocation failure is no refusal.
     fn unopened(&mut self, fault: OpenFault, out: &mut List<Entry>) -> Result<(), NoMemory>
         ensures ok { OnOk result ((refusal : TheRefusal) × (shown_unopened fault ≡ Some refusal)
             × Goes (Host_notes (refused_entry refusal) ∷ []) self.old.outer self.new.outer out.old.items out.new.items) }

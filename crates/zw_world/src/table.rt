@@ -2,8 +2,8 @@
 
 ghost use Rattle.std.specs.Prelude.{◌≡◌, ◌<◌, ◌+◌, ◌^◌, ◌++◌, ℕ, length, map, List as Items, Option, OnOk, IfOk};
 ghost use Rattle.value_store.specs.Values.{held_of};
-ghost use Rattle.host_events.specs.State.{node_of};
-ghost use Rattle.zw_machine.specs.Table.{table_entries, node_entries, value_entry};
+ghost use Rattle.host_model.specs.State.{node_of};
+ghost use Rattle.world_model.specs.Table.{table_entries, node_entries, value_entry};
 ghost use Rattle.zw_world.specs.World.{machine_of};
 ghost use Rattle.zw_world.specs.Listing.{listed};
 
@@ -78,7 +78,7 @@ impl World {
         let sessions = self.sessions_of(node)?;
         out.push(Entry::TableNode { node, sessions })?;
         self.list_values(node, out)?;
-        outer_world::list_device(self.sides.alloc, node, devices, out)
+        outside_calls::list_device(self.sides.alloc, node, devices, out)
     }
 
     // The values of a node.

@@ -1,18 +1,18 @@
 //! The world, and its lines.
 
 ghost use Rattle.std.specs.Prelude.{◌≡◌, ◌<◌, ◌^◌, length, map, IfOk, OnOk, OnErr};
-ghost use Rattle.zw_machine.specs.Did.{Does, Stops};
-ghost use Rattle.zw_machine.specs.Fronts.{LineRestFront, LineFront};
-ghost use Rattle.zw_machine.specs.Lines.{IsLine, IsLineRest};
+ghost use Rattle.world_model.specs.Did.{Does, Stops};
+ghost use Rattle.world_model.specs.Prefixes.{LineRestPrefix, LinePrefix};
+ghost use Rattle.world_model.specs.Lines.{IsLine, IsLineRest};
 ghost use Rattle.zw_world.specs.World.{first_world, scene};
 
 use device_sim::Device;
 use host_core::Host;
 use host_keep::Keeper;
-use outer_world::Outer;
+use outside_calls::Outside;
 use std::alloc::Global;
 use std::marker::Model;
-use world_sides::Sides;
+use world_step::Sides;
 use zw_base::{Draw, List, NoMemory};
 use zw_text::{Entry, Line};
 
@@ -47,7 +47,7 @@ impl World {
             sides: Sides {
                 alloc,
                 host: Host::new(alloc, key)?,
-                outer: Outer::new(alloc)?,
+                outer: Outside::new(alloc)?,
             },
         })
     }
@@ -62,8 +62,12 @@ impl World {
         out: &mut List<Entry>,
     ) -> Result<(), NoMemory>
         requires few { length devices.old.items < 2 ^ 64 }
-        ensures ok { OnOk result (Does (IsLine line.now) (scene self.old (map (λ d. state d) devices.old.items) (P.records keeper.old) out.old.items (P.faults keeper.old)) (scene self.new (map (λ d. state d) devices.new.items) (P.records keeper.new) out.new.items (P.faults keeper.new))) }
-        ensures err { OnErr result (Stops (LineFront line.now) (scene self.old (map (λ d. state d) devices.old.items) (P.records keeper.old) out.old.items (P.faults keeper.old)) (scene self.new (map (λ d. state d) devices.new.items) (P.records keeper.new) out.new.items (P.faults keeper.new))) }
+        ensures ok { OnOk result (Does (IsLine line.now)
+            (scene self.old (map (λ d. state d) devices.old.items) (P.records keeper.old) out.old.items (P.faults keeper.old))
+            (scene self.new (map (λ d. state d) devices.new.items) (P.records keeper.new) out.new.items (P.faults keeper.new))) }
+        ensures err { OnErr result (Stops (LinePrefix line.now)
+            (scene self.old (map (λ d. state d) devices.old.items) (P.records keeper.old) out.old.items (P.faults keeper.old))
+            (scene self.new (map (λ d. state d) devices.new.items) (P.records keeper.new) out.new.items (P.faults keeper.new))) }
         ensures kept { length devices.new.items ≡ length devices.old.items }
     {
         self.sides.outer.begin_line();
@@ -80,8 +84,12 @@ impl World {
         out: &mut List<Entry>,
     ) -> Result<(), NoMemory>
         requires few { length devices.old.items < 2 ^ 64 }
-        ensures ok { OnOk result (Does (IsLineRest line.now) (scene self.old (map (λ d. state d) devices.old.items) (P.records keeper.old) out.old.items (P.faults keeper.old)) (scene self.new (map (λ d. state d) devices.new.items) (P.records keeper.new) out.new.items (P.faults keeper.new))) }
-        ensures err { OnErr result (Stops (LineRestFront line.now) (scene self.old (map (λ d. state d) devices.old.items) (P.records keeper.old) out.old.items (P.faults keeper.old)) (scene self.new (map (λ d. state d) devices.new.items) (P.records keeper.new) out.new.items (P.faults keeper.new))) }
+        ensures ok { OnOk result (Does (IsLineRest line.now)
+            (scene self.old (map (λ d. state d) devices.old.items) (P.records keeper.old) out.old.items (P.faults keeper.old))
+            (scene self.new (map (λ d. state d) devices.new.items) (P.records keeper.new) out.new.items (P.faults keeper.new))) }
+        ensures err { OnErr result (Stops (LineRestPrefix line.now)
+            (scene self.old (map (λ d. state d) devices.old.items) (P.records keeper.old) out.old.items (P.faults keeper.old))
+            (scene self.new (map (λ d. state d) devices.new.items) (P.records keeper.new) out.new.items (P.faults keeper.new))) }
         ensures kept { length devices.new.items ≡ length devices.old.items }
     {
         if let Line::Tick { count } = line {

@@ -1,14 +1,14 @@
-//! The program: makes the devices, the key, the input and the output, and hands them to `run` of `console_run`.
+//! The program: makes the devices, the key, the input and the output, and hands them to `run` of `run_all`.
 #![tactic(auto)]
 
-use command_line::USAGE;
-use console_run::{ChaChaDraw, run};
 use device_sim::{
     Device, Recorder, Switch, make_config, make_dimmer, make_lock, make_relay, make_sensor,
     make_strip, make_switch, make_thermostat,
 };
 use host_keep::PlainKeeper;
-use scenario_run::Status;
+use run_all::{ChaChaDraw, run};
+use run_lines::Status;
+use run_words::USAGE;
 use std::alloc::Global;
 use std::env;
 use std::io::ErrorKind;
@@ -39,7 +39,7 @@ fn main(rt: HostRuntime) -> ExitCode {
     ExitCode::from(status.code())
 }
 
-// The words after the program's name. One that is not UTF-8 is none that the program takes.
+// The words after the program's name. The program accepts no word that is not UTF-8.
 fn words_of(rt: &HostRuntime) -> Result<Vec<String>, Status> {
     let mut words = Vec::new(rt.alloc());
     let args = match env::args(rt) {

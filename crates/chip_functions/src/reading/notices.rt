@@ -3,7 +3,18 @@
 ghost use Rattle.std.specs.Prelude.{◌≡◌, ◌≤◌, IfOk, IfErr};
 ghost use Rattle.chip_functions.specs.Place.{Gives, IsBodyFault};
 ghost use Rattle.chip_functions.specs.Seen.{place_of};
-ghost use Rattle.chip_functions.specs.Notice.{handler_at, callback_at, add_notice_at, received_at, request_failed_at, update, update_at, IsNoticeBody, notice_at, notice_of};
+ghost use Rattle.chip_functions.specs.Notice.{
+  handler_at,
+  callback_at,
+  add_notice_at,
+  received_at,
+  request_failed_at,
+  update,
+  update_at,
+  IsNoticeBody,
+  notice_at,
+  notice_of,
+};
 ghost use Rattle.chip_functions.specs.AddNode.{added, unnamed_at, named_at};
 ghost use Rattle.chip_functions.specs.Classes.{classes_after};
 ghost use Rattle.chip_functions.specs.declared.notice.Notice.{Notice};
@@ -170,7 +181,7 @@ fn notice(alloc: Global, func: u8, place: &mut Place) -> Result<Notice, BodyFaul
     }
 }
 
-/// The front of the body of a function, read from left to right.
+/// The prefix of the body of a function, read from left to right.
 #[tactic(auto, unfolding(crate::specs::Notice::notice_of))]
 fn first_notice(alloc: Global, func: u8, body: &[u8]) -> Result<Notice, BodyFault>
     ensures { Gives (λ notice. notice) result (notice_of func body.now) }

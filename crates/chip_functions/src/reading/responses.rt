@@ -4,7 +4,16 @@ ghost use Rattle.std.specs.Prelude.{◌≡◌, ◌≤◌, IfOk, IfErr};
 ghost use Rattle.chip_functions.specs.Place.{Gives, IsBodyFault};
 ghost use Rattle.chip_functions.specs.Seen.{place_of};
 ghost use Rattle.chip_functions.specs.Field.{byte, mask, ◌then◌};
-ghost use Rattle.chip_functions.specs.Response.{init_data_at, capabilities_at, version_at, memory_id_at, protocol_info_at, IsResponseBody, response_at, response_of};
+ghost use Rattle.chip_functions.specs.Response.{
+  init_data_at,
+  capabilities_at,
+  version_at,
+  memory_id_at,
+  protocol_info_at,
+  IsResponseBody,
+  response_at,
+  response_of,
+};
 ghost use Rattle.chip_functions.specs.declared.response.Response.{Response};
 
 use crate::function::{
@@ -130,7 +139,7 @@ fn response(func: u8, place: &mut Place) -> Result<Response, BodyFault>
     }
 }
 
-/// The front of the body of a function, read from left to right.
+/// The prefix of the body of a function, read from left to right.
 #[tactic(auto, unfolding(crate::specs::Response::response_of))]
 fn first_response(func: u8, body: &[u8]) -> Result<Response, BodyFault>
     ensures { Gives (λ response. response) result (response_of func body.now) }

@@ -31,8 +31,8 @@ fn handler(alloc: Global, rx_status: u8, source: NodeId, payload: &Bytes) -> Res
     ensures body { IfOk result (λ body. body ≡ handler.spell (rx_status, (source, payload.now))) }
     ensures node { IsNode source }
 {
-    let front = [rx_status, source.number(), payload.len() as u8];
-    joined(alloc, &front, payload.as_slice())
+    let prefix = [rx_status, source.number(), payload.len() as u8];
+    joined(alloc, &prefix, payload.as_slice())
 }
 
 fn update(alloc: Global, value: &Update) -> Result<Bytes, NoMemory>
@@ -49,7 +49,7 @@ fn update(alloc: Global, value: &Update) -> Result<Bytes, NoMemory>
             classes,
         } => {
             let len = classes.len() as u8 + DEVICE_CLASSES;
-            let front = [
+            let prefix = [
                 UPDATE_RECEIVED,
                 node.number(),
                 len,
@@ -57,7 +57,7 @@ fn update(alloc: Global, value: &Update) -> Result<Bytes, NoMemory>
                 *generic,
                 *specific,
             ];
-            joined(alloc, &front, classes.as_slice())
+            joined(alloc, &prefix, classes.as_slice())
         }
         Update::RequestFailed => Bytes::from_slice(alloc, &[UPDATE_FAILED, 0, 0]),
     }
@@ -87,7 +87,7 @@ fn add_notice(
             classes,
         } => {
             let len = classes.len() as u8 + DEVICE_CLASSES;
-            let front = [
+            let prefix = [
                 callback_id,
                 status,
                 node.number(),
@@ -96,7 +96,7 @@ fn add_notice(
                 *generic,
                 *specific,
             ];
-            joined(alloc, &front, classes.as_slice())
+            joined(alloc, &prefix, classes.as_slice())
         }
     }
 }

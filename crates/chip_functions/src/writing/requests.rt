@@ -44,8 +44,8 @@ fn send_data(
     ensures body { IfOk result (λ body. body ≡ send_data.spell (node, (payload.now, (options, callback_id)))) }
     ensures node { IsNode node }
 {
-    let front = [node.number(), payload.len() as u8];
-    between(alloc, &front, payload.as_slice(), &[options, callback_id])
+    let prefix = [node.number(), payload.len() as u8];
+    between(alloc, &prefix, payload.as_slice(), &[options, callback_id])
 }
 
 fn body(alloc: Global, value: &Request) -> Result<Bytes, NoMemory>

@@ -3,7 +3,17 @@
 ghost use Rattle.std.specs.Prelude.{◌≡◌, ◌<◌, ◌≤◌, ◌^◌, ◌++◌, length, IfOk, OnOk};
 ghost use Rattle.std.specs.Int.{w16, to_be_bytes};
 ghost use Rattle.serial_frame.specs.declared.frame.Kind.TheVariants.{Response as of_response};
-ghost use Rattle.chip_functions.specs.Response.{init_data, capabilities, version, memory_id, failed_code, response_function, response_body, IsResponse, IsResponseBody};
+ghost use Rattle.chip_functions.specs.Response.{
+  init_data,
+  capabilities,
+  version,
+  memory_id,
+  failed_code,
+  response_function,
+  response_body,
+  IsResponse,
+  IsResponseBody,
+};
 ghost use Rattle.chip_functions.specs.Field.{IsNode};
 ghost use Rattle.chip_functions.specs.Mask.{AreNodes};
 
@@ -62,7 +72,8 @@ fn capabilities(
     product: u16,
     functions: &[u8; 32],
 ) -> Result<Bytes, NoMemory>
-    ensures body { IfOk result (λ body. body ≡ versions ++ (to_be_bytes w16 manufacturer ++ (to_be_bytes w16 product_type ++ (to_be_bytes w16 product ++ functions.now)))) }
+    ensures body { IfOk result (λ body. body ≡ versions ++
+        (to_be_bytes w16 manufacturer ++ (to_be_bytes w16 product_type ++ (to_be_bytes w16 product ++ functions.now)))) }
     ensures row { OnOk result ((manufacturer < 2 ^ 16) × (product_type < 2 ^ 16) × (product < 2 ^ 16) × (length functions.now ≡ 32)) }
     ensures fits { IfOk result (λ body. length body ≤ 252) }
 {

@@ -4,7 +4,17 @@ ghost use Rattle.std.specs.Prelude.{◌≡◌, ◌<◌, Option, IsTrue};
 ghost use Rattle.supervision.specs.Session.{IsStatus};
 ghost use Rattle.supervision.specs.Host.{told_of};
 ghost use Rattle.host_node.specs.State.{has_segment};
-ghost use Rattle.host_node.specs.Steps.{without_attempt, after_start, after_segment, after_text, after_sign, after_attempt_end, attempt_end, after_report, again_from};
+ghost use Rattle.host_node.specs.Steps.{
+  without_attempt,
+  after_start,
+  after_segment,
+  after_text,
+  after_sign,
+  after_attempt_end,
+  attempt_end,
+  after_report,
+  again_from,
+};
 ghost use Rattle.host_node.specs.Events.{FitsPlan};
 
 use crate::attempt::{AGAIN_TICKS, WAIT_TICKS};

@@ -19,7 +19,7 @@ pub struct Begun {
 }
 
 impl Node {
-    /// Puts a command behind those that wait, and makes the room for its session. Fewer than 16 wait. While its record is
+    /// Puts a command after those that wait, and makes the room for its session. Fewer than 16 wait. While its record is
     /// not kept `take_back` undoes it; once it is, `accept` follows.
     pub fn put(&mut self, command: u32) -> Result<(), NoMemory>
         requires { length self.old.waiting < 16 }

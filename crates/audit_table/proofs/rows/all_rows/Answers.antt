@@ -1,5 +1,5 @@
 use Rattle.std.proofs.Common.{◌++◌, arith, ap, refl, ◌∙◌}
-use Rattle.transcript_books.specs.Ending.{ending_in}
+use Rattle.audit_books.specs.Ending.{ending_in}
 use Rattle.audit_table.specs.Knowing.{lines_of_node, values_of}
 use Rattle.audit_table.proofs.Marks.{lines-same, rows-end, rows-first, rows-marked, rows-unmarked}
 use Rattle.audit_table.proofs.rows.all_rows.Goals as goal

@@ -1,6 +1,6 @@
 use Rattle.std.proofs.Common.{◌≡◌, ◌≤◌, ℕ}
 use Rattle.std.specs.List.{flat_map}
-use Rattle.transcript_books.specs.Ending.{ending_in}
+use Rattle.audit_books.specs.Ending.{ending_in}
 use Rattle.audit_table.specs.Knowing.{lines_of_node, nodes_marked, values_of}
 use Rattle.audit_table.proofs.Marks.{IsLeft}
 use Rattle.audit_table.proofs.rows.all_rows.Given as goal

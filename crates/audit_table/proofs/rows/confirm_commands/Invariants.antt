@@ -1,5 +1,5 @@
 use Rattle.std.proofs.Common.{◌≡◌, drop}
-use Rattle.transcript_books.specs.Ending.{ending_in}
+use Rattle.audit_books.specs.Ending.{ending_in}
 use Rattle.audit_table.specs.Knowing.{confirmed_of, with_commands}
 use Rattle.audit_table.proofs.rows.confirm_commands.Given as goal
 

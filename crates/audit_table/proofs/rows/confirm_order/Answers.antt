@@ -1,5 +1,5 @@
 use Rattle.std.proofs.Common.{◌≡◌, ◌+◌, ◌-◌, arith, ap, sym, drop, filter, ◌∙◌}
-use Rattle.transcript_books.specs.Asking.{is_setting, settings_asked}
+use Rattle.audit_books.specs.Asking.{is_setting, settings_asked}
 use Rattle.audit_table.specs.Knowing.{with_confirmed, with_settings}
 use Rattle.audit_table.proofs.Drops.{settings-none, settings-one}
 use Rattle.audit_table.proofs.rows.confirm_order.Goals as goal

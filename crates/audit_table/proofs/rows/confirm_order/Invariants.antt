@@ -1,5 +1,5 @@
 use Rattle.std.proofs.Common.{◌≡◌, ◌≤◌, drop, length, filter}
-use Rattle.transcript_books.specs.Asking.{is_setting, settings_asked}
+use Rattle.audit_books.specs.Asking.{is_setting, settings_asked}
 use Rattle.audit_table.specs.Knowing.{with_settings}
 use Rattle.audit_table.proofs.rows.confirm_order.Given as goal
 

@@ -1,6 +1,6 @@
 use Rattle.std.proofs.Common.{ap, ◌∙◌, Some}
 use Rattle.std.specs.BTreeMap.{insert_entry}
-use Rattle.zw_laws.specs.Table.{compare_properties}
+use Rattle.law_transcript.specs.Table.{compare_properties}
 use Rattle.audit_table.specs.declared.values.Known.{Known}
 use Rattle.audit_table.proofs.Maps.{insert-by}
 use Rattle.audit_table.proofs.values.show.Goals as goal

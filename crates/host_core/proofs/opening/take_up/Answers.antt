@@ -1,6 +1,6 @@
 use Rattle.std.proofs.Common.{◌≡◌, ℕ, Err, Result, sym, ap, ◌∙◌}
 use Rattle.host_keep.specs.declared.record.Record.{Record}
-use Rattle.host_records.specs.Restoring.{may_restore}
+use Rattle.host_model.specs.Restoring.{may_restore}
 use Rattle.host_core.specs.declared.opening.OpenFault.{OpenFault}
 use Rattle.host_core.specs.declared.opening.OpenFault.TheVariants.{BadRecord}
 use Rattle.host_core.proofs.opening.take_up.Goals as goal

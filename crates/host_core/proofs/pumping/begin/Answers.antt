@@ -1,7 +1,7 @@
 -- A session begins for the command that waited longest.
 use Rattle.std.proofs.Common.{ℕ, ◌+◌, ap, sym, ◌∙◌}
-use Rattle.host_events.specs.State.{HostParts}
-use Rattle.host_taking.specs.Calls.{Scene, scene}
+use Rattle.host_model.specs.State.{HostParts}
+use Rattle.host_step_bytes.specs.Calls.{Scene, scene}
 use Rattle.host_core.proofs.Served.{oldest_waits, begins_may_as, session_begun}
 use Rattle.host_core.proofs.pumping.begin.Goals as goal
 

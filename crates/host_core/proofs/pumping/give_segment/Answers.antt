@@ -1,6 +1,6 @@
 -- The next segment.
 use Rattle.std.proofs.Common.{rules, ap}
-use Rattle.host_events.specs.State.{HostParts}
+use Rattle.host_model.specs.State.{HostParts}
 use Rattle.host_core.proofs.Served.{segment_given}
 use Rattle.host_core.proofs.pumping.give_segment.Goals as goal
 

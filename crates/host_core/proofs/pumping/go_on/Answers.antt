@@ -1,9 +1,9 @@
 -- The sealed text, or the next segment.
 use Rattle.std.proofs.Common.{rules, ◌≡◌, ℕ, List, ap, subst}
 use Rattle.std.specs.Prelude.{Option, None}
-use Rattle.host_events.specs.State.{HostParts, node_of}
-use Rattle.host_taking.specs.Calls.{DoesAlone, One}
-use Rattle.host_events.specs.Pumping.{GivesNext}
+use Rattle.host_model.specs.State.{HostParts, node_of}
+use Rattle.host_step_bytes.specs.Calls.{DoesAlone, One}
+use Rattle.host_model.specs.Pumping.{GivesNext}
 use Rattle.host_core.proofs.Served.{text_given}
 use Rattle.host_core.proofs.pumping.go_on.Goals as goal
 

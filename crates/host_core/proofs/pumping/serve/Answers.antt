@@ -1,7 +1,7 @@
 -- What its series says.
 use Rattle.std.proofs.Common.{rules}
-use Rattle.host_events.specs.State.{node_of}
-use Rattle.host_taking.specs.Calls.{scene}
+use Rattle.host_model.specs.State.{node_of}
+use Rattle.host_step_bytes.specs.Calls.{scene}
 use Rattle.host_node.specs.declared.series.Series.TheVariants.{Running, Due}
 use Rattle.host_core.proofs.Served.{served_as}
 use Rattle.host_core.proofs.pumping.serve.Goals as goal

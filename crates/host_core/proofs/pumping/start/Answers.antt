@@ -1,6 +1,6 @@
 -- The attempt starts.
 use Rattle.std.proofs.Common.{rules, ap}
-use Rattle.host_events.specs.State.{HostParts}
+use Rattle.host_model.specs.State.{HostParts}
 use Rattle.host_core.proofs.Served.{attempt_started}
 use Rattle.host_core.proofs.pumping.start.Goals as goal
 

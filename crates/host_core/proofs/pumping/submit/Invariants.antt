@@ -1,6 +1,6 @@
 use Rattle.std.proofs.Common.{◌≡◌}
-use Rattle.host_events.specs.Pumping.{SubmitsSome, turns_left}
-use Rattle.host_taking.specs.Calls.{scene, Does}
+use Rattle.host_model.specs.Pumping.{SubmitsSome, turns_left}
+use Rattle.host_step_bytes.specs.Calls.{scene, Does}
 use Rattle.host_core.proofs.pumping.submit.Given as goal
 
 abbrev pub invariant-loop : goal.invariant-loop

@@ -1,13 +1,13 @@
 -- The next node is told, or none is left.
 use Rattle.std.proofs.Common.{◌≡◌, refl, ap, sym, subst, ◌∙◌, ◌<◌}
 use Rattle.serial_link.proofs.Taking.{on_err}
-use Rattle.host_events.specs.State.{HostState, HostParts}
+use Rattle.host_model.specs.State.{HostState, HostParts}
 use Rattle.std.specs.Prelude.{Some, None}
-use Rattle.host_nodes.specs.Search.{first_wanting}
-use Rattle.host_events.specs.Pumping.{sleepers_left}
-use Rattle.host_taking.specs.Calls.{Are}
+use Rattle.host_node.specs.Search.{first_wanting}
+use Rattle.host_model.specs.Pumping.{sleepers_left}
+use Rattle.host_step_bytes.specs.Calls.{Are}
 use Rattle.host_core.proofs.Loops.{none_sleeps, one_more_sleeps, all_sleep}
-use Rattle.host_taking.proofs.Doing.{stops_alone, alone_then_stops}
+use Rattle.host_step_bytes.proofs.Doing.{stops_alone, alone_then_stops}
 use Rattle.host_core.proofs.sleeping.let_sleep.Goals as goal
 
 pub loop-node-init : goal.loop-node-init

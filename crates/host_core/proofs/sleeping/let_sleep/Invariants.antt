@@ -1,5 +1,5 @@
 use Rattle.std.proofs.Common.{◌≡◌}
-use Rattle.host_events.specs.Pumping.{sleepers_left}
+use Rattle.host_model.specs.Pumping.{sleepers_left}
 use Rattle.host_core.proofs.Loops.{SleepsSoFar}
 use Rattle.host_core.proofs.sleeping.let_sleep.Given as goal
 

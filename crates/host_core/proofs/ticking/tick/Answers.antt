@@ -1,12 +1,12 @@
--- A front of the ticks of line, request and nodes, or all of them.
+-- A prefix of the ticks of line, request and nodes, or all of them.
 use Rattle.std.proofs.Common.{[], ◌∷◌, ap, ◌∙◌}
 use Rattle.serial_link.proofs.Taking.{on_err}
-use Rattle.host_events.specs.State.{HostParts}
-use Rattle.host_events.specs.Events.{Line_ticks}
-use Rattle.host_events.specs.Ticking.{first_ticks}
-use Rattle.host_taking.specs.Calls.{Are}
+use Rattle.host_model.specs.State.{HostParts}
+use Rattle.host_model.specs.Events.{Line_ticks}
+use Rattle.host_model.specs.Ticking.{first_ticks}
+use Rattle.host_step_bytes.specs.Calls.{Are}
 use Rattle.host_core.proofs.Loops.{line_alone, first_two, whole_tick}
-use Rattle.host_taking.proofs.Doing.{stops_alone, alone_then_stops}
+use Rattle.host_step_bytes.proofs.Doing.{stops_alone, alone_then_stops}
 use Rattle.host_core.proofs.ticking.tick.Goals as goal
 
 pub returns-in_err-tick_line-clause-err : goal.returns-in_err-tick_line-clause-err

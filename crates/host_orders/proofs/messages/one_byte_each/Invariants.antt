@@ -1,5 +1,5 @@
 use Rattle.std.proofs.Common.{◌≡◌, take}
-use Rattle.class_fields.specs.declared.number.Size.TheVariants.{One}
+use Rattle.class_core.specs.declared.number.Size.TheVariants.{One}
 use Rattle.host_orders.proofs.messages.one_byte_each.Given as goal
 
 -- the list has the values so far

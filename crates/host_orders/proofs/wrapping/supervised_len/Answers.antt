@@ -1,6 +1,6 @@
 use Rattle.std.proofs.Common.{◌≡◌, ◌+◌, length, sym, subst, arith}
 use Rattle.encap.specs.Written.{batched_form}
-use Rattle.zw_order.specs.declared.order.What.{What}
+use Rattle.zw_base.specs.declared.order.What.{What}
 use Rattle.host_orders.specs.Messages.{commands_of, is_batch}
 use Rattle.host_orders.proofs.Lengths.{bulk_len}
 use Rattle.host_orders.proofs.wrapping.supervised_len.Goals as goal

@@ -1,7 +1,7 @@
 use Rattle.std.proofs.Common.{[], ◌∷◌}
 use Rattle.port_run.specs.Steps.{place, Asks, Pumps}
 use Rattle.port_run.specs.Schedule.{CutIn, CutPlain}
-use Rattle.port_run.proofs.Joining.{still_both, still_broke, cut-behind}
+use Rattle.port_run.proofs.Joining.{still_both, still_broke, cut-following}
 use Rattle.port_run.proofs.Stepping.{asked_went, unasked}
 use Rattle.port_run.proofs.steps.run_plain.Goals as goal
 
@@ -15,4 +15,4 @@ returns-in-Ok-pump-clause-ok g c =
 pub returns-in-Err-pump-clause-err : goal.returns-in-Err-pump-clause-err
 returns-in-Err-pump-clause-err g c =
     still_broke (Asks c.args.line.now c.in-Ok.answer ∷ []) (CutIn (Pumps ∷ [])) (CutPlain c.args.line.now) _ (place c.args.host.now (g.P.Keeper.records c.args.keeper.now) (g.P.Keeper.faults c.args.keeper.now)) (place c.ask.new.host (g.P.Keeper.records c.ask.new.keeper) (g.P.Keeper.faults c.ask.new.keeper)) (place c.pump.new.host (g.P.Keeper.records c.pump.new.keeper) (g.P.Keeper.faults c.pump.new.keeper)) (g.K.Sink.written c.args.sink.now) (g.K.Sink.written c.args.sink.now) (g.K.Sink.written c.pump.new.sink) (asked_went c.args.line.now c.in-Ok.answer (place c.args.host.now (g.P.Keeper.records c.args.keeper.now) (g.P.Keeper.faults c.args.keeper.now)) (place c.ask.new.host (g.P.Keeper.records c.ask.new.keeper) (g.P.Keeper.faults c.ask.new.keeper)) (g.K.Sink.written c.args.sink.now) c.in-Ok.ensures.ok) c.in-Err-pump.ensures.err
-    (λ steps cut. (c.in-Ok.answer, cut-behind (Asks c.args.line.now c.in-Ok.answer ∷ []) (Pumps ∷ []) _ steps cut))
+    (λ steps cut. (c.in-Ok.answer, cut-following (Asks c.args.line.now c.in-Ok.answer ∷ []) (Pumps ∷ []) _ steps cut))

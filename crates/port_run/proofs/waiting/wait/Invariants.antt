@@ -1,5 +1,5 @@
 use Rattle.std.proofs.Common.{◌+◌, ◌-◌, ◌≤◌, List}
-use Rattle.line_stream.specs.declared.reader.TheConstants.{MAX_INPUT}
+use Rattle.run_lines.specs.declared.reader.TheConstants.{MAX_INPUT}
 use Rattle.port_run.specs.Steps.{place, Step}
 use Rattle.port_run.specs.Schedule.{Waited}
 use Rattle.port_run.specs.Serving.{Went}

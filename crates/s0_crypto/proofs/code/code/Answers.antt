@@ -13,5 +13,5 @@ loop-i-preserved c =
 
 pub returns : goal.returns
 returns c =
-    c.front.ensures ∙ ap (take 8) (chained_whole c.args.key.now (covered c.args.vector.now c.args.ends.now c.args.cipher_text.now) c.loop-i.i
+    c.prefix.ensures ∙ ap (take 8) (chained_whole c.args.key.now (covered c.args.vector.now c.args.ends.now c.args.cipher_text.now) c.loop-i.i
     c.loop-i.invariant (simp length-append (omega (arith, c.div_ceil-blocks.ensures))))

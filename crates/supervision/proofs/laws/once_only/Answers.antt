@@ -16,8 +16,8 @@ returns-clause-done_once c = λ events. (always-facts events).done.rise
 pub returns-clause-not_ahead : goal.returns-clause-not_ahead
 returns-clause-not_ahead c = λ events. (always-facts events).agree.not_ahead
 
-pub returns-clause-one_behind : goal.returns-clause-one_behind
-returns-clause-one_behind c = λ events. (always-facts events).agree.one_behind
+pub returns-clause-one_after : goal.returns-clause-one_after
+returns-clause-one_after c = λ events. (always-facts events).agree.one_after
 
 pub returns-clause-get_names_one : goal.returns-clause-get_names_one
 returns-clause-get_names_one c = λ events. get_names_one (run events start) (always-facts events)

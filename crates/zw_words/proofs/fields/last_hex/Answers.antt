@@ -1,4 +1,4 @@
--- A word that is no hex, and a word behind one that is.
+-- A word that is no hex, and a word after one that is.
 use Rattle.std.proofs.Common.{◌∙◌, sym}
 use Rattle.zw_words.specs.Forms.{hex_in}
 use Rattle.zw_words.specs.Words.{words}

@@ -1,5 +1,5 @@
 use Rattle.std.proofs.Common.{◌≡◌, ◌++◌, map, take}
-use Rattle.zw_machine.specs.Table.{value_entry}
+use Rattle.world_model.specs.Table.{value_entry}
 use Rattle.zw_world.proofs.table.list_all.Given as goal
 
 abbrev pub invariant-loop-one : goal.invariant-loop-one

@@ -16,9 +16,9 @@ returns-then-branch-clause-judged c past are fits =
     let kept = subst (λ kept. IsKeptOf kept past) (sym c.self.view_is) are in
     judged-once past c.args.entry.now c.args.rest.now
     (sym (c.if-breaks.ensures ∙ c.tables_follow.ensures.judge s.scene.line s.orders s.endings s.sessions past c.args.entry.now kept.books fits))
-    (λ behind group.
-    sym (c.changes_follow.ensures.judge s.scene.line s.orders s.endings s.sessions s.changes past c.args.entry.now behind kept.books kept.changes fits)
-    ∙ sym (c.in_ok-breaks.ensures behind group) ∙ c.if-branch.true)
+    (λ following group.
+    sym (c.changes_follow.ensures.judge s.scene.line s.orders s.endings s.sessions s.changes past c.args.entry.now following kept.books kept.changes fits)
+    ∙ sym (c.in_ok-breaks.ensures following group) ∙ c.if-branch.true)
 
 pub returns-clause-judged : goal.returns-clause-judged
 returns-clause-judged c past are fits =
@@ -26,9 +26,9 @@ returns-clause-judged c past are fits =
     let kept = subst (λ kept. IsKeptOf kept past) (sym c.self.view_is) are in
     judged-rest past c.args.entry.now c.args.rest.now c.judge_rest.result
     (sym (c.if-breaks.ensures ∙ c.tables_follow.ensures.judge s.scene.line s.orders s.endings s.sessions past c.args.entry.now kept.books fits))
-    (λ behind group.
-    sym (c.changes_follow.ensures.judge s.scene.line s.orders s.endings s.sessions s.changes past c.args.entry.now behind kept.books kept.changes fits)
-    ∙ sym (c.in_ok-breaks.ensures behind group) ∙ c.if-branch.false)
+    (λ following group.
+    sym (c.changes_follow.ensures.judge s.scene.line s.orders s.endings s.sessions s.changes past c.args.entry.now following kept.books kept.changes fits)
+    ∙ sym (c.in_ok-breaks.ensures following group) ∙ c.if-branch.false)
     (c.judge_rest.ensures.judged past are fits)
 
 pub returns-clause-keeps : goal.returns-clause-keeps

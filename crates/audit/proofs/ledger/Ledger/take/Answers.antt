@@ -1,5 +1,5 @@
 use Rattle.std.proofs.Common.{ap, subst, sym, ◌∙◌}
-use Rattle.transcript_books.specs.Accepting.{orders_after}
+use Rattle.audit_books.specs.Accepting.{orders_after}
 use Rattle.audit.specs.Keeping.{IsKeptOf}
 use Rattle.audit.proofs.Kept.{takes-kept}
 use Rattle.audit.proofs.ledger.Ledger.take.Goals as goal

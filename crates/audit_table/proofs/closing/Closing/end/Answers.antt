@@ -1,7 +1,7 @@
 use Rattle.std.proofs.Common.{ap, not, ◌∙◌}
 use Rattle.std.specs.Prelude.{option_map}
 use Rattle.std.specs.List.{flat_map}
-use Rattle.transcript_books.specs.Ending.{ending_in}
+use Rattle.audit_books.specs.Ending.{ending_in}
 use Rattle.audit_table.specs.Knowing.{Closing, all_rows, ends_with, lines_of_node, nodes_marked}
 use Rattle.audit_table.proofs.Marks.{ends-begin, none-mapped}
 use Rattle.audit_table.proofs.closing.Closing.end.Goals as goal

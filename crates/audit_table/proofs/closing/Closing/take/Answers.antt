@@ -1,4 +1,4 @@
-use Rattle.transcript_books.specs.Ending.{ending_in}
+use Rattle.audit_books.specs.Ending.{ending_in}
 use Rattle.audit_table.proofs.Marks.{ends-after}
 use Rattle.audit_table.proofs.closing.Closing.take.Goals as goal
 

@@ -15,7 +15,7 @@ returns-in_err-rest-clause-err c =
     let inv = c.loop-rest.invariant in
     on_err c.from_residual.result
     (record {
-      front = inv.0 ++ [];
+      prefix = inv.0 ++ [];
       left = c.loop-rest.left.now;
       parts = inv.1 ∙ ap (λ (t : List ℕ). t ++ c.loop-rest.left.now) (sym (append-nil inv.0));
       fed = inv.2 [] c.take_item.new.self c.take_item.new.out.items c.in_err-rest.ensures.err;

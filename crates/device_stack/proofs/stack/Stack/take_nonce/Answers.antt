@@ -3,8 +3,8 @@ use Rattle.s0_session.specs.Sending.{Sending, SealsPending}
 use Rattle.device_stack.specs.State.{State, Outcome}
 use Rattle.device_stack.specs.Hearing.{takes_nonce}
 use Rattle.device_stack.specs.contracts.stack.Stack.{the_view}
-use Rattle.device_effects.proofs.SizeLemmas.{sealed_payload, only_payload}
-use Rattle.device_effects.proofs.SealingLemmas.{same_keys}
+use Rattle.device_kinds.proofs.SizeLemmas.{sealed_payload, only_payload}
+use Rattle.device_kinds.proofs.SealingLemmas.{same_keys}
 use Rattle.device_stack.proofs.NonceLemmas.{takes_as}
 use Rattle.device_stack.proofs.stack.Stack.take_nonce.Goals as goal
 

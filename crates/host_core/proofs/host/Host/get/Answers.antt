@@ -1,9 +1,9 @@
 -- The message waits.
 use Rattle.std.proofs.Common.{ap, ◌∙◌}
-use Rattle.host_events.specs.State.{HostParts}
+use Rattle.host_model.specs.State.{HostParts}
 use Rattle.host_requests.specs.declared.task.Task.TheVariants.{Plain}
-use Rattle.host_events.specs.Events.{Queues}
-use Rattle.host_events.specs.After.{after}
+use Rattle.host_model.specs.Events.{Queues}
+use Rattle.host_model.specs.After.{after}
 use Rattle.host_core.proofs.Asked.{queued_alone}
 use Rattle.host_core.proofs.host.Host.get.Goals as goal
 

@@ -2,7 +2,7 @@
 use Rattle.std.proofs.Common.{◌≡◌, ℕ, List, Option, Err, Result, refl, sym, ap, ◌∙◌, subst, arith}
 use Rattle.s0_crypto.specs.declared.key_pair.Keys.{Keys}
 use Rattle.host_keep.specs.Legal.{IsFirstBad}
-use Rattle.host_events.specs.State.{first_host}
+use Rattle.host_model.specs.State.{first_host}
 use Rattle.host_core.specs.Network.{keys_of}
 use Rattle.host_core.specs.Opening.{Takes, MayTakeNone}
 use Rattle.host_core.specs.declared.opening.OpenFault.{OpenFault}

@@ -1,6 +1,6 @@
 -- A tick asks no keeper.
 use Rattle.serial_link.proofs.Taking.{on_err}
-use Rattle.host_events.specs.Did.{Shelf}
+use Rattle.host_model.specs.Did.{Shelf}
 use Rattle.std.proofs.Common.{◌≡◌}
 use Rattle.host_core.proofs.Loops.{tick_seen, tick_stops_seen}
 use Rattle.host_core.proofs.host.Host.tick.Goals as goal

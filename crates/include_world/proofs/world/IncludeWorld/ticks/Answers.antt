@@ -9,7 +9,7 @@ pub loop-preserved : goal.loop-preserved
 loop-preserved g c = ticked_more _ _ _ _ _ _ _ _ (omega arith) c.loop.invariant c.in_ok-tick.ensures.ok
 
 pub returns-in_err-tick-clause-err : goal.returns-in_err-tick-clause-err
-returns-in_err-tick-clause-err g c = on_err _ (some_then _ _ _ _ _ _ c.loop.invariant.front c.loop.invariant.did c.in_err-tick.ensures.err)
+returns-in_err-tick-clause-err g c = on_err _ (some_then _ _ _ _ _ _ c.loop.invariant.prefix c.loop.invariant.did c.in_err-tick.ensures.err)
 
 pub returns-clause-ok : goal.returns-clause-ok
 returns-clause-ok g c = all_ticked _ _ _ _ _ _ (omega arith) c.loop.invariant

@@ -1,6 +1,6 @@
 use Rattle.std.proofs.Common.{[], ap, refl}
 use Rattle.serial_frame.specs.Stream.{Rest}
-use Rattle.serial_frame.proofs.Feeding.{feeds_part, item_front}
+use Rattle.serial_frame.proofs.Feeding.{feeds_part, item_prefix}
 use Rattle.serial_frame.proofs.Streams.{goes-feed}
 use Rattle.serial_frame.proofs.decoder.Decoder.next_item.Goals as goal
 
@@ -13,5 +13,5 @@ returns-in-Part-clause-feeds c =
 pub returns-in-Whole-clause-feeds : goal.returns-in-Whole-clause-feeds
 returns-in-Whole-clause-feeds c =
     let found = rw c.in-Whole.is at c.in_ok-sum.ensures in
-    item_front c.args.self.now c.replace.new.self _ c.args.piece.now found.0 c.in-Whole.rest.now c.in-Whole.item
+    item_prefix c.args.self.now c.replace.new.self _ c.args.piece.now found.0 c.in-Whole.rest.now c.in-Whole.item
     (ap (λ (r : Rest). r.bytes) c.self.view_is) c.self.invariant.is_rest.unfinished found.1 found.2 c.replace.ensures.state

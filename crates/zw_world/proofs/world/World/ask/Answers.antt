@@ -1,5 +1,5 @@
 -- It waits, or is refused.
-use Rattle.host_events.specs.Asking.{places_refusal}
+use Rattle.host_model.specs.Asking.{places_refusal}
 use Rattle.host_core.specs.Orders.{places_of, question_event}
 use Rattle.zw_world.specs.Effects.{line_of}
 use Rattle.zw_world.specs.contracts.world.World.{the_view}

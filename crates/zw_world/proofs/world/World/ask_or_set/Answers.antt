@@ -1,5 +1,5 @@
 -- Each line by its arm.
-use Rattle.world_sides.proofs.Scenes.{ok_then}
+use Rattle.world_step.proofs.Scenes.{ok_then}
 use Rattle.zw_world.proofs.Steps.{effect_beside, setting_of}
 use Rattle.zw_world.proofs.world.World.ask_or_set.Goals as goal
 

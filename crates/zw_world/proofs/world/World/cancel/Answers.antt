@@ -3,8 +3,8 @@ use Rattle.std.proofs.Common.{[], ◌∷◌, refl, ap}
 use Rattle.std.specs.Prelude.{Err}
 use Rattle.zw_text.specs.declared.line.Line.TheVariants.{Cancel}
 use Rattle.host_core.specs.declared.orders.CancelFault.{CancelFault}
-use Rattle.host_events.specs.Events.{Cancels}
-use Rattle.zw_machine.specs.Events.{Host_does}
+use Rattle.host_model.specs.Events.{Cancels}
+use Rattle.world_model.specs.Events.{Host_does}
 use Rattle.zw_world.specs.Effects.{shown_uncancelled}
 use Rattle.zw_world.specs.contracts.world.World.{the_view}
 use Rattle.zw_world.proofs.Asking.{cancelled, event_stops, refusal_done, refusal_stops, uncancelled_as, uncancelled_rose}

@@ -3,10 +3,10 @@ use Rattle.std.proofs.Common.{[], ◌∷◌, refl, ap}
 use Rattle.std.specs.Prelude.{Err}
 use Rattle.zw_text.specs.declared.line.Line.TheVariants.{Command}
 use Rattle.host_orders.specs.declared.refused.Refused.{Refused}
-use Rattle.host_events.specs.Events.{Accepts}
-use Rattle.host_events.specs.Asking.{carriage_for, refusal_for}
-use Rattle.zw_machine.specs.Refusals.{shown}
-use Rattle.zw_machine.specs.Events.{Host_does}
+use Rattle.host_model.specs.Events.{Accepts}
+use Rattle.host_model.specs.Asking.{carriage_for, refusal_for}
+use Rattle.world_model.specs.Refusals.{shown}
+use Rattle.world_model.specs.Events.{Host_does}
 use Rattle.zw_world.specs.contracts.world.World.{the_view}
 use Rattle.zw_world.proofs.Asking.{accepted, event_stops, refusal_done, refusal_stops, judged_as, rose_entered}
 use Rattle.zw_world.proofs.world.World.command.Goals as goal

@@ -1,5 +1,5 @@
 -- The chip's table is made, and then the members are asked for.
-use Rattle.world_sides.proofs.Scenes.{ok_then}
+use Rattle.world_step.proofs.Scenes.{ok_then}
 use Rattle.zw_world.specs.contracts.world.World.{the_view}
 use Rattle.zw_world.proofs.Asking.{discovers}
 use Rattle.zw_world.proofs.world.World.discover.Goals as goal

@@ -1,13 +1,13 @@
 -- Each line by its arm.
 use Rattle.std.proofs.Common.{refl, arith}
-use Rattle.outer_events.specs.Schedules.{IsRepeat, IsWake, IsSet}
-use Rattle.outer_events.specs.Events.{Shows}
-use Rattle.zw_machine.specs.Fronts.{EffectFront}
-use Rattle.zw_machine.proofs.Schedules.{repeat_own, wake_own, set_own}
-use Rattle.world_sides.proofs.Scenes.{ok_then, err_then, did_of, stopped_still}
+use Rattle.outside_model.specs.Schedules.{IsRepeat, IsWake, IsSet}
+use Rattle.outside_model.specs.Events.{Shows}
+use Rattle.world_model.specs.Prefixes.{EffectPrefix}
+use Rattle.world_model.proofs.Schedules.{repeat_own, wake_own, set_own}
+use Rattle.world_step.proofs.Scenes.{ok_then, err_then, did_of, stopped_still}
 use Rattle.zw_world.specs.contracts.world.World.{the_view}
 use Rattle.zw_world.proofs.Scenes.{did_run, stopped_of}
-use Rattle.zw_world.proofs.Steps.{effect_as, front_as, none_in, nothing_in, left_of}
+use Rattle.zw_world.proofs.Steps.{effect_as, prefix_as, none_in, nothing_in, left_of}
 use Rattle.zw_world.proofs.world.World.effect.Goals as goal
 
 pub returns-in-Command-clause-ok : goal.returns-in-Command-clause-ok
@@ -32,7 +32,7 @@ pub returns-in-Restart-clause-ok : goal.returns-in-Restart-clause-ok
 returns-in-Restart-clause-ok g c = effect_as c.restart.result _ _ _ _ c.in-Restart.is (ok_then c.restart.result c.restart.ensures.ok (λ done. done _))
 
 pub returns-in-Restart-clause-err : goal.returns-in-Restart-clause-err
-returns-in-Restart-clause-err g c = front_as c.restart.result _ _ _ _ c.in-Restart.is (err_then c.restart.result c.restart.ensures.err (λ stops. stops _))
+returns-in-Restart-clause-err g c = prefix_as c.restart.result _ _ _ _ c.in-Restart.is (err_then c.restart.result c.restart.ensures.err (λ stops. stops _))
 
 pub returns-in-Repeat-clause-ok : goal.returns-in-Repeat-clause-ok
 returns-in-Repeat-clause-ok g c =
@@ -43,7 +43,7 @@ returns-in-Repeat-clause-ok g c =
 pub returns-in-Repeat-clause-err : goal.returns-in-Repeat-clause-err
 returns-in-Repeat-clause-err g c =
     let w = the_view c.self.inside in
-    rw (← c.self.view_is) (front_as c.repeat.result _ _ _ _ c.in-Repeat.is (err_then c.repeat.result c.repeat.ensures.err
+    rw (← c.self.view_is) (prefix_as c.repeat.result _ _ _ _ c.in-Repeat.is (err_then c.repeat.result c.repeat.ensures.err
     (λ stops. stopped_of (IsRepeat _) w.keys w.keys w.host w.host w.outer c.repeat.new.self _ _ (g.P.Keeper.records c.args.keeper.now) c.args.out.now.items c.repeat.new.out.items (g.P.Keeper.faults c.args.keeper.now) stops)))
 
 pub returns-in-Wake-clause-ok : goal.returns-in-Wake-clause-ok
@@ -55,7 +55,7 @@ returns-in-Wake-clause-ok g c =
 pub returns-in-Wake-clause-err : goal.returns-in-Wake-clause-err
 returns-in-Wake-clause-err g c =
     let w = the_view c.self-in-Wake.inside in
-    rw (← c.self-in-Wake.view_is) (front_as c.wake.result _ _ _ _ c.in-Wake.is (err_then c.wake.result c.wake.ensures.err
+    rw (← c.self-in-Wake.view_is) (prefix_as c.wake.result _ _ _ _ c.in-Wake.is (err_then c.wake.result c.wake.ensures.err
     (λ stops. stopped_of (IsWake _) w.keys w.keys w.host w.host w.outer c.wake.new.self _ _ (g.P.Keeper.records c.args.keeper.now) c.args.out.now.items c.wake.new.out.items (g.P.Keeper.faults c.args.keeper.now) stops)))
 
 pub returns-in-Local-clause-ok : goal.returns-in-Local-clause-ok
@@ -67,7 +67,7 @@ returns-in-Local-clause-ok g c =
 pub returns-in-Local-clause-err : goal.returns-in-Local-clause-err
 returns-in-Local-clause-err g c =
     let w = the_view c.self-in-Local.inside in
-    rw (← c.self-in-Local.view_is) (front_as c.local.result _ _ _ _ c.in-Local.is (err_then c.local.result c.local.ensures.err
+    rw (← c.self-in-Local.view_is) (prefix_as c.local.result _ _ _ _ c.in-Local.is (err_then c.local.result c.local.ensures.err
     (λ stops. stopped_of (IsSet _ _) w.keys w.keys w.host w.host w.outer c.local.new.self _ _ (g.P.Keeper.records c.args.keeper.now) c.args.out.now.items c.local.new.out.items (g.P.Keeper.faults c.args.keeper.now) stops)))
 
 pub returns-in-Show-clause-ok : goal.returns-in-Show-clause-ok
@@ -80,7 +80,7 @@ pub returns-in-Show-clause-err : goal.returns-in-Show-clause-err
 returns-in-Show-clause-err g c =
     let w = the_view c.self-in-Show.inside in
     rw (← c.self-in-Show.view_is) (err_then c.show.result c.show.ensures.no_entries
-    (λ same. stopped_still (EffectFront c.args.line.now) w.keys w.keys w.host w.host w.outer c.show.new.self _ (g.P.Keeper.records c.args.keeper.now) (g.P.Keeper.records c.args.keeper.now) c.args.out.now.items c.show.new.out.items (g.P.Keeper.faults c.args.keeper.now) (g.P.Keeper.faults c.args.keeper.now) (none_in c.args.line.now _) refl same (omega arith)))
+    (λ same. stopped_still (EffectPrefix c.args.line.now) w.keys w.keys w.host w.host w.outer c.show.new.self _ (g.P.Keeper.records c.args.keeper.now) (g.P.Keeper.records c.args.keeper.now) c.args.out.now.items c.show.new.out.items (g.P.Keeper.faults c.args.keeper.now) (g.P.Keeper.faults c.args.keeper.now) (none_in c.args.line.now _) refl same (omega arith)))
 
 pub ask_or_set-requires : goal.ask_or_set-requires
 ask_or_set-requires g c = left_of c.args.line.now c.requires.effect c.in_default.not-Command c.in_default.not-Join c.in_default.not-Cancel c.in_default.not-Restart c.in_default.not-Repeat c.in_default.not-Wake c.in_default.not-Local c.in_default.not-Show
@@ -90,4 +90,4 @@ returns-in_default-clause-ok g c = ok_then c.ask_or_set.result c.ask_or_set.ensu
 
 pub returns-in_default-clause-err : goal.returns-in_default-clause-err
 returns-in_default-clause-err g c = err_then c.ask_or_set.result c.ask_or_set.ensures.err
-    (λ same. stopped_still (EffectFront c.args.line.now) c.args.self.now.keys c.ask_or_set.new.self.keys c.args.self.now.host c.ask_or_set.new.self.host c.args.self.now.outer c.ask_or_set.new.self.outer _ (g.P.Keeper.records c.args.keeper.now) (g.P.Keeper.records c.args.keeper.now) c.args.out.now.items c.ask_or_set.new.out.items (g.P.Keeper.faults c.args.keeper.now) (g.P.Keeper.faults c.args.keeper.now) (none_in c.args.line.now _) refl same (omega arith))
+    (λ same. stopped_still (EffectPrefix c.args.line.now) c.args.self.now.keys c.ask_or_set.new.self.keys c.args.self.now.host c.ask_or_set.new.self.host c.args.self.now.outer c.ask_or_set.new.self.outer _ (g.P.Keeper.records c.args.keeper.now) (g.P.Keeper.records c.args.keeper.now) c.args.out.now.items c.ask_or_set.new.out.items (g.P.Keeper.faults c.args.keeper.now) (g.P.Keeper.faults c.args.keeper.now) (none_in c.args.line.now _) refl same (omega arith))

@@ -1,9 +1,9 @@
 -- It waits, or is refused.
 use Rattle.std.proofs.Common.{refl}
 use Rattle.zw_text.specs.declared.line.Line.TheVariants.{Interview}
-use Rattle.host_events.specs.State.{node_of}
-use Rattle.host_events.specs.Asking.{interview_refusal}
-use Rattle.host_events.specs.Events.{Queues_interview}
+use Rattle.host_model.specs.State.{node_of}
+use Rattle.host_model.specs.Asking.{interview_refusal}
+use Rattle.host_model.specs.Events.{Queues_interview}
 use Rattle.zw_world.specs.contracts.world.World.{the_view}
 use Rattle.zw_world.proofs.Asking.{asked, or_none, interview_fair}
 use Rattle.zw_world.proofs.world.World.interview.Goals as goal

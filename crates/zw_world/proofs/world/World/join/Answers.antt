@@ -3,12 +3,12 @@ use Rattle.std.proofs.Common.{[], ◌∷◌, refl, ap}
 use Rattle.std.specs.Prelude.{Err}
 use Rattle.zw_text.specs.declared.line.Line.TheVariants.{Join}
 use Rattle.host_orders.specs.declared.refused.Refused.{Refused}
-use Rattle.host_events.specs.Events.{Joins as joins_host}
-use Rattle.host_events.specs.Asking.{join_refusal}
-use Rattle.outer_events.specs.Events.{Joins}
-use Rattle.zw_machine.specs.Refusals.{shown}
-use Rattle.zw_machine.specs.Events.{Host_does, Outside_does}
-use Rattle.world_sides.proofs.Scenes.{ok_then, err_then, on_err}
+use Rattle.host_model.specs.Events.{Joins as joins_host}
+use Rattle.host_model.specs.Asking.{join_refusal}
+use Rattle.outside_model.specs.Events.{Joins}
+use Rattle.world_model.specs.Refusals.{shown}
+use Rattle.world_model.specs.Events.{Host_does, Outside_does}
+use Rattle.world_step.proofs.Scenes.{ok_then, err_then, on_err}
 use Rattle.zw_world.specs.contracts.world.World.{the_view}
 use Rattle.zw_world.proofs.Asking.{joined, event_stops, refusal_done, refusal_stops, kept_as, rose_entered}
 use Rattle.zw_world.proofs.world.World.join.Goals as goal

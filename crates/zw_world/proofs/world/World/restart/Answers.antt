@@ -3,10 +3,10 @@ use Rattle.std.proofs.Common.{ap, subst, inl}
 use Rattle.std.specs.Prelude.{Err}
 use Rattle.host_core.specs.Opening.{Opens}
 use Rattle.host_core.specs.declared.opening.OpenFault.{OpenFault}
-use Rattle.zw_machine.specs.Did.{Nothing}
-use Rattle.zw_machine.specs.Fronts.{RestartFront}
-use Rattle.zw_machine.proofs.Doing.{stopped_as}
-use Rattle.world_sides.proofs.Scenes.{err_then}
+use Rattle.world_model.specs.Did.{Nothing}
+use Rattle.world_model.specs.Prefixes.{RestartPrefix}
+use Rattle.world_model.proofs.Doing.{stopped_as}
+use Rattle.world_step.proofs.Scenes.{err_then}
 use Rattle.zw_world.specs.World.{WorldState}
 use Rattle.zw_world.proofs.Asking.{refusal_stops}
 use Rattle.zw_world.proofs.Restarts.{restarted_all, restart_stops, unopened_all}
@@ -36,4 +36,4 @@ returns-in-Err-clause-ok g c =
 
 pub returns-in-Err-clause-err : goal.returns-in-Err-clause-err
 returns-in-Err-clause-err g c = err_then c.unopened.result (refusal_stops c.unopened.result c.args.self.now.keys c.unopened.new.self.keys c.args.self.now.host c.unopened.new.self.host c.args.self.now.outer c.unopened.new.self.outer (g.P.Keeper.records c.args.keeper.now) (g.P.Keeper.records c.open.new.keeper)
-    c.args.out.now.items c.unopened.new.out.items (g.P.Keeper.faults c.args.keeper.now) (g.P.Keeper.faults c.open.new.keeper) c.in-Err.ensures.records c.in-Err.ensures.never_falls c.unopened.ensures.err) (λ stops ds. stopped_as Nothing RestartFront _ _ (λ events none. inl none) (stops ds))
+    c.args.out.now.items c.unopened.new.out.items (g.P.Keeper.faults c.args.keeper.now) (g.P.Keeper.faults c.open.new.keeper) c.in-Err.ensures.records c.in-Err.ensures.never_falls c.unopened.ensures.err) (λ stops ds. stopped_as Nothing RestartPrefix _ _ (λ events none. inl none) (stops ds))

@@ -4,9 +4,9 @@ use Rattle.zw_text.specs.declared.line.Line.TheVariants.{Send}
 use Rattle.host_orders.specs.Refusals.{classes_of}
 use Rattle.host_orders.specs.Errands.{send_refusal, send_text}
 use Rattle.host_requests.specs.declared.task.Task.TheVariants.{Plain}
-use Rattle.host_events.specs.State.{node_of}
-use Rattle.host_events.specs.May.{known_of}
-use Rattle.host_events.specs.Events.{Queues}
+use Rattle.host_model.specs.State.{node_of}
+use Rattle.host_model.specs.May.{known_of}
+use Rattle.host_model.specs.Events.{Queues}
 use Rattle.zw_world.specs.contracts.world.World.{the_view}
 use Rattle.zw_world.proofs.Asking.{asked, send_fair}
 use Rattle.zw_world.proofs.world.World.send.Goals as goal

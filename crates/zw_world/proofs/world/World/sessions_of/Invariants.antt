@@ -1,5 +1,5 @@
 use Rattle.std.proofs.Common.{◌≡◌, take}
-use Rattle.host_events.specs.State.{node_of}
+use Rattle.host_model.specs.State.{node_of}
 use Rattle.zw_world.proofs.world.World.sessions_of.Given as goal
 
 abbrev pub invariant-loop-session : goal.invariant-loop-session

@@ -1,8 +1,8 @@
 -- Each line is its one event.
 use Rattle.std.proofs.Common.{refl}
 use Rattle.std.specs.Prelude.{true, false}
-use Rattle.outer_events.specs.Events.{Cuts, Stalls, Marks_loss, Marks_change, Collides_next, Loses, Loses_acks, Links}
-use Rattle.world_sides.proofs.Scenes.{ok_then, did_quiet}
+use Rattle.outside_model.specs.Events.{Cuts, Stalls, Marks_loss, Marks_change, Collides_next, Loses, Loses_acks, Links}
+use Rattle.world_step.proofs.Scenes.{ok_then, did_quiet}
 use Rattle.zw_world.specs.contracts.world.World.{the_view}
 use Rattle.zw_world.proofs.Steps.{effect_plain, no_setting}
 use Rattle.zw_world.proofs.world.World.set.Goals as goal

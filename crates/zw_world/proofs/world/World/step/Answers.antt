@@ -1,7 +1,7 @@
 -- A line begins, and then it is run.
 use Rattle.std.proofs.Common.{refl}
-use Rattle.outer_events.specs.Events.{Begins_line}
-use Rattle.world_sides.proofs.Scenes.{did_quiet}
+use Rattle.outside_model.specs.Events.{Begins_line}
+use Rattle.world_step.proofs.Scenes.{did_quiet}
 use Rattle.zw_world.specs.contracts.world.World.{the_view}
 use Rattle.zw_world.proofs.Steps.{line_done, line_stops}
 use Rattle.zw_world.proofs.world.World.step.Goals as goal

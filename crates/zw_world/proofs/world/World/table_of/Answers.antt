@@ -1,7 +1,7 @@
 -- A node that is joined.
 use Rattle.std.proofs.Common.{map, sym, ap, ◌∙◌}
-use Rattle.host_events.specs.State.{node_of}
-use Rattle.world_sides.proofs.Scenes.{ok_then}
+use Rattle.host_model.specs.State.{node_of}
+use Rattle.world_step.proofs.Scenes.{ok_then}
 use Rattle.zw_world.specs.World.{WorldState, machine_of}
 use Rattle.zw_world.proofs.Listing.{listed_joined}
 use Rattle.zw_world.proofs.world.World.table_of.Goals as goal

@@ -1,2 +1,0 @@
-mod Nonces
-pub mod Flies

@@ -1,4 +1,0 @@
-pub mod Ticks
-pub mod AirRule
-pub mod Flying
-pub mod Keeping

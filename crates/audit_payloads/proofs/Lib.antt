@@ -1,2 +1,0 @@
-mod Settled
-pub mod Picks

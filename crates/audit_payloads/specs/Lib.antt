@@ -1,3 +1,0 @@
-pub mod PayloadRule
-pub mod Sending
-pub mod Keeping

@@ -1,0 +1,4 @@
+mod Nonces
+pub mod Flies
+mod Settled
+pub mod Picks

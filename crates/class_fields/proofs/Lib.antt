@@ -1,5 +1,0 @@
-pub mod Steps
-pub mod FieldLaws
-pub mod ListSteps
-pub mod WrittenLaws
-pub mod Heads

@@ -1,7 +1,0 @@
-use Rattle.std.proofs.Common.{◌≡◌, ◌++◌, drop}
-use Rattle.class_fields.specs.Cell.{written}
-use Rattle.class_fields.specs.Fields.{nodes}
-use Rattle.class_fields.proofs.forms.put_nodes.Given as goal
-
-abbrev pub invariant-loop-node : goal.invariant-loop-node
-invariant-loop-node l = l.out ++ written (nodes (drop l.node-index l.list)) ≡ l.fn.out ++ written (nodes l.list)

@@ -1,4 +1,0 @@
-pub mod Ranges
-pub mod Cell
-pub mod Fields
-pub mod Reading

@@ -1,5 +1,0 @@
-use Rattle.command_facts.proofs.Asking.{lines_cancel}
-use Rattle.command_facts.proofs.laws.commands_are_taken_back_when_asked.Goals as goal
-
-pub returns : goal.returns
-returns c = λ m lines are laws. lines_cancel m lines are laws.ends

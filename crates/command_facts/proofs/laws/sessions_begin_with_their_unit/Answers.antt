@@ -1,8 +1,0 @@
-use Rattle.zw_machine.specs.State.{first_machine}
-use Rattle.command_facts.proofs.Following.{lines_begin_with_units}
-use Rattle.command_facts.proofs.laws.sessions_begin_with_their_unit.Goals as goal
-
-pub returns : goal.returns
-returns c = λ keys records devices lines are.
-    lines_begin_with_units c.attempts_have_what_they_give.ensures.first_payload c.callback_ids.ensures.from_one c.callback_ids.ensures.to_max c.the_machine_keeps_facts.ensures.each c.asides_keep_facts.ensures
-    (first_machine keys records devices) lines are (c.the_machine_keeps_facts.ensures.first keys records devices)

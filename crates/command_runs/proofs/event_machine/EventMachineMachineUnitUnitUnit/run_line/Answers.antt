@@ -1,5 +1,0 @@
-use Rattle.command_runs.proofs.EventsRun.{not_read}
-use Rattle.command_runs.proofs.event_machine.EventMachineMachineUnitUnitUnit.run_line.Goals as goal
-
-pub returns-in-Err-clause-err : goal.returns-in-Err-clause-err
-returns-in-Err-clause-err c = not_read c.in-Err.fault _ c.args.text.now _ c.in-Err.ensures.exact c.requires.empty

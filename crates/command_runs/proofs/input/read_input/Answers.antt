@@ -1,5 +1,0 @@
-use Rattle.command_runs.proofs.Growing.{stops-no_memory}
-use Rattle.command_runs.proofs.input.read_input.Goals as goal
-
-pub returns-then-is_err-clause-err : goal.returns-then-is_err-clause-err
-returns-then-is_err-clause-err g c = stops-no_memory _ _ _ _ _ c.loop-piece.invariant.read c.in-Ok.ensures.consumes.0

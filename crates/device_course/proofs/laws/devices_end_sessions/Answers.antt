@@ -1,9 +1,0 @@
--- Each event adds what it ends.
-use Rattle.device_course.proofs.Ending.{fresh_ended, event_ends}
-use Rattle.device_course.proofs.laws.devices_end_sessions.Goals as goal
-
-pub returns-clause-fresh : goal.returns-clause-fresh
-returns-clause-fresh c = fresh_ended
-
-pub returns-clause-kept : goal.returns-clause-kept
-returns-clause-kept c = event_ends c.when_changes_come.ensures.heard

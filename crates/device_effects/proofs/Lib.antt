@@ -1,3 +1,0 @@
-pub mod WordedLemmas
-pub mod SizeLemmas
-pub mod SealingLemmas

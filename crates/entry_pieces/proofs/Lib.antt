@@ -1,4 +1,0 @@
-pub mod Growing
-pub mod Joining
-pub mod Telling
-pub mod Shown

@@ -1,5 +1,0 @@
-mod Shown
-mod Succeeding
-mod Running
-mod Heading
-mod Unasked

@@ -1,7 +1,0 @@
-pub mod Answered
-pub mod Cut
-pub mod Ending
-pub mod Front
-pub mod Judged
-pub mod Outcomes
-pub mod Restarted

@@ -1,5 +1,0 @@
-use Rattle.host_facts.proofs.Keeping.{first_kept}
-use Rattle.host_facts.proofs.laws.first_facts_hold.Goals as goal
-
-pub returns : goal.returns
-returns c = λ keys. first_kept keys (c.facts_are_kept.ensures.first keys)

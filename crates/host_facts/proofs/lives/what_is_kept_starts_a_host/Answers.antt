@@ -1,5 +1,0 @@
-use Rattle.host_facts.proofs.Living.{starts_as}
-use Rattle.host_facts.proofs.lives.what_is_kept_starts_a_host.Goals as goal
-
-pub returns : goal.returns
-returns c = starts_as

@@ -1,0 +1,37 @@
+pub mod Doing
+pub mod Feeding
+pub mod Numbered
+pub mod Owning
+mod Storing
+pub mod Accepted
+mod Keeping
+pub mod Pumps
+mod Rounds
+mod Payloads
+mod Rising
+mod Ended
+mod Opened
+mod Places
+mod NumberedRecords
+mod Outcomes
+pub mod Values
+mod Once
+pub mod Confirmed
+mod Counts
+pub mod Going
+mod Removed
+mod Steps
+mod Begun
+mod Cancelled
+mod Finished
+mod Taken
+mod Events
+mod AllEvents
+mod Beginning
+pub mod Tests
+mod Restarted
+pub mod RestoredFacts
+mod Restores
+mod Legal
+pub mod Fold
+pub mod Recorded

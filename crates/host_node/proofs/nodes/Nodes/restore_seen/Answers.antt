@@ -1,0 +1,9 @@
+-- The agenda follows the event.
+use Rattle.host_node.specs.Events.NodeEvent.{Restores_seen}
+use Rattle.host_node.proofs.Follows.{after_event}
+use Rattle.host_node.proofs.nodes.Nodes.restore_seen.Goals as goal
+
+pub invariant_of-self : goal.invariant_of-self
+invariant_of-self c =
+    after_event c.self.inside.nodes.items c.self.inside.agenda c.follow.new.self c.number.result c.index_mut-one.result.now c.restore_seen.new.self (Restores_seen c.args.seen) c.self.invariant
+    c.number.ensures.from_one c.number.ensures.to_max c.index_mut-one.ensures.value c.restore_seen.ensures c.follow.ensures.state c.follow.ensures.facts

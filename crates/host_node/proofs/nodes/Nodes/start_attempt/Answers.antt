@@ -1,0 +1,9 @@
+-- The agenda follows the event.
+use Rattle.host_node.specs.Events.NodeEvent.{Starts}
+use Rattle.host_node.proofs.Follows.{after_event}
+use Rattle.host_node.proofs.nodes.Nodes.start_attempt.Goals as goal
+
+pub invariant_of-self : goal.invariant_of-self
+invariant_of-self c =
+    after_event c.self.inside.nodes.items c.self.inside.agenda c.follow.new.self c.number.result c.index_mut-one.result.now c.start_attempt.new.self (Starts c.args.plan) c.self.invariant
+    c.number.ensures.from_one c.number.ensures.to_max c.index_mut-one.ensures.value c.start_attempt.ensures c.follow.ensures.state c.follow.ensures.facts

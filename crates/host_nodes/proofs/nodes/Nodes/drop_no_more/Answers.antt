@@ -1,9 +1,0 @@
--- The agenda follows the event.
-use Rattle.host_node.specs.Events.NodeEvent.{Drops_no_more}
-use Rattle.host_nodes.proofs.Follows.{after_event}
-use Rattle.host_nodes.proofs.nodes.Nodes.drop_no_more.Goals as goal
-
-pub invariant_of-self : goal.invariant_of-self
-invariant_of-self c =
-    after_event c.self.inside.nodes.items c.self.inside.agenda c.follow.new.self c.number.result c.index_mut-one.result.now c.drop_no_more.new.self Drops_no_more c.self.invariant
-    c.number.ensures.from_one c.number.ensures.to_max c.index_mut-one.ensures.value c.drop_no_more.ensures c.follow.ensures.state c.follow.ensures.facts

@@ -1,9 +1,0 @@
--- The agenda follows the event.
-use Rattle.host_node.specs.Events.NodeEvent.{Holds}
-use Rattle.host_nodes.proofs.Follows.{after_event}
-use Rattle.host_nodes.proofs.nodes.Nodes.hold.Goals as goal
-
-pub invariant_of-self : goal.invariant_of-self
-invariant_of-self c =
-    after_event c.self.inside.nodes.items c.self.inside.agenda c.follow.new.self c.number.result c.index_mut-one.result.now c.hold.new.self Holds c.self.invariant
-    c.number.ensures.from_one c.number.ensures.to_max c.index_mut-one.ensures.value c.hold.ensures c.follow.ensures.state c.follow.ensures.facts

@@ -1,5 +1,0 @@
-use Rattle.host_events.specs.Events.{Joins}
-use Rattle.host_recorded.proofs.orders.join.Goals as goal
-
-pub join-requires : goal.join-requires
-join-requires g c = c.facts_are_kept.ensures.each c.args.core.now.state (Joins c.args.node) c.what_holds.ensures c.requires

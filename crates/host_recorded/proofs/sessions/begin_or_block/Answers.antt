@@ -1,8 +1,0 @@
-use Rattle.host_events.specs.Events.{Begins, Begin_unkept}
-use Rattle.host_recorded.proofs.sessions.begin_or_block.Goals as goal
-
-pub block-requires : goal.block-requires
-block-requires c = c.facts_are_kept.ensures.each c.args.core.now.state (Begin_unkept c.args.node) c.what_holds.ensures (c.requires.may.0, c.requires.may.1)
-
-pub begin-requires-clause-facts : goal.begin-requires-clause-facts
-begin-requires-clause-facts c = c.facts_are_kept.ensures.each c.args.core.now.state (Begins c.args.node c.args.session c.args.command) c.what_holds.ensures c.requires.may

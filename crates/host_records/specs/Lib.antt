@@ -1,4 +1,0 @@
-pub mod Restoring
-pub mod Opening
-pub mod Holding
-pub mod Recording

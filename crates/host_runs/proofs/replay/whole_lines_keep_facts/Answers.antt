@@ -1,5 +1,0 @@
-use Rattle.host_runs.proofs.Replaying.{lines_keep}
-use Rattle.host_runs.proofs.replay.whole_lines_keep_facts.Goals as goal
-
-pub returns : goal.returns
-returns c = lines_keep c.events_keep_facts.ensures.each c.asides_keep_facts.ensures

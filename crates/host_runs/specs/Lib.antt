@@ -1,3 +1,0 @@
-pub mod Lives
-pub mod Port
-pub mod Replay

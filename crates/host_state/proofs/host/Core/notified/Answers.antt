@@ -1,9 +1,0 @@
-use Rattle.std.proofs.Common.{refl, sym}
-use Rattle.host_events.specs.Events.{Notifies}
-use Rattle.host_state.specs.Inside.{parts_of}
-use Rattle.host_state.proofs.Kept.{kept}
-use Rattle.host_state.proofs.host.Core.notified.Goals as goal
-
-pub invariant_of-self : goal.invariant_of-self
-invariant_of-self c =
-    kept c.facts_are_kept.ensures.each (parts_of c.self.inside) c.args.self.now _ (Notifies c.args.node) c.self.view_is c.self.invariant tt (sym c.notified.ensures) refl refl refl refl

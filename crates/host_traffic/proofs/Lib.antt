@@ -1,5 +1,0 @@
-mod Going
-mod Quiet
-mod Submitting
-mod Items
-mod Ticking

@@ -1,0 +1,165 @@
+use Rattle.std.proofs.Common.{[], refl, ◌∙◌}
+use Rattle.law_wire.proofs.Walks.{apart, direct, is_linked}
+use Rattle.law_time.proofs.Computing.{computing}
+use Rattle.law_transcript.proofs.Deciding.{not_true}
+use Rattle.law_time.proofs.calm.rejected_stretches.Goals as goal
+
+pub returns-clause-lossy : goal.returns-clause-lossy
+unfolding computing
+returns-clause-lossy c = refl
+
+pub returns-clause-other_key : goal.returns-clause-other_key
+unfolding computing
+returns-clause-other_key c = refl
+
+pub returns-clause-other_device : goal.returns-clause-other_device
+unfolding computing
+returns-clause-other_device c = refl
+
+pub returns-clause-out_of_reach : goal.returns-clause-out_of_reach
+unfolding computing
+returns-clause-out_of_reach c = λ law. apart _ _ _ law.reached.0.way
+
+pub returns-clause-unwoken : goal.returns-clause-unwoken
+unfolding computing
+returns-clause-unwoken c = refl
+
+pub returns-clause-idly_woken : goal.returns-clause-idly_woken
+unfolding computing
+returns-clause-idly_woken c = refl
+
+pub returns-clause-too_soon : goal.returns-clause-too_soon
+unfolding computing
+returns-clause-too_soon c = refl
+
+pub returns-clause-missing : goal.returns-clause-missing
+unfolding computing
+returns-clause-missing c = λ law. not_true (law.alone
+    (record {
+      still = record { marks = refl; host = refl; chip = refl; air = refl; idle = refl; asleep = refl; working = refl };
+      to_come = refl;
+    })
+    (record {
+      quiet = refl;
+      reached = (
+        record { repeaters = []; route = direct _ _ _ refl; live = is_linked _ _ 1 2 ∙ refl; back = []; way = (direct _ _ _ refl).walk },
+        tt,
+      );
+    })
+    refl refl)
+
+pub returns-clause-missing_together : goal.returns-clause-missing_together
+unfolding computing
+returns-clause-missing_together c = λ law. not_true (law.together
+    (record {
+      still = record { marks = refl; host = refl; chip = refl; air = refl; idle = refl; asleep = refl; working = refl };
+      to_come = refl;
+    })
+    (record {
+      quiet = refl;
+      reached = (
+        record { repeaters = []; route = direct _ _ _ refl; live = is_linked _ _ 1 2 ∙ refl; back = []; way = (direct _ _ _ refl).walk },
+        tt,
+      );
+    })
+    refl refl)
+
+pub returns-clause-succeeded : goal.returns-clause-succeeded
+unfolding computing
+returns-clause-succeeded c = λ law. not_true (law.alone
+    (record {
+      still = record { marks = refl; host = refl; chip = refl; air = refl; idle = refl; asleep = refl; working = refl };
+      to_come = refl;
+    })
+    (record {
+      quiet = refl;
+      reached = (
+        record { repeaters = []; route = direct _ _ _ refl; live = is_linked _ _ 1 6 ∙ refl; back = []; way = (direct _ _ _ refl).walk },
+        tt,
+      );
+    })
+    refl refl)
+
+pub returns-clause-failed : goal.returns-clause-failed
+unfolding computing
+returns-clause-failed c = λ law. not_true (law.alone
+    (record {
+      still = record { marks = refl; host = refl; chip = refl; air = refl; idle = refl; asleep = refl; working = refl };
+      to_come = refl;
+    })
+    (record {
+      quiet = refl;
+      reached = (
+        record { repeaters = []; route = direct _ _ _ refl; live = is_linked _ _ 1 6 ∙ refl; back = []; way = (direct _ _ _ refl).walk },
+        tt,
+      );
+    })
+    refl refl)
+
+pub returns-clause-too_many : goal.returns-clause-too_many
+unfolding computing
+returns-clause-too_many c = refl
+
+pub returns-clause-no_device : goal.returns-clause-no_device
+unfolding computing
+returns-clause-no_device c = refl
+
+pub returns-clause-other_classes : goal.returns-clause-other_classes
+unfolding computing
+returns-clause-other_classes c = refl
+
+pub returns-clause-other_list : goal.returns-clause-other_list
+unfolding computing
+returns-clause-other_list c = refl
+
+pub returns-clause-woken_before : goal.returns-clause-woken_before
+unfolding computing
+returns-clause-woken_before c = refl
+
+pub returns-clause-woken_twice : goal.returns-clause-woken_twice
+unfolding computing
+returns-clause-woken_twice c = refl
+
+pub returns-clause-not_alone : goal.returns-clause-not_alone
+unfolding computing
+returns-clause-not_alone c = refl
+
+pub returns-clause-not_plain : goal.returns-clause-not_plain
+unfolding computing
+returns-clause-not_plain c = refl
+
+pub returns-clause-sealed : goal.returns-clause-sealed
+unfolding computing
+returns-clause-sealed c = refl
+
+pub returns-clause-taken_to_listen : goal.returns-clause-taken_to_listen
+unfolding computing
+returns-clause-taken_to_listen c = refl
+
+pub returns-clause-unjoined : goal.returns-clause-unjoined
+unfolding computing
+returns-clause-unjoined c = refl
+
+pub returns-clause-ordered_late : goal.returns-clause-ordered_late
+unfolding computing
+returns-clause-ordered_late c = refl
+
+pub returns-clause-woken_late : goal.returns-clause-woken_late
+unfolding computing
+returns-clause-woken_late c = refl
+
+pub returns-clause-sixth_taken : goal.returns-clause-sixth_taken
+unfolding computing
+returns-clause-sixth_taken c = refl
+
+pub returns-clause-failed_end_point : goal.returns-clause-failed_end_point
+unfolding computing
+returns-clause-failed_end_point c = refl
+
+pub returns-clause-taken_back : goal.returns-clause-taken_back
+unfolding computing
+returns-clause-taken_back c = refl
+
+pub returns-clause-in_segments : goal.returns-clause-in_segments
+unfolding computing
+returns-clause-in_segments c = refl

@@ -1,0 +1,74 @@
+-- When the host keeps a node awake (Supervision Command Class, version 2: Wake Up Request; that the hold follows the stored values
+-- is this project's own rule).
+use Rattle.std.specs.Prelude.{ℕ, ◌+◌, ◌%◌, ◌==◌, ◌&&◌, ◌||◌, not, Bool, true, false, List, [], ◌∷◌, length}
+use Rattle.std.specs.List.{list_any}
+use Rattle.host_heard.specs.declared.told.Told.{Told}
+use Rattle.host_heard.specs.declared.told.Told.TheVariants.{Report as Reports}
+use Rattle.host_heard.specs.declared.payload.Heard.{Heard}
+use Rattle.host_heard.specs.declared.payload.Heard.TheVariants.{Messages}
+use Rattle.host_heard.specs.Telling.{heard_at}
+use Rattle.zw_text.specs.declared.entry.Ended.TheVariants.{Success, Fail, NoSupport}
+use Rattle.zw_text.specs.declared.entry.Entry.{Entry}
+use Rattle.zw_text.specs.declared.entry.Entry.TheVariants.{Out, Store, Held, Asleep}
+use Rattle.zw_text.specs.Transcript.{folded, sessions, where_same}
+use Rattle.law_transcript.specs.Lists.{shown_after, last_or}
+use Rattle.law_time.specs.Moments.{Keeps, clock}
+use Rattle.law_time.specs.Judged.{last_of, brought_here, payloads_here}
+use Rattle.law_time.specs.Interviews.{listens}
+
+-- the command that has just ended by a report: only the values that it confirms may stand after that
+abbrev pub final_step : List ℕ → Entry → List ℕ
+final_step commands (Out command Success) = command ∷ []
+final_step commands (Out command Fail) = command ∷ []
+final_step commands (Out command NoSupport) = command ∷ []
+final_step commands (Store node setting) = commands
+final_step commands _ = []
+
+abbrev pub just_ended : List Entry → List ℕ
+just_ended past = folded final_step [] past
+
+-- whether it is that of the last session of a node
+abbrev pub is_of : ℕ → List Entry → Bool
+is_of node past = list_any (λ command. list_any (λ carried. carried == command) (last_of (sessions node past))) (just_ended past)
+
+-- whether a report of that session asks to be kept awake
+abbrev pub asks_to_stay : ℕ → Told → Bool
+asks_to_stay id (Reports session status wake_request) = (session == id) && wake_request
+asks_to_stay id _ = false
+
+abbrev pub tells_to_stay : ℕ → Heard → Bool
+tells_to_stay id (Messages messages) = list_any (asks_to_stay id) messages
+tells_to_stay id _ = false
+
+-- whether a node that does not listen asks here to be kept awake, by the report that ends its session
+abbrev pub asks_hold : ℕ → List Entry → Bool
+asks_hold node past =
+    is_of node past && not (listens node past) && list_any (λ payload. tells_to_stay (length (sessions node past) % 64) (heard_at payload)) (payloads_here node past)
+
+-- whether a node whose payload was judged here does
+abbrev pub owes_hold : List Entry → Bool
+owes_hold past = list_any (λ carried. asks_hold carried.node past) (brought_here past)
+
+-- whether the entry is a value that is confirmed
+abbrev pub is_store : Entry → Bool
+is_store (Store node setting) = true
+is_store _ = false
+
+-- a node is held where it asks so, and wherever it does, after the values that its command confirms
+abbrev pub may_hold : List Entry → Entry → Bool
+may_hold past (Held node) = asks_hold node past
+may_hold past entry = is_store entry || not (owes_hold past)
+
+abbrev pub HoldsAsAsked : List Entry → Type 0
+HoldsAsAsked transcript = Keeps may_hold transcript
+
+-- ---- how long
+
+-- until when a node is held: 100 ticks, and no longer than it counts as awake
+abbrev pub hold_at : ℕ → List Entry → Entry → List ℕ
+hold_at node past (Held of) = where_same of node (clock past + 100)
+hold_at node past (Asleep of) = where_same of node 0
+hold_at node past _ = []
+
+abbrev pub held_until : ℕ → List Entry → ℕ
+held_until node past = last_or 0 (shown_after (hold_at node) [] past)

@@ -1,0 +1,247 @@
+-- Which requests wait, and in which order they are sent (this project's own rule: 64 may wait; what nodes ask for, Security 0, Transport
+-- Service and Wake Up Command Classes).
+use Rattle.std.specs.Prelude.{ℕ, ◌+◌, ◌-◌, ◌==◌, ◌&&◌, ◌||◌, not, bytes_eq, is_some, nat_le, nat_lt, Bool, true, false, if◌then◌else◌, List, [], ◌∷◌, ◌++◌, length, filter, map, take, drop}
+use Rattle.std.specs.List.{flat_map, list_any}
+use Rattle.zw_words.specs.declared.side.Side.TheVariants.{Host, Chip}
+use Rattle.zw_text.specs.declared.entry.Refusal.TheVariants as refusals
+use Rattle.zw_text.specs.declared.entry.Entry.{Entry}
+use Rattle.zw_text.specs.declared.entry.Entry.TheVariants.{Said, Refused, Begin, Written, QueueFull, Awake, Asleep, Unkept, Time}
+use Rattle.zw_text.specs.Transcript.{shown, joined, line_last, line_of}
+use Rattle.law_transcript.specs.Answers.{before_last}
+use Rattle.law_transcript.specs.Commands.{waiting}
+use Rattle.law_transcript.specs.Nodes.{known_classes}
+use Rattle.law_transcript.specs.Restarts.{begins_refused}
+use Rattle.law_transcript.specs.Units.{Carried, request_in, sending_in}
+use Rattle.law_time.specs.Moments.{Keeps, clock, later_of, now_at}
+use Rattle.law_time.specs.Judged.{is_acknowledgement, is_mark, brought_here}
+use Rattle.law_time.specs.Requests.{Asked, are_none, asked, asked_after, asked_nothing, is_new, starts_anew}
+use Rattle.law_time.specs.Ends.{has_ended, is_abort_frame, owes_abort}
+use Rattle.law_time.specs.Sessions.{runs}
+use Rattle.law_time.specs.Waking.{is_awake_sleeper}
+use Rattle.law_time.specs.Holds.{held_until}
+use Rattle.law_time.specs.Wants.{want_of, no_more, nonce_report, wants_of, wants_brought}
+
+-- what the requests that wait want, in order; the nodes whose No More Information found the queue full since they woke; and those of
+-- which it is to be told that a message was dropped
+pub record Queue : Type 0 where
+  pub wants : List (List ℕ)
+  pub dropped : List ℕ
+  pub owed : List ℕ
+
+abbrev pub no_queue : Queue
+no_queue = record { wants = []; dropped = []; owed = [] }
+
+abbrev pub queue_places : ℕ
+queue_places = 64
+
+abbrev pub is_full : Queue → Bool
+is_full queue = nat_le queue_places (length queue.wants)
+
+-- ---- what is put into it
+
+-- a message that a node asked for, or No More Information, waits; where 64 do it is dropped
+abbrev pub with_asked : ℕ → Queue → List ℕ → Queue
+with_asked node queue want =
+    if is_full queue then record queue { owed = queue.owed ++ node ∷ [] } else record queue { wants = queue.wants ++ want ∷ [] }
+
+abbrev pub with_no_more : Queue → ℕ → Queue
+with_no_more queue node =
+    if is_full queue then record queue { dropped = queue.dropped ++ node ∷ []; owed = queue.owed ++ node ∷ [] }
+    else record queue { wants = queue.wants ++ no_more node ∷ [] }
+
+-- one after another
+abbrev pub each_with : {A : Type 0} → (Queue → A → Queue) → Queue → List A → Queue
+each_with put queue [] = queue
+each_with put queue (item ∷ items) = each_with put (put queue item) items
+
+-- what a node wants by a payload that is judged here
+abbrev pub with_brought : (ℕ → List ℕ) → List Entry → Queue → Carried → Queue
+with_brought listing past queue carried =
+    each_with (with_asked carried.node) queue (wants_brought listing past carried.node carried.payload)
+
+-- a nonce whose record is not kept is not given: the last that was asked for does not wait
+abbrev pub asks_nonce : (ℕ → List ℕ) → List Entry → ℕ → Carried → Bool
+asks_nonce listing past node carried =
+    (carried.node == node) && list_any (bytes_eq (nonce_report node)) (wants_brought listing past node carried.payload)
+
+abbrev pub without_last : Queue → Queue
+without_last queue =
+    if are_none queue.owed then record queue { wants = take (length queue.wants - 1) queue.wants } else record queue { owed = [] }
+
+abbrev pub with_unkept : (ℕ → List ℕ) → List Entry → Queue → ℕ → Queue
+with_unkept listing past queue node = if list_any (asks_nonce listing past node) (brought_here past) then without_last queue else queue
+
+-- ---- No More Information
+
+-- whether it waits for a node, is under way, or was dropped since the node woke
+abbrev pub is_told : Asked → ℕ → Queue → ℕ → Bool
+is_told asked now queue node =
+    list_any (bytes_eq (no_more node)) queue.wants || list_any (λ one. one == node) queue.dropped
+    || (list_any (λ request. bytes_eq (no_more node) (want_of request)) (request_in asked.frame) && not (has_ended asked now))
+
+-- there is nothing for a node: it counts as awake, does not listen, its classes are known, no command waits and no series runs
+abbrev pub has_nothing : (ℕ → List ℕ) → List Entry → ℕ → ℕ → Bool
+has_nothing listing past now node =
+    is_awake_sleeper node past && is_some (known_classes listing past node) && are_none (waiting node past) && not (runs node past now)
+
+-- a node to be told that there is no more for it, and since when: where it was held, since the end of that
+pub record Due : Type 0 where
+  pub node : ℕ
+  pub tick : ℕ
+
+abbrev pub due_of : (ℕ → List ℕ) → List Entry → ℕ → ℕ → List Due
+due_of listing past now node =
+    let tick : ℕ = later_of (clock past) (held_until node past) in
+    if has_nothing listing past now node && nat_le tick now then record { node = node; tick = tick } ∷ [] else []
+
+-- in the order of ticks, and in a tick in that of their numbers
+abbrev pub is_earlier : Due → Due → Bool
+is_earlier first second = nat_lt first.tick second.tick || ((first.tick == second.tick) && nat_lt first.node second.node)
+
+abbrev pub put_in_order : Due → List Due → List Due
+put_in_order due [] = due ∷ []
+put_in_order due (first ∷ rest) = if is_earlier due first then due ∷ first ∷ rest else first ∷ put_in_order due rest
+
+abbrev pub in_order : List Due → List Due
+in_order [] = []
+in_order (due ∷ rest) = put_in_order due (in_order rest)
+
+-- the nodes that have counted as awake
+abbrev pub woke_at : Entry → List ℕ
+woke_at (Awake node) = node ∷ []
+woke_at _ = []
+
+abbrev pub have_woken : List Entry → List ℕ
+have_woken past = if are_none (shown woke_at past) then [] else joined past
+
+-- it is put into the queue for each that is to be told
+abbrev pub with_due : (ℕ → List ℕ) → List Entry → ℕ → Asked → Queue → Queue
+with_due listing past now asked queue =
+    each_with with_no_more queue
+    (map (λ due. due.node) (in_order (filter (λ due. not (is_told asked now queue due.node)) (flat_map (due_of listing past now) (have_woken past)))))
+
+-- whether the host has looked what is next before an entry: it does after each line and tick, and when it has judged what came
+abbrev pub has_looked : Asked → Queue → Entry → Bool
+has_looked asked queue (Said words) = true
+has_looked asked queue (Time tick) = true
+has_looked asked queue (Begin node session command) = true
+has_looked asked queue (Written Chip unit) = true
+has_looked asked queue (Written Host unit) = is_new asked unit
+has_looked asked queue (QueueFull node) = are_none queue.owed
+has_looked asked queue _ = false
+
+-- the queue as it is before an entry
+abbrev pub looked : (ℕ → List ℕ) → List Entry → Asked → Queue → Entry → Queue
+looked listing past asked queue entry = if has_looked asked queue entry then with_due listing past (now_at past entry) asked queue else queue
+
+-- ---- what waits
+
+-- what the nodes want by the frame of the chip that is judged here
+abbrev pub with_all_brought : (ℕ → List ℕ) → List Entry → Queue → Queue
+with_all_brought listing past queue = each_with (with_brought listing past) queue (brought_here past)
+
+-- a frame of the chip is judged, or a request is sent: the one that waited longest, unless it is an abort
+abbrev pub queue_by_unit : (ℕ → List ℕ) → List Entry → Asked → Queue → List ℕ → Queue
+queue_by_unit listing past asked queue unit =
+    if is_acknowledgement unit then with_all_brought listing (past ++ Written Host unit ∷ []) queue
+    else (if is_new asked unit && not (is_abort_frame unit) then record queue { wants = drop 1 queue.wants } else queue)
+
+-- a line that is not refused puts in what it wants, and a restart leaves nothing
+abbrev pub queue_by_line : (ℕ → List ℕ) → List Entry → Queue → Entry → List Entry → Queue
+queue_by_line listing past queue entry rest =
+    if begins_refused rest then queue
+    else (if starts_anew entry rest then no_queue else record queue { wants = queue.wants ++ flat_map (wants_of listing past) (line_of entry) })
+
+-- a node whose No More Information found the queue full may be told again
+abbrev pub not_dropped : ℕ → Queue → Queue
+not_dropped node queue = record queue { dropped = filter (λ one. not (one == node)) queue.dropped }
+
+-- one entry, with those after it
+abbrev pub queue_step : (ℕ → List ℕ) → List Entry → Asked → Queue → Entry → List Entry → Queue
+queue_step listing past asked queue (Said words) rest = queue_by_line listing past queue (Said words) rest
+queue_step listing past asked queue (Written Host unit) rest = queue_by_unit listing past asked queue unit
+queue_step listing past asked queue (QueueFull node) rest = record queue { owed = drop 1 queue.owed }
+queue_step listing past asked queue (Unkept node) rest = with_unkept listing past queue node
+queue_step listing past asked queue (Awake node) rest = not_dropped node queue
+queue_step listing past asked queue (Asleep node) rest = not_dropped node queue
+queue_step listing past asked queue entry rest = queue
+
+-- the last request of the host, and what waits
+pub record Requests : Type 0 where
+  pub last : Asked
+  pub queue : Queue
+
+abbrev pub no_requests : Requests
+no_requests = record { last = asked_nothing; queue = no_queue }
+
+abbrev pub requests_after : (ℕ → List ℕ) → List Entry → Requests → Entry → List Entry → Requests
+requests_after listing past requests entry rest = record {
+  last = asked_after past requests.last entry rest;
+  queue = queue_step listing past requests.last (looked listing past requests.last requests.queue entry) entry rest;
+}
+
+abbrev pub requests_from : (ℕ → List ℕ) → List Entry → Requests → List Entry → Requests
+requests_from listing past requests [] = requests
+requests_from listing past requests (entry ∷ rest) = requests_from listing (past ++ entry ∷ []) (requests_after listing past requests entry rest) rest
+
+abbrev pub requests : (ℕ → List ℕ) → List Entry → Requests
+requests listing past = requests_from listing [] no_requests past
+
+-- what waits before an entry
+abbrev pub waits_before : (ℕ → List ℕ) → List Entry → Requests → Entry → Queue
+waits_before listing past requests entry = looked listing past requests.last requests.queue entry
+
+abbrev pub queue_before : (ℕ → List ℕ) → List Entry → Entry → Queue
+queue_before listing past entry = waits_before listing past (requests listing past) entry
+
+-- ---- the laws
+
+-- how many places the last line asks for
+abbrev pub places : (ℕ → List ℕ) → List Entry → ℕ
+places listing past = length (flat_map (wants_of listing (before_last past)) (line_last past))
+
+abbrev pub waits_before_line : (ℕ → List ℕ) → List Entry → ℕ
+waits_before_line listing past = length (queue_before listing (before_last past) (Said [])).wants
+
+-- the next that is to be told of a dropped message, if any, is of this node
+abbrev pub is_first : ℕ → List ℕ → Bool
+is_first node [] = false
+is_first node (first ∷ rest) = first == node
+
+-- the last line asks for more places than are free
+abbrev pub lacks_places : (ℕ → List ℕ) → List Entry → Bool
+lacks_places listing past =
+    not (places listing past == 0) && nat_lt queue_places (waits_before_line listing past + places listing past)
+
+-- what is to be said is said: that a message was dropped, and that the last line was refused
+abbrev pub owes_no_refusal : (ℕ → List ℕ) → List Entry → Entry → Bool
+owes_no_refusal listing past entry = are_none (queue_before listing past entry).owed && not (lacks_places listing past)
+
+-- a line is refused for the queue exactly where it asks for more places than are free, and a message is dropped exactly where 64 wait
+abbrev pub may_queue : (ℕ → List ℕ) → List Entry → Entry → Bool
+may_queue listing past (Refused (refusals.QueueFull waiting)) = (waiting == queue_places) && lacks_places listing past
+may_queue listing past (Refused refusal) = true
+may_queue listing past (QueueFull node) = is_first node (queue_before listing past (QueueFull node)).owed
+may_queue listing past (Unkept node) = true
+may_queue listing past entry = is_mark entry || owes_no_refusal listing past entry
+
+abbrev pub FitsQueue : (ℕ → List ℕ) → List Entry → Type 0
+FitsQueue listing transcript = Keeps (may_queue listing) transcript
+
+-- a request that is no abort is the one that waited longest; where none waits it is of the session of a node whose series runs
+abbrev pub is_next : List Entry → List ℕ → List (List ℕ) → Bool
+is_next past unit [] = list_any (λ carried. runs carried.node past (clock past)) (sending_in unit)
+is_next past unit (want ∷ wants) = list_any (λ request. bytes_eq want (want_of request)) (request_in unit)
+
+-- an abort goes before all others, where one is owed
+abbrev pub is_in_turn : (ℕ → List ℕ) → List Entry → List ℕ → Bool
+is_in_turn listing past unit =
+    if owes_abort (asked past) (clock past) then is_abort_frame unit
+    else not (is_abort_frame unit) && is_next past unit (queue_before listing past (Written Host unit)).wants
+
+abbrev pub may_send : (ℕ → List ℕ) → List Entry → Entry → Bool
+may_send listing past (Written Host unit) = not (is_new (asked past) unit) || is_in_turn listing past unit
+may_send listing past entry = true
+
+abbrev pub SendsInTurn : (ℕ → List ℕ) → List Entry → Type 0
+SendsInTurn listing transcript = Keeps (may_send listing) transcript

@@ -1,0 +1,129 @@
+-- Rests, and what the host owes at one (this project's own rule): nothing that was asked for is left, no command waits for a node
+-- that is awake, no attempt is overdue, and a node that sleeps is kept awake for a reason alone.
+use Rattle.std.specs.Prelude.{◌≡◌, ℕ, ◌+◌, ◌==◌, ◌&&◌, ◌||◌, not, nat_lt, Bool, true, List, [], ◌∷◌, length}
+use Rattle.std.specs.List.{flat_map, list_any, list_all}
+use Rattle.zw_text.specs.declared.line.Line.{Line}
+use Rattle.zw_text.specs.declared.line.Line.TheVariants as lines
+use Rattle.zw_text.specs.declared.entry.Entry.{Entry}
+use Rattle.zw_text.specs.declared.entry.Entry.TheVariants.{Said, Interviewed, InterviewFailed, Unkept, Time}
+use Rattle.zw_text.specs.Transcript.{sessions, outcome, joined, shown, line_of, lines_run, lines_done, requests_done, where_same}
+use Rattle.law_transcript.specs.Commands.{waiting}
+use Rattle.law_transcript.specs.Lists.{shown_after}
+use Rattle.law_transcript.specs.Restarts.{since_restart, ticks_asked}
+use Rattle.law_time.specs.Moments.{Keeps, clock, now_at}
+use Rattle.law_time.specs.Judged.{acknowledged, frames_come, last_of}
+use Rattle.law_time.specs.Requests.{Asked, asked, are_none}
+use Rattle.law_time.specs.Ends.{has_ended, is_line_free, owes_abort}
+use Rattle.law_time.specs.Sessions.{is_final, last_command, runs}
+use Rattle.law_time.specs.Waking.{is_up}
+use Rattle.law_time.specs.Queue.{queue_before}
+use Rattle.law_time.specs.Unanswered.{attempts_of}
+
+-- ---- when it rests
+
+-- until when a line stalls the serial bytes
+abbrev pub stall_by : ℕ → Line → List ℕ
+stall_by now (lines.Stall count) = (now + count) ∷ []
+stall_by now _ = []
+
+abbrev pub stall_at : List Entry → Entry → List ℕ
+stall_at past entry = flat_map (stall_by (ticks_asked (lines_run past))) (line_of entry)
+
+abbrev pub is_stalled : List Entry → ℕ → Bool
+is_stalled past now = list_any (nat_lt now) (shown_after stall_at [] past)
+
+-- the last request is over: its frame was acknowledged or given up, and it has ended
+abbrev pub is_over : Asked → ℕ → Bool
+is_over last now = are_none last.frame || (is_line_free last now && has_ended last now)
+
+-- the host rests: no stall lasts, every frame of the chip is judged, and no request is under way
+abbrev pub is_rest : List Entry → ℕ → Bool
+is_rest past now = not (is_stalled past now) && (acknowledged past == length (frames_come past)) && is_over (asked past) now
+
+-- ---- what is asked for has come
+
+-- how many lines since the host started ask for a Set or Get of a node, and for its interview
+abbrev pub errand_of : ℕ → Line → List ℕ
+errand_of node (lines.Send to word) = where_same to node to
+errand_of node (lines.Get to end) = where_same to node to
+errand_of node _ = []
+
+abbrev pub interview_of : ℕ → Line → List ℕ
+interview_of node (lines.Interview to) = where_same to node to
+interview_of node _ = []
+
+-- the ends of interviews of a node
+abbrev pub interview_end : ℕ → Entry → List ℕ
+interview_end node (Interviewed of) = where_same of node of
+interview_end node (InterviewFailed of) = where_same of node of
+interview_end node _ = []
+
+-- whether the keeper failed for a node since the host started
+abbrev pub unkept_at : ℕ → Entry → List ℕ
+unkept_at node (Unkept of) = where_same of node of
+unkept_at node _ = []
+
+abbrev pub is_unkept : ℕ → List Entry → Bool
+is_unkept node past = not (are_none (shown (unkept_at node) past))
+
+-- each errand and each interview of a node has ended; an interview that was not kept leaves none
+abbrev pub has_come : ℕ → List Entry → Bool
+has_come node past =
+    (length (flat_map (errand_of node) (lines_done past)) == length (requests_done node past))
+    && ((length (flat_map (interview_of node) (lines_done past)) == length (shown (interview_end node) past)) || is_unkept node past)
+
+-- ---- no command waits for a node that is awake
+
+-- each session of a node has a final outcome
+abbrev pub all_final : ℕ → List Entry → Bool
+all_final node past = list_all (λ number. is_final (outcome number past)) (sessions node past)
+
+-- when the keeper failed for a node
+abbrev pub unkept_when : ℕ → List Entry → Entry → List ℕ
+unkept_when node past (Unkept of) = where_same of node (clock past)
+unkept_when node past _ = []
+
+-- whether it did since the host started, and no tick has passed since the last time
+abbrev pub is_blocked : ℕ → List Entry → ℕ → Bool
+is_blocked node past now =
+    is_unkept node (since_restart past) && list_any (λ tick. tick == now) (last_of (shown_after (unkept_when node) [] past))
+
+-- no command waits for a node that is up and whose sessions have all ended, but where the keeper has just failed
+abbrev pub none_waits : ℕ → List Entry → ℕ → Bool
+none_waits node past now = not (is_up node past) || not (all_final node past) || are_none (waiting node past) || is_blocked node past now
+
+-- ---- no attempt is overdue
+
+-- the attempt of a session whose series runs has begun, and its last sign is less than 100 ticks ago
+abbrev pub is_at_work : (ℕ → List ℕ) → ℕ → List Entry → ℕ → ℕ → Bool
+is_at_work listing node past now command = list_any (λ tick. nat_lt now (tick + 100)) (attempts_of listing node command past).sign
+
+abbrev pub none_overdue : (ℕ → List ℕ) → ℕ → List Entry → ℕ → Bool
+none_overdue listing node past now = not (runs node past now) || list_all (is_at_work listing node past now) (last_command node past)
+
+-- ---- the law
+
+-- nothing is owed to a node
+abbrev pub owes_nothing : (ℕ → List ℕ) → List Entry → ℕ → ℕ → Bool
+owes_nothing listing past now node = has_come node (since_restart past) && none_waits node past now && none_overdue listing node past now
+
+-- no request waits, no abort is owed, and nothing is owed to any node
+abbrev pub owes_none : (ℕ → List ℕ) → List Entry → Entry → Bool
+owes_none listing past entry =
+    are_none (queue_before listing past entry).wants && not (owes_abort (asked past) (now_at past entry))
+    && list_all (owes_nothing listing past (now_at past entry)) (joined past)
+
+-- where the host rests before an entry
+abbrev pub rests_well : (ℕ → List ℕ) → List Entry → Entry → Bool
+rests_well listing past entry = not (is_rest past (now_at past entry)) || owes_none listing past entry
+
+-- which begins a line or a tick
+abbrev pub may_rest : (ℕ → List ℕ) → List Entry → Entry → Bool
+may_rest listing past (Said words) = rests_well listing past (Said words)
+may_rest listing past (Time tick) = rests_well listing past (Time tick)
+may_rest listing past entry = true
+
+-- at each rest nothing is owed
+pub record IsPrompt (whole : Bool) (listing : ℕ → List ℕ) (transcript : List Entry) : Type 0 where
+  pub between : Keeps (may_rest listing) transcript
+  pub in_the_end : whole ≡ true → rests_well listing transcript (Said []) ≡ true

@@ -1,0 +1,29 @@
+//! The laws of the host's waits and of answers in time, as definitions.
+//!
+//! They say how requests end, when nodes count as awake or asleep, when a command is given up, what the host owes when
+//! it rests, and how soon a stretch that begins in a calm moment answers. The crate promises nothing of a program. Each
+//! law reads a transcript by the views of `zw_text` and the words of `law_transcript` and, for calm moments, the
+//! devices as they are then. Worked transcripts, and others with one thing wrong, show what each law means.
+//!
+//! The definitions are in `specs/`, one file a law: `Moments` (the clock, and laws that judge each entry by those
+//! before it), `Judged`, `Requests` and `Ends` (what the host has judged, its last request, and how that ends);
+//! `Errands`, `Questions` and `Interviews` (what is said of ends); `Waking` and `Holds`; `Sessions` (whether attempts
+//! of a session run), `Wants` and `Queue` (which requests wait, and in which order they go); `Unanswered`; `Rests`
+//! (what is owed when the host rests); `Calm` and `Stretches`. `Worked..` and `Wrong..` are the transcripts that the
+//! functions here speak of.
+#![tactic(auto)]
+
+mod calm;
+mod queue;
+mod requests;
+mod waits;
+mod waking;
+
+pub use calm::{rejected_calm, rejected_stretches, stuck_stretches, worked_calm, worked_stretches};
+pub use queue::{rejected_queue, rejected_turns, worked_queue, worked_turns};
+pub use requests::{
+    rejected_errands, rejected_interviews, rejected_questions, worked_errands, worked_interviews,
+    worked_questions,
+};
+pub use waits::{rejected_rests, rejected_waits, worked_attempts, worked_rests};
+pub use waking::{rejected_waking, worked_holds, worked_sleeping, worked_waking};

@@ -1,0 +1,240 @@
+//! What the laws of the queue of requests say of worked transcripts, and of others with one thing wrong.
+
+ghost use Rattle.std.specs.Prelude.{[], ◌∷◌};
+ghost use Rattle.law_time.specs.Queue.{FitsQueue, SendsInTurn};
+ghost use Rattle.law_time.specs.WorkedQueue.{dropped_no_more, dropped_nonce, resent_segments, silent_attempt};
+ghost use Rattle.law_time.specs.WorkedWaits.{answered_errands, full_queue, held_node, the_keeper, the_other_switch, woken_before_restart};
+ghost use Rattle.law_time.specs.WrongEntries.{dropped_of_another, refused_for_fewer, sent_after_end};
+ghost use Rattle.law_time.specs.WrongQueue.{
+  aborted_unasked,
+  dropped_with_room,
+  let_in_though_full,
+  refused_with_room,
+  reported_though_full,
+  sent_before_abort,
+  sent_before_report,
+  waits_though_full,
+};
+ghost use Rattle.law_time.specs.WrongRequests.{sent_out_of_turn, sent_unasked};
+ghost use Rattle.law_time.specs.WrongWaits.{told_while_waiting};
+ghost use Rattle.zw_text.specs.declared.entry.Ended.TheVariants as endings;
+ghost use Rattle.law_transcript.specs.Nodes.{listing_of};
+ghost use Rattle.law_transcript.specs.Worked.{
+  cancelled_order,
+  long_message,
+  lossy_exchange,
+  plain_exchange,
+  repeated_exchange,
+  restarted_host,
+  sealed_exchange,
+  sleeping_node,
+  the_lock,
+  the_plug,
+  the_sensor,
+  the_switch,
+};
+ghost use Rattle.law_time.specs.WorkedEnds.{aborted_at_fourth};
+ghost use Rattle.law_time.specs.WorkedTurns.{
+  again_after_cancelled,
+  again_by_command,
+  again_by_restart,
+  again_by_waking,
+  again_in_time,
+  asked_after_abort,
+  asked_after_unkept,
+  asked_over_refused,
+  asked_without_abort,
+  discovered,
+  first_resent,
+  nonce_reported,
+  probed,
+  reported_beside_unkept,
+  second_resent,
+  told_again,
+  told_awake,
+  told_by_number,
+  told_by_time,
+  told_held,
+  dropped_at_once,
+  dropped_after_lost,
+  refused_otherwise,
+  unkept_though_full,
+  told_once,
+  told_twice,
+  told_as_numbered,
+  told_by_time_as_numbered,
+  dropped_again,
+  dropped_once,
+  dropped_woken,
+  copied_after_overrun,
+  asked_after_interview,
+};
+ghost use Rattle.law_time.specs.WrongTurns.{
+  dropped_twice,
+  asked_over_restart,
+  probed_out_of_turn,
+  reported_unkept,
+  resent_beyond,
+  resent_inside,
+  resent_of_other,
+  resent_of_plain,
+  resent_when_ended,
+  sent_again,
+  sent_asleep,
+  sent_by_other_command,
+  sent_by_other_waking,
+  sent_by_refused_restart,
+  sent_fifth,
+  sent_for_nothing,
+  sent_in_time,
+  sent_over_restart,
+  sent_refused,
+  sent_to_other,
+  sent_too_soon,
+  sent_when_ended,
+  told_asleep,
+  told_listening,
+  told_out_of_turn,
+  told_unjoined,
+  told_unknown,
+  told_while_held,
+  undropped_before_session,
+  undropped_before_unit,
+  undropped_in_tick,
+  aborted_early,
+};
+ghost use Rattle.zw_text.specs.Transcript.{endings};
+
+/// In worked transcripts lines are refused, and messages dropped, where 64 requests wait: a line that asks for a place too many, No More
+/// Information to a node that wakes, and a Nonce Report, after a lost acknowledgement too. It is not dropped where the keeper fails, and a
+/// line may be refused for something else.
+pub fn worked_queue()
+    ensures full { FitsQueue (listing_of (the_switch ∷ [])) full_queue }
+    ensures answered { FitsQueue (listing_of (the_switch ∷ [])) answered_errands }
+    ensures no_more { FitsQueue (listing_of (the_switch ∷ the_sensor ∷ [])) dropped_no_more }
+    ensures nonce { FitsQueue (listing_of (the_switch ∷ the_lock ∷ [])) dropped_nonce }
+    ensures plain { FitsQueue (listing_of (the_switch ∷ [])) plain_exchange }
+    ensures repeated { FitsQueue (listing_of (the_switch ∷ [])) repeated_exchange }
+    ensures lossy { FitsQueue (listing_of (the_switch ∷ [])) lossy_exchange }
+    ensures cancelled { FitsQueue (listing_of (the_switch ∷ [])) cancelled_order }
+    ensures restarted { FitsQueue (listing_of (the_switch ∷ [])) restarted_host }
+    ensures sleeping { FitsQueue (listing_of (the_sensor ∷ [])) sleeping_node }
+    ensures sealed { FitsQueue (listing_of (the_lock ∷ [])) sealed_exchange }
+    ensures cut { FitsQueue (listing_of (the_plug ∷ [])) long_message }
+    ensures at_once { FitsQueue (listing_of (the_switch ∷ [])) dropped_at_once }
+    ensures after_lost { FitsQueue (listing_of (the_switch ∷ [])) dropped_after_lost }
+    ensures unkept { FitsQueue (listing_of (the_switch ∷ [])) unkept_though_full }
+    ensures otherwise { FitsQueue (listing_of (the_switch ∷ [])) refused_otherwise }
+    ensures dropped_once { FitsQueue (listing_of (the_switch ∷ [])) dropped_once }
+    ensures dropped_again { FitsQueue (listing_of (the_switch ∷ [])) dropped_again }
+    ensures dropped_woken { FitsQueue (listing_of (the_switch ∷ [])) dropped_woken }
+{}
+
+/// In worked transcripts the request that has waited longest is sent next: those of each kind of line, over a restart that is refused;
+/// Nonce Reports, and segments that were asked for; and No More Information, to a node that is not held any more, in the order of time and
+/// of nodes. An abort goes before them, where the chip took what ended in silence, and what is of a session goes where none waits: again
+/// after another command, a waking, a restart, 100 ticks, and the end of another command.
+pub fn worked_turns()
+    ensures lines { SendsInTurn (listing_of (the_switch ∷ [])) answered_errands }
+    ensures interviews { SendsInTurn (listing_of (the_sensor ∷ the_other_switch ∷ [])) woken_before_restart }
+    ensures nonces { SendsInTurn (listing_of (the_lock ∷ [])) sealed_exchange }
+    ensures segments { SendsInTurn (listing_of (the_plug ∷ [])) resent_segments }
+    ensures no_more { SendsInTurn (listing_of (the_sensor ∷ [])) sleeping_node }
+    ensures held { SendsInTurn (listing_of (the_keeper ∷ [])) held_node }
+    ensures abort { SendsInTurn (listing_of (the_switch ∷ [])) silent_attempt }
+    ensures plain { SendsInTurn (listing_of (the_switch ∷ [])) plain_exchange }
+    ensures repeated { SendsInTurn (listing_of (the_switch ∷ [])) repeated_exchange }
+    ensures lossy { SendsInTurn (listing_of (the_switch ∷ [])) lossy_exchange }
+    ensures cancelled { SendsInTurn (listing_of (the_switch ∷ [])) cancelled_order }
+    ensures restarted { SendsInTurn (listing_of (the_switch ∷ [])) restarted_host }
+    ensures cut { SendsInTurn (listing_of (the_plug ∷ [])) long_message }
+    ensures aborted { SendsInTurn (listing_of (the_switch ∷ [])) aborted_at_fourth }
+    ensures by_command { SendsInTurn (listing_of (the_switch ∷ [])) again_by_command }
+    ensures by_waking { SendsInTurn (listing_of (the_switch ∷ [])) again_by_waking }
+    ensures by_restart { SendsInTurn (listing_of (the_switch ∷ [])) again_by_restart }
+    ensures in_time { SendsInTurn (listing_of (the_switch ∷ [])) again_in_time }
+    ensures cancelled_other { SendsInTurn (listing_of (the_switch ∷ [])) again_after_cancelled }
+    ensures discovered { SendsInTurn (listing_of (the_switch ∷ [])) discovered }
+    ensures probed { SendsInTurn (listing_of (the_switch ∷ [])) probed }
+    ensures over_refused { SendsInTurn (listing_of (the_switch ∷ [])) asked_over_refused }
+    ensures after_abort { SendsInTurn (listing_of (the_switch ∷ [])) asked_after_abort }
+    ensures without_abort { SendsInTurn (listing_of (the_switch ∷ [])) asked_without_abort }
+    ensures reported { SendsInTurn (listing_of (the_switch ∷ [])) nonce_reported }
+    ensures beside_unkept { SendsInTurn (listing_of (the_switch ∷ [])) reported_beside_unkept }
+    ensures after_unkept { SendsInTurn (listing_of (the_switch ∷ [])) asked_after_unkept }
+    ensures told_awake { SendsInTurn (listing_of (the_switch ∷ [])) told_awake }
+    ensures told_held { SendsInTurn (listing_of (the_switch ∷ [])) told_held }
+    ensures told_again { SendsInTurn (listing_of (the_switch ∷ [])) told_again }
+    ensures told_by_number { SendsInTurn (listing_of (the_switch ∷ [])) told_by_number }
+    ensures told_by_time { SendsInTurn (listing_of (the_switch ∷ [])) told_by_time }
+    ensures first_resent { SendsInTurn (listing_of (the_plug ∷ [])) first_resent }
+    ensures second_resent { SendsInTurn (listing_of (the_plug ∷ [])) second_resent }
+    ensures told_once { SendsInTurn (listing_of (the_switch ∷ [])) told_once }
+    ensures told_twice { SendsInTurn (listing_of (the_switch ∷ [])) told_twice }
+    ensures told_as_numbered { SendsInTurn (listing_of (the_switch ∷ [])) told_as_numbered }
+    ensures told_by_time_as_numbered { SendsInTurn (listing_of (the_switch ∷ [])) told_by_time_as_numbered }
+    ensures overrun { SendsInTurn (listing_of (the_switch ∷ [])) copied_after_overrun }
+    ensures following_interview { SendsInTurn (listing_of (the_switch ∷ [])) asked_after_interview }
+{}
+
+/// Each of these breaks one part of the law: a line refused that has just room, or for fewer than 64 that wait, or let in that has none; a
+/// message dropped though 63 wait, of another node, twice, or not though 64 do.
+pub fn rejected_queue()
+    ensures room { FitsQueue (listing_of (the_switch ∷ [])) refused_with_room → ⊥ }
+    ensures full { FitsQueue (listing_of (the_switch ∷ [])) let_in_though_full → ⊥ }
+    ensures dropped { FitsQueue (listing_of (the_switch ∷ the_sensor ∷ [])) dropped_with_room → ⊥ }
+    ensures waits { FitsQueue (listing_of (the_switch ∷ the_sensor ∷ [])) waits_though_full → ⊥ }
+    ensures reported { FitsQueue (listing_of (the_switch ∷ the_lock ∷ [])) reported_though_full → ⊥ }
+    ensures fewer { FitsQueue (listing_of (the_switch ∷ [])) refused_for_fewer → ⊥ }
+    ensures dropped_of_another { FitsQueue (listing_of (the_switch ∷ the_sensor ∷ [])) dropped_of_another → ⊥ }
+    ensures twice { FitsQueue (listing_of (the_switch ∷ [])) dropped_twice → ⊥ }
+    ensures in_tick { FitsQueue (listing_of (the_switch ∷ [])) undropped_in_tick → ⊥ }
+    ensures before_session { FitsQueue (listing_of (the_switch ∷ [])) undropped_before_session → ⊥ }
+    ensures before_unit { FitsQueue (listing_of (the_switch ∷ [])) undropped_before_unit → ⊥ }
+{}
+
+/// Each of these breaks one part of the law: a fifth copy, and one of what was acknowledged; a question sent before an earlier one, that no
+/// line asks for, of a line that is refused, or from before a restart; a Nonce Get sent before a Nonce Report, and a report that was not
+/// kept; a segment with another id, inside another one, beyond the last, of a session that has ended, or of a message that has none; No
+/// More Information sent while a command waits, to a node that has not joined, is not known, is asleep, listens or is held, or out of turn;
+/// the message of a session sent after its end, or after three attempts for no such reason as above; and a Get sent before an abort that is
+/// owed, or an abort that is not.
+pub fn rejected_turns()
+    ensures out_of_turn { SendsInTurn (listing_of (the_switch ∷ [])) sent_out_of_turn → ⊥ }
+    ensures unasked { SendsInTurn (listing_of (the_switch ∷ [])) sent_unasked → ⊥ }
+    ensures before_report { SendsInTurn (listing_of (the_lock ∷ [])) sent_before_report → ⊥ }
+    ensures waiting { SendsInTurn (listing_of (the_sensor ∷ [])) told_while_waiting → ⊥ }
+    ensures before_abort { SendsInTurn (listing_of (the_switch ∷ [])) sent_before_abort → ⊥ }
+    ensures aborted { SendsInTurn (listing_of (the_switch ∷ [])) aborted_unasked → ⊥ }
+    ensures following_end { SendsInTurn (listing_of (the_switch ∷ [])) sent_after_end → ⊥ }
+    ensures fifth { SendsInTurn (listing_of (the_switch ∷ [])) sent_fifth → ⊥ }
+    ensures again { SendsInTurn (listing_of (the_switch ∷ [])) sent_again → ⊥ }
+    ensures for_nothing { SendsInTurn (listing_of (the_switch ∷ [])) sent_for_nothing → ⊥ }
+    ensures other_command { SendsInTurn (listing_of (the_switch ∷ [])) sent_by_other_command → ⊥ }
+    ensures in_time { SendsInTurn (listing_of (the_switch ∷ [])) sent_in_time → ⊥ }
+    ensures too_soon { SendsInTurn (listing_of (the_switch ∷ [])) sent_too_soon → ⊥ }
+    ensures ended { SendsInTurn (listing_of (the_switch ∷ [])) (sent_when_ended endings.Success) → ⊥ }
+    ensures asleep { SendsInTurn (listing_of (the_switch ∷ [])) sent_asleep → ⊥ }
+    ensures other_waking { SendsInTurn (listing_of (the_switch ∷ [])) sent_by_other_waking → ⊥ }
+    ensures refused_restart { SendsInTurn (listing_of (the_switch ∷ [])) sent_by_refused_restart → ⊥ }
+    ensures over_restart { SendsInTurn (listing_of (the_switch ∷ [])) sent_over_restart → ⊥ }
+    ensures to_other { SendsInTurn (listing_of (the_switch ∷ [])) sent_to_other → ⊥ }
+    ensures probed { SendsInTurn (listing_of (the_switch ∷ [])) probed_out_of_turn → ⊥ }
+    ensures refused { SendsInTurn (listing_of (the_switch ∷ [])) sent_refused → ⊥ }
+    ensures asked_over_restart { SendsInTurn (listing_of (the_switch ∷ [])) asked_over_restart → ⊥ }
+    ensures unkept { SendsInTurn (listing_of (the_switch ∷ [])) reported_unkept → ⊥ }
+    ensures unjoined { SendsInTurn (listing_of (the_switch ∷ [])) told_unjoined → ⊥ }
+    ensures unknown { SendsInTurn (listing_of (the_switch ∷ [])) told_unknown → ⊥ }
+    ensures told_asleep { SendsInTurn (listing_of (the_switch ∷ [])) told_asleep → ⊥ }
+    ensures listening { SendsInTurn (listing_of (the_switch ∷ [])) told_listening → ⊥ }
+    ensures held { SendsInTurn (listing_of (the_switch ∷ [])) told_while_held → ⊥ }
+    ensures told_out_of_turn { SendsInTurn (listing_of (the_switch ∷ [])) told_out_of_turn → ⊥ }
+    ensures other_segment { SendsInTurn (listing_of (the_plug ∷ [])) resent_of_other → ⊥ }
+    ensures inside_segment { SendsInTurn (listing_of (the_plug ∷ [])) resent_inside → ⊥ }
+    ensures beyond_segment { SendsInTurn (listing_of (the_plug ∷ [])) resent_beyond → ⊥ }
+    ensures ended_segment { SendsInTurn (listing_of (the_plug ∷ [])) resent_when_ended → ⊥ }
+    ensures plain_segment { SendsInTurn (listing_of (the_switch ∷ [])) resent_of_plain → ⊥ }
+    ensures failed_session { SendsInTurn (listing_of (the_switch ∷ [])) (sent_when_ended endings.Fail) → ⊥ }
+    ensures unsupported_session { SendsInTurn (listing_of (the_switch ∷ [])) (sent_when_ended endings.NoSupport) → ⊥ }
+    ensures aborted_early { SendsInTurn (listing_of (the_switch ∷ [])) aborted_early → ⊥ }
+{}

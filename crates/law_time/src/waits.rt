@@ -1,0 +1,221 @@
+//! What the laws of attempts and of rests say of worked transcripts, and of others with one thing wrong.
+
+ghost use Rattle.std.specs.Prelude.{◌≡◌, true, false, [], ◌∷◌};
+ghost use Rattle.law_time.specs.Rests.{IsPrompt};
+ghost use Rattle.law_time.specs.Unanswered.{GivesUpAfterThree};
+ghost use Rattle.law_time.specs.Waking.{is_up};
+ghost use Rattle.law_time.specs.WorkedWaits.{
+  answered_errands,
+  given_up_asleep,
+  given_up_lock,
+  given_up_segments,
+  the_other_switch,
+  waited_attempts,
+  woken_before_restart,
+};
+ghost use Rattle.law_time.specs.WorkedQueue.{failed_attempts, resent_segments, silent_attempt};
+ghost use Rattle.law_time.specs.WrongEntries.{given_up_unbegun, left_unended_in_silence, left_unsaid_in_silence};
+ghost use Rattle.law_time.specs.WrongQueue.{
+  given_up_before_failing,
+  given_up_before_silence,
+  given_up_by_resend,
+  gone_on_after_failing,
+  gone_on_after_silence,
+  gone_on_after_waiting,
+  gone_on_after_segments,
+  left_unaborted,
+  left_unreported,
+  left_unresent,
+};
+ghost use Rattle.law_time.specs.WrongWaits.{
+  given_up_after_two,
+  given_up_before_time,
+  given_up_inside,
+  given_up_under_way,
+  gone_on_after_three,
+  left_awake,
+  left_overdue,
+  left_unbegun,
+  left_unsent,
+  left_waiting,
+};
+ghost use Rattle.law_transcript.specs.Commands.{waiting};
+ghost use Rattle.law_transcript.specs.Lists.{last_or};
+ghost use Rattle.law_transcript.specs.Nodes.{listing_of};
+ghost use Rattle.law_transcript.specs.Worked.{
+  cancelled_order,
+  long_message,
+  lossy_exchange,
+  plain_exchange,
+  repeated_exchange,
+  restarted_host,
+  sealed_exchange,
+  sleeping_node,
+  the_lock,
+  the_plug,
+  the_sensor,
+  the_switch,
+};
+ghost use Rattle.zw_text.specs.Transcript.{wakings};
+ghost use Rattle.law_time.specs.WorkedAttempts.{
+  given_up_at_segment,
+  given_up_after_lost,
+  given_up_beside_get,
+  given_up_beside_other,
+  given_up_beside_working,
+  given_up_over_refused,
+  given_up_refused,
+  given_up_working,
+  halted_waiting,
+  asked_before_restart,
+  begun_kept,
+  waits_asleep,
+  given_up_after_unit,
+  given_up_unkept,
+};
+ghost use Rattle.law_time.specs.WrongAttempts.{
+  given_up_at_work,
+  given_up_by_get,
+  given_up_counting_earlier,
+  given_up_counting_get,
+  given_up_counting_other,
+  given_up_counting_sealed,
+  given_up_delivered,
+  given_up_early,
+  given_up_over_restart,
+  given_up_succeeded,
+  given_up_twice,
+  given_up_late,
+  left_beside_unkept,
+  left_over_restart,
+  left_uninterviewed,
+  left_unkept,
+  left_a_tick,
+  left_after_abort,
+  left_after_line,
+  given_up_after_line,
+  left_given_up,
+};
+ghost use Rattle.law_time.specs.WorkedEnds.{informed, informed_unkept, interview_uninformed, waits_for_judging, waits_for_line};
+
+/// In worked transcripts a command is given up when its third attempt has ended: by callbacks, a refusal, or 100 ticks after the last
+/// callback or report of work; also that of a node that sleeps, of a lock, and of a message in segments, where the first one that is lost
+/// ends nothing, but one that fails does, and one that is asked for again is no attempt; and when no copy of the third attempt arrives, or
+/// its callback does not come. Requests and sessions of others change nothing, nor does a restart that is refused. A run that ends in the
+/// tick in which it is owed need not show it.
+pub fn worked_attempts()
+    ensures lossy { GivesUpAfterThree true (listing_of (the_switch ∷ [])) lossy_exchange }
+    ensures waited { GivesUpAfterThree true (listing_of (the_switch ∷ [])) waited_attempts }
+    ensures sleeping { GivesUpAfterThree true (listing_of (the_sensor ∷ [])) given_up_asleep }
+    ensures lock { GivesUpAfterThree true (listing_of (the_lock ∷ [])) given_up_lock }
+    ensures segments { GivesUpAfterThree true (listing_of (the_plug ∷ [])) given_up_segments }
+    ensures resent { GivesUpAfterThree true (listing_of (the_plug ∷ [])) resent_segments }
+    ensures failed { GivesUpAfterThree true (listing_of (the_switch ∷ [])) failed_attempts }
+    ensures silent { GivesUpAfterThree true (listing_of (the_switch ∷ [])) silent_attempt }
+    ensures plain { GivesUpAfterThree true (listing_of (the_switch ∷ [])) plain_exchange }
+    ensures repeated { GivesUpAfterThree true (listing_of (the_switch ∷ [])) repeated_exchange }
+    ensures cancelled { GivesUpAfterThree true (listing_of (the_switch ∷ [])) cancelled_order }
+    ensures restarted { GivesUpAfterThree true (listing_of (the_switch ∷ [])) restarted_host }
+    ensures sleeps { GivesUpAfterThree true (listing_of (the_sensor ∷ [])) sleeping_node }
+    ensures sealed { GivesUpAfterThree true (listing_of (the_lock ∷ [])) sealed_exchange }
+    ensures cut { GivesUpAfterThree true (listing_of (the_plug ∷ [])) long_message }
+    ensures after_lost { GivesUpAfterThree true (listing_of (the_switch ∷ [])) given_up_after_lost }
+    ensures refused { GivesUpAfterThree true (listing_of (the_switch ∷ [])) given_up_refused }
+    ensures working { GivesUpAfterThree true (listing_of (the_switch ∷ [])) given_up_working }
+    ensures beside_working { GivesUpAfterThree true (listing_of (the_switch ∷ [])) given_up_beside_working }
+    ensures beside_get { GivesUpAfterThree true (listing_of (the_switch ∷ [])) given_up_beside_get }
+    ensures beside_other { GivesUpAfterThree true (listing_of (the_switch ∷ [])) given_up_beside_other }
+    ensures over_refused { GivesUpAfterThree true (listing_of (the_switch ∷ [])) given_up_over_refused }
+    ensures at_segment { GivesUpAfterThree true (listing_of (the_plug ∷ [])) given_up_at_segment }
+    ensures halted { GivesUpAfterThree false (listing_of (the_switch ∷ [])) halted_waiting }
+    ensures unkept { GivesUpAfterThree true (listing_of (the_switch ∷ [])) given_up_unkept }
+    ensures after_unit { GivesUpAfterThree true (listing_of (the_switch ∷ [])) given_up_after_unit }
+{}
+
+/// In worked transcripts nothing is owed at a rest: a command may wait for a node that sleeps, or in the tick in which the keeper has
+/// failed, and an interview may have ended in each way. In one a restart leaves a node as asleep though it was last said to be awake and
+/// was taken to listen: were it still taken to be awake, its command would wait for nothing.
+pub fn worked_rests()
+    ensures plain { IsPrompt true (listing_of (the_switch ∷ [])) plain_exchange }
+    ensures errands { IsPrompt true (listing_of (the_switch ∷ [])) answered_errands }
+    ensures waited { IsPrompt true (listing_of (the_switch ∷ [])) waited_attempts }
+    ensures sleeping { IsPrompt true (listing_of (the_sensor ∷ [])) sleeping_node }
+    ensures sealed { IsPrompt true (listing_of (the_lock ∷ [])) sealed_exchange }
+    ensures resent { IsPrompt true (listing_of (the_plug ∷ [])) resent_segments }
+    ensures restarted { IsPrompt true (listing_of (the_sensor ∷ the_other_switch ∷ [])) woken_before_restart }
+    ensures said_awake { last_or false (wakings 5 woken_before_restart) ≡ true }
+    ensures not_up { is_up 5 woken_before_restart ≡ false }
+    ensures waits { waiting 5 woken_before_restart ≡ 1 ∷ [] }
+    ensures repeated { IsPrompt true (listing_of (the_switch ∷ [])) repeated_exchange }
+    ensures lossy { IsPrompt true (listing_of (the_switch ∷ [])) lossy_exchange }
+    ensures cancelled { IsPrompt true (listing_of (the_switch ∷ [])) cancelled_order }
+    ensures host_restarted { IsPrompt true (listing_of (the_switch ∷ [])) restarted_host }
+    ensures cut { IsPrompt true (listing_of (the_plug ∷ [])) long_message }
+    ensures kept { IsPrompt true (listing_of (the_switch ∷ [])) begun_kept }
+    ensures asleep { IsPrompt true (listing_of (the_switch ∷ [])) waits_asleep }
+    ensures before_restart { IsPrompt true (listing_of (the_switch ∷ [])) asked_before_restart }
+    ensures informed { IsPrompt true (listing_of (the_switch ∷ [])) informed }
+    ensures uninformed { IsPrompt true (listing_of (the_switch ∷ [])) interview_uninformed }
+    ensures unkept { IsPrompt true (listing_of (the_switch ∷ [])) informed_unkept }
+    ensures for_line { IsPrompt true (listing_of (the_switch ∷ [])) waits_for_line }
+    ensures for_judging { IsPrompt true (listing_of (the_switch ∷ [])) waits_for_judging }
+{}
+
+/// Each of these breaks one part of the law: a command given up without a session, after two attempts, or while the third is under way, or
+/// delivered, or at work, or too early, or after a segment that others follow; by a Get, or counting one, a message to another node, one
+/// that is sealed, or attempts from before the session or a restart; given up though it succeeded, or twice; and one that is not given up
+/// when the third has ended, in either way, also at the end of a run.
+pub fn rejected_waits()
+    ensures two { GivesUpAfterThree true (listing_of (the_switch ∷ [])) given_up_after_two → ⊥ }
+    ensures under_way { GivesUpAfterThree true (listing_of (the_switch ∷ [])) given_up_under_way → ⊥ }
+    ensures before { GivesUpAfterThree true (listing_of (the_switch ∷ [])) given_up_before_time → ⊥ }
+    ensures gone_on { GivesUpAfterThree true (listing_of (the_switch ∷ [])) gone_on_after_three → ⊥ }
+    ensures inside { GivesUpAfterThree true (listing_of (the_plug ∷ [])) given_up_inside → ⊥ }
+    ensures resent { GivesUpAfterThree true (listing_of (the_plug ∷ [])) given_up_by_resend → ⊥ }
+    ensures segments { GivesUpAfterThree true (listing_of (the_plug ∷ [])) gone_on_after_segments → ⊥ }
+    ensures failed { GivesUpAfterThree true (listing_of (the_switch ∷ [])) gone_on_after_failing → ⊥ }
+    ensures waited { GivesUpAfterThree true (listing_of (the_switch ∷ [])) gone_on_after_waiting → ⊥ }
+    ensures silent { GivesUpAfterThree true (listing_of (the_switch ∷ [])) gone_on_after_silence → ⊥ }
+    ensures before_failing { GivesUpAfterThree true (listing_of (the_switch ∷ [])) given_up_before_failing → ⊥ }
+    ensures before_silence { GivesUpAfterThree true (listing_of (the_switch ∷ [])) given_up_before_silence → ⊥ }
+    ensures unbegun { GivesUpAfterThree true (listing_of (the_switch ∷ [])) given_up_unbegun → ⊥ }
+    ensures delivered { GivesUpAfterThree true (listing_of (the_switch ∷ [])) given_up_delivered → ⊥ }
+    ensures early { GivesUpAfterThree true (listing_of (the_switch ∷ [])) given_up_early → ⊥ }
+    ensures at_work { GivesUpAfterThree true (listing_of (the_switch ∷ [])) given_up_at_work → ⊥ }
+    ensures in_time { GivesUpAfterThree true (listing_of (the_switch ∷ [])) given_up_late → ⊥ }
+    ensures by_get { GivesUpAfterThree true (listing_of (the_switch ∷ [])) given_up_by_get → ⊥ }
+    ensures counting_get { GivesUpAfterThree true (listing_of (the_switch ∷ [])) given_up_counting_get → ⊥ }
+    ensures counting_other { GivesUpAfterThree true (listing_of (the_switch ∷ [])) given_up_counting_other → ⊥ }
+    ensures counting_sealed { GivesUpAfterThree true (listing_of (the_lock ∷ [])) given_up_counting_sealed → ⊥ }
+    ensures counting_earlier { GivesUpAfterThree true (listing_of (the_switch ∷ [])) given_up_counting_earlier → ⊥ }
+    ensures over_restart { GivesUpAfterThree true (listing_of (the_switch ∷ [])) given_up_over_restart → ⊥ }
+    ensures succeeded { GivesUpAfterThree true (listing_of (the_switch ∷ [])) given_up_succeeded → ⊥ }
+    ensures twice { GivesUpAfterThree true (listing_of (the_switch ∷ [])) given_up_twice → ⊥ }
+    ensures in_the_end { GivesUpAfterThree true (listing_of (the_switch ∷ [])) halted_waiting → ⊥ }
+    ensures following_line { GivesUpAfterThree true (listing_of (the_switch ∷ [])) given_up_after_line → ⊥ }
+{}
+
+/// Each of these breaks one part of the law of rests: a rest at which a command waits for a node that is awake, also a tick after the
+/// keeper has failed, as it has for another node, or before a restart; a Set or an interview has not begun, the end of a Get or of an
+/// interview is not said, or is left out as the keeper fails for another node; an attempt is overdue, a node is kept awake for nothing, or
+/// a Nonce Report, a segment that was asked for or an abort is not sent.
+pub fn rejected_rests()
+    ensures waiting { IsPrompt true (listing_of (the_switch ∷ [])) left_waiting → ⊥ }
+    ensures unsent { IsPrompt true (listing_of (the_switch ∷ [])) left_unsent → ⊥ }
+    ensures unbegun { IsPrompt true (listing_of (the_sensor ∷ [])) left_unbegun → ⊥ }
+    ensures overdue { IsPrompt true (listing_of (the_switch ∷ [])) left_overdue → ⊥ }
+    ensures awake { IsPrompt true (listing_of (the_sensor ∷ [])) left_awake → ⊥ }
+    ensures unreported { IsPrompt true (listing_of (the_lock ∷ [])) left_unreported → ⊥ }
+    ensures unresent { IsPrompt true (listing_of (the_plug ∷ [])) left_unresent → ⊥ }
+    ensures unaborted { IsPrompt true (listing_of (the_switch ∷ [])) left_unaborted → ⊥ }
+    ensures unended { IsPrompt true (listing_of (the_switch ∷ [])) left_unended_in_silence → ⊥ }
+    ensures unsaid { IsPrompt true (listing_of (the_switch ∷ [])) left_unsaid_in_silence → ⊥ }
+    ensures unkept { IsPrompt true (listing_of (the_switch ∷ [])) left_unkept → ⊥ }
+    ensures beside_unkept { IsPrompt true (listing_of (the_switch ∷ [])) left_beside_unkept → ⊥ }
+    ensures over_restart { IsPrompt true (listing_of (the_switch ∷ [])) left_over_restart → ⊥ }
+    ensures uninterviewed { IsPrompt true (listing_of (the_switch ∷ [])) left_uninterviewed → ⊥ }
+    ensures after_abort { IsPrompt true (listing_of (the_switch ∷ [])) left_after_abort → ⊥ }
+    ensures following_line { IsPrompt true (listing_of (the_switch ∷ [])) left_after_line → ⊥ }
+    ensures a_tick { IsPrompt true (listing_of (the_switch ∷ [])) left_a_tick → ⊥ }
+    ensures given_up { IsPrompt true (listing_of (the_switch ∷ [])) left_given_up → ⊥ }
+{}

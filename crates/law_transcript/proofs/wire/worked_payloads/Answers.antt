@@ -1,0 +1,95 @@
+use Rattle.std.proofs.Common.{[], ◌∷◌, refl, inl, inr, sym, arith}
+use Rattle.law_transcript.specs.Nodes.{listing_of}
+use Rattle.law_transcript.specs.Worked.{plain_exchange, repeated_exchange, lossy_exchange, cancelled_order, restarted_host, sleeping_node, sealed_exchange, long_message, the_switch, the_sensor, the_lock, the_plug, network_key}
+use Rattle.law_transcript.specs.WorkedCases.{set_asked, get_asked, sent_by_old_list, the_dimmer}
+use Rattle.law_transcript.proofs.Entries.{sends_what_is_due}
+use Rattle.law_transcript.proofs.Sealing.{set_own, set_nonce, report_nonce, sealed_set}
+use Rattle.law_transcript.proofs.Computing.{computing}
+use Rattle.law_transcript.proofs.wire.worked_payloads.Goals as goal
+
+pub returns-clause-plain : goal.returns-clause-plain
+unfolding computing
+returns-clause-plain c = sends_what_is_due (listing_of (the_switch ∷ [])) [] plain_exchange ((inl refl, tt), tt)
+
+pub returns-clause-repeated : goal.returns-clause-repeated
+unfolding computing
+returns-clause-repeated c = sends_what_is_due (listing_of (the_switch ∷ [])) [] repeated_exchange ((inl refl, tt), ((inl refl, tt), tt))
+
+pub returns-clause-lossy : goal.returns-clause-lossy
+unfolding computing
+returns-clause-lossy c = sends_what_is_due (listing_of (the_switch ∷ [])) [] lossy_exchange ((inl refl, tt), ((inl refl, tt), ((inl refl, tt), ((inl refl, tt), ((inl refl, tt), tt)))))
+
+pub returns-clause-cancelled : goal.returns-clause-cancelled
+unfolding computing
+returns-clause-cancelled c = sends_what_is_due (listing_of (the_switch ∷ [])) [] cancelled_order ((inl refl, tt), tt)
+
+pub returns-clause-restarted : goal.returns-clause-restarted
+unfolding computing
+returns-clause-restarted c = sends_what_is_due (listing_of (the_switch ∷ [])) [] restarted_host ((inl refl, tt), ((inl refl, tt), ((inl refl, tt), ((inl refl, tt), tt))))
+
+pub returns-clause-sleeping : goal.returns-clause-sleeping
+unfolding computing
+returns-clause-sleeping c = sends_what_is_due (listing_of (the_sensor ∷ [])) [] sleeping_node ((inr (inr (inr (inl refl))), tt), ((inl refl, tt), ((inr (inr (inr (inl refl))), tt), tt)))
+
+pub returns-clause-sealed : goal.returns-clause-sealed
+unfolding computing
+returns-clause-sealed c = sends_what_is_due (listing_of (the_lock ∷ [])) network_key sealed_exchange (
+  (inr (inl refl), tt),
+  (
+    (inr (inl refl), tt),
+    (
+      (
+        inl (record {
+          own = set_own;
+          nonce = set_nonce;
+          given = inl refl;
+          own_eight = refl;
+          eight = refl;
+          text = sym sealed_set;
+        }),
+        tt,
+      ),
+      (
+        (
+          inr (inr (inl (record {
+            nonce = report_nonce;
+            eight = refl;
+            asked = inr (inl refl);
+            text = refl;
+          }))),
+          tt,
+        ),
+        tt,
+      ),
+    ),
+  ),
+)
+
+pub returns-clause-cut : goal.returns-clause-cut
+unfolding computing
+returns-clause-cut c = sends_what_is_due (listing_of (the_plug ∷ [])) [] long_message (
+  (inl (record { place = 0; within = omega arith; text = refl }), tt),
+  (
+    (
+      inl (record {
+        place = 1;
+        within = omega arith;
+        text = refl;
+      }),
+      tt,
+    ),
+    tt,
+  ),
+)
+
+pub returns-clause-set : goal.returns-clause-set
+unfolding computing
+returns-clause-set c = sends_what_is_due (listing_of (the_switch ∷ [])) [] set_asked ((inr (inr (inr (inr (inl refl)))), tt), tt)
+
+pub returns-clause-get : goal.returns-clause-get
+unfolding computing
+returns-clause-get c = sends_what_is_due (listing_of (the_switch ∷ [])) [] get_asked ((inr (inr (inr (inr (inl refl)))), tt), tt)
+
+pub returns-clause-old_list : goal.returns-clause-old_list
+unfolding computing
+returns-clause-old_list c = sends_what_is_due (listing_of (the_dimmer ∷ [])) [] sent_by_old_list ((inl refl, tt), tt)

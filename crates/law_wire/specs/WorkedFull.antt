@@ -1,0 +1,26 @@
+-- By hand: a switch is set by hand 34 times, and its reports come to the chip while its link is busy.
+use Rattle.std.specs.Prelude.{ℕ, true, List, [], ◌∷◌, ◌++◌, map, codes}
+use Rattle.std.specs.List.{flat_map, range_with_len}
+use Rattle.zw_base.specs.declared.property.Name.TheVariants as names
+use Rattle.zw_base.specs.declared.property.By.TheVariants.{Local}
+use Rattle.zw_words.specs.declared.side.Side.TheVariants.{Chip}
+use Rattle.host_orders.specs.Settings.{setting}
+use Rattle.zw_text.specs.declared.entry.Entry.{Entry}
+use Rattle.zw_text.specs.declared.entry.Entry.TheVariants.{Said, Written, Air, Heard, Dev, Time}
+use Rattle.law_transcript.specs.Worked.{bytes}
+use Rattle.law_wire.specs.Asked.{Course}
+
+-- the switch is set, and reports that in the frame of this number
+abbrev pub reported_by_hand : ℕ → List Entry
+reported_by_hand number =
+    Said (codes "local 2 1") ∷ Dev 2 Local (setting 0 names.Switch 255) ∷ Air number 2 1 [] (bytes (codes "2503FF")) ∷ []
+
+-- the first report goes to the host at once, and so many more are heard
+abbrev pub crowded : ℕ → List Entry
+crowded more =
+    flat_map reported_by_hand (range_with_len 1 34) ++ Said (codes "tick 1") ∷ Time 1 ∷ Heard 1
+    ∷ Written Chip (bytes (codes "010900040002032503FF2A")) ∷ map Heard (range_with_len 2 more)
+
+-- the chip was asked nothing, and its one unit is the first copy of a frame
+abbrev pub busy_course : Course
+busy_course = record { passed = []; firsts = true ∷ [] }

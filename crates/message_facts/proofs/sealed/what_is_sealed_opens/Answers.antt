@@ -1,6 +1,0 @@
--- The clause is a lemma on texts.
-use Rattle.message_facts.proofs.Unsealing.{sealed_opens}
-use Rattle.message_facts.proofs.sealed.what_is_sealed_opens.Goals as goal
-
-pub returns : goal.returns
-returns c = sealed_opens

@@ -1,6 +1,0 @@
-use Rattle.once_facts.proofs.Confirming.{confirms}
-use Rattle.once_facts.proofs.laws.ties_confirm_what_was_set.Goals as goal
-
-pub returns : goal.returns
-returns c = λ past h node device finals told facts tied.
-    confirms past h node device finals told facts (c.laws_follow.ensures.tables past h facts) (c.laws_follow.ensures.stores past h facts) c.values_are_in_order.ensures tied

@@ -1,6 +1,0 @@
-use Rattle.once_facts.proofs.Once.{once}
-use Rattle.once_facts.proofs.laws.ties_keep_once_only.Goals as goal
-
-pub returns : goal.returns
-returns c = λ past h node device finals told facts tied supervised.
-    once past h node device finals told facts (c.laws_follow.ensures.tables past h facts) (c.laws_follow.ensures.laws past h facts) tied supervised

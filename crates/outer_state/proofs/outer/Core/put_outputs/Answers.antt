@@ -1,6 +1,0 @@
-use Rattle.outer_state.proofs.Items.{each_item}
-use Rattle.outer_state.proofs.outer.Core.put_outputs.Goals as goal
-
-pub loop-output-preserved : goal.loop-output-preserved
-loop-output-preserved c =
-    each_item _ _ _ _ c.as_slice-output-items.ensures c.loop-output-test.true c.output-item.is _ _ _ _ _ _ _ c.loop-output.invariant c.in_ok-put_output.ensures

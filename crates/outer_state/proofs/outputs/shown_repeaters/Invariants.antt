@@ -1,7 +1,0 @@
-use Rattle.std.proofs.Common.{◌≡◌, take}
-use Rattle.std.specs.Prelude.{filter}
-use Rattle.outer_events.specs.Chip.{is_node}
-use Rattle.outer_state.proofs.outputs.shown_repeaters.Given as goal
-
-abbrev pub invariant-loop-hop : goal.invariant-loop-hop
-invariant-loop-hop l = l.repeaters ≡ filter is_node (take l.hop-index l.hop-items)

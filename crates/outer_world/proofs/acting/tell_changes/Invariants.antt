@@ -1,8 +1,0 @@
-use Rattle.std.proofs.Common.{◌≡◌, ◌++◌, drop}
-use Rattle.outer_events.specs.Devices.{changes_entries}
-use Rattle.outer_world.proofs.acting.tell_changes.Given as goal
-
-abbrev pub invariant-loop-at : goal.invariant-loop-at
-invariant-loop-at g l =
-    l.told.items ++ changes_entries l.node (drop l.at ((goal.Device-dyn g (l.device.vtable, l.device.value)).state l.device.value).journal)
-    ≡ l.fn.told.items ++ changes_entries l.node (drop l.first ((goal.Device-dyn g (l.device.vtable, l.device.value)).state l.device.value).journal)

@@ -1,6 +1,0 @@
-use Rattle.air_frames.specs.declared.ages.Refusal.TheVariants.{Stale}
-use Rattle.outer_state.proofs.Answered.{map_ok}
-use Rattle.outer_world.proofs.air.refuse_repeat.Goals as goal
-
-pub returns-in-Stale-clause-ok : goal.returns-in-Stale-clause-ok
-returns-in-Stale-clause-ok c = map_ok c.refuse-in-Stale.result _ _ (λ entered. (Stale c.in-Stale.later, c.in-Stale.is, entered)) c.refuse-in-Stale.ensures.ok

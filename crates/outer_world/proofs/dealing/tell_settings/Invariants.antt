@@ -1,6 +1,0 @@
-use Rattle.std.proofs.Common.{◌≡◌, ◌++◌, take, map}
-use Rattle.zw_text.specs.declared.entry.Entry.TheVariants.{Dev}
-use Rattle.outer_world.proofs.dealing.tell_settings.Given as goal
-
-abbrev pub invariant-loop-setting : goal.invariant-loop-setting
-invariant-loop-setting l = l.told.items ≡ l.fn.told.items ++ map (λ setting. Dev l.node l.change.by setting) (take l.setting-index l.change.settings)

@@ -1,6 +1,0 @@
-use Rattle.outer_state.proofs.Answered.{map_ok}
-use Rattle.outer_world.proofs.Going.{goes_collides}
-use Rattle.outer_world.proofs.outer.Outer.collide.Goals as goal
-
-pub returns-clause-ok : goal.returns-clause-ok
-returns-clause-ok c = rw (← c.self.view_is) (map_ok c.collide.result _ _ (goes_collides _ _) c.collide.ensures.ok)

@@ -1,8 +1,0 @@
-use Rattle.std.proofs.Common.{map}
-use Rattle.outer_events.specs.Did.{GoesFor}
-use Rattle.outer_events.specs.Schedules.{Givings}
-use Rattle.outer_world.proofs.outer.Outer.give_due.Given as goal
-
-abbrev pub invariant-loop : goal.invariant-loop
-invariant-loop g l =
-    GoesFor (map (λ d. (goal.Device-dyn g (d.vtable, d.value)).state d.value) l.devices.items) (Givings l.counter) l.fn.self l.self l.fn.out.items l.out.items

@@ -1,5 +1,0 @@
-use Rattle.outer_world.proofs.Going.{goes_joins}
-use Rattle.outer_world.proofs.outer.Outer.join.Goals as goal
-
-pub returns-clause-ok : goal.returns-clause-ok
-returns-clause-ok g c = rw (← c.self.view_is) (goes_joins c.self.inside.core _ _ _ _ c.in_ok-listening.ensures c.join.ensures)

@@ -1,6 +1,0 @@
-use Rattle.outer_state.proofs.Answered.{map_ok}
-use Rattle.outer_world.proofs.Going.{goes_loses}
-use Rattle.outer_world.proofs.outer.Outer.lose.Goals as goal
-
-pub returns-clause-ok : goal.returns-clause-ok
-returns-clause-ok c = rw (← c.self.view_is) (map_ok c.lose.result _ _ (goes_loses _ _ _) c.lose.ensures.ok)

@@ -1,6 +1,0 @@
-use Rattle.outer_state.proofs.Answered.{map_ok}
-use Rattle.outer_world.proofs.Going.{goes_change}
-use Rattle.outer_world.proofs.outer.Outer.mark_change.Goals as goal
-
-pub returns-clause-ok : goal.returns-clause-ok
-returns-clause-ok c = rw (← c.self.view_is) (map_ok c.mark_change.result _ _ (goes_change _ _ _ _) c.mark_change.ensures.ok)

@@ -1,9 +1,0 @@
-use Rattle.outer_state.proofs.Answered.{map_ok_both, map_err_both}
-use Rattle.outer_world.proofs.Moves.{wake_runs, wake_stops}
-use Rattle.outer_world.proofs.outer.Outer.wake.Goals as goal
-
-pub returns-clause-ok : goal.returns-clause-ok
-returns-clause-ok g c = map_ok_both c.act_by_hand.result _ _ _ (wake_runs _ _ _ _ _ _ _) c.act_by_hand.ensures.devices c.act_by_hand.ensures.ok
-
-pub returns-clause-err : goal.returns-clause-err
-returns-clause-err g c = map_err_both c.act_by_hand.result _ _ _ (wake_stops _ _ _ _ _ _) c.act_by_hand.ensures.err c.act_by_hand.ensures.no_entries

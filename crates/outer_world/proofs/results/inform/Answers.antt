@@ -1,5 +1,0 @@
-use Rattle.outer_world.proofs.Giving.{informed}
-use Rattle.outer_world.proofs.results.inform.Goals as goal
-
-pub returns : goal.returns
-returns g c = informed c.inform.result c.args.core.now _ _ c.args.node _ _ _ _ c.in_ok-profile.ensures.found c.as_ref.ensures.value c.inform.ensures

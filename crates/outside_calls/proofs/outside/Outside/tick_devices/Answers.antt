@@ -1,0 +1,22 @@
+use Rattle.std.proofs.Common.{[], refl, arith, ◌∙◌}
+use Rattle.outside_step.proofs.Answered.{on_err}
+use Rattle.outside_model.proofs.Doing.{ran_nothing}
+use Rattle.outside_calls.proofs.Counted.{device_ticks, ran_more, ran_all, ran_stops}
+use Rattle.outside_calls.proofs.Moves.{tick_runs, tick_stops}
+use Rattle.outside_calls.proofs.outside.Outside.tick_devices.Goals as goal
+
+pub loop-place-init : goal.loop-place-init
+loop-place-init g c = record { runs = ([], refl, ran_nothing _ _); kept = refl }
+
+pub loop-place-preserved : goal.loop-place-preserved
+loop-place-preserved g c = record {
+  runs = ran_more device_ticks c.loop-place.place _ _ _ _ _ _ c.loop-place.invariant.runs (tick_runs _ _ _ _ c.loop-place.place _ _ _ c.in_ok-act_at.ensures.devices c.in_ok-act_at.ensures.ok);
+  kept = c.act_at.ensures.kept ∙ c.loop-place.invariant.kept;
+}
+
+pub returns-in_err-act_at-clause-err : goal.returns-in_err-act_at-clause-err
+returns-in_err-act_at-clause-err g c = on_err c.from_residual.result _
+    (ran_stops device_ticks c.loop-place.place _ _ _ _ _ _ _ (omega arith) c.loop-place.invariant.runs (tick_stops _ _ _ c.loop-place.place _ _ _ c.in_err-act_at.ensures.err c.in_err-act_at.ensures.no_entries))
+
+pub returns-clause-ok : goal.returns-clause-ok
+returns-clause-ok g c = ran_all device_ticks c.loop-place.place _ _ _ _ _ (omega arith) c.loop-place.invariant.runs

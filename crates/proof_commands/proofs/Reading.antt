@@ -1,0 +1,57 @@
+-- The lines of a story were read from texts, and its events are their schedules.
+use Rattle.std.proofs.Common.{◌≡◌, ℕ, List, [], ◌∷◌, ◌++◌, Option, Some, None, Result, Ok, Err, refl, sym, subst}
+use Rattle.std.specs.List.{AllByRecursion}
+use Rattle.zw_words.specs.declared.fault.LineFault.{LineFault}
+use Rattle.zw_text.specs.Line.{line_at}
+use Rattle.zw_text.specs.declared.line.Line.{Line}
+use Rattle.world_model.specs.State.{Machine}
+use Rattle.world_model.specs.Events.{Event}
+use Rattle.world_model.specs.Did.{happens_all}
+use Rattle.world_model.specs.Prefixes.{IsLineBefore}
+use Rattle.proof_serial.specs.Line.{AreLines}
+use Rattle.run_lines.specs.declared.running.LinesEnd.{LinesEnd}
+use Rattle.run_lines.specs.Lines.{TextLine, listed, lines_in}
+use Rattle.proof_commands.specs.Laws.{Ran, events_of, lines_of, AreRun, AreBegun}
+use Rattle.proof_commands.proofs.Stories.{are_prefix}
+
+-- a line, and the text that was read as it
+abbrev pub IsReadAs : TextLine Line → Type 0
+IsReadAs one = line_at one.text ≡ Ok (Some one.line)
+
+-- the line of a text was read from it
+listed_read : (text : List ℕ) (reading : Result (Option Line) LineFault) (more : List (TextLine Line)) → line_at text ≡ reading → AllByRecursion IsReadAs more
+    → AllByRecursion IsReadAs (listed text reading ++ more)
+listed_read text (Ok None) more is all = all
+listed_read text (Ok (Some line)) more is all = (is, all)
+listed_read text (Err fault) more is all = all
+
+all_read : (texts : List (List ℕ)) → AllByRecursion IsReadAs (lines_in line_at texts)
+all_read [] = tt
+all_read (text ∷ texts) = listed_read text (line_at text) (lines_in line_at texts) refl (all_read texts)
+
+-- the lines of a story, without their texts
+abbrev pub plain_lines : List Ran → List Line
+plain_lines [] = []
+plain_lines (ran ∷ more) = ran.line.line ∷ plain_lines more
+
+-- so of the lines of a story
+abbrev pub AreRead : List Ran → Type 0
+AreRead story = AllByRecursion IsReadAs (lines_of story)
+
+prefix_read : (a b : List (TextLine Line)) → AllByRecursion IsReadAs (a ++ b) → AllByRecursion IsReadAs a
+prefix_read [] b all = tt
+prefix_read (one ∷ a) b all = (all.0, prefix_read a b all.1)
+
+pub texts_read : (end : LinesEnd) (story : List Ran) (texts : List (List ℕ)) → AreRun end story (lines_in line_at texts) → AreRead story
+texts_read end story texts are =
+    let prefix = are_prefix end story (lines_in line_at texts) are in
+    prefix_read (lines_of story) prefix.0 (subst (λ (l : List (TextLine Line)). AllByRecursion IsReadAs l) (sym prefix.1) (all_read texts))
+
+-- its events are the schedules of these lines
+before_same : (more : List Ran) (line : Line) (m : Machine) (events : List Event) → IsLineBefore more line m events → IsLineBefore (plain_lines more) line m events
+before_same [] line m events is = is
+before_same (next ∷ more) line m events is = is
+
+pub story_lines : (m : Machine) (story : List Ran) → AreBegun m story → AreLines (plain_lines story) m (events_of story)
+story_lines m [] are = refl
+story_lines m (ran ∷ more) are = (ran.events, events_of more, refl, before_same more ran.line.line m ran.events are.0, story_lines (happens_all m ran.events) more are.1)

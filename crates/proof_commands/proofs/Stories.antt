@@ -1,0 +1,293 @@
+-- The story of a run: the events of its lines, one after another.
+use Rattle.std.proofs.Common.{◌≡◌, ℕ, Bool, ◌⊎◌, inl, inr, List, [], ◌∷◌, ◌++◌, map, refl, sym, ap, ap₂, subst, ◌∙◌, append_assoc, append-nil}
+use Rattle.std.specs.Prelude.{Option, None}
+use Rattle.std.specs.List.{AllByRecursion}
+use Rattle.std.proofs.lemmas.List.{map-append}
+use Rattle.zw_text.specs.Line.{line_at}
+use Rattle.zw_text.specs.declared.line.Line.{Line}
+use Rattle.zw_text.specs.declared.entry.Entry.{Entry}
+use Rattle.world_model.specs.State.{Machine}
+use Rattle.world_model.specs.Events.{Event}
+use Rattle.outside_model.specs.Events.{OuterEvent}
+use Rattle.world_model.specs.Did.{happens_all, entries_all, MayAll, last_of, IsOfHost, Stops}
+use Rattle.world_model.specs.Lines.{IsLine}
+use Rattle.world_model.specs.Prefixes.{LinePart, IsLineBefore}
+use Rattle.world_model.proofs.Doing.{happens_all-append, may_all-append}
+use Rattle.zw_world.specs.World.{first_world}
+use Rattle.run_lines.specs.declared.running.LinesEnd.{LinesEnd}
+use Rattle.run_lines.specs.declared.running.LinesEnd.TheVariants.{All, Bad, ReadFailed, TooMuch, WriteFailed, NoMemory}
+use Rattle.run_lines.specs.declared.status.Status.{Status}
+use Rattle.run_lines.specs.Lines.{TextLine, lines_in, AllRan, StopsIn, RanLines}
+use Rattle.run_sim.specs.Sim.{Point, point_of, at, LineRan, PartRan, said}
+use Rattle.proof_commands.specs.Around.{Around}
+use Rattle.proof_commands.specs.Laws.{Ran, RunsSim, events_of, lines_of, transcript_from, AreSchedules, AreBegun, AreScheduled, AreRun, with_last, IsUnentered, EndsAs, Tells}
+
+-- lines that were run whole, with their events
+pub record Tale (lines : List (TextLine Line)) (m m' : Machine) (T : List Entry) : Type 0 where
+  pub story : List Ran
+  pub lines_are : map (λ (r : Ran). r.line) story ≡ lines
+  pub schedules : AreSchedules m story
+  pub may : MayAll m (events_of story)
+  pub state : m' ≡ happens_all m (events_of story)
+  pub entered : T ≡ transcript_from m story
+
+tale_on : (line : TextLine Line) (lines : List (TextLine Line)) (events : List Event) (m m' : Machine) (T : List Entry) → IsLine line.line m events → MayAll m events
+    → Tale lines (happens_all m events) m' T → Tale (line ∷ lines) m m' (said line ++ (entries_all m events ++ T))
+tale_on line lines events m m' T is may tale = record {
+  story = record { line = line; events = events } ∷ tale.story;
+  lines_are = ap (λ (l : List (TextLine Line)). line ∷ l) tale.lines_are;
+  schedules = (is, tale.schedules);
+  may = may_all-append m events (events_of tale.story) may tale.may;
+  state = tale.state ∙ sym (happens_all-append m events (events_of tale.story));
+  entered = ap (λ (l : List Entry). said line ++ (entries_all m events ++ l)) tale.entered;
+}
+
+tale_of_line : (line : TextLine Line) (lines : List (TextLine Line)) (old mid : Point) (m' : Machine) (some T : List Entry) → LineRan line old mid some
+    → Tale lines mid.machine m' T → Tale (line ∷ lines) old.machine m' (some ++ T)
+tale_of_line line lines old mid m' some T ran tale =
+    let (events, is, did) = ran in
+    subst (λ (l : List Entry). Tale (line ∷ lines) old.machine m' l)
+    (sym (append_assoc (said line) (entries_all old.machine events) T) ∙ ap (λ (l : List Entry). l ++ T) (sym did.entries))
+    (tale_on line lines events old.machine m' T is did.may (subst (λ (m : Machine). Tale lines m m' T) did.state tale))
+
+pub tale_of : (lines : List (TextLine Line)) (old new : Point) (T : List Entry) → AllRan LineRan lines old new T → Tale lines old.machine new.machine T
+tale_of [] old new T ran = record { story = []; lines_are = refl; schedules = tt; may = tt; state = ap (λ (p : Point). p.machine) ran.0; entered = ran.1 }
+tale_of (line ∷ lines) old new T ran =
+    let (mid, some, later, one, rest, are) = ran in
+    subst (λ (l : List Entry). Tale (line ∷ lines) old.machine new.machine l) (sym are)
+    (tale_of_line line lines old mid new.machine some later one (tale_of lines mid new later rest))
+
+-- ---- the whole run
+
+-- what a story says of a run that came to this end
+pub record Story (end : LinesEnd) (lines : List (TextLine Line)) (m last : Machine) (T : List Entry) : Type 0 where
+  pub story : List Ran
+  pub unentered : List Event
+  pub lines_are : AreRun end story lines
+  pub scheduled : AreScheduled end m story
+  pub may : MayAll m (events_of story ++ unentered)
+  pub entered : T ≡ transcript_from m story
+  pub ends : EndsAs end m story unentered last
+  pub devices : last.outside.devices ≡ (happens_all m (events_of story ++ unentered)).outside.devices
+  pub records : last.records ≡ (happens_all m (events_of story ++ unentered)).records
+
+-- all lines were run whole
+whole_story : (end : LinesEnd) (lines all : List (TextLine Line)) (m m' : Machine) (T : List Entry) → ((story : List Ran) → lines_of story ≡ lines → AreRun end story all)
+    → ((story : List Ran) → AreSchedules m story → AreScheduled end m story)
+    → ((story : List Ran) → AreSchedules m story → m' ≡ happens_all m (events_of story) → EndsAs end m story [] m') → Tale lines m m' T → Story end all m m' T
+whole_story end lines all m m' T run scheduled ends tale =
+    let state : m' ≡ happens_all m (events_of tale.story ++ []) = tale.state ∙ ap (λ (l : List Event). happens_all m l) (sym (append-nil (events_of tale.story))) in
+    record {
+      story = tale.story;
+      unentered = [];
+      lines_are = run tale.story tale.lines_are;
+      scheduled = scheduled tale.story tale.schedules;
+      may = subst (λ (l : List Event). MayAll m l) (sym (append-nil (events_of tale.story))) tale.may;
+      entered = tale.entered;
+      ends = ends tale.story tale.schedules tale.state;
+      devices = ap (λ (x : Machine). x.outside.devices) state;
+      records = ap (λ (x : Machine). x.records) state;
+    }
+
+-- ---- stories whose last line may be cut short
+
+-- a whole line is one before any others
+whole_before : {A : Type 0} (more : List A) (line : Line) (m : Machine) (events : List Event) → IsLine line m events → IsLineBefore more line m events
+whole_before [] line m events is = inl is
+whole_before (next ∷ more) line m events is = is
+
+schedules_begun : (m : Machine) (story : List Ran) → AreSchedules m story → AreBegun m story
+schedules_begun m [] are = tt
+schedules_begun m (ran ∷ more) are = (whole_before more ran.line.line m ran.events are.0, schedules_begun (happens_all m ran.events) more are.1)
+
+-- no event more
+with_none : (story : List Ran) → with_last None story ≡ story
+with_none [] = refl
+with_none (ran ∷ []) = ap (λ (l : List Event). record { line = ran.line; events = l } ∷ []) (append-nil ran.events)
+with_none (ran ∷ (next ∷ more)) = ap (λ (l : List Ran). ran ∷ l) (with_none (next ∷ more))
+
+none_unentered : (m : Machine) (story : List Ran) → AreBegun m story → IsUnentered m story []
+none_unentered m story begun = record {
+  last = None;
+  kept = [];
+  are = refl;
+  adds = ap events_of (with_none story) ∙ sym (append-nil (events_of story));
+  moved = subst (AreBegun m) (sym (with_none story)) begun;
+  of_host = tt;
+}
+
+-- ---- a last line that was run in part
+
+events_of-append : (a b : List Ran) → events_of (a ++ b) ≡ events_of a ++ events_of b
+events_of-append [] b = refl
+events_of-append (ran ∷ a) b =
+    ap (λ (l : List Event). ran.events ++ l) (events_of-append a b) ∙ sym (append_assoc ran.events (events_of a) (events_of b))
+
+transcript-append : (m : Machine) (a b : List Ran) → transcript_from m (a ++ b) ≡ transcript_from m a ++ transcript_from (happens_all m (events_of a)) b
+transcript-append m [] b = refl
+transcript-append m (ran ∷ a) b =
+    ap (λ (l : List Entry). said ran.line ++ (entries_all m ran.events ++ l))
+    (transcript-append (happens_all m ran.events) a b
+    ∙ ap (λ (x : Machine). transcript_from (happens_all m ran.events) a ++ transcript_from x b) (sym (happens_all-append m ran.events (events_of a))))
+    ∙ ap (λ (l : List Entry). said ran.line ++ l)
+    (sym (append_assoc (entries_all m ran.events) (transcript_from (happens_all m ran.events) a) (transcript_from (happens_all m (ran.events ++ events_of a)) b)))
+
+abbrev one_of : TextLine Line → List Event → List Ran
+one_of line events = record { line = line; events = events } ∷ []
+
+-- whole lines, and then a part of one
+begun_following : (m : Machine) (story : List Ran) (line : TextLine Line) (events : List Event) → AreSchedules m story → LinePart line.line (happens_all m (events_of story)) events → AreBegun m (story ++ one_of line events)
+begun_following m [] line events are part = (part, tt)
+begun_following m (ran ∷ []) line events are part =
+    (are.0, (subst (λ (l : List Event). LinePart line.line (happens_all m l) events) (append-nil ran.events) part, tt))
+begun_following m (ran ∷ (next ∷ more)) line events are part =
+    let rest = events_of (next ∷ more) in
+    (are.0, begun_following (happens_all m ran.events) (next ∷ more) line events are.1 (subst (λ (x : Machine). LinePart line.line x events) (happens_all-append m ran.events rest) part))
+
+last_following : (last : Option OuterEvent) (story : List Ran) (line : TextLine Line) (events : List Event) → with_last last (story ++ one_of line events) ≡ story ++ one_of line (events ++ last_of last)
+last_following last [] line events = refl
+last_following last (ran ∷ []) line events = refl
+last_following last (ran ∷ (next ∷ more)) line events = ap (λ (l : List Ran). ran ∷ l) (last_following last (next ∷ more) line events)
+
+module _ (m : Machine) (story : List Ran) (line : TextLine Line) (whole : List Event) where
+  one_after : events_of (story ++ one_of line whole) ≡ events_of story ++ whole
+  one_after = events_of-append story (one_of line whole) ∙ ap (λ (l : List Event). events_of story ++ l) (append-nil whole)
+
+  -- all that was done
+  all_done : (last kept : List Event) → events_of (story ++ one_of line whole) ++ (last ++ kept) ≡ events_of story ++ ((whole ++ last) ++ kept)
+  all_done last kept =
+      ap (λ (l : List Event). l ++ (last ++ kept)) one_after
+      ∙ (append_assoc (events_of story) whole (last ++ kept) ∙ ap (λ (l : List Event). events_of story ++ l) (sym (append_assoc whole last kept)))
+
+  part_unentered : (last : Option OuterEvent) (kept : List Event) → AreSchedules m story → LinePart line.line (happens_all m (events_of story)) (whole ++ last_of last) → AllByRecursion IsOfHost kept
+      → IsUnentered m (story ++ one_of line whole) (last_of last ++ kept)
+  part_unentered last kept are moved hosts = record {
+    last = last;
+    kept = kept;
+    are = refl;
+    adds = ap events_of (last_following last story line whole)
+        ∙ (events_of-append story (one_of line (whole ++ last_of last))
+        ∙ (ap (λ (l : List Event). events_of story ++ l) (append-nil (whole ++ last_of last))
+        ∙ (sym (append_assoc (events_of story) whole (last_of last)) ∙ ap (λ (l : List Event). l ++ last_of last) (sym one_after))));
+    moved = subst (AreBegun m) (sym (last_following last story line whole)) (begun_following m story line (whole ++ last_of last) are moved);
+    of_host = hosts;
+  }
+
+  part_entered : (T some : List Entry) (mid : Machine) → T ≡ transcript_from m story → mid ≡ happens_all m (events_of story) → some ≡ said line ++ entries_all mid whole
+      → T ++ some ≡ transcript_from m (story ++ one_of line whole)
+  part_entered T some mid entered there is =
+      ap₂ (λ (a b : List Entry). a ++ b) entered (is ∙ (ap (λ (x : Machine). said line ++ entries_all x whole) there ∙ ap (λ (l : List Entry). said line ++ l) (sym (append-nil (entries_all (happens_all m (events_of story)) whole)))))
+      ∙ sym (transcript-append m story (one_of line whole))
+
+cut_story : (lines : List (TextLine Line)) (line : TextLine Line) (m : Machine) (mid new : Point) (T some : List Entry) → Tale lines m mid.machine T → Stops (LinePart line.line) (at mid (said line)) (at new some)
+    → Story NoMemory (lines ++ line ∷ []) m new.machine (T ++ some)
+cut_story lines line m mid new T some tale stops =
+    let prefix = tale.story in
+    let there : mid.machine ≡ happens_all m (events_of prefix) = tale.state in
+    let part : List Event = (stops.whole ++ last_of stops.last) ++ stops.kept in
+    let all = all_done m prefix line stops.whole (last_of stops.last) stops.kept in
+    let after : happens_all mid.machine part ≡ happens_all m (events_of (prefix ++ one_of line stops.whole) ++ (last_of stops.last ++ stops.kept)) =
+    ap (λ (x : Machine). happens_all x part) there ∙ (sym (happens_all-append m (events_of prefix) part) ∙ ap (λ (l : List Event). happens_all m l) (sym all)) in
+    record {
+      story = prefix ++ one_of line stops.whole;
+      unentered = last_of stops.last ++ stops.kept;
+      lines_are = inl (map-append (λ (r : Ran). r.line) prefix (one_of line stops.whole) ∙ ap (λ (l : List (TextLine Line)). l ++ line ∷ []) tale.lines_are);
+      scheduled = begun_following m prefix line stops.whole tale.schedules (subst (λ (x : Machine). LinePart line.line x stops.whole) there stops.prefix);
+      may = subst (λ (l : List Event). MayAll m l) (sym all) (may_all-append m (events_of prefix) part tale.may (subst (λ (x : Machine). MayAll x part) there stops.may));
+      entered = part_entered m prefix line stops.whole T some mid.machine tale.entered there stops.entered;
+      ends = part_unentered m prefix line stops.whole stops.last stops.kept tale.schedules (subst (λ (x : Machine). LinePart line.line x (stops.whole ++ last_of stops.last)) there stops.moved) stops.of_host;
+      devices = stops.devices ∙ ap (λ (x : Machine). x.outside.devices) after;
+      records = stops.records ∙ ap (λ (x : Machine). x.records) after;
+    }
+
+-- the last line was not even entered
+all_run : (story : List Ran) (lines : List (TextLine Line)) → lines_of story ≡ lines → AreRun NoMemory story lines
+all_run story lines are = inl are
+
+but_last : (line : TextLine Line) (lines : List (TextLine Line)) (story : List Ran) → lines_of story ≡ lines → AreRun NoMemory story (lines ++ line ∷ [])
+but_last line lines story are = inr (line, ap (λ (l : List (TextLine Line)). l ++ line ∷ []) are)
+
+part_story : (lines : List (TextLine Line)) (line : TextLine Line) (m : Machine) (mid new : Point) (T some : List Entry) → Tale lines m mid.machine T → PartRan line mid new some
+    → Story NoMemory (lines ++ line ∷ []) m new.machine (T ++ some)
+part_story lines line m mid new T some tale (inl none) =
+    subst (λ (l : List Entry). Story NoMemory (lines ++ line ∷ []) m new.machine l) (sym (ap (λ (l : List Entry). T ++ l) none.1 ∙ append-nil T))
+    (subst (λ (p : Point). Story NoMemory (lines ++ line ∷ []) m p.machine T) (sym none.0)
+    (whole_story NoMemory lines (lines ++ line ∷ []) m mid.machine T (but_last line lines) (schedules_begun m) (λ story are is. none_unentered m story (schedules_begun m story are)) tale))
+part_story lines line m mid new T some tale (inr stops) = cut_story lines line m mid new T some tale stops
+
+stopped_story : (lines : List (TextLine Line)) (old new : Point) (T : List Entry) → StopsIn LineRan PartRan lines old new T → Story NoMemory lines old.machine new.machine T
+stopped_story lines old new T stops =
+    subst (λ (l : List Entry). Story NoMemory lines old.machine new.machine l) (sym stops.transcript_is)
+    (subst (λ (l : List (TextLine Line)). Story NoMemory l old.machine new.machine (stops.before ++ stops.entries)) (sym stops.lines_are)
+    (part_story stops.prefix stops.last old.machine stops.mid new stops.before stops.entries
+    (tale_of stops.prefix old stops.mid stops.before stops.ran) stops.stopped))
+
+-- ---- each end
+
+some_story : (lines : List (TextLine Line)) (old new : Point) (T : List Entry) → AllRan LineRan lines old new T ⊎ StopsIn LineRan PartRan lines old new T
+    → Story NoMemory lines old.machine new.machine T
+some_story lines old new T (inl ran) =
+    whole_story NoMemory lines lines old.machine new.machine T (λ story are. all_run story lines are) (schedules_begun old.machine)
+    (λ story are is. none_unentered old.machine story (schedules_begun old.machine story are)) (tale_of lines old new T ran)
+some_story lines old new T (inr stops) = stopped_story lines old new T stops
+
+story_of : (end : LinesEnd) (lines : List (TextLine Line)) (old new : Point) (T : List Entry) → RanLines end LineRan PartRan lines old new T
+    → Story end lines old.machine new.machine T
+story_of All lines old new T ran = whole_story All lines lines old.machine new.machine T (λ story are. are) (λ story are. are) (λ story are is. (refl, is)) (tale_of lines old new T ran)
+story_of (Bad number fault) lines old new T ran =
+    whole_story (Bad number fault) lines lines old.machine new.machine T (λ story are. are) (λ story are. are) (λ story are is. (refl, is)) (tale_of lines old new T ran)
+story_of ReadFailed lines old new T ran = whole_story ReadFailed lines lines old.machine new.machine T (λ story are. are) (λ story are. are) (λ story are is. (refl, is)) (tale_of lines old new T ran)
+story_of TooMuch lines old new T ran = whole_story TooMuch lines lines old.machine new.machine T (λ story are. are) (λ story are. are) (λ story are is. (refl, is)) (tale_of lines old new T ran)
+story_of WriteFailed lines old new T ran = whole_story WriteFailed lines lines old.machine new.machine T (λ story are. are) (λ story are. are) (λ story are is. (refl, is)) (tale_of lines old new T ran)
+story_of NoMemory lines old new T ran = some_story lines old new T ran
+
+pub has_story : (ended : Status) (key : List ℕ) (old new : Around) (quiet : Bool) → RunsSim ended quiet key old new
+    → (story : List Ran) × (unentered : List Event) × Tells ended quiet key old new story unentered
+has_story ended key old new quiet ran =
+    let s = story_of ran.told.end (lines_in line_at ran.told.texts) (point_of (first_world key) old.devices old.records old.keeper_faults) ran.point ran.told.transcript ran.told.ran in (
+      s.story,
+      s.unentered,
+      record {
+        ran = ran;
+        lines = s.lines_are;
+        scheduled = s.scheduled;
+        may = s.may;
+        entered = s.entered;
+        ends = s.ends;
+        devices = sym ran.devices ∙ s.devices;
+        records = sym ran.records_are ∙ s.records;
+      },
+    )
+
+-- ---- what each end has in common
+
+-- the story is begun
+pub is_begun : (end : LinesEnd) (m : Machine) (story : List Ran) → AreScheduled end m story → AreBegun m story
+is_begun All m story are = schedules_begun m story are
+is_begun (Bad number fault) m story are = schedules_begun m story are
+is_begun ReadFailed m story are = schedules_begun m story are
+is_begun TooMuch m story are = schedules_begun m story are
+is_begun WriteFailed m story are = schedules_begun m story are
+is_begun NoMemory m story are = are
+
+-- what was not entered is so of every end
+whole_unentered : (m last : Machine) (story : List Ran) (unentered : List Event) → AreSchedules m story → (unentered ≡ []) × (last ≡ happens_all m (events_of story)) → IsUnentered m story unentered
+whole_unentered m last story unentered are ends = subst (IsUnentered m story) (sym ends.0) (none_unentered m story (schedules_begun m story are))
+
+pub is_unentered : (end : LinesEnd) (m last : Machine) (story : List Ran) (unentered : List Event) → AreScheduled end m story → EndsAs end m story unentered last → IsUnentered m story unentered
+is_unentered All m last story unentered are ends = whole_unentered m last story unentered are ends
+is_unentered (Bad number fault) m last story unentered are ends = whole_unentered m last story unentered are ends
+is_unentered ReadFailed m last story unentered are ends = whole_unentered m last story unentered are ends
+is_unentered TooMuch m last story unentered are ends = whole_unentered m last story unentered are ends
+is_unentered WriteFailed m last story unentered are ends = whole_unentered m last story unentered are ends
+is_unentered NoMemory m last story unentered are ends = ends
+
+-- its lines are a prefix of those that were read
+pub are_prefix : (end : LinesEnd) (story : List Ran) (lines : List (TextLine Line)) → AreRun end story lines → (rest : List (TextLine Line)) × (lines_of story ++ rest ≡ lines)
+are_prefix All story lines are = ([], append-nil (lines_of story) ∙ are)
+are_prefix (Bad number fault) story lines are = ([], append-nil (lines_of story) ∙ are)
+are_prefix ReadFailed story lines are = ([], append-nil (lines_of story) ∙ are)
+are_prefix TooMuch story lines are = ([], append-nil (lines_of story) ∙ are)
+are_prefix WriteFailed story lines are = ([], append-nil (lines_of story) ∙ are)
+are_prefix NoMemory story lines (inl are) = ([], append-nil (lines_of story) ∙ are)
+are_prefix NoMemory story lines (inr (line, are)) = (line ∷ [], are)

@@ -1,0 +1,5 @@
+pub mod Around
+pub mod Laws
+pub mod Lives
+pub mod Port
+pub mod Replay

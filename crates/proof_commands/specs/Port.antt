@@ -1,0 +1,155 @@
+-- What a run of `host` keeps true (this project's own): its story is the events of the host that its steps are, and the laws are of this story.
+use Rattle.std.specs.Prelude.{◌≡◌, ℕ, ◌⊎◌, List, [], ◌∷◌, ◌++◌, Option, IsSome}
+use Rattle.std.specs.List.{AllByRecursion}
+use Rattle.zw_text.specs.Transcript.{outcome}
+use Rattle.zw_text.specs.declared.entry.Entry.{Entry}
+use Rattle.zw_text.specs.declared.entry.Outcome.TheVariants.{Success}
+use Rattle.host_keep.specs.declared.record.Record.{Record}
+use Rattle.s0_crypto.specs.declared.key_pair.Keys.{Keys}
+use Rattle.host_core.specs.Network.{keys_of}
+use Rattle.host_model.specs.State.{HostState, HostParts}
+use Rattle.host_model.specs.Events.{HostEvent}
+use Rattle.host_model.specs.Did.{Did, Shelf, after_all}
+use Rattle.host_model.specs.declared.out.HostOut.{HostOut}
+use Rattle.host_model.specs.Opening.{opened}
+use Rattle.run_lines.specs.declared.status.Status.{Status}
+use Rattle.proof_host.specs.Entries.{entries_all}
+use Rattle.proof_host.specs.Facts.{AreShown}
+use Rattle.proof_host.specs.Laws.{HostLaws}
+use Rattle.proof_host.specs.Stores.{StoresLaw}
+use Rattle.port_run.specs.declared.asking.Answer.{Answer}
+use Rattle.port_run.specs.declared.asking.Answer.TheVariants.{Taken, Command, Refused}
+use Rattle.port_run.specs.declared.stop.Stop.{Stop}
+use Rattle.port_run.specs.declared.stop.Stop.TheVariants as stop
+use Rattle.port_run.specs.declared.ending.Served.{Served}
+use Rattle.port_run.specs.declared.ending.Served.TheVariants.{Ok, Undone, BadLine, Opening, ReadFault, WriteFault, InputTooLong, NoMemory}
+use Rattle.port_run.specs.Steps.{Place, Step}
+use Rattle.port_run.specs.Schedule.{Telling, is_quiet}
+use Rattle.port_run.specs.Serving.{Halts}
+use Rattle.port_run.specs.Ending.{Desk, Started, start_of, RanAll, RanSome, HostRan, IsUntouched, status_of}
+use Rattle.host_model.specs.Recording.{AllOfJoined}
+use Rattle.proof_commands.specs.Lives.{GoesOn, entries_of}
+
+-- ---- stories
+
+-- the records that the host started from, and the events of the host that the steps are
+pub record Story : Type 0 where
+  pub records : List Record
+  pub events : List HostEvent
+
+-- the host that it started from, and how it stands after the story
+abbrev pub first : List ℕ → Story → HostState
+first key story = opened (keys_of key) story.records
+
+abbrev pub last : List ℕ → Story → HostState
+last key story = after_all (first key story) story.events
+
+-- what the host notes in it, with the answers to orders, after what it noted in its earlier lives
+abbrev pub transcript : List ℕ → List (List HostEvent) → Story → List Entry
+transcript key lives story = entries_of (keys_of key) lives ++ entries_all (first key story) story.events
+
+-- ---- the story of a run
+
+-- from the host that started to the one in the end these events happened, and put this out
+pub record Does {keys : Keys} {number : ℕ} {texts : List (List ℕ)} {old : Desk} (started : Started keys number texts old) (last : HostParts) (shelf : Shelf) (outs : List HostOut)
+    (story : Story) : Type 0 where
+  pub records : started.opens.records ≡ story.records
+  pub did : Did story.events started.host.state last.state [] outs started.shelf shelf
+
+-- what the host put out at the steps of a run that stopped
+abbrev pub outs_by : (reason : Stop) (steps : List Step) (old new : Place) (sink sink' : Option (List ℕ)) → Halts reason steps old new sink sink' → List HostOut
+outs_by stop.ReadFault steps old new sink sink' halts = halts.outs
+outs_by stop.InputTooLong steps old new sink sink' halts = halts.outs
+outs_by stop.WriteFault steps old new sink sink' halts = halts.outs
+outs_by stop.NoMemory steps old new sink sink' halts = halts.all
+
+abbrev pub DoesAll : (end : Served) (Tells : Telling) (keys : Keys) (number : ℕ) (texts : List (List ℕ)) (old new : Desk) → RanAll end Tells keys number texts old new → Story → Type 0
+DoesAll end Tells keys number texts old new ran story = Does ran.started ran.host new.shelf ran.went.wrote.outs story
+
+abbrev pub DoesSome : (reason : Stop) (Tells : Telling) (keys : Keys) (number : ℕ) (texts : List (List ℕ)) (old new : Desk) → RanSome reason Tells keys number texts old new → Story → Type 0
+DoesSome reason Tells keys number texts old new ran story =
+    Does ran.started ran.host new.shelf
+    (outs_by reason ran.broke.steps (start_of ran.started) (record { host = ran.host; shelf = new.shelf }) old.written new.written ran.broke.halts) story
+
+-- All lines were run, or some of them, with this story. What is written is what the host put out in it, or a prefix of that.
+abbrev pub ToldAll : Served → Telling → Keys → ℕ → List (List ℕ) → Desk → Desk → Story → Type 0
+ToldAll end Tells keys number texts old new story = (ran : RanAll end Tells keys number texts old new) × DoesAll end Tells keys number texts old new ran story
+
+abbrev pub ToldSome : Stop → Telling → Keys → ℕ → List (List ℕ) → Desk → Desk → Story → Type 0
+ToldSome reason Tells keys number texts old new story = (ran : RanSome reason Tells keys number texts old new) × DoesSome reason Tells keys number texts old new ran story
+
+-- a run that ended so has this story
+abbrev pub IsStory : Served → Telling → Keys → ℕ → List (List ℕ) → Desk → Desk → Story → Type 0
+IsStory Ok Tells keys number texts old new story = ToldAll Ok Tells keys number texts old new story
+IsStory (Undone line) Tells keys number texts old new story = ToldAll (Undone line) Tells keys number texts old new story
+IsStory (BadLine line fault) Tells keys number texts old new story = ⊥
+IsStory (Opening fault) Tells keys number texts old new story = ⊥
+IsStory ReadFault Tells keys number texts old new story = ToldSome stop.ReadFault Tells keys number texts old new story
+IsStory WriteFault Tells keys number texts old new story = ToldSome stop.WriteFault Tells keys number texts old new story
+IsStory InputTooLong Tells keys number texts old new story = ToldSome stop.InputTooLong Tells keys number texts old new story
+IsStory NoMemory Tells keys number texts old new story = ToldSome stop.NoMemory Tells keys number texts old new story
+
+-- the same of a run of `host` with this status
+pub record Tells (ended : Status) (key : List ℕ) (number : ℕ) (texts : List (List ℕ)) (old new : Desk) (story : Story) : Type 0 where
+  pub end : Served
+  pub status_is : ended ≡ status_of end
+  pub is : IsStory end is_quiet (keys_of key) number texts old new story
+
+-- a run that did not start its host left all as it was; each other one is told
+abbrev pub StillOr : Served → Type 0 → Type 0 → Type 0
+StillOr (BadLine line fault) Still Told = Still
+StillOr (Opening fault) Still Told = Still
+StillOr NoMemory Still Told = Still ⊎ Told
+StillOr end Still Told = Told
+
+-- ---- what every story of a run keeps
+
+-- a run that started its host has a story
+abbrev pub HasStory : Status → List ℕ → ℕ → List (List ℕ) → Desk → Desk → Type 0
+HasStory ended key number texts old new =
+    (ran : HostRan ended key number texts old new) → StillOr ran.end (IsUntouched old new) ((story : Story) × Tells ended key number texts old new story)
+
+-- a law of every story that a run has, after earlier lives whose records its keeper held as it began
+abbrev pub Always : Status → List ℕ → ℕ → List (List ℕ) → Desk → Desk → (List (List HostEvent) → Story → Type 0) → Type 0
+Always ended key number texts old new Law =
+    (story : Story) (lives : List (List HostEvent)) → Tells ended key number texts old new story → GoesOn (keys_of key) number old.shelf.records lives → Law lives story
+
+-- orders, sessions and outcomes keep their laws
+abbrev pub KeepsOrders : Status → List ℕ → ℕ → List (List ℕ) → Desk → Desk → Type 0
+KeepsOrders ended key number texts old new = Always ended key number texts old new (λ lives story. HostLaws (transcript key lives story))
+
+-- the tables of the host in the end are what the transcript shows
+abbrev pub ShowsTables : Status → List ℕ → ℕ → List (List ℕ) → Desk → Desk → Type 0
+ShowsTables ended key number texts old new = Always ended key number texts old new (λ lives story. AreShown (transcript key lives story) (last key story))
+
+-- a confirmed value is that of the last successful session that sets it
+abbrev pub ConfirmsValues : Status → List ℕ → ℕ → List (List ℕ) → Desk → Desk → Type 0
+ConfirmsValues ended key number texts old new = Always ended key number texts old new (λ lives story. StoresLaw (transcript key lives story) (last key story))
+
+-- the transcript bears out an answer that is good: the order of that number is a success
+abbrev pub IsBorneOut : List Entry → Answer → Type 0
+IsBorneOut transcript Taken = Unit {0}
+IsBorneOut transcript (Command number) = outcome number transcript ≡ Success
+IsBorneOut transcript Refused = ⊥
+
+-- where all lines were run and none was refused, the command of each order is a success
+abbrev pub DoneIsSuccess : List ℕ → ℕ → List (List ℕ) → Desk → Desk → Type 0
+DoneIsSuccess key number texts old new =
+    (story : Story) (lives : List (List HostEvent)) (told : ToldAll Ok is_quiet (keys_of key) number texts old new story) → GoesOn (keys_of key) number old.shelf.records lives
+    → AllByRecursion (IsBorneOut (transcript key lives story)) told.0.answers
+
+-- A run that starts where this one ended goes on from one life more, where the keeper tells its records and each interview that ended well was of a
+-- node that is joined.
+abbrev pub LeavesALife : Status → List ℕ → ℕ → List (List ℕ) → Desk → Desk → Type 0
+LeavesALife ended key number texts old new =
+    Always ended key number texts old new
+    (λ lives story. (many : ℕ) → IsSome new.shelf.records → AllOfJoined (first key story) story.events → GoesOn (keys_of key) many new.shelf.records (lives ++ story.events ∷ []))
+
+-- What holds of every run of `host`, at every status.
+pub record PortKeepsLaws (ended : Status) (key : List ℕ) (number : ℕ) (texts : List (List ℕ)) (old new : Desk) : Type 0 where
+  pub story : HasStory ended key number texts old new
+  pub orders : KeepsOrders ended key number texts old new
+  pub tables : ShowsTables ended key number texts old new
+  pub values : ConfirmsValues ended key number texts old new
+  pub success : DoneIsSuccess key number texts old new
+  pub next : LeavesALife ended key number texts old new

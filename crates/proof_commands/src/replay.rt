@@ -1,0 +1,33 @@
+//! The laws of whole runs of `replay`: each is the contract of a function that does nothing.
+
+ghost use Rattle.std.specs.Prelude.{ℕ, List, Option, ◌++◌};
+ghost use Rattle.run_lines.specs.declared.status.Status.{Status};
+ghost use Rattle.zw_text.specs.declared.entry.Entry.{Entry};
+ghost use Rattle.zw_text.specs.declared.line.ReplayLine.{ReplayLine};
+ghost use Rattle.run_lines.specs.Lines.{TextLine, AllRan};
+ghost use Rattle.proof_host.specs.Facts.{Facts};
+ghost use Rattle.run_replay.specs.Replay.{Point, LineRan};
+ghost use Rattle.proof_commands.specs.Replay.{ReplayKeepsLaws};
+
+use proof_host::{asides_keep_facts, events_keep_facts, first_facts_hold, laws_follow};
+
+/// Every run of `replay` keeps the laws: its transcript keeps those of hosts, and shows the tables and the confirmed values of its host; where
+/// there was no memory, the transcript of the lines that were run whole.
+pub fn replay_keeps_laws()
+    ensures { (status : Status) (key : List ℕ) (left left' : Option (List ℕ)) (records records' : Option (List (List ℕ)))
+        (faults faults' : ℕ) (sink sink' : Option (List ℕ)) →
+        ReplayKeepsLaws status key left left' records records' faults faults' sink sink' }
+{
+    first_facts_hold();
+    whole_lines_keep_facts();
+    laws_follow();
+}
+
+/// Lines that are run whole keep the facts of a host.
+fn whole_lines_keep_facts()
+    ensures { (lines : List (TextLine ReplayLine)) (old new : Point) (past transcript : List Entry) → Facts past old.lone.host.state
+        → AllRan LineRan lines old new transcript → Facts (past ++ transcript) new.lone.host.state }
+{
+    events_keep_facts();
+    asides_keep_facts();
+}

@@ -1,0 +1,11 @@
+//! What holds of the words that are entered of a line.
+
+ghost use Rattle.std.specs.Prelude.{◌≡◌, ℕ, List, Ok, Some};
+ghost use Rattle.zw_text.specs.Line.{line_at};
+ghost use Rattle.zw_text.specs.declared.line.Line.{Line};
+ghost use Rattle.run_lines.specs.Pieces.{said_text};
+
+/// The words of a text that is read as a line, with one space between two, are read as the same line.
+pub fn lines_are_read_as_said()
+    ensures { (text : List ℕ) (line : Line) → line_at text ≡ Ok (Some line) → line_at (said_text text) ≡ Ok (Some line) }
+{}

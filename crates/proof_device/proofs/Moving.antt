@@ -1,0 +1,98 @@
+-- Each event moves at most one device, by one event of that device.
+use Rattle.std.proofs.Common.{◌≡◌, ℕ, inl, inr, List, Option, Some, None, refl}
+use Rattle.std.specs.Prelude.{slice_get}
+use Rattle.route_table.specs.declared.route.Route.{Route}
+use Rattle.device_sim.specs.State.{State}
+use Rattle.device_sim.specs.Event.{DeviceEvent, Hears, Ticks, Wakes, Sets}
+use Rattle.air_frames.specs.declared.frame.Heading.{Heading}
+use Rattle.air_frames.specs.declared.frame.Heading.TheVariants.{Outward, Homeward}
+use Rattle.air_frames.specs.Flown.{Flown}
+use Rattle.air_frames.specs.Frames.{next_of, remembered}
+use Rattle.air_frames.specs.Ages.{refusal_of}
+use Rattle.air_frames.specs.declared.ages.Refusal.{Refusal}
+use Rattle.mesh_sim.specs.declared.fate.Fate.{Fate}
+use Rattle.mesh_sim.specs.declared.fate.Fate.TheVariants.{Lost, Dead, Missed, AtChip, AtDevice}
+use Rattle.mesh_sim.specs.Fates.{Mesh, place_of, listener_of, fate_of}
+use Rattle.mesh_sim.specs.Steps.{AirStep, heard_at, heard_again, landed, acknowledged, arriving_as, arriving, repeating_by, repeating, mesh_after}
+use Rattle.mesh_sim.specs.Steps as mesh
+use Rattle.outside_model.specs.State.{Outside}
+use Rattle.outside_model.specs.Devices.{device_set, set_by_hand}
+use Rattle.outside_model.specs.Events.{OuterEvent, Begins_line, Begins_tick, Host_writes, Host_takes, Host_notes, Host_begins, Chip_takes, Arrives, Gives, Device_ticks, Chip_ticks, Repeats, Wakes_device, Sets_device, Shows, Joins, Discovers, Links, Loses, Loses_acks, Marks_loss, Marks_change, Clears_pipe, Collides_next, Stalls, Cuts, mesh_of, devices_repeated, devices_after}
+use Rattle.proof_device.specs.GoingOn.{MovesOne}
+
+stays : (devices : List State) → MovesOne devices devices
+stays devices = inl refl
+
+-- the device at a place, where there is one
+set_moves : (devices : List State) (place : ℕ) (found : Option State) (event : DeviceEvent) → slice_get devices place ≡ found → MovesOne devices (device_set devices place found event)
+set_moves devices place None event e = stays devices
+set_moves devices place (Some device) event e = inr (record { place = place; device = device; event = event; stood = e; stands = refl })
+
+hand_moves : (devices : List State) (place : Option ℕ) (event : DeviceEvent) → MovesOne devices (set_by_hand devices place event)
+hand_moves devices None event = stays devices
+hand_moves devices (Some place) event = set_moves devices place (slice_get devices place) event refl
+
+-- a frame
+heard_moves : (m : Mesh) (place : ℕ) (found : Option State) (node : ℕ) (route : Option Route) (event : DeviceEvent) → slice_get m.devices place ≡ found
+    → MovesOne m.devices (heard_at m place found node route event).devices
+heard_moves m place None node route event e = stays m.devices
+heard_moves m place (Some device) node route event e = inr (record { place = place; device = device; event = event; stood = e; stands = refl })
+
+fate_moves : (m : Mesh) (frame : Flown) (fate : Fate) (drawn : List ℕ) (route : Option Route) → MovesOne m.devices (arriving_as m frame fate drawn route).devices
+fate_moves m frame Lost drawn route = stays m.devices
+fate_moves m frame (Dead from to) drawn route = stays m.devices
+fate_moves m frame Missed drawn route = stays m.devices
+fate_moves m frame AtChip drawn route = stays m.devices
+fate_moves m frame (AtDevice place) drawn route =
+    heard_moves (record m { air = landed (acknowledged m.air) }) place (slice_get m.devices place) frame.node route (Hears frame.payload drawn) refl
+
+arrives_moves : (m : Mesh) (frame : Option Flown) (drawn : List ℕ) (route : Option Route) → MovesOne m.devices (arriving m frame drawn route).devices
+arrives_moves m None drawn route = stays m.devices
+arrives_moves m (Some frame) drawn route = fate_moves m frame (fate_of m.air.network m.devices frame) drawn route
+
+again_moves : (m : Mesh) (place : Option ℕ) (node : ℕ) (route : Option Route) (event : DeviceEvent) → MovesOne m.devices (heard_again m place node route event).devices
+again_moves m None node route event = stays m.devices
+again_moves m (Some place) node route event = heard_moves m place (slice_get m.devices place) node route event refl
+
+heading_moves : (heading : Heading) (m : Mesh) (frame : Flown) (drawn : List ℕ) (route : Option Route) → MovesOne m.devices (repeating_by heading m frame drawn route).devices
+heading_moves Homeward m frame drawn route = stays m.devices
+heading_moves Outward m frame drawn route = again_moves m (listener_of frame.node m.devices) frame.node route (Hears frame.payload drawn)
+
+repeated_moves : (m : Mesh) (frame : Option Flown) (drawn : List ℕ) (route : Option Route) → MovesOne m.devices (repeating m frame drawn route).devices
+repeated_moves m None drawn route = stays m.devices
+repeated_moves m (Some frame) drawn route = heading_moves frame.heading m frame drawn route
+
+repeats_moves : (w : Outside) (refused : Option Refusal) (number : ℕ) (drawn : List ℕ) (route : Option Route) → MovesOne w.devices (devices_repeated w refused (mesh.Repeats number drawn route))
+unfolding mesh_after
+repeats_moves w (Some refused) number drawn route = stays w.devices
+repeats_moves w None number drawn route = repeated_moves (mesh_of w) (remembered w.outer.air.frames number) drawn route
+
+-- an event outside the host
+pub one_moves : (w : Outside) (event : OuterEvent) → MovesOne w.devices (devices_after w event)
+unfolding devices_after mesh_after
+one_moves w (Arrives drawn route) = arrives_moves (mesh_of w) (next_of w.outer.air.frames) drawn route
+one_moves w (Repeats number drawn route) = repeats_moves w (refusal_of w.outer.air.frames number) number drawn route
+one_moves w (Device_ticks place drawn route) = set_moves w.devices place (slice_get w.devices place) (Ticks drawn) refl
+one_moves w (Wakes_device node route) = hand_moves w.devices (place_of node w.devices) Wakes
+one_moves w (Sets_device node value route) = hand_moves w.devices (place_of node w.devices) (Sets value)
+one_moves w Begins_line = stays w.devices
+one_moves w Begins_tick = stays w.devices
+one_moves w (Host_writes unit) = stays w.devices
+one_moves w (Host_takes count) = stays w.devices
+one_moves w (Host_notes entry) = stays w.devices
+one_moves w (Host_begins node sessions) = stays w.devices
+one_moves w (Chip_takes count rest ways) = stays w.devices
+one_moves w (Gives route) = stays w.devices
+one_moves w Chip_ticks = stays w.devices
+one_moves w (Shows node) = stays w.devices
+one_moves w (Joins node) = stays w.devices
+one_moves w Discovers = stays w.devices
+one_moves w (Links a b live) = stays w.devices
+one_moves w (Loses count) = stays w.devices
+one_moves w (Loses_acks count) = stays w.devices
+one_moves w (Marks_loss side) = stays w.devices
+one_moves w (Marks_change side garble) = stays w.devices
+one_moves w (Clears_pipe side) = stays w.devices
+one_moves w Collides_next = stays w.devices
+one_moves w (Stalls ticks) = stays w.devices
+one_moves w (Cuts size) = stays w.devices

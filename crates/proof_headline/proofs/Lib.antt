@@ -1,0 +1,13 @@
+mod Shown
+mod Succeeding
+mod Running
+mod Heading
+mod Unasked
+pub mod Opening
+pub mod Knowing
+pub mod Carrying
+pub mod PlainBeginning
+pub mod PlainTying
+pub mod LockBeginning
+pub mod LockTying
+pub mod Sorting

@@ -1,0 +1,9 @@
+use Rattle.proof_world.proofs.Devices.{made_unchanged}
+use Rattle.proof_headline.proofs.PlainBeginning.{begins_course}
+use Rattle.proof_headline.proofs.plain_nodes.devices_as_made_begin_courses.Goals as goal
+
+pub returns-clause-begins : goal.returns-clause-begins
+returns-clause-begins c = begins_course c.idle_devices_stay_idle.ensures.fresh c.devices_follow_the_course.ensures.fresh
+
+pub returns-clause-unchanged : goal.returns-clause-unchanged
+returns-clause-unchanged c = made_unchanged

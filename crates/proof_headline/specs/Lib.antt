@@ -1,0 +1,4 @@
+pub mod Truly
+pub mod Plain
+pub mod Locks
+pub mod Supervised

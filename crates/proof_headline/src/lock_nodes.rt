@@ -1,0 +1,45 @@
+//! Locks, which take their commands sealed: which they are by the kinds of their devices, and that both ends are tied.
+
+ghost use Rattle.std.specs.Prelude.{◌≡◌, ℕ, List, Some, []};
+ghost use Rattle.std.specs.List.{AllByRecursion};
+ghost use Rattle.device_kinds.specs.Sealing.{keys_of};
+ghost use Rattle.device_sim.specs.State.{State};
+ghost use Rattle.law_transcript.specs.Headline.{IsAsMade};
+ghost use Rattle.law_transcript.specs.Nodes.{device_of};
+ghost use Rattle.proof_headline.specs.Locks.{IsLockKind, IsLockNode};
+ghost use Rattle.s0_crypto.specs.declared.key_pair.Keys.{Keys};
+ghost use Rattle.world_model.specs.State.{first_machine};
+ghost use Rattle.proof_once.specs.Tied.{AreTied};
+ghost use Rattle.proof_spoken.specs.Spoken.{Spoken, after_all};
+ghost use Rattle.proof_spoken.specs.Lines.{AreDone};
+ghost use Rattle.proof_headline.specs.Truly.{LinesAreTrue};
+
+use proof_course_plain::{idle_devices_stay_idle, lines_ask_plainly};
+use proof_course_sealed::{lines_have_courses, locks_follow_the_courses};
+use proof_once::courses_tie_their_ends;
+use proof_world::lines_keep_and_ask_well;
+
+/// Of devices as their makers left them, the first of a node is at the beginning of the courses of it, with the keys of the network, where
+/// it takes commands in sessions and sealed; the others of the node are idle.
+pub fn locks_as_made_begin_courses()
+    ensures { (key : List ℕ) (devices : List State) (node : ℕ) (device : State) → AllByRecursion (IsAsMade key) devices → device_of node devices ≡ Some device →
+        IsLockKind device.kind → IsLockNode (keys_of key) devices node }
+{
+    idle_devices_stay_idle();
+    locks_follow_the_courses();
+}
+
+/// Over any lines that were read, a lock is tied to the host in the end, and each success that the host is told of it is true at the moment it is told.
+pub fn locks_are_tied()
+    ensures tied { (keys : Keys) (devices : List State) (lines : List Spoken) (node : ℕ) (device : State) → IsLockNode keys devices node →
+        AreDone (first_machine keys (Some []) devices) lines →
+        device_of node (after_all (first_machine keys (Some []) devices) lines).outside.devices ≡ Some device →
+        AreTied (after_all (first_machine keys (Some []) devices) lines).host.state node device }
+    ensures truth { (keys : Keys) (devices : List State) (lines : List Spoken) (node : ℕ) → IsLockNode keys devices node →
+        AreDone (first_machine keys (Some []) devices) lines → LinesAreTrue node (first_machine keys (Some []) devices) lines }
+{
+    lines_ask_plainly();
+    lines_have_courses();
+    courses_tie_their_ends();
+    lines_keep_and_ask_well();
+}

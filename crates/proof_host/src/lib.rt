@@ -1,0 +1,20 @@
+//! What every host keeps true of its transcript, whatever the chip sends, whatever its keeper does and however often it
+//! restarts.
+//!
+//! Each law is the contract of a function with an empty body, over the definitions of `host_model`. `specs/Entries` has
+//! the entries of an event, `specs/Laws` and `specs/Stores` what holds of them, and `specs/Facts` the families of facts
+//! that every event keeps, which tie the entries to the tables of the host. The induction is `first_facts_hold`,
+//! `events_keep_facts`, `outcomes_are_told`, `asides_keep_facts` and `restarts_keep_facts`; `laws_follow` and
+//! `hosts_keep_laws` are its result. `lives_keep_laws` says the same of a host that starts again and again from its
+//! records.
+#![tactic(auto)]
+
+mod laws;
+mod lives;
+
+pub use laws::{
+    asides_keep_facts, events_keep_facts, first_facts_hold, hosts_keep_laws, laws_follow,
+    outcomes_are_told, restarts_keep_facts, values_are_in_order, what_is_over_stays,
+    wrong_transcripts_are_rejected,
+};
+pub use lives::{lives_keep_facts, lives_keep_laws, what_is_kept_starts_a_host};

@@ -1,0 +1,6 @@
+-- The clause is a lemma.
+use Rattle.proof_messages.proofs.UnsealingByNumber.{seals_waiting}
+use Rattle.proof_messages.proofs.opened.hosts_seal_what_waits.Goals as goal
+
+pub returns : goal.returns
+returns c = record { seals = seals_waiting }

@@ -1,0 +1,16 @@
+-- Each clause is a lemma on an event.
+use Rattle.proof_messages.proofs.Reporting.{replies_true, status_said}
+use Rattle.proof_messages.proofs.Saying.{fresh_can, event_can}
+use Rattle.proof_messages.proofs.reports.reports_tell.Goals as goal
+
+pub returns-clause-replies : goal.returns-clause-replies
+returns-clause-replies c = replies_true
+
+pub returns-clause-fresh : goal.returns-clause-fresh
+returns-clause-fresh c = fresh_can
+
+pub returns-clause-kept : goal.returns-clause-kept
+returns-clause-kept c = event_can
+
+pub returns-clause-status : goal.returns-clause-status
+returns-clause-status c = status_said

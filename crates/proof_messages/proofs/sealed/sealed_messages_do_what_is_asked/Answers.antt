@@ -1,0 +1,9 @@
+-- Each clause is a lemma on a lock that hears.
+use Rattle.proof_messages.proofs.Unsealing.{sealed_followed, sealed_answered}
+use Rattle.proof_messages.proofs.sealed.sealed_messages_do_what_is_asked.Goals as goal
+
+pub returns-clause-heard : goal.returns-clause-heard
+returns-clause-heard c = sealed_followed
+
+pub returns-clause-answered : goal.returns-clause-answered
+returns-clause-answered c = sealed_answered

@@ -1,0 +1,13 @@
+pub mod Ending
+pub mod Asking
+pub mod Others
+pub mod Reporting
+pub mod Segments
+pub mod Landing
+pub mod Numbers
+pub mod Payloads
+pub mod Locks
+pub mod Hosts
+pub mod Opened
+pub mod Shown
+pub mod Waiting

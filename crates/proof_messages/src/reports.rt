@@ -1,0 +1,21 @@
+//! The reports of a device: what the host hears of them.
+
+ghost use Rattle.std.specs.Prelude.{◌≡◌, ℕ, List};
+ghost use Rattle.std.specs.List.{AllByRecursion};
+ghost use Rattle.supervision.specs.Session.{IsStatus};
+ghost use Rattle.class_info.specs.Values.{status_byte};
+ghost use Rattle.device_kinds.specs.declared.kind.Kind.{Kind};
+ghost use Rattle.device_kinds.specs.Answers.{report_status};
+ghost use Rattle.device_sim.specs.State.{State, fresh};
+ghost use Rattle.device_sim.specs.Event.{DeviceEvent, device_after, device_replies};
+ghost use Rattle.proof_messages.specs.Reporting.{TellsTrue, CanSay};
+
+/// Each payload that a device sends at an event is heard as one report of its last session, with the status that it keeps of it from then on; or
+/// as no report. What a device says can be said, from its making on, whatever happens to it.
+pub fn reports_tell()
+    ensures replies { (device : State) (event : DeviceEvent) → CanSay device →
+        AllByRecursion (TellsTrue (device_after device event)) (device_replies device event) }
+    ensures fresh { (node : ℕ) (kind : Kind) (key : List ℕ) → CanSay (fresh node kind key) }
+    ensures kept { (device : State) (event : DeviceEvent) → CanSay device → CanSay (device_after device event) }
+    ensures status { (status : ℕ) → IsStatus status → status_byte (report_status status) ≡ status }
+{}

@@ -1,0 +1,5 @@
+use Rattle.proof_once.proofs.Tying.{course_ties}
+use Rattle.proof_once.proofs.laws.courses_tie_their_ends.Goals as goal
+
+pub returns : goal.returns
+returns c = course_ties

@@ -1,0 +1,5 @@
+use Rattle.proof_once.proofs.Showing.{ending_shown}
+use Rattle.proof_once.proofs.laws.endings_are_shown.Goals as goal
+
+pub returns : goal.returns
+returns c = ending_shown

@@ -1,0 +1,11 @@
+-- Devices that change in sessions alone (Supervision Command Class; that a device which lists it makes nothing of a plain Set is this project's
+-- own rule).
+use Rattle.std.specs.Prelude.{◌≡◌, true}
+use Rattle.std.specs.List.{AllByRecursion}
+use Rattle.device_sim.specs.State.{State}
+use Rattle.law_transcript.specs.Nodes.{is_supervised}
+use Rattle.law_transcript.specs.Once.{IsSupervisedChange}
+
+-- no change of a device that knows Supervision was made by a Set without a session
+abbrev pub ChangesInSessions : State → Type 0
+ChangesInSessions device = is_supervised device ≡ true → AllByRecursion IsSupervisedChange device.journal

@@ -1,0 +1,11 @@
+use Rattle.proof_spoken.proofs.Knowing.{first_known, lines_know, same_records}
+use Rattle.proof_spoken.proofs.said.interviews_give_what_is_known.Goals as goal
+
+pub returns-clause-first : goal.returns-clause-first
+returns-clause-first c = first_known
+
+pub returns-clause-lines : goal.returns-clause-lines
+returns-clause-lines c = λ listing. lines_know c.a_restart_needs_the_records_alone.ensures.others listing
+
+pub returns-clause-again : goal.returns-clause-again
+returns-clause-again c = same_records c.texts_give_one_thing.ensures.one

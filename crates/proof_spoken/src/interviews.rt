@@ -1,0 +1,60 @@
+//! The laws of what interviews tell.
+
+ghost use Rattle.std.specs.Prelude.{Some, List, []};
+ghost use Rattle.std.specs.List.{AllByRecursion};
+ghost use Rattle.s0_crypto.specs.declared.key_pair.Keys.{Keys};
+ghost use Rattle.device_sim.specs.State.{State};
+ghost use Rattle.zw_text.specs.declared.line.Line.{Line};
+ghost use Rattle.law_transcript.specs.Nodes.{listing_of};
+ghost use Rattle.world_model.specs.State.{first_machine};
+ghost use Rattle.world_model.specs.Events.{Event};
+ghost use Rattle.world_model.specs.Did.{MayAll};
+ghost use Rattle.proof_serial.specs.Line.{AreLines};
+ghost use Rattle.proof_spoken.specs.Spoken.{Spoken, AreSpoken};
+ghost use Rattle.proof_spoken.specs.Said.{AllTell, LinesTell};
+ghost use Rattle.proof_spoken.specs.Lines.{HearLists, AreDone};
+
+use crate::interviews_give_what_is_known;
+use proof_device::{devices_go_on, devices_stay_the_same};
+use proof_serial::{hosts_write_well, units_are_judged_whole};
+use proof_world::{
+    lines_ask_well, lines_keep_and_ask_well, restarts_go_on, runs_keep_and_ask_well,
+    the_machine_keeps_facts,
+};
+
+/// In every run of lines, the last of which an allocation failure may have cut short, over a keeper that tells its records and has none at
+/// first: an interview that ends well hears what the first device of its node lists. It is of a node that is joined, and a host that starts
+/// again knows what the one before knew.
+pub fn interviews_tell_what_nodes_list()
+    ensures heard { (keys : Keys) (devices : List State) (lines : List Line) (events : List Event) →
+        AreLines lines (first_machine keys (Some []) devices) events → MayAll (first_machine keys (Some []) devices) events →
+        AllByRecursion (HearLists (listing_of devices)) events }
+    ensures tell { (keys : Keys) (devices : List State) (lines : List Line) (events : List Event) →
+        AreLines lines (first_machine keys (Some []) devices) events → MayAll (first_machine keys (Some []) devices) events →
+        AllTell (listing_of devices) (first_machine keys (Some []) devices) events }
+{
+    devices_go_on();
+    devices_stay_the_same();
+    hosts_write_well();
+    units_are_judged_whole();
+    lines_ask_well();
+    runs_keep_and_ask_well();
+    lines_keep_and_ask_well();
+    interviews_give_what_is_known();
+    the_machine_keeps_facts();
+    restarts_go_on();
+}
+
+/// So in lines that are said one after another: each host that starts again among them has what the one before recorded (`AreSpoken`), and what the
+/// headline of runs assumes of interviews holds of the lists of the devices.
+pub fn lines_tell_what_nodes_list()
+    ensures spoken { (keys : Keys) (devices : List State) (lines : List Spoken) → AreDone (first_machine keys (Some []) devices) lines →
+        AreSpoken (first_machine keys (Some []) devices) lines }
+    ensures tell { (keys : Keys) (devices : List State) (lines : List Spoken) → AreDone (first_machine keys (Some []) devices) lines →
+        LinesTell (listing_of devices) (first_machine keys (Some []) devices) lines }
+{
+    the_machine_keeps_facts();
+    restarts_go_on();
+    lines_keep_and_ask_well();
+    interviews_tell_what_nodes_list();
+}

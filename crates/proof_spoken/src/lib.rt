@@ -1,0 +1,22 @@
+//! What was said and told: the entry of an accepted order directly follows its line, and interviews tell what nodes
+//! list.
+//!
+//! An interview that ends well concerns a joined node, and tells what the first device of that node lists. Each law is
+//! the contract of a function with an empty body, over lines that are said one after another (`specs/Spoken`) and the
+//! events of the machine that each line is. `answers_stand_after_their_lines` is the induction over the lines.
+//! `tables_are_what_was_said` gives what `proof_once` asks of the table. `interviews_give_what_is_known` says which
+//! classes the host then knows, and `lines_tell_what_nodes_list` that they are those that the device lists: the list
+//! goes from the kind of a device to the chip (`proofs/Informing`), through the chip's frames (`proofs/Frames`,
+//! `proofs/Telling`) and over the line to the host (`proofs/Hearing`).
+//! The definitions are in `specs/`: `Spoken`, `Said` (what is claimed of an order, and what is assumed of interviews)
+//! and `Lines`.
+#![tactic(auto)]
+
+mod interviews;
+mod said;
+
+pub use interviews::{interviews_tell_what_nodes_list, lines_tell_what_nodes_list};
+pub use said::{
+    answers_stand_after_their_lines, interviews_give_what_is_known, runs_have_their_tables,
+    tables_are_what_was_said, tables_keep_orders,
+};

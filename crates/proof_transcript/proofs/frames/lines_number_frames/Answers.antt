@@ -1,0 +1,11 @@
+-- Nothing was sent at first, and so frames are numbered over all lines.
+use Rattle.std.proofs.Common.{[], refl}
+use Rattle.air_frames.specs.Frames.{no_frames}
+use Rattle.outside_model.specs.State.{first_outer}
+use Rattle.world_model.specs.State.{first_machine}
+use Rattle.proof_transcript.proofs.Numbering.{lines_number}
+use Rattle.proof_transcript.proofs.frames.lines_number_frames.Goals as goal
+
+pub returns : goal.returns
+unfolding first_outer no_frames
+returns c = λ keys records devices lines are. (lines_number (first_machine keys records devices) lines are [] refl).0

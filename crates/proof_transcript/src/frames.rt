@@ -1,0 +1,33 @@
+//! The laws of frames on the air.
+
+ghost use Rattle.std.specs.Prelude.{ℕ, Option, List};
+ghost use Rattle.std.specs.List.{AllByRecursion};
+ghost use Rattle.s0_crypto.specs.declared.key_pair.Keys.{Keys};
+ghost use Rattle.device_sim.specs.State.{State};
+ghost use Rattle.law_transcript.specs.Fates.{FaresInTurn, LosesMarked, NumbersFrames};
+ghost use Rattle.world_model.specs.State.{first_machine};
+ghost use Rattle.proof_spoken.specs.Spoken.{Spoken, transcript_of};
+ghost use Rattle.proof_spoken.specs.Lines.{AreDone};
+ghost use Rattle.proof_transcript.specs.Lines.{RepeatsNone};
+
+/// Over any lines from the first on, the last of which an allocation failure may have cut short, each frame that goes on the air has the
+/// next number, and the controller is one of its ends.
+pub fn lines_number_frames()
+    ensures { (keys : Keys) (records : Option (List (List ℕ))) (devices : List State) (lines : List Spoken) →
+        AreDone (first_machine keys records devices) lines →
+        NumbersFrames (transcript_of (first_machine keys records devices) lines) }
+{}
+
+/// Over any such lines a frame that uses up a mark of `lose` is neither heard as it arrives nor unheard.
+pub fn lines_lose_marked_frames()
+    ensures { (keys : Keys) (records : Option (List (List ℕ))) (devices : List State) (lines : List Spoken) →
+        AreDone (first_machine keys records devices) lines →
+        LosesMarked (transcript_of (first_machine keys records devices) lines) }
+{}
+
+/// Over any such lines that repeat no frame, each frame that is on the air when a tick begins has one fate in it, in order of numbers, and
+/// none is heard besides.
+pub fn lines_fare_in_turn()
+    ensures { (keys : Keys) (records : Option (List (List ℕ))) (devices : List State) (lines : List Spoken) → AllByRecursion RepeatsNone lines →
+        AreDone (first_machine keys records devices) lines → FaresInTurn (transcript_of (first_machine keys records devices) lines) }
+{}

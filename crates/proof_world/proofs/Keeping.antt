@@ -1,0 +1,86 @@
+-- Every event of the machine keeps the facts of its host.
+use Rattle.std.proofs.Common.{List, [], ◌∷◌, ◌++◌, map, ap, sym, ◌∙◌, subst, append_assoc, append-nil}
+use Rattle.zw_text.specs.declared.entry.Entry.{Entry}
+use Rattle.zw_text.specs.declared.entry.Entry.TheVariants.{Refused}
+use Rattle.host_model.specs.State.{HostState}
+use Rattle.host_model.specs.declared.out.HostOut.{HostOut}
+use Rattle.host_model.specs.Events.{HostEvent}
+use Rattle.host_model.specs.After.{after}
+use Rattle.host_model.specs.Outs.{outs}
+use Rattle.host_model.specs.May.{May as MayHost}
+use Rattle.host_model.specs.Did.{MayAll as MayAllHost, after_all}
+use Rattle.outside_model.specs.State.{Outside}
+use Rattle.outside_model.specs.Events.{Host_notes, entries as entries_outside, outcome}
+use Rattle.outside_model.specs.Did.{entries_all as entries_all_outside}
+use Rattle.world_model.specs.State.{Machine, routed, host_does, host_entries}
+use Rattle.world_model.specs.Events.{Event, Outside_does, Host_does, Host_takes, Decoder_ticks, Refuses, Shows_values, Restarts, answers, fed, shown_values, happens, entries, May}
+use Rattle.world_model.specs.Did.{happens_all, entries_all, MayAll}
+use Rattle.world_model.proofs.Hosting.{Silent, entries_cons}
+use Rattle.world_model.proofs.Silence.{judged_silent}
+use Rattle.proof_host.specs.Entries.{IsAside, entries_at}
+use Rattle.proof_host.specs.Facts.{Facts, StartsAs}
+use Rattle.proof_world.specs.Restarts.{StartsWell, AllStartWell}
+use Rattle.proof_world.proofs.Aside.{Asides, own_aside, stamp_aside}
+use Rattle.proof_world.proofs.Notes.{Trailing, event_following}
+
+-- what is proved of hosts
+module _ (each : (past : List Entry) (h : HostState) (event : HostEvent) → Facts past h → MayHost h event → Facts (past ++ entries_at h event) (after h event))
+    (aside : (past : List Entry) (h : HostState) (entry : Entry) → Facts past h → IsAside entry → Facts (past ++ entry ∷ []) h)
+    (starts : (past : List Entry) (old new : HostState) → Facts past old → StartsAs old new → Facts past new) where
+  pub asides : (past : List Entry) (h : HostState) (entries : List Entry) → Facts past h → Asides entries → Facts (past ++ entries) h
+  asides past h [] facts all = subst (λ (l : List Entry). Facts l h) (sym (append-nil past)) facts
+  asides past h (e ∷ entries) facts all =
+      subst (λ (l : List Entry). Facts l h) (append_assoc past (e ∷ []) entries) (asides (past ++ e ∷ []) h entries (aside past h e facts all.0) all.1)
+
+  -- an event of the host, entered after others
+  event_after_keeps : (past all : List Entry) (h : HostState) (event : HostEvent) → Facts past h → MayHost h event → Trailing (entries_at h event) all → Facts (past ++ all) (after h event)
+  event_after_keeps past all h event facts may following =
+      subst (λ (l : List Entry). Facts l (after h event))
+      (append_assoc past following.prefix (entries_at h event) ∙ ap (λ (l : List Entry). past ++ l) (sym following.are))
+      (each (past ++ following.prefix) h event (asides past h following.prefix facts following.asides) may)
+
+  note_keeps : (past : List Entry) (h : HostState) (w : Outside) (e : Entry) → Facts past h → IsAside e → Facts (past ++ entries_outside w (Host_notes e)) h
+  unfolding outcome
+  note_keeps past h w e facts is = asides past h (entries_outside w (Host_notes e)) facts (stamp_aside w.outer (e ∷ []) (is, tt))
+
+  -- events of the host that answer no line, with what they put out routed
+  silent_keeps : (past : List Entry) (m : Machine) (es : List HostEvent) → Facts past m.host.state → MayAllHost m.host.state es → Silent es
+      → Facts (past ++ host_entries m es) (after_all m.host.state es)
+  silent_keeps past m [] facts may silent = subst (λ (l : List Entry). Facts l m.host.state) (sym (append-nil past)) facts
+  silent_keeps past m (e ∷ es) facts may silent =
+      let h = m.host.state in
+      let following : Trailing (entries_at h e) (host_entries m (e ∷ [])) =
+      subst (λ (l : List Entry). Trailing (entries_at h e) l)
+      (ap (λ (l : List Entry). entries_all_outside m.outside (routed (outs h e)) ++ entries_all_outside m.outside (map Host_notes l)) (silent.0 h)
+      ∙ (append-nil (entries_all_outside m.outside (routed (outs h e)))
+      ∙ ap (λ (l : List HostOut). entries_all_outside m.outside (routed l)) (sym (append-nil (outs h e)))))
+      (event_following m.outside m.outside h e) in
+      subst (λ (l : List Entry). Facts l (after_all (after h e) es))
+      (append_assoc past (host_entries m (e ∷ [])) (host_entries (host_does m (e ∷ [])) es) ∙ ap (λ (l : List Entry). past ++ l) (entries_cons m e es))
+      (silent_keeps (past ++ host_entries m (e ∷ [])) (host_does m (e ∷ [])) es (event_after_keeps past (host_entries m (e ∷ [])) h e facts may.0 following) may.1 silent.1)
+
+  -- an event of the machine
+  pub event_keeps : (past : List Entry) (m : Machine) (event : Event) → Facts past m.host.state → May m event → StartsWell m event
+      → Facts (past ++ entries m event) (happens m event).host.state
+  unfolding happens entries May
+  event_keeps past m (Outside_does event) facts may well = asides past m.host.state (entries_outside m.outside event) facts (own_aside m.outside event may.0)
+  event_keeps past m (Host_does event) facts may well =
+      event_after_keeps past (entries m (Host_does event)) m.host.state event facts may.0
+      (subst (λ (l : List HostOut). Trailing (entries_at m.host.state event)
+      (entries_all_outside m.outside (routed l) ++ entries_all_outside (host_does m (event ∷ [])).outside (map Host_notes (answers m.host.state event))))
+      (sym (append-nil (outs m.host.state event)))
+      (event_following m.outside (host_does m (event ∷ [])).outside m.host.state event))
+  event_keeps past m (Host_takes count rest items events) facts may well =
+      silent_keeps past (fed m count rest) events facts may.may (judged_silent m.host.state items events may.judged)
+  event_keeps past m Decoder_ticks facts may well = subst (λ (l : List Entry). Facts l m.host.state) (sym (append-nil past)) facts
+  event_keeps past m (Refuses line refusal) facts may well = note_keeps past m.host.state m.outside (Refused refusal) facts tt
+  event_keeps past m (Shows_values node) facts may well = note_keeps past m.host.state m.outside (shown_values m.host.state node) facts tt
+  event_keeps past m (Restarts state) facts may well = subst (λ (l : List Entry). Facts l state) (sym (append-nil past)) (starts past m.host.state state facts well)
+
+  -- events, one after another
+  pub events_keep : (past : List Entry) (m : Machine) (events : List Event) → Facts past m.host.state → MayAll m events → AllStartWell m events
+      → Facts (past ++ entries_all m events) (happens_all m events).host.state
+  events_keep past m [] facts may well = subst (λ (l : List Entry). Facts l m.host.state) (sym (append-nil past)) facts
+  events_keep past m (event ∷ events) facts may well =
+      subst (λ (l : List Entry). Facts l (happens_all (happens m event) events).host.state) (append_assoc past (entries m event) (entries_all (happens m event) events))
+      (events_keep (past ++ entries m event) (happens m event) events (event_keeps past m event facts may.0 well.0) may.1 well.1)

@@ -1,0 +1,14 @@
+pub mod Aside
+pub mod Notes
+pub mod Keeping
+pub mod Recording
+pub mod Devices
+pub mod Errands
+pub mod Always
+pub mod Schedules
+pub mod Heard
+pub mod Nodes
+pub mod Tasks
+pub mod Hosts
+pub mod Opening
+pub mod Runs

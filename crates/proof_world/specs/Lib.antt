@@ -1,0 +1,4 @@
+pub mod Restarts
+pub mod Devices
+pub mod Lines
+pub mod Asking

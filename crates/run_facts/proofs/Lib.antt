@@ -1,9 +1,0 @@
-pub mod Errands
-pub mod Always
-pub mod Schedules
-pub mod Heard
-pub mod Nodes
-pub mod Tasks
-pub mod Hosts
-pub mod Opening
-pub mod Runs

@@ -1,0 +1,12 @@
+pub mod Feeds
+pub mod Cutting
+pub mod Going
+pub mod Pieces
+pub mod InputLines
+pub mod LinesSoFar
+pub mod Completing
+pub mod Closing
+pub mod Growing
+pub mod Joining
+pub mod Telling
+pub mod Shown

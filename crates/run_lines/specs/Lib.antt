@@ -1,0 +1,11 @@
+pub mod SourceLines
+pub mod Inside
+pub mod Status
+pub mod Machine
+pub mod Input
+pub mod Writing
+pub mod Run
+pub mod Text
+pub mod Complete
+pub mod Pieces
+pub mod Lines

@@ -1,0 +1,37 @@
+//! Pieces written to a sink.
+
+ghost use Rattle.std.specs.Prelude.{◌≤◌, OnOk, OnErr};
+ghost use Rattle.std.specs.Io.KnownBytes.{Appends};
+ghost use Rattle.zw_base.specs.Faults.{Rose};
+ghost use Rattle.run_lines.specs.Writing.{text_of, AppendsPrefix};
+
+use zw_base::{Bytes, Failed, Sink};
+
+/// Writes pieces in their order.
+pub fn write_pieces<K: Sink>(sink: &mut K, pieces: &[Bytes]) -> Result<(), Failed>
+    ensures written { OnOk result (Appends (K.written sink.old) (K.written sink.new) (text_of pieces.now)) }
+    ensures prefix { OnErr result (AppendsPrefix (K.written sink.old) (K.written sink.new) (text_of pieces.now)) }
+    ensures never_falls { K.faults sink.old ≤ K.faults sink.new }
+    ensures failed { OnErr result (Rose (K.faults sink.old) (K.faults sink.new)) }
+{
+    for piece in pieces {
+        if write_piece(sink, piece.as_slice()).is_err() {
+            return Err(Failed);
+        }
+    }
+    Ok(())
+}
+
+/// Writes a piece whole, however many bytes the sink takes at a time.
+pub fn write_piece<K: Sink>(sink: &mut K, piece: &[u8]) -> Result<(), Failed>
+    ensures written { OnOk result (Appends (K.written sink.old) (K.written sink.new) piece.now) }
+    ensures prefix { OnErr result (AppendsPrefix (K.written sink.old) (K.written sink.new) piece.now) }
+    ensures never_falls { K.faults sink.old ≤ K.faults sink.new }
+    ensures failed { OnErr result (Rose (K.faults sink.old) (K.faults sink.new)) }
+{
+    let mut done = 0;
+    while done < piece.len() {
+        done += sink.write(&piece[done..])?;
+    }
+    Ok(())
+}

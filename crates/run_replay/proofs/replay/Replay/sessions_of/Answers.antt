@@ -1,0 +1,13 @@
+-- Session after session.
+use Rattle.std.proofs.Common.{◌≡◌, ◌+◌, sym, subst, ◌∙◌}
+use Rattle.std.specs.Prelude.{Some}
+use Rattle.supervision.specs.Host.{command_at}
+use Rattle.host_model.specs.State.{node_of}
+use Rattle.run_replay.specs.Machine.{ReplayState}
+use Rattle.run_replay.proofs.Listing.{session_more}
+use Rattle.run_replay.proofs.replay.Replay.sessions_of.Goals as goal
+
+pub loop-session-preserved : goal.loop-session-preserved
+loop-session-preserved c =
+    session_more (node_of c.args.self.now.host.state c.args.node).book.commands c.loop-session.sessions c.push.new.self c.loop-session.session c.in-Some.command c.loop-session.invariant
+    (subst (λ (w : ReplayState). command_at (node_of w.host.state c.args.node).book.commands (c.loop-session.session + 1) ≡ Some c.in-Some.command) c.self.view_is (sym c.command_of.ensures ∙ c.in-Some.is)) c.in_ok-push.ensures.ok

@@ -1,5 +1,0 @@
-pub mod Pieces
-pub mod InputLines
-pub mod LinesSoFar
-pub mod Completing
-pub mod Closing

@@ -1,9 +1,0 @@
--- Each clause is a lemma on ways.
-use Rattle.sealed_course.proofs.Thinning.{up_together, down_together}
-use Rattle.sealed_course.proofs.ways.ways_thin_together.Goals as goal
-
-pub returns-clause-up : goal.returns-clause-up
-returns-clause-up c = up_together
-
-pub returns-clause-down : goal.returns-clause-down
-returns-clause-down c = down_together

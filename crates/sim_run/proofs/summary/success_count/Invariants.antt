@@ -1,6 +1,0 @@
-use Rattle.std.proofs.Common.{◌≡◌, ◌≤◌, take}
-use Rattle.sim_run.specs.Generate.{success_count}
-use Rattle.sim_run.proofs.summary.success_count.Given as goal
-
-abbrev pub invariant-loop-entry : goal.invariant-loop-entry
-invariant-loop-entry l = (l.count ≡ success_count (take l.entry-index l.entries)) × (l.count ≤ l.entry-index)

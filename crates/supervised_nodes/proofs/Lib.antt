@@ -1,8 +1,0 @@
-pub mod Opening
-pub mod Knowing
-pub mod Carrying
-pub mod PlainBeginning
-pub mod PlainTying
-pub mod LockBeginning
-pub mod LockTying
-pub mod Sorting

@@ -1,6 +1,0 @@
-use Rattle.std.proofs.Common.{sym}
-use Rattle.transcript_books.proofs.Listed.{none-fits}
-use Rattle.transcript_books.proofs.setting.makes.Goals as goal
-
-pub returns-in-None : goal.returns-in-None
-returns-in-None c = sym (none-fits _ c.in-None.ensures c.args.setting.now c.setting_in_range.ensures)

@@ -1,5 +1,0 @@
-pub mod Aside
-pub mod Notes
-pub mod Keeping
-pub mod Recording
-pub mod Devices

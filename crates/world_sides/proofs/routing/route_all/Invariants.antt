@@ -1,6 +1,0 @@
-use Rattle.outer_events.specs.Did.{Goes}
-use Rattle.zw_machine.specs.State.{routed}
-use Rattle.world_sides.proofs.routing.route_all.Given as goal
-
-abbrev pub invariant-loop-one : goal.invariant-loop-one
-invariant-loop-one l = Goes (routed l.yielded) l.fn.outer l.outer l.fn.told.items l.told.items

@@ -1,0 +1,10 @@
+-- What was told into a list of its own is put after what was entered before.
+use Rattle.std.proofs.Common.{rules}
+use Rattle.world_model.specs.State.{routed}
+use Rattle.world_step.proofs.Routes.{goes_into}
+use Rattle.world_step.proofs.routing.route.Goals as goal
+
+pub returns-clause-ok : goal.returns-clause-ok
+returns-clause-ok c =
+    goes_into (routed c.args.outs.items) c.args.outer.now c.route_all.new.outer c.new-told.result.items c.route_all.new.told.items c.args.out.now.items c.put_all.new.out.items
+    c.in_ok-route_all.ensures c.new-told.ensures (search rules)

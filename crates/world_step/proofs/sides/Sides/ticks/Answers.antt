@@ -1,0 +1,21 @@
+-- Tick after tick.
+use Rattle.std.proofs.Common.{◌∙◌, refl, arith}
+use Rattle.world_step.proofs.Scenes.{on_err}
+use Rattle.world_step.proofs.Passing.{no_ticks, tick_so_far, all_ticks, ticks_stop}
+use Rattle.world_step.proofs.sides.Sides.ticks.Goals as goal
+
+pub loop-init : goal.loop-init
+loop-init g c = record { so_far = λ keys. no_ticks c.args.count _; kept = refl }
+
+pub loop-preserved : goal.loop-preserved
+loop-preserved g c = record {
+  so_far = λ keys. tick_so_far c.args.count c.loop.counter _ _ _ (omega (arith, c.loop-test.true)) (c.loop.invariant.so_far keys) (c.in_ok-tick.ensures.ok keys);
+  kept = c.tick.ensures.kept ∙ c.loop.invariant.kept;
+}
+
+pub returns-in_err-tick-clause-err : goal.returns-in_err-tick-clause-err
+returns-in_err-tick-clause-err g c = on_err c.from_residual.result
+    (λ keys. ticks_stop c.args.count c.loop.counter _ _ _ (omega (arith, c.loop-test.true)) (c.loop.invariant.so_far keys) (c.in_err-tick.ensures.err keys))
+
+pub returns-clause-ok : goal.returns-clause-ok
+returns-clause-ok g c = λ keys. all_ticks c.args.count c.loop.counter _ _ (omega (arith, c.loop-test.false)) (c.loop.invariant.so_far keys)

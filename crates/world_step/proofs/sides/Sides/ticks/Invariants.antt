@@ -1,0 +1,14 @@
+use Rattle.std.proofs.Common.{◌≡◌, map, length}
+use Rattle.s0_crypto.specs.declared.key_pair.Keys.{Keys}
+use Rattle.world_step.specs.Scene.{scene_of}
+use Rattle.world_step.proofs.Passing.{TicksSoFar}
+use Rattle.world_step.proofs.sides.Sides.ticks.Given as goal
+
+abbrev pub invariant-loop : goal.invariant-loop
+invariant-loop g l = record {
+  so_far : (keys : Keys) →
+      TicksSoFar l.fn.count l.counter
+      (scene_of keys l.fn.self.host l.fn.self.outer (map (λ d. (goal.Device-dyn g (d.vtable, d.value)).state d.value) l.fn.devices.items) (g.P.Keeper.records l.fn.keeper) l.fn.out.items (g.P.Keeper.faults l.fn.keeper))
+      (scene_of keys l.self.host l.self.outer (map (λ d. (goal.Device-dyn g (d.vtable, d.value)).state d.value) l.devices.items) (g.P.Keeper.records l.keeper) l.out.items (g.P.Keeper.faults l.keeper));
+  kept : length l.devices.items ≡ length l.fn.devices.items;
+}

@@ -1,2 +1,0 @@
-pub mod OnAir
-pub mod Course

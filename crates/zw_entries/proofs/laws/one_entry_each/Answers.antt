@@ -1,6 +1,0 @@
--- No two entries have one text.
-use Rattle.zw_entries.proofs.EntryLaws.{one-entry}
-use Rattle.zw_entries.proofs.laws.one_entry_each.Goals as goal
-
-pub returns : goal.returns
-returns c = one-entry

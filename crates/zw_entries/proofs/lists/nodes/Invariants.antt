@@ -1,7 +1,0 @@
-use Rattle.std.proofs.Common.{◌≡◌, map, take}
-use Rattle.zw_entries.specs.Reading.{node_back}
-use Rattle.zw_entries.proofs.lists.nodes.Given as goal
-
--- what the words so far stand for
-abbrev pub invariant-loop-word : goal.invariant-loop-word
-invariant-loop-word l = l.nodes ≡ map node_back (map (λ x. x.now) (take l.word-index l.words))

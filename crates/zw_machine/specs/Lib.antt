@@ -1,9 +1,0 @@
-pub mod State
-pub mod Refusals
-pub mod Events
-pub mod Did
-pub mod Settling
-pub mod Ticking
-pub mod Lines
-pub mod Fronts
-pub mod Table
