@@ -4,7 +4,7 @@ set -eu
 top=$(cd "$(dirname "$0")/../.." && pwd)
 . "$top/bench/workspace.sh"
 
-workspace_of lines_bench "$top/bench/lines/main.txt" zw_base zw_base zw_words zw_text
+workspace_of lines_bench "$top/bench/lines/main.txt" zw_base zw_words zw_text
 run_program
 "${CC:-cc}" -O2 -o "$work/loop" "$top/bench/lines/loop.c"
 "$work/loop"

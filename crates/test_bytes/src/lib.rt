@@ -1,8 +1,8 @@
-//! Tests of what is read from bytes and written as bytes, against forms that were made outside this project or by hand.
+//! Tests of what is read from bytes and written as bytes, against forms that were made outside this project or by hand:
+//! frames and links of the serial port, functions of the chip, messages of devices, wraps and segments.
 //!
-//! They cover frames and links of the serial port, functions of the chip, messages of devices, wraps and segments. A
-//! crate that has tests is proved once with them and once without. So the crates below have none, and their tests are
-//! in this crate, which promises nothing. Each public call is called here once with ample memory.
+//! A crate that has tests is proved once with them and once without. So the crates below have none, and this one, which
+//! promises nothing, has theirs. Each public call is called here once with ample memory.
 #![tactic(auto)]
 
 #[cfg(test)]

@@ -1,9 +1,8 @@
-//! Tests of the simulated devices, each kind called through its trait: payloads made by hand or outside this project,
-//! and hostile ones.
+//! Tests of the simulated devices: each kind called through its bound, with payloads that were written out by hand or by
+//! implementations outside this project; and the wrappers.
 //!
-//! The wrappers of devices are tested too. A crate that has tests is proved once with them and once without. So
-//! `device_kinds`, `device_stack` and `device_sim` have none, and their tests are in this crate, which promises
-//! nothing.
+//! A crate that has tests is proved once with them and once without. So `device_kinds`, `device_stack` and `device_sim` have
+//! none, and this one, which promises nothing, has theirs.
 #![tactic(auto)]
 
 #[cfg(test)]

@@ -1,7 +1,7 @@
-//! Tests of the simulated chip and of the air: what is done to them and what they put out, line by line.
+//! Tests of the simulated chip: what it answers to functions, by bytes that were worked by hand from the formats.
 //!
-//! The bytes were worked by hand from the formats. A crate that has tests is proved once with them and once without. So
-//! the crates below have none, and their tests are in this crate, which promises nothing.
+//! A crate that has tests is proved once with them and once without. So the crates below have none, and this one, which
+//! promises nothing, has theirs.
 #![tactic(auto)]
 
 #[cfg(test)]

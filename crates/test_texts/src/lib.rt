@@ -1,8 +1,8 @@
-//! Tests of the crates of texts: lines, entries, events, reports of units and words of the command line.
+//! Tests of the crates of texts: entries, reports of units, words of the command line and the texts of faults, against forms that
+//! were worked by hand from docs/.
 //!
-//! The expected forms were worked by hand from docs/. A crate that has tests is proved once with them and once without.
-//! So the crates below have none, and their tests are in this crate, which promises nothing. Each public call is called
-//! here once with ample memory.
+//! A crate that has tests is proved once with them and once without. So the crates below have none, and this one, which
+//! promises nothing, has theirs.
 #![tactic(auto)]
 
 #[cfg(test)]
