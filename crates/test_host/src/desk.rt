@@ -77,14 +77,14 @@ impl Desk {
         Ok(())
     }
 
-    /// A host that starts from the records.
+    /// A host that starts from the records, where the keeper gives them.
     fn open(&mut self) -> Result<(), Fail> {
         match Host::open(self.alloc, KEY, &mut self.keeper) {
             Ok(host) => {
                 self.host = host;
                 Ok(())
             }
-            Err(_) => Err("no host".into()),
+            Err(_) => self.tell("refused"),
         }
     }
 

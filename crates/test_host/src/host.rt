@@ -144,7 +144,8 @@ chip 010B00040008056C0201FF006D > h 06 > out 1 success > store 8 0/config:0 1 > 
 > store 8 0/config:66 1 > store 8 0/config:67 1 > store 8 0/config:68 1 > store 8 0/config:69 1\n\
 ";
 
-/// Keepers of which one call fails, for each call of one exchange: what is not kept is not done.
+/// Keepers of which one call fails, for each call of one exchange: what is not kept is not done. The last fails at the second record that a
+/// new host reads.
 const UNKEPT: &str = "\
 host 1\n\
 set 2 on > refused\n\
@@ -159,6 +160,9 @@ chip 0104011301E8 > h 06\n\
 chip 010500130100E8 > h 06\n\
 chip 010B00040002056C0201FF0067 > h 06 > unkept 2\n\
 chip 010B00040002056C0201FF0067 > h 06 > out 1 success > store 2 0/switch 255\n\
+host 4\n\
+set 2 on > accepted 1 > begin 2 1 1 > h 010E001302076C0101032501FF250177\n\
+open > refused\n\
 ";
 
 /// The same for an exchange with a lock: its joining, its classes, the order, the session, the count of its nonces, the nonce given
