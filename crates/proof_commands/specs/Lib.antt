@@ -3,3 +3,4 @@ pub mod Laws
 pub mod Lives
 pub mod Port
 pub mod Replay
+pub mod All

@@ -9,12 +9,11 @@
 //! run. There is no code here.
 #![tactic(auto)]
 
+mod all;
 mod port;
 mod replay;
 mod sim;
 mod words;
 
-pub use port::port_keeps_laws;
-pub use replay::replay_keeps_laws;
-pub use sim::sim_keeps_laws;
+pub use all::commands_keep_laws;
 pub use words::lines_are_read_as_said;

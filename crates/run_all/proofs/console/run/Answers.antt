@@ -12,10 +12,10 @@ returns-in-Ok-clause-ran g c = record {
 }
 
 pub returns-in-Ok-clause-laws : goal.returns-in-Ok-clause-laws
-returns-in-Ok-clause-laws g c = c.sim_keeps_laws.ensures _ _ _ _
+returns-in-Ok-clause-laws g c = c.commands_keep_laws.ensures _ _ _ _ _
 
 pub returns-in-Err-Usage-clause-laws : goal.returns-in-Err-Usage-clause-laws
-returns-in-Err-Usage-clause-laws g c = c.sim_keeps_laws.ensures _ _ _ _
+returns-in-Err-Usage-clause-laws g c = c.commands_keep_laws.ensures _ _ _ _ _
 
 pub returns-in-Err-NoMemory-clause-laws : goal.returns-in-Err-NoMemory-clause-laws
-returns-in-Err-NoMemory-clause-laws g c = c.sim_keeps_laws.ensures _ _ _ _
+returns-in-Err-NoMemory-clause-laws g c = c.commands_keep_laws.ensures _ _ _ _ _
