@@ -1,6 +1,6 @@
 -- What the host asks the chip to send (Supervision, Transport Service, Security 0 and Wake Up Command Classes; which of them
 -- is sent when is this project's own rule): the message of the last session, or what a node or a line asked for.
-use Rattle.std.specs.Prelude.{◌≡◌, ◌⊎◌, ℕ, ◌%◌, List, [], ◌∷◌, length, Option, Some, None, ⊤}
+use Rattle.std.specs.Prelude.{◌≡◌, ◌⊎◌, ℕ, ◌%◌, if◌then◌else◌, List, [], ◌∷◌, ◌++◌, length, Option, Some, None, ⊤}
 use Rattle.std.specs.List.{flat_map, AllByRecursion}
 use Rattle.zw_base.specs.declared.order.Order.{Order}
 use Rattle.host_orders.specs.Errands.{send_text, get_text}
@@ -17,9 +17,10 @@ use Rattle.zw_text.specs.declared.line.Line.{Line}
 use Rattle.zw_text.specs.declared.line.Line.TheVariants as lines
 use Rattle.zw_text.specs.declared.entry.Entry.{Entry}
 use Rattle.zw_text.specs.declared.entry.Entry.TheVariants.{Begin, Written}
-use Rattle.zw_text.specs.Transcript.{accepted, sessions, lines_done}
+use Rattle.zw_text.specs.Transcript.{accepted, sessions, line_of}
 use Rattle.law_transcript.specs.Lists.{EachAfter, Has, listed}
 use Rattle.law_transcript.specs.Nodes.{controller, host_list}
+use Rattle.law_transcript.specs.Restarts.{begins_refused}
 use Rattle.law_transcript.specs.Commands.{order_of, classes_for, message_for}
 use Rattle.law_transcript.specs.Units.{Carried, sending_in, payloads_from}
 
@@ -91,9 +92,18 @@ asked_by listing past (lines.Send node word) = record { node = node; payload = s
 asked_by listing past (lines.Get node end) = record { node = node; payload = get_text (host_list listing past node) end } ∷ []
 asked_by listing past _ = []
 
+-- the texts that the lines asked for, each by the classes that its node had listed when the line was said; one that is refused asks for nothing
+abbrev pub asked_from : (ℕ → List ℕ) → List Entry → List Entry → List Carried
+asked_from listing past [] = []
+asked_from listing past (entry ∷ rest) =
+    (if begins_refused rest then [] else flat_map (asked_by listing past) (line_of entry)) ++ asked_from listing (past ++ entry ∷ []) rest
+
+abbrev pub asked_for : (ℕ → List ℕ) → List Entry → List Carried
+asked_for listing past = asked_from listing [] past
+
 -- the payload is the Set or Get that a line asked for
 abbrev pub IsAskedFor : (ℕ → List ℕ) → List Entry → Carried → Type 0
-IsAskedFor listing past carried = Has (flat_map (asked_by listing past) (lines_done past)) carried
+IsAskedFor listing past carried = Has (asked_for listing past) carried
 
 -- ---- each request
 

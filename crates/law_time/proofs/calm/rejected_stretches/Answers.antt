@@ -36,7 +36,7 @@ pub returns-clause-missing : goal.returns-clause-missing
 unfolding computing
 returns-clause-missing c = λ law. not_true (law.alone
     (record {
-      still = record { marks = refl; host = refl; chip = refl; air = refl; idle = refl; asleep = refl; working = refl };
+      still = record { marks = refl; host = refl; chip = refl; called = refl; air = refl; idle = refl; asleep = refl; working = refl };
       to_come = refl;
     })
     (record {
@@ -52,7 +52,7 @@ pub returns-clause-missing_together : goal.returns-clause-missing_together
 unfolding computing
 returns-clause-missing_together c = λ law. not_true (law.together
     (record {
-      still = record { marks = refl; host = refl; chip = refl; air = refl; idle = refl; asleep = refl; working = refl };
+      still = record { marks = refl; host = refl; chip = refl; called = refl; air = refl; idle = refl; asleep = refl; working = refl };
       to_come = refl;
     })
     (record {
@@ -68,7 +68,7 @@ pub returns-clause-succeeded : goal.returns-clause-succeeded
 unfolding computing
 returns-clause-succeeded c = λ law. not_true (law.alone
     (record {
-      still = record { marks = refl; host = refl; chip = refl; air = refl; idle = refl; asleep = refl; working = refl };
+      still = record { marks = refl; host = refl; chip = refl; called = refl; air = refl; idle = refl; asleep = refl; working = refl };
       to_come = refl;
     })
     (record {
@@ -84,7 +84,7 @@ pub returns-clause-failed : goal.returns-clause-failed
 unfolding computing
 returns-clause-failed c = λ law. not_true (law.alone
     (record {
-      still = record { marks = refl; host = refl; chip = refl; air = refl; idle = refl; asleep = refl; working = refl };
+      still = record { marks = refl; host = refl; chip = refl; called = refl; air = refl; idle = refl; asleep = refl; working = refl };
       to_come = refl;
     })
     (record {
