@@ -5,15 +5,15 @@ use Rattle.std.specs.List.{flat_map, list_any}
 use Rattle.zw_words.specs.declared.side.Side.TheVariants.{Host, Chip}
 use Rattle.zw_text.specs.declared.entry.Refusal.TheVariants as refusals
 use Rattle.zw_text.specs.declared.entry.Entry.{Entry}
-use Rattle.zw_text.specs.declared.entry.Entry.TheVariants.{Said, Refused, Begin, Written, QueueFull, Awake, Asleep, Unkept, Time}
-use Rattle.zw_text.specs.Transcript.{shown, joined, line_last, line_of}
+use Rattle.zw_text.specs.declared.entry.Entry.TheVariants.{Said, Refused, Begin, Written, Dropped, Garbled, Overrun, QueueFull, Awake, Asleep, Unkept, Time}
+use Rattle.zw_text.specs.Transcript.{folded, shown, joined, line_last, line_of}
 use Rattle.law_transcript.specs.Answers.{before_last}
 use Rattle.law_transcript.specs.Commands.{waiting}
 use Rattle.law_transcript.specs.Nodes.{known_classes}
 use Rattle.law_transcript.specs.Restarts.{begins_refused}
 use Rattle.law_transcript.specs.Units.{Carried, request_in, sending_in}
 use Rattle.law_time.specs.Moments.{Keeps, clock, later_of, now_at}
-use Rattle.law_time.specs.Judged.{is_acknowledgement, is_mark, brought_here}
+use Rattle.law_time.specs.Judged.{is_data, is_acknowledgement, is_mark, is_of_air, is_of_chip, brought_here}
 use Rattle.law_time.specs.Requests.{Asked, are_none, asked, asked_after, asked_nothing, is_new, starts_anew}
 use Rattle.law_time.specs.Ends.{has_ended, is_abort_frame, owes_abort}
 use Rattle.law_time.specs.Sessions.{runs}
@@ -79,6 +79,28 @@ is_told asked now queue node =
     list_any (bytes_eq (no_more node)) queue.wants || list_any (λ one. one == node) queue.dropped
     || (list_any (λ request. bytes_eq (no_more node) (want_of request)) (request_in asked.frame) && not (has_ended asked now))
 
+-- what may stand in a tick before the host's own part of it: what is of the air and of devices, frames that the chip writes, and what becomes of its units
+abbrev pub is_before_host : Entry → Bool
+is_before_host (Written Chip unit) = is_data unit
+is_before_host (Dropped Chip) = true
+is_before_host (Garbled Chip unit) = true
+is_before_host (Overrun Chip) = true
+is_before_host entry = is_of_air entry || is_of_chip entry
+
+-- whether the next entry may stand before the host's own part of a tick
+abbrev pub before_host_step : Bool → Entry → Bool
+before_host_step before (Said words) = false
+before_host_step before (Time tick) = true
+before_host_step before entry = before && is_before_host entry
+
+abbrev pub is_before_own_tick : List Entry → Bool
+is_before_own_tick past = folded before_host_step false past
+
+-- the host's clock before an entry: a unit that the chip writes in a tick before the host's own part finds the host at the tick before
+abbrev pub host_now : List Entry → Entry → ℕ
+host_now past (Written Chip unit) = if is_before_own_tick past then now_at past (Written Chip unit) - 1 else now_at past (Written Chip unit)
+host_now past entry = now_at past entry
+
 -- there is nothing for a node: it counts as awake, does not listen, its classes are known, no command waits and no series runs
 abbrev pub has_nothing : (ℕ → List ℕ) → List Entry → ℕ → ℕ → Bool
 has_nothing listing past now node =
@@ -132,7 +154,7 @@ has_looked asked queue _ = false
 
 -- the queue as it is before an entry
 abbrev pub looked : (ℕ → List ℕ) → List Entry → Asked → Queue → Entry → Queue
-looked listing past asked queue entry = if has_looked asked queue entry then with_due listing past (now_at past entry) asked queue else queue
+looked listing past asked queue entry = if has_looked asked queue entry then with_due listing past (host_now past entry) asked queue else queue
 
 -- ---- what waits
 
