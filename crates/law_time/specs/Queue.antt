@@ -79,28 +79,6 @@ is_told asked now queue node =
     list_any (bytes_eq (no_more node)) queue.wants || list_any (λ one. one == node) queue.dropped
     || (list_any (λ request. bytes_eq (no_more node) (want_of request)) (request_in asked.frame) && not (has_ended asked now))
 
--- what may stand in a tick before the host's own part of it: what is of the air and of devices, frames that the chip writes, and what becomes of its units
-abbrev pub is_before_host : Entry → Bool
-is_before_host (Written Chip unit) = is_data unit
-is_before_host (Dropped Chip) = true
-is_before_host (Garbled Chip unit) = true
-is_before_host (Overrun Chip) = true
-is_before_host entry = is_of_air entry || is_of_chip entry
-
--- whether the next entry may stand before the host's own part of a tick
-abbrev pub before_host_step : Bool → Entry → Bool
-before_host_step before (Said words) = false
-before_host_step before (Time tick) = true
-before_host_step before entry = before && is_before_host entry
-
-abbrev pub is_before_own_tick : List Entry → Bool
-is_before_own_tick past = folded before_host_step false past
-
--- the host's clock before an entry: a unit that the chip writes in a tick before the host's own part finds the host at the tick before
-abbrev pub host_now : List Entry → Entry → ℕ
-host_now past (Written Chip unit) = if is_before_own_tick past then now_at past (Written Chip unit) - 1 else now_at past (Written Chip unit)
-host_now past entry = now_at past entry
-
 -- there is nothing for a node: it counts as awake, does not listen, its classes are known, no command waits and no series runs
 abbrev pub has_nothing : (ℕ → List ℕ) → List Entry → ℕ → ℕ → Bool
 has_nothing listing past now node =
@@ -152,9 +130,29 @@ has_looked asked queue (Written Host unit) = is_new asked unit
 has_looked asked queue (QueueFull node) = are_none queue.owed
 has_looked asked queue _ = false
 
+-- what may stand in a tick before the host's own part of it: what is of the air and of devices, frames that the chip writes, and what becomes of its units
+abbrev pub is_before_host : Entry → Bool
+is_before_host (Written Chip unit) = is_data unit
+is_before_host (Dropped Chip) = true
+is_before_host (Garbled Chip unit) = true
+is_before_host (Overrun Chip) = true
+is_before_host entry = is_of_air entry || is_of_chip entry
+
+-- whether the host's own part of a tick is still to come, as far as the entries tell
+abbrev pub before_host_step : Bool → Entry → Bool
+before_host_step before (Said words) = false
+before_host_step before (Time tick) = true
+before_host_step before entry = before && is_before_host entry
+
+-- whether an entry is a unit that the chip writes there: the host has not looked since the tick began
+abbrev pub comes_before_host : List Entry → Entry → Bool
+comes_before_host past (Written Chip unit) = folded before_host_step false past
+comes_before_host past entry = false
+
 -- the queue as it is before an entry
 abbrev pub looked : (ℕ → List ℕ) → List Entry → Asked → Queue → Entry → Queue
-looked listing past asked queue entry = if has_looked asked queue entry then with_due listing past (host_now past entry) asked queue else queue
+looked listing past asked queue entry = 
+    if has_looked asked queue entry && not (comes_before_host past entry) then with_due listing past (now_at past entry) asked queue else queue
 
 -- ---- what waits
 
