@@ -115,10 +115,10 @@ abbrev pub have_woken : List Entry → List ℕ
 have_woken past = if are_none (shown woke_at past) then [] else joined past
 
 -- it is put into the queue for each that is to be told
-abbrev pub with_due : (ℕ → List ℕ) → List Entry → ℕ → Asked → Queue → Queue
-with_due listing past now asked queue =
+abbrev pub with_due : (ℕ → List ℕ) → List Entry → ℕ → ℕ → Asked → Queue → Queue
+with_due listing past now ended asked queue =
     each_with with_no_more queue
-    (map (λ due. due.node) (in_order (filter (λ due. not (is_told asked now queue due.node)) (flat_map (due_of listing past now) (have_woken past)))))
+    (map (λ due. due.node) (in_order (filter (λ due. not (is_told asked ended queue due.node)) (flat_map (due_of listing past now) (have_woken past)))))
 
 -- whether the host has looked what is next before an entry: it does after each line and tick, and when it has judged what came
 abbrev pub has_looked : Asked → Queue → Entry → Bool
@@ -144,15 +144,16 @@ before_host_step before (Said words) = false
 before_host_step before (Time tick) = true
 before_host_step before entry = before && is_before_host entry
 
--- whether an entry is a unit that the chip writes there: the host has not looked since the tick began
-abbrev pub comes_before_host : List Entry → Entry → Bool
-comes_before_host past (Written Chip unit) = folded before_host_step false past
-comes_before_host past entry = false
+-- The clock at which the end of a request counts before an entry. A unit that the chip writes in a tick before the host's own part stands before that request ends, if
+-- it ends in this tick: what the host says of the end stands after it.
+abbrev pub ends_by : List Entry → Entry → ℕ
+ends_by past (Written Chip unit) = if folded before_host_step false past then now_at past (Written Chip unit) - 1 else now_at past (Written Chip unit)
+ends_by past entry = now_at past entry
 
 -- the queue as it is before an entry
 abbrev pub looked : (ℕ → List ℕ) → List Entry → Asked → Queue → Entry → Queue
-looked listing past asked queue entry = 
-    if has_looked asked queue entry && not (comes_before_host past entry) then with_due listing past (now_at past entry) asked queue else queue
+looked listing past asked queue entry =
+    if has_looked asked queue entry then with_due listing past (now_at past entry) (ends_by past entry) asked queue else queue
 
 -- ---- what waits
 
