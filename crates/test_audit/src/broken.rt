@@ -1,10 +1,9 @@
 //! Values from outside: transcripts as docs/TRANSCRIPT.md describes them, in order or with one thing wrong, by hand.
 
-use crate::evening;
-use crate::evening::{BEFORE, BEHIND};
-use crate::rows::check_row;
 use audit::{Break, examine};
 use std::alloc::Global;
+use std::process::Abort;
+use std::test::Fail;
 
 /// A switch is set, and confirms it.
 const ORDER: &str = "> set 2 on\naccepted 1 node 2\n";
@@ -44,7 +43,7 @@ const REPORT: &str = "report 2 0/switch 255\n";
 const HEARD: &str = "node 2 sessions -\nvalue 2 0/switch confirmed - heard 255\n";
 
 /// Texts in pieces, the first line that breaks them, and the rule that it breaks.
-const CASES: &[(&[&str], Option<(u32, Break)>)] = &[
+const CASES: [(&[&str], Option<(u32, Break)>); 67] = [
     (&[], None),
     (
         &[
@@ -283,40 +282,33 @@ const CASES: &[(&[&str], Option<(u32, Break)>)] = &[
         ],
         Some((10, Break::Table)),
     ),
-    // an evening, and the same with another change in its middle
-    (&[BEFORE, evening::CHANGE, BEHIND], None),
-    (
-        &[BEFORE, evening::OTHER_CHANGE, BEHIND],
-        Some((383, Break::Once)),
-    ),
 ];
 
 /// The pieces as one text.
-fn text_of(alloc: Global, pieces: &[&str]) -> Option<Vec<u8>> {
+fn text_of(alloc: Global, pieces: &[&str]) -> Result<Vec<u8>, Fail> {
     let mut text = Vec::new(alloc);
     for piece in pieces {
-        text.extend_from_slice(piece.as_bytes()).ok()?;
+        text.extend_from_slice(piece.as_bytes())?;
     }
-    Some(text)
+    Ok(text)
 }
 
-/// What is found of the text of these pieces.
-fn found(alloc: Global, pieces: &[&str]) -> Option<Option<(u32, Break)>> {
+pub(crate) fn expect(
+    rt: &impl Abort,
+    alloc: Global,
+    pieces: &[&str],
+    want: Option<(u32, Break)>,
+) -> Result<(), Fail> {
     let text = text_of(alloc, pieces)?;
-    examine(alloc, text.as_slice()).ok()
-}
-
-/// Whether that is found of them.
-fn is_found(alloc: Global, pieces: &[&str], want: Option<(u32, Break)>) -> bool {
-    match found(alloc, pieces) {
-        Some(found) => found == want,
-        None => false,
-    }
+    let found = examine(alloc, text.as_slice()).ok().ok_or("no memory")?;
+    assert_eq!(rt; found, want, "{pieces:?}");
+    Ok(())
 }
 
 #[test]
-fn finds_the_first_broken_line(rt: HostRuntime) {
-    for (row, (pieces, want)) in CASES.iter().enumerate() {
-        check_row(&rt, is_found(rt.alloc(), pieces, *want), row);
+fn finds_the_first_broken_line(rt: HostRuntime) -> Result<(), Fail> {
+    for (pieces, want) in CASES {
+        expect(&rt, rt.alloc(), pieces, want)?;
     }
+    Ok(())
 }

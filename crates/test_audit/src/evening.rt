@@ -1,8 +1,12 @@
 //! An evening of twelve nodes without a fault, as `sim` writes it: what `zwave_console` prints for its stored lines (its file
 //! `stdout`). The whole is in order. With another change in its middle it is not, from that line on.
 
+use super::broken::expect;
+use audit::Break;
+use std::test::Fail;
+
 /// The first 382 lines.
-pub(crate) const BEFORE: &str = "\
+const BEFORE: &str = "\
 > link 1 3\n\
 > join 3\n\
 > interview 3\n\
@@ -387,11 +391,11 @@ c 01100004000C0A98800133C0E9387C624D85\n\
 heard 22\n\
 ";
 
-pub(crate) const CHANGE: &str = "dev 14 1 0/mode 2\n";
+const CHANGE: &str = "dev 14 1 0/mode 2\n";
 
-pub(crate) const OTHER_CHANGE: &str = "dev 14 1 0/mode 1\n";
+const OTHER_CHANGE: &str = "dev 14 1 0/mode 1\n";
 
-pub(crate) const BEHIND: &str = "\
+const BEHIND: &str = "\
 air 23 14>1 via - 6C0201FF00\n\
 h 06\n\
 c 010500130B00E2\n\
@@ -750,3 +754,18 @@ node 18 sessions 3 17\n\
 value 18 0/switch confirmed 0 heard -\n\
 device 18 0/switch 0\n\
 ";
+
+#[test]
+fn an_evening_is_in_order(rt: HostRuntime) -> Result<(), Fail> {
+    expect(&rt, rt.alloc(), &[BEFORE, CHANGE, BEHIND], None)
+}
+
+#[test]
+fn an_evening_with_another_change(rt: HostRuntime) -> Result<(), Fail> {
+    expect(
+        &rt,
+        rt.alloc(),
+        &[BEFORE, OTHER_CHANGE, BEHIND],
+        Some((383, Break::Once)),
+    )
+}

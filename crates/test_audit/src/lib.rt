@@ -8,5 +8,3 @@
 mod broken;
 #[cfg(test)]
 mod evening;
-#[cfg(test)]
-mod rows;
