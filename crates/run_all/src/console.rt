@@ -41,7 +41,7 @@ pub fn run<S: Source, K: Sink, D: Draw, P: Keeper>(
         (around (S.left source.new) (S.faults source.new) (K.written sink.new) (K.faults sink.new)
         (map (λ d. state d) devices.new.items) (P.number keeper.new) (P.records keeper.new) (P.faults keeper.new)) }
 
-    // Where that was `sim`, `replay` or `host`, the run has a story, and each story that it has keeps the laws of that command.
+    // Where that was `sim`, `replay`, `include` or `host`, the run has a story, and each story that it has keeps the laws of that command.
     ensures laws { KeepsLaws result (texts_of words.now) key
         (around (S.left source.old) (S.faults source.old) (K.written sink.old) (K.faults sink.old)
         (map (λ d. state d) devices.old.items) (P.number keeper.old) (P.records keeper.old) (P.faults keeper.old))
