@@ -1,0 +1,4 @@
+pub mod Joining
+mod Settling
+mod Ticking
+pub mod Lines
