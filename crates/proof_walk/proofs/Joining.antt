@@ -23,15 +23,16 @@ pub same : {last here : Phase} {m : Machine} {events : List Event} (these : List
 same {last} {here} {m} these are path = subst (λ (l : List Event). Path last here m l) (sym are) path
 
 -- the first events of a path go on to some phase
-pub cut : {last here : Phase} {m : Machine} {events : List Event} (a b : List Event) → events ≡ a ++ b → Path last here m events → GoesOn here m a
-cut {last} {here} {m} [] b are path = (here, Ends)
-cut (event ∷ a) b are Ends = absurd cc
-cut (event ∷ a) b are (Turned turns path) = let part = cut (event ∷ a) b are path in (part.0, Turned turns part.1)
-cut {m = m} (event ∷ a) b are (Stepped {event = first} {events = events} goes path) =
+pub cut : {last here : Phase} {m : Machine} {events : List Event} → Path last here m events → (a b : List Event) → events ≡ a ++ b → GoesOn here m a
+cut {last} Ends [] b are = (last, Ends)
+cut Ends (event ∷ a) b are = absurd cc
+cut (Turned turns path) a b are = let part = cut path a b are in (part.0, Turned turns part.1)
+cut {here = here} (Stepped goes path) [] b are = (here, Ends)
+cut {here = here} {m = m} (Stepped {event = first} {events = events} goes path) (event ∷ a) b are =
     let head : first ≡ event = cc in
     let tail : events ≡ a ++ b = cc in
-    let part = cut a b tail path in
-    (part.0, subst (λ (e : Event). Path part.0 _ m (e ∷ a)) head (Stepped goes part.1))
+    let part = cut path a b tail in
+    (part.0, subst (λ (e : Event). Path part.0 here m (e ∷ a)) head (Stepped goes part.1))
 
 -- ---- schedules
 
@@ -54,7 +55,7 @@ nothing here m events none = (here, same [] none Ends)
 
 pub some : (here last : Phase) (Kind : Machine → List Event → Type 0) → Leads here Kind last → Begins here (PrefixOf Kind)
 some here last Kind leads m events (inl none) = nothing here m events none
-some here last Kind leads m events (inr (rest, is)) = cut events rest refl (leads m (events ++ rest) is)
+some here last Kind leads m events (inr (rest, is)) = cut (leads m (events ++ rest) is) events rest refl
 
 pub then_some : (here middle : Phase) (FirstPrefix First SecondPrefix : Machine → List Event → Type 0) → Begins here FirstPrefix → Leads here First middle → Begins middle SecondPrefix
     → Begins here (ThenPrefix FirstPrefix First SecondPrefix)

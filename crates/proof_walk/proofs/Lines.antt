@@ -10,7 +10,7 @@ use Rattle.proof_host.proofs.Lists.{each-append}
 use Rattle.outside_model.specs.Events.{Clears_pipe}
 use Rattle.world_model.specs.State.{Machine}
 use Rattle.world_model.specs.Events.{Event, Outside_does, Restarts, happens}
-use Rattle.world_model.specs.Did.{entries_all, Nothing}
+use Rattle.world_model.specs.Did.{entries_all, Nothing, Then, PrefixOf, ThenPrefix}
 use Rattle.world_model.specs.Settling.{Settles}
 use Rattle.world_model.specs.Lines.{IsEffect, IsLineBegin, IsLineRest, IsLine, restart_events}
 use Rattle.world_model.specs.Prefixes.{SettlesPrefix, EffectPrefix, LineRestPrefix, LinePart}
@@ -37,9 +37,12 @@ doing line m (event ∷ events) = Stepped {next = Doing line events} (refl, refl
 effect : (line : Line) → Leads (Begun line) (IsEffect line) (Sleeping 64 0)
 effect line m events is = Turned {next = Doing line events} (inl (events, is, refl)) (doing line m events)
 
+settled_effect : (line : Line) → Leads (Begun line) (Then (IsEffect line) Settles) (To_tick zero)
+settled_effect line = then (Begun line) (Sleeping 64 0) (To_tick zero) (IsEffect line) Settles (effect line) (settling 64 0)
+
 line_rest : (line : Line) → Leads (Begun line) (IsLineRest line) (To_tick zero)
 line_rest (Tick count) m events is = Turned {next = To_tick count} (inr (count, refl, refl)) (all_ticks count m events is)
-line_rest line m events is = then (Begun line) (Sleeping 64 0) (To_tick zero) (IsEffect line) Settles (effect line) (settling 64 0) m events is
+line_rest line m events is = settled_effect line m events is
 
 pub whole_line : (line : Line) → Leads (Said_line line) (IsLine line) Between
 whole_line line =
@@ -48,19 +51,24 @@ whole_line line =
 
 -- ---- where an allocation failure cut it short
 
+some_effect : (line : Line) → Begins (Begun line) (PrefixOf (IsEffect line))
+some_effect line = some (Begun line) (Sleeping 64 0) (IsEffect line) (effect line)
+
 effect_begins : (line : Line) → Begins (Begun line) (EffectPrefix line)
 effect_begins Restart m events (inl none) = nothing (Begun Restart) m events none
 effect_begins Restart m events (inr (state, are)) =
-    cut events (Outside_does (Clears_pipe side.Chip) ∷ []) (sym (restart_parts are)) (effect Restart m (restart_events state) (inl (state, refl)))
+    cut (effect Restart m (restart_events state) (inl (state, refl))) events (Outside_does (Clears_pipe side.Chip) ∷ []) (sym (restart_parts are))
   where
     restart_parts : events ≡ Restarts state ∷ Outside_does (Clears_pipe side.Host) ∷ [] → events ++ Outside_does (Clears_pipe side.Chip) ∷ [] ≡ restart_events state
     restart_parts are = subst (λ (l : List Event). l ++ Outside_does (Clears_pipe side.Chip) ∷ [] ≡ restart_events state) (sym are) refl
-effect_begins line m events is = some (Begun line) (Sleeping 64 0) (IsEffect line) (effect line) m events is
+effect_begins line m events is = some_effect line m events is
+
+effect_rest_begins : (line : Line) → Begins (Begun line) (ThenPrefix (EffectPrefix line) (IsEffect line) SettlesPrefix)
+effect_rest_begins line = then_some (Begun line) (Sleeping 64 0) (EffectPrefix line) (IsEffect line) SettlesPrefix (effect_begins line) (effect line) (settling_begins 64 0)
 
 rest_begins : (line : Line) → Begins (Begun line) (LineRestPrefix line)
 rest_begins (Tick count) m events is = let more = ticks_begin count m events is in (more.0, Turned {next = To_tick count} (inr (count, refl, refl)) more.1)
-rest_begins line m events is =
-    then_some (Begun line) (Sleeping 64 0) (EffectPrefix line) (IsEffect line) SettlesPrefix (effect_begins line) (effect line) (settling_begins 64 0) m events is
+rest_begins line m events is = effect_rest_begins line m events is
 
 pub line_part : (line : Line) → Begins (Said_line line) (LinePart line)
 line_part line m events (inl whole) = (Between, whole_line line m events whole)
