@@ -19,6 +19,7 @@ pub returns-clause-two : goal.returns-clause-two
 unfolding computing
 returns-clause-two c = record {
   quiet = refl;
+  kept = refl;
   reached = (
     record { repeaters = []; route = direct _ _ _ refl; live = is_linked _ _ 1 2 ∙ refl; back = []; way = (direct _ _ _ refl).walk },
     (
@@ -84,6 +85,7 @@ pub returns-clause-repeated : goal.returns-clause-repeated
 unfolding computing
 returns-clause-repeated c = record {
   quiet = refl;
+  kept = refl;
   reached = (
     record {
       repeaters = 2 ∷ [];
