@@ -143,7 +143,7 @@ pub fn worked_stretches()
     ensures begun { answers_all (the_switch ∷ []) ordered_before begun_following ≡ true }
 {}
 
-/// These are none: with a line that loses frames, of more than 16 nodes, without the device, of one with another key, of one that does not
+/// These are no stretches: one with a line that loses frames, of more than 16 nodes, without the device, of one with another key, of one that does not
 /// listen though the host takes it to, or lists other classes, now or when its command was accepted, of a node out of reach, with a node
 /// that sleeps and is not woken, before its order or twice, with one woken that has nothing to do or has not joined, and in which the
 /// keeper fails, for a session or an order. Two nodes are not one, a node that sleeps and a lock are no plain listeners, and two ticks are
