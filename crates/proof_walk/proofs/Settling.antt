@@ -152,9 +152,9 @@ passes_begin zero ticks m events none = nothing (To_tick ticks) m events none
 passes_begin (suc more) ticks m events (inl is) = move_begins more ticks m events is
 passes_begin (suc more) ticks m events (inr (moves, rest, are, moved, is)) =
     let later =
-        then_some (Sleeping (kept moves more) ticks) (after_pump (kept moves more) ticks) Nothing IsPump (IfMoved moves (PassesPrefix more))
-        (nothing (Sleeping (kept moves more) ticks)) (pump (kept moves more) ticks) (if_moved_begins more ticks moves (λ m events is. passes_begin more ticks m events is))
-        (happens_all m moves) rest is in
+    then_some (Sleeping (kept moves more) ticks) (after_pump (kept moves more) ticks) Nothing IsPump (IfMoved moves (PassesPrefix more))
+    (nothing (Sleeping (kept moves more) ticks)) (pump (kept moves more) ticks) (if_moved_begins more ticks moves (λ m events is. passes_begin more ticks m events is))
+    (happens_all m moves) rest is in
     (later.0, same (moves ++ rest) are (join (move more ticks m moves moved) later.1))
 
 pub settling_begins : (count ticks : ℕ) → Begins (Sleeping count ticks) (ThenPrefix Nothing IsPump (PassesPrefix count))

@@ -101,7 +101,7 @@ pub record Outer (Asks : List Entry → Entry → Type 0) (Knows : Pending → K
   -- the chip takes bytes; it judges the items that end in them, one after another; it ticks; it is given what is due
   pub takes : (w : Outside) (count : ℕ) (rest : Rest) (ways : List (Item × Option Route)) → MayTake w.outer count rest ways
       → Moves Asks (Knows nothing) w [] (Knows (Judging ways))
-          (outside (record w.outer { to_chip = way.after w.outer.to_chip (Takes count); chip = record { decoder = rest; state = w.outer.chip.state } }) w.devices)
+      (outside (record w.outer { to_chip = way.after w.outer.to_chip (Takes count); chip = record { decoder = rest; state = w.outer.chip.state } }) w.devices)
   pub judges : (w : Outside) (way : Item × Option Route) (ways : List (Item × Option Route)) → MayOfChip w.outer.chip.state (Judged way.0 way.1)
       → Comes Asks (Knows (Judging (way ∷ ways))) w (chip_does w.outer (Judged way.0 way.1)) w.devices (Knows (Judging ways))
   pub judged : (awaits : Bool) (past : List Entry) (w : Outside) → Knows (Judging []) awaits past w → Knows nothing awaits past w
@@ -110,7 +110,7 @@ pub record Outer (Asks : List Entry → Entry → Type 0) (Knows : Pending → K
   -- a frame arrives or is heard again; what that tells is dealt with, one thing after another
   pub steps : (w : Outside) (step : AirStep) → MayHappen (mesh_of w) step
       → Moves Asks (Knows nothing) w [] (Knows (Dealing (mesh_outs (mesh_of w) step)))
-          (outside (record w.outer { air = (mesh_after (mesh_of w) step).air }) (mesh_after (mesh_of w) step).devices)
+      (outside (record w.outer { air = (mesh_after (mesh_of w) step).air }) (mesh_after (mesh_of w) step).devices)
   pub deals : (w : Outside) (event : AirEvent) (events : List AirEvent)
       → Comes Asks (Knows (Dealing (event ∷ events))) w (deals w.devices w.outer event) w.devices (Knows (Dealing events))
   -- the device at a place does something of itself or by hand
