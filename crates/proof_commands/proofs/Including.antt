@@ -122,7 +122,7 @@ pub part_of : {status : Status} {key : List ℕ} {left left' sink sink' : Option
 part_of {status} {key} {left} {left'} {sink} {sink'} ran before lines after are all =
     let same : lines_of ran ≡ (before ++ lines) ++ after = are ∙ sym (append_assoc before lines after) in
     let c = cut_to ran.told.end (before ++ lines) after (first_world key) ran.world ran.told.transcript all
-        (subst (λ (xs : List (TextLine IncludeLine)). RanLines ran.told.end LineRan PartRan xs (first_world key) ran.world ran.told.transcript) same ran.told.ran) in
+    (subst (λ (xs : List (TextLine IncludeLine)). RanLines ran.told.end LineRan PartRan xs (first_world key) ran.world ran.told.transcript) same ran.told.ran) in
     let d = cut LineRan before lines (first_world key) c.mid c.past c.ran in
     record {
       past = d.past;
