@@ -149,7 +149,7 @@ fn open_records(rt: &HostRuntime, name: &str) -> Result<FileKeeper<DiskFile>, St
             let _ = eprintln!(rt;
                 "zwave_console: {name}: it ends without a line feed, and not in a record"
             );
-            Err(Status::BadRecord)
+            Err(Status::KeeperFault)
         }
     }
 }
