@@ -79,7 +79,7 @@ fn command_by(sessions: &Sessions, maker: &Option<Maker>) -> Option<u32>
     }
 }
 
-/// Whether the change that begins with this setting is none that the command may make: it has failed, is not for the node,
+/// Whether the change that begins with this setting is one that the command may not make: it has failed, is not for the node,
 /// or asks for something else.
 fn breaks_order(
     alloc: Global,
@@ -104,7 +104,7 @@ fn breaks_order(
     }
 }
 
-/// Whether the change that begins with this setting is none that the command may make, where there is one.
+/// Whether the change that begins with this setting is one that the command may not make, where there is one.
 fn breaks_by_command(
     alloc: Global,
     orders: &Orders,

@@ -53,7 +53,7 @@ fn confirms(entry: &Entry, order: &Order, at: usize) -> bool
     }
 }
 
-/// Whether the entry is none that may stand after so many values of the order.
+/// Whether the entry may not follow so many values of the order.
 fn breaks_order(order: Option<&Order>, count: usize, entry: &Entry) -> bool
     ensures { result ≡ Rattle.audit_table.specs.StoreRule.breaks_order (option_copied order.entry) count entry.now }
 {

@@ -3,6 +3,7 @@
 use Rattle.std.specs.Prelude.{◌≡◌, ℕ, ◌+◌, ◌-◌, ◌==◌, ◌&&◌, ◌||◌, not, bytes_eq, nat_lt, is_some, Bool, true, false, if◌then◌else◌, List, [], ◌∷◌, ◌++◌, length, Option, Some, None}
 use Rattle.std.specs.List.{flat_map, list_any, list_all}
 use Rattle.serial_frame.specs.declared.unit.TheConstants.{CAN}
+use Rattle.chip_functions.specs.declared.function.TheConstants.{SEND_DATA}
 use Rattle.device_stack.specs.State.{State}
 use Rattle.zw_words.specs.declared.side.Side.TheVariants.{Host, Chip}
 use Rattle.zw_text.specs.declared.line.Line.{Line}
@@ -17,6 +18,7 @@ use Rattle.law_transcript.specs.Lists.{shown_after}
 use Rattle.law_transcript.specs.Nodes.{controller, known_classes}
 use Rattle.law_transcript.specs.Repeats.{frame_of}
 use Rattle.law_transcript.specs.Restarts.{repeats, ticks_asked}
+use Rattle.law_transcript.specs.Units.{is_frame, function_in, body_in}
 use Rattle.law_time.specs.Moments.{clock}
 use Rattle.law_time.specs.Judged.{is_data, acknowledgements_come, last_of}
 use Rattle.law_time.specs.Requests.{are_none}
@@ -118,6 +120,18 @@ chip_is_idle past now =
     (are_none (shown chip_frame_at past) || nat_lt 0 (acknowledgements_come Host (folded after_frame [] past)))
     && list_all (λ tick. nat_lt tick now) (shown_after starts_at [] past)
 
+-- when the chip last took a payload: it answers the request by 1, and owes its callback from then on
+abbrev pub is_taking : List ℕ → Bool
+is_taking unit = is_frame unit 1 && ((function_in unit == SEND_DATA) && bytes_eq (body_in unit) (1 ∷ []))
+
+abbrev pub taken_at : List Entry → Entry → List ℕ
+taken_at past (Written Chip unit) = if is_taking unit then clock past ∷ [] else []
+taken_at past _ = []
+
+-- it took none in this tick: the callback of one that has no route comes in the next tick, and no frame tells of it
+abbrev pub owes_no_call : List Entry → ℕ → Bool
+owes_no_call past now = list_all (λ tick. nat_lt tick now) (shown_after taken_at [] past)
+
 -- no series of a node runs
 abbrev pub is_idle : List Entry → ℕ → ℕ → Bool
 is_idle past now node = not (runs node past now)
@@ -153,6 +167,7 @@ pub record IsStill (listing : ℕ → List ℕ) (devices : List State) (past : L
   pub marks : no_marks past ≡ true
   pub host : is_rest past now ≡ true
   pub chip : chip_is_idle past now ≡ true
+  pub called : owes_no_call past now ≡ true
   pub air : air_is_empty past ≡ true
   pub idle : list_all (is_idle past now) (joined past) ≡ true
   pub asleep : list_all (is_asleep_if_known listing past) (joined past) ≡ true

@@ -3,8 +3,7 @@ use Rattle.std.specs.Prelude.{ℕ, ◌==◌, ◌&&◌, ◌||◌, not, bytes_eq, 
 use Rattle.std.specs.List.{flat_map, list_any}
 use Rattle.zw_text.specs.declared.entry.Entry.{Entry}
 use Rattle.zw_text.specs.declared.entry.Entry.TheVariants.{Done}
-use Rattle.zw_text.specs.Transcript.{lines_done}
-use Rattle.law_transcript.specs.Payloads.{asked_by}
+use Rattle.law_transcript.specs.Payloads.{asked_for}
 use Rattle.law_transcript.specs.Units.{Carried, sending_in}
 use Rattle.law_time.specs.Moments.{Keeps}
 use Rattle.law_time.specs.Judged.{is_directly_after, is_mark}
@@ -17,7 +16,7 @@ same_carried first second = (first.node == second.node) && bytes_eq first.payloa
 
 -- whether a line asked for the payload
 abbrev pub is_asked_for : (ℕ → List ℕ) → List Entry → Carried → Bool
-is_asked_for listing past carried = list_any (same_carried carried) (flat_map (asked_by listing past) (lines_done past))
+is_asked_for listing past carried = list_any (same_carried carried) (asked_for listing past)
 
 -- the nodes of the Set or Get that the last request carries
 abbrev pub node_asked : (ℕ → List ℕ) → List Entry → Carried → List ℕ

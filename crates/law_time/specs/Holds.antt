@@ -1,6 +1,6 @@
 -- When the host keeps a node awake (Supervision Command Class, version 2: Wake Up Request; that the hold follows the stored values
 -- is this project's own rule).
-use Rattle.std.specs.Prelude.{ℕ, ◌+◌, ◌%◌, ◌==◌, ◌&&◌, ◌||◌, not, Bool, true, false, List, [], ◌∷◌, length}
+use Rattle.std.specs.Prelude.{ℕ, ◌+◌, ◌%◌, ◌==◌, ◌&&◌, ◌||◌, not, Bool, true, false, if◌then◌else◌, List, [], ◌∷◌, ◌++◌, length}
 use Rattle.std.specs.List.{list_any}
 use Rattle.host_heard.specs.declared.told.Told.{Told}
 use Rattle.host_heard.specs.declared.told.Told.TheVariants.{Report as Reports}
@@ -9,11 +9,11 @@ use Rattle.host_heard.specs.declared.payload.Heard.TheVariants.{Messages}
 use Rattle.host_heard.specs.Telling.{heard_at}
 use Rattle.zw_text.specs.declared.entry.Ended.TheVariants.{Success, Fail, NoSupport}
 use Rattle.zw_text.specs.declared.entry.Entry.{Entry}
-use Rattle.zw_text.specs.declared.entry.Entry.TheVariants.{Out, Store, Held, Asleep}
-use Rattle.zw_text.specs.Transcript.{folded, sessions, where_same}
-use Rattle.law_transcript.specs.Lists.{shown_after, last_or}
+use Rattle.zw_text.specs.declared.entry.Entry.TheVariants.{Said, Out, Store, Held, Asleep}
+use Rattle.zw_text.specs.Transcript.{folded, sessions}
 use Rattle.law_time.specs.Moments.{Keeps, clock}
 use Rattle.law_time.specs.Judged.{last_of, brought_here, payloads_here}
+use Rattle.law_time.specs.Requests.{starts_anew}
 use Rattle.law_time.specs.Interviews.{listens}
 
 -- the command that has just ended by a report: only the values that it confirms may stand after that
@@ -64,11 +64,16 @@ HoldsAsAsked transcript = Keeps may_hold transcript
 
 -- ---- how long
 
--- until when a node is held: 100 ticks, and no longer than it counts as awake
-abbrev pub hold_at : ℕ → List Entry → Entry → List ℕ
-hold_at node past (Held of) = where_same of node (clock past + 100)
-hold_at node past (Asleep of) = where_same of node 0
-hold_at node past _ = []
+-- until when a node is held: 100 ticks, and no longer than it counts as awake, or than the host that holds it runs
+abbrev pub hold_step : ℕ → List Entry → ℕ → Entry → List Entry → ℕ
+hold_step node past until (Held of) rest = if of == node then clock past + 100 else until
+hold_step node past until (Asleep of) rest = if of == node then 0 else until
+hold_step node past until (Said words) rest = if starts_anew (Said words) rest then 0 else until
+hold_step node past until entry rest = until
+
+abbrev pub hold_from : ℕ → List Entry → ℕ → List Entry → ℕ
+hold_from node past until [] = until
+hold_from node past until (entry ∷ rest) = hold_from node (past ++ entry ∷ []) (hold_step node past until entry rest) rest
 
 abbrev pub held_until : ℕ → List Entry → ℕ
-held_until node past = last_or 0 (shown_after (hold_at node) [] past)
+held_until node past = hold_from node [] 0 past

@@ -25,6 +25,7 @@ pub mod WorkedWaking
 pub mod WorkedTurns
 pub mod WorkedAttempts
 pub mod WorkedCalm
+pub mod WorkedBetween
 pub mod WrongRequests
 pub mod WrongWaits
 pub mod WrongStretches
@@ -35,3 +36,4 @@ pub mod WrongWaking
 pub mod WrongTurns
 pub mod WrongAttempts
 pub mod WrongCalm
+pub mod WrongBetween

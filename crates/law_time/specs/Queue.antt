@@ -5,15 +5,15 @@ use Rattle.std.specs.List.{flat_map, list_any}
 use Rattle.zw_words.specs.declared.side.Side.TheVariants.{Host, Chip}
 use Rattle.zw_text.specs.declared.entry.Refusal.TheVariants as refusals
 use Rattle.zw_text.specs.declared.entry.Entry.{Entry}
-use Rattle.zw_text.specs.declared.entry.Entry.TheVariants.{Said, Refused, Begin, Written, QueueFull, Awake, Asleep, Unkept, Time}
-use Rattle.zw_text.specs.Transcript.{shown, joined, line_last, line_of}
+use Rattle.zw_text.specs.declared.entry.Entry.TheVariants.{Said, Refused, Begin, Written, Dropped, Garbled, Overrun, QueueFull, Awake, Asleep, Unkept, Time}
+use Rattle.zw_text.specs.Transcript.{folded, shown, joined, line_last, line_of}
 use Rattle.law_transcript.specs.Answers.{before_last}
 use Rattle.law_transcript.specs.Commands.{waiting}
 use Rattle.law_transcript.specs.Nodes.{known_classes}
 use Rattle.law_transcript.specs.Restarts.{begins_refused}
 use Rattle.law_transcript.specs.Units.{Carried, request_in, sending_in}
 use Rattle.law_time.specs.Moments.{Keeps, clock, later_of, now_at}
-use Rattle.law_time.specs.Judged.{is_acknowledgement, is_mark, brought_here}
+use Rattle.law_time.specs.Judged.{is_data, is_acknowledgement, is_mark, is_of_air, is_of_chip, brought_here}
 use Rattle.law_time.specs.Requests.{Asked, are_none, asked, asked_after, asked_nothing, is_new, starts_anew}
 use Rattle.law_time.specs.Ends.{has_ended, is_abort_frame, owes_abort}
 use Rattle.law_time.specs.Sessions.{runs}
@@ -115,10 +115,10 @@ abbrev pub have_woken : List Entry → List ℕ
 have_woken past = if are_none (shown woke_at past) then [] else joined past
 
 -- it is put into the queue for each that is to be told
-abbrev pub with_due : (ℕ → List ℕ) → List Entry → ℕ → Asked → Queue → Queue
-with_due listing past now asked queue =
+abbrev pub with_due : (ℕ → List ℕ) → List Entry → ℕ → ℕ → Asked → Queue → Queue
+with_due listing past now ended asked queue =
     each_with with_no_more queue
-    (map (λ due. due.node) (in_order (filter (λ due. not (is_told asked now queue due.node)) (flat_map (due_of listing past now) (have_woken past)))))
+    (map (λ due. due.node) (in_order (filter (λ due. not (is_told asked ended queue due.node)) (flat_map (due_of listing past now) (have_woken past)))))
 
 -- whether the host has looked what is next before an entry: it does after each line and tick, and when it has judged what came
 abbrev pub has_looked : Asked → Queue → Entry → Bool
@@ -130,9 +130,30 @@ has_looked asked queue (Written Host unit) = is_new asked unit
 has_looked asked queue (QueueFull node) = are_none queue.owed
 has_looked asked queue _ = false
 
+-- what may stand in a tick before the host's own part of it: what is of the air and of devices, frames that the chip writes, and what becomes of its units
+abbrev pub is_before_host : Entry → Bool
+is_before_host (Written Chip unit) = is_data unit
+is_before_host (Dropped Chip) = true
+is_before_host (Garbled Chip unit) = true
+is_before_host (Overrun Chip) = true
+is_before_host entry = is_of_air entry || is_of_chip entry
+
+-- whether the host's own part of a tick is still to come, as far as the entries tell
+abbrev pub before_host_step : Bool → Entry → Bool
+before_host_step before (Said words) = false
+before_host_step before (Time tick) = true
+before_host_step before entry = before && is_before_host entry
+
+-- The clock at which the end of a request counts before an entry. A unit that the chip writes in a tick before the host's own part stands before that request ends, if
+-- it ends in this tick: what the host says of the end stands after it.
+abbrev pub ends_by : List Entry → Entry → ℕ
+ends_by past (Written Chip unit) = if folded before_host_step false past then now_at past (Written Chip unit) - 1 else now_at past (Written Chip unit)
+ends_by past entry = now_at past entry
+
 -- the queue as it is before an entry
 abbrev pub looked : (ℕ → List ℕ) → List Entry → Asked → Queue → Entry → Queue
-looked listing past asked queue entry = if has_looked asked queue entry then with_due listing past (now_at past entry) asked queue else queue
+looked listing past asked queue entry =
+    if has_looked asked queue entry then with_due listing past (now_at past entry) (ends_by past entry) asked queue else queue
 
 -- ---- what waits
 

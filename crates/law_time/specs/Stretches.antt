@@ -9,7 +9,8 @@ use Rattle.zw_text.specs.declared.line.Line.TheVariants as lines
 use Rattle.zw_text.specs.declared.entry.Outcome.{Outcome}
 use Rattle.zw_text.specs.declared.entry.Outcome.TheVariants.{Cancelled}
 use Rattle.zw_text.specs.declared.entry.Entry.{Entry}
-use Rattle.zw_text.specs.declared.entry.Entry.TheVariants.{Accepted}
+use Rattle.zw_text.specs.declared.entry.Entry.TheVariants.{Accepted, Refused, Unkept}
+use Rattle.zw_text.specs.declared.entry.Refusal.TheVariants.{KeeperFault}
 use Rattle.zw_text.specs.Transcript.{outcome, joined, shown, lines_run}
 use Rattle.law_transcript.specs.Commands.{waiting, classes_for}
 use Rattle.law_transcript.specs.Nodes.{device_of, listing_of, is_joined, known_classes}
@@ -128,9 +129,16 @@ is_quiet key devices before stretch =
     list_all is_quiet_line (lines_run stretch) && nat_le (length (workers before stretch)) 16 && list_all (knows_node key devices before) (workers before stretch)
     && list_all (is_woken_so before stretch) (joined before ++ flat_map woken_by (lines_run stretch))
 
--- the entries are a stretch: so, and each node at work is ready, since it can be reached besides
+-- an entry that says that the keeper failed
+abbrev pub is_keeper_fault : Entry → Bool
+is_keeper_fault (Unkept node) = true
+is_keeper_fault (Refused KeeperFault) = true
+is_keeper_fault _ = false
+
+-- the entries are a stretch: so, the keeper does not fail, and each node at work is ready, since it can be reached besides
 pub record IsStretch (key : List ℕ) (devices : List State) (before stretch : List Entry) : Type 0 where
   pub quiet : is_quiet key devices before stretch ≡ true
+  pub kept : list_any is_keeper_fault stretch ≡ false
   pub reached : AllByRecursion (CanBeReached devices before) (workers before stretch)
 
 -- ---- in time

@@ -1,24 +1,25 @@
 -- When the host takes a node to be awake or asleep (Wake Up Command Class; that a node counts as asleep after the third attempt is this project's own rule).
-use Rattle.std.specs.Prelude.{ℕ, ◌==◌, ◌&&◌, ◌||◌, not, bytes_eq, Bool, true, false, if◌then◌else◌, List, [], ◌∷◌}
+use Rattle.std.specs.Prelude.{◌≡◌, ℕ, ◌==◌, ◌&&◌, ◌||◌, not, bytes_eq, Bool, true, false, if◌then◌else◌, List, [], ◌∷◌}
 use Rattle.std.specs.List.{flat_map, list_any}
 use Rattle.host_heard.specs.Telling.{heard_at}
 use Rattle.host_heard.specs.declared.payload.Heard.{Heard}
 use Rattle.host_heard.specs.declared.payload.Heard.TheVariants.{Messages}
 use Rattle.host_heard.specs.declared.told.Told.{Told}
 use Rattle.host_heard.specs.declared.told.Told.TheVariants.{Notification}
+use Rattle.zw_words.specs.declared.side.Side.TheVariants.{Host}
 use Rattle.zw_text.specs.declared.entry.Ended.TheVariants.{Unanswered}
 use Rattle.zw_text.specs.declared.entry.Entry.{Entry}
-use Rattle.zw_text.specs.declared.entry.Entry.TheVariants.{Out, Awake, Asleep}
+use Rattle.zw_text.specs.declared.entry.Entry.TheVariants.{Said, Written, Out, Awake, Asleep, Time}
 use Rattle.zw_text.specs.Transcript.{sessions, shown, wakings}
 use Rattle.law_transcript.specs.Lists.{last_or}
 use Rattle.law_transcript.specs.Payloads.{no_more_information}
 use Rattle.law_transcript.specs.Restarts.{since_restart}
 use Rattle.law_transcript.specs.Stores.{node_at}
 use Rattle.law_transcript.specs.Units.{Carried, sending_in}
-use Rattle.law_time.specs.Moments.{Keeps}
+use Rattle.law_time.specs.Moments.{Keeps, now_at}
 use Rattle.law_time.specs.Judged.{last_of, is_directly_after, is_mark, brought_here, may_be_told}
-use Rattle.law_time.specs.Requests.{asked}
-use Rattle.law_time.specs.Ends.{is_ended_by_frame, is_ended_here}
+use Rattle.law_time.specs.Requests.{asked, is_new}
+use Rattle.law_time.specs.Ends.{has_ended, is_ended_by_frame, is_ended_here}
 use Rattle.law_time.specs.Interviews.{listens}
 
 -- whether the last that was said of a node since the host started is that it is awake
@@ -97,11 +98,33 @@ owes_sleep_to_given_up past =
 abbrev pub owes_sleep : List Entry → Bool
 owes_sleep past = owes_sleep_to_told past || owes_sleep_to_given_up past
 
+-- whether a node has counted as asleep among these
+abbrev pub has_slept : ℕ → List Entry → Bool
+has_slept node entries = list_any not (wakings node entries)
+
+-- whether No More Information has ended by a time, in whatever way, and its node still counts as awake
+abbrev pub is_still_awake : List Entry → ℕ → Bool
+is_still_awake past now =
+    has_ended (asked past) now
+    && list_any (λ node. is_awake_sleeper node past && not (has_slept node (asked past).following)) (nodes_told (asked past).frame)
+
+-- whether the host has gone on from its last request: a line or a tick begins, or it asks anew
+abbrev pub moves_on : List Entry → Entry → Bool
+moves_on past (Said words) = true
+moves_on past (Time tick) = true
+moves_on past (Written Host unit) = is_new (asked past) unit
+moves_on past entry = false
+
+-- none owes its sleep before an entry
+abbrev pub owes_no_sleep : List Entry → Entry → Bool
+owes_no_sleep past entry = not (owes_sleep past) && not (moves_on past entry && is_still_awake past (now_at past entry))
+
 -- a node that counts as awake and does not listen counts as asleep where its third attempt or its No More Information has
--- ended, and wherever the one does or a frame ends the other
+-- ended, and wherever one of the two has: directly after a frame that ends it, and else before the host goes on
 abbrev pub may_sleep : List Entry → Entry → Bool
 may_sleep past (Asleep node) = is_awake_sleeper node past && (is_given_up_on node past || ends_telling node past)
-may_sleep past entry = is_mark entry || not (owes_sleep past)
+may_sleep past entry = is_mark entry || owes_no_sleep past entry
 
-abbrev pub FallsAsleep : List Entry → Type 0
-FallsAsleep transcript = Keeps may_sleep transcript
+pub record FallsAsleep (whole : Bool) (transcript : List Entry) : Type 0 where
+  pub between : Keeps may_sleep transcript
+  pub in_the_end : whole ≡ true → owes_no_sleep transcript (Said []) ≡ true

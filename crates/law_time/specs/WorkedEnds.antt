@@ -34,6 +34,12 @@ refused_after_others =
     Said (codes "send 2 on") ∷ set_sent ∷ chip_acknowledges ∷ notified ∷ host_acknowledges ∷ Awake 5 ∷ asking_refused ∷ host_acknowledges ∷
     by_chip (codes "010500130900E0") ∷ host_acknowledges ∷ refused ∷ host_acknowledges ∷ Done 2 done.Refused ∷ []
 
+-- a line asks for a Set of a dimmer that is taken for a switch, and it is sent as one for a switch when the dimmer is known
+abbrev pub said_by_old_list : List Entry
+said_by_old_list =
+    Said (codes "send 2 on") ∷ Interviewed 2 ∷ set_sent ∷ chip_acknowledges ∷ taken ∷ host_acknowledges ∷ Said (codes "tick 1") ∷ Time 1 ∷ delivered ∷
+    host_acknowledges ∷ Done 2 done.Delivered ∷ []
+
 -- ---- silence
 
 -- the response comes 14 ticks after the acknowledgement, and no callback in 65 more
@@ -169,6 +175,14 @@ abbrev pub asleep_given_up : List Entry
 asleep_given_up =
     Awake 5 ∷ no_more_sent ∷ Dropped Host ∷ Said (codes "tick 100") ∷ Time 16 ∷ no_more_sent ∷ Dropped Host ∷ Time 42 ∷ no_more_sent ∷ Dropped Host ∷
     Time 78 ∷ no_more_sent ∷ Dropped Host ∷ Time 93 ∷ Asleep 5 ∷ []
+
+-- the chip refuses it
+abbrev pub asleep_refused : List Entry
+asleep_refused = take 3 telling ++ refused ∷ host_acknowledges ∷ Asleep 5 ∷ []
+
+-- the node wakes again in the tick in which it ended, and a line is said
+abbrev pub woken_again : List Entry
+woken_again = telling ++ Time 1 ∷ delivered ∷ host_acknowledges ∷ Asleep 5 ∷ notified ∷ host_acknowledges ∷ Awake 5 ∷ Said (codes "cut 7") ∷ []
 
 -- ---- more of waits
 

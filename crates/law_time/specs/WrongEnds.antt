@@ -1,10 +1,10 @@
 -- Transcripts like those of how requests end that break the laws, one thing wrong in each.
-use Rattle.std.specs.Prelude.{true, List, [], ◌∷◌, ◌++◌, codes, take}
+use Rattle.std.specs.Prelude.{◌-◌, true, List, [], ◌∷◌, ◌++◌, length, codes, take, drop}
 use Rattle.zw_words.specs.declared.side.Side.TheVariants.{Chip, Host}
 use Rattle.zw_text.specs.declared.entry.Done.TheVariants as done
 use Rattle.zw_text.specs.declared.entry.Entry.{Entry}
 use Rattle.zw_text.specs.declared.entry.Entry.TheVariants.{Said, Dropped, Awake, Asleep, Interviewed, InterviewFailed, Done, Failed, Time, Garbled, Overrun}
-use Rattle.law_time.specs.WorkedEnds.{four_copies, four_lost, given_up_errand, informed, interview_under_way, responded_late, set_under_way, silent_before_given_up, telling}
+use Rattle.law_time.specs.WorkedEnds.{asleep_given_up, asleep_refused, four_copies, four_lost, given_up_errand, informed, interview_under_way, responded_late, said_by_old_list, set_under_way, silent_before_given_up, telling}
 use Rattle.law_time.specs.WorkedUnits.{asking_refused, by_chip, by_host, chip_acknowledges, chip_denies, delivered, failed_asked, host_acknowledges, information_asked, information_come, no_information, not_acknowledged, notified, refused, taken}
 use Rattle.law_time.specs.WorkedWaits.{unrouted_errand}
 use Rattle.law_time.specs.WrongEntries.{informed_alone}
@@ -15,6 +15,10 @@ use Rattle.law_transcript.specs.Worked.{bytes}
 -- a Set is said to have failed whose callback says that nobody acknowledged it
 abbrev pub said_failed : List Entry
 said_failed = set_under_way ++ not_acknowledged ∷ host_acknowledges ∷ Done 2 done.Fail ∷ []
+
+-- a line asks for a Set of a dimmer that is taken for a switch; one for a dimmer is sent, and its end is said
+abbrev pub said_by_new_list : List Entry
+said_by_new_list = take 2 said_by_old_list ++ by_host (codes "010A00130203260163250187") ∷ drop 3 said_by_old_list
 
 -- each of these ends is not said
 abbrev pub unsaid : Entry → List Entry
@@ -161,3 +165,20 @@ asleep_before_end = telling ++ Time 1 ∷ Asleep 5 ∷ []
 
 abbrev pub asleep_by_other : List Entry
 asleep_by_other = Awake 5 ∷ set_under_way ++ delivered ∷ host_acknowledges ∷ Asleep 5 ∷ []
+
+-- the message to it has ended in silence, and it counts as awake in the next tick, in the next line, or as the host asks anew
+abbrev pub awake_in_next_tick : List Entry
+awake_in_next_tick = telling ++ Time 66 ∷ []
+
+abbrev pub awake_in_next_line : List Entry
+awake_in_next_line = telling ++ Said (codes "tick 1") ∷ []
+
+abbrev pub awake_as_it_asks : List Entry
+awake_as_it_asks = telling ++ Time 65 ∷ failed_asked ∷ []
+
+-- or the line gave it up, or the chip refused it
+abbrev pub awake_after_link : List Entry
+awake_after_link = take (length asleep_given_up - 1) asleep_given_up ++ Time 94 ∷ []
+
+abbrev pub awake_after_refusal : List Entry
+awake_after_refusal = take 5 asleep_refused ++ Said (codes "tick 1") ∷ []

@@ -4,8 +4,10 @@ ghost use Rattle.std.specs.Prelude.{◌≡◌, true, false, [], ◌∷◌, drop,
 ghost use Rattle.device_stack.specs.State.{fresh};
 ghost use Rattle.device_kinds.specs.declared.kind.Kind.TheVariants as kinds;
 ghost use Rattle.std.specs.List.{list_all};
-ghost use Rattle.law_time.specs.Calm.{IsCalm, IsStill, is_not_stuck};
+ghost use Rattle.law_time.specs.Calm.{IsCalm, IsStill, air_is_empty, chip_is_idle, is_not_stuck, owes_no_call};
+ghost use Rattle.law_time.specs.Rests.{is_rest};
 ghost use Rattle.law_time.specs.Stretches.{are_plain_listeners, IsStretch, is_quiet, is_time, is_alone, answers_all, AnswersInTime};
+ghost use Rattle.law_time.specs.WorkedBetween.{callback_owed, order_unkept, stretch_of_refused, stretch_unkept};
 ghost use Rattle.law_time.specs.WorkedStretches.{
   before_failing,
   before_repeated,
@@ -82,9 +84,9 @@ pub fn worked_calm()
 {}
 
 /// A moment is not calm while a frame, an acknowledgement or a unit is to be lost, changed or answered by CAN, which frames of devices and
-/// repeated ones leave so, bytes are stalled, a request is under way, the chip waits for an acknowledgement, a frame is on the air, a
-/// series runs, a node that does not listen is kept awake, a device is at work on a change, the host has just restarted, or a node is
-/// stuck.
+/// repeated ones leave so, bytes are stalled, a request is under way, the chip waits for an acknowledgement, or owes a callback though no
+/// frame is on the air, a frame is on it, a series runs, a node that does not listen is kept awake, a device is at work on a change, the
+/// host has just restarted, or a node is stuck.
 pub fn rejected_calm()
     ensures marked { IsCalm (listing_of (the_switch ∷ [])) (the_switch ∷ []) (Said (codes "lose 1") ∷ []) 0 → ⊥ }
     ensures acknowledgement { IsCalm (listing_of (the_switch ∷ [])) (the_switch ∷ []) (Said (codes "loseack 1") ∷ []) 0 → ⊥ }
@@ -104,6 +106,7 @@ pub fn rejected_calm()
     ensures heard_again { IsCalm (listing_of (the_switch ∷ [])) (the_switch ∷ []) heard_again 1 → ⊥ }
     ensures cancelled_by_host { IsCalm (listing_of (the_switch ∷ [])) (the_switch ∷ []) cancelled_by_host 0 → ⊥ }
     ensures denied { IsCalm (listing_of (the_switch ∷ [])) (the_switch ∷ []) denied_frame 15 → ⊥ }
+    ensures owed { IsCalm (listing_of (the_switch ∷ the_other_switch ∷ [])) (the_switch ∷ the_other_switch ∷ []) callback_owed 104 → ⊥ }
 {}
 
 /// Stretches that answer in time: of one node, of two that listen, and of one that sleeps; of one that is reached over another node; and of
@@ -140,12 +143,12 @@ pub fn worked_stretches()
     ensures begun { answers_all (the_switch ∷ []) ordered_before begun_following ≡ true }
 {}
 
-/// These are none: with a line that loses frames, of more than 16 nodes, without the device, of one with another key, of one that does not listen though
-/// the host takes it to, or lists other classes, now or when its command was accepted, of a node out of reach, with a node that sleeps and is not
-/// woken, before its order or twice, and with one woken that has nothing to do or has not joined. Two nodes are not one, a node that
-/// sleeps and a lock are no plain listeners, and two ticks are not time enough, nor are those before the last order or `wake` line. And where the
-/// outcome is missing in time, the promise is broken, of one node and of nodes that listen; and where a command succeeds that its device does not
-/// take, or fails though it does.
+/// These are no stretches: one with a line that loses frames, of more than 16 nodes, without the device, of one with another key, of one that does not
+/// listen though the host takes it to, or lists other classes, now or when its command was accepted, of a node out of reach, with a node
+/// that sleeps and is not woken, before its order or twice, with one woken that has nothing to do or has not joined, and in which the
+/// keeper fails, for a session or an order. Two nodes are not one, a node that sleeps and a lock are no plain listeners, and two ticks are
+/// not time enough, nor are those before the last order or `wake` line. And where the outcome is missing in time, the promise is broken, of
+/// one node and of nodes that listen; and where a command succeeds that its device does not take, or fails though it does.
 pub fn rejected_stretches()
     ensures lossy { is_quiet [] (the_switch ∷ []) [] (Said (codes "lose 1") ∷ []) ≡ false }
     ensures other_key { is_quiet (1 ∷ []) (the_switch ∷ []) [] calm_exchange ≡ false }
@@ -174,6 +177,8 @@ pub fn rejected_stretches()
     ensures sixth_taken { answers_all (the_switch ∷ []) [] sixth_taken ≡ false }
     ensures failed_end_point { answers_all (fresh 2 kinds.Strip [] ∷ []) (Interviewed 2 ∷ []) failed_end_point ≡ false }
     ensures taken_back { answers_all (fresh 2 kinds.Dimmer [] ∷ []) (Interviewed 2 ∷ []) taken_back ≡ false }
+    ensures unkept { IsStretch [] (the_switch ∷ []) [] stretch_unkept → ⊥ }
+    ensures order_unkept { IsStretch [] (the_switch ∷ []) [] order_unkept → ⊥ }
     ensures in_segments { are_plain_listeners (the_plug ∷ []) (take 16 long_message) (drop 16 long_message) ≡ false }
 {}
 
@@ -186,4 +191,30 @@ pub fn stuck_stretches()
     ensures one { is_alone stuck_node (Said (codes "tick 500") ∷ []) ≡ true }
     ensures in_time { is_time stuck_node (Said (codes "tick 500") ∷ []) ≡ true }
     ensures unanswered { answers_all (the_switch ∷ the_sensor ∷ the_other_switch ∷ []) stuck_node (Said (codes "tick 500") ∷ []) ≡ false }
+{}
+
+/// A moment in which the chip owes the callback of a payload for which it has no route: the host rests, the chip waits for no acknowledgement and the air is
+/// empty, and a tick later it owes none. The chip refuses what a stretch asks for then, so its command is unanswered in time. Nothing is promised of that.
+pub fn owed_stretches()
+    ensures rest { is_rest callback_owed 104 ≡ true }
+    ensures idle { chip_is_idle callback_owed 104 ≡ true }
+    ensures air { air_is_empty callback_owed ≡ true }
+    ensures owed { owes_no_call callback_owed 104 ≡ false }
+    ensures later { owes_no_call callback_owed 105 ≡ true }
+    ensures ready { IsStretch [] (the_switch ∷ the_other_switch ∷ []) callback_owed stretch_of_refused }
+    ensures one { is_alone callback_owed stretch_of_refused ≡ true }
+    ensures in_time { is_time callback_owed stretch_of_refused ≡ true }
+    ensures unanswered { answers_all (the_switch ∷ the_other_switch ∷ []) callback_owed stretch_of_refused ≡ false }
+    ensures promised { AnswersInTime [] (the_switch ∷ the_other_switch ∷ []) callback_owed stretch_of_refused }
+{}
+
+/// Lines as a stretch has them, in which the keeper fails in each tick, so that the command begins no session and is unanswered in time. Nothing is promised
+/// of that.
+pub fn unkept_stretches()
+    ensures quiet { is_quiet [] (the_switch ∷ []) [] stretch_unkept ≡ true }
+    ensures one { is_alone [] stretch_unkept ≡ true }
+    ensures in_time { is_time [] stretch_unkept ≡ true }
+    ensures unanswered { answers_all (the_switch ∷ []) [] stretch_unkept ≡ false }
+    ensures promised { AnswersInTime [] (the_switch ∷ []) [] stretch_unkept }
+    ensures order_quiet { is_quiet [] (the_switch ∷ []) [] order_unkept ≡ true }
 {}

@@ -19,7 +19,10 @@ mod requests;
 mod waits;
 mod waking;
 
-pub use calm::{rejected_calm, rejected_stretches, stuck_stretches, worked_calm, worked_stretches};
+pub use calm::{
+    owed_stretches, rejected_calm, rejected_stretches, stuck_stretches, unkept_stretches,
+    worked_calm, worked_stretches,
+};
 pub use queue::{rejected_queue, rejected_turns, worked_queue, worked_turns};
 pub use requests::{
     rejected_errands, rejected_interviews, rejected_questions, worked_errands, worked_interviews,

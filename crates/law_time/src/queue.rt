@@ -33,7 +33,9 @@ ghost use Rattle.law_transcript.specs.Worked.{
   the_sensor,
   the_switch,
 };
+ghost use Rattle.law_time.specs.WorkedBetween.{told_after_restart, told_as_chip_writes};
 ghost use Rattle.law_time.specs.WorkedEnds.{aborted_at_fourth};
+ghost use Rattle.law_time.specs.WrongBetween.{told_again_as_chip_writes};
 ghost use Rattle.law_time.specs.WorkedTurns.{
   again_after_cancelled,
   again_by_command,
@@ -131,9 +133,10 @@ pub fn worked_queue()
 {}
 
 /// In worked transcripts the request that has waited longest is sent next: those of each kind of line, over a restart that is refused;
-/// Nonce Reports, and segments that were asked for; and No More Information, to a node that is not held any more, in the order of time and
-/// of nodes. An abort goes before them, where the chip took what ended in silence, and what is of a session goes where none waits: again
-/// after another command, a waking, a restart, 100 ticks, and the end of another command.
+/// Nonce Reports, and segments that were asked for; and No More Information, to a node that is not held any more, also since the host
+/// restarted, in the order of time and of nodes, and once, where that fails too. An abort goes before them, where the chip took what ended
+/// in silence, and what is of a session goes where none waits: again after another command, a waking, a restart, 100 ticks, and the end of
+/// another command.
 pub fn worked_turns()
     ensures lines { SendsInTurn (listing_of (the_switch ∷ [])) answered_errands }
     ensures interviews { SendsInTurn (listing_of (the_sensor ∷ the_other_switch ∷ [])) woken_before_restart }
@@ -175,6 +178,8 @@ pub fn worked_turns()
     ensures told_by_time_as_numbered { SendsInTurn (listing_of (the_switch ∷ [])) told_by_time_as_numbered }
     ensures overrun { SendsInTurn (listing_of (the_switch ∷ [])) copied_after_overrun }
     ensures following_interview { SendsInTurn (listing_of (the_switch ∷ [])) asked_after_interview }
+    ensures as_chip_writes { SendsInTurn (listing_of (the_switch ∷ the_sensor ∷ [])) told_as_chip_writes }
+    ensures after_restart { SendsInTurn (listing_of (the_keeper ∷ [])) told_after_restart }
 {}
 
 /// Each of these breaks one part of the law: a line refused that has just room, or for fewer than 64 that wait, or let in that has none; a
@@ -196,9 +201,9 @@ pub fn rejected_queue()
 /// Each of these breaks one part of the law: a fifth copy, and one of what was acknowledged; a question sent before an earlier one, that no
 /// line asks for, of a line that is refused, or from before a restart; a Nonce Get sent before a Nonce Report, and a report that was not
 /// kept; a segment with another id, inside another one, beyond the last, of a session that has ended, or of a message that has none; No
-/// More Information sent while a command waits, to a node that has not joined, is not known, is asleep, listens or is held, or out of turn;
-/// the message of a session sent after its end, or after three attempts for no such reason as above; and a Get sent before an abort that is
-/// owed, or an abort that is not.
+/// More Information sent while a command waits, to a node that has not joined, is not known, is asleep, listens or is held, again where it
+/// has failed, or out of turn; the message of a session sent after its end, or after three attempts for no such reason as above; and a Get
+/// sent before an abort that is owed, or an abort that is not.
 pub fn rejected_turns()
     ensures out_of_turn { SendsInTurn (listing_of (the_switch ∷ [])) sent_out_of_turn → ⊥ }
     ensures unasked { SendsInTurn (listing_of (the_switch ∷ [])) sent_unasked → ⊥ }
@@ -236,5 +241,6 @@ pub fn rejected_turns()
     ensures plain_segment { SendsInTurn (listing_of (the_switch ∷ [])) resent_of_plain → ⊥ }
     ensures failed_session { SendsInTurn (listing_of (the_switch ∷ [])) (sent_when_ended endings.Fail) → ⊥ }
     ensures unsupported_session { SendsInTurn (listing_of (the_switch ∷ [])) (sent_when_ended endings.NoSupport) → ⊥ }
+    ensures again_as_chip_writes { SendsInTurn (listing_of (the_switch ∷ the_sensor ∷ [])) told_again_as_chip_writes → ⊥ }
     ensures aborted_early { SendsInTurn (listing_of (the_switch ∷ [])) aborted_early → ⊥ }
 {}

@@ -49,6 +49,7 @@ ghost use Rattle.law_transcript.specs.Worked.{
   the_sensor,
   the_switch,
 };
+ghost use Rattle.law_transcript.specs.WorkedCases.{the_dimmer};
 ghost use Rattle.law_time.specs.WorkedEnds.{
   acknowledged_last,
   delivered_before_denied,
@@ -60,6 +61,7 @@ ghost use Rattle.law_time.specs.WorkedEnds.{
   given_up_in_time,
   refused_after_others,
   said_after_changed,
+  said_by_old_list,
   said_after_lost,
   said_after_overrun,
   silent_before_given_up,
@@ -88,6 +90,7 @@ ghost use Rattle.law_time.specs.WrongEnds.{
   given_up_though_silent,
   refused_by_later,
   said_after_unit,
+  said_by_new_list,
   said_failed,
   said_of_other,
   said_to_another,
@@ -116,7 +119,8 @@ ghost use Rattle.law_time.specs.WorkedUnits.{failed, not_acknowledged, not_idle,
 /// In worked transcripts it is said how each Set and Get ended that a line asked for: in each way that there is, and after an
 /// acknowledgement that is lost, overrun or changed. Other frames end nothing. A Set is silent 65 ticks after its response, where that
 /// comes within 15; and it may be delivered in the tick before. Four copies without an answer give it up, or the answer that denies the
-/// fourth, but where a callback comes before, the fourth is acknowledged in time, or a wait ends first.
+/// fourth, but where a callback comes before, the fourth is acknowledged in time, or a wait ends first. What a line asked for is read by the classes that
+/// its node had listed when it was said.
 pub fn worked_errands()
     ensures answered { SaysHowDone (listing_of (the_switch ∷ [])) answered_errands }
     ensures silent { SaysHowDone (listing_of (the_switch ∷ [])) silent_request }
@@ -150,6 +154,7 @@ pub fn worked_errands()
     ensures with_response { SaysHowDone (listing_of (the_switch ∷ [])) denied_with_response }
     ensures after_late { SaysHowDone (listing_of (the_switch ∷ [])) silent_after_late }
     ensures silent_beside_other { SaysHowDone (listing_of (the_switch ∷ [])) silent_beside_other }
+    ensures old_list { SaysHowDone (listing_of (the_dimmer ∷ [])) said_by_old_list }
     ensures delivered_after_refused { SaysHowDone (listing_of (the_switch ∷ [])) delivered_after_refused }
 {}
 
@@ -192,10 +197,11 @@ pub fn worked_interviews()
 
 /// Each of these breaks one part of the law: an end said before it is judged, otherwise than it was, of another node, twice, after
 /// something else than its frame, or, in each way, not at all; the end of a message of a session, of one to another node or of another one
-/// said as that of a Set; silence before 15 ticks, before 65 after a response, after a callback, or over a restart; a callback that comes
-/// as the Set has ended in silence or is given up, after the answer that ends it, or by a late acknowledgement; refusal of what was taken,
-/// by the same response or a later one; a chip that was not idle where there was no route or a refusal, no route where it was not idle, and
-/// failure where nobody acknowledged; and failure of the line after one copy, after a callback, or after a silence.
+/// said as that of a Set, also of what the line would ask for later; silence before 15 ticks, before 65 after a response, after a callback,
+/// or over a restart; a callback that comes as the Set has ended in silence or is given up, after the answer that ends it, or by a late
+/// acknowledgement; refusal of what was taken, by the same response or a later one; a chip that was not idle where there was no route or a
+/// refusal, no route where it was not idle, and failure where nobody acknowledged; and failure of the line after one copy, after a
+/// callback, or after a silence.
 pub fn rejected_errands()
     ensures early { SaysHowDone (listing_of (the_switch ∷ [])) said_early → ⊥ }
     ensures otherwise { SaysHowDone (listing_of (the_switch ∷ [])) said_otherwise → ⊥ }
@@ -229,6 +235,7 @@ pub fn rejected_errands()
     ensures given_up_silent { SaysHowDone (listing_of (the_switch ∷ [])) given_up_though_silent → ⊥ }
     ensures silent_given_up { SaysHowDone (listing_of (the_switch ∷ [])) silent_given_up → ⊥ }
     ensures over_restart { SaysHowDone (listing_of (the_switch ∷ [])) silent_over_restart → ⊥ }
+    ensures new_list { SaysHowDone (listing_of (the_dimmer ∷ [])) said_by_new_list → ⊥ }
     ensures unsaid_after_lost { SaysHowDone (listing_of (the_switch ∷ [])) unsaid_after_lost → ⊥ }
     ensures unsaid_after_overrun { SaysHowDone (listing_of (the_switch ∷ [])) unsaid_after_overrun → ⊥ }
     ensures unsaid_after_changed { SaysHowDone (listing_of (the_switch ∷ [])) unsaid_after_changed → ⊥ }

@@ -9,10 +9,13 @@ ghost use Rattle.law_time.specs.WorkedWaits.{
   given_up_asleep,
   given_up_lock,
   given_up_segments,
+  the_keeper,
   the_other_switch,
   waited_attempts,
   woken_before_restart,
 };
+ghost use Rattle.law_time.specs.WorkedBetween.{told_after_restart, told_as_chip_writes};
+ghost use Rattle.law_time.specs.WrongBetween.{held_over_restart};
 ghost use Rattle.law_time.specs.WorkedQueue.{failed_attempts, resent_segments, silent_attempt};
 ghost use Rattle.law_time.specs.WrongEntries.{given_up_unbegun, left_unended_in_silence, left_unsaid_in_silence};
 ghost use Rattle.law_time.specs.WrongQueue.{
@@ -134,7 +137,8 @@ pub fn worked_attempts()
 
 /// In worked transcripts nothing is owed at a rest: a command may wait for a node that sleeps, or in the tick in which the keeper has
 /// failed, and an interview may have ended in each way. In one a restart leaves a node as asleep though it was last said to be awake and
-/// was taken to listen: were it still taken to be awake, its command would wait for nothing.
+/// was taken to listen: were it still taken to be awake, its command would wait for nothing. What is sent to a node is sent once though it
+/// fails in a tick in which the chip has written, and a restart ends a hold.
 pub fn worked_rests()
     ensures plain { IsPrompt true (listing_of (the_switch ∷ [])) plain_exchange }
     ensures errands { IsPrompt true (listing_of (the_switch ∷ [])) answered_errands }
@@ -159,6 +163,8 @@ pub fn worked_rests()
     ensures unkept { IsPrompt true (listing_of (the_switch ∷ [])) informed_unkept }
     ensures for_line { IsPrompt true (listing_of (the_switch ∷ [])) waits_for_line }
     ensures for_judging { IsPrompt true (listing_of (the_switch ∷ [])) waits_for_judging }
+    ensures as_chip_writes { IsPrompt true (listing_of (the_switch ∷ the_sensor ∷ [])) told_as_chip_writes }
+    ensures after_restart { IsPrompt true (listing_of (the_keeper ∷ [])) told_after_restart }
 {}
 
 /// Each of these breaks one part of the law: a command given up without a session, after two attempts, or while the third is under way, or
@@ -198,7 +204,7 @@ pub fn rejected_waits()
 /// Each of these breaks one part of the law of rests: a rest at which a command waits for a node that is awake, also a tick after the
 /// keeper has failed, as it has for another node, or before a restart; a Set or an interview has not begun, the end of a Get or of an
 /// interview is not said, or is left out as the keeper fails for another node; an attempt is overdue, a node is kept awake for nothing, or
-/// a Nonce Report, a segment that was asked for or an abort is not sent.
+/// since a host before this one has held it, or a Nonce Report, a segment that was asked for or an abort is not sent.
 pub fn rejected_rests()
     ensures waiting { IsPrompt true (listing_of (the_switch ∷ [])) left_waiting → ⊥ }
     ensures unsent { IsPrompt true (listing_of (the_switch ∷ [])) left_unsent → ⊥ }
@@ -218,4 +224,5 @@ pub fn rejected_rests()
     ensures following_line { IsPrompt true (listing_of (the_switch ∷ [])) left_after_line → ⊥ }
     ensures a_tick { IsPrompt true (listing_of (the_switch ∷ [])) left_a_tick → ⊥ }
     ensures given_up { IsPrompt true (listing_of (the_switch ∷ [])) left_given_up → ⊥ }
+    ensures held { IsPrompt true (listing_of (the_keeper ∷ [])) held_over_restart → ⊥ }
 {}

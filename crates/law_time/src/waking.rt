@@ -1,5 +1,6 @@
 //! What the laws of waking, sleeping and holds say of worked transcripts, and of others with one thing wrong.
 
+ghost use Rattle.std.specs.Prelude.{true, false};
 ghost use Rattle.law_time.specs.Holds.{HoldsAsAsked};
 ghost use Rattle.law_time.specs.Waking.{WakesAsTold, FallsAsleep};
 ghost use Rattle.law_time.specs.WorkedWaits.{given_up_asleep, held_node};
@@ -24,8 +25,17 @@ ghost use Rattle.law_transcript.specs.Worked.{
   sealed_exchange,
   sleeping_node,
 };
-ghost use Rattle.law_time.specs.WorkedEnds.{asleep_after_lost, asleep_given_up, asleep_in_silence};
-ghost use Rattle.law_time.specs.WrongEnds.{asleep_again, asleep_before_end, asleep_by_other};
+ghost use Rattle.law_time.specs.WorkedEnds.{asleep_after_lost, asleep_given_up, asleep_in_silence, asleep_refused, telling, woken_again};
+ghost use Rattle.law_time.specs.WrongEnds.{
+  asleep_again,
+  asleep_before_end,
+  asleep_by_other,
+  awake_after_link,
+  awake_after_refusal,
+  awake_as_it_asks,
+  awake_in_next_line,
+  awake_in_next_tick,
+};
 ghost use Rattle.law_time.specs.WorkedWaking.{awake_after_lost, awake_by_sealed, held_failing, held_unsupported};
 ghost use Rattle.law_time.specs.WrongWaking.{
   awake_by_unread,
@@ -64,20 +74,24 @@ pub fn worked_waking()
     ensures by_sealed { WakesAsTold awake_by_sealed }
 {}
 
-/// In worked transcripts nodes count as asleep where they were told that there is no more, in whatever way that ended, or are given up.
+/// In worked transcripts nodes count as asleep where they were told that there is no more, in whatever way that ended, or are given up. One of them wakes
+/// again directly after that, and a run that ends in the tick in which it is owed need not show it.
 pub fn worked_sleeping()
-    ensures sleeps { FallsAsleep sleeping_node }
-    ensures given_up { FallsAsleep given_up_asleep }
-    ensures plain { FallsAsleep plain_exchange }
-    ensures repeated { FallsAsleep repeated_exchange }
-    ensures lossy { FallsAsleep lossy_exchange }
-    ensures cancelled { FallsAsleep cancelled_order }
-    ensures restarted { FallsAsleep restarted_host }
-    ensures sealed { FallsAsleep sealed_exchange }
-    ensures cut { FallsAsleep long_message }
-    ensures lost { FallsAsleep asleep_after_lost }
-    ensures silent { FallsAsleep asleep_in_silence }
-    ensures told_in_vain { FallsAsleep asleep_given_up }
+    ensures sleeps { FallsAsleep true sleeping_node }
+    ensures given_up { FallsAsleep true given_up_asleep }
+    ensures plain { FallsAsleep true plain_exchange }
+    ensures repeated { FallsAsleep true repeated_exchange }
+    ensures lossy { FallsAsleep true lossy_exchange }
+    ensures cancelled { FallsAsleep true cancelled_order }
+    ensures restarted { FallsAsleep true restarted_host }
+    ensures sealed { FallsAsleep true sealed_exchange }
+    ensures cut { FallsAsleep true long_message }
+    ensures lost { FallsAsleep true asleep_after_lost }
+    ensures silent { FallsAsleep true asleep_in_silence }
+    ensures told_in_vain { FallsAsleep true asleep_given_up }
+    ensures refused { FallsAsleep true asleep_refused }
+    ensures woken_again { FallsAsleep true woken_again }
+    ensures halted { FallsAsleep false telling }
 {}
 
 /// In worked transcripts a node is held where it asks so, by a report of each final status.
@@ -97,22 +111,29 @@ pub fn worked_holds()
 
 /// Each of these breaks one part of the laws: a node that counts as awake though it has not told so, or by what cannot be read, or does not
 /// though it has; one that counts as asleep though it did not count as awake, or does so already, was told nothing, is still being told or
-/// was told something else, or does not though it was told or given up; one that is held unasked, by a report of another session, or as its
+/// was told something else, or does not though it was told or given up, also where what told it ended in silence, by the line or in a refusal, and
+/// at the end of a run; one that is held unasked, by a report of another session, or as its
 /// command is unanswered, or asks and is not, by each status; and one that listens, and counts as asleep or is held.
 pub fn rejected_waking()
     ensures untold { WakesAsTold awake_untold → ⊥ }
     ensures passed { WakesAsTold waking_passed_over → ⊥ }
-    ensures unwoken { FallsAsleep asleep_unwoken → ⊥ }
-    ensures sleeps_untold { FallsAsleep asleep_untold → ⊥ }
-    ensures sleep_passed { FallsAsleep sleep_passed_over → ⊥ }
-    ensures given_up { FallsAsleep given_up_awake → ⊥ }
+    ensures unwoken { FallsAsleep true asleep_unwoken → ⊥ }
+    ensures sleeps_untold { FallsAsleep true asleep_untold → ⊥ }
+    ensures sleep_passed { FallsAsleep true sleep_passed_over → ⊥ }
+    ensures given_up { FallsAsleep true given_up_awake → ⊥ }
     ensures unasked { HoldsAsAsked held_unasked → ⊥ }
     ensures not_held { HoldsAsAsked not_held → ⊥ }
-    ensures listening { FallsAsleep asleep_though_listening → ⊥ }
+    ensures listening { FallsAsleep true asleep_though_listening → ⊥ }
     ensures held_listening { HoldsAsAsked held_though_listening → ⊥ }
-    ensures again { FallsAsleep asleep_again → ⊥ }
-    ensures before_end { FallsAsleep asleep_before_end → ⊥ }
-    ensures by_other { FallsAsleep asleep_by_other → ⊥ }
+    ensures again { FallsAsleep true asleep_again → ⊥ }
+    ensures before_end { FallsAsleep true asleep_before_end → ⊥ }
+    ensures by_other { FallsAsleep true asleep_by_other → ⊥ }
+    ensures next_tick { FallsAsleep true awake_in_next_tick → ⊥ }
+    ensures next_line { FallsAsleep true awake_in_next_line → ⊥ }
+    ensures as_it_asks { FallsAsleep true awake_as_it_asks → ⊥ }
+    ensures after_link { FallsAsleep true awake_after_link → ⊥ }
+    ensures after_refusal { FallsAsleep true awake_after_refusal → ⊥ }
+    ensures in_the_end { FallsAsleep true telling → ⊥ }
     ensures unread { WakesAsTold awake_by_unread → ⊥ }
     ensures failing { HoldsAsAsked not_held_failing → ⊥ }
     ensures unsupported { HoldsAsAsked not_held_unsupported → ⊥ }

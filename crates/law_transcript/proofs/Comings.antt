@@ -81,6 +81,31 @@ only_heard (Ticks drawn ∷ events) bytes came ticked = absurd (omega (arith, ti
 only_heard (Wakes ∷ events) bytes came ticked = absurd (omega (arith, ap first_tag came))
 only_heard (Sets value ∷ events) bytes came ticked = absurd (omega (arith, ap first_tag came))
 
+-- the last that comes, where no tick passes, is that it was woken
+woken_last : (past events : List DeviceEvent) → first_tag (came_after past events) ≡ 2 → ticks_lived events ≤ 0 → length (came_after past events) ≤ 1
+    → events ≡ Wakes ∷ []
+woken_last past [] came ticked few = absurd (omega (arith, came))
+woken_last past (Hears payload drawn ∷ events) came ticked few = absurd (omega (arith, came))
+woken_last past (Ticks drawn ∷ events) came ticked few = absurd (omega (arith, ticked))
+woken_last past (Wakes ∷ events) came ticked few =
+    ap (λ (rest : List DeviceEvent). Wakes ∷ rest) (nothing_after (past ++ Wakes ∷ []) events (omega (arith, ticked)) (omega (arith, few)))
+woken_last past (Sets value ∷ events) came ticked few = absurd (omega (arith, came))
+
+abbrev second_tag : List ComingAt → ℕ
+second_tag [] = 0
+second_tag (one ∷ more) = first_tag more
+
+-- no tick passed and it was woken twice
+pub woken_twice : (events : List DeviceEvent) → comings events ≡ record { ticks = 0; coming = Woken } ∷ record { ticks = 0; coming = Woken } ∷ []
+    → ticks_lived events ≡ 0 → events ≡ Wakes ∷ Wakes ∷ []
+woken_twice [] came ticked = absurd (omega (arith, ap first_tag came))
+woken_twice (Hears payload drawn ∷ events) came ticked = absurd (omega (arith, ap first_tag came))
+woken_twice (Ticks drawn ∷ events) came ticked = absurd (omega (arith, ticked))
+woken_twice (Wakes ∷ events) came ticked =
+    ap (λ (rest : List DeviceEvent). Wakes ∷ rest)
+    (woken_last (Wakes ∷ []) events (ap second_tag came) (omega (arith, ticked)) (omega (arith, ap length came)))
+woken_twice (Sets value ∷ events) came ticked = absurd (omega (arith, ap first_tag came))
+
 -- ---- what came, and then a tick
 
 abbrev first_ticks : List ComingAt → ℕ

@@ -1,5 +1,5 @@
 -- What a device did, by the transcript (this project's own model of devices).
-use Rattle.std.specs.Prelude.{◌≡◌, ℕ, ◌+◌, ◌-◌, ◌==◌, if◌then◌else◌, List, [], ◌∷◌, ◌++◌, map, Option, Some, None}
+use Rattle.std.specs.Prelude.{◌≡◌, ℕ, ◌+◌, ◌-◌, ◌==◌, if◌then◌else◌, List, [], ◌∷◌, ◌++◌, length, take, drop, map, Option, Some, None}
 use Rattle.std.specs.List.{flat_map}
 use Rattle.device_kinds.specs.declared.change.Change.{Change}
 use Rattle.device_sim.specs.State.{State}
@@ -85,13 +85,22 @@ brought_at node past _ = []
 abbrev pub brought : ℕ → List Entry → List ComingAt
 brought node transcript = shown_after (brought_at node) [] transcript
 
--- what comes to a node while it is not joined; what it answers then is on no air
+-- what comes to a node while it is not joined, and the lines that are run then
 abbrev pub brought_unjoined_at : ℕ → List Entry → Entry → List ComingAt
 brought_unjoined_at node past entry = if is_joined past node then [] else brought_at node past entry
 
--- all that came to it came when it was joined
-abbrev pub CameJoined : ℕ → List Entry → Type 0
-CameJoined node transcript = shown_after (brought_unjoined_at node) [] transcript ≡ []
+abbrev pub lines_unjoined_at : ℕ → List Entry → Entry → List Line
+lines_unjoined_at node past entry = if is_joined past node then [] else line_of entry
+
+-- how many events its device has before it joins: so many things come to it, and so many ticks pass
+abbrev pub events_unjoined : ℕ → List Entry → ℕ
+events_unjoined node transcript =
+    length (shown_after (brought_unjoined_at node) [] transcript) + ticks_asked (shown_after (lines_unjoined_at node) [] transcript)
+
+-- what a device sends in events from the moment at which its node has joined; what it sends before is on no air
+abbrev pub replies_joined : ℕ → List Entry → State → List DeviceEvent → List (List ℕ)
+replies_joined node transcript device events =
+    let before : ℕ = events_unjoined node transcript in replies_in (after_events device (take before events)) (drop before events)
 
 -- the payloads of the frames that a node sent
 abbrev pub sent_by : ℕ → AirFrame → List (List ℕ)
@@ -116,10 +125,10 @@ pub record ChangedAsShown (node : ℕ) (transcript : List Entry) (old new : Stat
   pub entered : made node transcript ≡ flat_map made_by changes
 
 -- the device of a node went from its state at entry to that at exit by what the transcript shows and the ticks that the lines ask for, in order; its
--- changes are shown, and its answers are the frames that it sent, where all came to it when it was joined and it was at no work at entry
+-- changes are shown, and what it sends from the moment at which its node has joined are the frames of the node
 pub record RanAsShown (node : ℕ) (transcript : List Entry) (old new : State) : Type 0 where
   pub events : List DeviceEvent
   pub runs : new ≡ after_events old events
   pub comes : CameAsShown node transcript events
   pub shows : ChangedAsShown node transcript old new
-  pub answered : CameJoined node transcript → old.work_left ≡ 0 → sent_from node transcript ≡ replies_in old events
+  pub answered : sent_from node transcript ≡ replies_joined node transcript old events

@@ -1,8 +1,9 @@
 -- What the host asks the chip to send (Supervision, Transport Service, Security 0 and Wake Up Command Classes; which of them
 -- is sent when is this project's own rule): the message of the last session, or what a node or a line asked for.
-use Rattle.std.specs.Prelude.{◌≡◌, ◌⊎◌, ℕ, ◌%◌, List, [], ◌∷◌, length, Option, Some, None, ⊤}
+use Rattle.std.specs.Prelude.{◌≡◌, ◌⊎◌, ℕ, ◌+◌, ◌%◌, if◌then◌else◌, List, [], ◌∷◌, ◌++◌, length, drop, slice_index, Option, Some, None, ⊤}
 use Rattle.std.specs.List.{flat_map, AllByRecursion}
 use Rattle.zw_base.specs.declared.order.Order.{Order}
+use Rattle.encap.specs.Opening.{begins_with}
 use Rattle.host_orders.specs.Errands.{send_text, get_text}
 use Rattle.host_orders.specs.Wrapping.{carriage_of, form_of}
 use Rattle.host_orders.specs.declared.carriage.Form.{Form}
@@ -17,11 +18,12 @@ use Rattle.zw_text.specs.declared.line.Line.{Line}
 use Rattle.zw_text.specs.declared.line.Line.TheVariants as lines
 use Rattle.zw_text.specs.declared.entry.Entry.{Entry}
 use Rattle.zw_text.specs.declared.entry.Entry.TheVariants.{Begin, Written}
-use Rattle.zw_text.specs.Transcript.{accepted, sessions, lines_done}
-use Rattle.law_transcript.specs.Lists.{EachAfter, Has, listed}
+use Rattle.zw_text.specs.Transcript.{accepted, sessions, written, line_of}
+use Rattle.law_transcript.specs.Lists.{EachAfter, Has, last_or, listed}
 use Rattle.law_transcript.specs.Nodes.{controller, host_list}
+use Rattle.law_transcript.specs.Restarts.{begins_refused}
 use Rattle.law_transcript.specs.Commands.{order_of, classes_for, message_for}
-use Rattle.law_transcript.specs.Units.{Carried, sending_in, payloads_from}
+use Rattle.law_transcript.specs.Units.{Carried, sending_in, from_node, payloads_from}
 
 -- a Nonce Report of eight bytes, and a Nonce Get (Security 0)
 abbrev pub nonce_report : List ℕ → List ℕ
@@ -78,12 +80,24 @@ IsOfSession listing key past carried session = IsOfCommands (listed (command_at 
 
 -- ---- of nodes and lines
 
+-- the nonces that the host has given a node, in order: those of its Nonce Reports
+abbrev pub nonce_of : List ℕ → List (List ℕ)
+nonce_of payload = if begins_with payload 0x98 0x80 then drop 2 payload ∷ [] else []
+
+abbrev pub nonces_given : ℕ → List Entry → List (List ℕ)
+nonces_given node past = flat_map nonce_of (flat_map (from_node node) (flat_map sending_in (written Host past)))
+
+-- a nonce is the last of these again, or its first byte counts on from that of the last; the first one has 1
+abbrev pub CountsOn : List (List ℕ) → List ℕ → Type 0
+CountsOn given nonce = (nonce ≡ last_or [] given) ⊎ (slice_index nonce 0 ≡ (slice_index (last_or [] given) 0 + 1) % 256)
+
 -- the payload is a Nonce Report that a Nonce Get of the node asked for
 pub record IsNonceReport (past : List Entry) (carried : Carried) : Type 0 where
   pub nonce : List ℕ
   pub eight : length nonce ≡ 8
   pub asked : Has (payloads_from carried.node past) nonce_get
   pub text : carried.payload ≡ nonce_report nonce
+  pub counted : CountsOn (nonces_given carried.node past) nonce
 
 -- the texts that a line asked for of a node with these classes
 abbrev pub asked_by : (ℕ → List ℕ) → List Entry → Line → List Carried
@@ -91,9 +105,18 @@ asked_by listing past (lines.Send node word) = record { node = node; payload = s
 asked_by listing past (lines.Get node end) = record { node = node; payload = get_text (host_list listing past node) end } ∷ []
 asked_by listing past _ = []
 
+-- the texts that the lines asked for, each by the classes that its node had listed when the line was said; one that is refused asks for nothing
+abbrev pub asked_from : (ℕ → List ℕ) → List Entry → List Entry → List Carried
+asked_from listing past [] = []
+asked_from listing past (entry ∷ rest) =
+    (if begins_refused rest then [] else flat_map (asked_by listing past) (line_of entry)) ++ asked_from listing (past ++ entry ∷ []) rest
+
+abbrev pub asked_for : (ℕ → List ℕ) → List Entry → List Carried
+asked_for listing past = asked_from listing [] past
+
 -- the payload is the Set or Get that a line asked for
 abbrev pub IsAskedFor : (ℕ → List ℕ) → List Entry → Carried → Type 0
-IsAskedFor listing past carried = Has (flat_map (asked_by listing past) (lines_done past)) carried
+IsAskedFor listing past carried = Has (asked_for listing past) carried
 
 -- ---- each request
 

@@ -104,6 +104,20 @@ sent_by_old_list =
     Said (codes "set 2 on") ∷ Accepted 1 2 ∷ Interviewed 2 ∷ Begin 2 1 1 ∷
     Written Host (bytes (codes "010E001302076C0101032501FF250177")) ∷ []
 
+-- and so is a Set for which a line asked then
+abbrev pub set_by_old_list : List Entry
+set_by_old_list = Said (codes "send 2 on") ∷ Interviewed 2 ∷ Written Host (bytes (codes "010A001302032501FF250118")) ∷ []
+
+-- a lock asks for a nonce three times, and is given one, the same again, and the next
+abbrev pub nonce_asked : Entry
+nonce_asked = Written Chip (bytes (codes "0108000400040298402D"))
+
+abbrev pub nonces_counted : List Entry
+nonces_counted =
+    nonce_asked ∷ Written Host (bytes (codes "01110013040A9880019E0A1249BB594F2501AC")) ∷ nonce_asked ∷
+    Written Host (bytes (codes "01110013040A9880019E0A1249BB594F2502AF")) ∷ nonce_asked ∷
+    Written Host (bytes (codes "01110013040A988002010203040506072503CF")) ∷ []
+
 -- a report tells that a command failed, that it is not supported, and that it succeeded and the node asks to be kept awake
 abbrev pub failure_told : List Entry
 failure_told =

@@ -16,7 +16,7 @@ use Rattle.host_keep.specs.declared.record.Record.{Record}
 use Rattle.host_keep.specs.declared.record.Record.TheVariants as records
 use Rattle.host_keep.specs.Kept.{KeptNode, Interview, blank_node, kept_of, node_of}
 use Rattle.zw_text.specs.declared.entry.Entry.{Entry}
-use Rattle.zw_text.specs.declared.entry.Entry.TheVariants.{Said, Air, Heard, Dev, TableEnd, TableNode, TableValue, Device}
+use Rattle.zw_text.specs.declared.entry.Entry.TheVariants.{Said, Air, Heard, Dev, Time, TableEnd, TableNode, TableValue, Device}
 use Rattle.law_transcript.specs.Devices.{after_events}
 use Rattle.law_transcript.specs.Worked.{bytes, plain_exchange, network_key, the_switch, the_sensor, the_lock}
 
@@ -121,15 +121,24 @@ one_tick = Said (codes "tick 1") ∷ []
 abbrev pub woken_apart : List Entry
 woken_apart = Said (codes "wake 5") ∷ Said (codes "join 5") ∷ []
 
--- a switch that was at work when the run began is done in its tick; what it tells then is of an earlier run
+-- and `wake 5` again: now it says so on the air
+abbrev pub woken_joined : List Entry
+woken_joined =
+    Said (codes "wake 5") ∷ Said (codes "link 1 5") ∷ Said (codes "join 5") ∷ Said (codes "wake 5") ∷ Air 1 5 1 [] (bytes (codes "8407")) ∷ []
+
+-- a switch that was at work when the run began is done in its tick, and tells the host so
 abbrev pub switch_at_work : State
 switch_at_work = record the_switch {
+  sessions = record the_switch.sessions { taken = 1 };
   work_left = 1;
   work = record {
     settings = [];
     answer = Some (record { batch = false; session = Some (record { updates = false; id = 1 }); channel = None; outer = no_outer });
   };
 }
+
+abbrev pub worked_out : List Entry
+worked_out = Said (codes "tick 1") ∷ Time 1 ∷ Air 1 2 1 [] (bytes (codes "6C0201FF00")) ∷ []
 
 -- a sensor that is asleep
 abbrev pub sleeping_sensor : State
@@ -214,3 +223,7 @@ kept_stranger = record blank_node { interview = Some sensor_said }
 -- the switch does not tell that it was turned on
 abbrev pub kept_silent : List Entry
 kept_silent = take 2 by_hand
+
+-- a sensor that has joined is woken, and does not say so
+abbrev pub woken_silent : List Entry
+woken_silent = take 4 woken_joined

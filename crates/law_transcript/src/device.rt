@@ -62,7 +62,10 @@ ghost use Rattle.law_transcript.specs.WorkedDevices.{
   by_hand,
   one_tick,
   woken_apart,
+  woken_joined,
+  woken_silent,
   woken_then_ticked,
+  worked_out,
   switch_at_work,
   sleeping_sensor,
   gone_asleep,
@@ -77,7 +80,7 @@ ghost use Rattle.law_transcript.specs.WorkedDevices.{
 };
 
 /// The devices of worked transcripts did what these show, and changed as the once-only law was shown them. A device that was woken before it
-/// joined did what is shown too, though what it said then is on no air, and so did one that was at work at entry, of which nothing is asked that it tells.
+/// joined did what is shown too, though what it said then is on no air, and what it says when it has joined is; and so did one that was at work at entry.
 pub fn worked_devices()
     ensures plain { RanAsShown 2 plain_exchange the_switch (after_events the_switch switch_events) }
     ensures turned_on { (after_events the_switch switch_events).journal ≡ turned_on }
@@ -93,11 +96,13 @@ pub fn worked_devices()
     ensures by_hand { RanAsShown 2 by_hand the_switch (after_events the_switch hand_events) }
     ensures ticked { RanAsShown 2 one_tick the_switch (after_events the_switch (tick ∷ [])) }
     ensures apart { RanAsShown 5 woken_apart the_sensor (after_events the_sensor (Wakes ∷ [])) }
-    ensures working { RanAsShown 2 one_tick switch_at_work (after_events switch_at_work (tick ∷ [])) }
+    ensures joined { RanAsShown 5 woken_joined the_sensor (after_events the_sensor (Wakes ∷ Wakes ∷ [])) }
+    ensures working { RanAsShown 2 worked_out switch_at_work (after_events switch_at_work (tick ∷ [])) }
 {}
 
 /// Each of these breaks one part of the law of devices: a device is other than what came makes it, came to it what no line or frame brings, or one brings
-/// otherwise, to another, or in another tick, did not live a tick, changed and that is not shown, or did not tell what it had to.
+/// otherwise, to another, or in another tick, did not live a tick, changed and that is not shown, or did not tell what it had to, also where it was woken
+/// before it joined too, or was at work at entry.
 pub fn rejected_devices()
     ensures asleep { RanAsShown 2 by_hand the_switch gone_asleep → ⊥ }
     ensures unasked { RanAsShown 2 not_by_hand the_switch (after_events the_switch hand_events) → ⊥ }
@@ -112,6 +117,8 @@ pub fn rejected_devices()
     ensures unticked { RanAsShown 2 one_tick the_switch the_switch → ⊥ }
     ensures unshown { RanAsShown 2 unshown the_switch (after_events the_switch switch_events) → ⊥ }
     ensures silent { RanAsShown 2 kept_silent the_switch (after_events the_switch hand_events) → ⊥ }
+    ensures silent_since { RanAsShown 5 woken_silent the_sensor (after_events the_sensor (Wakes ∷ Wakes ∷ [])) → ⊥ }
+    ensures silent_at_work { RanAsShown 2 one_tick switch_at_work (after_events switch_at_work (tick ∷ [])) → ⊥ }
 {}
 
 /// Devices as their makers leave them.

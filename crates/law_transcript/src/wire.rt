@@ -24,7 +24,9 @@ ghost use Rattle.law_transcript.specs.WorkedCases.{
   aired_as_changed,
   set_asked,
   get_asked,
+  nonces_counted,
   sent_by_old_list,
+  set_by_old_list,
   failure_told,
   unsupported_told,
   success_told_asking,
@@ -89,8 +91,11 @@ ghost use Rattle.law_transcript.specs.WorkedWrongPayloads.{
   nonce_unasked,
   nonce_of_another,
   nonce_otherwise,
+  nonce_skipped,
+  nonce_uncounted,
   nonce_shorter,
   set_unasked,
+  set_by_new_list,
   set_otherwise,
   set_of_another,
   set_refused,
@@ -135,7 +140,7 @@ pub fn worked_begins()
 {}
 
 /// In worked transcripts the host sends what is due: messages of sessions, segments of them, sealed ones and what these ask for, No More Information, the
-/// Set or Get of a line, and a message by the classes that were known when its command was accepted.
+/// Set or Get of a line, and a message or a Set by the classes that were known when its command was accepted or its line was said.
 pub fn worked_payloads()
     ensures plain { SendsWhatIsDue (listing_of (the_switch ∷ [])) [] plain_exchange }
     ensures repeated { SendsWhatIsDue (listing_of (the_switch ∷ [])) [] repeated_exchange }
@@ -148,6 +153,8 @@ pub fn worked_payloads()
     ensures set { SendsWhatIsDue (listing_of (the_switch ∷ [])) [] set_asked }
     ensures get { SendsWhatIsDue (listing_of (the_switch ∷ [])) [] get_asked }
     ensures old_list { SendsWhatIsDue (listing_of (the_dimmer ∷ [])) [] sent_by_old_list }
+    ensures nonces { SendsWhatIsDue (listing_of (the_lock ∷ [])) network_key nonces_counted }
+    ensures set_old_list { SendsWhatIsDue (listing_of (the_dimmer ∷ [])) [] set_by_old_list }
 {}
 
 /// In worked transcripts outcomes, wakings, old reports, interviews and heard values have their causes, also where a report is sealed.
@@ -171,8 +178,8 @@ pub fn worked_causes()
 /// the classes that came to be known later; one that is sealed though its node lists no Security 0, or not though it does, sealed for no
 /// nonce that was given or for one of nine bytes, with another byte, or under a longer nonce; one that is not cut though its node lists
 /// Transport Service, a segment with another byte, of another session, or after the end; a Nonce Report that nobody asked for, or another
-/// node, or of seven bytes, or another payload in its place; and a Set that no line asked for, or one that was refused, with another value,
-/// or for another node, and such a Get.
+/// node, of seven bytes, whose number skips one or is that of another nonce, or another payload in its place; and a Set that no line asked
+/// for, or one that was refused, with another value, for another node, or by classes that came to be known later, and such a Get.
 pub fn rejected_payloads()
     ensures otherwise { SendsWhatIsDue (listing_of (the_switch ∷ [])) [] sent_otherwise → ⊥ }
     ensures earlier { SendsWhatIsDue (listing_of (the_switch ∷ [])) [] sent_earlier → ⊥ }
@@ -190,10 +197,13 @@ pub fn rejected_payloads()
     ensures past_end { SendsWhatIsDue (listing_of (the_plug ∷ [])) [] cut_past_end → ⊥ }
     ensures nonce_unasked { SendsWhatIsDue (listing_of (the_lock ∷ [])) network_key nonce_unasked → ⊥ }
     ensures nonce_of_another { SendsWhatIsDue (listing_of (the_lock ∷ [])) network_key nonce_of_another → ⊥ }
+    ensures nonce_skipped { SendsWhatIsDue (listing_of (the_lock ∷ [])) network_key nonce_skipped → ⊥ }
+    ensures nonce_uncounted { SendsWhatIsDue (listing_of (the_lock ∷ [])) network_key nonce_uncounted → ⊥ }
     ensures nonce_otherwise { SendsWhatIsDue (listing_of (the_lock ∷ [])) network_key nonce_otherwise → ⊥ }
     ensures nonce_shorter { SendsWhatIsDue (listing_of (the_lock ∷ [])) network_key nonce_shorter → ⊥ }
     ensures set_unasked { SendsWhatIsDue (listing_of (the_switch ∷ [])) [] set_unasked → ⊥ }
     ensures set_otherwise { SendsWhatIsDue (listing_of (the_switch ∷ [])) [] set_otherwise → ⊥ }
+    ensures set_new_list { SendsWhatIsDue (listing_of (the_dimmer ∷ [])) [] set_by_new_list → ⊥ }
     ensures set_of_another { SendsWhatIsDue (listing_of (the_switch ∷ [])) [] set_of_another → ⊥ }
     ensures set_refused { SendsWhatIsDue (listing_of (the_switch ∷ [])) [] set_refused → ⊥ }
     ensures get_unasked { SendsWhatIsDue (listing_of (the_switch ∷ [])) [] get_unasked → ⊥ }

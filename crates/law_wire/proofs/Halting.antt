@@ -15,7 +15,7 @@ use Rattle.zw_text.specs.declared.line.Line.{Line}
 use Rattle.zw_text.specs.declared.entry.Entry.{Entry}
 use Rattle.zw_text.specs.declared.entry.Entry.TheVariants.{Said, Heard}
 use Rattle.zw_text.specs.Transcript.{AirFrame, line_of, lines_run}
-use Rattle.law_transcript.specs.Devices.{CameJoined, ComingAt, after_events, asked_by, brought, brought_at, brought_by, comings, lived_by, replies_in, sent_from, ticks_lived}
+use Rattle.law_transcript.specs.Devices.{ComingAt, after_events, asked_by, brought, brought_at, brought_by, comings, lived_by, replies_joined, sent_from, ticks_lived}
 use Rattle.law_transcript.specs.Devices.Coming.{Payload, Woken}
 use Rattle.law_transcript.specs.Lists.{IsPrefixOf, shown_after}
 use Rattle.law_transcript.specs.Repeats.{frame_of}
@@ -31,7 +31,7 @@ pub record Late (node : ℕ) (transcript more : List Entry) (old new : State) (e
   pub few : length (comings (early ++ late)) ≤ suc (length (brought node transcript))
   pub prefix : IsPrefixOf (comings (early ++ late)) (brought node (transcript ++ more))
   pub ticked : ticks_lived (early ++ late) ≤ ticks_asked (lines_run transcript)
-  pub answered : CameJoined node transcript → old.work_left ≡ 0 → IsPrefixOf (sent_from node transcript) (replies_in old (early ++ late))
+  pub answered : IsPrefixOf (sent_from node transcript) (replies_joined node transcript old (early ++ late))
 
 pub late_by : (node : ℕ) (transcript : List Entry) (old new : State) (law : RanAsFar node transcript old new) (early : List DeviceEvent)
     → law.earlier ≡ early → Late node transcript law.more old new early law.late

@@ -6,7 +6,7 @@ use Rattle.device_sim.specs.Event.{DeviceEvent}
 use Rattle.zw_text.specs.declared.entry.Entry.{Entry}
 use Rattle.zw_text.specs.declared.entry.Entry.TheVariants.{Said}
 use Rattle.zw_text.specs.Transcript.{lines_run}
-use Rattle.law_transcript.specs.Devices.{CameAsShown, CameJoined, ChangedAsShown, after_events, brought, comings, replies_in, sent_from, ticks_lived}
+use Rattle.law_transcript.specs.Devices.{CameAsShown, ChangedAsShown, after_events, brought, comings, replies_joined, sent_from, ticks_lived}
 use Rattle.law_transcript.specs.Lists.{IsPrefixOf}
 use Rattle.law_transcript.specs.Restarts.{ticks_asked}
 
@@ -22,7 +22,7 @@ before_line transcript = before_line_from [] [] transcript
 -- before the last line all came to a device that the transcript shows, in the ticks that lines ask for, and its answers are its frames
 pub record RanBefore (node : ℕ) (transcript : List Entry) (old : State) (earlier : List DeviceEvent) : Type 0 where
   pub comes : CameAsShown node (before_line transcript) earlier
-  pub answered : CameJoined node transcript → old.work_left ≡ 0 → sent_from node (before_line transcript) ≡ replies_in old earlier
+  pub answered : sent_from node (before_line transcript) ≡ replies_joined node (before_line transcript) old earlier
 
 -- these entries may be lacking: no line, and at most one payload more for the node
 pub record MayLack (node : ℕ) (transcript more : List Entry) : Type 0 where
@@ -33,7 +33,7 @@ pub record MayLack (node : ℕ) (transcript more : List Entry) : Type 0 where
 pub record RanAfter (node : ℕ) (transcript more : List Entry) (old : State) (events : List DeviceEvent) : Type 0 where
   pub came : IsPrefixOf (comings events) (brought node (transcript ++ more))
   pub ticked : ticks_lived events ≤ ticks_asked (lines_run transcript)
-  pub answered : CameJoined node transcript → old.work_left ≡ 0 → IsPrefixOf (sent_from node transcript) (replies_in old events)
+  pub answered : IsPrefixOf (sent_from node transcript) (replies_joined node transcript old events)
 
 -- the device of a node went from its state at entry to that at exit by what the transcript shows before the last line, and then by a prefix of
 -- what it shows of the last line with what is lacking there

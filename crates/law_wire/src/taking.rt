@@ -1,4 +1,4 @@
-//! Which SendData the chip takes, and which frames may depend on the air after a short past.
+//! Which SendData the chip takes, and which frames may be on the air after a short past.
 
 ghost use Rattle.std.specs.Prelude.{◌≡◌, ◌∷◌, ◌++◌, [], codes, replicate, map, length, true, false};
 ghost use Rattle.serial_frame.specs.Items.{unit_text};

@@ -96,7 +96,7 @@ pub(crate) struct Arrival {
 impl Air {
     /// Delivers each frame that is on the air now, in the order of numbers. At each what became of it is first, then the
     /// changes of the device that heard it, then the frames that the device sends, then the end of a frame of node 1.
-    /// `draw` gives the bytes for the nonces of the devices. Where memory is wanting a prefix of that was done, and the
+    /// `draw` gives the bytes for the nonces of the devices. On an allocation failure a prefix of that was done, and the
     /// device of one further frame may have heard.
     pub fn deliver<D: Draw>(
         &mut self,

@@ -19,7 +19,7 @@ pub enum Served {
     Undone(u32),
     /// The word of that number, from 1, is no line. No word was run.
     BadLine { line: u32, fault: LineFault },
-    /// No host could start: the keeper failed, or the record of a place is none that a host could have kept there. No word was run.
+    /// No host could start: the keeper failed, or no host could have kept the record of that place there. No word was run.
     Opening(OpenFault),
     /// The source failed.
     ReadFault,

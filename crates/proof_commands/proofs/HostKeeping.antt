@@ -1,5 +1,5 @@
 -- The facts of earlier lives go through a story.
-use Rattle.std.proofs.Common.{◌≡◌, ℕ, List, [], ◌∷◌, ◌++◌, Option, sym, ap, subst, ◌∙◌}
+use Rattle.std.proofs.Common.{◌≡◌, ℕ, List, [], ◌∷◌, ◌++◌, Option, Some, None, sym, ap, subst, ◌∙◌, append-nil}
 use Rattle.std.specs.Prelude.{IsSome}
 use Rattle.s0_crypto.specs.declared.key_pair.Keys.{Keys}
 use Rattle.zw_text.specs.declared.entry.Entry.{Entry}
@@ -60,6 +60,18 @@ lived NoMemory keys number texts old new story is = lived_by keys number texts o
 -- the same from the host that is opened from the story's records
 may_first : (keys : Keys) (number : ℕ) (before after : Option (List (List ℕ))) (story : Story) (l : Lived keys number before after story) → l.host.state ≡ opened keys story.records
 may_first keys number before after story l = ap (λ (p : HostParts). p.state) l.opens.state ∙ ap (λ (r : List Record). opened keys r) l.records
+
+adds_both : (before told after : Option (List (List ℕ))) (texts : List (List ℕ)) → OptAdds before told [] → OptAdds told after texts → OptAdds before after texts
+adds_both None told after texts still adds = subst (λ (o : Option (List (List ℕ))). OptAdds o after texts) still adds
+adds_both (Some kept) told after texts still adds = subst (λ (o : Option (List (List ℕ))). OptAdds o after texts) (still ∙ ap (λ (l : List (List ℕ)). Some l) (append-nil kept)) adds
+
+-- the keeper holds what it held at first, and the records of the story
+pub story_adds : (ended : Status) (key : List ℕ) (number : ℕ) (texts : List (List ℕ)) (old new : Desk) (story : Story) → Tells ended key number texts old new story
+    → OptAdds old.shelf.records new.shelf.records (texts_of (records_all (first key story) story.events))
+story_adds ended key number texts old new story tells =
+    let l = lived tells.end (keys_of key) number texts old new story tells.is in
+    adds_both old.shelf.records l.told new.shelf.records (texts_of (records_all (first key story) story.events)) l.still
+    (subst (λ (h : HostState). OptAdds l.told new.shelf.records (texts_of (records_all h story.events))) (may_first (keys_of key) number old.shelf.records new.shelf.records story l) l.adds)
 
 module _ (records_so : (keys : Keys) (number : ℕ) (told : Option (List (List ℕ))) (lives : List (List HostEvent)) (host : HostParts) → GoesOn keys number told lives
     → (opens : Opens keys number told host) → records_of keys lives ≡ opens.records) where

@@ -12,3 +12,5 @@ pub mod HostKeeping
 pub mod Succeeding
 pub mod Entering
 pub mod Replaying
+pub mod Recording
+pub mod Including

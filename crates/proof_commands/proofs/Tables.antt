@@ -23,7 +23,7 @@ use Rattle.run_lines.proofs.Shown.{pieces_text}
 use Rattle.run_sim.specs.Sim.{IsTable, Point, shown_text}
 use Rattle.proof_spoken.specs.Spoken.{Spoken, after_all, transcript_of}
 use Rattle.proof_spoken.specs.Lines.{AreDone}
-use Rattle.proof_transcript.specs.Whole.{AreWhole}
+use Rattle.proof_spoken.specs.Whole.{AreWhole}
 use Rattle.proof_commands.specs.Around.{Around}
 use Rattle.proof_commands.specs.Laws.{Ran, AreScheduled, AreSchedules, EndsAs, Tells, WritesTable, events_of, first, transcript}
 use Rattle.proof_commands.proofs.Speaking.{ReadAgain, all_said, same_machine, same_transcript, story_done}

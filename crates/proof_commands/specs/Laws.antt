@@ -272,7 +272,7 @@ EndsWithTable ended key old new =
 -- ---- all of them
 
 -- What holds of every run of `sim`, at every status: its story, and the laws of every story that it has.
-pub record KeepsLaws (ended : Status) (key : List ℕ) (old new : Around) : Type 0 where
+pub record SimKeepsLaws (ended : Status) (key : List ℕ) (old new : Around) : Type 0 where
   pub story : HasStory ended key old new
   pub kept : KeepsWell ended key old new
   pub orders : KeepsOrders ended key old new

@@ -3,3 +3,5 @@ pub mod Laws
 pub mod Lives
 pub mod Port
 pub mod Replay
+pub mod Include
+pub mod All

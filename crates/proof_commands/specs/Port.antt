@@ -4,12 +4,13 @@ use Rattle.std.specs.List.{AllByRecursion}
 use Rattle.zw_text.specs.Transcript.{outcome}
 use Rattle.zw_text.specs.declared.entry.Entry.{Entry}
 use Rattle.zw_text.specs.declared.entry.Outcome.TheVariants.{Success}
+use Rattle.host_keep.specs.Keeping.{OptAdds}
 use Rattle.host_keep.specs.declared.record.Record.{Record}
 use Rattle.s0_crypto.specs.declared.key_pair.Keys.{Keys}
 use Rattle.host_core.specs.Network.{keys_of}
 use Rattle.host_model.specs.State.{HostState, HostParts}
 use Rattle.host_model.specs.Events.{HostEvent}
-use Rattle.host_model.specs.Did.{Did, Shelf, after_all}
+use Rattle.host_model.specs.Did.{Did, Shelf, after_all, records_all, texts_of}
 use Rattle.host_model.specs.declared.out.HostOut.{HostOut}
 use Rattle.host_model.specs.Opening.{opened}
 use Rattle.run_lines.specs.declared.status.Status.{Status}
@@ -145,6 +146,11 @@ LeavesALife ended key number texts old new =
     Always ended key number texts old new
     (λ lives story. (many : ℕ) → IsSome new.shelf.records → AllOfJoined (first key story) story.events → GoesOn (keys_of key) many new.shelf.records (lives ++ story.events ∷ []))
 
+-- the records at exit are those at entry and those of the story, where the keeper tells them
+abbrev pub AddsRecords : Status → List ℕ → ℕ → List (List ℕ) → Desk → Desk → Type 0
+AddsRecords ended key number texts old new =
+    (story : Story) → Tells ended key number texts old new story → OptAdds old.shelf.records new.shelf.records (texts_of (records_all (first key story) story.events))
+
 -- What holds of every run of `host`, at every status.
 pub record PortKeepsLaws (ended : Status) (key : List ℕ) (number : ℕ) (texts : List (List ℕ)) (old new : Desk) : Type 0 where
   pub story : HasStory ended key number texts old new
@@ -153,3 +159,4 @@ pub record PortKeepsLaws (ended : Status) (key : List ℕ) (number : ℕ) (texts
   pub values : ConfirmsValues ended key number texts old new
   pub success : DoneIsSuccess key number texts old new
   pub next : LeavesALife ended key number texts old new
+  pub adds : AddsRecords ended key number texts old new

@@ -2,19 +2,20 @@
 //!
 //! A run has a story: of `sim` its lines, each with its events of the machine (`specs/Laws`); of `host` the events of
 //! its host (`specs/Port`), also after earlier lives whose records the keeper holds (`specs/Lives`); of `replay` its
-//! transcript (`specs/Replay`). What holds of every run of the machine (`proof_world`) and of every host (`proof_host`)
-//! holds of each such story.
+//! transcript (`specs/Replay`); of `include` its lines, with the parts of its transcript (`specs/Include`). What holds
+//! of every run of the machine (`proof_world`), of every host (`proof_host`) and of lines that add nodes
+//! (`proof_include`) holds of each such story.
 //! A transcript has the words of a line, separated by one space, and not its text. Nothing is lost by this
 //! (`lines_are_read_as_said`), so a law that reads the lines of a run from its transcript reads the lines that were
 //! run. There is no code here.
 #![tactic(auto)]
 
+mod all;
+mod include;
 mod port;
 mod replay;
 mod sim;
 mod words;
 
-pub use port::port_keeps_laws;
-pub use replay::replay_keeps_laws;
-pub use sim::sim_keeps_laws;
+pub use all::commands_keep_laws;
 pub use words::lines_are_read_as_said;

@@ -10,7 +10,7 @@ ghost use Rattle.host_model.specs.Opening.{opened};
 ghost use Rattle.proof_host.specs.Facts.{Facts};
 ghost use Rattle.port_run.specs.Ending.{Desk};
 ghost use Rattle.proof_commands.specs.Lives.{AreLivesOf, GoesOn, entries_of, records_of};
-ghost use Rattle.proof_commands.specs.Port.{ConfirmsValues, DoneIsSuccess, HasStory, KeepsOrders, LeavesALife, PortKeepsLaws, ShowsTables};
+ghost use Rattle.proof_commands.specs.Port.{AddsRecords, ConfirmsValues, DoneIsSuccess, HasStory, KeepsOrders, LeavesALife, PortKeepsLaws, ShowsTables};
 
 use host_keep::a_text_is_of_one_record;
 use host_model::{a_host_begins_with_what_is_kept, a_restart_keeps_what_is_held};
@@ -44,13 +44,14 @@ fn lives_go_on()
     a_text_is_of_one_record();
 }
 
-/// The transcript of a story keeps the laws of orders, sessions, outcomes and confirmed values, and shows the tables of the host; and its
-/// records are those of a life more.
+/// The transcript of a story keeps the laws of orders, sessions, outcomes and confirmed values, and shows the tables of the host; its
+/// records are those of a life more, and those that the run added.
 fn stories_keep_laws()
     ensures orders { (ended : Status) (key : List ℕ) (number : ℕ) (texts : List (List ℕ)) (old new : Desk) → KeepsOrders ended key number texts old new }
     ensures tables { (ended : Status) (key : List ℕ) (number : ℕ) (texts : List (List ℕ)) (old new : Desk) → ShowsTables ended key number texts old new }
     ensures values { (ended : Status) (key : List ℕ) (number : ℕ) (texts : List (List ℕ)) (old new : Desk) → ConfirmsValues ended key number texts old new }
     ensures next { (ended : Status) (key : List ℕ) (number : ℕ) (texts : List (List ℕ)) (old new : Desk) → LeavesALife ended key number texts old new }
+    ensures adds { (ended : Status) (key : List ℕ) (number : ℕ) (texts : List (List ℕ)) (old new : Desk) → AddsRecords ended key number texts old new }
 {
     lives_go_on();
     events_keep_facts();

@@ -12,7 +12,7 @@ ghost use Rattle.proof_commands.specs.Replay.{ReplayKeepsLaws};
 use proof_host::{asides_keep_facts, events_keep_facts, first_facts_hold, laws_follow};
 
 /// Every run of `replay` keeps the laws: its transcript keeps those of hosts, and shows the tables and the confirmed values of its host; where
-/// there was no memory, the transcript of the lines that were run whole.
+/// there was no memory, the transcript of the lines that were run whole. The records at exit are those at entry and those of what the host did.
 pub fn replay_keeps_laws()
     ensures { (status : Status) (key : List ℕ) (left left' : Option (List ℕ)) (records records' : Option (List (List ℕ)))
         (faults faults' : ℕ) (sink sink' : Option (List ℕ)) →

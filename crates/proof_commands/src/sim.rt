@@ -13,7 +13,7 @@ ghost use Rattle.proof_commands.specs.Laws.{
   HasStory,
   HasWholeHeadline,
   KeepsDevices,
-  KeepsLaws,
+  SimKeepsLaws,
   KeepsOrders,
   KeepsWell,
   LosesFrames,
@@ -43,7 +43,7 @@ use proof_world::{
 
 /// Every run of `sim` has a story, and each story that it has keeps the laws.
 pub fn sim_keeps_laws()
-    ensures { (ended : Status) (key : List ℕ) (old new : Around) → KeepsLaws ended key old new }
+    ensures { (ended : Status) (key : List ℕ) (old new : Around) → SimKeepsLaws ended key old new }
 {
     runs_have_stories();
     runs_keep_records();

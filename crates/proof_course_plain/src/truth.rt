@@ -69,7 +69,7 @@ pub fn worlds_tell_the_truth()
 
 /// So over any lines from the first on, the last of which an allocation failure may have cut short, however often the host starts again,
 /// for a node whose commands go unsealed, whole or in segments: each success that the host is told of the node is true at the moment it is
-/// told. It is enough that the orders go so (`plain`). Premised is of the keeper what `lines_have_a_course` premises.
+/// told. It is enough that the orders go so (`plain`). It assumes of the keeper what `lines_have_a_course` assumes.
 pub fn lines_tell_the_truth()
     ensures lines { (node : ℕ) (keys : Keys) (records : Option (List (List ℕ))) (devices : List State) (lines : List Line)
         (events : List Event) → node < 233 → HasDevice node first_course devices → BeginsEmpty records →

@@ -70,8 +70,8 @@ pub fn lines_ask_plainly()
 /// are those of the device, with the statuses to which it came; what the device applied by sessions is a part of the commands of the
 /// sessions that began, in order, each once; and each session of which the host was told success is among them. The command of each session
 /// of which the host was told has the outcome of the status that was told, and each change of the device by a session has exactly the
-/// settings that the host's table of commands says the session's command asks for. It is enough that the orders go so (`plain`). Premised
-/// is of the keeper that it has no records at first, and that it tells them, as they were recorded, where the host starts again
+/// settings that the host's table of commands says the session's command asks for. It is enough that the orders go so (`plain`). It
+/// assumes that the keeper has no records at first, and that it tells them, as they were recorded, where the host starts again
 /// (`AllKeepWell`).
 pub fn lines_have_a_course()
     ensures first { (node : ℕ) (keys : Keys) (records : Option (List (List ℕ))) (devices : List State) → node < 233 →

@@ -88,8 +88,8 @@ pub fn lines_ask_fitly()
 /// for a node whose device, the first of it in the list, is a lock with the network's key while others of the node are idle, there are
 /// courses of its sessions and of the nonces of both ends, from the first. What the host was told is what the lock did; the command of each
 /// session of which it was told has the outcome of the status that was told; each change of the lock by a session has exactly the settings
-/// that the host's table of commands says the session's command asks for; and each success is true as it is told. Premised is of the keeper
-/// that it has no records at first, and that it tells them, as they were recorded, where the host starts again.
+/// that the host's table of commands says the session's command asks for; and each success is true as it is told. It assumes that the
+/// keeper has no records at first, and that it tells them, as they were recorded, where the host starts again.
 pub fn lines_have_courses()
     ensures first { (node : ℕ) (keys : Keys) (records : Option (List (List ℕ))) (devices : List State) → node < 233 →
         HasLock (first_past keys) node first_courses devices →

@@ -4,4 +4,7 @@ pub mod HostNumbers
 pub mod LockNumbers
 pub mod Sound
 pub mod Ticks
+pub mod TickParts
+pub mod Marks
 pub mod Lines
+pub mod Adding

@@ -1,5 +1,5 @@
 -- Worlds that lines lead to, and an exchange that begins in one of them.
-use Rattle.std.proofs.Common.{◌≡◌, ℕ, ◌<◌, ◌≤◌, Bool, true, cond, Option, Some, None, List, [], ◌∷◌, ◌++◌, length, refl, ap, sym, subst, ◌∙◌, inr, append_assoc, arith}
+use Rattle.std.proofs.Common.{◌≡◌, ℕ, suc, ◌+◌, ◌-◌, ◌<◌, ◌≤◌, Bool, true, cond, Option, Some, None, List, [], ◌∷◌, ◌++◌, length, refl, ap, sym, subst, ◌∙◌, inl, inr, append_assoc, arith}
 use Rattle.std.proofs.lemmas.List.{get_or-replicate, length-replicate, append-nil}
 use Rattle.std.proofs.lemmas.List.FromFn.{get_or-map-range_with_len}
 use Rattle.std.proofs.lemmas.Bool.{ne_eqb}
@@ -16,7 +16,7 @@ use Rattle.include_world.specs.declared.flight.Pair.{Pair}
 use Rattle.include_world.specs.declared.flight.Heading.TheVariants.{Outward}
 use Rattle.include_world.specs.Air.{AirState, pair_of, departing, first_air, no_counts}
 use Rattle.include_world.specs.World.{WorldState, Doing, IncludeEvent, Says, does, adds, begins, refused, joiner_of, first_world, first_joiner, after_all, entries_all, AllDrawn, Did}
-use Rattle.include_world.specs.Line.{IsLine}
+use Rattle.include_world.specs.Line.{IsLine, IsTicks}
 use Rattle.include_world.specs.Added.{IsSecure, last_word}
 use Rattle.include_world.specs.Ending.{Accepts, AddsAndTicks}
 use Rattle.include_world.proofs.Doing.{after_all-append, entries_all-append, AllDrawn-append, says_sent}
@@ -27,11 +27,12 @@ use Rattle.include_world.proofs.NearFacts.{Way}
 use Rattle.include_world.proofs.ShowFacts.{Ready}
 use Rattle.include_world.proofs.Stages.{SchemeAsked}
 use Rattle.include_world.proofs.Going.{Going, unmarked}
-use Rattle.include_world.proofs.Ticking.{Calm, ticks_end}
+use Rattle.include_world.proofs.Ticking.{Ahead, Calm, drawn_prefix, drawn_rest, ticks_end}
 use Rattle.include_world.proofs.Starting.{begins_going}
 use Rattle.proof_include.specs.Lines.{AreLines, CameTo}
 use Rattle.proof_include.proofs.Numbers.{LastIs}
-use Rattle.proof_include.proofs.Ticks.{Stands, stands_says, lines_stand}
+use Rattle.proof_include.proofs.TickParts.{split_ticks, ticks_less}
+use Rattle.proof_include.proofs.Ticks.{Stands, stands_says, lines_stand, ticks}
 
 -- ---- lines
 
@@ -124,10 +125,28 @@ begins_calm air node calm = omega (arith, calm)
 begun_landed : (air : AirState) (node : ℕ) → air.landed ≤ length air.frames → (departing air node Outward scheme_get).landed ≤ length air.frames
 begun_landed air node h = let grows = departing_grows air node Outward scheme_get in omega (arith, grows.landed, h)
 
--- eight ticks end it
-ends_in : (key : List ℕ) (w : WorldState) (node : ℕ) → Stands key node w → (joiner_of w node).key ≡ None → Accepts node w → (events : List IncludeEvent) → AddsAndTicks node 8 w events
+-- eight ticks end it, and it stays ended
+secure_after : (key : List ℕ) (node k : ℕ) (w : WorldState) (events : List IncludeEvent) → Stands key node w → Calm key node w → Ahead node 100 8 w → 8 ≤ k → IsTicks k w events → AllDrawn events
     → is_secure (after_all w events).includer node ≡ true
-ends_in key w node s none a events t =
+secure_after key node k w events s calm ahead enough ts drawn =
+    let parts = split_ticks 8 (k - 8) w events (subst (λ (n : ℕ). IsTicks n w events) (let same : k ≡ 8 + (k - 8) = omega (arith, enough) in same) ts) in
+    let both : AllDrawn (parts.first ++ parts.rest) = subst (λ (es : List IncludeEvent). AllDrawn es) parts.are drawn in
+    let first_drawn = drawn_prefix parts.first parts.rest both in
+    let stood = ticks key node 8 w parts.first parts.ticks first_drawn s in
+    let secure = ticks_end key node 100 8 w parts.first parts.ticks first_drawn (omega arith) calm ahead in
+    let less = ticks_less 8 w parts.first parts.ticks in
+    let calm_then : Calm key node (after_all w parts.first) = record {
+      fact = stood.sound.fact;
+      near = stood.sound.near;
+      calm = omega (arith, less, calm.calm);
+      within = stood.sent;
+    } in
+    ap (λ (v : WorldState). is_secure v.includer node) (ap (λ (es : List IncludeEvent). after_all w es) parts.are ∙ after_all-append w parts.first parts.rest)
+    ∙ ticks_end key node (suc (k - 8)) (k - 8) (after_all w parts.first) parts.rest parts.more (drawn_rest parts.first parts.rest both) (omega arith) calm_then (inl secure)
+
+pub ends_in : (key : List ℕ) (w : WorldState) (node k : ℕ) → Stands key node w → (joiner_of w node).key ≡ None → Accepts node w → 8 ≤ k → (events : List IncludeEvent) → AddsAndTicks node k w events
+    → is_secure (after_all w events).includer node ≡ true
+ends_in key w node k s none a enough events t =
     let drawn : AllDrawn (Says (Add node) t.drawn ∷ t.rest) = subst (λ (es : List IncludeEvent). AllDrawn es) t.are t.all_drawn in
     let begun = added_is w node t.drawn a in
     let next = stands_says key node w (Add node) t.drawn drawn.0 s in
@@ -141,17 +160,24 @@ ends_in key w node s none a events t =
     let going : Going node 100 SchemeAsked (length w.air.frames) (does w (Says (Add node) t.drawn)).world
     = subst (λ (v : WorldState). Going node 100 SchemeAsked (length w.air.frames) v) (sym begun) (begins_going key node w s.sound.near none a.unmarked) in
     ap (λ (es : List IncludeEvent). is_secure (after_all w es).includer node) t.are
-    ∙ ticks_end key node 100 8 (does w (Says (Add node) t.drawn)).world t.rest t.ticking drawn.1 (omega arith) calm (inr (SchemeAsked, length w.air.frames, going, flies, omega arith))
+    ∙ secure_after key node k (does w (Says (Add node) t.drawn)).world t.rest next calm (inr (SchemeAsked, length w.air.frames, going, flies, omega arith)) enough t.ticking drawn.1
 
-pub ends_for_each : (key : List ℕ) (T : List IncludeEntry) (w : WorldState) → CameTo key T w → (node : ℕ) → 1 ≤ node → node ≤ 232 → (joiner_of w node).key ≡ None → Accepts node w
-    → (events : List IncludeEvent) → AddsAndTicks node 8 w events → last_word node (T ++ entries_all w events) ≡ Some IsSecure
-ends_for_each key T w c node from to none a events t =
+-- ---- what holds in a world that lines lead to
+
+pub came_stands : (key : List ℕ) (T : List IncludeEntry) (w : WorldState) → CameTo key T w → (node : ℕ) → 1 ≤ node → node ≤ 232 → Stands key node w
+came_stands key T w c node from to =
+    let r = c.reached in
+    subst (λ (v : WorldState). Stands key node v) (sym r.state) (lines_stand key node c.lines (first_world key) r.events c.are r.drawn (first_stands key node r.sixteen from to))
+
+pub came_holds : (key : List ℕ) (T : List IncludeEntry) (w : WorldState) → CameTo key T w → (node : ℕ) → 1 ≤ node → node ≤ 232 → Holds key node T w
+came_holds key T w c node from to =
     let r = c.reached in
     let start = first_holds key node r.sixteen from to in
-    let stood : Stands key node w
-    = subst (λ (v : WorldState). Stands key node v) (sym r.state) (lines_stand key node c.lines (first_world key) r.events c.are r.drawn (first_stands key node r.sixteen from to)) in
-    let held : Holds key node T w
-    = subst (λ (U : List IncludeEntry). Holds key node U w) (sym r.entries)
-    (subst (λ (v : WorldState). Holds key node (entries_all (first_world key) r.events) v) (sym r.state) (holds_all key node [] (first_world key) r.events r.drawn start)) in
-    let all = holds_all key node T w events t.all_drawn held in
-    secure_said (last_word node (T ++ entries_all w events)) (all.counted ∙ ends_in key w node stood none a events t)
+    subst (λ (U : List IncludeEntry). Holds key node U w) (sym r.entries)
+    (subst (λ (v : WorldState). Holds key node (entries_all (first_world key) r.events) v) (sym r.state) (holds_all key node [] (first_world key) r.events r.drawn start))
+
+pub ends_for_each : (key : List ℕ) (T : List IncludeEntry) (w : WorldState) → CameTo key T w → (node : ℕ) → 1 ≤ node → node ≤ 232 → (joiner_of w node).key ≡ None → Accepts node w
+    → (ticks : ℕ) → 8 ≤ ticks → (events : List IncludeEvent) → AddsAndTicks node ticks w events → last_word node (T ++ entries_all w events) ≡ Some IsSecure
+ends_for_each key T w c node from to none a ticks enough events t =
+    let all = holds_all key node T w events t.all_drawn (came_holds key T w c node from to) in
+    secure_said (last_word node (T ++ entries_all w events)) (all.counted ∙ ends_in key w node ticks (came_stands key T w c node from to) none a enough events t)

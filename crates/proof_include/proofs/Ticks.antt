@@ -70,7 +70,7 @@ tick key node w events t drawn s =
     drawn_of : AllDrawn (Passes ∷ map Lands t.draws ++ Ends ∷ []) → AllDrawn (map Lands t.draws ++ Ends ∷ [])
     drawn_of d = d.1
 
-ticks : (key : List ℕ) (node k : ℕ) (w : WorldState) (events : List IncludeEvent) → IsTicks k w events → AllDrawn events → Stands key node w → Stands key node (after_all w events)
+pub ticks : (key : List ℕ) (node k : ℕ) (w : WorldState) (events : List IncludeEvent) → IsTicks k w events → AllDrawn events → Stands key node w → Stands key node (after_all w events)
 ticks key node zero w events none drawn s = subst (λ (es : List IncludeEvent). Stands key node (after_all w es)) (sym none) s
 ticks key node (suc k) w events ts drawn s =
     let both : AllDrawn (ts.0 ++ ts.1) = subst (λ (es : List IncludeEvent). AllDrawn es) ts.2 drawn in

@@ -12,7 +12,7 @@ ghost use Rattle.proof_messages.specs.Asking.{IsLeft};
 ghost use Rattle.proof_messages.specs.Others.{IsOther};
 
 /// A Nonce Get, a Nonce Report, No More Information, and the Sets and Gets that a user asks for without Supervision are no messages of a session.
-/// What is none leaves the sessions, the changes and the work of a device that knows Supervision as they were, and what it keeps of a datagram.
+/// What is no such message leaves the sessions, the changes and the work of a device that knows Supervision as they were, and what it keeps of a datagram.
 pub fn others_are_no_messages()
     ensures nonce_get { IsOther (form messages.NonceGet) }
     ensures nonce_report { (nonce : List ℕ) → IsOther (form (messages.NonceReport nonce)) }

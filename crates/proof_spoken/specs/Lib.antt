@@ -1,3 +1,4 @@
 pub mod Spoken
 pub mod Said
 pub mod Lines
+pub mod Whole

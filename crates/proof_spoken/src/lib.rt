@@ -8,8 +8,8 @@
 //! classes the host then knows, and `lines_tell_what_nodes_list` that they are those that the device lists: the list
 //! goes from the kind of a device to the chip (`proofs/Informing`), through the chip's frames (`proofs/Frames`,
 //! `proofs/Telling`) and over the line to the host (`proofs/Hearing`).
-//! The definitions are in `specs/`: `Spoken`, `Said` (what is claimed of an order, and what is assumed of interviews)
-//! and `Lines`.
+//! The definitions are in `specs/`: `Spoken`, `Said` (what is claimed of an order, and what is assumed of interviews),
+//! `Lines`, and `Whole` (lines that were all run whole).
 #![tactic(auto)]
 
 mod interviews;

@@ -28,7 +28,7 @@ use Rattle.proof_once.specs.ByTable.{IsTable}
 use Rattle.proof_once.specs.Tied.{settings_taken}
 use Rattle.proof_spoken.specs.Spoken.{Spoken, after, after_all, entries_of, transcript_of}
 use Rattle.proof_spoken.specs.Lines.{AreDone, IsRead, events_of}
-use Rattle.proof_transcript.specs.Whole.{AreWhole}
+use Rattle.proof_spoken.specs.Whole.{AreWhole}
 use Rattle.proof_transcript.proofs.Hosts.{LeavesRecords}
 use Rattle.proof_transcript.specs.Told.{IsTold}
 use Rattle.proof_transcript.proofs.Telling.{GoesOn, line_told}

@@ -6,7 +6,7 @@
 //! `lines_number_frames`, `lines_fare_in_turn`, `lines_lose_marked_frames`. Of commands:
 //! `commands_are_taken_back_when_asked`, `values_are_stored_as_asked`, `sessions_begin_with_their_unit`. Of the table:
 //! `what_is_told` covers the clock, the joined nodes and the heard values (`specs/Told`), line by line, and
-//! `tables_are_what_is_shown` the whole table if all lines were run whole (`specs/Whole`).
+//! `tables_are_what_is_shown` the whole table if all lines were run whole (`AreWhole` of `proof_spoken`).
 #![tactic(auto)]
 
 mod commands;

@@ -3,13 +3,13 @@
 ghost use Rattle.std.specs.Prelude.{◌≡◌, ◌^◌, ◌<◌, drop, length, map};
 ghost use Rattle.run_words.specs.Parsing.{texts_of};
 ghost use Rattle.proof_commands.specs.Around.{around};
-ghost use Rattle.proof_commands.specs.Laws.{KeepsLaws};
+ghost use Rattle.proof_commands.specs.All.{KeepsLaws};
 ghost use Rattle.run_all.specs.Commands.{Runs, RunsWords};
 
 use device_sim::Device;
 use host_keep::Keeper;
 use port_run::run_host;
-use proof_commands::sim_keeps_laws;
+use proof_commands::commands_keep_laws;
 use run_audit::run_audit;
 use run_include::run_include;
 use run_lines::Status;
@@ -41,14 +41,14 @@ pub fn run<S: Source, K: Sink, D: Draw, P: Keeper>(
         (around (S.left source.new) (S.faults source.new) (K.written sink.new) (K.faults sink.new)
         (map (λ d. state d) devices.new.items) (P.number keeper.new) (P.records keeper.new) (P.faults keeper.new)) }
 
-    // Where that was `sim`, the run has a story, and each story that it has keeps the laws.
-    ensures laws { KeepsLaws result key
+    // Where that was `sim`, `replay`, `include` or `host`, the run has a story, and each story that it has keeps the laws of that command.
+    ensures laws { KeepsLaws result (texts_of words.now) key
         (around (S.left source.old) (S.faults source.old) (K.written sink.old) (K.faults sink.old)
         (map (λ d. state d) devices.old.items) (P.number keeper.old) (P.records keeper.old) (P.faults keeper.old))
         (around (S.left source.new) (S.faults source.new) (K.written sink.new) (K.faults sink.new)
         (map (λ d. state d) devices.new.items) (P.number keeper.new) (P.records keeper.new) (P.faults keeper.new)) }
 {
-    sim_keeps_laws();
+    commands_keep_laws();
     match read_words(alloc, words) {
         Ok(asked) => run_asked(
             alloc, asked, words, source, sink, devices, key, draw, keeper,

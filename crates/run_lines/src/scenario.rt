@@ -109,7 +109,7 @@ pub fn end_badly<K: Sink>(alloc: Global, sink: &mut K, line: u32, fault: LineFau
     }
 }
 
-/// The line that tells that a line is none, with its line feed.
+/// The line that reports an invalid line, with its line feed.
 fn bad_line_text(alloc: Global, line: u32, fault: LineFault) -> Result<Bytes, NoMemory>
     ensures { IfOk result (λ text. text ≡ bad_line_text line fault) }
 {

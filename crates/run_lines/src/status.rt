@@ -28,7 +28,7 @@ pub enum Status {
     Undone(u32),
     /// The keeper failed as it was read.
     KeeperFault,
-    /// The record of that number, from 0, is none that a host could have kept there.
+    /// No host could have kept the record of that number, from 0, there.
     BadRecord(u64),
     /// The line of that number breaks a rule of transcripts.
     No(u32),

@@ -267,7 +267,7 @@ pub enum Entry {
         confirmed: Option<u32>,
         heard: Option<u32>,
     },
-    /// `badline K NAME`: the line of this number, from 1 on, is none.
+    /// `badline K NAME`: the line of this number, from 1 on, is invalid.
     BadLine {
         line: u32,
         fault: LineFault,

@@ -1,16 +1,18 @@
-//! The program: makes the devices, the key, the input and the output, and hands them to `run` of `run_all`.
+//! The program: makes the devices, the key, the input, the output and the keeper of records, and hands them to `run` of `run_all`.
 #![tactic(auto)]
 
 use device_sim::{
     Device, Recorder, Switch, make_config, make_dimmer, make_lock, make_relay, make_sensor,
     make_strip, make_switch, make_thermostat,
 };
-use host_keep::PlainKeeper;
+use file_keeper::{DiskFault, DiskFile, FileKeeper, OpenFault};
+use host_keep::{Keeper, PlainKeeper};
 use run_all::{ChaChaDraw, run};
 use run_lines::Status;
 use run_words::USAGE;
 use std::alloc::Global;
 use std::env;
+use std::env::VarError;
 use std::io::ErrorKind;
 use std::process::ExitCode;
 use zw_base::{NoMemory, NodeId, Sink, Source, StdSink, StdSource, read_node};
@@ -22,6 +24,12 @@ const KEY: [u8; 16] = [
 
 /// How many kinds of devices there are: the kind of a node's device is by its number.
 const KINDS: u8 = 8;
+
+/// The command that may have a file of records.
+const HOST: &str = "host";
+
+/// The environment variable that names the file of the records of `host`.
+const RECORDS: &str = "ZWAVE_RECORDS";
 
 /// The nodes that have a device; that of the first records what it hears.
 const FIRST: u8 = 2;
@@ -66,11 +74,12 @@ fn make_recorder(alloc: Global, node: NodeId) -> Result<Recorder<Switch>, NoMemo
 }
 
 // Makes a device for each node, of the kind that its number says, and runs the command over them.
-fn run_with_devices<S: Source, K: Sink>(
+fn run_with_devices<S: Source, K: Sink, P: Keeper>(
     alloc: Global,
     words: &[String],
     source: &mut S,
     sink: &mut K,
+    keeper: &mut P,
 ) -> Result<Status, NoMemory> {
     let mut devices: Vec<Box<dyn Device>> = Vec::new(alloc);
     for number in FIRST..=LAST {
@@ -91,7 +100,6 @@ fn run_with_devices<S: Source, K: Sink>(
         devices.push(device)?;
     }
     let mut draw = ChaChaDraw::new([0; 32]);
-    let mut keeper = PlainKeeper::new(alloc);
     Ok(run(
         alloc,
         words,
@@ -100,17 +108,98 @@ fn run_with_devices<S: Source, K: Sink>(
         &mut devices,
         KEY,
         &mut draw,
-        &mut keeper,
+        keeper,
     ))
 }
 
-// Makes the real input and output, and runs the command.
+// The name of the file of records, where the words are those of `host` and the environment has one.
+fn records_name(rt: &HostRuntime, words: &[String]) -> Result<Option<String>, Status> {
+    match words.first() {
+        Some(word) if word.as_str() == HOST => {}
+        _ => return Ok(None),
+    }
+    match env::var(rt, RECORDS) {
+        Ok(name) => Ok(Some(name)),
+        Err(VarError::NotPresent) => Ok(None),
+        Err(_) => {
+            let _ = eprintln!(rt; "zwave_console: {RECORDS} is not UTF-8");
+            Err(Status::KeeperFault)
+        }
+    }
+}
+
+// Opens the file of records.
+fn open_records(rt: &HostRuntime, name: &str) -> Result<FileKeeper<DiskFile>, Status> {
+    let file = match DiskFile::open(rt, name) {
+        Ok(file) => file,
+        Err(fault) => {
+            say_refused(rt, name, &fault);
+            return Err(Status::KeeperFault);
+        }
+    };
+    let mut keeper = FileKeeper::new(rt.alloc(), file);
+    match keeper.open() {
+        Ok(()) => Ok(keeper),
+        Err(OpenFault::NoMemory) => Err(Status::NoMemory),
+        Err(OpenFault::Failed) => {
+            let _ = eprintln!(rt; "zwave_console: {name}: reading or syncing failed");
+            Err(Status::KeeperFault)
+        }
+        Err(OpenFault::Foreign) => {
+            let _ = eprintln!(rt;
+                "zwave_console: {name}: it ends without a line feed, and not in a record"
+            );
+            Err(Status::KeeperFault)
+        }
+    }
+}
+
+// Says which file was not opened, and why.
+fn say_refused(rt: &HostRuntime, name: &str, fault: &DiskFault) {
+    let _ = match fault {
+        DiskFault::Locked => eprintln!(rt; "zwave_console: {name}: another program has it open"),
+        DiskFault::NoFile => eprintln!(rt; "zwave_console: {name}: it is no file"),
+        DiskFault::Refused { error } => eprintln!(rt; "zwave_console: {name}: {error}"),
+    };
+}
+
+// Says how often something could not be kept, if it ever was so.
+fn say_faults(rt: &HostRuntime, name: &str, faults: u64) {
+    if faults > 0 {
+        let _ = eprintln!(rt;
+            "zwave_console: {name}: {faults} times a record could not be kept or read"
+        );
+    }
+}
+
+// Makes the real input and output, and the keeper, and runs the command.
 fn start(rt: &HostRuntime) -> Result<Status, NoMemory> {
     let words = match words_of(rt) {
         Ok(words) => words,
         Err(status) => return Ok(status),
     };
+    let words = words.as_slice();
     let mut source = StdSource::new(rt.stdin());
     let mut sink = StdSink::new(rt.stdout());
-    run_with_devices(rt.alloc(), words.as_slice(), &mut source, &mut sink)
+    match records_name(rt, words) {
+        Ok(None) => {
+            let mut keeper = PlainKeeper::new(rt.alloc());
+            run_with_devices(rt.alloc(), words, &mut source, &mut sink, &mut keeper)
+        }
+        Ok(Some(name)) => match open_records(rt, name.as_str()) {
+            Ok(mut keeper) => {
+                let status = run_with_devices(
+                    rt.alloc(),
+                    words,
+                    &mut source,
+                    &mut sink,
+                    &mut keeper,
+                );
+                say_faults(rt, name.as_str(), keeper.faults());
+                status
+            }
+            Err(status) => Ok(status),
+        },
+        Err(status) => Ok(status),
+    }
 }

@@ -73,3 +73,7 @@ returns-clause-cancelled_by_host c = λ calm. not_true calm.still.marks
 pub returns-clause-denied : goal.returns-clause-denied
 unfolding computing
 returns-clause-denied c = λ calm. not_true calm.still.chip
+
+pub returns-clause-owed : goal.returns-clause-owed
+unfolding computing
+returns-clause-owed c = λ calm. not_true calm.still.called

@@ -1,4 +1,4 @@
-use Rattle.std.proofs.Common.{[], refl, ◌∙◌}
+use Rattle.std.proofs.Common.{[], refl, sym, ◌∙◌}
 use Rattle.law_wire.proofs.Walks.{apart, direct, is_linked}
 use Rattle.law_time.proofs.Computing.{computing}
 use Rattle.law_transcript.proofs.Deciding.{not_true}
@@ -36,11 +36,12 @@ pub returns-clause-missing : goal.returns-clause-missing
 unfolding computing
 returns-clause-missing c = λ law. not_true (law.alone
     (record {
-      still = record { marks = refl; host = refl; chip = refl; air = refl; idle = refl; asleep = refl; working = refl };
+      still = record { marks = refl; host = refl; chip = refl; called = refl; air = refl; idle = refl; asleep = refl; working = refl };
       to_come = refl;
     })
     (record {
       quiet = refl;
+      kept = refl;
       reached = (
         record { repeaters = []; route = direct _ _ _ refl; live = is_linked _ _ 1 2 ∙ refl; back = []; way = (direct _ _ _ refl).walk },
         tt,
@@ -52,11 +53,12 @@ pub returns-clause-missing_together : goal.returns-clause-missing_together
 unfolding computing
 returns-clause-missing_together c = λ law. not_true (law.together
     (record {
-      still = record { marks = refl; host = refl; chip = refl; air = refl; idle = refl; asleep = refl; working = refl };
+      still = record { marks = refl; host = refl; chip = refl; called = refl; air = refl; idle = refl; asleep = refl; working = refl };
       to_come = refl;
     })
     (record {
       quiet = refl;
+      kept = refl;
       reached = (
         record { repeaters = []; route = direct _ _ _ refl; live = is_linked _ _ 1 2 ∙ refl; back = []; way = (direct _ _ _ refl).walk },
         tt,
@@ -68,11 +70,12 @@ pub returns-clause-succeeded : goal.returns-clause-succeeded
 unfolding computing
 returns-clause-succeeded c = λ law. not_true (law.alone
     (record {
-      still = record { marks = refl; host = refl; chip = refl; air = refl; idle = refl; asleep = refl; working = refl };
+      still = record { marks = refl; host = refl; chip = refl; called = refl; air = refl; idle = refl; asleep = refl; working = refl };
       to_come = refl;
     })
     (record {
       quiet = refl;
+      kept = refl;
       reached = (
         record { repeaters = []; route = direct _ _ _ refl; live = is_linked _ _ 1 6 ∙ refl; back = []; way = (direct _ _ _ refl).walk },
         tt,
@@ -84,11 +87,12 @@ pub returns-clause-failed : goal.returns-clause-failed
 unfolding computing
 returns-clause-failed c = λ law. not_true (law.alone
     (record {
-      still = record { marks = refl; host = refl; chip = refl; air = refl; idle = refl; asleep = refl; working = refl };
+      still = record { marks = refl; host = refl; chip = refl; called = refl; air = refl; idle = refl; asleep = refl; working = refl };
       to_come = refl;
     })
     (record {
       quiet = refl;
+      kept = refl;
       reached = (
         record { repeaters = []; route = direct _ _ _ refl; live = is_linked _ _ 1 6 ∙ refl; back = []; way = (direct _ _ _ refl).walk },
         tt,
@@ -163,3 +167,11 @@ returns-clause-taken_back c = refl
 pub returns-clause-in_segments : goal.returns-clause-in_segments
 unfolding computing
 returns-clause-in_segments c = refl
+
+pub returns-clause-unkept : goal.returns-clause-unkept
+unfolding computing
+returns-clause-unkept c = λ stretch. not_true (sym stretch.kept)
+
+pub returns-clause-order_unkept : goal.returns-clause-order_unkept
+unfolding computing
+returns-clause-order_unkept c = λ stretch. not_true (sym stretch.kept)

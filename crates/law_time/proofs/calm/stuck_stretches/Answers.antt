@@ -5,7 +5,7 @@ use Rattle.law_time.proofs.calm.stuck_stretches.Goals as goal
 
 pub returns-clause-still : goal.returns-clause-still
 unfolding computing
-returns-clause-still c = record { marks = refl; host = refl; chip = refl; air = refl; idle = refl; asleep = refl; working = refl }
+returns-clause-still c = record { marks = refl; host = refl; chip = refl; called = refl; air = refl; idle = refl; asleep = refl; working = refl }
 
 pub returns-clause-stuck : goal.returns-clause-stuck
 unfolding computing
@@ -13,7 +13,7 @@ returns-clause-stuck c = refl
 
 pub returns-clause-ready : goal.returns-clause-ready
 unfolding computing
-returns-clause-ready c = record { quiet = refl; reached = (record { repeaters = []; route = direct _ _ _ refl; live = is_linked _ _ 1 10 ∙ refl; back = []; way = (direct _ _ _ refl).walk }, tt) }
+returns-clause-ready c = record { quiet = refl; kept = refl; reached = (record { repeaters = []; route = direct _ _ _ refl; live = is_linked _ _ 1 10 ∙ refl; back = []; way = (direct _ _ _ refl).walk }, tt) }
 
 pub returns-clause-one : goal.returns-clause-one
 unfolding computing

@@ -5,7 +5,7 @@ use Rattle.law_time.proofs.calm.worked_stretches.Goals as goal
 
 pub returns-clause-one : goal.returns-clause-one
 unfolding computing
-returns-clause-one c = record { quiet = refl; reached = (record { repeaters = []; route = direct _ _ _ refl; live = is_linked _ _ 1 2 ∙ refl; back = []; way = (direct _ _ _ refl).walk }, tt) }
+returns-clause-one c = record { quiet = refl; kept = refl; reached = (record { repeaters = []; route = direct _ _ _ refl; live = is_linked _ _ 1 2 ∙ refl; back = []; way = (direct _ _ _ refl).walk }, tt) }
 
 pub returns-clause-one_in_time : goal.returns-clause-one_in_time
 unfolding computing
@@ -19,6 +19,7 @@ pub returns-clause-two : goal.returns-clause-two
 unfolding computing
 returns-clause-two c = record {
   quiet = refl;
+  kept = refl;
   reached = (
     record { repeaters = []; route = direct _ _ _ refl; live = is_linked _ _ 1 2 ∙ refl; back = []; way = (direct _ _ _ refl).walk },
     (
@@ -48,7 +49,7 @@ returns-clause-two_answered c = record { alone = λ calm stretch one time. refl;
 
 pub returns-clause-sleeper : goal.returns-clause-sleeper
 unfolding computing
-returns-clause-sleeper c = record { quiet = refl; reached = (record { repeaters = []; route = direct _ _ _ refl; live = is_linked _ _ 1 5 ∙ refl; back = []; way = (direct _ _ _ refl).walk }, tt) }
+returns-clause-sleeper c = record { quiet = refl; kept = refl; reached = (record { repeaters = []; route = direct _ _ _ refl; live = is_linked _ _ 1 5 ∙ refl; back = []; way = (direct _ _ _ refl).walk }, tt) }
 
 pub returns-clause-sleeper_alone : goal.returns-clause-sleeper_alone
 unfolding computing
@@ -64,7 +65,7 @@ returns-clause-sleeper_answered c = record { alone = λ calm stretch one time. r
 
 pub returns-clause-failing : goal.returns-clause-failing
 unfolding computing
-returns-clause-failing c = record { quiet = refl; reached = (record { repeaters = []; route = direct _ _ _ refl; live = is_linked _ _ 1 6 ∙ refl; back = []; way = (direct _ _ _ refl).walk }, tt) }
+returns-clause-failing c = record { quiet = refl; kept = refl; reached = (record { repeaters = []; route = direct _ _ _ refl; live = is_linked _ _ 1 6 ∙ refl; back = []; way = (direct _ _ _ refl).walk }, tt) }
 
 pub returns-clause-failing_in_time : goal.returns-clause-failing_in_time
 unfolding computing
@@ -84,6 +85,7 @@ pub returns-clause-repeated : goal.returns-clause-repeated
 unfolding computing
 returns-clause-repeated c = record {
   quiet = refl;
+  kept = refl;
   reached = (
     record {
       repeaters = 2 ∷ [];

@@ -1,5 +1,6 @@
 use Rattle.std.proofs.Common.{[], ◌∷◌, refl}
 use Rattle.law_time.specs.Queue.{may_send}
+use Rattle.law_time.specs.WrongBetween.{told_again_as_chip_writes}
 use Rattle.law_time.specs.WrongQueue.{aborted_unasked, sent_before_abort, sent_before_report}
 use Rattle.law_time.specs.WrongRequests.{sent_out_of_turn, sent_unasked}
 use Rattle.law_time.specs.WrongWaits.{told_while_waiting}
@@ -159,3 +160,7 @@ returns-clause-unsupported_session c = broken (may_send (listing_of (the_switch 
 pub returns-clause-aborted_early : goal.returns-clause-aborted_early
 unfolding computing
 returns-clause-aborted_early c = broken (may_send (listing_of (the_switch ∷ []))) aborted_early refl
+
+pub returns-clause-again_as_chip_writes : goal.returns-clause-again_as_chip_writes
+unfolding computing
+returns-clause-again_as_chip_writes c = broken (may_send (listing_of (the_switch ∷ the_sensor ∷ []))) told_again_as_chip_writes refl

@@ -1,5 +1,6 @@
 use Rattle.std.proofs.Common.{[], ◌∷◌, refl}
 use Rattle.law_time.specs.Queue.{may_send}
+use Rattle.law_time.specs.WorkedBetween.{told_after_restart, told_as_chip_writes}
 use Rattle.law_time.specs.WorkedQueue.{resent_segments, silent_attempt}
 use Rattle.law_time.specs.WorkedWaits.{answered_errands, held_node, the_keeper, the_other_switch, woken_before_restart}
 use Rattle.law_transcript.specs.Nodes.{listing_of}
@@ -169,3 +170,11 @@ returns-clause-overrun c = kept (may_send (listing_of (the_switch ∷ []))) copi
 pub returns-clause-following_interview : goal.returns-clause-following_interview
 unfolding computing
 returns-clause-following_interview c = kept (may_send (listing_of (the_switch ∷ []))) asked_after_interview refl
+
+pub returns-clause-as_chip_writes : goal.returns-clause-as_chip_writes
+unfolding computing
+returns-clause-as_chip_writes c = kept (may_send (listing_of (the_switch ∷ the_sensor ∷ []))) told_as_chip_writes refl
+
+pub returns-clause-after_restart : goal.returns-clause-after_restart
+unfolding computing
+returns-clause-after_restart c = kept (may_send (listing_of (the_keeper ∷ []))) told_after_restart refl

@@ -1,5 +1,7 @@
 use Rattle.std.proofs.Common.{[], ◌∷◌, refl}
 use Rattle.law_time.specs.Rests.{may_rest}
+use Rattle.law_time.specs.WrongBetween.{held_over_restart}
+use Rattle.law_time.specs.WorkedWaits.{the_keeper}
 use Rattle.law_time.specs.WrongQueue.{left_unaborted, left_unreported, left_unresent}
 use Rattle.law_time.specs.WrongWaits.{left_awake, left_overdue, left_unbegun, left_unsent, left_waiting}
 use Rattle.law_transcript.specs.Nodes.{listing_of}
@@ -80,3 +82,7 @@ returns-clause-a_tick c = λ law. broken (may_rest (listing_of (the_switch ∷ [
 pub returns-clause-given_up : goal.returns-clause-given_up
 unfolding computing
 returns-clause-given_up c = λ law. broken (may_rest (listing_of (the_switch ∷ []))) left_given_up refl law.between
+
+pub returns-clause-held : goal.returns-clause-held
+unfolding computing
+returns-clause-held c = λ law. broken (may_rest (listing_of (the_keeper ∷ []))) held_over_restart refl law.between

@@ -1,7 +1,8 @@
 use Rattle.std.proofs.Common.{[], ◌∷◌, refl}
 use Rattle.law_time.specs.Rests.{may_rest}
+use Rattle.law_time.specs.WorkedBetween.{told_after_restart, told_as_chip_writes}
 use Rattle.law_time.specs.WorkedQueue.{resent_segments}
-use Rattle.law_time.specs.WorkedWaits.{answered_errands, the_other_switch, waited_attempts, woken_before_restart}
+use Rattle.law_time.specs.WorkedWaits.{answered_errands, the_keeper, the_other_switch, waited_attempts, woken_before_restart}
 use Rattle.law_transcript.specs.Nodes.{listing_of}
 use Rattle.law_transcript.specs.Worked.{cancelled_order, long_message, lossy_exchange, plain_exchange, repeated_exchange, restarted_host, sealed_exchange, sleeping_node, the_lock, the_plug, the_sensor, the_switch}
 use Rattle.law_time.proofs.Computing.{computing}
@@ -101,3 +102,11 @@ returns-clause-for_line c = record { between = kept (may_rest (listing_of (the_s
 pub returns-clause-for_judging : goal.returns-clause-for_judging
 unfolding computing
 returns-clause-for_judging c = record { between = kept (may_rest (listing_of (the_switch ∷ []))) waits_for_judging refl; in_the_end = λ whole. refl }
+
+pub returns-clause-as_chip_writes : goal.returns-clause-as_chip_writes
+unfolding computing
+returns-clause-as_chip_writes c = record { between = kept (may_rest (listing_of (the_switch ∷ the_sensor ∷ []))) told_as_chip_writes refl; in_the_end = λ whole. refl }
+
+pub returns-clause-after_restart : goal.returns-clause-after_restart
+unfolding computing
+returns-clause-after_restart c = record { between = kept (may_rest (listing_of (the_keeper ∷ []))) told_after_restart refl; in_the_end = λ whole. refl }

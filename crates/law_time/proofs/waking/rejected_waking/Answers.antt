@@ -4,9 +4,9 @@ use Rattle.law_time.specs.Waking.{may_sleep, may_wake}
 use Rattle.law_time.specs.WrongWaits.{asleep_untold, asleep_unwoken, awake_untold, given_up_awake, held_unasked, not_held, sleep_passed_over, waking_passed_over}
 use Rattle.law_time.specs.WrongEntries.{asleep_though_listening, held_though_listening}
 use Rattle.law_time.proofs.Computing.{computing}
-use Rattle.law_transcript.proofs.Deciding.{broken}
+use Rattle.law_transcript.proofs.Deciding.{broken, not_true}
 use Rattle.law_time.proofs.waking.rejected_waking.Goals as goal
-use Rattle.law_time.specs.WrongEnds.{asleep_again, asleep_before_end, asleep_by_other}
+use Rattle.law_time.specs.WrongEnds.{asleep_again, asleep_before_end, asleep_by_other, awake_after_link, awake_after_refusal, awake_as_it_asks, awake_in_next_line, awake_in_next_tick}
 use Rattle.law_time.specs.WrongWaking.{awake_by_unread, held_by_other, held_unanswered, not_held_failing, not_held_unsupported, awake_after_accepted, awake_after_change, awake_after_cleared, awake_after_forgotten, awake_after_frame, awake_after_full, awake_after_hearing, awake_after_line, awake_after_loss, awake_after_refused, awake_after_session, awake_after_tick, awake_after_unhearing, awake_after_unit, awake_after_note}
 
 pub returns-clause-untold : goal.returns-clause-untold
@@ -19,19 +19,19 @@ returns-clause-passed c = broken may_wake waking_passed_over refl
 
 pub returns-clause-unwoken : goal.returns-clause-unwoken
 unfolding computing
-returns-clause-unwoken c = broken may_sleep asleep_unwoken refl
+returns-clause-unwoken c = λ law. broken may_sleep asleep_unwoken refl law.between
 
 pub returns-clause-sleeps_untold : goal.returns-clause-sleeps_untold
 unfolding computing
-returns-clause-sleeps_untold c = broken may_sleep asleep_untold refl
+returns-clause-sleeps_untold c = λ law. broken may_sleep asleep_untold refl law.between
 
 pub returns-clause-sleep_passed : goal.returns-clause-sleep_passed
 unfolding computing
-returns-clause-sleep_passed c = broken may_sleep sleep_passed_over refl
+returns-clause-sleep_passed c = λ law. broken may_sleep sleep_passed_over refl law.between
 
 pub returns-clause-given_up : goal.returns-clause-given_up
 unfolding computing
-returns-clause-given_up c = broken may_sleep given_up_awake refl
+returns-clause-given_up c = λ law. broken may_sleep given_up_awake refl law.between
 
 pub returns-clause-unasked : goal.returns-clause-unasked
 unfolding computing
@@ -43,7 +43,7 @@ returns-clause-not_held c = broken may_hold not_held refl
 
 pub returns-clause-listening : goal.returns-clause-listening
 unfolding computing
-returns-clause-listening c = broken may_sleep asleep_though_listening refl
+returns-clause-listening c = λ law. broken may_sleep asleep_though_listening refl law.between
 
 pub returns-clause-held_listening : goal.returns-clause-held_listening
 unfolding computing
@@ -51,15 +51,15 @@ returns-clause-held_listening c = broken may_hold held_though_listening refl
 
 pub returns-clause-again : goal.returns-clause-again
 unfolding computing
-returns-clause-again c = broken may_sleep asleep_again refl
+returns-clause-again c = λ law. broken may_sleep asleep_again refl law.between
 
 pub returns-clause-before_end : goal.returns-clause-before_end
 unfolding computing
-returns-clause-before_end c = broken may_sleep asleep_before_end refl
+returns-clause-before_end c = λ law. broken may_sleep asleep_before_end refl law.between
 
 pub returns-clause-by_other : goal.returns-clause-by_other
 unfolding computing
-returns-clause-by_other c = broken may_sleep asleep_by_other refl
+returns-clause-by_other c = λ law. broken may_sleep asleep_by_other refl law.between
 
 pub returns-clause-unread : goal.returns-clause-unread
 unfolding computing
@@ -140,3 +140,27 @@ returns-clause-after_session c = broken may_wake awake_after_session refl
 pub returns-clause-after_note : goal.returns-clause-after_note
 unfolding computing
 returns-clause-after_note c = broken may_wake awake_after_note refl
+
+pub returns-clause-next_tick : goal.returns-clause-next_tick
+unfolding computing
+returns-clause-next_tick c = λ law. broken may_sleep awake_in_next_tick refl law.between
+
+pub returns-clause-next_line : goal.returns-clause-next_line
+unfolding computing
+returns-clause-next_line c = λ law. broken may_sleep awake_in_next_line refl law.between
+
+pub returns-clause-as_it_asks : goal.returns-clause-as_it_asks
+unfolding computing
+returns-clause-as_it_asks c = λ law. broken may_sleep awake_as_it_asks refl law.between
+
+pub returns-clause-after_link : goal.returns-clause-after_link
+unfolding computing
+returns-clause-after_link c = λ law. broken may_sleep awake_after_link refl law.between
+
+pub returns-clause-after_refusal : goal.returns-clause-after_refusal
+unfolding computing
+returns-clause-after_refusal c = λ law. broken may_sleep awake_after_refusal refl law.between
+
+pub returns-clause-in_the_end : goal.returns-clause-in_the_end
+unfolding computing
+returns-clause-in_the_end c = λ law. not_true (law.in_the_end refl)

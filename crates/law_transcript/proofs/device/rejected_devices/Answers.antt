@@ -1,14 +1,14 @@
-use Rattle.std.proofs.Common.{◌≡◌, ℕ, true, false, List, [], ◌∷◌, length, refl, sym, ap, ◌∙◌, arith}
+use Rattle.std.proofs.Common.{◌≡◌, ℕ, true, false, List, [], ◌∷◌, length, sym, ap, ◌∙◌, arith}
 use Rattle.std.specs.List.{flat_map}
 use Rattle.zw_base.specs.declared.property.Setting.{Setting}
 use Rattle.device_kinds.specs.declared.change.Change.{Change}
 use Rattle.device_sim.specs.Event.{DeviceEvent}
 use Rattle.device_sim.specs.State.{State}
-use Rattle.law_transcript.specs.Devices.{after_events, made_by, replies_in}
+use Rattle.law_transcript.specs.Devices.{after_events, made_by, replies_joined}
 use Rattle.law_transcript.specs.Worked.{the_switch, the_sensor}
-use Rattle.law_transcript.specs.WorkedDevices.{sleeping_sensor}
+use Rattle.law_transcript.specs.WorkedDevices.{kept_silent, one_tick, sleeping_sensor, switch_at_work, woken_silent}
 use Rattle.law_transcript.proofs.Computing.{computing_devices}
-use Rattle.law_transcript.proofs.Comings.{nothing_came, only_set, only_heard, only_ticked, woken_first}
+use Rattle.law_transcript.proofs.Comings.{nothing_came, only_set, only_heard, only_ticked, woken_first, woken_twice}
 use Rattle.law_transcript.proofs.device.rejected_devices.Goals as goal
 
 true_false : true ≡ false → ⊥
@@ -60,8 +60,20 @@ returns-clause-unshown c = λ law.
 pub returns-clause-silent : goal.returns-clause-silent
 unfolding computing_devices
 returns-clause-silent c = λ law.
-    one_zero (sym (ap length (law.answered refl refl)
-    ∙ ap (λ (events : List DeviceEvent). length (replies_in the_switch events)) (only_set law.events 1 law.comes.came law.comes.ticked)))
+    one_zero (sym (ap length law.answered
+    ∙ ap (λ (events : List DeviceEvent). length (replies_joined 2 kept_silent the_switch events)) (only_set law.events 1 law.comes.came law.comes.ticked)))
+
+pub returns-clause-silent_since : goal.returns-clause-silent_since
+unfolding computing_devices
+returns-clause-silent_since c = λ law.
+    one_zero (sym (ap length law.answered
+    ∙ ap (λ (events : List DeviceEvent). length (replies_joined 5 woken_silent the_sensor events)) (woken_twice law.events law.comes.came law.comes.ticked)))
+
+pub returns-clause-silent_at_work : goal.returns-clause-silent_at_work
+unfolding computing_devices
+returns-clause-silent_at_work c = λ law.
+    one_zero (sym (ap length law.answered
+    ∙ ap (λ (events : List DeviceEvent). length (replies_joined 2 one_tick switch_at_work events)) (only_ticked law.events law.comes.came law.comes.ticked).1))
 
 pub returns-clause-elsewhere : goal.returns-clause-elsewhere
 unfolding computing_devices

@@ -1,5 +1,5 @@
-use Rattle.std.proofs.Common.{◌≡◌, ℕ, List, [], ◌∷◌, ◌++◌, ◌∙◌, length, refl, ap, sym, arith}
-use Rattle.std.specs.Prelude.{Some, None, codes}
+use Rattle.std.proofs.Common.{◌≡◌, ℕ, List, [], ◌∷◌, ◌++◌, ◌∙◌, refl, ap, sym}
+use Rattle.std.specs.Prelude.{Some, None, codes, take, drop}
 use Rattle.std.specs.List.{flat_map}
 use Rattle.std.proofs.lemmas.List.{append_assoc}
 use Rattle.zw_base.specs.declared.property.Name.TheVariants as names
@@ -9,7 +9,7 @@ use Rattle.device_sim.specs.State.{State, Outcome}
 use Rattle.device_sim.specs.Event.{DeviceEvent, outcome_of, device_after, device_replies}
 use Rattle.device_sim.specs.Event.DeviceEvent.{Hears, Wakes}
 use Rattle.zw_text.specs.Transcript.{made, lines_run}
-use Rattle.law_transcript.specs.Devices.{after_events, replies_in, comings, brought, ticks_lived, made_by, sent_from}
+use Rattle.law_transcript.specs.Devices.{after_events, events_unjoined, replies_in, replies_joined, comings, brought, ticks_lived, made_by, sent_from}
 use Rattle.law_transcript.specs.Restarts.{ticks_asked}
 use Rattle.law_transcript.proofs.Sealing.{set_plain, report_with, report_code, opened_set, sealed_report}
 use Rattle.law_transcript.specs.Worked.{bytes, sealed_exchange, turned_on, turned_on_and_off, set_apart, secured, configured}
@@ -30,7 +30,7 @@ returns-clause-plain c = record {
   runs = refl;
   comes = record { came = refl; ticked = refl };
   shows = record { changes = turned_on; changed = refl; entered = refl };
-  answered = λ came idle. refl;
+  answered = refl;
 }
 
 pub returns-clause-turned_on : goal.returns-clause-turned_on
@@ -44,7 +44,7 @@ returns-clause-sleeping c = record {
   runs = refl;
   comes = record { came = refl; ticked = refl };
   shows = record { changes = set_apart; changed = refl; entered = refl };
-  answered = λ came idle. refl;
+  answered = refl;
 }
 
 pub returns-clause-set_apart : goal.returns-clause-set_apart
@@ -58,7 +58,7 @@ returns-clause-by_hand c = record {
   runs = refl;
   comes = record { came = refl; ticked = refl };
   shows = record { changes = record { by = Local; settings = setting 0 names.Switch 255 ∷ [] } ∷ []; changed = refl; entered = refl };
-  answered = λ came idle. refl;
+  answered = refl;
 }
 
 pub returns-clause-ticked : goal.returns-clause-ticked
@@ -68,12 +68,8 @@ returns-clause-ticked c = record {
   runs = refl;
   comes = record { came = refl; ticked = refl };
   shows = record { changes = []; changed = refl; entered = refl };
-  answered = λ came idle. refl;
+  answered = refl;
 }
-
--- a list of one is not empty
-one_none : {A : Type 0} (item : A) → item ∷ [] ≡ [] → ⊥
-one_none item same = omega (arith, ap length same)
 
 pub returns-clause-apart : goal.returns-clause-apart
 unfolding computing_devices
@@ -82,11 +78,18 @@ returns-clause-apart c = record {
   runs = refl;
   comes = record { came = refl; ticked = refl };
   shows = record { changes = []; changed = refl; entered = refl };
-  answered = λ came idle. absurd (one_none _ came);
+  answered = refl;
 }
 
-one_zero : ◌≡◌ {A = ℕ} 1 0 → ⊥
-one_zero e = omega (arith, e)
+pub returns-clause-joined : goal.returns-clause-joined
+unfolding computing_devices
+returns-clause-joined c = record {
+  events = Wakes ∷ Wakes ∷ [];
+  runs = refl;
+  comes = record { came = refl; ticked = refl };
+  shows = record { changes = []; changed = refl; entered = refl };
+  answered = refl;
+}
 
 pub returns-clause-working : goal.returns-clause-working
 unfolding computing_devices
@@ -95,7 +98,7 @@ returns-clause-working c = record {
   runs = refl;
   comes = record { came = refl; ticked = refl };
   shows = record { changes = (after_events switch_at_work (tick ∷ [])).journal; changed = refl; entered = refl };
-  answered = λ came idle. absurd (one_zero idle);
+  answered = refl;
 }
 
 pub returns-clause-repeated : goal.returns-clause-repeated
@@ -105,7 +108,7 @@ returns-clause-repeated c = record {
   runs = refl;
   comes = record { came = refl; ticked = refl };
   shows = record { changes = turned_on; changed = refl; entered = refl };
-  answered = λ came idle. refl;
+  answered = refl;
 }
 
 pub returns-clause-lossy : goal.returns-clause-lossy
@@ -115,7 +118,7 @@ returns-clause-lossy c = record {
   runs = refl;
   comes = record { came = refl; ticked = refl };
   shows = record { changes = turned_on_and_off; changed = refl; entered = refl };
-  answered = λ came idle. refl;
+  answered = refl;
 }
 
 pub returns-clause-cancelled : goal.returns-clause-cancelled
@@ -125,7 +128,7 @@ returns-clause-cancelled c = record {
   runs = refl;
   comes = record { came = refl; ticked = refl };
   shows = record { changes = turned_on; changed = refl; entered = refl };
-  answered = λ came idle. refl;
+  answered = refl;
 }
 
 pub returns-clause-restarted : goal.returns-clause-restarted
@@ -135,7 +138,7 @@ returns-clause-restarted c = record {
   runs = refl;
   comes = record { came = refl; ticked = refl };
   shows = record { changes = turned_on; changed = refl; entered = refl };
-  answered = λ came idle. refl;
+  answered = refl;
 }
 
 pub returns-clause-cut : goal.returns-clause-cut
@@ -145,7 +148,7 @@ returns-clause-cut c = record {
   runs = refl;
   comes = record { came = refl; ticked = refl };
   shows = record { changes = configured; changed = refl; entered = refl };
-  answered = λ came idle. refl;
+  answered = refl;
 }
 
 -- ---- the lock
@@ -157,13 +160,13 @@ unfolding device_after
 after_joined device [] event following outcome is = ap (λ (outcome : Outcome). after_events outcome.device following) is
 after_joined device (first ∷ before) event following outcome is = after_joined (device_after device first) before event following outcome is
 
-replies_joined : (device : State) (before : List DeviceEvent) (event : DeviceEvent) (following : List DeviceEvent) (outcome : Outcome)
+replies_split : (device : State) (before : List DeviceEvent) (event : DeviceEvent) (following : List DeviceEvent) (outcome : Outcome)
     → outcome_of (after_events device before) event ≡ outcome
     → replies_in device (before ++ event ∷ following) ≡ replies_in device before ++ (outcome.replies ++ replies_in outcome.device following)
 unfolding device_after device_replies
-replies_joined device [] event following outcome is = ap (λ (outcome : Outcome). outcome.replies ++ replies_in outcome.device following) is
-replies_joined device (first ∷ before) event following outcome is =
-    ap (λ (replies : List (List ℕ)). device_replies device first ++ replies) (replies_joined (device_after device first) before event following outcome is)
+replies_split device [] event following outcome is = ap (λ (outcome : Outcome). outcome.replies ++ replies_in outcome.device following) is
+replies_split device (first ∷ before) event following outcome is =
+    ap (λ (replies : List (List ℕ)). device_replies device first ++ replies) (replies_split (device_after device first) before event following outcome is)
     ∙ sym (append_assoc (device_replies device first) _ _)
 
 -- the lock when it hears what the host sealed, and its nonce is spent
@@ -199,7 +202,7 @@ journal_is = ap (λ (device : State). device.journal) (after_joined the_keyed_lo
 
 replies_are : replies_in the_keyed_lock lock_events ≡ replies_in the_keyed_lock lock_begins ++ (bytes (codes "9840") ∷ report_with report_code ∷ [])
 replies_are =
-    replies_joined the_keyed_lock lock_begins (Hears sealed_set []) lock_goes_on opened opening
+    replies_split the_keyed_lock lock_begins (Hears sealed_set []) lock_goes_on opened opening
     ∙ ap (λ (replies : List (List ℕ)). replies_in the_keyed_lock lock_begins ++ replies) replies_after
 
 -- by the transcript
@@ -220,14 +223,23 @@ lock_sent : sent_from 4 sealed_exchange
 unfolding computing
 lock_sent = refl
 
+-- nothing came to the lock and no tick passed before its node joined
+lock_unjoined : events_unjoined 4 sealed_exchange ≡ 0
+unfolding computing
+lock_unjoined = refl
+
+lock_joined : replies_joined 4 sealed_exchange the_keyed_lock lock_events ≡ replies_in the_keyed_lock lock_events
+lock_joined =
+    ap (λ (before : ℕ). replies_in (after_events the_keyed_lock (take before lock_events)) (drop before lock_events)) lock_unjoined
+
 pub returns-clause-sealed : goal.returns-clause-sealed
 returns-clause-sealed c = record {
   events = lock_events;
   runs = refl;
   comes = record { came = lock_came; ticked = lock_ticked };
   shows = record { changes = secured; changed = journal_is; entered = lock_entered };
-  answered = λ came idle. lock_sent ∙ sym (replies_are
-      ∙ ap (λ (replies : List (List ℕ)). replies ++ (bytes (codes "9840") ∷ report_with report_code ∷ [])) replies_before);
+  answered = lock_sent ∙ sym (lock_joined ∙ (replies_are
+      ∙ ap (λ (replies : List (List ℕ)). replies ++ (bytes (codes "9840") ∷ report_with report_code ∷ [])) replies_before));
 }
 
 pub returns-clause-secured : goal.returns-clause-secured

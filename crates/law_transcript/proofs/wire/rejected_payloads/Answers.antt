@@ -5,7 +5,7 @@ use Rattle.law_transcript.specs.Nodes.{listing_of}
 use Rattle.law_transcript.specs.Units.{Carried}
 use Rattle.law_transcript.specs.Worked.{bytes, network_key, the_switch, the_lock, the_plug}
 use Rattle.law_transcript.specs.WorkedCases.{the_dimmer}
-use Rattle.law_transcript.specs.WorkedWrongPayloads.{sent_otherwise, sent_earlier, sent_unbegun, sent_by_new_list, sealed_unasked, sent_openly, sealed_for_none, sealed_for_longer, sealed_otherwise, sealed_longer, sent_whole, cut_otherwise, cut_of_another, cut_past_end, nonce_unasked, nonce_of_another, nonce_otherwise, nonce_shorter, set_unasked, set_otherwise, set_of_another, set_refused, get_unasked}
+use Rattle.law_transcript.specs.WorkedWrongPayloads.{sent_otherwise, sent_earlier, sent_unbegun, sent_by_new_list, sealed_unasked, sent_openly, sealed_for_none, sealed_for_longer, sealed_otherwise, sealed_longer, sent_whole, cut_otherwise, cut_of_another, cut_past_end, nonce_unasked, nonce_of_another, nonce_otherwise, nonce_shorter, nonce_skipped, nonce_uncounted, set_unasked, set_by_new_list, set_otherwise, set_of_another, set_refused, get_unasked}
 use Rattle.law_transcript.proofs.Computing.{computing}
 use Rattle.law_transcript.proofs.Dues.{head_of, differ, not_due, no_other, sealed_as, sealed_length, is_cut, cut_at}
 use Rattle.law_transcript.proofs.Sealing.{set_own, set_nonce, set_plain, sealed_set}
@@ -23,6 +23,10 @@ shorter nonce nine eight = omega (arith, nine, eight)
 -- nor are eleven
 longer : (nonce : List ℕ) → 11 ≡ suc (suc (length nonce)) → length nonce ≡ 8 → ⊥
 longer nonce eleven eight = omega (arith, eleven, eight)
+
+-- a nonce of eight bytes is not empty
+eight_none : (nonce : List ℕ) → length nonce ≡ 8 → nonce ≡ [] → ⊥
+eight_none nonce eight none = omega (arith, eight, ap length none)
 
 -- the message that is cut
 abbrev the_message : List ℕ
@@ -177,3 +181,31 @@ returns-clause-cut_of_another c = λ law.
       payload = bytes (codes "55C02F206C01012B700700002501010101010101010101010101010101010101010101010101010101010152E8");
     }) refl refl refl
     (λ of. elim (cut_at the_message 1 _ of.place of.within of.text) [ inl first ↦ differ 0x20 0x10 refl (ap (λ p. slice_index p 3) first) | inr second ↦ differ 0x55C0 0x55E0 refl (ap head_of second) ]) (λ asked. asked) law.1.1.1.1.1.0.0
+
+pub returns-clause-set_new_list : goal.returns-clause-set_new_list
+unfolding computing sealing
+returns-clause-set_new_list c = λ law.
+    no_other (listing_of (the_dimmer ∷ [])) [] (take 2 set_by_new_list) (record { node = 2; payload = bytes (codes "260163") }) refl refl refl
+    (λ of. of) (λ asked. elim asked [ inl same ↦ differ 0x2501 0x2601 refl (ap (λ (carried : Carried). head_of carried.payload) same) | inr never ↦ never ]) law.1.1.0.0
+
+pub returns-clause-nonce_skipped : goal.returns-clause-nonce_skipped
+unfolding computing sealing
+returns-clause-nonce_skipped c = λ law.
+    not_due (listing_of (the_lock ∷ [])) network_key (take 1 nonce_skipped) (record { node = 4; payload = bytes (codes "98800201020304050607") }) (λ of. of)
+    (λ get. differ 0x9880 0x9840 refl (ap head_of get))
+    (λ report. elim report.counted [
+      | inl same ↦ eight_none report.nonce report.eight same
+      | inr next ↦ differ 2 1 refl (ap (λ p. slice_index p 2) report.text ∙ next)
+    ])
+    (λ more. differ 0x9880 0x8408 refl (ap head_of more)) (λ asked. asked) law.1.0.0
+
+pub returns-clause-nonce_uncounted : goal.returns-clause-nonce_uncounted
+unfolding computing sealing
+returns-clause-nonce_uncounted c = λ law.
+    not_due (listing_of (the_lock ∷ [])) network_key (take 3 nonce_uncounted) (record { node = 4; payload = bytes (codes "988001FF0A1249BB594F") }) (λ of. of)
+    (λ get. differ 0x9880 0x9840 refl (ap head_of get))
+    (λ report. elim report.counted [
+      | inl same ↦ differ 0xFF 0x9E refl (ap (λ p. slice_index p 3) report.text ∙ ap (λ p. slice_index p 1) same)
+      | inr next ↦ differ 1 2 refl (ap (λ p. slice_index p 2) report.text ∙ next)
+    ])
+    (λ more. differ 0x9880 0x8408 refl (ap head_of more)) (λ asked. asked) law.1.1.1.0.0

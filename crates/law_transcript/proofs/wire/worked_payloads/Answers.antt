@@ -1,7 +1,8 @@
 use Rattle.std.proofs.Common.{[], ◌∷◌, refl, inl, inr, sym, arith}
+use Rattle.std.specs.Prelude.{codes}
 use Rattle.law_transcript.specs.Nodes.{listing_of}
-use Rattle.law_transcript.specs.Worked.{plain_exchange, repeated_exchange, lossy_exchange, cancelled_order, restarted_host, sleeping_node, sealed_exchange, long_message, the_switch, the_sensor, the_lock, the_plug, network_key}
-use Rattle.law_transcript.specs.WorkedCases.{set_asked, get_asked, sent_by_old_list, the_dimmer}
+use Rattle.law_transcript.specs.Worked.{bytes, plain_exchange, repeated_exchange, lossy_exchange, cancelled_order, restarted_host, sleeping_node, sealed_exchange, long_message, the_switch, the_sensor, the_lock, the_plug, network_key}
+use Rattle.law_transcript.specs.WorkedCases.{set_asked, get_asked, nonces_counted, sent_by_old_list, set_by_old_list, the_dimmer}
 use Rattle.law_transcript.proofs.Entries.{sends_what_is_due}
 use Rattle.law_transcript.proofs.Sealing.{set_own, set_nonce, report_nonce, sealed_set}
 use Rattle.law_transcript.proofs.Computing.{computing}
@@ -56,6 +57,7 @@ returns-clause-sealed c = sends_what_is_due (listing_of (the_lock ∷ [])) netwo
             eight = refl;
             asked = inr (inl refl);
             text = refl;
+            counted = inr refl;
           }))),
           tt,
         ),
@@ -93,3 +95,20 @@ returns-clause-get c = sends_what_is_due (listing_of (the_switch ∷ [])) [] get
 pub returns-clause-old_list : goal.returns-clause-old_list
 unfolding computing
 returns-clause-old_list c = sends_what_is_due (listing_of (the_dimmer ∷ [])) [] sent_by_old_list ((inl refl, tt), tt)
+
+pub returns-clause-set_old_list : goal.returns-clause-set_old_list
+unfolding computing
+returns-clause-set_old_list c = sends_what_is_due (listing_of (the_dimmer ∷ [])) [] set_by_old_list ((inr (inr (inr (inr (inl refl)))), tt), tt)
+
+pub returns-clause-nonces : goal.returns-clause-nonces
+unfolding computing
+returns-clause-nonces c = sends_what_is_due (listing_of (the_lock ∷ [])) network_key nonces_counted (
+  (inr (inr (inl (record { nonce = bytes (codes "019E0A1249BB594F"); eight = refl; asked = inl refl; text = refl; counted = inr refl }))), tt),
+  (
+    (inr (inr (inl (record { nonce = bytes (codes "019E0A1249BB594F"); eight = refl; asked = inl refl; text = refl; counted = inl refl }))), tt),
+    (
+      (inr (inr (inl (record { nonce = bytes (codes "0201020304050607"); eight = refl; asked = inl refl; text = refl; counted = inr refl }))), tt),
+      tt,
+    ),
+  ),
+)

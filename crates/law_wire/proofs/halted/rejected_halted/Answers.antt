@@ -1,4 +1,4 @@
-use Rattle.std.proofs.Common.{◌≡◌, ℕ, suc, true, false, List, [], ◌∷◌, length, refl, sym, ap, subst, ◌∙◌, inl, inr, arith}
+use Rattle.std.proofs.Common.{◌≡◌, ℕ, suc, true, false, List, [], ◌∷◌, length, sym, ap, subst, ◌∙◌, inl, inr, arith}
 use Rattle.std.specs.Prelude.{◌≤◌}
 use Rattle.std.specs.List.{flat_map}
 use Rattle.zw_base.specs.declared.property.Setting.{Setting}
@@ -6,10 +6,11 @@ use Rattle.device_kinds.specs.declared.change.Change.{Change}
 use Rattle.device_sim.specs.State.{State}
 use Rattle.device_sim.specs.Event.{DeviceEvent, device_after}
 use Rattle.device_sim.specs.Event.DeviceEvent.{Hears, Ticks, Sets}
-use Rattle.law_transcript.specs.Devices.{after_events, comings, made_by, replies_in}
+use Rattle.law_transcript.specs.Devices.{after_events, comings, made_by, replies_joined}
 use Rattle.law_transcript.specs.Worked.{the_sensor, the_switch}
 use Rattle.law_transcript.proofs.Comings.{first_tag, nothing_came, only_set, only_ticked}
-use Rattle.law_wire.specs.WorkedHalted.{sleeper, stirred, grown_old, quiet_line, set_before, ticked_before, set_otherwise, woken_otherwise, two_messages}
+use Rattle.law_wire.specs.WorkedHalted.{sleeper, stirred, grown_old, quiet_line, set_before, ticked_before, woken_before, set_otherwise, woken_otherwise, two_messages}
+use Rattle.law_wire.specs.Halted.{before_line}
 use Rattle.law_wire.proofs.Computing.{reckoning}
 use Rattle.law_wire.proofs.Halting.{Late, hears_once, late_by, one_at_most, only_woken, payload_first, set_first, woken_first}
 use Rattle.law_wire.proofs.halted.rejected_halted.Goals as goal
@@ -87,8 +88,9 @@ returns-clause-unticked c = λ law.
 pub returns-clause-silent : goal.returns-clause-silent
 unfolding reckoning
 returns-clause-silent c = λ law.
-    none_one (ap length (law.before.answered refl refl)
-    ∙ ap (λ (events : List DeviceEvent). length (replies_in sleeper events)) (only_woken law.earlier law.before.comes.came law.before.comes.ticked))
+    none_one (ap length law.before.answered
+    ∙ ap (λ (events : List DeviceEvent). length (replies_joined 5 (before_line woken_before) sleeper events))
+    (only_woken law.earlier law.before.comes.came law.before.comes.ticked))
 
 pub returns-clause-older : goal.returns-clause-older
 unfolding reckoning
@@ -122,10 +124,10 @@ pub returns-clause-words : goal.returns-clause-words
 unfolding reckoning
 returns-clause-words c = λ law.
     let late = late_by 5 woken_otherwise sleeper the_sensor law [] (nothing_came law.earlier law.before.comes.came law.before.comes.ticked) in
-    let said = late.answered refl refl in
+    let said = late.answered in
     elim (woken_first law.late late.prefix.0 (sym (ap first_tag late.prefix.1)) late.ticked) [
-      | inl none ↦ none_some _ (ap (λ (events : List DeviceEvent). length (replies_in sleeper events)) (sym none) ∙ ap length said.1)
-      | inr first ↦ seven_eight (ap (λ (events : List DeviceEvent). first_said (replies_in sleeper events)) (sym first.1) ∙ ap first_said said.1)
+      | inl none ↦ none_some _ (ap (λ (events : List DeviceEvent). length (replies_joined 5 woken_otherwise sleeper events)) (sym none) ∙ ap length said.1)
+      | inr first ↦ seven_eight (ap (λ (events : List DeviceEvent). first_said (replies_joined 5 woken_otherwise sleeper events)) (sym first.1) ∙ ap first_said said.1)
     ]
 
 two_heard : (payload drawn : List ℕ) → 2 ≡ changes_of (device_after the_switch (Hears payload drawn)) → ⊥

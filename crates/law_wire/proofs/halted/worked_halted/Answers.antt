@@ -12,9 +12,9 @@ returns-clause-heard c = record {
   late = events_halted;
   more = take 1 (drop 11 plain_exchange);
   runs = refl;
-  before = record { comes = record { came = refl; ticked = refl }; answered = λ joined idle. refl };
+  before = record { comes = record { came = refl; ticked = refl }; answered = refl };
   lacks = record { unsaid = refl; one_more = omega arith };
-  following = record { came = ([], refl); ticked = omega arith; answered = λ joined idle. (_, refl) };
+  following = record { came = ([], refl); ticked = omega arith; answered = (_, refl) };
   changes = record { changes = turned_on; changed = refl; entered = refl };
 }
 
@@ -25,9 +25,9 @@ returns-clause-changed c = record {
   late = events_halted;
   more = [];
   runs = refl;
-  before = record { comes = record { came = refl; ticked = refl }; answered = λ joined idle. refl };
+  before = record { comes = record { came = refl; ticked = refl }; answered = refl };
   lacks = record { unsaid = refl; one_more = omega arith };
-  following = record { came = ([], refl); ticked = omega arith; answered = λ joined idle. (_, refl) };
+  following = record { came = ([], refl); ticked = omega arith; answered = (_, refl) };
   changes = record { changes = turned_on; changed = refl; entered = refl };
 }
 
@@ -38,8 +38,8 @@ returns-clause-unheard c = record {
   late = [];
   more = [];
   runs = refl;
-  before = record { comes = record { came = refl; ticked = refl }; answered = λ joined idle. refl };
+  before = record { comes = record { came = refl; ticked = refl }; answered = refl };
   lacks = record { unsaid = refl; one_more = omega arith };
-  following = record { came = (_, refl); ticked = omega arith; answered = λ joined idle. (_, refl) };
+  following = record { came = (_, refl); ticked = omega arith; answered = (_, refl) };
   changes = record { changes = []; changed = refl; entered = refl };
 }

@@ -9,4 +9,5 @@ returns c = λ ended key number texts old new. record {
   values = c.stories_keep_laws.ensures.values ended key number texts old new;
   success = c.done_is_success.ensures key number texts old new;
   next = c.stories_keep_laws.ensures.next ended key number texts old new;
+  adds = c.stories_keep_laws.ensures.adds ended key number texts old new;
 }

@@ -1,6 +1,6 @@
 -- The laws follow from the facts.
 use Rattle.proof_commands.specs.Port.{last, transcript}
-use Rattle.proof_commands.proofs.HostKeeping.{story_keeps, story_leaves}
+use Rattle.proof_commands.proofs.HostKeeping.{story_adds, story_keeps, story_leaves}
 use Rattle.proof_commands.proofs.port.stories_keep_laws.Goals as goal
 
 pub returns-clause-orders : goal.returns-clause-orders
@@ -20,3 +20,6 @@ returns-clause-values c = λ ended key number texts old new story lives tells on
 
 pub returns-clause-next : goal.returns-clause-next
 returns-clause-next c = story_leaves c.lives_go_on.ensures.records
+
+pub returns-clause-adds : goal.returns-clause-adds
+returns-clause-adds c = story_adds

@@ -1,0 +1,3 @@
+mod Splits
+mod Written
+mod Drawers

@@ -1,0 +1,4 @@
+pub mod Lines
+pub mod Holding
+pub mod Drawer
+pub mod Inside

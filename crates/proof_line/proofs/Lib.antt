@@ -1,0 +1,4 @@
+mod Units
+mod Counting
+mod Colliding
+pub mod Asking

@@ -1,0 +1,17 @@
+//! Marks that lines set on the serial line.
+
+ghost use Rattle.std.specs.Prelude.{Option, List, ℕ};
+ghost use Rattle.s0_crypto.specs.declared.key_pair.Keys.{Keys};
+ghost use Rattle.device_sim.specs.State.{State};
+ghost use Rattle.law_wire.specs.Marks.{CollidesWhenAsked};
+ghost use Rattle.world_model.specs.State.{first_machine};
+ghost use Rattle.proof_spoken.specs.Spoken.{Spoken, transcript_of};
+ghost use Rattle.proof_spoken.specs.Lines.{AreDone};
+
+/// Over any lines from the first on, the last of which an allocation failure may have cut short, the chip answers a good frame CAN where a line has asked for a
+/// collision that has not come, and ACK only where there is none.
+pub fn lines_collide_when_asked()
+    ensures { (keys : Keys) (records : Option (List (List ℕ))) (devices : List State) (lines : List Spoken) →
+        AreDone (first_machine keys records devices) lines →
+        CollidesWhenAsked (transcript_of (first_machine keys records devices) lines) }
+{}

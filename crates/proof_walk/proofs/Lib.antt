@@ -1,0 +1,10 @@
+pub mod Joining
+mod Settling
+mod Ticking
+pub mod Lines
+pub mod Moving
+pub mod Times
+pub mod Linking
+pub mod Noting
+pub mod Stamping
+pub mod Machines

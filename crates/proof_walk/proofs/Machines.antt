@@ -1,0 +1,136 @@
+-- What a law owes outside the host, and of a host's units and notes, is enough for each event of the machine.
+use Rattle.std.proofs.Common.{◌≡◌, ℕ, Bool, true, false, List, [], ◌∷◌, ◌++◌, refl, sym, subst, append_assoc, append-nil}
+use Rattle.std.specs.Prelude.{Option, Some, None}
+use Rattle.std.specs.List.{AllByRecursion}
+use Rattle.zw_base.proofs.Each.{all-append}
+use Rattle.serial_frame.specs.declared.unit.Unit.{Unit as LineUnit}
+use Rattle.zw_text.specs.declared.entry.Entry.{Entry}
+use Rattle.zw_text.specs.declared.entry.Entry.TheVariants as entry
+use Rattle.law_transcript.specs.Lists.{EachAfter}
+use Rattle.proof_host.proofs.Lists.{each-append}
+use Rattle.host_model.specs.State.{HostState}
+use Rattle.host_model.specs.Events.{HostEvent}
+use Rattle.host_model.specs.Did.{outs_all}
+use Rattle.host_model.specs.declared.out.HostOut.{HostOut}
+use Rattle.host_model.specs.declared.out.HostOut.TheVariants.{Write, Note}
+use Rattle.outside_model.specs.State.{Outside, is_stalled}
+use Rattle.outside_model.specs.Events.{OuterEvent, Begins_line, Begins_tick, Host_writes, Host_takes as host_takes, Host_notes, Host_begins, Chip_takes, Arrives, Gives, Device_ticks, Chip_ticks, Repeats, Wakes_device, Sets_device, outcome, May as MayOutside, happens as happens_outside, entries as entries_outside, is_own}
+use Rattle.outside_model.specs.Did.{happens_all as happens_all_outside, entries_all as entries_all_outside, MayAll as MayAllOutside}
+use Rattle.world_model.specs.State.{Machine, begun_in, noted_by, routed, host_does}
+use Rattle.world_model.specs.Events.{Event, Outside_does, Host_does, Host_takes, Decoder_ticks, Refuses, Shows_values, Restarts, answers, notes, shown_values, happens, entries, May}
+use Rattle.proof_walk.specs.Outside.{Pending, Knowing, Outer, Known, CoversOuter, IsSimple, IsNote}
+use Rattle.proof_walk.proofs.Noting.{Notes, NoteOuts, all_outs_note, answers_note}
+use Rattle.proof_walk.proofs.Stamping.{Fits, Keeps, outer_keeps}
+
+not_own : false ≡ true → ⊥
+not_own is = cc
+
+own_fits : (Covers : OuterEvent → Type 0) (event : OuterEvent) → is_own event ≡ true → Covers event → Fits Covers event
+own_fits Covers (Host_writes unit) own covers = absurd (not_own own)
+own_fits Covers (host_takes count) own covers = absurd (not_own own)
+own_fits Covers (Host_notes note) own covers = absurd (not_own own)
+own_fits Covers (Host_begins node sessions) own covers = absurd (not_own own)
+own_fits Covers Begins_line own covers = tt
+own_fits Covers Begins_tick own covers = tt
+own_fits Covers (Chip_takes count rest ways) own covers = tt
+own_fits Covers (Arrives drawn route) own covers = tt
+own_fits Covers (Gives route) own covers = tt
+own_fits Covers (Device_ticks place drawn route) own covers = tt
+own_fits Covers Chip_ticks own covers = tt
+own_fits Covers (Repeats number drawn route) own covers = tt
+own_fits Covers (Wakes_device node route) own covers = tt
+own_fits Covers (Sets_device node value route) own covers = tt
+own_fits Covers event own covers = (tt, covers)
+
+-- what the host does at the line
+abbrev IsOfHost : OuterEvent → Type 0
+IsOfHost event = IsSimple event × (is_own event ≡ false)
+
+module _ (Asks : List Entry → Entry → Type 0) (Knows : Pending → Knowing) (Covers : OuterEvent → Type 0) (law : Outer Asks Knows Covers)
+    (hosts : (event : OuterEvent) → is_own event ≡ false → Covers event) where
+  abbrev pub Keeps_known : Outside → List Entry → Outside → Type 0
+  Keeps_known w told later = (past : List Entry) → Known Asks Knows past w → EachAfter Asks past told × Known Asks Knows (past ++ told) later
+
+  keeps_none : (w : Outside) → Keeps_known w [] w
+  keeps_none w past known = (tt, subst (λ (l : List Entry). Known Asks Knows l w) (sym (append-nil past)) known)
+
+  keeps_both : (w u v : Outside) (xs ys : List Entry) → Keeps_known w xs u → Keeps_known u ys v → Keeps_known w (xs ++ ys) v
+  keeps_both w u v xs ys first later past known =
+      let one = first past known in
+      let two = later (past ++ xs) one.1 in
+      (each-append Asks past xs ys one.0 two.0, subst (λ (l : List Entry). Known Asks Knows l v) (append_assoc past xs ys) two.1)
+
+  outer : (w : Outside) (event : OuterEvent) → Fits Covers event → MayOutside w event → Keeps_known w (entries_outside w event) (happens_outside w event)
+  outer w event fits may = outer_keeps Asks Knows Covers law (λ refused. hosts (Host_notes (entry.Refused refused)) refl) w event fits may
+
+  -- ---- what the host puts out
+
+  host_event : (w : Outside) (event : OuterEvent) → IsOfHost event → MayOutside w event → Keeps_known w (entries_outside w event) (happens_outside w event)
+  host_event w (Host_writes unit) of_host may = outer w (Host_writes unit) (tt, hosts (Host_writes unit) refl) may
+  host_event w (host_takes count) of_host may = outer w (host_takes count) (tt, hosts (host_takes count) refl) may
+  host_event w (Host_notes note) of_host may = outer w (Host_notes note) (of_host.0, hosts (Host_notes note) refl) may
+  host_event w (Host_begins node sessions) of_host may = outer w (Host_begins node sessions) (tt, hosts (Host_begins node sessions) refl) may
+  host_event w event of_host may = let none : true ≡ false = of_host.1 in absurd cc
+
+  -- it writes and notes, and begins sessions
+  abbrev IsPut : OuterEvent → Type 0
+  IsPut (Host_writes unit) = Unit {0}
+  IsPut (Host_notes note) = IsNote note
+  IsPut (Host_begins node sessions) = Unit {0}
+  IsPut event = ⊥
+
+  put_keeps : (w : Outside) (event : OuterEvent) → IsPut event → Keeps_known w (entries_outside w event) (happens_outside w event)
+  unfolding MayOutside
+  put_keeps w (Host_writes unit) put = host_event w (Host_writes unit) (tt, refl) tt
+  put_keeps w (Host_notes note) put = host_event w (Host_notes note) (put, refl) tt
+  put_keeps w (Host_begins node sessions) put = host_event w (Host_begins node sessions) (tt, refl) tt
+  put_keeps w event put = absurd put
+
+  puts_keep : (w : Outside) (events : List OuterEvent) → AllByRecursion IsPut events → Keeps_known w (entries_all_outside w events) (happens_all_outside w events)
+  puts_keep w [] puts = keeps_none w
+  puts_keep w (event ∷ events) puts =
+      keeps_both w (happens_outside w event) (happens_all_outside (happens_outside w event) events) (entries_outside w event) (entries_all_outside (happens_outside w event) events)
+      (put_keeps w event puts.0) (puts_keep (happens_outside w event) events puts.1)
+
+  noted_put : (begun : Option (ℕ × ℕ)) (note : Entry) → IsNote note → AllByRecursion IsPut (noted_by begun note)
+  noted_put None note is = (is, tt)
+  noted_put (Some begun) note is = (tt, (is, tt))
+
+  routed_put : (outs : List HostOut) → NoteOuts outs → AllByRecursion IsPut (routed outs)
+  routed_put [] are = tt
+  routed_put (Write unit ∷ outs) are = (tt, routed_put outs are.1)
+  routed_put (Note note ∷ outs) are = all-append IsPut (noted_by (begun_in note) note) (routed outs) (noted_put (begun_in note) note are.0) (routed_put outs are.1)
+
+  notes_put : (told : List Entry) → Notes told → AllByRecursion IsPut (notes told)
+  notes_put [] are = tt
+  notes_put (note ∷ told) are = (are.0, notes_put told are.1)
+
+  outs_keep : (w : Outside) (h : HostState) (events : List HostEvent) → Keeps_known w (entries_all_outside w (routed (outs_all h events))) (happens_all_outside w (routed (outs_all h events)))
+  outs_keep w h events = puts_keep w (routed (outs_all h events)) (routed_put (outs_all h events) (all_outs_note h events))
+
+  answers_keep : (w : Outside) (h : HostState) (event : HostEvent) → Keeps_known w (entries_all_outside w (notes (answers h event))) (happens_all_outside w (notes (answers h event)))
+  answers_keep w h event = puts_keep w (notes (answers h event)) (notes_put (answers h event) (answers_note h event))
+
+  -- the host takes bytes
+  takes_keep : (w : Outside) (count : ℕ) → is_stalled w.outer ≡ false → Keeps_known w [] (happens_outside w (host_takes count))
+  unfolding outcome MayOutside
+  takes_keep w count moves = host_event w (host_takes count) (tt, refl) moves
+
+  -- ---- an event of the machine
+
+  pub machine_keeps : (m : Machine) (event : Event) → CoversOuter Covers event → May m event → Keeps_known m.outside (entries m event) (happens m event).outside
+  unfolding happens entries May
+  machine_keeps m (Outside_does event) covers may = outer m.outside event (own_fits Covers event may.0 covers) may.1
+  machine_keeps m (Host_does event) covers may =
+      let later : Outside = (host_does m (event ∷ [])).outside in
+      keeps_both m.outside later (happens_all_outside later (notes (answers m.host.state event)))
+      (entries_all_outside m.outside (routed (outs_all m.host.state (event ∷ [])))) (entries_all_outside later (notes (answers m.host.state event)))
+      (outs_keep m.outside m.host.state (event ∷ [])) (answers_keep later m.host.state event)
+  machine_keeps m (Host_takes count rest items events) covers may =
+      let later : Outside = happens_outside m.outside (host_takes count) in
+      keeps_both m.outside later (happens_all_outside later (routed (outs_all m.host.state events))) [] (entries_all_outside later (routed (outs_all m.host.state events)))
+      (takes_keep m.outside count may.moves) (outs_keep later m.host.state events)
+  machine_keeps m Decoder_ticks covers may = keeps_none m.outside
+  machine_keeps m (Refuses line refusal) covers may = put_keeps m.outside (Host_notes (entry.Refused refusal)) tt
+  machine_keeps m (Shows_values node) covers may = put_keeps m.outside (Host_notes (shown_values m.host.state node)) tt
+  machine_keeps m (Restarts state) covers may = keeps_none m.outside

@@ -1,0 +1,4 @@
+pub mod Phases
+pub mod Paths
+pub mod Walk
+pub mod Outside

@@ -1,0 +1,18 @@
+-- What a law over lines owes (this project's own rule): something for the words of a line, for each event where it may come, and for each part that begins.
+use Rattle.std.specs.Prelude.{◌≡◌, ℕ, List, [], ◌∷◌, ◌++◌}
+use Rattle.zw_text.specs.declared.line.Line.{Line}
+use Rattle.zw_text.specs.declared.entry.Entry.{Entry}
+use Rattle.zw_text.specs.declared.entry.Entry.TheVariants.{Said}
+use Rattle.zw_text.specs.Transcript.{line_of}
+use Rattle.law_transcript.specs.Lists.{EachAfter}
+use Rattle.world_model.specs.State.{Machine}
+use Rattle.world_model.specs.Events.{Event, happens, entries, May}
+use Rattle.proof_walk.specs.Phases.{Phase, Between, Said_line, Turns, Goes}
+
+-- The law `Asks` judges each entry by those before it. What is known at a phase, of the entries so far and the machine, goes on with each event, and is enough for its entries.
+pub record Walk (Asks : List Entry → Entry → Type 0) (Know : Phase → List Entry → Machine → Type 0) : Type 0 where
+  pub said : (past : List Entry) (m : Machine) (words : List ℕ) (line : Line) → line_of (Said words) ≡ line ∷ [] → Know Between past m →
+      Asks past (Said words) × Know (Said_line line) (past ++ Said words ∷ []) m
+  pub event : (here next : Phase) (past : List Entry) (m : Machine) (event : Event) → Goes here m event next → May m event → Know here past m →
+      EachAfter Asks past (entries m event) × Know next (past ++ entries m event) (happens m event)
+  pub turn : (here next : Phase) (past : List Entry) (m : Machine) → Turns here m next → Know here past m → Know next past m

@@ -1,0 +1,1 @@
+"""The laws of transcripts as checkers: what `tools/laws` runs."""

@@ -1,0 +1,91 @@
+"""AES-128 (FIPS 197) and the seals of Security 0 (docs/SECURITY.md)."""
+from functools import lru_cache
+
+
+def times(first, second):
+    """The product in the field of 256 elements."""
+    product = 0
+    while second:
+        if second & 1:
+            product ^= first
+        first = (first << 1) ^ (0x11B if first & 0x80 else 0)
+        second >>= 1
+    return product
+
+
+def substitutions():
+    """The byte substitution: the inverse and then the affine map."""
+    table = []
+    for byte in range(256):
+        inverse = next((x for x in range(256) if times(byte, x) == 1), 0)
+        table.append(0x63 ^ inverse ^ (inverse << 1 | inverse >> 7) & 255 ^ (inverse << 2 | inverse >> 6) & 255
+                     ^ (inverse << 3 | inverse >> 5) & 255 ^ (inverse << 4 | inverse >> 4) & 255)
+    return table
+
+
+BOX = substitutions()
+TWICE = [times(byte, 2) for byte in range(256)]
+SHIFTED = [0, 5, 10, 15, 4, 9, 14, 3, 8, 13, 2, 7, 12, 1, 6, 11]
+
+
+@lru_cache(maxsize=64)
+def round_keys(key):
+    """The eleven round keys."""
+    words, constant = [list(key[4 * i:4 * i + 4]) for i in range(4)], 1
+    for i in range(4, 44):
+        word = list(words[-1])
+        if i % 4 == 0:
+            word = [BOX[byte] for byte in word[1:] + word[:1]]
+            word[0] ^= constant
+            constant = TWICE[constant]
+        words.append([x ^ y for x, y in zip(words[i - 4], word)])
+    return [sum(words[4 * i:4 * i + 4], []) for i in range(11)]
+
+
+def enciphered(key, block):
+    """AES-128 of a block."""
+    keys = round_keys(key)
+    state = [x ^ y for x, y in zip(block, keys[0])]
+    for which in range(1, 11):
+        state = [BOX[state[place]] for place in SHIFTED]
+        if which < 10:
+            mixed = []
+            for column in range(0, 16, 4):
+                a, b, c, d = state[column:column + 4]
+                mixed += [TWICE[a] ^ TWICE[b] ^ b ^ c ^ d, a ^ TWICE[b] ^ TWICE[c] ^ c ^ d,
+                          a ^ b ^ TWICE[c] ^ TWICE[d] ^ d, TWICE[a] ^ a ^ b ^ c ^ TWICE[d]]
+            state = mixed
+        state = [x ^ y for x, y in zip(state, keys[which])]
+    return bytes(state)
+
+
+def streamed(key, vector, text):
+    """The text under OFB."""
+    out, block = b"", vector
+    for place in range(0, len(text), 16):
+        block = enciphered(key, block)
+        out += bytes(x ^ y for x, y in zip(text[place:place + 16], block))
+    return out
+
+
+def code_of(key, vector, sender, receiver, cipher):
+    """The first eight bytes of the CBC-MAC."""
+    text = vector + bytes((0x81, sender, receiver, len(cipher) % 256)) + cipher
+    text += bytes(-len(text) % 16)
+    block = bytes(16)
+    for place in range(0, len(text), 16):
+        block = enciphered(key, bytes(x ^ y for x, y in zip(block, text[place:place + 16])))
+    return block[:8]
+
+
+@lru_cache(maxsize=4096)
+def unsealed(network, nonce, sender, receiver, text):
+    """The text that a Security message opens to for a nonce of the receiver, or None."""
+    if len(text) < 20:
+        return None
+    vector = text[2:10] + nonce
+    cipher = text[10:-9]
+    if code_of(enciphered(network, b"\x55" * 16), vector, sender, receiver, cipher) != text[-8:]:
+        return None
+    plain = streamed(enciphered(network, b"\xAA" * 16), vector, cipher)
+    return plain[1:] if plain[:1] == b"\0" else None
