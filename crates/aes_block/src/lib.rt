@@ -1,7 +1,7 @@
 //! AES-128 of one block, as FIPS 197 defines it.
 //!
-//! It promises that `encrypt` answers exactly the standard's function of key and block, and takes no memory. The
-//! definitions, without any table, stand in `specs/Field.antt` and `specs/Cipher.antt`.
+//! It promises that `encrypt` answers exactly the standard's function of key and block, and does not allocate. The
+//! definitions, without any table, are in `specs/`: `Field`, `Schedule` and `Cipher`.
 #![tactic(auto)]
 
 mod cipher;

@@ -1,10 +1,10 @@
-//! The frames that went on the air: which of them are on it, which can be repeated, and how old they are.
+//! The frames that went on the air: which of them are still on it, which can be repeated, and how old they are.
 //!
-//! It promises that the last 4,097 frames are kept in memory that is taken at the start, and older ones only while they
-//! are on the air; that a repeat is refused exactly where its frame was never sent, is forgotten or is stale; and that
-//! the ages, which are differences of counts, are those that the whole history gives.
-//! The definitions stand in `specs/`: `Frames` (what is kept), `Ages` (what is refused), `History` (all frames ever
-//! sent, with the sessions that began between them).
+//! It promises that the last 4,097 frames are kept in memory that is allocated at the start, and older ones only while
+//! they are on the air; that a repeat is refused exactly when its frame was never sent, is forgotten or is stale; and
+//! that the ages, which are differences of counts, are those that the whole history gives.
+//! The definitions are in `specs/`: `Frames` (what is kept), `Ages` (what is refused), `History` (all frames ever sent,
+//! with the sessions that began between them).
 #![tactic(auto)]
 
 mod ages;

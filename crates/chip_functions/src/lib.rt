@@ -1,9 +1,9 @@
-//! Bodies of the functions of the Z-Wave Serial API that host and chip speak by.
+//! The bodies of the Z-Wave Serial API functions that host and chip use.
 //!
-//! It promises that a value is written in the one written form of its row, and that bytes are read exactly where a
-//! row relates them to a value, with that value, and else with the first fault from the left.
-//! The definitions stand in `specs/`: `Place` and `Field` (fields of a body), `Mask` (nodes in bits), and the rows,
-//! one file a direction: `Request`, `Response` and `Notice`, with `Classes` and `AddNode` for what they share.
+//! It promises that a value is written in the one written form of its row; and that bytes are read as a value exactly
+//! when a row relates them to that value, and otherwise answer the first fault from the left.
+//! The definitions are in `specs/`: `Place` and `Field` (fields of a body), `Mask` (nodes in bits), and the rows, one
+//! file a direction: `Request`, `Response` and `Notice`, with `Classes` and `AddNode` for what they share.
 #![tactic(auto)]
 
 mod add_node;

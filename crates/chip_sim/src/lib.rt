@@ -1,9 +1,9 @@
 //! The simulated chip: it reads the host's bytes, answers requests, gives payloads for the air and tells the host what
 //! became of them.
 //!
-//! Each thing that happens to it is one event. A call says which events were done and, by `specs/Events`, what the chip is
-//! after each of them and what it puts out. An event takes its memory first or is not done.
-//! The definitions stand in `specs/`: `State` (what the chip is), `Waiting` (frames for the host), `Answers` and
+//! Each thing that happens to it is one event. A call says which events were done; `specs/Events` says what the chip is
+//! after each of them and what it puts out. An event allocates its memory first, or is not done.
+//! The definitions are in `specs/`: `State` (what the chip is), `Waiting` (frames for the host), `Answers` and
 //! `Requests` (what the host asks), `Events`, `Did` (what calls did) and `Rules` (what holds over whole histories).
 #![tactic(auto)]
 

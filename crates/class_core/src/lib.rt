@@ -1,9 +1,9 @@
 //! The messages of the actuator command classes, and the fields that class messages are made of.
 //!
-//! It promises that each field is read exactly where it stands and its written form stands for it; that what is
-//! written is the written form of its message; and that bytes are read exactly where a message is spelled by them,
-//! and else which fault comes first from the left.
-//! The definitions stand in `specs/`: `Ranges` (which values there are), `Cell` (what a message demands of bytes),
+//! It promises that each field is read exactly where its written form is; that what is written is the written form of
+//! its message; and that bytes are read as a message exactly when they spell it, and otherwise answer the first fault
+//! from the left.
+//! The definitions are in `specs/`: `Ranges` (which values there are), `Cell` (what a message demands of bytes),
 //! `Fields` (what each field demands) and `Reading` (how a field is read); then `Spelling` (which bytes spell each
 //! message) and `MessageReading` (which fault other bytes have).
 #![tactic(auto)]

@@ -1,10 +1,10 @@
 //! The messages of the sensor, management and transport command classes, and with them those of `class_core`.
 //!
-//! It promises that what is written is the written form of its message, that bytes are read exactly where a
-//! message is spelled by them, and else which fault stands first from the left.
-//! `specs/Values.antt` says which values their own fields have, `specs/InfoSpelling.antt` which bytes spell each
-//! message, and `specs/InfoReading.antt` which fault other bytes have. What both tables share stands in
-//! `class_core`, and the messages of actuators in `class_core`.
+//! It promises that what is written is the written form of its message, and that bytes are read as a message exactly
+//! when they spell it, and otherwise answer the first fault from the left.
+//! `specs/Values.antt` says which values the crate's own fields have, `specs/InfoSpelling.antt` which bytes spell each
+//! message, and `specs/InfoReading.antt` which fault other bytes have. `class_core` has the messages of actuators and
+//! what both tables share.
 #![tactic(auto)]
 
 mod battery_level;

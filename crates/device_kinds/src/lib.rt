@@ -1,16 +1,16 @@
 //! What a device of each kind is, what a message does to it, and how it words what it says.
 //!
 //! A `Journal` has the changes of a device, and the values that they give. `judge_message` says what the commands of a
-//! session come to, and `tell` what a Get is answered with. `Grounds` are what a device goes by when it judges a message:
-//! its kind, its journal and its sessions, all borrowed. `Grounds::effect` says what the message does once it is out of
-//! its wraps, and changes nothing. The other functions word what a device says: answers in the wraps of what they answer,
-//! the reports of nonces and of segments, and what a sealed message opens to.
-//! Each contract says the result exactly; a call that runs out of memory changes nothing. How messages come and go, and
-//! how sessions are counted, is not known here: that is `device_stack`.
+//! session come to, and `tell` how a Get is answered. `Grounds` are what a device judges a message by: its kind, its
+//! journal and its sessions, all borrowed. `Grounds::effect` says what an unwrapped message does, and changes nothing.
+//! The other functions word what a device says: answers in the wraps of what they answer, the reports of nonces and of
+//! segments, and what a sealed message opens to.
+//! Each contract says the result exactly; a call that runs out of memory changes nothing. How messages arrive and
+//! leave, and how sessions are counted, is the part of `device_stack`.
 //!
-//! The definitions stand in `specs/`: `Kind`; `Values` of changes, and `Cache`, what a journal keeps beside them; `Settings`
-//! and `Places`, how settings are put together; `Judging` and `Telling`; then `Effects`, `Answers` with `Worded` for how
-//! long they are, `Sealing` and `Segments`.
+//! The definitions are in `specs/`: `Kind`; `Values` of changes, and `Cache`, what a journal keeps beside them;
+//! `Settings` and `Places`, how settings are put together; `Judging` and `Telling`; then `Effects`, `Answers` with
+//! `Worded` for how long they are, `Sealing` and `Segments`.
 #![tactic(auto)]
 
 mod answers;

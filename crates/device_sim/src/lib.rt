@@ -2,11 +2,10 @@
 //! change made by hand.
 //!
 //! `Device` is the trait of all kinds. Its contract says each answer and each new state exactly, as a function of the
-//! state before. A call that finds no memory leaves the device as it was. The eight kinds are made by `make_switch` to
-//! `make_relay`; `Starved` and `Recorder` own a device of any kind and are devices themselves.
-//! The definitions stand in `specs/`: `Kind` is that of `device_kinds`, `State` that of `device_stack`; `Event` says what
-//! may happen.
-//! The laws that follow from them alone are in `laws`.
+//! state before. A call that runs out of memory leaves the device unchanged. `make_switch` to `make_relay` make the
+//! eight kinds; `Starved` and `Recorder` own a device of any kind and are devices themselves.
+//! The definitions are in `specs/`: `Kind` is that of `device_kinds`, `State` that of `device_stack`; `Event` says what
+//! may happen. The laws that follow from the definitions alone are in `laws`.
 #![tactic(auto)]
 
 mod device;

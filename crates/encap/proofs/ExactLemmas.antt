@@ -422,7 +422,7 @@ opened_only (Ok opened) bytes wraps seen plan commands related =
     let same = one_plan opened.plan plan opened.commands.items commands bytes wraps related in (seen ∙ same.0, same.1)
 opened_only (Err fault) bytes wraps seen plan commands related = tt
 
--- and nothing but memory can be wanting
+-- and only memory can run out
 pub opened_all : (result : Result Opened WrapFault) (bytes : List ℕ) → IfErr result (λ fault. MayAnswer bytes fault)
     → (plan : Plan) (commands : List (List ℕ)) → Wraps plan commands bytes → IfErr result (λ fault. fault ≡ NoMemory)
 opened_all (Ok opened) bytes may plan commands related = tt

@@ -1,8 +1,9 @@
-//! Messages in their wraps (Transport-Encapsulation Command Class Specification), in this order only, from the inside
-//! out: Multi Command, Supervision Get, Multi Channel, CRC-16.
+//! Messages in their wraps: Multi Command, Supervision Get, Multi Channel, CRC-16, from the inside out and in this
+//! order only.
 //!
-//! `wrap` writes what a plan says, and `unpack` gives the plan and the commands back.
-//! The definitions stand in `specs/`: `Begins`, `Wraps`, `Opening`, `Faults`.
+//! The wraps are those of the Transport-Encapsulation Command Class Specification. `wrap` writes what a plan says, and
+//! `unpack` gives the plan and the commands back.
+//! The definitions are in `specs/`: `Begins`, `Wraps`, `Opening`, `Faults`.
 #![tactic(auto)]
 
 mod batch;

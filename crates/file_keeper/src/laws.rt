@@ -1,6 +1,6 @@
 //! What the lines of a store give, as a law.
 
-ghost use Rattle.std.specs.Prelude.{◌≡◌, ℕ, List, ◌++◌};
+ghost use Rattle.std.specs.Prelude.{◌≡◌, ℕ, List};
 ghost use Rattle.file_keeper.specs.Lines.{IsSplit};
 
 /// Bytes are split into lines and an end in one way.

@@ -1,6 +1,6 @@
 //! Reading the records of a store.
 
-ghost use Rattle.std.specs.Prelude.{◌≡◌, ◌<◌, ◌≤◌, length, Err, IfOk, OnOk};
+ghost use Rattle.std.specs.Prelude.{◌≡◌, ◌<◌, length, Err, IfOk, OnOk};
 ghost use Rattle.zw_base.specs.Faults.{Rose};
 ghost use Rattle.file_keeper.specs.Lines.{lines_of};
 ghost use Rattle.file_keeper.specs.Holding.{IsOpenedAs, IsForeign};

@@ -1,8 +1,8 @@
-//! What the payload of a node tells the host: a report of a session, a nonce that is asked for or given, a wake-up, a
-//! segment that is wanted again, or values of properties.
+//! What the payload of a node tells the host: a session's report, a nonce or a request for one, a wake-up, a wanted
+//! segment, or values.
 //!
 //! It promises that a payload tells exactly what the grammar of messages says, all of it or nothing.
-//! The definitions stand in `specs/Telling.antt`.
+//! The definitions are in `specs/Telling.antt`.
 #![tactic(auto)]
 
 mod payload;

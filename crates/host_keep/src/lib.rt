@@ -1,9 +1,9 @@
-//! What a host keeps so as not to forget it: its records, their texts, and the keeper that holds them.
+//! What a host must not forget: its records, their texts, and the keeper that holds them.
 //!
-//! It promises that a record's text is read as that record and no other text is; that a keeper adds a record or leaves
-//! all as it was; and it says what records in their order give, and which record may follow them.
-//! The definitions stand in `specs/`: `Rows` for the numbers of a record, `RecordText` for its text, `RowReading` for reading it,
-//! `Keeping` and `Shelf` for keepers, `Kept` for what records give, `Legal` for which may follow.
+//! It promises that a text is read as a record exactly when it is that record's text, and that a keeper adds a record
+//! or leaves everything unchanged. It says what records in their order give, and which record may follow them.
+//! The definitions are in `specs/`: `Rows` for the numbers of a record, `RecordText` for its text, `RowReading` for
+//! reading it, `Keeping` and `Shelf` for keepers, `Kept` for what records give, `Legal` for which may follow.
 #![tactic(auto)]
 
 mod final_status;

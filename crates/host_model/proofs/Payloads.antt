@@ -1,6 +1,6 @@
 -- What an attempt gives has 1 to 46 bytes.
 use Rattle.std.proofs.Common.{◌≡◌, ℕ, ◌+◌, ◌*◌, ◌/◌, ◌%◌, ◌≤◌, ◌==◌, Bool, true, false, nat_lt, if◌then◌else◌, Option, Some, None, List, ◌∷◌, length, drop, sym, subst, arith, length-append, length-take}
-use Rattle.transport_segments.specs.Segment.{segment_prefix}
+use Rattle.transport_segments.specs.Segment.{segment_header}
 use Rattle.transport_segments.specs.Parts.{slice_at}
 use Rattle.host_node.specs.State.{NodeState}
 use Rattle.host_node.specs.declared.attempt.Plan.{Plan}
@@ -33,10 +33,10 @@ segment_short session message k =
     let offset = 39 * k in
     let payload = slice_at message k in
     let few = few_bytes message k in
-    let prefix : length (segment_prefix id size offset payload) ≤ 44 = prefix_by (offset == 0)
+    let prefix : length (segment_header id size offset payload) ≤ 44 = prefix_by (offset == 0)
     (85 ∷ (192 + size / 256) ∷ size % 256 ∷ id * 16 ∷ payload) (85 ∷ (224 + size / 256) ∷ size % 256 ∷ (id * 16 + offset / 256) ∷ offset % 256 ∷ payload)
     (omega (arith, few)) (omega (arith, few)) in
-    let whole : length (segment_at session message k) ≡ length (segment_prefix id size offset payload) + 2 = length-append (segment_prefix id size offset payload) _ in
+    let whole : length (segment_at session message k) ≡ length (segment_header id size offset payload) + 2 = length-append (segment_header id size offset payload) _ in
     (omega (arith, whole), omega (arith, whole, prefix))
 
 by_segment : (b : Bool) (segment payload : List ℕ) → (if b then Some segment else None) ≡ Some payload → IsShort segment → IsShort payload

@@ -58,9 +58,9 @@ submits_part h n more payload gives =
     node_does (record (submits h (Attempt n more payload) (request_begins_attempt n more payload)) { served = n }) n gives
 
 -- the task that waited longest
-abbrev pub prefix_purpose : List Task → Purpose
-prefix_purpose [] = Abort
-prefix_purpose (task ∷ rest) = Housekeeping task
+abbrev pub task_purpose : List Task → Purpose
+task_purpose [] = Abort
+task_purpose (task ∷ rest) = Housekeeping task
 
 -- 64 tasks wait
 abbrev pub is_full : HostState → Bool
@@ -188,7 +188,7 @@ after h (Node_ticks n) = attempt_ended (node_does h n node_ticks) (tick_end (nod
 after h (Queues_no_more n) = requests_do (node_does h n node_queues_no_more) (request_pushes (NoMore n))
 after h (Drops_no_more n) = node_does h n node_drops_no_more
 after h Submits_abort = submits h Abort request_begins_abort
-after h Submits_front = submits h (prefix_purpose h.requests.queue) request_begins_prefix
+after h Submits_front = submits h (task_purpose h.requests.queue) request_begins_prefix
 after h (Starts n plan more payload) = submits_part h n more payload (node_starts plan)
 after h (Gives_text n payload) = submits_part h n false payload node_gives_text
 after h (Gives_segment n more payload) = submits_part h n more payload node_gives_segment

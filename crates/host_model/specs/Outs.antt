@@ -25,7 +25,7 @@ use Rattle.host_model.specs.declared.out.HostOut.TheVariants.{Write, Note}
 use Rattle.host_model.specs.State.{HostState, node_of, command_at}
 use Rattle.host_model.specs.Sessions.{open_command, settings_with}
 use Rattle.host_model.specs.Ends.{end_entries_if, attempt_entries}
-use Rattle.host_model.specs.After.{requests_do, prefix_purpose, is_full, is_held, gives_up, line_ticked}
+use Rattle.host_model.specs.After.{requests_do, task_purpose, is_full, is_held, gives_up, line_ticked}
 use Rattle.host_model.specs.Events.{HostEvent, Accepts, Cancels, Joins, Queues, Queues_interview, Queues_probe, Hears, Requests_do, Interviews, Interview_unkept, Unreads, Is_unkept, Reports_old, Works, Finishes, Offers, Gives, Spends, Spends_unread, Takes_nonce, Notifies, Resends, Hears_value, Has_no_room, Line_ticks, Node_ticks, Queues_no_more, Drops_no_more, Submits_abort, Submits_front, Starts, Gives_text, Gives_segment, Begins, Begin_unkept}
 
 -- the unit that answers an item: ACK for a good frame, NAK for one whose sum or type is wrong
@@ -112,7 +112,7 @@ outs h (Node_ticks n) = noted (attempt_entries n (tick_end (node_of h n)) (open_
 outs h (Queues_no_more n) = []
 outs h (Drops_no_more n) = Note (entry.QueueFull n) ∷ []
 outs h Submits_abort = frame_out h Abort
-outs h Submits_front = frame_out h (prefix_purpose h.requests.queue)
+outs h Submits_front = frame_out h (task_purpose h.requests.queue)
 outs h (Starts n plan more payload) = frame_out h (Attempt n more payload)
 outs h (Gives_text n payload) = frame_out h (Attempt n false payload)
 outs h (Gives_segment n more payload) = frame_out h (Attempt n more payload)

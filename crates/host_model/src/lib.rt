@@ -1,17 +1,19 @@
-//! The host of a Z-Wave controller chip as definitions: its state, its events, which events a call of it is, and how it
-//! starts from its records. The code that does them stands in the crates above (`host_parts` to `host_core`); what is
-//! proved of every host depends on this crate alone.
+//! The host of a Z-Wave controller chip as definitions: its state, its events, its calls as lists of events, and its
+//! start from records.
 //!
-//! It promises that every event keeps the facts of a host (`facts_are_kept`), that lists of events are put together
+//! The code is in the crates above (`host_parts` to `host_core`); what is proved of every host depends on this crate
+//! alone.
+//! It promises that every event keeps the facts of a host (`facts_are_kept`), that lists of events can be joined
 //! (`lists_go_on`, `pieces_go_on`, and for the loops of its calls `turns_of_a_pump_go_on`, `ticks_of_nodes_go_on`,
-//! `messages_go_on`), and that a pump ends (`a_pump_ends`). Of records it promises that a host may take up a record exactly
-//! where it may follow those before it, that the host's tables are then what the records give
+//! `messages_go_on`), and that a pump ends (`a_pump_ends`). Of records it promises that a host may take up a record
+//! exactly when it may follow those before it, that the host's tables are then what the records give
 //! (`legal_records_restore_the_host`), that each event does to the tables what its records do
 //! (`events_do_what_their_records_do`), and that a restart changes none of them.
-//! The definitions stand in `specs/`: `State`, `Sessions` for what goes on the air, `Ends` for requests and attempts that
-//! end, `Events` with `After`, `Outs`, `Records` and `May`, `Did` for lists of events, `Taking`, `Pumping`, `Ticking` for
-//! which list a call is, and `Facts`; `Restoring` for one record, `Opening` for all of them and the restart, `Holding` for
-//! tables that are what is kept, `Recording` for the records of events.
+//!
+//! The definitions are in `specs/`: `State`, `Sessions` for what goes on the air, `Ends` for requests and attempts that
+//! end, `Events` with `After`, `Outs`, `Records` and `May`, `Did` for lists of events, `Taking`, `Pumping`, `Ticking`
+//! for which list a call is, and `Facts`; `Restoring` for one record, `Opening` for all of them and the restart,
+//! `Holding` for when tables agree with what is kept, `Recording` for the records of events.
 #![tactic(auto)]
 
 mod event_laws;

@@ -1,11 +1,11 @@
-//! What the host keeps of its nodes: of each one what waits for it, its sessions and their attempts, whether it is awake,
-//! and the plain text that waits for its nonce; and of all of them which is to be looked at next.
+//! What the host keeps of its nodes, and which node it looks at next.
 //!
-//! Each event of a node is one method, which does the whole of it or nothing, and its contract is a function of the state
-//! before. `facts_are_kept` says what holds of every node after every event. In the table of all nodes an event changes
-//! the node at its number and no other. The next node to be served, told or ticked is found by sets that follow each
-//! event, so no call walks all nodes.
-//! The definitions stand in `specs/`: `State`, `Steps` (the node after each event), `Events` and `Facts` of one node;
+//! Of each node it keeps what waits for it, its sessions and their attempts, whether it is awake, and the plain text
+//! that waits for its nonce. Each event of a node is one method, which does all of it or nothing, and its contract is a
+//! function of the state before. `facts_are_kept` says what holds of every node after every event. In the table of all
+//! nodes an event changes the node at its number and no other. Sets that follow each event find the next node to be
+//! served, told or ticked, so no call walks all nodes.
+//! The definitions are in `specs/`: `State`, `Steps` (the node after each event), `Events` and `Facts` of one node;
 //! `TableState` (the nodes by number), `Search` (which is next) and `TableFacts` of all.
 #![tactic(auto)]
 

@@ -1,10 +1,9 @@
-//! What becomes of a user's orders: whether a host takes one, which messages it is sent as, which settings it makes, and
-//! how its messages are wrapped.
+//! What becomes of a user's orders: whether a host accepts one, its messages and settings, and how the messages are
+//! wrapped.
 //!
-//! It promises that an order is refused as the first of the rules that applies says, that how it will be carried is fixed
-//! by the classes that the node lists when it is taken, and that the message of each session is then the wrapped text of
-//! its plan.
-//! The definitions stand in `specs/`: `Classes`, `Messages`, `Settings`, `Wrapping`, `Refusals`, `Errands`.
+//! It promises that an order is refused by the first rule that applies, that the class list at the moment of acceptance
+//! fixes how the order is carried, and that the message of each session is then the wrapped text of its plan.
+//! The definitions are in `specs/`: `Classes`, `Messages`, `Settings`, `Wrapping`, `Refusals`, `Errands`.
 #![tactic(auto)]
 
 mod actuator;

@@ -7,11 +7,11 @@ use Rattle.std.proofs.lemmas.Bool.Decides.{nat_tests}
 use Rattle.host_orders.specs.declared.carriage.Form.TheVariants.{Cut}
 use Rattle.host_model.specs.Sessions.{segment_count, segment_at, segment_by}
 use Rattle.zw_base.specs.Crc.{crc}
-use Rattle.transport_segments.specs.Segment.{segment_text, segment_prefix}
+use Rattle.transport_segments.specs.Segment.{segment_text, segment_header}
 use Rattle.transport_segments.specs.Parts.{Parts, slice_at}
 
 -- the header of a segment has at most five bytes
-prefix_is_short : (id size offset : ℕ) (payload : List ℕ) → length (segment_prefix id size offset payload) ≤ 5 + length payload
+prefix_is_short : (id size offset : ℕ) (payload : List ℕ) → length (segment_header id size offset payload) ≤ 5 + length payload
 prefix_is_short id size offset payload =
     elim (offset == 0) as (λ b. length (if b then (85 ∷ (192 + size / 256) ∷ size % 256 ∷ id * 16 ∷ payload) else (85 ∷ (224 + size / 256) ∷ size % 256 ∷ (id * 16 + offset / 256) ∷ offset % 256 ∷ payload)) ≤ 5 + length payload)
     [ true ↦ omega arith | false ↦ omega arith ]
@@ -19,7 +19,7 @@ prefix_is_short id size offset payload =
 -- with its check it has at least one byte, and at most 46
 pub segment_is_short : (id size offset : ℕ) (payload : List ℕ) → length payload ≤ 39 → (1 ≤ length (segment_text id size offset payload)) × (length (segment_text id size offset payload) ≤ 46)
 segment_is_short id size offset payload short =
-    let prefix = segment_prefix id size offset payload in
+    let prefix = segment_header id size offset payload in
     let most : length prefix ≤ 5 + length payload = prefix_is_short id size offset payload in
     let whole : length (segment_text id size offset payload) ≡ length prefix + 2 = length-append prefix (crc prefix / 256 ∷ crc prefix % 256 ∷ []) in
     (omega (arith, whole), omega (arith, whole, most, short))

@@ -8,7 +8,7 @@ ghost use Rattle.host_requests.specs.State.{next_id};
 ghost use Rattle.host_requests.specs.declared.task.Purpose.TheVariants.{Attempt};
 ghost use Rattle.serial_frame.specs.declared.unit.Unit.TheVariants.{Framed};
 ghost use Rattle.serial_link.specs.State.{IsBusy, submitted_link};
-ghost use Rattle.host_model.specs.After.{is_busy as busy, prefix_purpose};
+ghost use Rattle.host_model.specs.After.{is_busy as busy, task_purpose};
 ghost use Rattle.host_model.specs.Outs.{answer_to};
 ghost use Rattle.host_model.specs.declared.out.HostOut.TheVariants.{Write};
 
@@ -29,7 +29,7 @@ pub fn is_busy(link: &Link) -> bool
 /// The frame of the task that has waited longest.
 pub fn front_frame(requests: &Requests, alloc: Global) -> Result<Frame, NoMemory>
     requires { requests.now.queue ≢ [] }
-    ensures { IfOk result (λ frame. frame ≡ frame_of (prefix_purpose requests.now.queue) (next_id requests.now.last_id)) }
+    ensures { IfOk result (λ frame. frame ≡ frame_of (task_purpose requests.now.queue) (next_id requests.now.last_id)) }
 {
     let found = requests.front_frame(alloc)?;
     Ok(found.unwrap())

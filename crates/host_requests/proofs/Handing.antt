@@ -5,7 +5,7 @@ use Rattle.chip_functions.specs.declared.function.TheConstants.{GET_NODE_PROTOCO
 use Rattle.host_requests.specs.Frames.{function_of}
 use Rattle.host_requests.specs.State.{RequestsState, no_requests}
 use Rattle.host_requests.specs.Next.{at_sent, at_response, at_callback, at_update, at_tick, capability_at, went_on, end_of, next_from, end_from}
-use Rattle.host_requests.specs.Events.{RequestsEvent, with_tasks, prefix_begun, after, May, after_all, MayAll}
+use Rattle.host_requests.specs.Events.{RequestsEvent, with_tasks, task_begun, after, May, after_all, MayAll}
 use Rattle.host_requests.specs.Events.RequestsEvent.{Pushes, PushesInterview, PushesProbe, BeginsAbort, BeginsPrefix, BeginsAttempt, IsSent, Fails, Responds, CallsBack, Updates, Ticks, Forgets}
 use Rattle.host_requests.specs.Facts.{Waits, first_asked, second_asked, ArePaired, due_second, IsUnderWay, IsEither, IsRequests}
 use Rattle.host_requests.specs.Interviews.{Brought, brought_of, brought_by, brought_after, brought_in}
@@ -87,7 +87,7 @@ due_node s b holds none x e = subst (λ (o : Option UnderWay). second_node o s.q
 other : {A : Type 0} (o : Option ℕ) (n : ℕ) → o ≡ None → o ≡ Some n → A
 other o n none some = absurd (cc)
 
-prefix_holds : (s : RequestsState) (b : Option Brought) (queue : List Task) → s.queue ≡ queue → Holds s b → s.under_way ≡ None → Holds (prefix_begun s queue) b
+prefix_holds : (s : RequestsState) (b : Option Brought) (queue : List Task) → s.queue ≡ queue → Holds s b → s.under_way ≡ None → Holds (task_begun s queue) b
 prefix_holds s b [] e holds none = holds
 prefix_holds s b (t ∷ rest) e holds none = record { same = holds.same; node = λ x f. sym (ap due_second e) ∙ due_node s b holds none x f }
 

@@ -14,7 +14,7 @@ use Rattle.chip_functions.specs.declared.response.TheConstants.{REFUSED}
 use Rattle.host_requests.specs.Frames.{function_of, HasPayload}
 use Rattle.host_requests.specs.State.{RequestsState, no_requests, begun}
 use Rattle.host_requests.specs.Next.{response_ticks, notice_ticks, is_answered, acknowledged, sent_from, at_sent, taken, judged, at_response, at_callback, ends_at_update, at_update, counted_down, on_with, at_tick, owes_abort, capability_at, went_on, next_from}
-use Rattle.host_requests.specs.Events.{RequestsEvent, with_tasks, prefix_begun, after, May, after_all, MayAll}
+use Rattle.host_requests.specs.Events.{RequestsEvent, with_tasks, task_begun, after, May, after_all, MayAll}
 use Rattle.host_requests.specs.Events.RequestsEvent.{Pushes, PushesInterview, PushesProbe, BeginsAbort, BeginsPrefix, BeginsAttempt, IsSent, Fails, Responds, CallsBack, Updates, Ticks, Forgets}
 use Rattle.host_requests.specs.Facts.{HasNotice, Waits, first_of, second_of, first_asked, second_asked, ArePaired, due_second, IsUnderWay, IsIdle, IsEither, IsRequests}
 use Rattle.host_requests.specs.declared.end.How.{How}
@@ -71,7 +71,7 @@ begins s p few payloads ids paired paid due brought =
 pub idle_of : (s : RequestsState) → IsRequests s → s.under_way ≡ None → IsIdle s
 idle_of s facts none = subst (λ (o : Option UnderWay). IsEither o s) none facts.either
 
-prefix_begins : (s : RequestsState) (queue : List Task) → s.queue ≡ queue → IsRequests s → s.under_way ≡ None → s.owes ≡ false → IsRequests (prefix_begun s queue)
+prefix_begins : (s : RequestsState) (queue : List Task) → s.queue ≡ queue → IsRequests s → s.under_way ≡ None → s.owes ≡ false → IsRequests (task_begun s queue)
 prefix_begins s [] e facts none paid = facts
 prefix_begins s (t ∷ rest) e facts none paid =
     let idle = idle_of s facts none in

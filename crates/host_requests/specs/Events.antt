@@ -39,9 +39,9 @@ abbrev pub with_tasks : RequestsState → List Task → RequestsState
 with_tasks s tasks = record s { queue = s.queue ++ tasks }
 
 -- the task that waited longest is submitted
-abbrev pub prefix_begun : RequestsState → List Task → RequestsState
-prefix_begun s [] = s
-prefix_begun s (task ∷ rest) = begun (record s { queue = rest }) (Housekeeping task)
+abbrev pub task_begun : RequestsState → List Task → RequestsState
+task_begun s [] = s
+task_begun s (task ∷ rest) = begun (record s { queue = rest }) (Housekeeping task)
 
 -- the state after an event
 abbrev pub after : RequestsState → RequestsEvent → RequestsState
@@ -49,7 +49,7 @@ after s (Pushes task) = with_tasks s (task ∷ [])
 after s (PushesInterview n) = with_tasks s (First n ∷ Second n ∷ [])
 after s PushesProbe = with_tasks s (Version ∷ MemoryId ∷ Capabilities ∷ [])
 after s BeginsAbort = begun (record s { owes = false }) Abort
-after s BeginsPrefix = prefix_begun s s.queue
+after s BeginsPrefix = task_begun s s.queue
 after s (BeginsAttempt n more payload) = begun s (Attempt n more payload)
 after s IsSent = after_next s at_sent
 after s Fails = after_next s (λ _. Ends LinkFailed)

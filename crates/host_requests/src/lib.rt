@@ -1,9 +1,9 @@
-//! The requests of the host to its chip: the one that is under way, its waits and its ends, the callback ids, the
-//! requests that wait their turn, and the abort that is owed.
+//! The requests of the host to its chip: the one that is under way, those that wait, the abort that is owed, and the
+//! callback ids.
 //!
-//! It promises what each event makes of them, exactly, and that after `new` no event takes memory.
-//! The definitions stand in `specs/`: `Frames` (what is asked of the chip), `State` (what is kept), `Next` (what an
-//! event makes of the request under way), `Events` (one event at a time), `Facts` and `Interviews` (what holds at all times).
+//! It promises exactly what each event does to them, and that after `new` no event allocates.
+//! The definitions are in `specs/`: `Frames` (what is asked of the chip), `State` (what is kept), `Next` (what an event
+//! makes of the request under way), `Events` (one event at a time), `Facts` and `Interviews` (what holds at all times).
 #![tactic(auto)]
 
 mod end;

@@ -1,9 +1,9 @@
 //! Both ends of the exchange that gives a new lock the network key (Security 0): the host's and the lock's.
 //!
-//! It promises that each call's effect and replies are a function of the state before, and that a call that finds no
+//! It promises that each call's effect and replies are a function of the state before, and that a call that runs out of
 //! memory changes nothing. Nonces, sealers and seals are those of `s0_session` and `s0_crypto`.
-//! The definitions stand in `specs/`: `Messages` (payloads), `Sealing` (what opens and is sealed), `Joining` (the
-//! lock), `Including` (the host).
+//! The definitions are in `specs/`: `Messages` (payloads), `Sealing` (what opens and is sealed), `Joining` (the lock),
+//! `Including` (the host).
 #![tactic(auto)]
 
 mod exchange;

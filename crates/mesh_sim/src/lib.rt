@@ -2,8 +2,8 @@
 //!
 //! It promises that each call is a list of steps whose effect and whose events are functions of the air and the devices
 //! before; that only the first device of a frame's node changes, by its own step; and that a repeat is refused exactly
-//! where the frame was never sent, is forgotten or is stale.
-//! The definitions stand in `specs/`: `Air` (what the air is, and frames that go on it), `Fates` (what becomes of a
+//! when the frame was never sent, is forgotten or is stale.
+//! The definitions are in `specs/`: `Air` (what the air is, and frames that go on it), `Fates` (what becomes of a
 //! frame), `Steps` (what may happen, its effect and its events). The history of all frames is that of `air_frames`.
 #![tactic(auto)]
 

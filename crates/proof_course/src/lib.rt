@@ -1,11 +1,15 @@
-//! The course of the sessions and nonces between a host and one node: what goes up to the chip, over the air, and down to the host, and what
-//! each end makes of it. Nothing here is a byte: a message is known by the session that it is of, a nonce by its number.
+//! The course of the sessions and nonces between a host and one node, on the way to the chip, over the air and back to
+//! the host.
 //!
-//! It promises that a device takes each session once and in order, that the host is told of each what the device did, and that a nonce is taken for
-//! no other, whatever is lost, written twice, delayed or heard again: a frame that is heard for the first time has no test of its age, and the ends
-//! share the numbers of sessions modulo 64 and 16, and those of nonces modulo 256. No code stands here.
-//! The definitions stand in `specs/`: `Ways` and `Flying` for what is on its way, whatever it is; `Sessions`, `SessionFacts` and `SessionLaws` for
-//! sessions; `NodeNonces` and `NodeNonceFacts` for the nonces that a node gives, `HostNonces` and `HostNonceFacts` for those of the host, `NonceLaws` for both.
+//! Nothing here is a byte: a message is known by its session, a nonce by its number. The crate promises that a device
+//! takes each session once and in order, that the host is told of each what the device did, and that no nonce is
+//! mistaken for another, whatever is lost, written twice, delayed or heard again. A frame that is heard for the first
+//! time has no test of its age, and the ends share the numbers of sessions modulo 64 and 16, and those of nonces modulo
+//! 256. There is no code here.
+//!
+//! The definitions are in `specs/`: `Ways` and `Flying` for what is on its way, whatever it is; `Sessions`,
+//! `SessionFacts` and `SessionLaws` for sessions; `NodeNonces` and `NodeNonceFacts` for the nonces that a node gives,
+//! `HostNonces` and `HostNonceFacts` for those of the host, `NonceLaws` for both.
 #![tactic(auto)]
 
 mod nonces;

@@ -39,7 +39,7 @@ use Rattle.host_keep.specs.declared.final_status.FinalStatus.{FinalStatus}
 use Rattle.s0_session.specs.Nonces.{live_of}
 use Rattle.host_model.specs.State.{HostState, Command, node_of, with_node, command_at}
 use Rattle.host_model.specs.Sessions.{message_for, segment_count, segment_at, segment_by, segment_of, command_if, open_segment, open_command, settings_with, Start, start_by, start_of}
-use Rattle.host_model.specs.After.{after as after_host, node_does, requests_do, submits_part, prefix_purpose, offering, giving, finishing, is_held, is_busy, gives_up, line_ticked, node_for, is_full, queues_if_room, outcome_of}
+use Rattle.host_model.specs.After.{after as after_host, node_does, requests_do, submits_part, task_purpose, offering, giving, finishing, is_held, is_busy, gives_up, line_ticked, node_for, is_full, queues_if_room, outcome_of}
 use Rattle.host_model.specs.Outs.{outs, answer_to, copy_out, noted, request_entries, failing_entries, dropped_if, ended_of, stored_entries, held_entries}
 use Rattle.host_model.specs.Ends.{attempt_entries}
 use Rattle.zw_text.specs.declared.entry.Entry.TheVariants.{Out}
@@ -350,15 +350,15 @@ module _ (nonces : (nonce : List ℕ) → IsOther (nonce_report nonce)) (no_more
   task_brings task.Capabilities id is = inl (task_asks nonces no_more node orders c.host.commands task.Capabilities id is)
 
   -- a task that waited is submitted
-  prefix_brings : (queue : List Task) (id : ℕ) → AllByRecursion (IsTaskFor node orders c.host.commands) queue → Brings (frame_of (prefix_purpose queue) id)
+  prefix_brings : (queue : List Task) (id : ℕ) → AllByRecursion (IsTaskFor node orders c.host.commands) queue → Brings (frame_of (task_purpose queue) id)
   prefix_brings [] id all = inl (abort_asks nonces no_more node orders c.host.commands id)
   prefix_brings (queued ∷ rest) id all = task_brings queued id all.0
 
-  prefix_wrote : is_busy h.side.turn ≡ false → Brings (frame_of (prefix_purpose h.requests.queue) (next_id h.requests.last_id)) → Wrote node orders c h (after_host h Submits_front) (host_units (outs h Submits_front))
+  prefix_wrote : is_busy h.side.turn ≡ false → Brings (frame_of (task_purpose h.requests.queue) (next_id h.requests.last_id)) → Wrote node orders c h (after_host h Submits_front) (host_units (outs h Submits_front))
   prefix_wrote free (inl none) =
-      submits_other node orders c h at (after_host h Submits_front) (frame_of (prefix_purpose h.requests.queue) (next_id h.requests.last_id)) (requests_same node h BeginsPrefix tt) refl free none
+      submits_other node orders c h at (after_host h Submits_front) (frame_of (task_purpose h.requests.queue) (next_id h.requests.last_id)) (requests_same node h BeginsPrefix tt) refl free none
   prefix_wrote free (inr (some, segment)) =
-      submits_message node orders c h at (after_host h Submits_front) (frame_of (prefix_purpose h.requests.queue) (next_id h.requests.last_id)) true (requests_same node h BeginsPrefix tt) refl free some segment
+      submits_message node orders c h at (after_host h Submits_front) (frame_of (task_purpose h.requests.queue) (next_id h.requests.last_id)) true (requests_same node h BeginsPrefix tt) refl free some segment
 
   -- a segment that is given, or waits to be sent again
   segment_given : (n : ℕ) (more : Bool) (payload : List ℕ) → is_busy h.side.turn ≡ false → open_segment h (node_of h n) (open_session (node_of h n).book) (node_of h n).next_segment ≡ Some payload

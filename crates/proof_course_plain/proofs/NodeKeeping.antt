@@ -9,7 +9,7 @@ use Rattle.supervision.specs.declared.host_node.Told.{Told}
 use Rattle.supervision.specs.declared.host_node.Told.TheVariants.{Final, Working, Old}
 use Rattle.host_requests.specs.State.{RequestsState}
 use Rattle.host_requests.specs.Next.{at_sent, at_response, at_callback, at_update, at_tick, after_next}
-use Rattle.host_requests.specs.Events.{RequestsEvent, after as after_request, end_at, prefix_begun}
+use Rattle.host_requests.specs.Events.{RequestsEvent, after as after_request, end_at, task_begun}
 use Rattle.host_requests.specs.Events.RequestsEvent.{Pushes, PushesInterview, PushesProbe, BeginsAbort, BeginsPrefix, BeginsAttempt, IsSent, Fails, Responds, CallsBack, Updates, Ticks as request_ticks, Forgets}
 use Rattle.host_requests.specs.declared.next.Next.{Next}
 use Rattle.host_requests.specs.declared.next.Next.TheVariants.{Ends}
@@ -192,7 +192,7 @@ module _ (node : ℕ) where
   next_others asked commands s next all = subst (λ (l : List Task). AllByRecursion (IsTaskFor node asked commands) l) (sym (next_queue s next)) all
 
   prefix_others : (asked : List Asked) (commands : List ℕ) (s : RequestsState) (queue : List Task) → AllByRecursion (IsTaskFor node asked commands) s.queue → AllByRecursion (IsTaskFor node asked commands) queue
-      → AllByRecursion (IsTaskFor node asked commands) (prefix_begun s queue).queue
+      → AllByRecursion (IsTaskFor node asked commands) (task_begun s queue).queue
   prefix_others asked commands s [] all these = all
   prefix_others asked commands s (task ∷ rest) all these = these.1
 

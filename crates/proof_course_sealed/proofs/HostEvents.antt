@@ -24,7 +24,7 @@ use Rattle.host_orders.specs.Refusals.{IsFit}
 use Rattle.host_orders.specs.Wrapping.{form_of, message_of}
 use Rattle.host_requests.specs.Frames.{no_more_information, frame_of}
 use Rattle.host_requests.specs.State.{next_id}
-use Rattle.host_requests.specs.Events.{prefix_begun}
+use Rattle.host_requests.specs.Events.{task_begun}
 use Rattle.host_requests.specs.Events.RequestsEvent.{Pushes, PushesInterview, PushesProbe, BeginsAbort, BeginsPrefix, BeginsAttempt, Updates}
 use Rattle.host_requests.specs.declared.task.Task.{Task}
 use Rattle.host_requests.specs.declared.task.Task.TheVariants as task
@@ -40,7 +40,7 @@ use Rattle.host_keep.specs.declared.final_status.FinalStatus.{FinalStatus}
 use Rattle.s0_session.specs.Nonces.{live_of}
 use Rattle.host_model.specs.State.{HostState, Command, node_of, with_node, command_at}
 use Rattle.host_model.specs.Sessions.{message_for, nonce_get, segment_count, segment_at, segment_by, segment_of, command_if, open_segment, open_command, settings_with, Start, start_by, start_of}
-use Rattle.host_model.specs.After.{after as after_host, node_does, requests_do, submits_part, prefix_purpose, offering, giving, finishing, is_held, is_busy, gives_up, line_ticked, node_for, is_full, outcome_of}
+use Rattle.host_model.specs.After.{after as after_host, node_does, requests_do, submits_part, task_purpose, offering, giving, finishing, is_held, is_busy, gives_up, line_ticked, node_for, is_full, outcome_of}
 use Rattle.host_model.specs.Outs.{outs, answer_to, request_entries, failing_entries, dropped_if, ended_of, stored_entries, held_entries}
 use Rattle.host_model.specs.Ends.{attempt_entries}
 use Rattle.host_model.specs.May.{May, IsStart}
@@ -400,11 +400,11 @@ module _ (laws : Writing) (past : Past) (node : ℕ) (c : Courses) (carried : Li
   prefix_wrote [] marks beside queue numbers free some = absurd (some (sym queue))
   prefix_wrote (asked ∷ rest) [] beside queue numbers free some = absurd beside
   prefix_wrote (asked ∷ rest) (None ∷ marks) (first, more) queue numbers free some =
-      submits_other laws.thins past node c carried text tasks h go_up (after_host h Submits_front) (frame_of (prefix_purpose h.requests.queue) (next_id h.requests.last_id))
+      submits_other laws.thins past node c carried text tasks h go_up (after_host h Submits_front) (frame_of (task_purpose h.requests.queue) (next_id h.requests.last_id))
       (leaves_line past node c text tasks h (after_host h Submits_front) at (requests_same node h BeginsPrefix tt) (laws.aside node h Submits_front tt)) refl free
-      (subst (λ (q : List Task). Asks past node (frame_of (prefix_purpose q) (next_id h.requests.last_id)) None) queue (task_asks past node laws.no_more asked None (next_id h.requests.last_id) first))
+      (subst (λ (q : List Task). Asks past node (frame_of (task_purpose q) (next_id h.requests.last_id)) None) queue (task_asks past node laws.no_more asked None (next_id h.requests.last_id) first))
   prefix_wrote (asked ∷ rest) (Some number ∷ marks) (first, more) queue numbers free some =
-      submits_nonce laws.thins past node c carried text tasks h go_up (after_host h Submits_front) (frame_of (prefix_purpose h.requests.queue) (next_id h.requests.last_id)) number (labels marks)
+      submits_nonce laws.thins past node c carried text tasks h go_up (after_host h Submits_front) (frame_of (task_purpose h.requests.queue) (next_id h.requests.last_id)) number (labels marks)
       (laws.task c carried text number (labels marks) (subst (λ (l : List ℕ). GoUp c carried text l) numbers go_up)) (record {
         keys = at.keys;
         book = at.book;
@@ -416,10 +416,10 @@ module _ (laws : Writing) (past : Past) (node : ℕ) (c : Courses) (carried : Li
         pending = at.pending;
         texts = at.texts;
         marks = marks;
-        queue = subst (λ (q : List Task). Beside (TaskIs past node) (prefix_begun h.requests q).queue marks) queue more;
+        queue = subst (λ (q : List Task). Beside (TaskIs past node) (task_begun h.requests q).queue marks) queue more;
         numbers = refl;
       }) refl free
-      (subst (λ (q : List Task). Asks past node (frame_of (prefix_purpose q) (next_id h.requests.last_id)) (Some (Offer number))) queue (task_asks past node laws.no_more asked (Some number) (next_id h.requests.last_id) first))
+      (subst (λ (q : List Task). Asks past node (frame_of (task_purpose q) (next_id h.requests.last_id)) (Some (Offer number))) queue (task_asks past node laws.no_more asked (Some number) (next_id h.requests.last_id) first))
 
   line_ticks : Wrote past node c carried h (after_host h Line_ticks) (host_units (outs h Line_ticks))
   line_ticks =

@@ -8,7 +8,7 @@ use Rattle.supervision.specs.declared.host_node.Told.{Told}
 use Rattle.supervision.specs.declared.host_node.Told.TheVariants.{Final, Working, Old}
 use Rattle.host_requests.specs.State.{RequestsState}
 use Rattle.host_requests.specs.Next.{at_sent, at_response, at_callback, at_update, at_tick, after_next}
-use Rattle.host_requests.specs.Events.{RequestsEvent, after as after_request, end_at, prefix_begun}
+use Rattle.host_requests.specs.Events.{RequestsEvent, after as after_request, end_at, task_begun}
 use Rattle.host_requests.specs.Events.RequestsEvent.{Pushes, PushesInterview, PushesProbe, BeginsAbort, BeginsPrefix, BeginsAttempt, IsSent, Fails, Responds, CallsBack, Updates, Ticks as request_ticks, Forgets}
 use Rattle.host_requests.specs.declared.next.Next.{Next}
 use Rattle.host_requests.specs.declared.next.Next.TheVariants.{Ends}
@@ -179,7 +179,7 @@ module _ (past : Past) (node : ℕ) where
   next_left : (marks : List (Option ℕ)) (s : RequestsState) (next : UnderWay → Next) → Beside (TaskIs past node) s.queue marks → TasksLeft past node marks (after_next s next).queue
   next_left marks s next all = subst (λ (l : List Task). TasksLeft past node marks l) (sym (next_queue s next)) (all_left marks s.queue all)
 
-  prefix_left : (marks : List (Option ℕ)) (s : RequestsState) (queue : List Task) → Beside (TaskIs past node) s.queue marks → Beside (TaskIs past node) queue marks → TasksLeft past node marks (prefix_begun s queue).queue
+  prefix_left : (marks : List (Option ℕ)) (s : RequestsState) (queue : List Task) → Beside (TaskIs past node) s.queue marks → Beside (TaskIs past node) queue marks → TasksLeft past node marks (task_begun s queue).queue
   prefix_left marks s [] all these = all_left marks s.queue all
   prefix_left [] s (asked ∷ rest) all these = absurd these
   prefix_left (mark ∷ marks) s (asked ∷ rest) all these = record { now = marks; beside = these.1; thin = thinned_after (option_to_list mark) (labels marks) (labels marks) (thinned_same (labels marks)) }

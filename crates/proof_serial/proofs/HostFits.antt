@@ -18,7 +18,7 @@ use Rattle.chip_functions.specs.declared.request.TheConstants.{TRANSMIT_OPTIONS}
 use Rattle.host_requests.specs.Frames.{frame_of}
 use Rattle.host_requests.specs.State.{RequestsState, next_id}
 use Rattle.host_requests.specs.Next.{at_sent, at_response, at_callback, at_update, at_tick, after_next, next_from, went_on}
-use Rattle.host_requests.specs.Events.{RequestsEvent, after as after_request, end_at, prefix_begun}
+use Rattle.host_requests.specs.Events.{RequestsEvent, after as after_request, end_at, task_begun}
 use Rattle.host_requests.specs.Events.RequestsEvent.{Pushes, PushesInterview, PushesProbe, BeginsAbort, BeginsPrefix, BeginsAttempt, IsSent, Fails, Responds, CallsBack, Updates, Ticks, Forgets}
 use Rattle.host_requests.specs.declared.next.Next.{Next}
 use Rattle.host_requests.specs.declared.next.Next.TheVariants.{GoesOn, Ends}
@@ -45,7 +45,7 @@ use Rattle.host_model.specs.State.{HostState, node_of, with_node, command_at}
 use Rattle.host_model.specs.Sessions.{open_command, open_segment, settings_with}
 use Rattle.supervision.specs.Host.{open_session}
 use Rattle.host_model.specs.Ends.{unanswered, attempt_ended, PartEnd, Good as well, Passed_over, Bad, part_end, after_part, after_task, after_end, after_end_if, attempt_entries}
-use Rattle.host_model.specs.After.{after, node_does, requests_do, request_does, submits, submits_part, prefix_purpose, is_full, is_held, queues_if_room, finishing, holding, giving, spending, offering, gives_up, line_ticked, failing_if, node_for}
+use Rattle.host_model.specs.After.{after, node_does, requests_do, request_does, submits, submits_part, task_purpose, is_full, is_held, queues_if_room, finishing, holding, giving, spending, offering, gives_up, line_ticked, failing_if, node_for}
 use Rattle.host_model.specs.Outs.{outs, answer_to, copy_out, noted, request_entries, failing_entries, dropped_if, stored_entries, held_entries}
 use Rattle.host_model.specs.May.{May, IsStart}
 use Rattle.host_model.specs.Facts.{HostFacts}
@@ -90,7 +90,7 @@ task_short Version id fits = omega arith
 task_short MemoryId id fits = omega arith
 task_short Capabilities id fits = omega arith
 
-prefix_short : (queue : List Task) (id : ℕ) → AllByRecursion FitsTask queue → IsFrame (frame_of (prefix_purpose queue) id)
+prefix_short : (queue : List Task) (id : ℕ) → AllByRecursion FitsTask queue → IsFrame (frame_of (task_purpose queue) id)
 prefix_short [] id all = omega arith
 prefix_short (task ∷ queue) id all = task_short task id all.0
 
@@ -110,7 +110,7 @@ next_queue s next = by s.under_way
 next_fits : (s : RequestsState) (next : UnderWay → Next) → AllByRecursion FitsTask s.queue → AllByRecursion FitsTask (after_next s next).queue
 next_fits s next all = subst (λ (l : List Task). AllByRecursion FitsTask l) (sym (next_queue s next)) all
 
-prefix_fits : (s : RequestsState) (queue : List Task) → AllByRecursion FitsTask s.queue → AllByRecursion FitsTask queue → AllByRecursion FitsTask (prefix_begun s queue).queue
+prefix_fits : (s : RequestsState) (queue : List Task) → AllByRecursion FitsTask s.queue → AllByRecursion FitsTask queue → AllByRecursion FitsTask (task_begun s queue).queue
 prefix_fits s [] all these = all
 prefix_fits s (task ∷ rest) all these = these.1
 
@@ -288,7 +288,7 @@ module _ (starts : StartsShort) (segments : SegmentsShort) where
   event_fits h (Queues_no_more n) facts fits may is = requests_fit (node_does h n node_queues_no_more) (Pushes (NoMore n)) (does_fits h n node_queues_no_more fits tt) tt
   event_fits h (Drops_no_more n) facts fits may is = does_fits h n node_drops_no_more fits tt
   event_fits h Submits_abort facts fits may is = submits_fits h Abort BeginsAbort fits tt (prefix_short [] (next_id h.requests.last_id) tt)
-  event_fits h Submits_front facts fits may is = submits_fits h (prefix_purpose h.requests.queue) BeginsPrefix fits tt (prefix_short h.requests.queue (next_id h.requests.last_id) fits.queue)
+  event_fits h Submits_front facts fits may is = submits_fits h (task_purpose h.requests.queue) BeginsPrefix fits tt (prefix_short h.requests.queue (next_id h.requests.last_id) fits.queue)
   event_fits h (Starts n plan more payload) facts fits may is = part_submits h n more payload (node_starts plan) fits (starts h n plan more payload facts may.1).1 tt
   event_fits h (Gives_text n payload) facts fits may is = part_submits h n false payload node_gives_text fits (text_short (node_of h n).text payload (text_at h n fits) may.1) tt
   event_fits h (Gives_segment n more payload) facts fits may is =

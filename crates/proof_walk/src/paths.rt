@@ -1,6 +1,5 @@
 //! Lines as paths.
 
-ghost use Rattle.std.specs.Prelude.{List};
 ghost use Rattle.zw_text.specs.declared.line.Line.{Line};
 ghost use Rattle.world_model.specs.Lines.{IsLine};
 ghost use Rattle.world_model.specs.Prefixes.{LinePart};

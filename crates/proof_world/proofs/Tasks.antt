@@ -7,7 +7,7 @@ use Rattle.serial_link.specs.State.{tick_side}
 use Rattle.s0_session.specs.Nonces.{live_of}
 use Rattle.host_requests.specs.State.{RequestsState}
 use Rattle.host_requests.specs.Next.{at_sent, at_response, at_callback, at_update, at_tick, after_next, next_from, went_on}
-use Rattle.host_requests.specs.Events.{RequestsEvent, after as after_request, end_at, prefix_begun}
+use Rattle.host_requests.specs.Events.{RequestsEvent, after as after_request, end_at, task_begun}
 use Rattle.host_requests.specs.Events.RequestsEvent.{Pushes, PushesInterview, PushesProbe, BeginsAbort, BeginsPrefix, BeginsAttempt, IsSent, Fails, Responds, CallsBack, Updates, Ticks, Forgets}
 use Rattle.host_requests.specs.declared.next.Next.{Next}
 use Rattle.host_requests.specs.declared.next.Next.TheVariants.{GoesOn, Ends}
@@ -68,7 +68,7 @@ module _ (P : ℕ → Type 0) where
       by None is = are
       by (Some u) is = went_of s u (next u) are is
 
-  prefix_of : (s : RequestsState) (queue : List Task) → AreTasksOf P s → AllByRecursion (IsTaskOf P) queue → AreTasksOf P (prefix_begun s queue)
+  prefix_of : (s : RequestsState) (queue : List Task) → AreTasksOf P s → AllByRecursion (IsTaskOf P) queue → AreTasksOf P (task_begun s queue)
   prefix_of s [] are all = are
   prefix_of s (task ∷ rest) are all = record { queue = all.1; under_way = all.0 }
 

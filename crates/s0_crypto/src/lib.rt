@@ -2,7 +2,7 @@
 //!
 //! It promises that `seal` and `unseal` relate plain texts and messages exactly as `specs/Seal.antt` says, that what
 //! was sealed opens to its plain text and no other, and that each refusal of `unseal` comes exactly for its cause.
-//! The modes of AES-128 are defined in `specs/Modes.antt`, the parts of a message in `specs/Opening.antt`.
+//! `specs/Modes.antt` defines the modes of AES-128, and `specs/Opening.antt` the parts of a message.
 #![tactic(auto)]
 
 mod code;

@@ -1,8 +1,9 @@
-//! Units of the Z-Wave Serial API: what depends on the line between host and chip.
+//! Units of the Z-Wave Serial API: the layout of what host and chip write on the line, and how a stream is split into
+//! units.
 //!
-//! It promises that a unit is written in its one layout, and that a stream of bytes and tick marks is split in
-//! the one way that there is, in whatever pieces it comes.
-//! The definitions stand in `specs/`: `Frame` (layout), `Items` (units and refusals) and `Stream` (splitting).
+//! It promises that a unit is written in its one layout, and that a stream of bytes and tick marks is split in the only
+//! possible way, whatever pieces it arrives in.
+//! The definitions are in `specs/`: `Frame` (layout), `Items` (units and refusals) and `Stream` (splitting).
 #![tactic(auto)]
 
 mod decoder;

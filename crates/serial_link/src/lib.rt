@@ -1,9 +1,9 @@
-//! The serial link between host and chip: each good frame heard is answered once, and a frame of one's own is
-//! written up to four times until it is acknowledged.
+//! The serial link between host and chip: each good frame is answered once, and an own frame is sent up to four times
+//! until acknowledged.
 //!
 //! It promises that what a link puts out obeys the rules of `specs/Rules`, whatever is heard, ticked, submitted and
 //! asked for, and it says each answer exactly.
-//! The definitions stand in `specs/`: `Rules` (over whole histories) and `State` (one event at a time).
+//! The definitions are in `specs/`: `Rules` (over whole histories) and `State` (one event at a time).
 #![tactic(auto)]
 
 mod link;

@@ -395,7 +395,7 @@ const CHANGE: &str = "dev 14 1 0/mode 2\n";
 
 const OTHER_CHANGE: &str = "dev 14 1 0/mode 1\n";
 
-const BEHIND: &str = "\
+const AFTER: &str = "\
 air 23 14>1 via - 6C0201FF00\n\
 h 06\n\
 c 010500130B00E2\n\
@@ -757,7 +757,7 @@ device 18 0/switch 0\n\
 
 #[test]
 fn an_evening_is_in_order(rt: HostRuntime) -> Result<(), Fail> {
-    expect(&rt, rt.alloc(), &[BEFORE, CHANGE, BEHIND], None)
+    expect(&rt, rt.alloc(), &[BEFORE, CHANGE, AFTER], None)
 }
 
 #[test]
@@ -765,7 +765,7 @@ fn an_evening_with_another_change(rt: HostRuntime) -> Result<(), Fail> {
     expect(
         &rt,
         rt.alloc(),
-        &[BEFORE, OTHER_CHANGE, BEHIND],
+        &[BEFORE, OTHER_CHANGE, AFTER],
         Some((383, Break::Once)),
     )
 }

@@ -1,7 +1,7 @@
 //! Tests of the console over memory: worked inputs of each command, and reads and writes that fail.
 //!
-//! A crate that has tests is proved once with them and once without. So `run_all` has none, and this one, which promises
-//! nothing, has its tests.
+//! A crate that has tests is proved once with them and once without. So `run_all` has none, and its tests are in this
+//! crate, which promises nothing.
 #![tactic(auto)]
 
 #[cfg(test)]

@@ -4,7 +4,7 @@ use Rattle.std.specs.Prelude.{nat_lt, cond, slice_get}
 use Rattle.std.proofs.lemmas.Bool.{lt-ltb, le-ltb, eq-eqb, ne_eqb, cases_lt}
 use Rattle.std.proofs.lemmas.Option.{slice_get_within}
 use Rattle.std.proofs.lemmas.List.{take_all, take-append-le, get_or-append_right, get_or-take, get_or-drop, length-take}
-use Rattle.transport_segments.specs.Segment.{IsSegment, size_of, id_of, extension_of, offset_of, covered_of, payload_of, check_of, with_check, segment_prefix, segment_text}
+use Rattle.transport_segments.specs.Segment.{IsSegment, size_of, id_of, extension_of, offset_of, covered_of, payload_of, check_of, with_check, segment_header, segment_text}
 use Rattle.transport_segments.specs.Parts.{Parts, slice_at}
 use Rattle.transport_segments.specs.Runs.{IsDatagram, IsPart, IsAmong}
 use Rattle.zw_base.specs.Crc.{crc}
@@ -107,7 +107,7 @@ part_at datagram id offset payload is small some inside same =
 
     headed : offset ≡ 0 → IsPart datagram id (segment_text id (length datagram) offset payload)
     headed zeroth =
-        let prefix : segment_prefix id (length datagram) offset payload ≡ 85 ∷ (192 + length datagram / 256) ∷ length datagram % 256 ∷ id * 16 ∷ payload =
+        let prefix : segment_header id (length datagram) offset payload ≡ 85 ∷ (192 + length datagram / 256) ∷ length datagram % 256 ∷ id * 16 ∷ payload =
         ap (λ b. cond b (85 ∷ (192 + length datagram / 256) ∷ length datagram % 256 ∷ id * 16 ∷ payload) (85 ∷ (224 + length datagram / 256) ∷ length datagram % 256 ∷ (id * 16 + offset / 256) ∷ offset % 256 ∷ payload)) (eq-eqb offset 0 zeroth) in
         let most : length datagram ≤ 512 = fits in
         subst (λ (f : List ℕ). IsPart datagram id (with_check f)) (sym prefix)
@@ -118,7 +118,7 @@ part_at datagram id offset payload is small some inside same =
 
     written : 0 < offset → IsPart datagram id (segment_text id (length datagram) offset payload)
     written later =
-        let prefix : segment_prefix id (length datagram) offset payload ≡ 85 ∷ (224 + length datagram / 256) ∷ length datagram % 256 ∷ (id * 16 + offset / 256) ∷ offset % 256 ∷ payload =
+        let prefix : segment_header id (length datagram) offset payload ≡ 85 ∷ (224 + length datagram / 256) ∷ length datagram % 256 ∷ (id * 16 + offset / 256) ∷ offset % 256 ∷ payload =
         ap (λ b. cond b (85 ∷ (192 + length datagram / 256) ∷ length datagram % 256 ∷ id * 16 ∷ payload) (85 ∷ (224 + length datagram / 256) ∷ length datagram % 256 ∷ (id * 16 + offset / 256) ∷ offset % 256 ∷ payload)) (ne_eqb offset 0 (omega arith)) in
         let most : length datagram ≤ 512 = fits in
         let place : (id * 16 + offset / 256) % 8 * 256 + offset % 256 ≡ offset = omega arith in

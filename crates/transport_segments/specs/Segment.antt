@@ -53,12 +53,12 @@ abbrev pub with_check : List ℕ → List ℕ
 with_check bytes = bytes ++ (crc bytes / 256 ∷ crc bytes % 256 ∷ [])
 
 -- what a segment's check covers, as it is written: at offset 0 a First Segment, elsewhere a Subsequent Segment
-abbrev pub segment_prefix : ℕ → ℕ → ℕ → List ℕ → List ℕ
-segment_prefix id size offset payload =
+abbrev pub segment_header : ℕ → ℕ → ℕ → List ℕ → List ℕ
+segment_header id size offset payload =
     if offset == 0
     then 85 ∷ (192 + size / 256) ∷ size % 256 ∷ id * 16 ∷ payload
     else 85 ∷ (224 + size / 256) ∷ size % 256 ∷ (id * 16 + offset / 256) ∷ offset % 256 ∷ payload
 
 -- the segment of a datagram of that size that carries this payload at that offset
 abbrev pub segment_text : ℕ → ℕ → ℕ → List ℕ → List ℕ
-segment_text id size offset payload = with_check (segment_prefix id size offset payload)
+segment_text id size offset payload = with_check (segment_header id size offset payload)

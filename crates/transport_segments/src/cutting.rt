@@ -1,7 +1,7 @@
 //! The segments of a datagram.
 
 ghost use Rattle.std.specs.Prelude.{◌≡◌, ◌+◌, ◌*◌, ◌<◌, ◌≤◌, ◌++◌, length, IfOk};
-ghost use Rattle.transport_segments.specs.Segment.{segment_prefix, segment_text};
+ghost use Rattle.transport_segments.specs.Segment.{segment_header, segment_text};
 ghost use Rattle.transport_segments.specs.Parts.{Parts, slice_at};
 
 use crate::segment::TRANSPORT;
@@ -53,7 +53,7 @@ fn segment(alloc: Global, id: u8, size: u16, offset: u16, payload: &[u8]) -> Res
     requires offset { offset ≤ 512 }
     ensures { IfOk result (λ text. text ≡ segment_text id size offset payload.now) }
 {
-    let mut text = prefix(alloc, id, size, offset, payload)?;
+    let mut text = header(alloc, id, size, offset, payload)?;
     let check = crc_ccitt(text.as_slice());
     text.push((check / 256) as u8)?;
     text.push((check % 256) as u8)?;
@@ -61,11 +61,11 @@ fn segment(alloc: Global, id: u8, size: u16, offset: u16, payload: &[u8]) -> Res
 }
 
 /// Its header and its payload.
-fn prefix(alloc: Global, id: u8, size: u16, offset: u16, payload: &[u8]) -> Result<Bytes, NoMemory>
+fn header(alloc: Global, id: u8, size: u16, offset: u16, payload: &[u8]) -> Result<Bytes, NoMemory>
     requires id { id ≤ 15 }
     requires size { size ≤ 512 }
     requires offset { offset ≤ 512 }
-    ensures { IfOk result (λ text. text ≡ segment_prefix id size offset payload.now) }
+    ensures { IfOk result (λ text. text ≡ segment_header id size offset payload.now) }
 {
     let size_high = (size / 256) as u8;
     let size_low = (size % 256) as u8;

@@ -2,8 +2,8 @@
 //! Class).
 //!
 //! `cut` gives the segments of a datagram. An `Assembler` takes segments in any order, with any repeats, and gives the
-//! datagram exactly when its last missing byte comes.
-//! The definitions stand in `specs/`: `Segment`, `Faults`, `Parts`, `Reassembly`, `Runs`.
+//! datagram exactly when its last missing byte arrives.
+//! The definitions are in `specs/`: `Segment`, `Faults`, `Parts`, `Reassembly`, `Runs`.
 #![tactic(auto)]
 
 mod assembler;

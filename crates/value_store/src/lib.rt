@@ -1,10 +1,10 @@
 //! What the host knows of the properties of its nodes: the value that a final report confirmed, and the value last
-//! heard in a report. The two never mix.
+//! heard.
 //!
-//! It promises that what is kept is a finite map from node and property to these values, that a node has at most 512
-//! properties, that a property that was reserved is confirmed without memory and without a refusal, and that what was
-//! reserved can be released again, which leaves nothing.
-//! The definitions stand in `specs/`: `Values` for the map, `ValueText` for its JSON, `Entries` for how it is kept.
+//! The two never mix. The crate promises that what is kept is a finite map from node and property to these values, that
+//! a node has at most 512 properties, that confirming a reserved property neither allocates nor is refused, and that
+//! what was reserved can be released again, which leaves nothing.
+//! The definitions are in `specs/`: `Values` for the map, `ValueText` for its JSON, `Entries` for how it is kept.
 #![tactic(auto)]
 
 mod entries;

@@ -1,9 +1,8 @@
-//! The commands that wait for a node, at most sixteen, and whether the node counts as awake (Wake Up Command Class) and is
-//! held so.
+//! The commands that wait for a node, at most sixteen, and whether the node counts as awake and is held so (Wake Up
+//! Command Class).
 //!
-//! It promises first come first served, cancelling by number, a hold of a hundred ticks, and that after `new` no call takes
-//! memory.
-//! The definitions stand in `specs/Mailbox.antt`.
+//! It promises first come first served, cancelling by number, a hold of a hundred ticks, and that after `new` no call
+//! allocates. The definitions are in `specs/Mailbox.antt`.
 #![tactic(auto)]
 
 mod mailbox;

@@ -1,9 +1,9 @@
-//! What every crate of this project speaks of: nodes, end points, lists of bytes, payloads, properties and settings, the
-//! orders that a user gives, and the three traits of what is outside the program.
+//! What every crate of this project speaks of: nodes, end points, lists of bytes, payloads, properties, settings and
+//! orders.
 //!
-//! It promises that an id is in its range, that a list that runs out of memory is as before, and that a source or a
-//! sink answers `Failed` only where its count of faults rose.
-//! The definitions stand in `specs/`, named like the modules; `proofs/Each` has lemmas on lists that the library lacks.
+//! It also has the three traits of what is outside the program. It promises that an id is in its range, that a list
+//! that runs out of memory is unchanged, and that a source or a sink answers `Failed` only if its count of faults rose.
+//! The definitions are in `specs/`, named like the modules; `proofs/Each` has lemmas on lists that the library lacks.
 #![tactic(auto)]
 
 mod bytes;

@@ -1,10 +1,10 @@
-//! The text of a scenario: the lines that the program reads, the entries of the transcript that it prints, and
-//! their exact words.
+//! The text of a scenario: the lines that the program reads, the entries of the transcript that it prints, and their
+//! exact words.
 //!
-//! It promises that a line is read exactly where the text is that line's, and else which fault is the first from the
-//! left.
-//! The definitions stand in `specs/`: `Line` and `Entry` for the texts, `Fits` for the ranges of an entry's numbers,
-//! `Transcript` for what a list of entries shows. Entries are printed by `zw_print`.
+//! It promises that a text is read as a line exactly when it is that line's text, and otherwise answers the first fault
+//! from the left.
+//! The definitions are in `specs/`: `Line` and `Entry` for the texts, `Fits` for the ranges of an entry's numbers,
+//! `Transcript` for what a list of entries shows. `zw_print` prints entries, and `zw_parse` reads them.
 #![tactic(auto)]
 
 mod entry;

@@ -1,9 +1,9 @@
 //! The words of a line of text, and the forms that a word can have: numbers, nodes, end points, values, sides and hex.
 //!
-//! It promises that each form is read exactly where the word has it, and that what is wrong with a line is the first
+//! It promises that each form is read exactly when the word has it, and that what is wrong with a line is the first
 //! fault from the left. Readers of any language of lines are made of these pieces.
-//! The definitions stand in `specs/`: `Words` for the words of a text, `Forms` for what one word stands for, `Fields`
-//! for words that are read in turn.
+//! The definitions are in `specs/`: `Words` for the words of a text, `Forms` for what one word means, `Fields` for
+//! words that are read in turn.
 #![tactic(auto)]
 
 mod fault;
