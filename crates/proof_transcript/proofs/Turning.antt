@@ -24,7 +24,7 @@ use Rattle.mesh_sim.specs.Steps.{landed}
 use Rattle.mesh_sim.specs.Steps as mesh
 use Rattle.outside_model.specs.State.{OuterState, Outcome, first_outer}
 use Rattle.outside_model.specs.Chip.{shown_via}
-use Rattle.outside_model.specs.Events.{OuterEvent, Begins_tick, Arrives, Loses, stamp, has_entered, outcome, steps, May as MayOutside}
+use Rattle.outside_model.specs.Events.{OuterEvent, Begins_tick, Arrives, Loses, Repeats, stamp, has_entered, outcome, steps, May as MayOutside}
 use Rattle.outside_model.specs.Schedules.{Arrivals, Delivers}
 use Rattle.world_model.specs.State.{Machine}
 use Rattle.world_model.specs.Events.{Event, Outside_does, happens, entries, May}
@@ -87,6 +87,11 @@ plain_flies : (f : Flying) (e : Entry) → IsPlain e → flying_step f e ≡ f
 plain_flies f (entry.Air frame sender receiver repeaters payload) plain = absurd plain
 plain_flies f (entry.Time tick) plain = absurd plain
 plain_flies f _ plain = refl
+
+-- all that was due has its fate; and where the number of a tick is still to be entered, no frame is on the air
+pub record Rests (past : List Entry) (o : OuterState) : Type 0 where
+  pub flies : Flies 0 past o.air
+  pub idle : (o.in_tick && not o.stamped) ≡ true → o.air.frames.landed ≡ o.air.frames.sent
 
 module _ (IsAgain : List Entry → ℕ → Type 0) (Repeated : ℕ → Type 0) (is_again : (past : List Entry) (number : ℕ) → Repeated number → line_last past ≡ Repeat number ∷ [] → IsAgain past number) where
   plain_may : (past : List Entry) (e : Entry) → IsPlain e → MayFareBy IsAgain past e
@@ -212,11 +217,6 @@ module _ (IsAgain : List Entry → ℕ → Type 0) (Repeated : ℕ → Type 0) (
         )
 
   -- ---- the number of a tick
-
-  -- all that was due has its fate; and where the number of a tick is still to be entered, no frame is on the air
-  pub record Rests (past : List Entry) (o : OuterState) : Type 0 where
-    pub flies : Flies 0 past o.air
-    pub idle : (o.in_tick && not o.stamped) ≡ true → o.air.frames.landed ≡ o.air.frames.sent
 
   -- it is entered where all that was due has its fate, and then all on the air is due
   time_keeps : (left : ℕ) (air : AirState) (past : List Entry) (clock : ℕ) → Flies 0 past air → air.frames.landed + left ≡ air.frames.sent → EachAfter (MayFareBy IsAgain) past (entry.Time clock ∷ []) × Flies left (past ++ entry.Time clock ∷ []) air
