@@ -173,7 +173,7 @@ module _ (at : ℕ) where
   upto_is before (entry.Air frame sender receiver repeaters payload ∷ rest) may far near =
       by (frame == at + 1) refl
       (λ next. upto_is (before ++ entry.Air frame sender receiver repeaters payload ∷ []) rest may.1 next
-          (subst (λ (l : List Entry). at < goes_in (log_of l)) (sym (append_assoc before (entry.Air frame sender receiver repeaters payload ∷ []) rest)) near))
+      (subst (λ (l : List Entry). at < goes_in (log_of l)) (sym (append_assoc before (entry.Air frame sender receiver repeaters payload ∷ []) rest)) near))
     where
       this : Entry
       this = entry.Air frame sender receiver repeaters payload

@@ -187,8 +187,8 @@ module _ (rules : StartsSo) where
   refused_keeps past m number drawn route refused is tie =
       let step : AirStep = mesh.Repeats number drawn route in
       subst (λ (r : Option Refusal). EachAfter MayHear past (stamp (repeats m.outside r step).outer (repeats m.outside r step).entries)
-          × Known MayHear Knows (past ++ stamp (repeats m.outside r step).outer (repeats m.outside r step).entries)
-          (outside (has_entered (repeats m.outside r step).outer (repeats m.outside r step).entries) (devices_repeated m.outside r step))) (sym is) (refusal_told past m.outside refused tie)
+      × Known MayHear Knows (past ++ stamp (repeats m.outside r step).outer (repeats m.outside r step).entries)
+      (outside (has_entered (repeats m.outside r step).outer (repeats m.outside r step).entries) (devices_repeated m.outside r step))) (sym is) (refusal_told past m.outside refused tie)
 
   repeat_keeps : (past : List Entry) (m : Machine) (number : ℕ) (drawn : List ℕ) (route : Option Route) → May m (Outside_does (Repeats number drawn route))
       → line_last past ≡ lines.Repeat number ∷ [] → Tie nothing past m.outside
