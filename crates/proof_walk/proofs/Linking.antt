@@ -60,7 +60,7 @@ sends_of_air : (joined : Bool) (air : AirState) (node : ℕ) (way : Option Route
 sends_of_air true air node way replies = answers_of_air air node way replies
 sends_of_air false air node way replies = tt
 
-acts_of_air : (o : OuterState) (device : State) (event : DeviceEvent) (route : Option Route) → AreOfAir (acts o device event route).entries
+pub acts_of_air : (o : OuterState) (device : State) (event : DeviceEvent) (route : Option Route) → AreOfAir (acts o device event route).entries
 acts_of_air o device event route =
     all-append IsOfAir (changes_entries device.node (new_changes device event))
     (flat_map sent_entries (answers_if (is_joined o.air device.node) o.air device.node (option_map backwards route) (device_replies device event)))
