@@ -414,18 +414,22 @@ change_set : (past : List Entry) (m : Machine) (on : Side) (place xor : ℕ) →
     → EachAfter MayMark past (entries m (Outside_does (Marks_change on (record { place = place; xor = xor }))))
     × Marked (past ++ entries m (Outside_does (Marks_change on (record { place = place; xor = xor })))) (happens m (Outside_does (Marks_change on (record { place = place; xor = xor }))))
 unfolding happens entries outcome devices_after
-change_set past m by_host place xor known =
-    (tt, subst (λ (l : List Entry). Marked l (happens m (Outside_does (Marks_change by_host (record { place = place; xor = xor }))))) (sym (append-nil past))
-    (marked past (happens m (Outside_does (Marks_change by_host (record { place = place; xor = xor })))) tie known.1))
+change_set past m by_host place xor known = (
+  tt,
+  subst (λ (l : List Entry). Marked l (happens m (Outside_does (Marks_change by_host (record { place = place; xor = xor }))))) (sym (append-nil past))
+      (marked past (happens m (Outside_does (Marks_change by_host (record { place = place; xor = xor })))) tie known.1),
+)
   where
     tie : TieMarks past (happens m (Outside_does (Marks_change by_host (record { place = place; xor = xor })))).outside
     tie by_host =
         known.0 by_host
         ∙ ap (λ (l : List Changing). record { drops = m.outside.outer.to_chip.marks.drops; changes = l }) (one_more m.outside.outer.to_chip.marks.garbles (record { place = place; xor = xor }))
     tie by_chip = known.0 by_chip
-change_set past m by_chip place xor known =
-    (tt, subst (λ (l : List Entry). Marked l (happens m (Outside_does (Marks_change by_chip (record { place = place; xor = xor }))))) (sym (append-nil past))
-    (marked past (happens m (Outside_does (Marks_change by_chip (record { place = place; xor = xor })))) tie known.1))
+change_set past m by_chip place xor known = (
+  tt,
+  subst (λ (l : List Entry). Marked l (happens m (Outside_does (Marks_change by_chip (record { place = place; xor = xor }))))) (sym (append-nil past))
+      (marked past (happens m (Outside_does (Marks_change by_chip (record { place = place; xor = xor })))) tie known.1),
+)
   where
     tie : TieMarks past (happens m (Outside_does (Marks_change by_chip (record { place = place; xor = xor })))).outside
     tie by_chip =
