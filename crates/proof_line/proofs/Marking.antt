@@ -277,8 +277,8 @@ still_knows w o to_chip to_host = same_knows w (outside o w.devices) (same_by w.
 
 marks_law : Outer MayMark KnowsMarks SetsNoMark
 marks_law = record {
-  line = λ awaits past w knows. still_knows w (record w.outer { in_tick = false }) refl refl past knows;
-  tick = λ awaits past w knows.
+  line = λ covers awaits past w knows. still_knows w (record w.outer { in_tick = false }) refl refl past knows;
+  tick = λ covers awaits past w knows.
       ((all_apart past (entry.Time (w.outer.clock + 1) ∷ []) (tt, tt) knows.1).0.0, still_knows w (record w.outer { clock = w.outer.clock + 1; in_tick = true; stamped = false }) refl refl past knows);
   number = λ past w knows. ((apart w w (entry.Time w.outer.clock ∷ []) (tt, tt) (λ side. refl)).goes past knows.0 knows.1).1;
   stamps = λ awaits stamped past w knows. still_knows w (record w.outer { stamped = stamped }) refl refl past knows;
