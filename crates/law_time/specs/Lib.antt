@@ -10,6 +10,8 @@ pub mod Holds
 pub mod Sessions
 pub mod Wants
 pub mod Queue
+pub mod Attempts
+pub mod Choice
 pub mod Unanswered
 pub mod Rests
 pub mod Calm
