@@ -151,11 +151,14 @@ second_wanted = by_chip (codes "010A000400080455C8102757")
 abbrev pub first_sent : Entry
 first_sent = by_host (codes "01340013082D55C02F106C01012B70070000250101010101010101010101010101010101010101010101010101010101014E7A250152")
 
+abbrev pub second_sent : Entry
+second_sent = by_host (codes "01160013080F55E02F102701010101010101018A77250189")
+
 abbrev pub first_resent : List Entry
 first_resent = given_up_plug ++ first_wanted ∷ host_acknowledges ∷ first_sent ∷ []
 
 abbrev pub second_resent : List Entry
-second_resent = given_up_plug ++ second_wanted ∷ host_acknowledges ∷ by_host (codes "01160013080F55E02F102701010101010101018A77250189") ∷ []
+second_resent = given_up_plug ++ second_wanted ∷ host_acknowledges ∷ second_sent ∷ []
 
 -- ---- a full queue
 

@@ -15,7 +15,9 @@ ghost use Rattle.law_time.specs.WorkedWaits.{
   woken_before_restart,
 };
 ghost use Rattle.law_time.specs.WorkedBetween.{told_after_restart, told_as_chip_writes};
+ghost use Rattle.law_time.specs.WorkedChoice.{attempt_follows, sealed_follows, segment_follows};
 ghost use Rattle.law_time.specs.WrongBetween.{held_over_restart};
+ghost use Rattle.law_time.specs.WrongChoice.{left_due, left_sealed, left_segment};
 ghost use Rattle.law_time.specs.WorkedQueue.{failed_attempts, resent_segments, silent_attempt};
 ghost use Rattle.law_time.specs.WrongEntries.{given_up_unbegun, left_unended_in_silence, left_unsaid_in_silence};
 ghost use Rattle.law_time.specs.WrongQueue.{
@@ -138,7 +140,8 @@ pub fn worked_attempts()
 /// In worked transcripts nothing is owed at a rest: a command may wait for a node that sleeps, or in the tick in which the keeper has
 /// failed, and an interview may have ended in each way. In one a restart leaves a node as asleep though it was last said to be awake and
 /// was taken to listen: were it still taken to be awake, its command would wait for nothing. What is sent to a node is sent once though it
-/// fails in a tick in which the chip has written, and a restart ends a hold.
+/// fails in a tick in which the chip has written, and a restart ends a hold. The second segment, the sealed message and the next attempt have
+/// been sent in the tick in which they could be.
 pub fn worked_rests()
     ensures plain { IsPrompt true (listing_of (the_switch ∷ [])) plain_exchange }
     ensures errands { IsPrompt true (listing_of (the_switch ∷ [])) answered_errands }
@@ -165,6 +168,9 @@ pub fn worked_rests()
     ensures for_judging { IsPrompt true (listing_of (the_switch ∷ [])) waits_for_judging }
     ensures as_chip_writes { IsPrompt true (listing_of (the_switch ∷ the_sensor ∷ [])) told_as_chip_writes }
     ensures after_restart { IsPrompt true (listing_of (the_keeper ∷ [])) told_after_restart }
+    ensures segment { IsPrompt true (listing_of (the_plug ∷ [])) segment_follows }
+    ensures nonce { IsPrompt true (listing_of (the_lock ∷ [])) sealed_follows }
+    ensures attempt { IsPrompt true (listing_of (the_plug ∷ [])) attempt_follows }
 {}
 
 /// Each of these breaks one part of the law: a command given up without a session, after two attempts, or while the third is under way, or
@@ -204,7 +210,8 @@ pub fn rejected_waits()
 /// Each of these breaks one part of the law of rests: a rest at which a command waits for a node that is awake, also a tick after the
 /// keeper has failed, as it has for another node, or before a restart; a Set or an interview has not begun, the end of a Get or of an
 /// interview is not said, or is left out as the keeper fails for another node; an attempt is overdue, a node is kept awake for nothing, or
-/// since a host before this one has held it, or a Nonce Report, a segment that was asked for or an abort is not sent.
+/// since a host before this one has held it, or a Nonce Report, a segment that was asked for or an abort is not sent, nor the second segment
+/// of an attempt, the message that could be sealed, or the attempt that follows one that is over.
 pub fn rejected_rests()
     ensures waiting { IsPrompt true (listing_of (the_switch ∷ [])) left_waiting → ⊥ }
     ensures unsent { IsPrompt true (listing_of (the_switch ∷ [])) left_unsent → ⊥ }
@@ -225,4 +232,7 @@ pub fn rejected_rests()
     ensures a_tick { IsPrompt true (listing_of (the_switch ∷ [])) left_a_tick → ⊥ }
     ensures given_up { IsPrompt true (listing_of (the_switch ∷ [])) left_given_up → ⊥ }
     ensures held { IsPrompt true (listing_of (the_keeper ∷ [])) held_over_restart → ⊥ }
+    ensures segment { IsPrompt true (listing_of (the_plug ∷ [])) left_segment → ⊥ }
+    ensures nonce { IsPrompt true (listing_of (the_lock ∷ [])) left_sealed → ⊥ }
+    ensures due { IsPrompt true (listing_of (the_plug ∷ [])) left_due → ⊥ }
 {}
