@@ -3,6 +3,7 @@ use Rattle.std.specs.Prelude.{List, [], ◌∷◌, ◌++◌, codes, take}
 use Rattle.zw_text.specs.declared.entry.Done.TheVariants as done
 use Rattle.zw_text.specs.declared.entry.Entry.{Entry}
 use Rattle.zw_text.specs.declared.entry.Entry.TheVariants.{Said, Accepted, Begin, Awake, Interviewed, Done, Unkept, Time}
+use Rattle.law_transcript.specs.Worked.{long_message}
 use Rattle.law_time.specs.WorkedAttempts.{second_attempt, third_attempt, working}
 use Rattle.law_time.specs.WorkedEnds.{set_under_way}
 use Rattle.law_time.specs.WorkedTurns.{first_sent, given_up, given_up_plug, second_sent}
@@ -167,28 +168,11 @@ sent_after_last = message_sent
 
 -- ---- rests
 
--- a tick after a first segment was delivered the second one has been sent, and after a nonce has come the sealed message
-abbrev pub segment_delivered : List Entry
-segment_delivered =
-    segment_begun ++ chip_acknowledges ∷ taken ∷ host_acknowledges ∷ Said (codes "tick 50") ∷ Time 1 ∷ delivered ∷ host_acknowledges ∷ []
-
-abbrev pub segment_follows : List Entry
-segment_follows = segment_delivered ++ second_sent_next ∷ Time 2 ∷ []
-
-abbrev pub nonce_given_back : List Entry
-nonce_given_back =
-    lock_asked ++ chip_acknowledges ∷ taken ∷ host_acknowledges ∷ Said (codes "tick 50") ∷ Time 1 ∷ delivered ∷ host_acknowledges ∷ nonce_come ∷
-    host_acknowledges ∷ []
-
-abbrev pub sealed_follows : List Entry
-sealed_follows = nonce_given_back ++ sealed_sent ∷ Time 2 ∷ []
-
--- the second segment fails, and the next attempt begins
+-- the second segment fails, and the next attempt begins in that tick
 abbrev pub second_failed : List Entry
-second_failed =
-    segment_delivered ++ second_sent_next ∷ chip_acknowledges ∷ taken ∷ host_acknowledges ∷ by_chip (codes "010500130202E9") ∷ host_acknowledges ∷ []
+second_failed = take 34 long_message ++ Time 4 ∷ by_chip (codes "010500130202E9") ∷ host_acknowledges ∷ []
 
 abbrev pub attempt_follows : List Entry
 attempt_follows =
     second_failed ++
-    by_host (codes "01340013082D55C02F106C01012B70070000250101010101010101010101010101010101010101010101010101010101014E7A250350") ∷ Time 2 ∷ []
+    by_host (codes "01340013082D55C02F106C01012B70070000250101010101010101010101010101010101010101010101010101010101014E7A250350") ∷ Time 5 ∷ []

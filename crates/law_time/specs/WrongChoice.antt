@@ -3,8 +3,9 @@ use Rattle.std.specs.Prelude.{List, [], ◌∷◌, ◌++◌, codes, take}
 use Rattle.zw_text.specs.declared.entry.Entry.{Entry}
 use Rattle.zw_text.specs.declared.entry.Entry.TheVariants.{Said, Accepted, Begin, Dropped, Unkept, Time}
 use Rattle.zw_words.specs.declared.side.Side.TheVariants.{Host}
+use Rattle.law_transcript.specs.Worked.{long_message, sealed_exchange}
 use Rattle.law_time.specs.WorkedAttempts.{second_attempt, third_attempt, third_lost, unkept_order, working}
-use Rattle.law_time.specs.WorkedChoice.{begun, both_wait, first_over, first_sent_next, first_served, first_taken, lock_asked, lock_begun, nonce_come, nonce_given_back, restarted_beside, sealed_for_second, sealed_once, sealed_sent, second_failed, second_nonce_come, second_sent_next, second_served, segment_after_lost, segment_begun, segment_delivered, set_before, silent_set, sleeper_begun}
+use Rattle.law_time.specs.WorkedChoice.{begun, both_wait, first_over, first_sent_next, first_served, first_taken, lock_asked, lock_begun, nonce_come, restarted_beside, sealed_for_second, sealed_once, sealed_sent, second_failed, second_nonce_come, second_sent_next, second_served, segment_after_lost, segment_begun, set_before, silent_set, sleeper_begun}
 use Rattle.law_time.specs.WorkedTurns.{given_up, given_up_plug, second_sent}
 use Rattle.law_time.specs.WorkedUnits.{by_chip, by_host, host_acknowledges, message_sent, not_acknowledged}
 
@@ -133,12 +134,12 @@ sent_with_options = by_host (codes "010A001302032501FF050138") ∷ []
 
 -- ---- rests
 
--- the second segment, the sealed message and the next attempt are not sent
+-- the second segment is not sent, nor the sealed message, nor the attempt after one whose last segment has failed
 abbrev pub left_segment : List Entry
-left_segment = segment_delivered ++ Time 2 ∷ []
+left_segment = take 29 long_message ++ Time 4 ∷ []
 
 abbrev pub left_sealed : List Entry
-left_sealed = nonce_given_back ++ Time 2 ∷ []
+left_sealed = take 49 sealed_exchange ++ Time 106 ∷ []
 
 abbrev pub left_due : List Entry
-left_due = second_failed ++ Time 2 ∷ []
+left_due = second_failed ++ Time 5 ∷ []

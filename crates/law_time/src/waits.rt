@@ -15,7 +15,7 @@ ghost use Rattle.law_time.specs.WorkedWaits.{
   woken_before_restart,
 };
 ghost use Rattle.law_time.specs.WorkedBetween.{told_after_restart, told_as_chip_writes};
-ghost use Rattle.law_time.specs.WorkedChoice.{attempt_follows, sealed_follows, segment_follows};
+ghost use Rattle.law_time.specs.WorkedChoice.{attempt_follows};
 ghost use Rattle.law_time.specs.WrongBetween.{held_over_restart};
 ghost use Rattle.law_time.specs.WrongChoice.{left_due, left_sealed, left_segment};
 ghost use Rattle.law_time.specs.WorkedQueue.{failed_attempts, resent_segments, silent_attempt};
@@ -140,8 +140,8 @@ pub fn worked_attempts()
 /// In worked transcripts nothing is owed at a rest: a command may wait for a node that sleeps, or in the tick in which the keeper has
 /// failed, and an interview may have ended in each way. In one a restart leaves a node as asleep though it was last said to be awake and
 /// was taken to listen: were it still taken to be awake, its command would wait for nothing. What is sent to a node is sent once though it
-/// fails in a tick in which the chip has written, and a restart ends a hold. The second segment, the sealed message and the next attempt have
-/// been sent in the tick in which they could be.
+/// fails in a tick in which the chip has written, and a restart ends a hold. The attempt after one whose
+/// last segment has failed begins in that tick.
 pub fn worked_rests()
     ensures plain { IsPrompt true (listing_of (the_switch ∷ [])) plain_exchange }
     ensures errands { IsPrompt true (listing_of (the_switch ∷ [])) answered_errands }
@@ -168,8 +168,6 @@ pub fn worked_rests()
     ensures for_judging { IsPrompt true (listing_of (the_switch ∷ [])) waits_for_judging }
     ensures as_chip_writes { IsPrompt true (listing_of (the_switch ∷ the_sensor ∷ [])) told_as_chip_writes }
     ensures after_restart { IsPrompt true (listing_of (the_keeper ∷ [])) told_after_restart }
-    ensures segment { IsPrompt true (listing_of (the_plug ∷ [])) segment_follows }
-    ensures nonce { IsPrompt true (listing_of (the_lock ∷ [])) sealed_follows }
     ensures attempt { IsPrompt true (listing_of (the_plug ∷ [])) attempt_follows }
 {}
 
