@@ -4,8 +4,8 @@ use Rattle.zw_text.specs.declared.entry.Entry.{Entry}
 use Rattle.zw_text.specs.declared.entry.Entry.TheVariants.{Said, Accepted, Begin, Dropped, Unkept, Time}
 use Rattle.zw_words.specs.declared.side.Side.TheVariants.{Host}
 use Rattle.law_transcript.specs.Worked.{long_message, sealed_exchange}
-use Rattle.law_time.specs.WorkedAttempts.{second_attempt, third_attempt, third_lost, unkept_order, working}
-use Rattle.law_time.specs.WorkedChoice.{begun, both_wait, first_over, first_sent_next, first_served, first_taken, lock_asked, lock_begun, nonce_come, restarted_beside, sealed_for_second, sealed_once, sealed_sent, second_failed, second_nonce_come, second_sent_next, second_served, segment_after_lost, segment_begun, set_before, silent_set, sleeper_begun}
+use Rattle.law_time.specs.WorkedAttempts.{second_attempt, third_attempt, third_failed, third_lost, unkept_order, working}
+use Rattle.law_time.specs.WorkedChoice.{begun, both_wait, first_over, first_sent_next, first_served, first_taken, lock_asked, lock_begun, nonce_come, restarted_beside, sealed_for_second, sealed_once, sealed_sent, second_failed, second_nonce_come, second_sent_next, second_served, segment_after_failed, segment_after_lost, segment_begun, set_before, silent_set, sleeper_begun}
 use Rattle.law_time.specs.WorkedTurns.{given_up, given_up_plug, second_sent}
 use Rattle.law_time.specs.WorkedUnits.{by_chip, by_host, host_acknowledges, message_sent, not_acknowledged}
 
@@ -40,7 +40,7 @@ sent_fourth =
 
 -- ---- segments
 
--- the second segment is sent first, the first one twice, and the second one twice
+-- the second segment is sent first, the first one twice, the second one twice, and one beyond the end
 abbrev pub second_sent_first : List Entry
 second_sent_first = take 6 given_up_plug ++ second_sent ∷ []
 
@@ -50,7 +50,21 @@ first_sent_twice = segment_begun ++ not_acknowledged ∷ host_acknowledges ∷ f
 abbrev pub second_sent_twice : List Entry
 second_sent_twice = segment_after_lost ++ by_chip (codes "010500130200EB") ∷ host_acknowledges ∷ by_host (codes "01160013080F55E02F102701010101010101018A7725038B") ∷ []
 
+abbrev pub sent_beyond : List Entry
+sent_beyond = segment_after_lost ++ by_chip (codes "010500130200EB") ∷ host_acknowledges ∷ by_host (codes "010E0013080755E02F104E43CF250383") ∷ []
+
+-- the third attempt has failed, and its second segment is sent
+abbrev pub sent_after_third : List Entry
+sent_after_third =
+    segment_after_failed ++ by_chip (codes "010500130202E9") ∷ host_acknowledges ∷
+    by_host (codes "01340013082D55C02F106C01012B70070000250101010101010101010101010101010101010101010101010101010101014E7A250350") ∷ third_failed ∷
+    host_acknowledges ∷ by_host (codes "01160013080F55E02F102701010101010101018A7725048C") ∷ []
+
 -- ---- nonces
+
+-- what is sent for a nonce is not sealed
+abbrev pub sent_for_nonce : List Entry
+sent_for_nonce = lock_asked ++ nonce_come ∷ host_acknowledges ∷ by_host (codes "01110013040AAA010102030405060708250277") ∷ []
 
 -- a message is sealed for no nonce, for another one, for one that was not kept, also where the acknowledgement was lost, twice for one, and when its attempt is over
 abbrev pub sealed_for_none : List Entry
@@ -89,10 +103,10 @@ second_served_twice = second_served ++ by_host (codes "01110013050A6C01010684040
 
 -- the greater one is served first, also after a restart
 abbrev pub second_served_first : List Entry
-second_served_first = both_wait ++ sleeper_begun
+second_served_first = both_wait ++ take 1 sleeper_begun
 
 abbrev pub second_after_restart : List Entry
-second_after_restart = restarted_beside ++ sleeper_begun
+second_after_restart = restarted_beside ++ take 1 sleeper_begun
 
 -- ---- sessions that begin
 

@@ -49,7 +49,10 @@ ghost use Rattle.law_time.specs.WrongChoice.{
   second_sent_twice,
   second_served_first,
   second_served_twice,
+  sent_after_third,
   sent_before_wait,
+  sent_beyond,
+  sent_for_nonce,
   sent_fourth,
   sent_though_working,
   sent_unsealed,
@@ -86,7 +89,8 @@ pub fn worked_choice()
 
 /// Each of these breaks one part of the law: where an attempt is due, the Set of an earlier line is sent again, or a Nonce Get to a node that
 /// lists no Security 0, or a message unsealed to one that does; an attempt begins while the last one is under way, a tick too early, while the
-/// node has told that it is at work, or after three; a segment is sent before the first, or twice; a message is sealed for no nonce, for another
+/// node has told that it is at work, or after three; a segment is sent before the first, twice, beyond the last, or when the third attempt is over; what is sent for a nonce is not
+/// sealed; a message is sealed for no nonce, for another
 /// one, for one that was not kept or not counted, twice for one, or when its attempt is over; a node is served twice while another one has work,
 /// or before a lower one, also after a restart; and a session begins out of order, before a request or an abort, of a node that is asleep, while
 /// the last one is open, or in the tick in which the keeper has failed.
@@ -101,6 +105,9 @@ pub fn rejected_choice()
     ensures second_first { SendsInTurn (listing_of (the_plug ∷ [])) second_sent_first → ⊥ }
     ensures first_twice { SendsInTurn (listing_of (the_plug ∷ [])) first_sent_twice → ⊥ }
     ensures second_twice { SendsInTurn (listing_of (the_plug ∷ [])) second_sent_twice → ⊥ }
+    ensures beyond { SendsInTurn (listing_of (the_plug ∷ [])) sent_beyond → ⊥ }
+    ensures third { SendsInTurn (listing_of (the_plug ∷ [])) sent_after_third → ⊥ }
+    ensures for_nonce { SendsInTurn (listing_of (the_lock ∷ [])) sent_for_nonce → ⊥ }
     ensures none { SendsInTurn (listing_of (the_lock ∷ [])) sealed_for_none → ⊥ }
     ensures other { SendsInTurn (listing_of (the_lock ∷ [])) sealed_for_other → ⊥ }
     ensures unkept { SendsInTurn (listing_of (the_lock ∷ [])) sealed_for_unkept → ⊥ }

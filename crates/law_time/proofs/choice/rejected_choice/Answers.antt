@@ -1,6 +1,6 @@
 use Rattle.std.proofs.Common.{[], ◌∷◌, refl}
 use Rattle.law_time.specs.Choice.{may_send}
-use Rattle.law_time.specs.WrongChoice.{begun_asleep, begun_before_abort, begun_before_request, begun_out_of_order, begun_unkept, begun_while_open, first_sent_twice, first_served_twice, nonce_asked_plainly, sealed_for_none, sealed_for_other, sealed_for_skipped, sealed_for_uncounted, sealed_for_unkept, sealed_for_unkept_lost, sealed_twice, sealed_when_over, second_after_restart, second_sent_first, second_sent_twice, second_served_first, second_served_twice, sent_before_wait, sent_fourth, sent_though_working, sent_unsealed, sent_while_under_way, set_repeated}
+use Rattle.law_time.specs.WrongChoice.{begun_asleep, begun_before_abort, begun_before_request, begun_out_of_order, begun_unkept, begun_while_open, first_sent_twice, first_served_twice, nonce_asked_plainly, sealed_for_none, sealed_for_other, sealed_for_skipped, sealed_for_uncounted, sealed_for_unkept, sealed_for_unkept_lost, sealed_twice, sealed_when_over, second_after_restart, second_sent_first, second_sent_twice, second_served_first, second_served_twice, sent_after_third, sent_before_wait, sent_beyond, sent_for_nonce, sent_fourth, sent_though_working, sent_unsealed, sent_while_under_way, set_repeated}
 use Rattle.law_transcript.specs.Nodes.{listing_of}
 use Rattle.law_transcript.specs.Worked.{the_lock, the_plug, the_switch}
 use Rattle.law_time.proofs.Computing.{computing}
@@ -46,6 +46,18 @@ returns-clause-first_twice c = broken (may_send (listing_of (the_plug ∷ []))) 
 pub returns-clause-second_twice : goal.returns-clause-second_twice
 unfolding computing
 returns-clause-second_twice c = broken (may_send (listing_of (the_plug ∷ []))) second_sent_twice refl
+
+pub returns-clause-beyond : goal.returns-clause-beyond
+unfolding computing
+returns-clause-beyond c = broken (may_send (listing_of (the_plug ∷ []))) sent_beyond refl
+
+pub returns-clause-third : goal.returns-clause-third
+unfolding computing
+returns-clause-third c = broken (may_send (listing_of (the_plug ∷ []))) sent_after_third refl
+
+pub returns-clause-for_nonce : goal.returns-clause-for_nonce
+unfolding computing
+returns-clause-for_nonce c = broken (may_send (listing_of (the_lock ∷ []))) sent_for_nonce refl
 
 pub returns-clause-none : goal.returns-clause-none
 unfolding computing
