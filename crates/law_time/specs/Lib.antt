@@ -14,6 +14,7 @@ pub mod Attempts
 pub mod Choice
 pub mod Unanswered
 pub mod Rests
+pub mod Prompt
 pub mod Calm
 pub mod Verdicts
 pub mod Stretches

@@ -111,6 +111,6 @@ may_rest listing past (Time tick) = rests_well listing past (Time tick)
 may_rest listing past entry = true
 
 -- at each rest nothing is owed
-pub record IsPrompt (whole : Bool) (listing : ℕ → List ℕ) (transcript : List Entry) : Type 0 where
+pub record RestsWell (whole : Bool) (listing : ℕ → List ℕ) (transcript : List Entry) : Type 0 where
   pub between : Keeps (may_rest listing) transcript
   pub in_the_end : whole ≡ true → rests_well listing transcript (Said []) ≡ true
