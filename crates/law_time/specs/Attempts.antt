@@ -75,8 +75,8 @@ abbrev pub is_late : ℕ → Attempts → Bool
 is_late now attempts = attempts.over || list_any (λ tick. nat_le (tick + 100) now) attempts.sign
 
 -- the last attempt is over by a time: it was before, or its request, the last one, has ended badly, or the last sign is 100 ticks ago
-abbrev pub is_over : (ℕ → List ℕ) → List Entry → Asked → ℕ → Attempts → Bool
-is_over listing past last now attempts =
+abbrev pub attempt_is_over : (ℕ → List ℕ) → List Entry → Asked → ℕ → Attempts → Bool
+attempt_is_over listing past last now attempts =
     is_late now attempts
     || (attempts.own
     && ends_badly last (list_any (is_of_inner listing past attempts.node last.frame) (last_command attempts.node past)) now)
@@ -161,7 +161,7 @@ abbrev pub waits_for_nonce : (ℕ → List ℕ) → List Entry → Asked → Att
 waits_for_nonce listing past last attempts =
     (attempts.sent == 1) && are_none attempts.ready
     && list_any (λ command. is_sealed (session_of listing past attempts.node command).form) (last_command attempts.node past)
-    && not (is_over listing past last (clock past) attempts)
+    && not (attempt_is_over listing past last (clock past) attempts)
 
 -- whether a record of a node is said here not to be kept
 abbrev pub is_unkept_next : ℕ → List Entry → Bool
@@ -182,7 +182,7 @@ attempts_by_unit listing past requests unit rest attempts =
     if is_acknowledgement unit
     then with_nonces_here listing (past ++ Written Host unit ∷ []) requests.last rest (with_sign (past ++ Written Host unit ∷ []) attempts)
     else (if is_new requests.last unit
-    then attempts_by_request (is_of_attempt listing attempts.node past requests unit) (is_over listing past requests.last (clock past) attempts) unit attempts
+    then attempts_by_request (is_of_attempt listing attempts.node past requests unit) (attempt_is_over listing past requests.last (clock past) attempts) unit attempts
     else attempts)
 
 -- a series begins anew with a session, after its outcome, and where the host starts

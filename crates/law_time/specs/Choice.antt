@@ -21,12 +21,12 @@ use Rattle.law_transcript.specs.Units.{Carried, request_in, sending_in}
 use Rattle.law_time.specs.Moments.{Keeps, clock}
 use Rattle.law_time.specs.Judged.{is_following, last_of}
 use Rattle.law_time.specs.Requests.{Asked, asked, are_none, is_new}
-use Rattle.law_time.specs.Ends.{is_abort_frame, owes_abort}
+use Rattle.law_time.specs.Ends.{is_abort_frame, is_over, owes_abort}
 use Rattle.law_time.specs.Sessions.{Session, is_open, last_command, last_place, runs, segment_at, session_of}
 use Rattle.law_time.specs.Waking.{is_up}
 use Rattle.law_time.specs.Wants.{want_of}
 use Rattle.law_time.specs.Queue.{is_first, waits_before}
-use Rattle.law_time.specs.Attempts.{Attempts, Serving, is_over, serving}
+use Rattle.law_time.specs.Attempts.{Attempts, Serving, attempt_is_over, serving}
 
 -- ---- what a session has to send
 
@@ -57,7 +57,7 @@ parts_by over session attempts =
 abbrev pub parts_of : (ℕ → List ℕ) → List Entry → Asked → ℕ → Attempts → List Part
 parts_of listing past last now attempts =
     if runs attempts.node past now
-    then flat_map (λ command. parts_by (is_over listing past last now attempts) (session_of listing past attempts.node command) attempts) (last_command attempts.node past)
+    then flat_map (λ command. parts_by (attempt_is_over listing past last now attempts) (session_of listing past attempts.node command) attempts) (last_command attempts.node past)
     else []
 
 -- ---- a session that is to begin
@@ -140,6 +140,17 @@ may_send listing past entry = true
 -- each request that is new, and each session that begins, does so in its turn
 abbrev pub SendsInTurn : (ℕ → List ℕ) → List Entry → Type 0
 SendsInTurn listing transcript = Keeps (may_send listing) transcript
+
+-- ---- one after another
+
+-- a request that is new is sent, and a session begins, when the last request is over
+abbrev pub may_follow : List Entry → Entry → Bool
+may_follow past (Written Host unit) = not (is_new (asked past) unit) || is_over (asked past) (clock past)
+may_follow past (Begin node session command) = is_over (asked past) (clock past)
+may_follow past entry = true
+
+abbrev pub SendsOneByOne : List Entry → Type 0
+SendsOneByOne transcript = Keeps may_follow transcript
 
 -- ---- callback ids
 

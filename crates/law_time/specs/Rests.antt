@@ -11,8 +11,8 @@ use Rattle.law_transcript.specs.Lists.{shown_after}
 use Rattle.law_transcript.specs.Restarts.{since_restart, ticks_asked}
 use Rattle.law_time.specs.Moments.{Keeps, clock, now_at}
 use Rattle.law_time.specs.Judged.{acknowledged, frames_come}
-use Rattle.law_time.specs.Requests.{Asked, asked, are_none}
-use Rattle.law_time.specs.Ends.{has_ended, is_line_free, owes_abort}
+use Rattle.law_time.specs.Requests.{asked, are_none}
+use Rattle.law_time.specs.Ends.{is_over, owes_abort}
 use Rattle.law_time.specs.Sessions.{runs}
 use Rattle.law_time.specs.Queue.{waits_before}
 use Rattle.law_time.specs.Attempts.{Attempts, Serving, serving}
@@ -30,10 +30,6 @@ stall_at past entry = flat_map (stall_by (ticks_asked (lines_run past))) (line_o
 
 abbrev pub is_stalled : List Entry → ℕ → Bool
 is_stalled past now = list_any (nat_lt now) (shown_after stall_at [] past)
-
--- the last request is over: its frame was acknowledged or given up, and it has ended
-abbrev pub is_over : Asked → ℕ → Bool
-is_over last now = are_none last.frame || (is_line_free last now && has_ended last now)
 
 -- the host rests: no stall lasts, every frame of the chip is judged, and no request is under way
 abbrev pub is_rest : List Entry → ℕ → Bool

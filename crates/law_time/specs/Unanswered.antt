@@ -12,11 +12,11 @@ use Rattle.law_time.specs.Moments.{Keeps, clock, now_at}
 use Rattle.law_time.specs.Judged.{is_directly_after, is_mark}
 use Rattle.law_time.specs.Requests.{asked, are_none}
 use Rattle.law_time.specs.Sessions.{is_open, last_command}
-use Rattle.law_time.specs.Attempts.{Attempts, is_over, serving}
+use Rattle.law_time.specs.Attempts.{Attempts, attempt_is_over, serving}
 
 -- the third attempt of a node is over by a time
 abbrev pub third_is_over : (ℕ → List ℕ) → List Entry → ℕ → Attempts → Bool
-third_is_over listing past now attempts = (attempts.begun == 3) && is_over listing past (asked past) now attempts
+third_is_over listing past now attempts = (attempts.begun == 3) && attempt_is_over listing past (asked past) now attempts
 
 -- the command that is to be given up for a node: that of its last session, where that is open and its third attempt is over
 abbrev pub to_give_up : (ℕ → List ℕ) → List Entry → ℕ → ℕ → List ℕ

@@ -6,8 +6,9 @@ use Rattle.zw_words.specs.declared.side.Side.TheVariants.{Host}
 use Rattle.law_transcript.specs.Worked.{long_message, sealed_exchange}
 use Rattle.law_time.specs.WorkedAttempts.{second_attempt, third_attempt, third_failed, third_lost, unkept_order, working}
 use Rattle.law_time.specs.WorkedChoice.{begun, both_wait, first_over, first_sent_next, first_served, first_taken, lock_asked, lock_begun, nonce_come, restarted_beside, sealed_for_second, sealed_once, sealed_sent, second_failed, second_nonce_come, second_sent_next, second_served, segment_after_failed, segment_after_lost, segment_begun, set_before, silent_set, sleeper_begun}
-use Rattle.law_time.specs.WorkedTurns.{given_up, given_up_plug, second_sent}
-use Rattle.law_time.specs.WorkedUnits.{by_chip, by_host, host_acknowledges, message_sent, not_acknowledged}
+use Rattle.law_time.specs.WorkedEnds.{set_under_way}
+use Rattle.law_time.specs.WorkedTurns.{given_up, given_up_plug, probed, second_sent}
+use Rattle.law_time.specs.WorkedUnits.{by_chip, by_host, failed_asked, host_acknowledges, message_sent, not_acknowledged, refused, set_sent}
 
 -- ---- attempts
 
@@ -129,6 +130,22 @@ begun_before_abort = silent_set ++ Begin 2 1 1 ∷ []
 
 abbrev pub begun_unkept : List Entry
 begun_unkept = unkept_order ++ Begin 2 1 1 ∷ []
+
+-- ---- one after another
+
+-- a question is sent before the one before it has its response, and a tick before it has ended without one; and before a Set that was refused is acknowledged
+abbrev pub asked_before_end : List Entry
+asked_before_end = take 3 probed
+
+abbrev pub asked_before_silence : List Entry
+asked_before_silence = take 3 set_under_way ++ Said (codes "failed 2") ∷ Said (codes "tick 15") ∷ Time 14 ∷ failed_asked ∷ []
+
+abbrev pub asked_before_free : List Entry
+asked_before_free = Said (codes "send 2 on") ∷ set_sent ∷ refused ∷ host_acknowledges ∷ Said (codes "failed 2") ∷ failed_asked ∷ []
+
+-- a session begins before a Set has ended
+abbrev pub begun_before_end : List Entry
+begun_before_end = Said (codes "send 2 on") ∷ set_sent ∷ take 3 given_up
 
 -- ---- callback ids
 

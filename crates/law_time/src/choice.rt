@@ -1,7 +1,7 @@
 //! What the laws of choosing the next request say of worked transcripts, and of others with one thing wrong.
 
 ghost use Rattle.std.specs.Prelude.{◌≡◌, true, [], ◌∷◌};
-ghost use Rattle.law_time.specs.Choice.{NumbersCallbacks, SendsInTurn, may_number};
+ghost use Rattle.law_time.specs.Choice.{NumbersCallbacks, SendsInTurn, SendsOneByOne, may_number};
 ghost use Rattle.law_time.specs.WorkedAttempts.{begun_kept};
 ghost use Rattle.law_time.specs.WorkedChoice.{
   again_after_get,
@@ -22,10 +22,16 @@ ghost use Rattle.law_time.specs.WorkedChoice.{
   last_id_sent,
   sent_after_last,
 };
+ghost use Rattle.law_time.specs.WorkedQueue.{failed_attempts, silent_attempt};
 ghost use Rattle.law_time.specs.WorkedTurns.{copied_after_overrun};
+ghost use Rattle.law_time.specs.WorkedWaits.{answered_errands};
 ghost use Rattle.law_time.specs.WrongChoice.{
+  asked_before_end,
+  asked_before_free,
+  asked_before_silence,
   begun_asleep,
   begun_before_abort,
+  begun_before_end,
   begun_before_request,
   begun_out_of_order,
   begun_unkept,
@@ -61,7 +67,16 @@ ghost use Rattle.law_time.specs.WrongChoice.{
   set_repeated,
 };
 ghost use Rattle.law_transcript.specs.Nodes.{listing_of};
-ghost use Rattle.law_transcript.specs.Worked.{long_message, plain_exchange, repeated_exchange, restarted_host, the_lock, the_plug, the_switch};
+ghost use Rattle.law_transcript.specs.Worked.{
+  long_message,
+  lossy_exchange,
+  plain_exchange,
+  repeated_exchange,
+  restarted_host,
+  the_lock,
+  the_plug,
+  the_switch,
+};
 
 /// In worked transcripts the request that is sent where none waits is the next of its node, and the node's turn has come. An attempt begins when
 /// the one before it is over: as its request ends, though others went before it, or after 100 ticks, though the node then told that it is at work.
@@ -89,11 +104,11 @@ pub fn worked_choice()
 
 /// Each of these breaks one part of the law: where an attempt is due, the Set of an earlier line is sent again, or a Nonce Get to a node that
 /// lists no Security 0, or a message unsealed to one that does; an attempt begins while the last one is under way, a tick too early, while the
-/// node has told that it is at work, or after three; a segment is sent before the first, twice, beyond the last, or when the third attempt is over; what is sent for a nonce is not
-/// sealed; a message is sealed for no nonce, for another
-/// one, for one that was not kept or not counted, twice for one, or when its attempt is over; a node is served twice while another one has work,
-/// or before a lower one, also after a restart; and a session begins out of order, before a request or an abort, of a node that is asleep, while
-/// the last one is open, or in the tick in which the keeper has failed.
+/// node has told that it is at work, or after three; a segment is sent before the first, twice, beyond the last, or when the third attempt is
+/// over; what is sent for a nonce is not sealed; a message is sealed for no nonce, for another one, for one that was not kept or not counted,
+/// twice for one, or when its attempt is over; a node is served twice while another one has work, or before a lower one, also after a restart;
+/// and a session begins out of order, before a request or an abort, of a node that is asleep, while the last one is open, or in the tick in which
+/// the keeper has failed.
 pub fn rejected_choice()
     ensures set { SendsInTurn (listing_of (the_switch ∷ [])) set_repeated → ⊥ }
     ensures nonce_get { SendsInTurn (listing_of (the_switch ∷ [])) nonce_asked_plainly → ⊥ }
@@ -126,6 +141,25 @@ pub fn rejected_choice()
     ensures while_open { SendsInTurn (listing_of (the_switch ∷ [])) begun_while_open → ⊥ }
     ensures before_abort { SendsInTurn (listing_of (the_switch ∷ [])) begun_before_abort → ⊥ }
     ensures not_kept { SendsInTurn (listing_of (the_switch ∷ [])) begun_unkept → ⊥ }
+{}
+
+/// In worked transcripts each request is sent when the one before it is over: answered, given up by the line, in silence, or by a restart.
+pub fn worked_one_by_one()
+    ensures plain { SendsOneByOne plain_exchange }
+    ensures lossy { SendsOneByOne lossy_exchange }
+    ensures restarted { SendsOneByOne restarted_host }
+    ensures answered { SendsOneByOne answered_errands }
+    ensures failed { SendsOneByOne failed_attempts }
+    ensures silent { SendsOneByOne silent_attempt }
+{}
+
+/// Each of these breaks the law: a question is sent before the response to the one before it, a tick before that has ended in silence, and before
+/// a Set that was refused is acknowledged; and a session begins before a Set has ended.
+pub fn rejected_one_by_one()
+    ensures response { SendsOneByOne asked_before_end → ⊥ }
+    ensures silence { SendsOneByOne asked_before_silence → ⊥ }
+    ensures acknowledgement { SendsOneByOne asked_before_free → ⊥ }
+    ensures session { SendsOneByOne begun_before_end → ⊥ }
 {}
 
 /// In worked transcripts callback ids count on from 1 for each message that is sent, and not for a copy, and begin again with a host that starts;

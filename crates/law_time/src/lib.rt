@@ -25,7 +25,10 @@ pub use calm::{
     owed_stretches, rejected_calm, rejected_stretches, stuck_stretches, unkept_stretches,
     worked_calm, worked_stretches,
 };
-pub use choice::{rejected_callbacks, rejected_choice, worked_callbacks, worked_choice};
+pub use choice::{
+    rejected_callbacks, rejected_choice, rejected_one_by_one, worked_callbacks, worked_choice,
+    worked_one_by_one,
+};
 pub use queue::{rejected_queue, rejected_turns, worked_queue, worked_turns};
 pub use requests::{
     rejected_errands, rejected_interviews, rejected_questions, worked_errands, worked_interviews,
