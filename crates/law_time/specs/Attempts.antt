@@ -182,7 +182,8 @@ attempts_by_unit listing past requests unit rest attempts =
     if is_acknowledgement unit
     then with_nonces_here listing (past ++ Written Host unit ∷ []) requests.last rest (with_sign (past ++ Written Host unit ∷ []) attempts)
     else (if is_new requests.last unit
-    then attempts_by_request (is_of_attempt listing attempts.node past requests unit) (attempt_is_over listing past requests.last (clock past) attempts) unit attempts
+    then attempts_by_request (is_of_attempt listing attempts.node past requests unit)
+    (attempt_is_over listing past requests.last (clock past) attempts) unit attempts
     else attempts)
 
 -- a series begins anew with a session, after its outcome, and where the host starts

@@ -1,5 +1,5 @@
--- Which request is next (this project's own rule): an abort that is owed, then what has waited longest, then what the sessions of nodes have to send. Of these nodes
--- each is served in its turn, in cyclic order.
+-- Which request is next (this project's own rule): an abort that is owed, then what has waited longest, then what the sessions of nodes have to
+-- send. Of these nodes each is served in its turn, in cyclic order.
 use Rattle.std.specs.Prelude.{ℕ, ◌+◌, ◌-◌, ◌%◌, ◌==◌, ◌&&◌, ◌||◌, not, bytes_eq, nat_le, nat_lt, Bool, true, if◌then◌else◌, List, [], ◌∷◌, length, map, slice_index}
 use Rattle.std.specs.List.{flat_map, list_any, list_all}
 use Rattle.zw_base.specs.declared.node.TheConstants.{MAX_NODE}
@@ -57,7 +57,9 @@ parts_by over session attempts =
 abbrev pub parts_of : (ℕ → List ℕ) → List Entry → Asked → ℕ → Attempts → List Part
 parts_of listing past last now attempts =
     if runs attempts.node past now
-    then flat_map (λ command. parts_by (attempt_is_over listing past last now attempts) (session_of listing past attempts.node command) attempts) (last_command attempts.node past)
+    then flat_map
+    (λ command. parts_by (attempt_is_over listing past last now attempts) (session_of listing past attempts.node command) attempts)
+    (last_command attempts.node past)
     else []
 
 -- ---- a session that is to begin
@@ -123,8 +125,8 @@ is_in_turn listing past serving unit =
     if owes_abort serving.requests.last (clock past) then is_abort_frame unit
     else not (is_abort_frame unit) && is_next listing past serving unit (waits_before listing past serving.requests (Written Host unit)).wants
 
--- a session begins where no abort is owed and no request waits, of the node that is next, with the command that has waited longest for it; not in a tick in which the
--- keeper has failed to keep that it does
+-- a session begins where no abort is owed and no request waits, of the node that is next, with the command that has waited longest for it; not in
+-- a tick in which the keeper has failed to keep that it does
 abbrev pub begins_in_turn : (ℕ → List ℕ) → List Entry → Serving → Entry → ℕ → ℕ → Bool
 begins_in_turn listing past serving entry node command =
     not (owes_abort serving.requests.last (clock past)) && are_none (waits_before listing past serving.requests entry).wants

@@ -6,8 +6,8 @@ use Rattle.law_time.specs.Choice.{NumbersCallbacks, SendsInTurn, SendsOneByOne}
 use Rattle.law_time.specs.Unanswered.{GivesUpAfterThree}
 use Rattle.law_time.specs.Rests.{RestsWell}
 
--- its queue is full where it says so, requests are sent in their turn, one after another, and numbered, a command is given up after three attempts, and at a rest nothing
--- is left undone
+-- its queue is full where it says so, requests are sent in their turn, one after another, and numbered, a command is given up after three
+-- attempts, and at a rest nothing is left undone
 pub record IsPrompt (whole : Bool) (listing : ℕ → List ℕ) (transcript : List Entry) : Type 0 where
   pub fits : FitsQueue listing transcript
   pub turn : SendsInTurn listing transcript

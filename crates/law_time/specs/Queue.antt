@@ -11,11 +11,11 @@ use Rattle.law_transcript.specs.Answers.{before_last}
 use Rattle.law_transcript.specs.Commands.{waiting}
 use Rattle.law_transcript.specs.Nodes.{known_classes}
 use Rattle.law_transcript.specs.Restarts.{begins_refused}
-use Rattle.law_transcript.specs.Units.{Carried, request_in, sending_in}
+use Rattle.law_transcript.specs.Units.{Carried, request_in}
 use Rattle.law_time.specs.Moments.{Keeps, clock, later_of, now_at}
 use Rattle.law_time.specs.Judged.{is_data, is_acknowledgement, is_mark, is_of_air, is_of_chip, brought_here}
 use Rattle.law_time.specs.Requests.{Asked, are_none, asked, asked_after, asked_nothing, is_new, starts_anew}
-use Rattle.law_time.specs.Ends.{has_ended, is_abort_frame, owes_abort}
+use Rattle.law_time.specs.Ends.{has_ended, is_abort_frame}
 use Rattle.law_time.specs.Sessions.{runs}
 use Rattle.law_time.specs.Waking.{is_awake_sleeper}
 use Rattle.law_time.specs.Holds.{held_until}

@@ -9,7 +9,7 @@ use Rattle.zw_text.specs.declared.entry.Entry.TheVariants.{Said, Interviewed, In
 use Rattle.zw_text.specs.Transcript.{joined, shown, line_of, lines_run, lines_done, requests_done, where_same}
 use Rattle.law_transcript.specs.Lists.{shown_after}
 use Rattle.law_transcript.specs.Restarts.{since_restart, ticks_asked}
-use Rattle.law_time.specs.Moments.{Keeps, clock, now_at}
+use Rattle.law_time.specs.Moments.{Keeps, now_at}
 use Rattle.law_time.specs.Judged.{acknowledged, frames_come}
 use Rattle.law_time.specs.Requests.{asked, are_none}
 use Rattle.law_time.specs.Ends.{is_over, owes_abort}

@@ -6,7 +6,7 @@ use Rattle.zw_text.specs.declared.entry.Entry.TheVariants.{Said, Accepted, Begin
 use Rattle.law_transcript.specs.Worked.{long_message}
 use Rattle.law_time.specs.WorkedAttempts.{second_attempt, third_attempt, working}
 use Rattle.law_time.specs.WorkedEnds.{set_under_way}
-use Rattle.law_time.specs.WorkedTurns.{first_sent, given_up, given_up_plug, second_sent}
+use Rattle.law_time.specs.WorkedTurns.{first_sent, given_up, given_up_plug}
 use Rattle.law_time.specs.WorkedUnits.{abort_sent, by_chip, by_host, chip_acknowledges, delivered, failed, host_acknowledges, message_sent, nonce_asked, not_acknowledged, set_sent, taken}
 
 -- ---- attempts

@@ -5,7 +5,7 @@ use Rattle.zw_text.specs.declared.entry.Entry.TheVariants.{Said, Accepted, Begin
 use Rattle.zw_words.specs.declared.side.Side.TheVariants.{Host}
 use Rattle.law_transcript.specs.Worked.{long_message, sealed_exchange}
 use Rattle.law_time.specs.WorkedAttempts.{second_attempt, third_attempt, third_failed, third_lost, unkept_order, working}
-use Rattle.law_time.specs.WorkedChoice.{begun, both_wait, first_over, first_sent_next, first_served, first_taken, lock_asked, lock_begun, nonce_come, restarted_beside, sealed_for_second, sealed_once, sealed_sent, second_failed, second_nonce_come, second_sent_next, second_served, segment_after_failed, segment_after_lost, segment_begun, set_before, silent_set, sleeper_begun}
+use Rattle.law_time.specs.WorkedChoice.{begun, both_wait, first_over, first_sent_next, first_served, first_taken, lock_asked, lock_begun, nonce_come, restarted_beside, sealed_for_second, sealed_once, sealed_sent, second_failed, second_nonce_come, second_served, segment_after_failed, segment_after_lost, segment_begun, set_before, silent_set, sleeper_begun}
 use Rattle.law_time.specs.WorkedEnds.{set_under_way}
 use Rattle.law_time.specs.WorkedTurns.{given_up, given_up_plug, probed, second_sent}
 use Rattle.law_time.specs.WorkedUnits.{by_chip, by_host, failed_asked, host_acknowledges, message_sent, not_acknowledged, refused, set_sent}
@@ -49,7 +49,8 @@ abbrev pub first_sent_twice : List Entry
 first_sent_twice = segment_begun ++ not_acknowledged ∷ host_acknowledges ∷ first_sent_next ∷ []
 
 abbrev pub second_sent_twice : List Entry
-second_sent_twice = segment_after_lost ++ by_chip (codes "010500130200EB") ∷ host_acknowledges ∷ by_host (codes "01160013080F55E02F102701010101010101018A7725038B") ∷ []
+second_sent_twice =
+    segment_after_lost ++ by_chip (codes "010500130200EB") ∷ host_acknowledges ∷ by_host (codes "01160013080F55E02F102701010101010101018A7725038B") ∷ []
 
 abbrev pub sent_beyond : List Entry
 sent_beyond = segment_after_lost ++ by_chip (codes "010500130200EB") ∷ host_acknowledges ∷ by_host (codes "010E0013080755E02F104E43CF250383") ∷ []
@@ -67,7 +68,8 @@ sent_after_third =
 abbrev pub sent_for_nonce : List Entry
 sent_for_nonce = lock_asked ++ nonce_come ∷ host_acknowledges ∷ by_host (codes "01110013040AAA010102030405060708250277") ∷ []
 
--- a message is sealed for no nonce, for another one, for one that was not kept, also where the acknowledgement was lost, twice for one, and when its attempt is over
+-- a message is sealed for no nonce, for another one, for one that was not kept, also where the acknowledgement was lost, twice for one, and when
+-- its attempt is over
 abbrev pub sealed_for_none : List Entry
 sealed_for_none = lock_asked ++ sealed_sent ∷ []
 
@@ -111,8 +113,8 @@ second_after_restart = restarted_beside ++ take 1 sleeper_begun
 
 -- ---- sessions that begin
 
--- a session begins with a command that has not waited longest, before a request that waits, of a node that is asleep, while the last one is open, before an abort that
--- is owed, and in the tick in which the keeper has failed
+-- a session begins with a command that has not waited longest, before a request that waits, of a node that is asleep, while the last one is open,
+-- before an abort that is owed, and in the tick in which the keeper has failed
 abbrev pub begun_out_of_order : List Entry
 begun_out_of_order = take 2 given_up ++ Said (codes "set 2 off") ∷ Accepted 2 2 ∷ Begin 2 1 2 ∷ []
 
