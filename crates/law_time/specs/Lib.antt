@@ -29,6 +29,7 @@ pub mod WorkedTurns
 pub mod WorkedAttempts
 pub mod WorkedCalm
 pub mod WorkedBetween
+pub mod WorkedChoice
 pub mod WrongRequests
 pub mod WrongWaits
 pub mod WrongStretches
@@ -40,3 +41,4 @@ pub mod WrongTurns
 pub mod WrongAttempts
 pub mod WrongCalm
 pub mod WrongBetween
+pub mod WrongChoice
