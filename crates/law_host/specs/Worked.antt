@@ -7,9 +7,9 @@ use Rattle.host_orders.specs.Settings.{setting}
 use Rattle.zw_text.specs.declared.entry.Done.TheVariants as done
 use Rattle.zw_text.specs.declared.entry.Ended.TheVariants as endings
 use Rattle.zw_text.specs.declared.entry.Entry.{Entry}
-use Rattle.zw_text.specs.declared.entry.Entry.TheVariants.{Said, Accepted, Begin, Out, Store, Report, Done, Unkept, Time}
+use Rattle.zw_text.specs.declared.entry.Entry.TheVariants.{Said, Accepted, Begin, Out, Store, Report, Old, Unread, Awake, Interviewed, Done, Unkept, Time}
 use Rattle.law_transcript.specs.Worked.{plain_exchange, repeated_exchange, sealed_exchange}
-use Rattle.law_time.specs.WorkedUnits.{by_chip, by_host, chip_acknowledges, delivered, host_acknowledges, nonce_asked, taken}
+use Rattle.law_time.specs.WorkedUnits.{by_chip, by_host, chip_acknowledges, delivered, host_acknowledges, nonce_asked, notified, taken}
 use Rattle.law_host.specs.Course.{Choices}
 use Rattle.law_host.specs.Notes.{Start}
 
@@ -26,12 +26,15 @@ value_heard =
     delivered ∷ host_acknowledges ∷ Done 2 done.Delivered ∷ Time 2 ∷ by_chip (codes "01090004000203250300D5") ∷ host_acknowledges ∷
     Report 2 (setting 0 names.Switch 0) ∷ []
 
--- it is left out, entered twice, and entered again without being told
+-- it is left out, entered twice, entered as another, and entered again without being told
 abbrev pub value_left_out : List Entry
 value_left_out = take 13 value_heard
 
 abbrev pub value_twice : List Entry
 value_twice = value_heard ++ Report 2 (setting 0 names.Switch 0) ∷ []
+
+abbrev pub value_otherwise : List Entry
+value_otherwise = take 13 value_heard ++ Report 2 (setting 0 names.Switch 255) ∷ []
 
 abbrev pub value_again : List Entry
 value_again = value_heard ++ Said (codes "tick 1") ∷ Time 3 ∷ Report 2 (setting 0 names.Switch 0) ∷ []
@@ -59,6 +62,75 @@ last_session =
 -- it succeeds with the report of the first session alone
 abbrev pub ended_by_first : List Entry
 ended_by_first = take 12 last_session ++ Out 65 endings.Success ∷ Store 2 (setting 0 names.Switch 255) ∷ []
+
+-- a command of node 2 is sent, and its report says that it failed, or is not supported, or is that of another session
+abbrev pub begun : List Entry
+begun = Said (codes "set 2 on") ∷ Accepted 1 2 ∷ Begin 2 1 1 ∷ []
+
+abbrev pub after_begun : Start
+after_begun = record { before = begun; books = [] }
+
+abbrev pub judged : List ℕ → List Entry → List Entry
+judged report notes = by_chip report ∷ host_acknowledges ∷ notes
+
+abbrev pub failure_told : List Entry
+failure_told = judged (codes "010B00040002056C020102009A") (Out 1 endings.Fail ∷ [])
+
+abbrev pub unsupported_told : List Entry
+unsupported_told = judged (codes "010B00040002056C0201000098") (Out 1 endings.NoSupport ∷ [])
+
+abbrev pub other_told : List Entry
+other_told = judged (codes "010B00040002056C0202FF0064") (Old 2 2 ∷ [])
+
+-- it ends otherwise than the report says, as another command, or by the report of another session
+abbrev pub ended_otherwise : List Entry
+ended_otherwise = judged (codes "010B00040002056C020102009A") (Out 1 endings.Success ∷ [])
+
+abbrev pub ended_of_another : List Entry
+ended_of_another = judged (codes "010B00040002056C020102009A") (Out 2 endings.Fail ∷ [])
+
+abbrev pub ended_by_other : List Entry
+ended_by_other = judged (codes "010B00040002056C0202FF0064") (Out 1 endings.Success ∷ [])
+
+-- a lock has a session; its report comes openly, and is not read
+abbrev pub lock_begun : List Entry
+lock_begun = Said (codes "join 4") ∷ Interviewed 4 ∷ Said (codes "set 4 on") ∷ Accepted 1 4 ∷ Begin 4 1 1 ∷ []
+
+abbrev pub after_lock_begun : Start
+after_lock_begun = record { before = lock_begun; books = [] }
+
+abbrev pub told_openly : List Entry
+told_openly = judged (codes "010B00040004056C0201FF0061") (Unread 4 (0x6C ∷ 0x02 ∷ 0x01 ∷ 0xFF ∷ 0x00 ∷ []) ∷ [])
+
+-- it is taken for the report
+abbrev pub ended_openly : List Entry
+ended_openly = judged (codes "010B00040004056C0201FF0061") (Out 1 endings.Success ∷ Store 4 (setting 0 names.Lock 255) ∷ [])
+
+-- it comes sealed for a nonce that was given before the host started, and was kept as live
+abbrev pub after_nonce_given : Start
+after_nonce_given = record {
+  before = lock_begun;
+  books = record { node = 4; sealer = record { seen = 1; pending = []; ready = [] }; giver = record { given = 1; live = true; offers = [] } } ∷ [];
+}
+
+abbrev pub told_sealed : List ℕ
+told_sealed = codes "011F000400041998810AED115731C616E72C1D6945BFE201FE761C24E5DCC41E55"
+
+abbrev pub ended_sealed : List Entry
+ended_sealed = judged told_sealed (Out 1 endings.Success ∷ Store 4 (setting 0 names.Lock 255) ∷ [])
+
+-- ---- waking and sleep
+
+-- a node tells that it is awake, or another does
+abbrev pub woken : List Entry
+woken = notified ∷ host_acknowledges ∷ Awake 5 ∷ []
+
+abbrev pub woken_by_another : List Entry
+woken_by_another = notified ∷ host_acknowledges ∷ Awake 6 ∷ []
+
+-- a node is awake
+abbrev pub after_waking : Start
+after_waking = record { before = Awake 5 ∷ []; books = [] }
 
 -- ---- nonces that the host takes
 

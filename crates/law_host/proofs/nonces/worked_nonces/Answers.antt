@@ -3,7 +3,7 @@ use Rattle.std.specs.Prelude.{if◌then◌else◌}
 use Rattle.law_host.specs.Nonces.{IsSeal}
 use Rattle.law_host.specs.Course.{Seal}
 use Rattle.law_host.specs.Notes.{first_start}
-use Rattle.law_host.specs.Worked.{all_kept, asked_anew, given_live, given_spent, given_unspent, report_kept, spent, unspent}
+use Rattle.law_host.specs.Worked.{all_kept, after_nonce_given, asked_anew, ended_sealed, given_live, given_spent, given_unspent, report_kept, spent, unspent}
 use Rattle.law_transcript.specs.Nodes.{listing_of}
 use Rattle.law_transcript.specs.Worked.{network_key, sealed_exchange, the_lock}
 use Rattle.law_transcript.proofs.Sealing.{opened_report, sealed_set, set_code, set_nonce, set_own, set_plain, set_with}
@@ -61,4 +61,11 @@ unfolding computing
 returns-clause-spent c = record {
   choices = spent; drawn = drawn; fits = refl; in_the_end = λ whole. refl;
   nonces = record { seven = λ node number. seven_of (number == 1); offered = (refl, (refl, tt)); opened = (opened_report, tt); sealed = (is_seal, tt) };
+}
+
+pub returns-clause-kept : goal.returns-clause-kept
+unfolding computing
+returns-clause-kept c = record {
+  choices = report_kept; drawn = drawn; fits = refl; in_the_end = λ whole. refl;
+  nonces = record { seven = λ node number. seven_of (number == 1); offered = tt; opened = (opened_report, tt); sealed = tt };
 }

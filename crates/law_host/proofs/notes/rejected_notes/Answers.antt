@@ -1,11 +1,12 @@
 use Rattle.std.proofs.Common.{◌≡◌, Bool, true, false, ℕ, List, [], ◌∷◌, ◌++◌, refl}
-use Rattle.std.specs.Prelude.{Option}
+use Rattle.std.specs.Prelude.{Option, drop}
 use Rattle.law_host.specs.Course.{Choices}
 use Rattle.law_host.specs.Following.{ended_whole}
 use Rattle.law_host.specs.Notes.{course_of, first_start}
-use Rattle.law_host.specs.Worked.{after_sessions, ended_by_first, old_left_out, value_again, value_left_out, value_twice}
+use Rattle.law_host.specs.Worked.{after_begun, after_lock_begun, after_sessions, after_waking, ended_by_first, ended_by_other, ended_of_another, ended_openly, ended_otherwise, old_left_out, value_again, value_left_out, value_otherwise, value_twice, woken_by_another}
+use Rattle.law_time.specs.WrongEnds.{awake_after_link, awake_in_next_line}
 use Rattle.law_transcript.specs.Nodes.{listing_of}
-use Rattle.law_transcript.specs.Worked.{the_switch}
+use Rattle.law_transcript.specs.Worked.{the_lock, the_sensor, the_switch}
 use Rattle.law_host.proofs.Computing.{computing}
 use Rattle.law_host.proofs.Noting.{unended, unfit}
 use Rattle.law_host.proofs.notes.rejected_notes.Goals as goal
@@ -36,3 +37,48 @@ returns-clause-old c = unended [] (listing_of (the_switch ∷ [])) first_start o
 pub returns-clause-first : goal.returns-clause-first
 unfolding computing
 returns-clause-first c = unfit [] (listing_of (the_switch ∷ [])) after_sessions ended_by_first (λ choices. refl)
+
+pub returns-clause-value : goal.returns-clause-value
+unfolding computing
+returns-clause-value c = unfit [] (listing_of (the_switch ∷ [])) first_start value_otherwise (λ choices. refl)
+
+pub returns-clause-by_other : goal.returns-clause-by_other
+unfolding computing
+returns-clause-by_other c = unfit [] (listing_of (the_switch ∷ [])) after_begun ended_by_other (λ choices. refl)
+
+pub returns-clause-openly : goal.returns-clause-openly
+unfolding computing
+returns-clause-openly c = unfit [] (listing_of (the_lock ∷ [])) after_lock_begun ended_openly (λ choices. refl)
+
+pub returns-clause-woken : goal.returns-clause-woken
+unfolding computing
+returns-clause-woken c = unfit [] (listing_of (the_sensor ∷ [])) first_start woken_by_another (λ choices. refl)
+
+pub returns-clause-next_line : goal.returns-clause-next_line
+unfolding computing
+returns-clause-next_line c = unfit [] (listing_of (the_sensor ∷ [])) after_waking (drop 1 awake_in_next_line) (λ choices. refl)
+
+pub returns-clause-after_link : goal.returns-clause-after_link
+unfolding computing
+returns-clause-after_link c = unfit [] (listing_of (the_sensor ∷ [])) after_waking (drop 1 awake_after_link) (λ choices. refl)
+
+-- whether the record of the outcome was kept or not, it is that of the report and of its command
+ended_fails : (keepings : List Bool) (texts : List (Option (List ℕ)))
+    → (course_of (listing_of (the_switch ∷ [])) after_begun ended_otherwise (record { keepings = keepings; texts = texts })).fits ≡ false
+unfolding computing
+ended_fails [] texts = refl
+ended_fails (true ∷ keepings) texts = refl
+ended_fails (false ∷ keepings) texts = refl
+
+pub returns-clause-otherwise : goal.returns-clause-otherwise
+returns-clause-otherwise c = unfit [] (listing_of (the_switch ∷ [])) after_begun ended_otherwise (λ choices. ended_fails choices.keepings choices.texts)
+
+another_fails : (keepings : List Bool) (texts : List (Option (List ℕ)))
+    → (course_of (listing_of (the_switch ∷ [])) after_begun ended_of_another (record { keepings = keepings; texts = texts })).fits ≡ false
+unfolding computing
+another_fails [] texts = refl
+another_fails (true ∷ keepings) texts = refl
+another_fails (false ∷ keepings) texts = refl
+
+pub returns-clause-of_another : goal.returns-clause-of_another
+returns-clause-of_another c = unfit [] (listing_of (the_switch ∷ [])) after_begun ended_of_another (λ choices. another_fails choices.keepings choices.texts)
