@@ -1,5 +1,5 @@
 -- What a legal host does, over what it heard, from whatever its keeper kept (this project's own rule): the laws of the host alone, as one.
-use Rattle.std.specs.Prelude.{◌≡◌, ℕ, ◌==◌, ◌||◌, ◌&&◌, not, Bool, true, false, List, [], ◌∷◌, ◌++◌, map, Option, Some, None, ⊤, IfSome}
+use Rattle.std.specs.Prelude.{◌≡◌, ℕ, ◌==◌, ◌||◌, ◌&&◌, not, Bool, true, List, [], ◌∷◌, ◌++◌, Option, ⊤, IfSome}
 use Rattle.std.specs.List.{flat_map, list_any, AllByRecursion}
 use Rattle.value_store.specs.ValueText.{values_text}
 use Rattle.value_store.specs.declared.stored.Held.{Held}

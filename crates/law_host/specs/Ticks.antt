@@ -1,6 +1,6 @@
 -- What the host's own tick has it note (this project's own rule: the waits of requests and of attempts): the line gives the request up, its wait
 -- ends, and then, node by node, third attempts are over; and what it notes where the line gives up at an answer.
-use Rattle.std.specs.Prelude.{ℕ, ◌&&◌, not, nat_le, Bool, true, false, if◌then◌else◌, List, [], ◌∷◌, map}
+use Rattle.std.specs.Prelude.{ℕ, ◌&&◌, not, nat_le, Bool, if◌then◌else◌, List, map}
 use Rattle.std.specs.List.{list_any}
 use Rattle.zw_text.specs.declared.entry.Done.TheVariants as done
 use Rattle.zw_text.specs.declared.entry.Entry.{Entry}
@@ -9,7 +9,7 @@ use Rattle.law_time.specs.Moments.{clock}
 use Rattle.law_time.specs.Judged.{acknowledged}
 use Rattle.law_time.specs.Requests.{are_none, asked, failing}
 use Rattle.law_time.specs.Ends.{giving_up, silence}
-use Rattle.law_time.specs.Queue.{Due, in_order}
+use Rattle.law_time.specs.Queue.{in_order}
 use Rattle.law_host.specs.Course.{Course, each_in_turn}
 use Rattle.law_host.specs.Ends.{ends_without, gives_up_late}
 

@@ -1,6 +1,5 @@
 use Rattle.std.proofs.Common.{◌≡◌, Bool, true, false, ℕ, List, [], ◌∷◌, refl}
 use Rattle.std.specs.Prelude.{Option}
-use Rattle.law_host.specs.Course.{Choices}
 use Rattle.law_host.specs.Nonces.{UsesNonces}
 use Rattle.law_host.specs.Notes.{course_of, first_start}
 use Rattle.law_host.specs.Worked.{given_new, nonce_again}

@@ -1,11 +1,8 @@
 use Rattle.std.proofs.Common.{◌≡◌, Bool, true, false, ℕ, List, [], ◌∷◌, length, refl, sym, ◌==◌}
 use Rattle.std.specs.Prelude.{if◌then◌else◌}
 use Rattle.law_host.specs.Nonces.{IsSeal}
-use Rattle.law_host.specs.Course.{Seal}
-use Rattle.law_host.specs.Notes.{first_start}
-use Rattle.law_host.specs.Worked.{all_kept, after_nonce_given, asked_anew, ended_sealed, given_live, given_spent, given_unspent, report_kept, spent, unspent}
-use Rattle.law_transcript.specs.Nodes.{listing_of}
-use Rattle.law_transcript.specs.Worked.{network_key, sealed_exchange, the_lock}
+use Rattle.law_host.specs.Worked.{all_kept, report_kept, spent, unspent}
+use Rattle.law_transcript.specs.Worked.{network_key}
 use Rattle.law_transcript.proofs.Sealing.{opened_report, sealed_set, set_code, set_nonce, set_own, set_plain, set_with}
 use Rattle.law_host.proofs.Computing.{computing}
 use Rattle.law_host.proofs.nonces.worked_nonces.Goals as goal

@@ -1,6 +1,5 @@
-use Rattle.std.proofs.Common.{◌≡◌, Bool, true, false, ℕ, List, [], ◌∷◌, ◌++◌, refl}
+use Rattle.std.proofs.Common.{◌≡◌, Bool, true, false, ℕ, List, [], ◌∷◌, refl}
 use Rattle.std.specs.Prelude.{Option, drop}
-use Rattle.law_host.specs.Course.{Choices}
 use Rattle.law_host.specs.Following.{ended_whole}
 use Rattle.law_host.specs.Notes.{course_of, first_start}
 use Rattle.law_host.specs.Worked.{after_begun, after_lock_begun, after_sessions, after_waking, ended_by_first, ended_by_other, ended_of_another, ended_openly, ended_otherwise, old_left_out, value_again, value_left_out, value_otherwise, value_twice, woken_by_another}
