@@ -95,7 +95,8 @@ frame_notes listing past =
 
 abbrev pub ends_with : (ℕ → List ℕ) → List Entry → ℕ → Course → Course
 ends_with listing past now course =
-    let noted : Course = each_in_turn (ends_interview past) (node_interviewed (request_last past)) (with_notes (frame_notes listing past) (record course { over = true })) in
+    let ended : Course = with_notes (frame_notes listing past) (record course { over = true }) in
+    let noted : Course = each_in_turn (ends_interview past) (node_interviewed (request_last past)) ended in
     if is_called_back 0 past then noted else each_in_turn (ends_badly listing past now) (sending_in (asked past).frame) noted
 
 -- a frame that is judged here ends the request under way, where it does

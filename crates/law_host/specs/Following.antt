@@ -104,11 +104,16 @@ comes_to listing past entry course =
 
 -- ---- what an entry makes
 
--- a frame is judged where it is acknowledged; a new request is under way
+-- a new request is under way
+abbrev pub requests : (ℕ → List ℕ) → List Entry → List ℕ → Course → Course
+requests listing past unit course =
+    sends listing past unit (record course { over = false; fits = course.fits && may_be_sent listing past unit course })
+
+-- a frame is judged where it is acknowledged
 abbrev pub writes : (ℕ → List ℕ) → List Entry → List ℕ → Course → Course
 writes listing past unit course =
     if is_acknowledgement unit then each_in_turn (judges listing past (past ++ Written Host unit ∷ [])) (frame_next past) course
-    else (if is_new (asked past) unit then sends listing past unit (record course { over = false; fits = course.fits && may_be_sent listing past unit course }) else course)
+    else (if is_new (asked past) unit then requests listing past unit course else course)
 
 abbrev pub makes : (ℕ → List ℕ) → List Entry → Entry → List Entry → Course → Course
 makes listing past (Written Host unit) rest course = writes listing past unit course

@@ -33,12 +33,12 @@ is_of_outside (Device node setting) = true
 is_of_outside (Said words) = is_of_others (line_of (Said words))
 is_of_outside entry = is_of_air entry || is_of_chip entry
 
--- a unit of the chip as it came, by what stands after it
+-- a unit of the chip as it came, by what stands after it; of one that was changed, that it did not come as a frame
 abbrev pub come_as : List ℕ → List Entry → List Entry
 come_as unit (Dropped Chip ∷ rest) = []
 come_as unit (Overrun Chip ∷ rest) = []
 come_as unit (Garbled Chip changed ∷ Overrun Chip ∷ rest) = []
-come_as unit (Garbled Chip changed ∷ rest) = Written Chip changed ∷ []
+come_as unit (Garbled Chip changed ∷ rest) = Written Chip changed ∷ Garbled Chip changed ∷ []
 come_as unit rest = Written Chip unit ∷ []
 
 -- an entry as the host heard it

@@ -82,7 +82,8 @@ EachKeeps may start heard = EachAfter (Allows may) start.before heard
 -- the host answers lines, has one session of a node at a time and each command in one, keeps the rules of its link, sends and notes what it
 -- should, and nothing else; stores what is confirmed and shows what it stored; owes nothing at a rest; and its records, where they are told,
 -- say what it showed
-pub record IsHostLegal (key : List ℕ) (listing : ℕ → List ℕ) (start : Start) (whole : Bool) (heard : List Entry) (records : Option (List (List ℕ))) : Type 0 where
+pub record IsHostLegal (key : List ℕ) (listing : ℕ → List ℕ) (start : Start) (whole : Bool) (heard : List Entry)
+    (records : Option (List (List ℕ))) : Type 0 where
   pub answers : EachAfter (AnswersLine listing) start.before heard
   pub answered : whole ≡ true → NeedsNone listing (before_last (start.before ++ heard)) (line_last (start.before ++ heard))
   pub cancels : EachAfter MayCancel start.before heard

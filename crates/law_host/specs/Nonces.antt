@@ -73,7 +73,8 @@ IsOffer drawn offer = offer.nonce ≡ nonce_with drawn offer.node offer.number
 -- a message of a node opens to this for that nonce
 abbrev pub IsOpening : List ℕ → (ℕ → ℕ → List ℕ) → Opening → Type 0
 IsOpening key drawn opening =
-    unsealed_at (keys_of key) (nonce_with drawn opening.node opening.number) (record { sender = opening.node; receiver = controller }) opening.payload ≡ opening.text
+    unsealed_at (keys_of key) (nonce_with drawn opening.node opening.number) (record { sender = opening.node; receiver = controller })
+    opening.payload ≡ opening.text
 
 -- a text is sealed for its nonce, of eight bytes, under one of the host's own
 pub record IsSeal (key : List ℕ) (seal : Seal) : Type 0 where

@@ -22,8 +22,8 @@ all_kept = record { keepings = []; texts = [] }
 -- `get 2`, `tick 2`: a switch is asked for its value, and tells it
 abbrev pub value_heard : List Entry
 value_heard =
-    Said (codes "get 2") ∷ by_host (codes "01090013020225022501E6") ∷ chip_acknowledges ∷ taken ∷ host_acknowledges ∷ Said (codes "tick 2") ∷ Time 1 ∷
-    delivered ∷ host_acknowledges ∷ Done 2 done.Delivered ∷ Time 2 ∷ by_chip (codes "01090004000203250300D5") ∷ host_acknowledges ∷
+    Said (codes "get 2") ∷ by_host (codes "01090013020225022501E6") ∷ chip_acknowledges ∷ taken ∷ host_acknowledges ∷ Said (codes "tick 2") ∷
+    Time 1 ∷ delivered ∷ host_acknowledges ∷ Done 2 done.Delivered ∷ Time 2 ∷ by_chip (codes "01090004000203250300D5") ∷ host_acknowledges ∷
     Report 2 (setting 0 names.Switch 0) ∷ []
 
 -- it is left out, entered twice, entered as another, and entered again without being told
@@ -151,8 +151,8 @@ nonce_again =
 -- node 4 asks for a nonce twice, and is given the live one
 abbrev pub nonce_given : List Entry
 nonce_given =
-    nonce_asked ∷ host_acknowledges ∷ by_host (codes "01110013040A9880019E0A1249BB594F2501AC") ∷ chip_acknowledges ∷ taken ∷ host_acknowledges ∷ delivered ∷
-    host_acknowledges ∷ nonce_asked ∷ host_acknowledges ∷ []
+    nonce_asked ∷ host_acknowledges ∷ by_host (codes "01110013040A9880019E0A1249BB594F2501AC") ∷ chip_acknowledges ∷ taken ∷ host_acknowledges ∷
+    delivered ∷ host_acknowledges ∷ nonce_asked ∷ host_acknowledges ∷ []
 
 abbrev pub given_live : List Entry
 given_live = nonce_given ++ by_host (codes "01110013040A9880019E0A1249BB594F2502AF") ∷ []

@@ -7,7 +7,8 @@ ghost use Rattle.law_transcript.specs.Nodes.{listing_of};
 ghost use Rattle.law_transcript.specs.Worked.{network_key, sealed_exchange, the_lock};
 
 /// In worked transcripts the host uses nonces as it should: a message is sealed for the nonce that came for it, the live nonce is given again, and
-/// a report opens for it, also where it was given before the host started. Where one of two records of a report is not kept, both are legal: that the nonce is given again, and that the next is.
+/// a report opens for it, also where it was given before the host started. Where one of two records of a report is not kept, both are legal: that the
+/// nonce is given again, and that the next is.
 pub fn worked_nonces()
     ensures sealed { NotesWhatHappens network_key (listing_of (the_lock ∷ [])) first_start true sealed_exchange }
     ensures anew { NotesWhatHappens network_key (listing_of (the_lock ∷ [])) first_start true asked_anew }
