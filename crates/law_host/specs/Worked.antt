@@ -4,11 +4,13 @@ use Rattle.std.specs.Prelude.{ℕ, true, false, List, [], ◌∷◌, ◌++◌, c
 use Rattle.std.specs.List.{flat_map, range_with_len}
 use Rattle.zw_base.specs.declared.property.Name.TheVariants as names
 use Rattle.host_orders.specs.Settings.{setting}
+use Rattle.zw_words.specs.declared.side.Side.TheVariants.{Host, Chip}
 use Rattle.zw_text.specs.declared.entry.Done.TheVariants as done
 use Rattle.zw_text.specs.declared.entry.Ended.TheVariants as endings
+use Rattle.zw_text.specs.declared.entry.Refusal.TheVariants as refusals
 use Rattle.zw_text.specs.declared.entry.Entry.{Entry}
-use Rattle.zw_text.specs.declared.entry.Entry.TheVariants.{Said, Accepted, Begin, Out, Store, Report, Old, Unread, Awake, Interviewed, Done, Unkept, Time}
-use Rattle.law_transcript.specs.Worked.{plain_exchange, repeated_exchange, sealed_exchange}
+use Rattle.zw_text.specs.declared.entry.Entry.TheVariants.{Said, Accepted, Refused, Begin, Dropped, Garbled, Overrun, Air, Out, Store, Report, Old, Unread, Awake, Interviewed, Done, ChipFull, Unkept, Time}
+use Rattle.law_transcript.specs.Worked.{bytes, plain_exchange, repeated_exchange, sealed_exchange}
 use Rattle.law_time.specs.WorkedUnits.{by_chip, by_host, chip_acknowledges, delivered, host_acknowledges, nonce_asked, notified, taken}
 use Rattle.law_host.specs.Course.{Choices}
 use Rattle.law_host.specs.Notes.{Start}
@@ -186,3 +188,24 @@ unspent = record { keepings = true ∷ true ∷ true ∷ false ∷ []; texts = [
 
 abbrev pub spent : Choices
 spent = record { keepings = true ∷ true ∷ true ∷ true ∷ false ∷ []; texts = Some sealed_report ∷ [] }
+
+-- ---- what a host hears
+
+-- what it hears of the plain exchange
+abbrev pub plain_heard : List Entry
+plain_heard =
+    Said (codes "set 2 on") ∷ Accepted 1 2 ∷ Begin 2 1 1 ∷ by_host (codes "010E001302076C0101032501FF250177") ∷ chip_acknowledges ∷ taken ∷
+    host_acknowledges ∷ Said (codes "tick 2") ∷ Time 1 ∷ delivered ∷ host_acknowledges ∷ Time 2 ∷ by_chip (codes "010B00040002056C0201FF0067") ∷
+    host_acknowledges ∷ Out 1 endings.Success ∷ Store 2 (setting 0 names.Switch 255) ∷ []
+
+-- units of the chip are lost, overrun and changed, and a unit of the host is lost; lines ask for a frame again and wake a node
+abbrev pub mixed : List Entry
+mixed =
+    Said (codes "repeat 1") ∷ Refused refusals.NeverSent ∷ Said (codes "wake 5") ∷ Air 1 5 1 [] (0x84 ∷ 7 ∷ []) ∷ notified ∷ Dropped Chip ∷ notified ∷
+    Overrun Chip ∷ notified ∷ Garbled Chip (bytes (codes "01080004000502840776")) ∷ by_host (codes "15") ∷ notified ∷ host_acknowledges ∷ Dropped Host ∷
+    Awake 5 ∷ ChipFull ∷ Said (codes "cancel 1") ∷ Refused (refusals.NotWaiting 1) ∷ []
+
+abbrev pub mixed_heard : List Entry
+mixed_heard =
+    by_chip (codes "01080004000502840776") ∷ Garbled Chip (bytes (codes "01080004000502840776")) ∷ by_host (codes "15") ∷ notified ∷
+    host_acknowledges ∷ Dropped Host ∷ Awake 5 ∷ Said (codes "cancel 1") ∷ Refused (refusals.NotWaiting 1) ∷ []

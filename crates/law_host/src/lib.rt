@@ -10,8 +10,10 @@
 //! speak of.
 #![tactic(auto)]
 
+mod heard;
 mod nonces;
 mod notes;
 
+pub use heard::worked_heard;
 pub use nonces::{rejected_nonces, worked_nonces};
 pub use notes::{rejected_notes, worked_notes};
