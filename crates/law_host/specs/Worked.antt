@@ -45,7 +45,7 @@ value_again = value_heard ++ Said (codes "tick 1") ∷ Time 3 ∷ Report 2 (sett
 
 -- the report that comes a second time is old, and that is left out
 abbrev pub old_left_out : List Entry
-old_left_out = take 46 repeated_exchange
+old_left_out = take 35 repeated_exchange
 
 -- 64 sessions of node 2 have succeeded, of the first of which the report stands there
 abbrev pub sessions_before : List Entry

@@ -11,9 +11,11 @@
 #![tactic(auto)]
 
 mod heard;
+mod legal;
 mod nonces;
 mod notes;
 
 pub use heard::worked_heard;
+pub use legal::worked_legal;
 pub use nonces::{rejected_nonces, worked_nonces};
 pub use notes::{rejected_notes, worked_notes};
