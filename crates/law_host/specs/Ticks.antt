@@ -1,7 +1,8 @@
 -- What the host's own tick has it note (this project's own rule: the waits of requests and of attempts): the line gives the request up, its wait
 -- ends, and then, node by node, third attempts are over; and what it notes where the line gives up at an answer.
-use Rattle.std.specs.Prelude.{ℕ, ◌&&◌, not, nat_le, Bool, if◌then◌else◌, List, map}
+use Rattle.std.specs.Prelude.{ℕ, ◌&&◌, not, nat_le, Bool, if◌then◌else◌, List}
 use Rattle.std.specs.List.{list_any}
+use Rattle.std.specs.Ordering.{nat_cmp}
 use Rattle.zw_text.specs.declared.entry.Done.TheVariants as done
 use Rattle.zw_text.specs.declared.entry.Entry.{Entry}
 use Rattle.zw_text.specs.Transcript.{joined}
@@ -9,13 +10,13 @@ use Rattle.law_time.specs.Moments.{clock}
 use Rattle.law_time.specs.Judged.{acknowledged}
 use Rattle.law_time.specs.Requests.{are_none, asked, failing}
 use Rattle.law_time.specs.Ends.{giving_up, silence}
-use Rattle.law_time.specs.Queue.{in_order}
+use Rattle.law_transcript.specs.Table.{in_order}
 use Rattle.law_host.specs.Course.{Course, each_in_turn}
 use Rattle.law_host.specs.Ends.{ends_without, gives_up_late}
 
 -- the joined nodes in the order of their numbers
 abbrev pub nodes_in_order : List Entry → List ℕ
-nodes_in_order past = map (λ due. due.node) (in_order (map (λ node. record { node = node; tick = 0 }) (joined past)))
+nodes_in_order past = in_order nat_cmp (joined past)
 
 -- by a time the line has given the request up, or its wait has ended
 abbrev pub waits_out : (ℕ → List ℕ) → List Entry → ℕ → Course → Course
