@@ -1,9 +1,11 @@
 -- The host's notes: after each event stand exactly those that it makes, in order, before the next event, and none stands elsewhere (this
 -- project's own rule).
-use Rattle.std.specs.Prelude.{ℕ, ◌&&◌, not, bytes_eq, nat_lt, Bool, true, false, if◌then◌else◌, List, [], ◌∷◌, ◌++◌}
+use Rattle.std.specs.Prelude.{ℕ, ◌==◌, ◌&&◌, not, bytes_eq, nat_lt, Bool, true, false, if◌then◌else◌, List, [], ◌∷◌, ◌++◌}
 use Rattle.serial_frame.specs.declared.unit.TheConstants.{NAK}
+use Rattle.zw_base.specs.PropertyOrder.{same_property}
+use Rattle.zw_base.specs.declared.property.Setting.{Setting}
 use Rattle.zw_words.specs.declared.side.Side.TheVariants.{Host}
-use Rattle.zw_text.specs.Entry.{entry_text}
+use Rattle.zw_text.specs.Entry.{done_word, ended_word}
 use Rattle.zw_text.specs.declared.entry.Ended.{Ended}
 use Rattle.zw_text.specs.declared.entry.Ended.TheVariants.{Cancelled}
 use Rattle.zw_text.specs.declared.entry.Entry.{Entry}
@@ -12,6 +14,7 @@ use Rattle.law_transcript.specs.Commands.{waiting}
 use Rattle.law_time.specs.Moments.{clock, now_at}
 use Rattle.law_time.specs.Judged.{is_acknowledgement, is_mark}
 use Rattle.law_time.specs.Requests.{are_none, asked, is_new, starts_anew}
+use Rattle.law_time.specs.Questions.{same_bool}
 use Rattle.law_time.specs.Rests.{is_over}
 use Rattle.law_time.specs.Sessions.{is_open}
 use Rattle.law_time.specs.Waking.{is_up}
@@ -60,14 +63,34 @@ may_stand past (Unkept node) = may_begin node past
 may_stand past (QueueFull node) = true
 may_stand past entry = not (is_note entry)
 
--- two entries say the same
-abbrev pub same_entry : Entry → Entry → Bool
-same_entry first second = bytes_eq (entry_text first) (entry_text second)
+-- two settings are of one property, with one value
+abbrev pub same_setting : Setting → Setting → Bool
+same_setting first second = same_property first.property second.property && (first.value == second.value)
+
+-- two notes say the same
+abbrev pub same_note : Entry → Entry → Bool
+same_note (Out command ended) (Out other how) = (command == other) && bytes_eq (ended_word ended) (ended_word how)
+same_note (Store node setting) (Store other value) = (node == other) && same_setting setting value
+same_note (Report node setting) (Report other value) = (node == other) && same_setting setting value
+same_note (Unstored node property) (Unstored other name) = (node == other) && same_property property name
+same_note (Old node id) (Old other number) = (node == other) && (id == number)
+same_note (Unread node payload) (Unread other text) = (node == other) && bytes_eq payload text
+same_note (Awake node) (Awake other) = node == other
+same_note (Asleep node) (Asleep other) = node == other
+same_note (Interviewed node) (Interviewed other) = node == other
+same_note (InterviewFailed node) (InterviewFailed other) = node == other
+same_note (Done node how) (Done other done) = (node == other) && bytes_eq (done_word how) (done_word done)
+same_note (Neighbours node list) (Neighbours other nodes) = (node == other) && bytes_eq list nodes
+same_note (Failed node failed) (Failed other has_failed) = (node == other) && same_bool failed has_failed
+same_note (QueueFull node) (QueueFull other) = node == other
+same_note (Held node) (Held other) = node == other
+same_note (Unkept node) (Unkept other) = node == other
+same_note first second = false
 
 -- an entry is the note that stands next, where one does
 abbrev pub stands_among : List Entry → List Entry → Entry → Course → Course
 stands_among [] past entry course = record course { fits = course.fits && may_stand past entry }
-stands_among (note ∷ notes) past entry course = record course { fits = course.fits && same_entry note entry; due = notes }
+stands_among (note ∷ notes) past entry course = record course { fits = course.fits && same_note note entry; due = notes }
 
 abbrev pub stands : List Entry → Entry → Course → Course
 stands past entry course = stands_among course.due past entry course
