@@ -92,8 +92,17 @@ pub record Choices : Type 0 where
 -- the course as a host starts, with what was kept of its nonces
 abbrev pub course_from : List Book → Choices → Course
 course_from books choices = record {
-  due = []; fits = true; put = 0; over = true; ticked = 0; books = books; keepings = choices.keepings; texts = choices.texts;
-  offered = []; opened = []; sealed = [];
+  due = [];
+  fits = true;
+  put = 0;
+  over = true;
+  ticked = 0;
+  books = books;
+  keepings = choices.keepings;
+  texts = choices.texts;
+  offered = [];
+  opened = [];
+  sealed = [];
 }
 
 -- ---- notes

@@ -25,7 +25,9 @@ is_late listing past node =
 abbrev pub asks_nonce : (ℕ → List ℕ) → List Entry → ℕ → Course → Course
 asks_nonce listing past node course =
     with_sealer node (record {
-      seen = (sealer_of node course).seen; pending = map (λ command. (session_of listing past node command).message) (last_command node past); ready = [];
+      seen = (sealer_of node course).seen;
+      pending = map (λ command. (session_of listing past node command).message) (last_command node past);
+      ready = [];
     }) course
 
 -- a Nonce Report shows the nonce that was offered first

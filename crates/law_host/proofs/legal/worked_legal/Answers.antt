@@ -39,9 +39,11 @@ silent = record {
   obeys = record { answers = tt; collisions = refl; turns = record { past = []; now = []; parts = refl; are_past = tt; stands = tt } };
   wrote = refl;
   hears = record {
-    signals = []; rest = no_rest;
+    signals = [];
+    rest = no_rest;
     heard = ([], ([], (refl, (refl, record { is_rest = record { unfinished = tt; ticks = omega arith; idle = λ empty. refl }; bytes = refl; ticks = refl; starts = inl refl }))));
-    came = ([], refl); ticked = refl;
+    came = ([], refl);
+    ticked = refl;
   };
 }
 

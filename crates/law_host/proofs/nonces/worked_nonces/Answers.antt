@@ -28,41 +28,59 @@ is_seal = record { own = set_own; own_eight = refl; text = sym sealed_set }
 pub returns-clause-sealed : goal.returns-clause-sealed
 unfolding computing
 returns-clause-sealed c = record {
-  choices = report_kept; drawn = drawn; fits = refl; in_the_end = λ whole. refl;
+  choices = report_kept;
+  drawn = drawn;
+  fits = refl;
+  in_the_end = λ whole. refl;
   nonces = record { seven = λ node number. seven_of (number == 1); offered = (refl, tt); opened = (opened_report, tt); sealed = (is_seal, tt) };
 }
 
 pub returns-clause-anew : goal.returns-clause-anew
 unfolding computing
 returns-clause-anew c = record {
-  choices = all_kept; drawn = drawn; fits = refl; in_the_end = λ whole. refl;
+  choices = all_kept;
+  drawn = drawn;
+  fits = refl;
+  in_the_end = λ whole. refl;
   nonces = record { seven = λ node number. seven_of (number == 1); offered = tt; opened = tt; sealed = (is_seal, tt) };
 }
 
 pub returns-clause-live : goal.returns-clause-live
 unfolding computing
 returns-clause-live c = record {
-  choices = all_kept; drawn = drawn; fits = refl; in_the_end = λ whole. refl;
+  choices = all_kept;
+  drawn = drawn;
+  fits = refl;
+  in_the_end = λ whole. refl;
   nonces = record { seven = λ node number. seven_of (number == 1); offered = (refl, (refl, tt)); opened = tt; sealed = tt };
 }
 
 pub returns-clause-unspent : goal.returns-clause-unspent
 unfolding computing
 returns-clause-unspent c = record {
-  choices = unspent; drawn = drawn; fits = refl; in_the_end = λ whole. refl;
+  choices = unspent;
+  drawn = drawn;
+  fits = refl;
+  in_the_end = λ whole. refl;
   nonces = record { seven = λ node number. seven_of (number == 1); offered = (refl, (refl, tt)); opened = tt; sealed = (is_seal, tt) };
 }
 
 pub returns-clause-spent : goal.returns-clause-spent
 unfolding computing
 returns-clause-spent c = record {
-  choices = spent; drawn = drawn; fits = refl; in_the_end = λ whole. refl;
+  choices = spent;
+  drawn = drawn;
+  fits = refl;
+  in_the_end = λ whole. refl;
   nonces = record { seven = λ node number. seven_of (number == 1); offered = (refl, (refl, tt)); opened = (opened_report, tt); sealed = (is_seal, tt) };
 }
 
 pub returns-clause-kept : goal.returns-clause-kept
 unfolding computing
 returns-clause-kept c = record {
-  choices = report_kept; drawn = drawn; fits = refl; in_the_end = λ whole. refl;
+  choices = report_kept;
+  drawn = drawn;
+  fits = refl;
+  in_the_end = λ whole. refl;
   nonces = record { seven = λ node number. seven_of (number == 1); offered = tt; opened = (opened_report, tt); sealed = tt };
 }
