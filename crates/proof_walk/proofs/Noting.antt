@@ -1,17 +1,11 @@
 -- What a host notes, and what it answers to a line, is a note: no line, no unit of the serial line, no frame on the air, nothing of devices and no time.
 use Rattle.std.proofs.Common.{List}
-use Rattle.std.specs.List.{AllByRecursion}
-use Rattle.zw_text.specs.declared.entry.Entry.{Entry}
 use Rattle.host_model.specs.State.{HostState}
 use Rattle.host_model.specs.Events.{HostEvent, Accepts}
 use Rattle.host_model.specs.Did.{outs_all}
 use Rattle.host_model.specs.declared.out.HostOut.{HostOut}
-use Rattle.world_model.specs.Events.{answers}
-use Rattle.proof_device.proofs.HostOuts.{OutsAre, OwnIs, SharedAre, all_outs_are, answers_are}
+use Rattle.proof_device.proofs.HostOuts.{OutsAre, OwnIs, SharedAre, all_outs_are}
 use Rattle.proof_walk.specs.Outside.{IsNote}
-
-abbrev pub Notes : List Entry → Type 0
-Notes entries = AllByRecursion IsNote entries
 
 abbrev pub NoteOuts : List HostOut → Type 0
 NoteOuts puts = OutsAre IsNote puts
@@ -35,7 +29,3 @@ own_note _ = tt
 
 pub all_outs_note : (h : HostState) (events : List HostEvent) → NoteOuts (outs_all h events)
 all_outs_note h events = all_outs_are IsNote shared_note own_note h events
-
--- what is answered to the line
-pub answers_note : (h : HostState) (event : HostEvent) → Notes (answers h event)
-answers_note h event = answers_are IsNote h event (own_note event)

@@ -45,11 +45,7 @@ const STOPS: &[(usize, usize)] = &[
 ];
 
 /// A keeper over a store that holds this and fails at the call of that number and the next, so that it is closed from then on.
-fn keeper_over(
-    alloc: Global,
-    held: &[u8],
-    stop: u64,
-) -> Result<FileKeeper<MemoryStore>, NoMemory> {
+fn keeper_over(alloc: Global, held: &[u8], stop: u64) -> Result<FileKeeper<MemoryStore>, NoMemory> {
     let store = MemoryStore::new(alloc, held, &[stop, stop.saturating_add(1)])?;
     let mut keeper = FileKeeper::new(alloc, store);
     let _ = keeper.open();
@@ -89,7 +85,14 @@ fn told(alloc: Global, stop: u64) -> Result<Bytes, NoMemory> {
     let mut text = Bytes::new(alloc);
     let mut devices = switch(alloc)?;
     let held = held_after(alloc, ORDERED, b"", stop, &mut devices, &mut text)?;
-    held_after(alloc, AGAIN, held.as_slice(), NEVER, &mut devices, &mut text)?;
+    held_after(
+        alloc,
+        AGAIN,
+        held.as_slice(),
+        NEVER,
+        &mut devices,
+        &mut text,
+    )?;
     Ok(text)
 }
 
@@ -124,6 +127,10 @@ fn goes(alloc: Global, stop: u64, row: &(usize, usize)) -> bool {
 #[test]
 fn orders_are_done_once_wherever_the_program_stops(rt: HostRuntime) {
     for (at, row) in STOPS.iter().enumerate() {
-        check_row(&rt, goes(rt.alloc(), (at as u64).saturating_add(1), row), at);
+        check_row(
+            &rt,
+            goes(rt.alloc(), (at as u64).saturating_add(1), row),
+            at,
+        );
     }
 }

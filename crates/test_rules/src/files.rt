@@ -105,7 +105,8 @@ fn finds(alloc: Global, failing: &[u64], is_all: bool) -> Result<bool, NoMemory>
 #[test]
 fn what_was_kept_is_found_wherever_a_call_fails(rt: HostRuntime) -> Result<(), Fail> {
     for call in 0..CALLS {
-        let is_so = finds(rt.alloc(), &[call], true)? && finds(rt.alloc(), &[call, call + 1], false)?;
+        let is_so = finds(rt.alloc(), &[call], true)?
+            && finds(rt.alloc(), &[call, call + 1], false)?;
         check_row(&rt, is_so, call as usize);
     }
     Ok(())
@@ -118,7 +119,10 @@ fn a_keeper_that_cannot_undo_fails_from_then_on(rt: HostRuntime) -> Result<(), F
     assert!(rt; !keeps(&mut keeper, b"[2,3]")?);
     assert!(rt; !keeps(&mut keeper, b"[2,4]")?);
     assert!(rt; keeper.count() == 1 && keeper.faults() == 2);
-    let is_refused = matches!(read(rt.alloc(), &mut keeper, 0), Some(Err(KeepFault::Failed)));
+    let is_refused = matches!(
+        read(rt.alloc(), &mut keeper, 0),
+        Some(Err(KeepFault::Failed))
+    );
     assert!(rt; is_refused);
     Ok(())
 }

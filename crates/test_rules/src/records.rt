@@ -50,7 +50,11 @@ pub(crate) fn keeps<K: Keeper>(keeper: &mut K, record: &[u8]) -> Result<bool, No
 }
 
 /// What is read at a place. None where nothing is kept there.
-pub(crate) fn read<K: Keeper>(alloc: Global, keeper: &mut K, at: u64) -> Option<Result<Bytes, KeepFault>> {
+pub(crate) fn read<K: Keeper>(
+    alloc: Global,
+    keeper: &mut K,
+    at: u64,
+) -> Option<Result<Bytes, KeepFault>> {
     if at < keeper.count() {
         Some(keeper.read(alloc, at))
     } else {
