@@ -4,9 +4,10 @@
   bench/beside/scenarios.py MODEL [--program PROGRAM] [--seed S] [--count N] [--seconds T] [--kinds KIND,..] [--without-laws] [--out FOLDER]
 
 MODEL is the folder of the model, which is no part of this repository. Scenario number i, from S on, is of the kind at i in a list in which each
-kind stands as often as it weighs. The kinds of `sim` are the profiles of the model; with each second one calm stretches follow its random lines. The others are the
-commands `replay`, `events`, `include`, `check` and `audit`. What the model gives for `sim` and `replay` is judged by tools/laws_of_transcripts. With a
-program it is given the same input, and what it writes and its status are compared; drawn bytes are masked. A failing keeper is the model's alone.
+kind stands as often as it weighs. The kinds of `sim` are the profiles of the model; with each second one calm stretches follow its random lines. The
+others are the commands `replay`, `events`, `include`, `check` and `audit`. What the model gives for `sim` and `replay` is judged by
+tools/laws_of_transcripts. With a program it is given the same input, and what it writes and its status are compared; drawn bytes are masked. A failing
+keeper is the model's alone.
 
 Each violation or difference is told at once, with the file of a smaller input in FOLDER; every 100 scenarios, and at the end, a line tells the sums.
 """

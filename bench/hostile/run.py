@@ -3,8 +3,8 @@
 
   bench/hostile/run.py PROGRAM [--seed S] [--bytes N] [--seconds T] [--commands C,..] [--longest N] [--out FOLDER] [--valgrind]
 
-Run number i, from S on, gives one command an input: bytes at random, or what real runs wrote with bytes changed, left out, doubled and moved. It is
-run under a limit of time and of memory, and judged:
+Run number i, from S on, gives one command an input: bytes at random; what real runs wrote with bytes changed, left out, doubled and moved; or, for `replay`
+and `audit`, the same with whole lines and single digits, so that the lines can still be read. It is run under a limit of time and of memory, and judged:
 
   check    8 exactly where the text is not hex (with no output), 7 above 16 MiB, else 0
   audit    0 and `yes`, or 12 and one line `no LINE RULE`, 7 above 16 MiB
@@ -13,12 +13,13 @@ run under a limit of time and of memory, and judged:
   host     0 or 9, and its output is whole units of a host: good frames, ACK and NAK; 7 above 16 MiB
 
 Any other status, a signal, a word on standard error, a run that takes longer than its limit, or two runs of one input that differ (each 16th is run
-twice), is told with its seed, and the input stays in FOLDER. `--seed S --bytes 1` runs the one of seed S again. At the end it prints how many runs and bytes there were
-of each command, their statuses, and the most memory that a run held. With --valgrind each run is made under memcheck, which ends with 99 where it
-finds an error or lost memory.
+twice), is told with its seed, and the input stays in FOLDER. `--seed S --bytes 1` runs the one of seed S again. At the end it prints how many runs and
+bytes there were of each command, their statuses, and the most memory that a run held as far as looks at it every few milliseconds tell. With --valgrind
+each run is made under memcheck, which ends with 99 where it finds an error or lost memory.
 """
 import argparse
 import collections
+import importlib.util
 import os
 import random
 import re
@@ -41,6 +42,14 @@ HOST_LINES = ("set 2 on", "set 2 off", "set 2 40", "join 5", "interview 5", "int
 NAMES = re.compile(rb"badline [1-9][0-9]* (Unknown|Missing|Number|Extra|TooLong)\n\Z")
 
 
+def scenarios():
+    """The script that makes long scenarios."""
+    where = importlib.util.spec_from_file_location("scenarios", os.path.join(TOP, "bench", "scenarios", "run.py"))
+    made = importlib.util.module_from_spec(where)
+    where.loader.exec_module(made)
+    return made
+
+
 class Material:
     """What real runs wrote, and the bytes that go over the line in them."""
 
@@ -57,9 +66,11 @@ class Material:
                 if command == "sim":
                     self.see(subprocess.run([program, "sim"], input=lines, stdout=subprocess.PIPE, check=True).stdout)
         with open(os.path.join(TOP, "crates", "zwave_console", "stdin"), "rb") as file:
-            evening = file.read()
-        self.texts["sim"].append(evening)
-        self.see(subprocess.run([program, "sim"], input=evening, stdout=subprocess.PIPE, check=True).stdout)
+            self.texts["sim"].append(file.read())
+        long = scenarios()
+        self.texts["sim"] += [long.scenario(kind, 2000, MOST_READ)[0].encode() for kind in long.KINDS]
+        for lines in self.texts["sim"][-1 - len(long.KINDS):]:
+            self.see(subprocess.run([program, "sim"], input=lines, stdout=subprocess.PIPE, check=True).stdout)
 
     def see(self, transcript):
         """A transcript of `sim` gives texts for `audit` and `replay`, and the units of both sides."""
@@ -97,6 +108,34 @@ def changed(chance, data, size):
             there = chance.randrange(len(out) + 1)
             out[at:at + more] = out[there:there + more]
     return bytes(out)
+
+
+def changed_lines(chance, data, size):
+    """The first lines of about that size, as often as needed, some left out, doubled or moved, and in some a digit changed."""
+    lines = (data * (size // len(data) + 1))[:size].split(b"\n")[:-1]
+    for _ in range(1 + int(chance.expovariate(1 / (1 + len(lines) * chance.choice([0.0005, 0.005, 0.05]))))):
+        at = chance.randrange(len(lines) + 1)
+        how = chance.randrange(4)
+        if how == 0:
+            del lines[at:at + 1]
+        elif how == 1:
+            lines[at:at] = lines[at:at + chance.choice([1, 1, 3])]
+        elif how == 2 and lines:
+            there = min(len(lines) - 1, at + chance.randint(1, 3))
+            lines.insert(there, lines.pop(min(at, len(lines) - 1)))
+        elif at < len(lines):
+            lines[at] = other_digit(chance, lines[at])
+    return b"".join(line + b"\n" for line in lines)
+
+
+def other_digit(chance, line):
+    """The line with another digit in some place that has one, after its first word."""
+    places = [at for at, byte in enumerate(line) if at > line.find(b" ") and byte in b"0123456789ABCDEF"]
+    if not places:
+        return line
+    at = chance.choice(places)
+    is_hex = line.startswith((b"chip", b"h ", b"c ", b"air"))
+    return line[:at] + bytes((chance.choice(b"0123456789ABCDEF" if is_hex else b"123456789"),)) + line[at + 1:]
 
 
 def stream(chance, units, size):
@@ -142,6 +181,8 @@ class Run:
                 self.data = changed(chance, self.data, len(self.data))
         elif how < 0.1:
             self.data = chance.randbytes(size)
+        elif how < 0.7 and self.command in ("replay", "audit"):
+            self.data = changed_lines(chance, chance.choice(material.texts[self.command]), size)
         else:
             self.data = changed(chance, chance.choice(material.texts[self.command]), size)
         self.twice = seed % 16 == 0
@@ -195,8 +236,15 @@ class Judge:
     def __init__(self, options):
         self.options = options
         self.runs, self.bytes, self.ends = collections.Counter(), collections.Counter(), collections.defaultdict(collections.Counter)
-        self.held, self.longest, self.faults = collections.Counter(), collections.Counter(), 0
+        self.held, self.longest, self.faults, self.scenarios = collections.Counter(), collections.Counter(), 0, scenarios()
         os.makedirs(options.out, exist_ok=True)
+
+    def held_by(self, process):
+        """The most KB that a process held so far."""
+        try:
+            return self.scenarios.held(process)
+        except (OSError, IndexError):
+            return None
 
     def limit(self):
         """The memory that a run may have, 1 GiB, and no core file; memcheck needs more."""
@@ -216,19 +264,15 @@ class Judge:
             program = subprocess.Popen(words, stdin=source.stdout if source else given, stdout=written, stderr=told, env=env, preexec_fn=self.limit)
             if source:
                 source.stdout.close()
-            ended, is_late = None, False
-            while ended is None:
-                at, status, usage = os.wait4(program.pid, os.WNOHANG)
-                if at:
-                    ended = os.waitstatus_to_exitcode(status)
-                    self.held[run.command] = max(self.held[run.command], usage.ru_maxrss)
-                elif time.monotonic() - began > self.options.patience:
+            pause, is_late = 0.0005, False
+            while program.poll() is None:
+                self.held[run.command] = max(self.held[run.command], self.held_by(program.pid) or 0)
+                if time.monotonic() - began > self.options.patience:
                     is_late = True
                     program.kill()
-                    ended = os.waitstatus_to_exitcode(os.wait4(program.pid, 0)[1])
-                else:
-                    time.sleep(0.0005)
-            program.returncode = ended
+                time.sleep(pause)
+                pause = min(0.02, pause * 1.2)
+            ended = program.returncode
             if source:
                 source.wait()
             written.seek(0)
