@@ -1,6 +1,6 @@
 -- What is true inside a keeper, after each thing that it does.
 use Rattle.std.proofs.Common.{◌≡◌, ℕ, ◌+◌, ◌-◌, Bool, true, false, List, [], ◌∷◌, ◌++◌, length, refl, sym, ap, ◌∙◌, subst, arith, length-append}
-use Rattle.std.specs.Prelude.{Option, Some, None}
+use Rattle.std.specs.Prelude.{Option}
 use Rattle.std.specs.Io.KnownBytes.{append_known}
 use Rattle.file_keeper.specs.Lines.{IsOneLine, IsSplit, line_of, lines_of}
 use Rattle.file_keeper.specs.Holding.{Holds, IsWithin, cut_known, HasLines, IsKept, IsOpenedAs}

@@ -54,7 +54,7 @@ split_line bytes ls t s = record {
 
 -- the bytes before the next place
 pub split_next : (bytes : List ℕ) (ls ms : List (List ℕ)) (t u : List ℕ) (i : ℕ) → i < length bytes
-    → ((front : List ℕ) → IsSplit front ls t → IsSplit (front ++ get_or bytes i 0 ∷ []) ms u) → IsSplit (take i bytes) ls t → IsSplit (take (i + 1) bytes) ms u
+    → ((prefix : List ℕ) → IsSplit prefix ls t → IsSplit (prefix ++ get_or bytes i 0 ∷ []) ms u) → IsSplit (take i bytes) ls t → IsSplit (take (i + 1) bytes) ms u
 split_next bytes ls ms t u i inside goes s = subst (λ l. IsSplit l ms u) (sym (rw add-one (take-suc bytes i 0 inside))) (goes (take i bytes) s)
 
 -- and all of them

@@ -1,19 +1,19 @@
 -- What becomes of the bytes that a store holds.
-use Rattle.std.proofs.Common.{◌≡◌, ℕ, ◌+◌, ◌≤◌, List, [], ◌∷◌, ◌++◌, length, take, drop, refl, sym, ap, ◌∙◌, subst, arith, append_assoc, length-append}
+use Rattle.std.proofs.Common.{◌≡◌, ℕ, ◌+◌, List, [], ◌∷◌, ◌++◌, length, take, drop, refl, sym, ap, ◌∙◌, subst, arith, length-append}
 use Rattle.std.specs.Prelude.{Option, Some, None}
 use Rattle.std.specs.Io.KnownBytes.{append_known}
 use Rattle.std.proofs.Math.Seq.{take-append_seam, take-length}
 use Rattle.std.proofs.lemmas.List.{take-append-le, length-take-le, append-nil, take-append-drop}
-use Rattle.file_keeper.specs.Lines.{IsOneLine, line_of, lines_of}
+use Rattle.file_keeper.specs.Lines.{line_of, lines_of}
 use Rattle.file_keeper.specs.Holding.{Holds, IsWithin, cut_known, AppendsSome, HasLines, IsKept}
 use Rattle.file_keeper.proofs.Splits.{lines_of-more}
 
--- a part at the front of bytes was added, or nothing was
-pub front_added : (old new bytes : List ℕ) (n : ℕ) → new ≡ old ++ take n bytes → AppendsSome (Some old) (Some new) bytes
-front_added old new bytes n e = record { front = take n bytes; rest = drop n bytes; parts = sym (take-append-drop n bytes); added = ap Some e }
+-- a prefix of the bytes was added, or nothing was
+pub prefix_added : (old new bytes : List ℕ) (n : ℕ) → new ≡ old ++ take n bytes → AppendsSome (Some old) (Some new) bytes
+prefix_added old new bytes n e = record { prefix = take n bytes; rest = drop n bytes; parts = sym (take-append-drop n bytes); added = ap Some e }
 
 pub nothing_added : (old new bytes : List ℕ) → new ≡ old → AppendsSome (Some old) (Some new) bytes
-nothing_added old new bytes e = record { front = []; rest = bytes; parts = refl; added = ap Some (e ∙ sym (append-nil old)) }
+nothing_added old new bytes e = record { prefix = []; rest = bytes; parts = refl; added = ap Some (e ∙ sym (append-nil old)) }
 
 -- what was cut to a size holds so many bytes
 pub within_cut : (size : ℕ) (old new : Option (List ℕ)) → IsWithin size old → new ≡ cut_known size old → IsWithin size new
@@ -23,7 +23,7 @@ within_cut size (Some held) new within cut = rw cut (rw (length-take-le size hel
 -- and more are at least as many
 pub within_added : (size : ℕ) (old new : Option (List ℕ)) (bytes : List ℕ) → IsWithin size old → AppendsSome old new bytes → IsWithin size new
 within_added size None new bytes within some = rw some.added tt
-within_added size (Some held) new bytes within some = rw some.added (rw (length-append held some.front) (omega (arith, within)))
+within_added size (Some held) new bytes within some = rw some.added (rw (length-append held some.prefix) (omega (arith, within)))
 
 -- cut to that size again it is as it was after the first cut
 pub cut_again : (size : ℕ) (old cut added new : Option (List ℕ)) (bytes : List ℕ) → IsWithin size old → cut ≡ cut_known size old → AppendsSome cut added bytes
@@ -31,13 +31,13 @@ pub cut_again : (size : ℕ) (old cut added new : Option (List ℕ)) (bytes : Li
 cut_again size None cut added new bytes within first some again = rw (again, some.added, first) refl
 cut_again size (Some held) cut added new bytes within first some again =
     let len : length (take size held) ≡ size = length-take-le size held within in
-    let back : take size (take size held ++ some.front) ≡ take size held = take-append-le size (take size held) some.front (omega (arith, len)) ∙ take_itself size (take size held) len in
+    let back : take size (take size held ++ some.prefix) ≡ take size held = take-append-le size (take size held) some.prefix (omega (arith, len)) ∙ take_itself size (take size held) len in
     rw (again, some.added, first) (ap Some back)
   where
     take_itself : (n : ℕ) (l : List ℕ) → length l ≡ n → take n l ≡ l
     take_itself n l e = subst (λ k. take k l ≡ l) e (take-length l)
 
--- the lines of records are at the front of what is held
+-- what is held begins with the lines of records
 pub size_within : (held : Option (List ℕ)) (records : List (List ℕ)) (torn : List ℕ) (size : ℕ) → Holds held (lines_of records ++ torn) → size ≡ length (lines_of records) → IsWithin size held
 size_within None records torn size holds is = tt
 size_within (Some bytes) records torn size holds is = rw (holds, length-append (lines_of records) torn) (omega (arith, is))

@@ -1,5 +1,5 @@
 -- What a keeper over a store, and a store in memory, are to their callers.
-use Rattle.std.specs.Prelude.{ℕ, Bool, List, Option}
+use Rattle.std.specs.Prelude.{ℕ, Bool, List}
 
 -- the store; whether it is known what it holds; the records, the faults so far and the reads
 pub record Drawer (S : Type 0) : Type 0 where

@@ -1,5 +1,5 @@
 -- What stores hold, where they tell it; one goes on telling or not (this project's own rule).
-use Rattle.std.specs.Prelude.{◌≡◌, ℕ, ◌≤◌, List, [], ◌∷◌, ◌++◌, length, take, ⊤, Option, Some, None}
+use Rattle.std.specs.Prelude.{◌≡◌, ℕ, ◌≤◌, List, ◌++◌, length, take, ⊤, Option, Some, None}
 use Rattle.std.specs.Io.KnownBytes.{append_known}
 use Rattle.file_keeper.specs.Lines.{IsOneLine, CouldBeRecord, IsSplit, lines_of}
 
@@ -13,17 +13,17 @@ abbrev pub IsWithin : ℕ → Option (List ℕ) → Type 0
 IsWithin size None = ⊤
 IsWithin size (Some held) = size ≤ length held
 
--- so many bytes at the front
+-- the first so many bytes
 abbrev pub cut_known : ℕ → Option (List ℕ) → Option (List ℕ)
 cut_known size None = None
 cut_known size (Some held) = Some (take size held)
 
--- some bytes at the front of these were added, or none, or all
+-- a prefix of these bytes was added
 pub record AppendsSome (old new : Option (List ℕ)) (bytes : List ℕ) : Type 0 where
-  pub front : List ℕ
+  pub prefix : List ℕ
   pub rest : List ℕ
-  pub parts : bytes ≡ front ++ rest
-  pub added : new ≡ append_known old front
+  pub parts : bytes ≡ prefix ++ rest
+  pub added : new ≡ append_known old prefix
 
 -- a store holds the lines of these records and nothing else, and so it did at its last sync
 pub record HasLines (held synced : Option (List ℕ)) (records : List (List ℕ)) : Type 0 where
@@ -46,7 +46,7 @@ pub record IsOpenedAs (held : Option (List ℕ)) (lines : List (List ℕ)) : Typ
   pub split : IsSplit bytes lines torn
   pub could : CouldBeRecord torn
 
--- what a store holds ends without a line feed, and that end is none of a record
+-- what a store holds ends without a line feed, and no record begins so
 pub record IsForeign (held : Option (List ℕ)) : Type 0 where
   pub bytes : List ℕ
   pub lines : List (List ℕ)

@@ -39,7 +39,7 @@ impl<S: Store> Model for FileKeeper<S> {
 }
 
 impl<S: Store> FileKeeper<S> {
-    /// A keeper with no records, that is to be opened. It takes no memory.
+    /// A keeper with no records, that is to be opened. It does not allocate.
     #[tactic(auto, using(crate::proofs::Drawers::drawer_new))]
     pub fn new(alloc: Global, store: S) -> FileKeeper<S>
         ensures { result ≡ record { store = store; is_open = false; records = []; faults = 0; reads = 0 } }

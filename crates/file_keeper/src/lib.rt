@@ -3,7 +3,7 @@
 //! It promises that a record is kept only where its line was added and synced, that a line that could not be kept whole is
 //! cut off again or every later call fails, and that opening what a keeper left gives its records. All that is said of a
 //! `Store`; of a real file nothing is claimed.
-//! The definitions stand in `specs/`: `Lines` for the lines of records, `Holding` for what a store holds, `Drawer` for a keeper
+//! The definitions are in `specs/`: `Lines` for the lines of records, `Holding` for what a store holds, `Drawer` for a keeper
 //! and a store in memory as their callers see them.
 #![tactic(auto)]
 

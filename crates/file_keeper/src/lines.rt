@@ -60,7 +60,7 @@ pub(crate) fn is_one_line(bytes: &[u8]) -> bool
     true
 }
 
-/// Whether the bytes are none, or begin as the text of a record does.
+/// Whether there are no bytes, or they begin as the text of a record does.
 pub(crate) fn could_be_record(bytes: &[u8]) -> bool
     ensures { IsTrue result ↔ CouldBeRecord bytes.now }
 {

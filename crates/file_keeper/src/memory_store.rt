@@ -11,8 +11,8 @@ use std::alloc::Global;
 use std::marker::Model;
 use zw_base::{Bytes, Failed, List, NoMemory};
 
-/// A store that tells its bytes, and fails at the calls whose numbers, from 1, it was given. A call for which it finds no memory is a
-/// fault too; an `append` that was to fail has added the front half of its bytes.
+/// A store that tells its bytes, and fails at the calls whose numbers, from 1, it was given. A call that runs out of memory is a
+/// fault too; an `append` that was to fail has added the first half of its bytes.
 #[derive(Drop)]
 pub struct MemoryStore {
     alloc: Global,
@@ -62,7 +62,7 @@ impl MemoryStore {
         self.failing.as_slice().contains(&self.calls)
     }
 
-    // Adds the front half of the bytes, where there is memory, and counts a fault.
+    // Adds the first half of the bytes, if there is memory, and counts a fault.
     fn tear(&mut self, bytes: &[u8]) -> Result<(), Failed>
         ensures failed { OnOk result ⊥ }
         ensures torn { AppendsSome (Some self.old.held) (Some self.new.held) bytes.now }
@@ -83,8 +83,8 @@ impl MemoryStore {
     }
 }
 
-// Adds the front half of the bytes, where there is memory.
-#[tactic(auto, using(crate::proofs::Written::front_added, crate::proofs::Written::nothing_added))]
+// Adds the first half of the bytes, if there is memory.
+#[tactic(auto, using(crate::proofs::Written::prefix_added, crate::proofs::Written::nothing_added))]
 fn add_half(held: &mut Bytes, bytes: &[u8])
     ensures { AppendsSome (Some held.old) (Some held.new) bytes.now }
 {
@@ -127,7 +127,7 @@ impl Store for MemoryStore {
         ensures never_falls { self.old.faults ≤ self.new.faults }
         ensures failed { OnErr result (Rose self.old.faults self.new.faults) }
 
-        // The chosen calls fail, and others where there is no memory.
+        // The chosen calls fail, and others that run out of memory.
         ensures calls { self.new.calls ≡ raised self.old.calls }
         ensures failing { self.new.failing ≡ self.old.failing }
         ensures fails { Contains self.old.failing (raised self.old.calls) → IsErr result }
@@ -147,7 +147,7 @@ impl Store for MemoryStore {
         ensures never_falls { self.old.faults ≤ self.new.faults }
         ensures failed { OnErr result (Rose self.old.faults self.new.faults) }
 
-        // The chosen calls fail, and others where there is no memory.
+        // The chosen calls fail, and others that run out of memory.
         ensures calls { self.new.calls ≡ raised self.old.calls }
         ensures failing { self.new.failing ≡ self.old.failing }
         ensures fails { Contains self.old.failing (raised self.old.calls) → IsErr result }
@@ -171,7 +171,7 @@ impl Store for MemoryStore {
         ensures never_falls { self.old.faults ≤ self.new.faults }
         ensures failed { OnErr result (Rose self.old.faults self.new.faults) }
 
-        // The chosen calls fail, and others where there is no memory.
+        // The chosen calls fail, and others that run out of memory.
         ensures calls { self.new.calls ≡ raised self.old.calls }
         ensures failing { self.new.failing ≡ self.old.failing }
         ensures fails { Contains self.old.failing (raised self.old.calls) → IsErr result }

@@ -27,7 +27,7 @@ pub trait Store {
         ensures never_falls { faults self.old ≤ faults self.new }
         ensures failed { result ≡ Err KeepFault.Failed → Rose (faults self.old) (faults self.new) };
 
-    /// Adds the bytes at the end. Where that fails, some at their front may have been added.
+    /// Adds the bytes at the end. If that fails, a prefix of them may have been added.
     fn append(&mut self, bytes: &[u8]) -> Result<(), Failed>
         ensures added { OnOk result (held self.new ≡ append_known (held self.old) bytes.now) }
         ensures torn { OnErr result (AppendsSome (held self.old) (held self.new) bytes.now) }

@@ -1,8 +1,10 @@
--- What a host puts out speaks of no change of a device either.
-use Rattle.std.proofs.Common.{ℕ, Bool, true, false, Option, Some, None, List, [], ◌∷◌, ◌++◌, sym, subst}
+-- What a host puts out at each event and answers to a line, gone over once for all laws: units, the entry of the event itself, and the entries that events share.
+use Rattle.std.proofs.Common.{ℕ, Bool, true, false, Option, Some, None, List, [], ◌∷◌, ◌+◌, ◌++◌, length}
 use Rattle.std.specs.List.{AllByRecursion}
 use Rattle.zw_base.proofs.Each.{all-append}
 use Rattle.zw_base.specs.declared.property.Setting.{Setting}
+use Rattle.zw_text.specs.declared.entry.Done.{Done}
+use Rattle.zw_text.specs.declared.entry.Ended.TheVariants as ended
 use Rattle.zw_text.specs.declared.entry.Entry.{Entry}
 use Rattle.zw_text.specs.declared.entry.Entry.TheVariants as entry
 use Rattle.chip_functions.specs.declared.response.Response.TheVariants.{GetRoutingInfo, IsFailedNode as failed_node}
@@ -26,196 +28,187 @@ use Rattle.host_node.specs.declared.attempt.AttemptEnd.{AttemptEnd}
 use Rattle.host_node.specs.declared.attempt.AttemptEnd.TheVariants.{NoneRan, Again, Unanswered}
 use Rattle.host_model.specs.State.{HostState, node_of, command_at}
 use Rattle.host_model.specs.Sessions.{open_command, settings_with}
-use Rattle.host_model.specs.Ends.{PartEnd, Good as part_good, Passed_over, Bad, part_end, asleep_entry, out_entry, attempt_entries, part_entries, neighbours_entry, failed_entry, task_entries, end_entries, end_entries_if}
+use Rattle.host_model.specs.Ends.{PartEnd, Good as part_good, Passed_over, Bad, part_end, done_of, asleep_entry, out_entry, attempt_entries, part_entries, neighbours_entry, failed_entry, task_entries, end_entries, end_entries_if}
 use Rattle.host_model.specs.After.{after, requests_do, is_full, is_held, gives_up, line_ticked}
 use Rattle.host_model.specs.Outs.{answer_to, copy_out, noted, request_entries, failing_entries, dropped_if, stored_entries, held_entries, ended_of, outs}
-use Rattle.host_model.specs.Events.{HostEvent, Accepts, Cancels, Joins, Queues, Queues_interview, Queues_probe, Hears, Requests_do, Interviews, Interview_unkept, Unreads, Is_unkept, Reports_old, Works, Finishes, Offers, Gives, Spends, Spends_unread, Takes_nonce, Notifies, Resends, Hears_value, Has_no_room, Line_ticks, Node_ticks, Queues_no_more, Drops_no_more, Submits_abort, Submits_front, Starts, Gives_text, Gives_segment, Begins, Begin_unkept}
+use Rattle.host_model.specs.Events.{HostEvent, Accepts, Cancels, Hears, Requests_do, Interviews, Interview_unkept, Unreads, Is_unkept, Reports_old, Finishes, Offers, Gives, Spends_unread, Notifies, Resends, Hears_value, Has_no_room, Line_ticks, Node_ticks, Drops_no_more, Submits_abort, Submits_front, Starts, Gives_text, Gives_segment, Begins, Begin_unkept}
 use Rattle.host_model.specs.Did.{outs_all}
 use Rattle.host_model.specs.declared.out.HostOut.{HostOut}
 use Rattle.host_model.specs.declared.out.HostOut.TheVariants.{Write, Note}
-use Rattle.outside_model.specs.State.{Outside}
-use Rattle.outside_model.specs.Events.{Host_notes, Host_begins, Host_writes, happens, entries, outcome}
-use Rattle.outside_model.specs.Did.{happens_all, entries_all}
-use Rattle.outside_model.proofs.Doing.{entries_all-append}
-use Rattle.world_model.specs.State.{begun_in, noted_by, routed, routed_one}
-use Rattle.world_model.specs.Events.{answers, notes}
-use Rattle.proof_device.proofs.Others.{IsOther, Others, stamp_other, write_other}
+use Rattle.world_model.specs.Events.{answers}
 
--- ---- ends of requests and attempts
+-- its entry, where it is one, is so
+abbrev pub OutIs : (Entry → Type 0) → HostOut → Type 0
+OutIs Is (Write unit) = Unit {0}
+OutIs Is (Note e) = Is e
 
-asleep_other : (fell : Bool) (n : ℕ) → Others (asleep_entry fell n)
-asleep_other true n = (tt, tt)
-asleep_other false n = tt
+abbrev pub OutsAre : (Entry → Type 0) → List HostOut → Type 0
+OutsAre Is puts = AllByRecursion (OutIs Is) puts
 
-out_other : (command : Option ℕ) → Others (out_entry command)
-out_other None = tt
-out_other (Some command) = (tt, tt)
+-- the entry of the event itself is so, or the answer to the line
+abbrev pub OwnIs : (Entry → Type 0) → HostEvent → Type 0
+OwnIs Is (Accepts order carriage) = (number : ℕ) → Is (entry.Accepted number order.node)
+OwnIs Is (Cancels command) = Is (entry.Out command ended.Cancelled)
+OwnIs Is (Interviews n listens classes update) = Is (entry.Interviewed n)
+OwnIs Is (Interview_unkept n update) = Is (entry.Unkept n)
+OwnIs Is (Unreads n payload) = Is (entry.Unread n payload)
+OwnIs Is (Is_unkept n) = Is (entry.Unkept n)
+OwnIs Is (Reports_old n id) = Is (entry.Old n id)
+OwnIs Is (Finishes n session id command status wake_request) = Is (entry.Out command (ended_of status))
+OwnIs Is (Spends_unread n payload) = Is (entry.Unread n payload)
+OwnIs Is (Notifies n) = Is (entry.Awake n)
+OwnIs Is (Hears_value n setting) = Is (entry.Report n setting)
+OwnIs Is (Has_no_room n property) = Is (entry.Unstored n property)
+OwnIs Is (Begins n session command) = Is (entry.Begin n session command)
+OwnIs Is (Begin_unkept n) = Is (entry.Unkept n)
+OwnIs Is event = Unit {0}
 
-attempt_other : (n : ℕ) (end : AttemptEnd) (command : Option ℕ) → Others (attempt_entries n end command)
-attempt_other n NoneRan command = tt
-attempt_other n Again command = tt
-attempt_other n (Unanswered fell) command = all-append IsOther (out_entry command) (asleep_entry fell n) (out_other command) (asleep_other fell n)
+-- the entries that events share are so: how a request or an attempt ended, what a session confirmed, that a node is held, and that the queue is full
+pub record SharedAre (Is : Entry → Type 0) : Type 0 where
+  pub unanswered : (command : ℕ) → Is (entry.Out command ended.Unanswered)
+  pub asleep : (n : ℕ) → Is (entry.Asleep n)
+  pub done : (n : ℕ) (how : Done) → Is (entry.Done n how)
+  pub uninterviewed : (n : ℕ) → Is (entry.InterviewFailed n)
+  pub neighbours : (n : ℕ) (nodes : List ℕ) → Is (entry.Neighbours n nodes)
+  pub failed : (n : ℕ) (is_failed : Bool) → Is (entry.Failed n is_failed)
+  pub stored : (n : ℕ) (setting : Setting) → Is (entry.Store n setting)
+  pub held : (n : ℕ) → Is (entry.Held n)
+  pub full : (n : ℕ) → Is (entry.QueueFull n)
 
-part_other : (h : HostState) (n : ℕ) (end : PartEnd) → Others (part_entries h n end)
-part_other h n part_good = tt
-part_other h n Passed_over = tt
-part_other h n Bad = attempt_other n (attempt_end (node_of h n)) (open_command (node_of h n))
+module _ (Is : Entry → Type 0) (shared : SharedAre Is) where
+  abbrev Are : List Entry → Type 0
+  Are entries = AllByRecursion Is entries
 
-neighbours_other : (n : ℕ) (how : How) → Others (neighbours_entry n how)
-neighbours_other n (AtResponse (GetRoutingInfo nodes)) = (tt, tt)
-neighbours_other n _ = tt
+  -- ---- ends of requests and attempts
 
-failed_other : (n : ℕ) (how : How) → Others (failed_entry n how)
-failed_other n (AtResponse (failed_node failed)) = (tt, tt)
-failed_other n _ = tt
+  asleep_is : (fell : Bool) (n : ℕ) → Are (asleep_entry fell n)
+  asleep_is true n = (shared.asleep n, tt)
+  asleep_is false n = tt
 
-task_other : (h : HostState) (task : Task) (how : How) → Others (task_entries h task how)
-task_other h (Plain n payload) how = (tt, tt)
-task_other h (NoMore n) how = asleep_other (falls_asleep (node_of h n)) n
-task_other h (Second n) how = (tt, tt)
-task_other h (Neighbours n) how = neighbours_other n how
-task_other h (IsFailed n) how = failed_other n how
-task_other h _ how = tt
+  out_is : (command : Option ℕ) → Are (out_entry command)
+  out_is None = tt
+  out_is (Some command) = (shared.unanswered command, tt)
 
-purpose_other : (h : HostState) (purpose : Purpose) (how : How) → Others (end_entries h (record { purpose = purpose; how = how }))
-purpose_other h (Attempt n more payload) how = part_other h n (part_end more how)
-purpose_other h (Housekeeping task) how = task_other h task how
-purpose_other h Abort how = tt
+  attempt_are : (n : ℕ) (end : AttemptEnd) (command : Option ℕ) → Are (attempt_entries n end command)
+  attempt_are n NoneRan command = tt
+  attempt_are n Again command = tt
+  attempt_are n (Unanswered fell) command = all-append Is (out_entry command) (asleep_entry fell n) (out_is command) (asleep_is fell n)
 
-end_other : (h : HostState) (end : Option End) → Others (end_entries_if h end)
-end_other h None = tt
-end_other h (Some end) = purpose_other h end.purpose end.how
+  part_are : (h : HostState) (n : ℕ) (end : PartEnd) → Are (part_entries h n end)
+  part_are h n part_good = tt
+  part_are h n Passed_over = tt
+  part_are h n Bad = attempt_are n (attempt_end (node_of h n)) (open_command (node_of h n))
 
-failing_other : (b : Bool) (h : HostState) → Others (failing_entries b h)
-failing_other true h = end_other (requests_do h request_fails) (end_at h.requests request_fails)
-failing_other false h = tt
+  neighbours_are : (n : ℕ) (how : How) → Are (neighbours_entry n how)
+  neighbours_are n (AtResponse (GetRoutingInfo nodes)) = (shared.neighbours n nodes, tt)
+  neighbours_are n _ = tt
 
-dropped_other : (b : Bool) (n : ℕ) → Others (dropped_if b n)
-dropped_other true n = (tt, tt)
-dropped_other false n = tt
+  failed_is : (n : ℕ) (how : How) → Are (failed_entry n how)
+  failed_is n (AtResponse (failed_node failed)) = (shared.failed n failed, tt)
+  failed_is n _ = tt
 
-held_other : (n : ℕ) (b : Bool) → Others (held_entries n b)
-held_other n true = (tt, tt)
-held_other n false = tt
+  task_are : (h : HostState) (task : Task) (how : How) → Are (task_entries h task how)
+  task_are h (Plain n payload) how = (shared.done n (done_of how), tt)
+  task_are h (NoMore n) how = asleep_is (falls_asleep (node_of h n)) n
+  task_are h (Second n) how = (shared.uninterviewed n, tt)
+  task_are h (Neighbours n) how = neighbours_are n how
+  task_are h (IsFailed n) how = failed_is n how
+  task_are h _ how = tt
 
-stored_other : (n : ℕ) (settings : List Setting) → Others (stored_entries n settings)
-stored_other n [] = tt
-stored_other n (s ∷ settings) = (tt, stored_other n settings)
+  purpose_are : (h : HostState) (purpose : Purpose) (how : How) → Are (end_entries h (record { purpose = purpose; how = how }))
+  purpose_are h (Attempt n more payload) how = part_are h n (part_end more how)
+  purpose_are h (Housekeeping task) how = task_are h task how
+  purpose_are h Abort how = tt
 
--- ---- what is put out
+  end_are : (h : HostState) (end : Option End) → Are (end_entries_if h end)
+  end_are h None = tt
+  end_are h (Some end) = purpose_are h end.purpose end.how
 
-abbrev IsOtherOut : HostOut → Type 0
-IsOtherOut (Write unit) = Unit {0}
-IsOtherOut (Note e) = IsOther e
+  failing_are : (gives : Bool) (h : HostState) → Are (failing_entries gives h)
+  failing_are true h = end_are (requests_do h request_fails) (end_at h.requests request_fails)
+  failing_are false h = tt
 
-abbrev OtherOuts : List HostOut → Type 0
-OtherOuts puts = AllByRecursion IsOtherOut puts
+  dropped_are : (full : Bool) (n : ℕ) → Are (dropped_if full n)
+  dropped_are true n = (shared.full n, tt)
+  dropped_are false n = tt
 
-noted_others : (told : List Entry) → Others told → OtherOuts (noted told)
-noted_others [] others = tt
-noted_others (e ∷ told) others = (others.0, noted_others told others.1)
+  held_are : (n : ℕ) (held : Bool) → Are (held_entries n held)
+  held_are n true = (shared.held n, tt)
+  held_are n false = tt
 
-answer_others : (item : Item) → OtherOuts (answer_to item)
-answer_others (Good (Framed f)) = (tt, tt)
-answer_others (Good Ack) = tt
-answer_others (Good Nak) = tt
-answer_others (Good Can) = tt
-answer_others (Refused (BadSum want got)) = (tt, tt)
-answer_others (Refused (BadKind x)) = (tt, tt)
-answer_others (Refused (Stray x)) = tt
-answer_others (Refused (BadLength n)) = tt
-answer_others (Refused Aborted) = tt
+  stored_are : (n : ℕ) (settings : List Setting) → Are (stored_entries n settings)
+  stored_are n [] = tt
+  stored_are n (setting ∷ settings) = (shared.stored n setting, stored_are n settings)
 
-copy_others : (copy : Option FrameParts) → OtherOuts (copy_out copy)
-copy_others None = tt
-copy_others (Some f) = (tt, tt)
+  -- ---- what is put out
 
-outs_other : (h : HostState) (event : HostEvent) → OtherOuts (outs h event)
-outs_other h (Accepts order carriage) = tt
-outs_other h (Cancels command) = tt
-outs_other h (Joins n) = tt
-outs_other h (Queues task) = tt
-outs_other h (Queues_interview n) = tt
-outs_other h Queues_probe = tt
-outs_other h (Hears item) = answer_others item
-outs_other h (Requests_do event moment) = noted_others (request_entries h event) (end_other (requests_do h event) (end_at h.requests event))
-outs_other h (Interviews n listens classes update) = (tt, tt)
-outs_other h (Interview_unkept n update) = (tt, tt)
-outs_other h (Unreads n payload) = (tt, tt)
-outs_other h (Is_unkept n) = (tt, tt)
-outs_other h (Reports_old n id) = (tt, tt)
-outs_other h (Works n id) = tt
-outs_other h (Finishes n session id command status wake_request) =
-    noted_others (entry.Out command (ended_of status) ∷ (stored_entries n (settings_with status (command_at h.commands command)) ++ held_entries n (is_held h n wake_request))) (
-      tt,
-      all-append IsOther (stored_entries n (settings_with status (command_at h.commands command))) (held_entries n (is_held h n wake_request))
-          (stored_other n (settings_with status (command_at h.commands command))) (held_other n (is_held h n wake_request)),
-    )
-outs_other h (Offers n) = noted_others (dropped_if (is_full h) n) (dropped_other (is_full h) n)
-outs_other h (Gives n drawn) = noted_others (dropped_if (is_full h) n) (dropped_other (is_full h) n)
-outs_other h (Spends n) = tt
-outs_other h (Spends_unread n payload) = (tt, tt)
-outs_other h (Takes_nonce n seen text) = tt
-outs_other h (Notifies n) = (tt, tt)
-outs_other h (Resends n payload) = noted_others (dropped_if (is_full h) n) (dropped_other (is_full h) n)
-outs_other h (Hears_value n setting) = (tt, tt)
-outs_other h (Has_no_room n property) = (tt, tt)
-outs_other h Line_ticks =
-    all-append IsOtherOut (copy_out (copy_due h.side.turn)) (noted (failing_entries (gives_up h.side.turn (tick_side h.side).turn) (line_ticked h)))
-    (copy_others (copy_due h.side.turn))
-    (noted_others (failing_entries (gives_up h.side.turn (tick_side h.side).turn) (line_ticked h)) (failing_other (gives_up h.side.turn (tick_side h.side).turn) (line_ticked h)))
-outs_other h (Node_ticks n) = noted_others (attempt_entries n (tick_end (node_of h n)) (open_command (node_of h n))) (attempt_other n (tick_end (node_of h n)) (open_command (node_of h n)))
-outs_other h (Queues_no_more n) = tt
-outs_other h (Drops_no_more n) = (tt, tt)
-outs_other h Submits_abort = (tt, tt)
-outs_other h Submits_front = (tt, tt)
-outs_other h (Starts n plan more payload) = (tt, tt)
-outs_other h (Gives_text n payload) = (tt, tt)
-outs_other h (Gives_segment n more payload) = (tt, tt)
-outs_other h (Begins n session command) = (tt, tt)
-outs_other h (Begin_unkept n) = (tt, tt)
+  noted_are : (told : List Entry) → Are told → OutsAre Is (noted told)
+  noted_are [] are = tt
+  noted_are (e ∷ told) are = (are.0, noted_are told are.1)
 
-all_outs_other : (h : HostState) (events : List HostEvent) → OtherOuts (outs_all h events)
-all_outs_other h [] = tt
-all_outs_other h (event ∷ events) = all-append IsOtherOut (outs h event) (outs_all (after h event) events) (outs_other h event) (all_outs_other (after h event) events)
+  answer_are : (item : Item) → OutsAre Is (answer_to item)
+  answer_are (Good (Framed f)) = (tt, tt)
+  answer_are (Good Ack) = tt
+  answer_are (Good Nak) = tt
+  answer_are (Good Can) = tt
+  answer_are (Refused (BadSum want got)) = (tt, tt)
+  answer_are (Refused (BadKind x)) = (tt, tt)
+  answer_are (Refused (Stray x)) = tt
+  answer_are (Refused (BadLength n)) = tt
+  answer_are (Refused Aborted) = tt
 
--- ---- where it is entered
+  copy_are : (copy : Option FrameParts) → OutsAre Is (copy_out copy)
+  copy_are None = tt
+  copy_are (Some f) = (tt, tt)
 
-pub note_other : (w : Outside) (e : Entry) → IsOther e → Others (entries w (Host_notes e))
-unfolding outcome
-note_other w e other = stamp_other w.outer (e ∷ []) (other, tt)
+  -- after the end of a session
+  pub session_are : (n : ℕ) (settings : List Setting) (held : Bool) → OutsAre Is (noted (stored_entries n settings ++ held_entries n held))
+  session_are n settings held =
+      noted_are (stored_entries n settings ++ held_entries n held)
+      (all-append Is (stored_entries n settings) (held_entries n held) (stored_are n settings) (held_are n held))
 
-noted_other : (w : Outside) (begun : Option (ℕ × ℕ)) (e : Entry) → IsOther e → Others (entries_all w (noted_by begun e))
-unfolding outcome
-noted_other w None e other = all-append IsOther (entries w (Host_notes e)) [] (note_other w e other) tt
-noted_other w (Some begun) e other =
-    all-append IsOther (entries (happens w (Host_begins begun.0 begun.1)) (Host_notes e)) [] (note_other (happens w (Host_begins begun.0 begun.1)) e other) tt
+  pub outs_are : (h : HostState) (event : HostEvent) → OwnIs Is event → OutsAre Is (outs h event)
+  outs_are h (Hears item) own = answer_are item
+  outs_are h (Requests_do event moment) own = noted_are (request_entries h event) (end_are (requests_do h event) (end_at h.requests event))
+  outs_are h (Interviews n listens classes update) own = (own, tt)
+  outs_are h (Interview_unkept n update) own = (own, tt)
+  outs_are h (Unreads n payload) own = (own, tt)
+  outs_are h (Is_unkept n) own = (own, tt)
+  outs_are h (Reports_old n id) own = (own, tt)
+  outs_are h (Finishes n session id command status wake_request) own =
+      (own, session_are n (settings_with status (command_at h.commands command)) (is_held h n wake_request))
+  outs_are h (Offers n) own = noted_are (dropped_if (is_full h) n) (dropped_are (is_full h) n)
+  outs_are h (Gives n drawn) own = noted_are (dropped_if (is_full h) n) (dropped_are (is_full h) n)
+  outs_are h (Spends_unread n payload) own = (own, tt)
+  outs_are h (Notifies n) own = (own, tt)
+  outs_are h (Resends n payload) own = noted_are (dropped_if (is_full h) n) (dropped_are (is_full h) n)
+  outs_are h (Hears_value n setting) own = (own, tt)
+  outs_are h (Has_no_room n property) own = (own, tt)
+  outs_are h Line_ticks own =
+      let gives = gives_up h.side.turn (tick_side h.side).turn in
+      all-append (OutIs Is) (copy_out (copy_due h.side.turn)) (noted (failing_entries gives (line_ticked h)))
+      (copy_are (copy_due h.side.turn)) (noted_are (failing_entries gives (line_ticked h)) (failing_are gives (line_ticked h)))
+  outs_are h (Node_ticks n) own =
+      let end = tick_end (node_of h n) in
+      let command = open_command (node_of h n) in
+      noted_are (attempt_entries n end command) (attempt_are n end command)
+  outs_are h (Drops_no_more n) own = (shared.full n, tt)
+  outs_are h Submits_abort own = (tt, tt)
+  outs_are h Submits_front own = (tt, tt)
+  outs_are h (Starts n plan more payload) own = (tt, tt)
+  outs_are h (Gives_text n payload) own = (tt, tt)
+  outs_are h (Gives_segment n more payload) own = (tt, tt)
+  outs_are h (Begins n session command) own = (own, tt)
+  outs_are h (Begin_unkept n) own = (own, tt)
+  outs_are h event own = tt
 
-one_other : (w : Outside) (put : HostOut) → IsOtherOut put → Others (entries_all w (routed_one put))
-one_other w (Write unit) other = all-append IsOther (entries w (Host_writes unit)) [] (write_other w unit) tt
-one_other w (Note e) other = noted_other w (begun_in e) e other
-
-routed_other : (w : Outside) (puts : List HostOut) → OtherOuts puts → Others (entries_all w (routed puts))
-routed_other w [] others = tt
-routed_other w (put ∷ puts) others =
-    subst (λ (l : List Entry). Others l) (sym (entries_all-append w (routed_one put) (routed puts)))
-    (all-append IsOther (entries_all w (routed_one put)) (entries_all (happens_all w (routed_one put)) (routed puts))
-    (one_other w put others.0) (routed_other (happens_all w (routed_one put)) puts others.1))
-
--- what the host does
-pub host_other : (w : Outside) (h : HostState) (events : List HostEvent) → Others (entries_all w (routed (outs_all h events)))
-host_other w h events = routed_other w (outs_all h events) (all_outs_other h events)
-
-notes_other : (w : Outside) (told : List Entry) → Others told → Others (entries_all w (notes told))
-notes_other w [] others = tt
-notes_other w (e ∷ told) others =
-    all-append IsOther (entries w (Host_notes e)) (entries_all (happens w (Host_notes e)) (notes told)) (note_other w e others.0) (notes_other (happens w (Host_notes e)) told others.1)
-
-answers_others : (h : HostState) (event : HostEvent) → Others (answers h event)
-answers_others h (Accepts order carriage) = (tt, tt)
-answers_others h (Cancels command) = (tt, tt)
-answers_others h _ = tt
+  pub all_outs_are : ((event : HostEvent) → OwnIs Is event) → (h : HostState) (events : List HostEvent) → OutsAre Is (outs_all h events)
+  all_outs_are own h [] = tt
+  all_outs_are own h (event ∷ events) =
+      all-append (OutIs Is) (outs h event) (outs_all (after h event) events) (outs_are h event (own event)) (all_outs_are own (after h event) events)
 
 -- what is answered to the line
-pub answered_other : (w : Outside) (h : HostState) (event : HostEvent) → Others (entries_all w (notes (answers h event)))
-answered_other w h event = notes_other w (answers h event) (answers_others h event)
+pub answers_are : (Is : Entry → Type 0) (h : HostState) (event : HostEvent) → OwnIs Is event → AllByRecursion Is (answers h event)
+answers_are Is h (Accepts order carriage) own = (own (length h.commands + 1), tt)
+answers_are Is h (Cancels command) own = (own, tt)
+answers_are Is h event own = tt

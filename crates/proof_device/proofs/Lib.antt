@@ -4,6 +4,7 @@ pub mod GoingOn
 pub mod Once
 pub mod Others
 pub mod HostOuts
+mod HostOthers
 pub mod Telling
 pub mod Told
 pub mod Showing

@@ -32,7 +32,7 @@ use Rattle.law_transcript.specs.Once.{sessions_by}
 use Rattle.proof_device.specs.GoingOn.{IsSame, AreSame, GoOn, TakesOnce}
 use Rattle.proof_device.specs.Showing.{AreApart, Shows, AllShow, AreUnchanged, IsShown, NeverFalls}
 use Rattle.proof_device.proofs.Others.{Others, IsOther, none_made, made_both}
-use Rattle.proof_device.proofs.HostOuts.{note_other, host_other, answered_other}
+use Rattle.proof_device.proofs.HostOthers.{note_other, host_other, answered_other}
 use Rattle.proof_device.proofs.Telling.{TellsOne, Grows}
 use Rattle.proof_device.proofs.Told.{own_told}
 

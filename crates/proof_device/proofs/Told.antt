@@ -150,6 +150,6 @@ module _ (grows : Grows) where
   outcome_told w (Stalls ticks) own = still w.devices (outcome w (Stalls ticks)).entries tt
   outcome_told w (Cuts size) own = still w.devices (outcome w (Cuts size)).entries tt
 
-  -- an event that is invalid of the host's
+  -- an event that is not the host's
   pub own_told : (w : Outside) (event : OuterEvent) → is_own event ≡ true → TellsOne (λ n. made n (entries w event)) w.devices (devices_after w event)
   own_told w event own = tells_as _ _ w.devices (devices_after w event) (λ n. made_stamped n (outcome w event).outer (outcome w event).entries) (outcome_told w event own)

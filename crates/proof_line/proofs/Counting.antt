@@ -5,13 +5,12 @@ use Rattle.std.specs.List.{flat_map, AllByRecursion}
 use Rattle.std.proofs.lemmas.List.{length-append}
 use Rattle.std.proofs.lemmas.List.Elements.{filter-append}
 use Rattle.std.proofs.lemmas.Grind.{flat_map-append}
-use Rattle.zw_base.specs.declared.property.Setting.{Setting}
+use Rattle.zw_base.proofs.Each.{all-weaker}
 use Rattle.serial_frame.specs.declared.unit.Unit.{Unit as LineUnit}
 use Rattle.serial_frame.specs.Items.{unit_text}
-use Rattle.serial_pipes.specs.State.{WayState, fits, mark_for, garbled}
+use Rattle.serial_pipes.specs.State.{WayState, mark_for}
 use Rattle.serial_pipes.specs.Events.{told, told_by}
 use Rattle.serial_pipes.specs.declared.marks.Mark.{Mark}
-use Rattle.serial_pipes.specs.declared.marks.Mark.TheVariants.{Free, Lost, Changed}
 use Rattle.zw_words.specs.declared.side.Side.{Side}
 use Rattle.zw_words.specs.declared.side.Side.TheVariants.{Host as by_host, Chip as by_chip}
 use Rattle.zw_text.specs.declared.line.Line.{Line}
@@ -25,6 +24,7 @@ use Rattle.device_sim.specs.State.{State}
 use Rattle.outside_model.specs.Devices.{shown_entries}
 use Rattle.outside_model.specs.Events.{cleared_entries}
 use Rattle.proof_walk.specs.Outside.{IsNote, IsOfAir}
+use Rattle.proof_walk.proofs.Entered.{IsMark, told_by_marks, IsCleared, all_cleared, IsShown, all_shown}
 
 -- ---- more entries
 
@@ -92,29 +92,29 @@ air_uncounted (entry.Said words) of_air = absurd of_air
 air_uncounted (entry.Written side unit) of_air = absurd of_air
 air_uncounted e of_air = tt
 
-overrun_uncounted : (side : Side) (b : Bool) → AreUncounted (if b then [] else entry.Overrun side ∷ [])
-overrun_uncounted side true = tt
-overrun_uncounted side false = (tt, tt)
+mark_uncounted : (e : Entry) → IsMark e → IsUncounted e
+mark_uncounted (entry.Dropped side) mark = tt
+mark_uncounted (entry.Garbled side unit) mark = tt
+mark_uncounted (entry.Overrun side) mark = tt
+mark_uncounted e mark = absurd mark
 
 pub told_by_uncounted : (side : Side) (bytes : List ℕ) (mark : Mark) (text : List ℕ) → AreUncounted (told_by side bytes mark text)
-told_by_uncounted side bytes Free text = overrun_uncounted side (fits bytes text)
-told_by_uncounted side bytes Lost text = (tt, tt)
-told_by_uncounted side bytes (Changed garble) text = (tt, overrun_uncounted side (fits bytes (garbled garble text)))
+told_by_uncounted side bytes mark text = all-weaker IsMark IsUncounted mark_uncounted (told_by side bytes mark text) (told_by_marks side bytes mark text)
 
 pub host_uncounted : (way : WayState) (unit : LineUnit) → AreUncounted (told by_host way unit)
 host_uncounted way unit = (tt, told_by_uncounted by_host way.bytes (mark_for way.marks unit) (unit_text unit))
 
 pub cleared_uncounted : (side : Side) (count : ℕ) → AreUncounted (cleared_entries side count)
-cleared_uncounted side count = by (nat_lt 0 count)
+cleared_uncounted side count = all-weaker IsCleared IsUncounted one (cleared_entries side count) (all_cleared side count)
   where
-    by : (b : Bool) → AreUncounted (if b then entry.Cleared side count ∷ [] else [])
-    by true = (tt, tt)
-    by false = tt
+    one : (e : Entry) → IsCleared e → IsUncounted e
+    one (entry.Cleared side count) cleared = tt
+    one e cleared = absurd cleared
 
 pub shown_uncounted : (node : ℕ) (device : Option State) → AreUncounted (shown_entries node device)
-shown_uncounted node None = (tt, tt)
-shown_uncounted node (Some device) = settings _
+shown_uncounted node device = all-weaker IsShown IsUncounted one (shown_entries node device) (all_shown node device)
   where
-    settings : (l : List Setting) → AreUncounted (map (λ (setting : Setting). entry.Device node setting) l)
-    settings [] = tt
-    settings (s ∷ l) = (tt, settings l)
+    one : (e : Entry) → IsShown e → IsUncounted e
+    one (entry.Device node setting) shown = tt
+    one (entry.Refused refusal) shown = tt
+    one e shown = absurd shown

@@ -6,9 +6,8 @@ use Rattle.zw_text.specs.declared.entry.Entry.{Entry}
 use Rattle.law_wire.specs.Marks.{collision_of, collisions, cans, MayCollide}
 use Rattle.outside_model.specs.State.{OuterState, Outside}
 use Rattle.outside_model.specs.Events.{OuterEvent, Collides_next}
-use Rattle.world_model.specs.State.{Machine}
-use Rattle.world_model.specs.Events.{Outside_does}
-use Rattle.proof_walk.specs.Phases.{Phase, Said_line, Begun, Doing}
+use Rattle.world_model.specs.Events.{Event, Outside_does}
+use Rattle.proof_walk.specs.ByLine.{KnownOf}
 use Rattle.proof_walk.specs.Outside.{Knowing, Known, CoversOuter}
 
 -- the collisions that the chip's link is still to make
@@ -31,10 +30,13 @@ abbrev pub IsNoCollision : OuterEvent → Type 0
 IsNoCollision Collides_next = ⊥
 IsNoCollision event = Unit {0}
 
--- the line is counted with its words, and the link learns of it only by the line's event
-abbrev pub Know : Phase → List Entry → Machine → Type 0
-Know (Said_line line) past m = KnownTie (asked_by line) past m.outside
-Know (Begun line) past m = KnownTie (asked_by line) past m.outside
-Know (Doing line left) past m =
+-- a line is counted with its words, and the link learns of it by the line's event; anywhere else nothing is outstanding
+abbrev pub Asked : Line → KnownOf
+Asked line past m = KnownTie (asked_by line) past m.outside
+
+abbrev pub Left : Line → List Event → KnownOf
+Left line left past m =
     ((left ≡ Outside_does Collides_next ∷ []) × KnownTie 1 past m.outside) ⊎ (AllByRecursion (CoversOuter IsNoCollision) left × KnownTie 0 past m.outside)
-Know phase past m = KnownTie 0 past m.outside
+
+abbrev pub Counted : KnownOf
+Counted past m = KnownTie 0 past m.outside

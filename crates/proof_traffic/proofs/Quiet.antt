@@ -98,7 +98,7 @@ same_end_if h (Some end) moment = same_end h end.purpose end.how moment
 
 -- ---- quiet events
 
--- an event that is invalid of the line's and none of the request under way
+-- an event neither of the line nor of the request under way
 abbrev pub IsQuiet : HostEvent → Type 0
 IsQuiet (Hears item) = ⊥
 IsQuiet (Requests_do event moment) = ⊥

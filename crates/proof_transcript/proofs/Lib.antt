@@ -34,5 +34,6 @@ mod Ring
 mod Marking
 mod Calm
 mod FramesWalking
+mod Repeating
 mod Losing
 mod Turning

@@ -7,26 +7,24 @@ use Rattle.zw_text.specs.declared.line.Line.{Line}
 use Rattle.zw_text.specs.declared.line.Line.TheVariants.{Lose, Repeat}
 use Rattle.zw_text.specs.declared.entry.Entry.{Entry}
 use Rattle.zw_text.specs.declared.entry.Entry.TheVariants as entry
-use Rattle.zw_text.specs.Transcript.{line_after, line_of}
-use Rattle.zw_text.proofs.Views.{folded-append}
+use Rattle.zw_text.specs.Transcript.{line_last, line_of}
 use Rattle.law_transcript.specs.Fates.{marks_asked, MayBeMarked}
 use Rattle.law_transcript.specs.Lists.{EachAfter, Has}
 use Rattle.law_transcript.specs.Restarts.{is_repeat, repeats as answers_repeat}
 use Rattle.mesh_sim.specs.Air.{AirState}
 use Rattle.mesh_sim.specs.Steps as mesh
-use Rattle.air_frames.specs.Ages.{refusal_of}
-use Rattle.outside_model.specs.State.{OuterState, Outside, Outcome}
-use Rattle.outside_model.specs.Events.{Begins_tick, Arrives, Loses, Repeats, stamp, has_entered, outcome, steps, repeats, May as MayOutside}
+use Rattle.outside_model.specs.Events.{Begins_tick, Arrives, Loses, Repeats, outcome, steps, May as MayOutside}
 use Rattle.world_model.specs.State.{Machine}
 use Rattle.world_model.specs.Events.{Event, Outside_does, happens, entries, May}
 use Rattle.world_model.specs.Did.{happens_all, entries_all, MayAll}
 use Rattle.proof_spoken.specs.Spoken.{Spoken, transcript_of}
 use Rattle.proof_spoken.specs.Lines.{AreDone}
-use Rattle.proof_transcript.proofs.Keeping.{Keeps, Goes, keeps_none, keeps_both}
-use Rattle.proof_transcript.proofs.Arriving.{IsAgain, arrives_lands, repeats_again}
-use Rattle.proof_transcript.proofs.Events.{stamped_keeps, lands_keep, calm_keeps}
+use Rattle.proof_transcript.proofs.Keeping.{Keeps, keeps_none, keeps_both}
+use Rattle.proof_transcript.proofs.Arriving.{arrives_lands}
+use Rattle.proof_transcript.proofs.Events.{lands_keep, calm_keeps}
 use Rattle.proof_transcript.proofs.Calm.{IsCalmLine, IsArrival, arriving_all, arriving_prefix_all}
 use Rattle.proof_transcript.proofs.FramesWalking.{Walks, RepeatsOnly, begun, lines_stand}
+use Rattle.proof_transcript.proofs.Repeating.{repeat_keeps}
 use Rattle.proof_transcript.proofs.Marking.{Marks, Marked, airs, stamps, fate_keeps, heard_keeps, said_keeps}
 
 -- ---- ticks
@@ -67,45 +65,17 @@ loses_so m words count read = said_so m (happens (begun m) (Outside_does (Loses 
 
 -- ---- a line that repeats a frame
 
--- outside a tick no number is entered
-unstamped : (o : OuterState) (told : List Entry) → o.in_tick ≡ false → stamp o told ≡ told
-unstamped o [] out = refl
-unstamped o (e ∷ told) out = ap (λ (b : Bool). (if b && not o.stamped then entry.Time o.clock ∷ [] else []) ++ e ∷ told) out
-
-entered_air : (o : OuterState) (told : List Entry) → (has_entered o told).air ≡ o.air
-entered_air o [] = refl
-entered_air o (e ∷ told) = refl
-
 -- directly after the words a hearing is no first fate
-may_hear : (past : List Entry) (words : List ℕ) (number : ℕ) → line_of (entry.Said words) ≡ Repeat number ∷ [] → MayBeMarked (past ++ entry.Said words ∷ []) (entry.Heard number)
-may_hear past words number read =
-    let again : answers_repeat (past ++ entry.Said words ∷ []) ≡ true = ap is_repeat (folded-append line_after [] past (entry.Said words ∷ []) ∙ read) in
+may_hear : (past : List Entry) (number : ℕ) → line_last past ≡ Repeat number ∷ [] → MayBeMarked past (entry.Heard number)
+may_hear past number said =
+    let again : answers_repeat past ≡ true = ap is_repeat said in
     λ first has. absurd (subst (λ (b : Bool). Has (if b then [] else number ∷ []) number) again first)
 
-repeat_so : (o p : OuterState) (words : List ℕ) (number : ℕ) (x : Outcome) → line_of (entry.Said words) ≡ Repeat number ∷ [] → p.in_tick ≡ false → Keeps MayBeMarked Marked o (entry.Said words ∷ []) p
-    → Goes MayBeMarked Marks p x ⊎ IsAgain MayBeMarked Marks number p x → Keeps MayBeMarked Marked o (entry.Said words ∷ stamp x.outer x.entries) (has_entered x.outer x.entries)
-repeat_so o p words number x read out said (inl goes) =
-    keeps_both MayBeMarked Marked o p (has_entered x.outer x.entries) (entry.Said words ∷ []) (stamp x.outer x.entries) said
-    (stamped_keeps MayBeMarked Marks Marked stamps p x.outer x.entries goes.keeps goes.time)
-repeat_so o p words number x read out said (inr again) = λ past marks.
-    let following : List Entry = past ++ entry.Said words ∷ [] in
-    let one = said past marks in
-    let heard = heard_keeps p.air number following (may_hear past words number read) one.1 in
-    let rest = again.keeps (following ++ entry.Heard number ∷ []) heard.1 in
-    let told : stamp x.outer x.entries ≡ entry.Heard number ∷ again.rest = unstamped x.outer x.entries (again.time.in_tick ∙ out) ∙ again.told in
-    let all : (following ++ entry.Heard number ∷ []) ++ again.rest ≡ past ++ (entry.Said words ∷ stamp x.outer x.entries) =
-    append_assoc following (entry.Heard number ∷ []) again.rest ∙ (append_assoc past (entry.Said words ∷ []) (entry.Heard number ∷ again.rest) ∙ ap (λ (l : List Entry). past ++ (entry.Said words ∷ l)) (sym told)) in (
-      (tt, subst (λ (l : List Entry). EachAfter MayBeMarked following l) (sym told) (heard.0.0, rest.0)),
-      subst (λ (a : AirState). Marks (past ++ (entry.Said words ∷ stamp x.outer x.entries)) a) (sym (entered_air x.outer x.entries)) (subst (λ (l : List Entry). Marks l x.outer.air) all rest.1),
-    )
-
-repeats_so : (m : Machine) (words : List ℕ) (number : ℕ) (drawn : List ℕ) (route : Option Route) → line_of (entry.Said words) ≡ Repeat number ∷ [] → May (begun m) (Outside_does (Repeats number drawn route))
+repeats_so : (m : Machine) (words : List ℕ) (number : ℕ) (drawn : List ℕ) (route : Option Route) → line_of (entry.Said words) ≡ Repeat number ∷ []
     → Keeps MayBeMarked Marked m.outside.outer (entry.Said words ∷ entries (begun m) (Outside_does (Repeats number drawn route))) (happens (begun m) (Outside_does (Repeats number drawn route))).outside.outer
-unfolding happens entries outcome
-repeats_so m words number drawn route read may =
-    let w : Outside = (begun m).outside in
-    repeat_so m.outside.outer w.outer words number (repeats w (refusal_of w.outer.air.frames number) (mesh.Repeats number drawn route)) read refl (begins_so m words (Repeat number) read refl)
-    (repeats_again MayBeMarked Marks airs w (refusal_of w.outer.air.frames number) number drawn route refl)
+repeats_so m words number drawn route read =
+    repeat_keeps MayBeMarked Marks Marked stamps airs words number read (λ past p marked. marked) (λ air past said marks. heard_keeps air number past (may_hear past number said) marks) m drawn route
+    (begins_so m words (Repeat number) read refl)
 
 -- ---- lines
 
@@ -117,7 +87,7 @@ walks = record {
   words = λ o words past marks. (tt, tt);
   said = λ m words line read calm. begins_so m words line read (asks_none line calm);
   loses = loses_so;
-  repeats = λ m words number drawn route any read may. repeats_so m words number drawn route read may;
+  repeats = λ m words number drawn route any read may. repeats_so m words number drawn route read;
 }
 
 any_line : (line : Line) → RepeatsOnly (λ number. Unit {0}) line

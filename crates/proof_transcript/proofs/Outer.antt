@@ -280,7 +280,7 @@ module _ (refusals reports : Bool) where
   stamp_plain o [] plain = tt
   stamp_plain o (e ∷ told) plain = all-append (IsPlain refusals reports) (ticked_entry o) (e ∷ told) (ticked_plain o) plain
 
-  -- an event that is invalid of the host's
+  -- an event that is not the host's
   pub own_clock : (w : Outside) (event : OuterEvent) → is_own event ≡ true → IsMildOuter refusals event → (happens w event).outer.clock ≡ w.outer.clock
   own_clock w event own mild = entered_clock (outcome w event).outer (outcome w event).entries ∙ (outcome_leaves w event own mild).0
 

@@ -5,6 +5,7 @@ ghost use Rattle.std.specs.List.{AllByRecursion};
 ghost use Rattle.s0_crypto.specs.declared.key_pair.Keys.{Keys};
 ghost use Rattle.device_sim.specs.State.{State};
 ghost use Rattle.law_transcript.specs.Fates.{FaresInTurn, LosesMarked, NumbersFrames};
+ghost use Rattle.law_transcript.specs.Sessions.{KeepsSessions};
 ghost use Rattle.world_model.specs.State.{first_machine};
 ghost use Rattle.proof_spoken.specs.Spoken.{Spoken, transcript_of};
 ghost use Rattle.proof_spoken.specs.Lines.{AreDone};
@@ -25,9 +26,14 @@ pub fn lines_lose_marked_frames()
         LosesMarked (transcript_of (first_machine keys records devices) lines) }
 {}
 
-/// Over any such lines that repeat no frame, each frame that is on the air when a tick begins has one fate in it, in order of numbers, and
-/// none is heard besides.
+/// Over any such lines, each frame that is on the air when a tick begins has one fate in it, in order of numbers, and what is heard besides answers a line that
+/// repeats a fresh frame: where no line repeats one, and where sessions are numbered in order.
 pub fn lines_fare_in_turn()
-    ensures { (keys : Keys) (records : Option (List (List ℕ))) (devices : List State) (lines : List Spoken) → AllByRecursion RepeatsNone lines →
+    ensures once { (keys : Keys) (records : Option (List (List ℕ))) (devices : List State) (lines : List Spoken) → AllByRecursion RepeatsNone lines →
         AreDone (first_machine keys records devices) lines → FaresInTurn (transcript_of (first_machine keys records devices) lines) }
-{}
+    ensures again { (keys : Keys) (records : Option (List (List ℕ))) (devices : List State) (lines : List Spoken) → AreDone (first_machine keys records devices) lines →
+        KeepsSessions (transcript_of (first_machine keys records devices) lines) → FaresInTurn (transcript_of (first_machine keys records devices) lines) }
+{
+    lines_number_frames();
+    proof_air::lines_repeat_what_is_fresh();
+}

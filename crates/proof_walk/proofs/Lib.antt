@@ -4,7 +4,10 @@ mod Ticking
 pub mod Lines
 pub mod Moving
 pub mod Times
+pub mod Entered
+pub mod Results
 pub mod Linking
 pub mod Noting
 pub mod Stamping
 pub mod Machines
+pub mod ByLine

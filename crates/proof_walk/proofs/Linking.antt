@@ -3,7 +3,7 @@ use Rattle.std.proofs.Common.{◌≡◌, ℕ, zero, suc, ◌&&◌, Bool, true, f
 use Rattle.std.specs.List.{flat_map, AllByRecursion}
 use Rattle.std.specs.Option.{unwrap_or, option_map}
 use Rattle.std.specs.Prelude.{Option, Some, None, slice_set}
-use Rattle.zw_base.proofs.Each.{all-append}
+use Rattle.zw_base.proofs.Each.{all-append, all-weaker}
 use Rattle.zw_base.specs.declared.property.Setting.{Setting}
 use Rattle.serial_frame.specs.Stream.{after_tick}
 use Rattle.route_table.specs.declared.route.Route.{Route}
@@ -32,26 +32,25 @@ use Rattle.outside_model.specs.Results.{owes_call, call_back, no_route, no_route
 use Rattle.outside_model.specs.Air.{deals, to_chip, sent_entries, change_entries, change_at}
 use Rattle.outside_model.specs.Devices.{changes_entries, new_changes, acts}
 use Rattle.outside_model.specs.Events.{OuterEvent}
-use Rattle.proof_walk.specs.Outside.{Knowing, Moves, Comes, Outer, Link, IsOfAir, IsSameLink, IsDone}
+use Rattle.proof_walk.specs.Outside.{Knowing, Moves, Comes, Outer, Link, IsOfAir, IsSameLink, IsDone, session_begins}
 use Rattle.proof_walk.proofs.Moving.{moves_silent, moves_none, moves_both, moves_then}
+use Rattle.proof_walk.proofs.Entered.{IsChange, change_entered, changes_entered}
+use Rattle.proof_walk.proofs.Results.{IsGiven, Gives, ends_go, gives_go, to_chip_goes}
 
 -- ---- entries of the air and of devices
 
 abbrev AreOfAir : List Entry → Type 0
 AreOfAir told = AllByRecursion IsOfAir told
 
-settings_of_air : (node : ℕ) (change : Change) (settings : List Setting) → AreOfAir (map (λ (setting : Setting). entry.Dev node change.by setting) settings)
-settings_of_air node change [] = tt
-settings_of_air node change (setting ∷ settings) = (tt, settings_of_air node change settings)
+dev_of_air : (e : Entry) → IsChange e → IsOfAir e
+dev_of_air (entry.Dev node by setting) change = tt
+dev_of_air e change = absurd change
 
 change_of_air : (node : ℕ) (change : Option Change) → AreOfAir (change_entries node change)
-change_of_air node None = tt
-change_of_air node (Some change) = settings_of_air node change change.settings
+change_of_air node change = all-weaker IsChange IsOfAir dev_of_air (change_entries node change) (change_entered node change)
 
 changes_of_air : (node : ℕ) (changes : List Change) → AreOfAir (changes_entries node changes)
-changes_of_air node [] = tt
-changes_of_air node (change ∷ changes) =
-    all-append IsOfAir (change_entries node (Some change)) (changes_entries node changes) (change_of_air node (Some change)) (changes_of_air node changes)
+changes_of_air node changes = all-weaker IsChange IsOfAir dev_of_air (changes_entries node changes) (changes_entered node changes)
 
 answers_of_air : (air : AirState) (node : ℕ) (way : Option Route) (replies : List (List ℕ)) → AreOfAir (flat_map sent_entries (answers air node way replies))
 answers_of_air air node way [] = tt
@@ -85,36 +84,12 @@ module _ (Asks : List Entry → Entry → Type 0) (Knows : Knowing) (Covers : Ou
     still : (o p : OuterState) → IsSameLink o p → Goes o (silent p)
     still o p is = same (outside o devices) (outside p devices) is
 
-    then_goes : (o : OuterState) (first : Outcome) (next : OuterState → Outcome) → Goes o first → ((p : OuterState) → Goes p (next p)) → Goes o (and_then first next)
-    then_goes o first next one later =
-        moves_both Asks Knows Knows Knows (outside o devices) (outside first.outer devices) (outside (next first.outer).outer devices) first.entries (next first.outer).entries one (later first.outer)
-
     -- something else changes first
     after_still : (o p : OuterState) (x : Outcome) → IsSameLink o p → Goes p x → Goes o x
     after_still o p x is goes = moves_both Asks Knows Knows Knows (outside o devices) (outside p devices) (outside x.outer devices) [] x.entries (same (outside o devices) (outside p devices) is) goes
 
     does : (o p : OuterState) (event : ChipEvent) → IsDone event → IsSameLink o p → Goes o (chip_does p event)
     does o p event done is = after_still o p (chip_does p event) is (law.chip (outside p devices) event done)
-
-    if_goes : (b : Bool) (o : OuterState) (x y : Outcome) → Goes o x → Goes o y → Goes o (if b then x else y)
-    if_goes true o x y one two = one
-    if_goes false o x y one two = two
-
-    -- ---- results
-
-    call_goes : (o : OuterState) (status : TransmitStatus) → Goes o (call_back o status)
-    call_goes o status =
-        if_goes (owes_call o.chip.state) o (chip_does (record o { calls = drop 1 o.calls }) (Done status)) (silent (record o { calls = drop 1 o.calls }))
-        (does o (record o { calls = drop 1 o.calls }) (Done status) tt (record { chip = refl; to_host = refl }))
-        (still o (record o { calls = drop 1 o.calls }) (record { chip = refl; to_host = refl }))
-
-    no_route_goes : (o : OuterState) → Goes o (no_route o)
-    no_route_goes o =
-        after_still o (record o { due = without_no_route o.due }) (no_route o) (record { chip = refl; to_host = refl }) (call_goes (record o { due = without_no_route o.due }) no_route_status)
-
-    no_routes_go : (count : ℕ) (o : OuterState) → Goes o (no_routes count o)
-    no_routes_go zero o = still o o (record { chip = refl; to_host = refl })
-    no_routes_go (suc count) o = then_goes o (no_route o) (λ later. no_routes count later) (no_route_goes o) (λ later. no_routes_go count later)
 
     -- the table of the chip loses a link, and that is told
     forgotten : (o : OuterState) (a b : ℕ) → Goes o (tells (with_chip o (after o.chip.state (Forgets a b))) (entry.Forget a b ∷ []))
@@ -123,32 +98,26 @@ module _ (Asks : List Entry → Entry → Type 0) (Knows : Knowing) (Covers : Ou
         moves_both Asks Knows Knows Knows (outside o devices) (outside (with_chip o (after o.chip.state (Forgets a b))) devices) (outside (with_chip o (after o.chip.state (Forgets a b))) devices)
         [] (entry.Forget a b ∷ []) (law.chip (outside o devices) (Forgets a b) tt) (law.air (outside (with_chip o (after o.chip.state (Forgets a b))) devices) (entry.Forget a b) tt)
 
-    forgets_go : (o : OuterState) (dead : Option (ℕ × ℕ)) → Goes o (forgets o dead)
-    forgets_go o None = still o o (record { chip = refl; to_host = refl })
-    forgets_go o (Some hop) =
-        if_goes (linked o.chip.state.table hop.0 hop.1) o (tells (with_chip o (after o.chip.state (Forgets hop.0 hop.1))) (entry.Forget hop.0 hop.1 ∷ [])) (silent o)
-        (forgotten o hop.0 hop.1) (still o o (record { chip = refl; to_host = refl }))
+    given : (o : OuterState) (event : ChipEvent) → IsGiven event → Goes o (chip_does o event)
+    given o (chip_hears node payload) is = law.chip (outside o devices) (chip_hears node payload) tt
+    given o (Done status) is = law.chip (outside o devices) (Done status) tt
+    given o (Informed node profile) is = law.chip (outside o devices) (Informed node profile) tt
+    given o event is = absurd is
 
-    ends_go : (o : OuterState) (status : ℕ) (dead : Option (ℕ × ℕ)) → Goes o (frame_ends o status dead)
-    ends_go o status dead =
-        then_goes o (forgets o dead) (λ forgot. and_then (no_routes (leading forgot.calls) forgot) (λ later. call_back later (unwrap_or (status_of status) Fail))) (forgets_go o dead)
-        (λ forgot. then_goes forgot (no_routes (leading forgot.calls) forgot) (λ later. call_back later (unwrap_or (status_of status) Fail)) (no_routes_go (leading forgot.calls) forgot)
-        (λ later. call_goes later (unwrap_or (status_of status) Fail)))
-
-    gives_go : (o : OuterState) (due : List Due) (route : Option Route) → Goes o (gives o devices due route)
-    gives_go o [] route = still o o (record { chip = refl; to_host = refl })
-    gives_go o (no_route_due ∷ due) route = no_route_goes o
-    gives_go o (Info node ∷ due) route = does o (record o { due = due }) (Informed node (profile_for o.air devices node route)) tt (record { chip = refl; to_host = refl })
+    results : Gives Goes
+    results = record {
+      still = λ o p is. still o p (record { chip = is.chip; to_host = is.to_host });
+      both = λ o first next one later.
+          moves_both Asks Knows Knows Knows (outside o devices) (outside first.outer devices) (outside (next first.outer).outer devices) first.entries (next first.outer).entries one (later first.outer);
+      later = λ o p x is goes. after_still o p x (record { chip = is.chip; to_host = is.to_host }) goes;
+      does = given;
+      forgotten = forgotten;
+    }
 
     -- ---- what the air tells
 
     told_of_air : (o : OuterState) (told : List Entry) → AreOfAir told → Goes o (tells o told)
     told_of_air o told of_air = all_of_air (outside o devices) told of_air
-
-    to_chip_goes : (o : OuterState) (from : ℕ) (payload : List ℕ) → Goes o (to_chip o from payload)
-    to_chip_goes o from payload =
-        if_goes (nat_le 1 (length payload) && nat_le (length payload) 46) o (chip_does o (chip_hears from payload)) (silent o)
-        (law.chip (outside o devices) (chip_hears from payload) tt) (still o o (record { chip = refl; to_host = refl }))
 
     deals_go : (o : OuterState) (event : AirEvent) → Goes o (deals devices o event)
     deals_go o (air_event.Heard frame) = told_of_air o (entry.Heard frame ∷ []) (tt, tt)
@@ -157,8 +126,8 @@ module _ (Asks : List Entry → Entry → Type 0) (Knows : Knowing) (Covers : Ou
     deals_go o (air_event.Sent frame from to route payload) = told_of_air o (sent_entries (air_event.Sent frame from to route payload)) (tt, tt)
     deals_go o (air_event.Changed node at) =
         told_of_air o (change_entries node (change_at (device_at devices (place_of node devices)) at)) (change_of_air node (change_at (device_at devices (place_of node devices)) at))
-    deals_go o (air_event.ToChip frame from payload) = to_chip_goes o from payload
-    deals_go o (air_event.Done frame status dead) = ends_go o status dead
+    deals_go o (air_event.ToChip frame from payload) = to_chip_goes Goes results o from payload
+    deals_go o (air_event.Done frame status dead) = ends_go Goes results o status dead
 
   -- ---- all of it
 
@@ -176,12 +145,15 @@ module _ (Asks : List Entry → Entry → Type 0) (Knows : Knowing) (Covers : Ou
     number = law.number;
     stamps = λ awaits stamped past w knows. law.same awaits past w _ (record { chip = refl; to_host = refl }) knows;
     simple = law.simple;
+    session = λ w node session command.
+        let later : Outside = outside (session_begins w.outer node session command).outer w.devices in
+        moves_both Asks Knows Knows Knows w later later [] (entry.Begin node session command ∷ []) (same w later (record { chip = refl; to_host = refl })) (law.session later node session command);
     takes = λ w count rest ways may. same w _ (record { chip = refl; to_host = refl });
     judges = λ w way ways may. law.chip w (Judged way.0 way.1) tt;
     judged = λ awaits past w knows. knows;
     ticks = λ w. does w.devices w.outer (record w.outer { chip = record { decoder = after_tick w.outer.chip.decoder; state = w.outer.chip.state } }) Ticked tt (record { chip = refl; to_host = refl });
-    gives = λ w route may. gives_go w.devices w.outer w.outer.due route;
-    steps = λ w step may. same w _ (record { chip = refl; to_host = refl });
+    gives = λ w route may. gives_go (Goes w.devices) (results w.devices) w.outer w.devices w.outer.due route;
+    steps = λ w step hearing may. same w _ (record { chip = refl; to_host = refl });
     deals = λ w event events. deals_go w.devices w.outer event;
     acts = λ w place device event route found may. acts_go w place device event route;
   }

@@ -1,26 +1,27 @@
 -- What a law owes outside the host, and of a host's units and notes, is enough for each event of the machine.
-use Rattle.std.proofs.Common.{◌≡◌, ℕ, Bool, true, false, List, [], ◌∷◌, ◌++◌, refl, sym, subst, append_assoc, append-nil}
+use Rattle.std.proofs.Common.{◌≡◌, ℕ, ◌+◌, Bool, true, false, List, [], ◌∷◌, ◌++◌, length, refl, sym, subst, append_assoc, append-nil}
 use Rattle.std.specs.Prelude.{Option, Some, None}
 use Rattle.std.specs.List.{AllByRecursion}
-use Rattle.zw_base.proofs.Each.{all-append}
 use Rattle.serial_frame.specs.declared.unit.Unit.{Unit as LineUnit}
 use Rattle.zw_text.specs.declared.entry.Entry.{Entry}
 use Rattle.zw_text.specs.declared.entry.Entry.TheVariants as entry
 use Rattle.law_transcript.specs.Lists.{EachAfter}
 use Rattle.proof_host.proofs.Lists.{each-append}
 use Rattle.host_model.specs.State.{HostState}
-use Rattle.host_model.specs.Events.{HostEvent}
+use Rattle.host_model.specs.Events.{HostEvent, Accepts, Cancels}
 use Rattle.host_model.specs.Did.{outs_all}
 use Rattle.host_model.specs.declared.out.HostOut.{HostOut}
 use Rattle.host_model.specs.declared.out.HostOut.TheVariants.{Write, Note}
 use Rattle.outside_model.specs.State.{Outside, is_stalled}
 use Rattle.outside_model.specs.Events.{OuterEvent, Begins_line, Begins_tick, Host_writes, Host_takes as host_takes, Host_notes, Host_begins, Chip_takes, Arrives, Gives, Device_ticks, Chip_ticks, Repeats, Wakes_device, Sets_device, outcome, May as MayOutside, happens as happens_outside, entries as entries_outside, is_own}
+use Rattle.zw_text.specs.declared.entry.Ended.TheVariants.{Cancelled}
 use Rattle.outside_model.specs.Did.{happens_all as happens_all_outside, entries_all as entries_all_outside, MayAll as MayAllOutside}
+use Rattle.outside_model.proofs.Doing.{happens_all-append, entries_all-append}
 use Rattle.world_model.specs.State.{Machine, begun_in, noted_by, routed, host_does}
 use Rattle.world_model.specs.Events.{Event, Outside_does, Host_does, Host_takes, Decoder_ticks, Refuses, Shows_values, Restarts, answers, notes, shown_values, happens, entries, May}
 use Rattle.proof_walk.specs.Outside.{Pending, Knowing, Outer, Known, CoversOuter, IsSimple, IsNote}
-use Rattle.proof_walk.proofs.Noting.{Notes, NoteOuts, all_outs_note, answers_note}
-use Rattle.proof_walk.proofs.Stamping.{Fits, Keeps, outer_keeps}
+use Rattle.proof_walk.proofs.Noting.{NoteOuts, all_outs_note}
+use Rattle.proof_walk.proofs.Stamping.{Fits, outer_keeps, session_keeps}
 
 not_own : false ≡ true → ⊥
 not_own is = cc
@@ -69,47 +70,61 @@ module _ (Asks : List Entry → Entry → Type 0) (Knows : Pending → Knowing) 
   host_event w (Host_writes unit) of_host may = outer w (Host_writes unit) (tt, hosts (Host_writes unit) refl) may
   host_event w (host_takes count) of_host may = outer w (host_takes count) (tt, hosts (host_takes count) refl) may
   host_event w (Host_notes note) of_host may = outer w (Host_notes note) (of_host.0, hosts (Host_notes note) refl) may
-  host_event w (Host_begins node sessions) of_host may = outer w (Host_begins node sessions) (tt, hosts (Host_begins node sessions) refl) may
+  host_event w (Host_begins node sessions) of_host may = absurd of_host.0
   host_event w event of_host may = let none : true ≡ false = of_host.1 in absurd cc
 
-  -- it writes and notes, and begins sessions
-  abbrev IsPut : OuterEvent → Type 0
-  IsPut (Host_writes unit) = Unit {0}
-  IsPut (Host_notes note) = IsNote note
-  IsPut (Host_begins node sessions) = Unit {0}
-  IsPut event = ⊥
-
-  put_keeps : (w : Outside) (event : OuterEvent) → IsPut event → Keeps_known w (entries_outside w event) (happens_outside w event)
+  -- it writes
+  writes_keep : (w : Outside) (unit : LineUnit) → Keeps_known w (entries_outside w (Host_writes unit)) (happens_outside w (Host_writes unit))
   unfolding MayOutside
-  put_keeps w (Host_writes unit) put = host_event w (Host_writes unit) (tt, refl) tt
-  put_keeps w (Host_notes note) put = host_event w (Host_notes note) (put, refl) tt
-  put_keeps w (Host_begins node sessions) put = host_event w (Host_begins node sessions) (tt, refl) tt
-  put_keeps w event put = absurd put
+  writes_keep w unit = host_event w (Host_writes unit) (tt, refl) tt
 
-  puts_keep : (w : Outside) (events : List OuterEvent) → AllByRecursion IsPut events → Keeps_known w (entries_all_outside w events) (happens_all_outside w events)
-  puts_keep w [] puts = keeps_none w
-  puts_keep w (event ∷ events) puts =
-      keeps_both w (happens_outside w event) (happens_all_outside (happens_outside w event) events) (entries_outside w event) (entries_all_outside (happens_outside w event) events)
-      (put_keeps w event puts.0) (puts_keep (happens_outside w event) events puts.1)
+  -- it notes that no session has begun
+  note_keeps : (w : Outside) (note : Entry) → IsNote note → begun_in note ≡ None → Keeps_known w (entries_outside w (Host_notes note)) (happens_outside w (Host_notes note))
+  unfolding MayOutside
+  note_keeps w note is none = host_event w (Host_notes note) ((is, none), refl) tt
 
-  noted_put : (begun : Option (ℕ × ℕ)) (note : Entry) → IsNote note → AllByRecursion IsPut (noted_by begun note)
-  noted_put None note is = (is, tt)
-  noted_put (Some begun) note is = (tt, (is, tt))
+  -- what becomes of one event, and then of others
+  then_keep : (w : Outside) (first later : List OuterEvent) → Keeps_known w (entries_all_outside w first) (happens_all_outside w first)
+      → Keeps_known (happens_all_outside w first) (entries_all_outside (happens_all_outside w first) later) (happens_all_outside (happens_all_outside w first) later)
+      → Keeps_known w (entries_all_outside w (first ++ later)) (happens_all_outside w (first ++ later))
+  then_keep w first later one two =
+      subst (λ (l : List Entry). Keeps_known w l (happens_all_outside w (first ++ later))) (sym (entries_all-append w first later))
+      (subst (λ (u : Outside). Keeps_known w (entries_all_outside w first ++ entries_all_outside (happens_all_outside w first) later) u) (sym (happens_all-append w first later))
+      (keeps_both w (happens_all_outside w first) (happens_all_outside (happens_all_outside w first) later) (entries_all_outside w first)
+      (entries_all_outside (happens_all_outside w first) later) one two))
 
-  routed_put : (outs : List HostOut) → NoteOuts outs → AllByRecursion IsPut (routed outs)
-  routed_put [] are = tt
-  routed_put (Write unit ∷ outs) are = (tt, routed_put outs are.1)
-  routed_put (Note note ∷ outs) are = all-append IsPut (noted_by (begun_in note) note) (routed outs) (noted_put (begun_in note) note are.0) (routed_put outs are.1)
+  -- a single event
+  one_keeps : (w : Outside) (event : OuterEvent) → Keeps_known w (entries_outside w event) (happens_outside w event) → Keeps_known w (entries_all_outside w (event ∷ [])) (happens_all_outside w (event ∷ []))
+  one_keeps w event keeps = subst (λ (l : List Entry). Keeps_known w l (happens_outside w event)) (sym (append-nil (entries_outside w event))) keeps
 
-  notes_put : (told : List Entry) → Notes told → AllByRecursion IsPut (notes told)
-  notes_put [] are = tt
-  notes_put (note ∷ told) are = (are.0, notes_put told are.1)
+  -- a session that begins is noted as the air learns of it
+  begun_keeps : (w : Outside) (node session command : ℕ)
+      → Keeps_known w (entries_all_outside w (noted_by (Some (node, session)) (entry.Begin node session command))) (happens_all_outside w (noted_by (Some (node, session)) (entry.Begin node session command)))
+  begun_keeps w node session command =
+      let later : Outside = happens_outside w (Host_begins node session) in
+      subst (λ (l : List Entry). Keeps_known w (entries_outside w (Host_begins node session) ++ l) (happens_outside later (Host_notes (entry.Begin node session command))))
+      (sym (append-nil (entries_outside later (Host_notes (entry.Begin node session command)))))
+      (session_keeps Asks Knows Covers law (λ refused. hosts (Host_notes (entry.Refused refused)) refl) w node session command)
+
+  noted_keeps : (w : Outside) (note : Entry) → IsNote note → Keeps_known w (entries_all_outside w (noted_by (begun_in note) note)) (happens_all_outside w (noted_by (begun_in note) note))
+  noted_keeps w (entry.Begin node session command) is = begun_keeps w node session command
+  noted_keeps w note is = one_keeps w (Host_notes note) (note_keeps w note is refl)
+
+  puts_keep : (w : Outside) (outs : List HostOut) → NoteOuts outs → Keeps_known w (entries_all_outside w (routed outs)) (happens_all_outside w (routed outs))
+  puts_keep w [] are = keeps_none w
+  puts_keep w (Write unit ∷ outs) are =
+      then_keep w (Host_writes unit ∷ []) (routed outs) (one_keeps w (Host_writes unit) (writes_keep w unit)) (puts_keep (happens_outside w (Host_writes unit)) outs are.1)
+  puts_keep w (Note note ∷ outs) are =
+      then_keep w (noted_by (begun_in note) note) (routed outs) (noted_keeps w note are.0) (puts_keep (happens_all_outside w (noted_by (begun_in note) note)) outs are.1)
 
   outs_keep : (w : Outside) (h : HostState) (events : List HostEvent) → Keeps_known w (entries_all_outside w (routed (outs_all h events))) (happens_all_outside w (routed (outs_all h events)))
-  outs_keep w h events = puts_keep w (routed (outs_all h events)) (routed_put (outs_all h events) (all_outs_note h events))
+  outs_keep w h events = puts_keep w (outs_all h events) (all_outs_note h events)
 
   answers_keep : (w : Outside) (h : HostState) (event : HostEvent) → Keeps_known w (entries_all_outside w (notes (answers h event))) (happens_all_outside w (notes (answers h event)))
-  answers_keep w h event = puts_keep w (notes (answers h event)) (notes_put (answers h event) (answers_note h event))
+  answers_keep w h (Accepts order carriage) =
+      one_keeps w (Host_notes (entry.Accepted (length h.commands + 1) order.node)) (note_keeps w (entry.Accepted (length h.commands + 1) order.node) tt refl)
+  answers_keep w h (Cancels command) = one_keeps w (Host_notes (entry.Out command Cancelled)) (note_keeps w (entry.Out command Cancelled) tt refl)
+  answers_keep w h event = keeps_none w
 
   -- the host takes bytes
   takes_keep : (w : Outside) (count : ℕ) → is_stalled w.outer ≡ false → Keeps_known w [] (happens_outside w (host_takes count))
@@ -131,6 +146,6 @@ module _ (Asks : List Entry → Entry → Type 0) (Knows : Pending → Knowing) 
       keeps_both m.outside later (happens_all_outside later (routed (outs_all m.host.state events))) [] (entries_all_outside later (routed (outs_all m.host.state events)))
       (takes_keep m.outside count may.moves) (outs_keep later m.host.state events)
   machine_keeps m Decoder_ticks covers may = keeps_none m.outside
-  machine_keeps m (Refuses line refusal) covers may = put_keeps m.outside (Host_notes (entry.Refused refusal)) tt
-  machine_keeps m (Shows_values node) covers may = put_keeps m.outside (Host_notes (shown_values m.host.state node)) tt
+  machine_keeps m (Refuses line refusal) covers may = note_keeps m.outside (entry.Refused refusal) tt refl
+  machine_keeps m (Shows_values node) covers may = note_keeps m.outside (shown_values m.host.state node) tt refl
   machine_keeps m (Restarts state) covers may = keeps_none m.outside

@@ -2,3 +2,4 @@ pub mod Phases
 pub mod Paths
 pub mod Walk
 pub mod Outside
+pub mod ByLine

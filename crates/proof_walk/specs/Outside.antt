@@ -1,6 +1,6 @@
 -- What a law owes of what happens outside the host (this project's own rule): something for each thing that an event there does, with the number of the running tick dealt
 -- with once, here.
-use Rattle.std.specs.Prelude.{◌≡◌, ℕ, ◌+◌, ◌&&◌, not, Bool, true, false, Option, Some, List, [], ◌∷◌, ◌++◌, slice_get, slice_set}
+use Rattle.std.specs.Prelude.{◌≡◌, ℕ, ◌+◌, ◌&&◌, not, Bool, true, false, Option, Some, None, List, [], ◌∷◌, ◌++◌, slice_get, slice_set}
 use Rattle.serial_frame.specs.Stream.{Rest}
 use Rattle.serial_frame.specs.declared.item.Item.{Item}
 use Rattle.route_table.specs.declared.route.Route.{Route}
@@ -9,6 +9,7 @@ use Rattle.device_sim.specs.Event.{DeviceEvent, device_after}
 use Rattle.chip_sim.specs.Events.{ChipEvent, Judged, Joined, Linked, Collides, May as MayOfChip}
 use Rattle.mesh_sim.specs.declared.event.AirEvent.{AirEvent}
 use Rattle.mesh_sim.specs.Steps.{AirStep, mesh_after, mesh_outs, MayHappen}
+use Rattle.mesh_sim.specs.Steps as mesh
 use Rattle.serial_pipes.specs.Events.{Takes}
 use Rattle.serial_pipes.specs.Events as way
 use Rattle.zw_text.specs.declared.entry.Entry.{Entry}
@@ -19,7 +20,8 @@ use Rattle.outside_model.specs.Chip.{chip_does, chip_ticks, MayTake}
 use Rattle.outside_model.specs.Results.{gives, MayGive}
 use Rattle.outside_model.specs.Air.{deals}
 use Rattle.outside_model.specs.Devices.{acts, MayAct}
-use Rattle.outside_model.specs.Events.{OuterEvent, Begins_line, Begins_tick, Host_notes, Chip_takes, Arrives, Gives, Device_ticks, Chip_ticks, Repeats, Wakes_device, Sets_device, mesh_of, outcome, ticked_entry}
+use Rattle.outside_model.specs.Events.{OuterEvent, Begins_line, Begins_tick, Host_notes, Host_begins, Chip_takes, Arrives, Gives, Device_ticks, Chip_ticks, Repeats, Wakes_device, Sets_device, begins, mesh_of, outcome, ticked_entry}
+use Rattle.world_model.specs.State.{begun_in}
 use Rattle.world_model.specs.Events.{Event, Outside_does}
 
 -- ---- what is known
@@ -73,11 +75,12 @@ IsNote _ = Unit {0}
 
 -- ---- what a law owes
 
--- an event that does one thing: no line or tick begins, and neither chip, air nor devices go on
+-- an event that does one thing: no line, tick or session begins, and neither chip, air nor devices go on
 abbrev pub IsSimple : OuterEvent → Type 0
 IsSimple Begins_line = ⊥
 IsSimple Begins_tick = ⊥
-IsSimple (Host_notes entry) = IsNote entry
+IsSimple (Host_notes entry) = IsNote entry × (begun_in entry ≡ None)
+IsSimple (Host_begins node sessions) = ⊥
 IsSimple (Chip_takes count rest ways) = ⊥
 IsSimple (Arrives drawn route) = ⊥
 IsSimple (Gives route) = ⊥
@@ -87,6 +90,16 @@ IsSimple (Repeats number drawn route) = ⊥
 IsSimple (Wakes_device node route) = ⊥
 IsSimple (Sets_device node value route) = ⊥
 IsSimple _ = Unit {0}
+
+-- a session begins: the air learns of it, and it is noted
+abbrev pub session_begins : OuterState → ℕ → ℕ → ℕ → Outcome
+session_begins o node session command = record { outer = record o { air = begins o.air node session }; entries = entry.Begin node session command ∷ [] }
+
+-- a frame is heard: one that arrives, or is heard again
+abbrev pub IsHearing : AirStep → Type 0
+IsHearing (mesh.Arrives drawn route) = Unit {0}
+IsHearing (mesh.Repeats number drawn route) = Unit {0}
+IsHearing _ = ⊥
 
 -- The law judges entries by those before it. Of the simple events it owes those that it covers.
 pub record Outer (Asks : List Entry → Entry → Type 0) (Knows : Pending → Knowing) (Covers : OuterEvent → Type 0) : Type 0 where
@@ -98,6 +111,8 @@ pub record Outer (Asks : List Entry → Entry → Type 0) (Knows : Pending → K
   pub stamps : (awaits stamped : Bool) (past : List Entry) (w : Outside) → Knows nothing awaits past w → Knows nothing awaits past (outside (record w.outer { stamped = stamped }) w.devices)
   -- a simple event
   pub simple : (w : Outside) (event : OuterEvent) → IsSimple event → Covers event → Comes Asks (Knows nothing) w (outcome w event) w.devices (Knows nothing)
+  -- a session begins
+  pub session : (w : Outside) (node session command : ℕ) → Comes Asks (Knows nothing) w (session_begins w.outer node session command) w.devices (Knows nothing)
   -- the chip takes bytes; it judges the items that end in them, one after another; it ticks; it is given what is due
   pub takes : (w : Outside) (count : ℕ) (rest : Rest) (ways : List (Item × Option Route)) → MayTake w.outer count rest ways
       → Moves Asks (Knows nothing) w [] (Knows (Judging ways))
@@ -108,7 +123,7 @@ pub record Outer (Asks : List Entry → Entry → Type 0) (Knows : Pending → K
   pub ticks : (w : Outside) → Comes Asks (Knows nothing) w (chip_ticks w.outer) w.devices (Knows nothing)
   pub gives : (w : Outside) (route : Option Route) → MayGive w.outer w.outer.due route → Comes Asks (Knows nothing) w (gives w.outer w.devices w.outer.due route) w.devices (Knows nothing)
   -- a frame arrives or is heard again; what that tells is dealt with, one thing after another
-  pub steps : (w : Outside) (step : AirStep) → MayHappen (mesh_of w) step
+  pub steps : (w : Outside) (step : AirStep) → IsHearing step → MayHappen (mesh_of w) step
       → Moves Asks (Knows nothing) w [] (Knows (Dealing (mesh_outs (mesh_of w) step)))
       (outside (record w.outer { air = (mesh_after (mesh_of w) step).air }) (mesh_after (mesh_of w) step).devices)
   pub deals : (w : Outside) (event : AirEvent) (events : List AirEvent)
@@ -163,6 +178,7 @@ pub record Link (Asks : List Entry → Entry → Type 0) (Knows : Knowing) (Cove
   pub number : (past : List Entry) (w : Outside) → Knows true past w → Knows false (past ++ entry.Time w.outer.clock ∷ []) w
   pub awaits : (old new : Bool) (past : List Entry) (w : Outside) → Knows old past w → Knows new past w
   pub simple : (w : Outside) (event : OuterEvent) → IsSimple event → Covers event → Comes Asks Knows w (outcome w event) w.devices Knows
+  pub session : (w : Outside) (node session command : ℕ) → Moves Asks Knows w (entry.Begin node session command ∷ []) Knows w
   pub chip : (w : Outside) (event : ChipEvent) → IsDone event → Comes Asks Knows w (chip_does w.outer event) w.devices Knows
   pub air : (w : Outside) (told : Entry) → IsOfAir told → Moves Asks Knows w (told ∷ []) Knows w
   pub same : (awaits : Bool) (past : List Entry) (w later : Outside) → IsSameLink w.outer later.outer → Knows awaits past w → Knows awaits past later

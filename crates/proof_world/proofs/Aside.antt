@@ -1,9 +1,9 @@
--- What is entered outside the host speaks neither of a command nor of a confirmed value.
+-- What is entered outside the host speaks neither of a command nor of a confirmed value, and of no interview that ended well.
 use Rattle.std.proofs.Common.{◌≡◌, ℕ, zero, suc, ◌&&◌, not, Bool, true, false, if◌then◌else◌, Option, Some, None, List, [], ◌∷◌, map, nat_le, nat_lt, length, drop}
 use Rattle.std.specs.Prelude.{slice_get}
 use Rattle.std.specs.List.{AllByRecursion, flat_map}
 use Rattle.std.specs.Option.{unwrap_or, option_map}
-use Rattle.zw_base.proofs.Each.{all-append}
+use Rattle.zw_base.proofs.Each.{all-append, all-weaker}
 use Rattle.zw_base.specs.declared.property.Setting.{Setting}
 use Rattle.zw_words.specs.declared.side.Side.{Side}
 use Rattle.zw_words.specs.declared.side.Side.TheVariants.{Host as by_host}
@@ -47,207 +47,247 @@ use Rattle.proof_host.specs.Entries.{IsAside}
 abbrev pub Asides : List Entry → Type 0
 Asides entries = AllByRecursion IsAside entries
 
+-- an entry that may be made outside the host
+abbrev pub IsOutside : Entry → Type 0
+IsOutside (entry.Accepted command node) = ⊥
+IsOutside (entry.Begin node session command) = ⊥
+IsOutside (entry.Out command ended) = ⊥
+IsOutside (entry.Store node setting) = ⊥
+IsOutside (entry.Interviewed node) = ⊥
+IsOutside _ = Unit {0}
+
+abbrev pub AreOutside : List Entry → Type 0
+AreOutside entries = AllByRecursion IsOutside entries
+
 -- ---- lists
 
-then_aside : (first : Outcome) (next : OuterState → Outcome) → Asides first.entries → ((o : OuterState) → Asides (next o).entries) → Asides (and_then first next).entries
-then_aside first next before later = all-append IsAside first.entries (next first.outer).entries before (later first.outer)
+then_outside : (first : Outcome) (next : OuterState → Outcome) → AreOutside first.entries → ((o : OuterState) → AreOutside (next o).entries) → AreOutside (and_then first next).entries
+then_outside first next before later = all-append IsOutside first.entries (next first.outer).entries before (later first.outer)
 
-each_aside : {X : Type 0} (step : OuterState → X → Outcome) → ((o : OuterState) (x : X) → Asides (step o x).entries) → (o : OuterState) (xs : List X) → Asides (each step o xs).entries
-each_aside step aside o [] = tt
-each_aside step aside o (x ∷ xs) = all-append IsAside (step o x).entries (each step (step o x).outer xs).entries (aside o x) (each_aside step aside (step o x).outer xs)
+each_outside : {X : Type 0} (step : OuterState → X → Outcome) → ((o : OuterState) (x : X) → AreOutside (step o x).entries) → (o : OuterState) (xs : List X) → AreOutside (each step o xs).entries
+each_outside step outside o [] = tt
+each_outside step outside o (x ∷ xs) = all-append IsOutside (step o x).entries (each step (step o x).outer xs).entries (outside o x) (each_outside step outside (step o x).outer xs)
 
-flat_aside : {X : Type 0} (f : X → List Entry) → ((x : X) → Asides (f x)) → (xs : List X) → Asides (flat_map f xs)
-flat_aside f aside [] = tt
-flat_aside f aside (x ∷ xs) = all-append IsAside (f x) (flat_map f xs) (aside x) (flat_aside f aside xs)
+flat_outside : {X : Type 0} (f : X → List Entry) → ((x : X) → AreOutside (f x)) → (xs : List X) → AreOutside (flat_map f xs)
+flat_outside f outside [] = tt
+flat_outside f outside (x ∷ xs) = all-append IsOutside (f x) (flat_map f xs) (outside x) (flat_outside f outside xs)
 
 -- ---- the line
 
-overrun_aside : (side : Side) (b : Bool) → Asides (if b then [] else entry.Overrun side ∷ [])
-overrun_aside side true = tt
-overrun_aside side false = (tt, tt)
+overrun_outside : (side : Side) (b : Bool) → AreOutside (if b then [] else entry.Overrun side ∷ [])
+overrun_outside side true = tt
+overrun_outside side false = (tt, tt)
 
-told_by_aside : (side : Side) (bytes : List ℕ) (mark : Mark) (text : List ℕ) → Asides (told_by side bytes mark text)
-told_by_aside side bytes Free text = overrun_aside side (fits bytes text)
-told_by_aside side bytes Lost text = (tt, tt)
-told_by_aside side bytes (Changed garble) text = (tt, overrun_aside side (fits bytes (garbled garble text)))
+told_by_outside : (side : Side) (bytes : List ℕ) (mark : Mark) (text : List ℕ) → AreOutside (told_by side bytes mark text)
+told_by_outside side bytes Free text = overrun_outside side (fits bytes text)
+told_by_outside side bytes Lost text = (tt, tt)
+told_by_outside side bytes (Changed garble) text = (tt, overrun_outside side (fits bytes (garbled garble text)))
 
-pub told_aside : (side : Side) (way : WayState) (unit : LineUnit) → Asides (told side way unit)
-told_aside side way unit = (tt, told_by_aside side way.bytes (mark_for way.marks unit) (unit_text unit))
+told_outside : (side : Side) (way : WayState) (unit : LineUnit) → AreOutside (told side way unit)
+told_outside side way unit = (tt, told_by_outside side way.bytes (mark_for way.marks unit) (unit_text unit))
 
 -- ---- the chip
 
-put_aside : (o : OuterState) (out : ChipOut) → Asides (put_out o out).entries
-put_aside o (chip_out.Write unit) = told_aside _ o.to_host unit
-put_aside o (chip_out.OnAir to route payload) = (tt, tt)
-put_aside o chip_out.NoRoute = tt
-put_aside o (chip_out.AskInfo node) = tt
-put_aside o chip_out.Full = (tt, tt)
+put_outside : (o : OuterState) (out : ChipOut) → AreOutside (put_out o out).entries
+put_outside o (chip_out.Write unit) = told_outside _ o.to_host unit
+put_outside o (chip_out.OnAir to route payload) = (tt, tt)
+put_outside o chip_out.NoRoute = tt
+put_outside o (chip_out.AskInfo node) = tt
+put_outside o chip_out.Full = (tt, tt)
 
-does_aside : (o : OuterState) (event : ChipEvent) → Asides (chip_does o event).entries
+does_outside : (o : OuterState) (event : ChipEvent) → AreOutside (chip_does o event).entries
 unfolding chip_does
-does_aside o event = each_aside put_out put_aside (with_chip o (after o.chip.state event)) (outs o.chip.state event)
+does_outside o event = each_outside put_out put_outside (with_chip o (after o.chip.state event)) (outs o.chip.state event)
 
 -- ---- results
 
-call_aside : (o : OuterState) (status : TransmitStatus) → Asides (call_back o status).entries
-call_aside o status = by (owes_call o.chip.state)
+call_outside : (o : OuterState) (status : TransmitStatus) → AreOutside (call_back o status).entries
+call_outside o status = by (owes_call o.chip.state)
   where
-    by : (b : Bool) → Asides (if b then chip_does (record o { calls = drop 1 o.calls }) (Done status) else silent (record o { calls = drop 1 o.calls })).entries
-    by true = does_aside (record o { calls = drop 1 o.calls }) (Done status)
+    by : (b : Bool) → AreOutside (if b then chip_does (record o { calls = drop 1 o.calls }) (Done status) else silent (record o { calls = drop 1 o.calls })).entries
+    by true = does_outside (record o { calls = drop 1 o.calls }) (Done status)
     by false = tt
 
-no_route_aside : (o : OuterState) → Asides (no_route o).entries
-no_route_aside o = call_aside (record o { due = without_no_route o.due }) no_route_status
+no_route_outside : (o : OuterState) → AreOutside (no_route o).entries
+no_route_outside o = call_outside (record o { due = without_no_route o.due }) no_route_status
 
-no_routes_aside : (count : ℕ) (o : OuterState) → Asides (no_routes count o).entries
-no_routes_aside zero o = tt
-no_routes_aside (suc count) o = then_aside (no_route o) (λ later. no_routes count later) (no_route_aside o) (λ later. no_routes_aside count later)
+no_routes_outside : (count : ℕ) (o : OuterState) → AreOutside (no_routes count o).entries
+no_routes_outside zero o = tt
+no_routes_outside (suc count) o = then_outside (no_route o) (λ later. no_routes count later) (no_route_outside o) (λ later. no_routes_outside count later)
 
-forgets_aside : (o : OuterState) (dead : Option (ℕ × ℕ)) → Asides (forgets o dead).entries
-forgets_aside o None = tt
-forgets_aside o (Some hop) = by (linked o.chip.state.table hop.0 hop.1)
+forgets_outside : (o : OuterState) (dead : Option (ℕ × ℕ)) → AreOutside (forgets o dead).entries
+forgets_outside o None = tt
+forgets_outside o (Some hop) = by (linked o.chip.state.table hop.0 hop.1)
   where
-    by : (b : Bool) → Asides (if b then tells (with_chip o (after o.chip.state (Forgets hop.0 hop.1))) (entry.Forget hop.0 hop.1 ∷ []) else silent o).entries
+    by : (b : Bool) → AreOutside (if b then tells (with_chip o (after o.chip.state (Forgets hop.0 hop.1))) (entry.Forget hop.0 hop.1 ∷ []) else silent o).entries
     by true = (tt, tt)
     by false = tt
 
-ends_aside : (o : OuterState) (status : ℕ) (dead : Option (ℕ × ℕ)) → Asides (frame_ends o status dead).entries
-ends_aside o status dead =
-    then_aside (forgets o dead) (λ forgot. and_then (no_routes (leading forgot.calls) forgot) (λ later. call_back later (unwrap_or (status_of status) Fail))) (forgets_aside o dead)
-    (λ forgot. then_aside (no_routes (leading forgot.calls) forgot) (λ later. call_back later (unwrap_or (status_of status) Fail)) (no_routes_aside (leading forgot.calls) forgot)
-    (λ later. call_aside later (unwrap_or (status_of status) Fail)))
+ends_outside : (o : OuterState) (status : ℕ) (dead : Option (ℕ × ℕ)) → AreOutside (frame_ends o status dead).entries
+ends_outside o status dead =
+    then_outside (forgets o dead) (λ forgot. and_then (no_routes (leading forgot.calls) forgot) (λ later. call_back later (unwrap_or (status_of status) Fail))) (forgets_outside o dead)
+    (λ forgot. then_outside (no_routes (leading forgot.calls) forgot) (λ later. call_back later (unwrap_or (status_of status) Fail)) (no_routes_outside (leading forgot.calls) forgot)
+    (λ later. call_outside later (unwrap_or (status_of status) Fail)))
 
-gives_aside : (o : OuterState) (devices : List State) (due : List Due) (route : Option Route) → Asides (gives o devices due route).entries
-gives_aside o devices [] route = tt
-gives_aside o devices (no_route_due ∷ due) route = no_route_aside o
-gives_aside o devices (Info node ∷ due) route = does_aside (record o { due = due }) _
+gives_outside : (o : OuterState) (devices : List State) (due : List Due) (route : Option Route) → AreOutside (gives o devices due route).entries
+gives_outside o devices [] route = tt
+gives_outside o devices (no_route_due ∷ due) route = no_route_outside o
+gives_outside o devices (Info node ∷ due) route = does_outside (record o { due = due }) _
 
 -- ---- the air
 
-change_aside : (node : ℕ) (change : Option Change) → Asides (change_entries node change)
-change_aside node None = tt
-change_aside node (Some change) = settings change.settings
+change_outside : (node : ℕ) (change : Option Change) → AreOutside (change_entries node change)
+change_outside node None = tt
+change_outside node (Some change) = settings change.settings
   where
-    settings : (l : List Setting) → Asides (map (λ (setting : Setting). entry.Dev node change.by setting) l)
+    settings : (l : List Setting) → AreOutside (map (λ (setting : Setting). entry.Dev node change.by setting) l)
     settings [] = tt
     settings (s ∷ l) = (tt, settings l)
 
-sent_aside : (event : AirEvent) → Asides (sent_entries event)
-sent_aside (air_event.Heard frame) = tt
-sent_aside (air_event.Lost frame) = tt
-sent_aside (air_event.Unheard frame) = tt
-sent_aside (air_event.Sent frame from to route payload) = (tt, tt)
-sent_aside (air_event.Changed node at) = tt
-sent_aside (air_event.ToChip frame from payload) = tt
-sent_aside (air_event.Done frame status dead) = tt
+sent_outside : (event : AirEvent) → AreOutside (sent_entries event)
+sent_outside (air_event.Heard frame) = tt
+sent_outside (air_event.Lost frame) = tt
+sent_outside (air_event.Unheard frame) = tt
+sent_outside (air_event.Sent frame from to route payload) = (tt, tt)
+sent_outside (air_event.Changed node at) = tt
+sent_outside (air_event.ToChip frame from payload) = tt
+sent_outside (air_event.Done frame status dead) = tt
 
-to_chip_aside : (o : OuterState) (from : ℕ) (payload : List ℕ) → Asides (to_chip o from payload).entries
-to_chip_aside o from payload = by (nat_le 1 (length payload) && nat_le (length payload) 46)
+to_chip_outside : (o : OuterState) (from : ℕ) (payload : List ℕ) → AreOutside (to_chip o from payload).entries
+to_chip_outside o from payload = by (nat_le 1 (length payload) && nat_le (length payload) 46)
   where
-    by : (b : Bool) → Asides (if b then chip_does o (chip_hears from payload) else silent o).entries
-    by true = does_aside o (chip_hears from payload)
+    by : (b : Bool) → AreOutside (if b then chip_does o (chip_hears from payload) else silent o).entries
+    by true = does_outside o (chip_hears from payload)
     by false = tt
 
-deals_aside : (devices : List State) (o : OuterState) (event : AirEvent) → Asides (deals devices o event).entries
-deals_aside devices o (air_event.Heard frame) = (tt, tt)
-deals_aside devices o (air_event.Lost frame) = (tt, tt)
-deals_aside devices o (air_event.Unheard frame) = (tt, tt)
-deals_aside devices o (air_event.Sent frame from to route payload) = (tt, tt)
-deals_aside devices o (air_event.Changed node at) = change_aside node _
-deals_aside devices o (air_event.ToChip frame from payload) = to_chip_aside o from payload
-deals_aside devices o (air_event.Done frame status dead) = ends_aside o status dead
+deals_outside : (devices : List State) (o : OuterState) (event : AirEvent) → AreOutside (deals devices o event).entries
+deals_outside devices o (air_event.Heard frame) = (tt, tt)
+deals_outside devices o (air_event.Lost frame) = (tt, tt)
+deals_outside devices o (air_event.Unheard frame) = (tt, tt)
+deals_outside devices o (air_event.Sent frame from to route payload) = (tt, tt)
+deals_outside devices o (air_event.Changed node at) = change_outside node _
+deals_outside devices o (air_event.ToChip frame from payload) = to_chip_outside o from payload
+deals_outside devices o (air_event.Done frame status dead) = ends_outside o status dead
 
-steps_aside : (w : Outside) (step : AirStep) → Asides (steps w step).entries
-steps_aside w step =
-    each_aside (deals (mesh_after (mesh_of w) step).devices) (deals_aside (mesh_after (mesh_of w) step).devices) (record w.outer { air = (mesh_after (mesh_of w) step).air }) (mesh_outs (mesh_of w) step)
+steps_outside : (w : Outside) (step : AirStep) → AreOutside (steps w step).entries
+steps_outside w step =
+    each_outside (deals (mesh_after (mesh_of w) step).devices) (deals_outside (mesh_after (mesh_of w) step).devices) (record w.outer { air = (mesh_after (mesh_of w) step).air }) (mesh_outs (mesh_of w) step)
 
-repeats_aside : (w : Outside) (refused : Option RepeatRefusal) (step : AirStep) → Asides (repeats w refused step).entries
-repeats_aside w None step = steps_aside w step
-repeats_aside w (Some repeat.NeverSent) step = (tt, tt)
-repeats_aside w (Some repeat.Forgotten) step = (tt, tt)
-repeats_aside w (Some (repeat.Stale later)) step = (tt, tt)
+repeats_outside : (w : Outside) (refused : Option RepeatRefusal) (step : AirStep) → AreOutside (repeats w refused step).entries
+repeats_outside w None step = steps_outside w step
+repeats_outside w (Some repeat.NeverSent) step = (tt, tt)
+repeats_outside w (Some repeat.Forgotten) step = (tt, tt)
+repeats_outside w (Some (repeat.Stale later)) step = (tt, tt)
 
 -- ---- devices
 
-acts_aside : (o : OuterState) (device : State) (event : DeviceEvent) (route : Option Route) → Asides (acts o device event route).entries
-acts_aside o device event route =
-    then_aside (tells o (changes_entries device.node (new_changes device event))) (λ later. sends later device.node route (device_replies device event))
-    (flat_aside (λ (change : Change). change_entries device.node (Some change)) (λ change. change_aside device.node (Some change)) (new_changes device event))
-    (λ later. flat_aside sent_entries sent_aside (answers_if (is_joined later.air device.node) later.air device.node (option_map backwards route) (device_replies device event)))
+acts_outside : (o : OuterState) (device : State) (event : DeviceEvent) (route : Option Route) → AreOutside (acts o device event route).entries
+acts_outside o device event route =
+    then_outside (tells o (changes_entries device.node (new_changes device event))) (λ later. sends later device.node route (device_replies device event))
+    (flat_outside (λ (change : Change). change_entries device.node (Some change)) (λ change. change_outside device.node (Some change)) (new_changes device event))
+    (λ later. flat_outside sent_entries sent_outside (answers_if (is_joined later.air device.node) later.air device.node (option_map backwards route) (device_replies device event)))
 
-at_aside : (o : OuterState) (device : Option State) (event : DeviceEvent) (route : Option Route) → Asides (acts_at o device event route).entries
-at_aside o None event route = tt
-at_aside o (Some device) event route = acts_aside o device event route
+at_outside : (o : OuterState) (device : Option State) (event : DeviceEvent) (route : Option Route) → AreOutside (acts_at o device event route).entries
+at_outside o None event route = tt
+at_outside o (Some device) event route = acts_outside o device event route
 
-hand_aside : (o : OuterState) (devices : List State) (place : Option ℕ) (event : DeviceEvent) (route : Option Route) → Asides (acts_by_hand o devices place event route).entries
-hand_aside o devices None event route = (tt, tt)
-hand_aside o devices (Some place) event route = at_aside o (slice_get devices place) event route
+hand_outside : (o : OuterState) (devices : List State) (place : Option ℕ) (event : DeviceEvent) (route : Option Route) → AreOutside (acts_by_hand o devices place event route).entries
+hand_outside o devices None event route = (tt, tt)
+hand_outside o devices (Some place) event route = at_outside o (slice_get devices place) event route
 
-shown_aside : (node : ℕ) (device : Option State) → Asides (shown_entries node device)
-shown_aside node None = (tt, tt)
-shown_aside node (Some device) = settings _
+shown_outside : (node : ℕ) (device : Option State) → AreOutside (shown_entries node device)
+shown_outside node None = (tt, tt)
+shown_outside node (Some device) = settings _
   where
-    settings : (l : List Setting) → Asides (map (λ (setting : Setting). entry.Device node setting) l)
+    settings : (l : List Setting) → AreOutside (map (λ (setting : Setting). entry.Device node setting) l)
     settings [] = tt
     settings (s ∷ l) = (tt, settings l)
 
-cleared_aside : (side : Side) (count : ℕ) → Asides (cleared_entries side count)
-cleared_aside side count = by (nat_lt 0 count)
+cleared_outside : (side : Side) (count : ℕ) → AreOutside (cleared_entries side count)
+cleared_outside side count = by (nat_lt 0 count)
   where
-    by : (b : Bool) → Asides (if b then entry.Cleared side count ∷ [] else [])
+    by : (b : Bool) → AreOutside (if b then entry.Cleared side count ∷ [] else [])
     by true = (tt, tt)
     by false = tt
 
 -- ---- events
 
-outcome_aside : (w : Outside) (event : OuterEvent) → is_own event ≡ true → Asides (outcome w event).entries
+outcome_outside : (w : Outside) (event : OuterEvent) → is_own event ≡ true → AreOutside (outcome w event).entries
 unfolding outcome
-outcome_aside w Begins_line own = tt
-outcome_aside w Begins_tick own = tt
-outcome_aside w (Host_writes unit) own = told_aside _ w.outer.to_chip unit
-outcome_aside w (Host_takes count) own = tt
-outcome_aside w (Host_notes entry) own = absurd (none own)
+outcome_outside w Begins_line own = tt
+outcome_outside w Begins_tick own = tt
+outcome_outside w (Host_writes unit) own = told_outside _ w.outer.to_chip unit
+outcome_outside w (Host_takes count) own = tt
+outcome_outside w (Host_notes entry) own = absurd (none own)
   where
     none : false ≡ true → ⊥
     none e = cc
-outcome_aside w (Host_begins node sessions) own = tt
-outcome_aside w (Chip_takes count rest ways) own = each_aside chip_does does_aside _ (judged_all ways)
-outcome_aside w (Arrives drawn route) own = steps_aside w _
-outcome_aside w (Gives route) own = gives_aside w.outer w.devices w.outer.due route
-outcome_aside w (Device_ticks place drawn route) own = at_aside w.outer (slice_get w.devices place) _ route
-outcome_aside w Chip_ticks own = does_aside _ _
-outcome_aside w (Repeats number drawn route) own = repeats_aside w _ _
-outcome_aside w (Wakes_device node route) own = hand_aside w.outer w.devices _ _ route
-outcome_aside w (Sets_device node value route) own = hand_aside w.outer w.devices _ _ route
-outcome_aside w (Shows node) own = shown_aside node _
-outcome_aside w (Joins node) own = tt
-outcome_aside w Discovers own = tt
-outcome_aside w (Links a b live) own = tt
-outcome_aside w (Loses count) own = tt
-outcome_aside w (Loses_acks count) own = tt
-outcome_aside w (Marks_loss side) own = tt
-outcome_aside w (Marks_change side garble) own = tt
-outcome_aside w (Clears_pipe side) own = cleared_aside side _
-outcome_aside w Collides_next own = tt
-outcome_aside w (Stalls ticks) own = tt
-outcome_aside w (Cuts size) own = tt
+outcome_outside w (Host_begins node sessions) own = tt
+outcome_outside w (Chip_takes count rest ways) own = each_outside chip_does does_outside _ (judged_all ways)
+outcome_outside w (Arrives drawn route) own = steps_outside w _
+outcome_outside w (Gives route) own = gives_outside w.outer w.devices w.outer.due route
+outcome_outside w (Device_ticks place drawn route) own = at_outside w.outer (slice_get w.devices place) _ route
+outcome_outside w Chip_ticks own = does_outside _ _
+outcome_outside w (Repeats number drawn route) own = repeats_outside w _ _
+outcome_outside w (Wakes_device node route) own = hand_outside w.outer w.devices _ _ route
+outcome_outside w (Sets_device node value route) own = hand_outside w.outer w.devices _ _ route
+outcome_outside w (Shows node) own = shown_outside node _
+outcome_outside w (Joins node) own = tt
+outcome_outside w Discovers own = tt
+outcome_outside w (Links a b live) own = tt
+outcome_outside w (Loses count) own = tt
+outcome_outside w (Loses_acks count) own = tt
+outcome_outside w (Marks_loss side) own = tt
+outcome_outside w (Marks_change side garble) own = tt
+outcome_outside w (Clears_pipe side) own = cleared_outside side _
+outcome_outside w Collides_next own = tt
+outcome_outside w (Stalls ticks) own = tt
+outcome_outside w (Cuts size) own = tt
 
-pub ticked_aside : (o : OuterState) → Asides (ticked_entry o)
-ticked_aside o = by (o.in_tick && not o.stamped)
+-- the number of the tick stands before the first entry
+pub ticked_are : (Is : Entry → Type 0) → ((tick : ℕ) → Is (entry.Time tick)) → (o : OuterState) → AllByRecursion Is (ticked_entry o)
+ticked_are Is time o = by (o.in_tick && not o.stamped)
   where
-    by : (b : Bool) → Asides (if b then entry.Time o.clock ∷ [] else [])
-    by true = (tt, tt)
+    by : (b : Bool) → AllByRecursion Is (if b then entry.Time o.clock ∷ [] else [])
+    by true = (time o.clock, tt)
     by false = tt
 
-pub stamp_aside : (o : OuterState) (told : List Entry) → Asides told → Asides (stamp o told)
-stamp_aside o [] aside = tt
-stamp_aside o (e ∷ told) aside = all-append IsAside (ticked_entry o) (e ∷ told) (ticked_aside o) aside
+pub stamp_are : (Is : Entry → Type 0) → ((tick : ℕ) → Is (entry.Time tick)) → (o : OuterState) (told : List Entry) → AllByRecursion Is told → AllByRecursion Is (stamp o told)
+stamp_are Is time o [] are = tt
+stamp_are Is time o (e ∷ told) are = all-append Is (ticked_entry o) (e ∷ told) (ticked_are Is time o) are
 
--- an event that is invalid of the host's
-pub own_aside : (w : Outside) (event : OuterEvent) → is_own event ≡ true → Asides (entries w event)
-own_aside w event own = stamp_aside (outcome w event).outer (outcome w event).entries (outcome_aside w event own)
+-- an event that is not the host's
+pub own_outside : (w : Outside) (event : OuterEvent) → is_own event ≡ true → AreOutside (entries w event)
+own_outside w event own = stamp_are IsOutside (λ tick. tt) (outcome w event).outer (outcome w event).entries (outcome_outside w event own)
 
 -- a unit that the host writes
-pub write_aside : (w : Outside) (unit : LineUnit) → Asides (entries w (Host_writes unit))
+pub write_outside : (w : Outside) (unit : LineUnit) → AreOutside (entries w (Host_writes unit))
 unfolding outcome
-write_aside w unit = stamp_aside (outcome w (Host_writes unit)).outer (told by_host w.outer.to_chip unit) (told_aside by_host w.outer.to_chip unit)
+write_outside w unit = stamp_are IsOutside (λ tick. tt) (outcome w (Host_writes unit)).outer (told by_host w.outer.to_chip unit) (told_outside by_host w.outer.to_chip unit)
+
+-- ---- neither of a command nor of a confirmed value
+
+outside_aside : (e : Entry) → IsOutside e → IsAside e
+outside_aside (entry.Accepted command node) is = absurd is
+outside_aside (entry.Begin node session command) is = absurd is
+outside_aside (entry.Out command ended) is = absurd is
+outside_aside (entry.Store node setting) is = absurd is
+outside_aside _ is = tt
+
+asides_of : (entries : List Entry) → AreOutside entries → Asides entries
+asides_of entries are = all-weaker IsOutside IsAside outside_aside entries are
+
+pub told_aside : (side : Side) (way : WayState) (unit : LineUnit) → Asides (told side way unit)
+told_aside side way unit = asides_of (told side way unit) (told_outside side way unit)
+
+pub ticked_aside : (o : OuterState) → Asides (ticked_entry o)
+ticked_aside o = ticked_are IsAside (λ tick. tt) o
+
+pub stamp_aside : (o : OuterState) (told : List Entry) → Asides told → Asides (stamp o told)
+stamp_aside o told aside = stamp_are IsAside (λ tick. tt) o told aside
+
+pub own_aside : (w : Outside) (event : OuterEvent) → is_own event ≡ true → Asides (entries w event)
+own_aside w event own = asides_of (entries w event) (own_outside w event own)
+
+pub write_aside : (w : Outside) (unit : LineUnit) → Asides (entries w (Host_writes unit))
+write_aside w unit = asides_of (entries w (Host_writes unit)) (write_outside w unit)

@@ -2,7 +2,7 @@
 
 use crate::rows::check_row;
 use device_sim::{Device, make_switch};
-use host_keep::PlainKeeper;
+use host_keep::{Keeper, PlainKeeper};
 use run_all::{ChaChaDraw, run};
 use run_lines::Status;
 use std::alloc::Global;
@@ -57,14 +57,14 @@ fn lines_of(alloc: Global, count: usize) -> Result<Bytes, NoMemory> {
 }
 
 /// The call of `run`, whose contract is large, stands alone: what comes after it does not carry it along.
-fn run_words<S: Source, K: Sink>(
+fn run_words<S: Source, K: Sink, P: Keeper>(
     alloc: Global,
     words: &[String],
     source: &mut S,
     sink: &mut K,
     devices: &mut Vec<Box<dyn Device>>,
     draw: &mut ChaChaDraw,
-    keeper: &mut PlainKeeper,
+    keeper: &mut P,
 ) -> Status {
     run(alloc, words, source, sink, devices, KEY, draw, keeper)
 }
@@ -79,7 +79,7 @@ fn words_of(alloc: Global, words: &str) -> Result<Vec<String>, NoMemory> {
 }
 
 /// The switch of node 2.
-fn switch(alloc: Global) -> Result<Vec<Box<dyn Device>>, NoMemory> {
+pub(crate) fn switch(alloc: Global) -> Result<Vec<Box<dyn Device>>, NoMemory> {
     let mut devices: Vec<Box<dyn Device>> = Vec::new(alloc);
     if let Some(node) = read_node(2) {
         devices.push(Box::new(alloc, make_switch(alloc, node, KEY)?)?)?;
@@ -87,24 +87,44 @@ fn switch(alloc: Global) -> Result<Vec<Box<dyn Device>>, NoMemory> {
     Ok(devices)
 }
 
-/// Runs the command of these words, with a bar between each two, over the switch of node 2.
+/// Runs the command of these words, with a bar between each two, over these devices and this keeper.
+pub(crate) fn ended_over<S: Source, K: Sink, P: Keeper>(
+    alloc: Global,
+    words: &str,
+    source: &mut S,
+    sink: &mut K,
+    devices: &mut Vec<Box<dyn Device>>,
+    keeper: &mut P,
+) -> Result<Status, NoMemory> {
+    let list = words_of(alloc, words)?;
+    let mut draw = ChaChaDraw::new([0; 32]);
+    Ok(run_words(
+        alloc,
+        list.as_slice(),
+        source,
+        sink,
+        devices,
+        &mut draw,
+        keeper,
+    ))
+}
+
+/// Runs it over the switch of node 2, and a keeper without records.
 fn ended<S: Source, K: Sink>(
     alloc: Global,
     words: &str,
     source: &mut S,
     sink: &mut K,
 ) -> Result<Status, NoMemory> {
-    let list = words_of(alloc, words)?;
     let mut devices = switch(alloc)?;
-    Ok(run_words(
+    ended_over(
         alloc,
-        list.as_slice(),
+        words,
         source,
         sink,
         &mut devices,
-        &mut ChaChaDraw::new([0; 32]),
         &mut PlainKeeper::new(alloc),
-    ))
+    )
 }
 
 /// Runs it over memory, where this read and this write fail, counted from 1 and 0 for none: how it ended, and what was written.

@@ -1,13 +1,18 @@
 //! A keeper over a store in memory of which chosen calls fail: what it kept is what the next one finds.
 
+use crate::records::{keeps, read};
+use crate::rows::check_row;
 use file_keeper::{FileKeeper, MemoryStore, OpenFault, bytes_have_one_split};
-use host_keep::{KeepFault, Keeper, keep};
+use host_keep::{KeepFault, Keeper};
 use std::alloc::Global;
 use std::test::Fail;
-use zw_base::NoMemory;
+use zw_base::{Bytes, NoMemory};
 
 /// What the store holds at first: a record, and the beginning of another as a crash leaves it.
-const HELD: &str = "[2,9]\n[2,";
+const HELD: &[u8] = b"[2,9]\n[2,";
+
+/// The record of it, as a line.
+const FIRST: &[u8] = b"[2,9]\n";
 
 /// What is to be kept then.
 const RECORDS: [&str; 3] = ["[2,3]", "[2,4]", "[2,5]"];
@@ -24,63 +29,101 @@ fn keeper_over(
     Ok(FileKeeper::new(alloc, MemoryStore::new(alloc, held, failing)?))
 }
 
-/// The records, each with a line feed.
-fn text_of<K: Keeper>(alloc: Global, keeper: &mut K) -> Result<String, Fail> {
-    let mut text = String::new(alloc);
-    for at in 0..keeper.count() {
-        if at < keeper.count() {
-            let Ok(record) = keeper.read(alloc, at) else {
-                return Err("not read".into());
-            };
-            text.push_str(str::from_utf8(record.as_slice())?)?;
-            text.push('\n')?;
-        }
-    }
-    Ok(text)
+/// Whether the keeper is opened.
+fn opens(keeper: &mut FileKeeper<MemoryStore>) -> bool {
+    keeper.open().is_ok()
 }
 
-/// Has the records kept over a store whose calls of these numbers fail. Gives those that were kept, with what was there, and what the next
-/// keeper over that store finds.
-fn kept_and_found(alloc: Global, failing: &[u64]) -> Result<(String, String), Fail> {
-    let mut keeper = keeper_over(alloc, HELD.as_bytes(), failing)?;
-    let mut kept = String::from_str(alloc, "[2,9]\n")?;
-    if keeper.open().is_ok() {
-        for record in RECORDS {
-            if keep(&mut keeper, record.as_bytes())? {
-                kept.push_str(record)?;
-                kept.push('\n')?;
-            }
+/// Adds the record as a line.
+fn put_line(text: &mut Bytes, record: &[u8]) -> Result<(), NoMemory> {
+    text.extend(record)?;
+    text.push(b'\n')
+}
+
+/// Has the records kept, and adds those that were.
+fn keep_each<K: Keeper>(keeper: &mut K, kept: &mut Bytes) -> Result<(), NoMemory> {
+    for record in RECORDS {
+        if keeps(keeper, record.as_bytes())? {
+            put_line(kept, record.as_bytes())?;
         }
     }
-    let store = keeper.into_store();
-    let mut next = keeper_over(alloc, store.bytes(), &[])?;
-    if next.open().is_err() {
-        return Err("not opened".into());
+    Ok(())
+}
+
+/// Has the records kept over a store whose calls of these numbers fail, and adds those that were. Gives what the store holds then.
+fn held_after(alloc: Global, failing: &[u64], kept: &mut Bytes) -> Result<Bytes, NoMemory> {
+    let mut keeper = keeper_over(alloc, HELD, failing)?;
+    if opens(&mut keeper) {
+        keep_each(&mut keeper, kept)?;
     }
-    let found = text_of(alloc, &mut next)?;
-    Ok((kept, found))
+    Bytes::from_slice(alloc, keeper.into_store().bytes())
+}
+
+/// Adds the record at that place, and answers whether there is one.
+fn add_record<K: Keeper>(
+    alloc: Global,
+    keeper: &mut K,
+    at: u64,
+    text: &mut Bytes,
+) -> Result<bool, NoMemory> {
+    match read(alloc, keeper, at) {
+        Some(Ok(record)) => {
+            put_line(text, record.as_slice())?;
+            Ok(true)
+        }
+        _ => Ok(false),
+    }
+}
+
+/// The records that a keeper finds in a store that holds this. None where it does not open.
+fn found_in(alloc: Global, held: &[u8]) -> Result<Option<Bytes>, NoMemory> {
+    let mut keeper = keeper_over(alloc, held, &[])?;
+    if !opens(&mut keeper) {
+        return Ok(None);
+    }
+    let mut text = Bytes::new(alloc);
+    for at in 0..keeper.count() {
+        if !add_record(alloc, &mut keeper, at, &mut text)? {
+            return Ok(None);
+        }
+    }
+    Ok(Some(text))
+}
+
+/// Whether the next keeper finds what was kept where these calls fail, and no more where it is to be all.
+fn finds(alloc: Global, failing: &[u64], is_all: bool) -> Result<bool, NoMemory> {
+    let mut kept = Bytes::from_slice(alloc, FIRST)?;
+    let held = held_after(alloc, failing, &mut kept)?;
+    Ok(match found_in(alloc, held.as_slice())? {
+        Some(found) => {
+            found.as_slice().starts_with(kept.as_slice()) && (!is_all || found.len() == kept.len())
+        }
+        None => false,
+    })
 }
 
 #[test]
 fn what_was_kept_is_found_wherever_a_call_fails(rt: HostRuntime) -> Result<(), Fail> {
     for call in 0..CALLS {
-        let (kept, found) = kept_and_found(rt.alloc(), &[call])?;
-        assert!(rt; kept == found, "{kept}");
-        let (kept, found) = kept_and_found(rt.alloc(), &[call, call + 1])?;
-        assert!(rt; found.starts_with(kept.as_str()), "{kept}");
+        let is_so = finds(rt.alloc(), &[call], true)?
+            && finds(rt.alloc(), &[call, call + 1], false)?;
+        check_row(&rt, is_so, call as usize);
     }
     Ok(())
 }
 
 #[test]
 fn a_keeper_that_cannot_undo_fails_from_then_on(rt: HostRuntime) -> Result<(), Fail> {
-    let mut keeper = keeper_over(rt.alloc(), HELD.as_bytes(), &[4, 5])?;
-    assert!(rt; keeper.open() == Ok(()));
-    assert!(rt; !keep(&mut keeper, b"[2,3]")?);
-    assert!(rt; !keep(&mut keeper, b"[2,4]")?);
+    let mut keeper = keeper_over(rt.alloc(), HELD, &[4, 5])?;
+    assert!(rt; opens(&mut keeper));
+    assert!(rt; !keeps(&mut keeper, b"[2,3]")?);
+    assert!(rt; !keeps(&mut keeper, b"[2,4]")?);
     assert!(rt; keeper.count() == 1 && keeper.faults() == 2);
-    let read = keeper.read(rt.alloc(), 0);
-    assert!(rt; matches!(read, Err(KeepFault::Failed)));
+    let is_refused = matches!(
+        read(rt.alloc(), &mut keeper, 0),
+        Some(Err(KeepFault::Failed))
+    );
+    assert!(rt; is_refused);
     Ok(())
 }
 

@@ -45,12 +45,16 @@ fn records_are_written_as_read(rt: HostRuntime) {
 }
 
 /// Whether the record is kept.
-fn keeps<K: Keeper>(keeper: &mut K, record: &[u8]) -> Result<bool, NoMemory> {
+pub(crate) fn keeps<K: Keeper>(keeper: &mut K, record: &[u8]) -> Result<bool, NoMemory> {
     keep(keeper, record)
 }
 
 /// What is read at a place. None where nothing is kept there.
-fn read<K: Keeper>(alloc: Global, keeper: &mut K, at: u64) -> Option<Result<Bytes, KeepFault>> {
+pub(crate) fn read<K: Keeper>(
+    alloc: Global,
+    keeper: &mut K,
+    at: u64,
+) -> Option<Result<Bytes, KeepFault>> {
     if at < keeper.count() {
         Some(keeper.read(alloc, at))
     } else {

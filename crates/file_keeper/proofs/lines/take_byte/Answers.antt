@@ -1,4 +1,4 @@
-use Rattle.std.proofs.Common.{◌≡◌, ◌≢◌, ℕ, arith}
+use Rattle.std.proofs.Common.{◌≡◌, ◌≢◌, arith}
 use Rattle.file_keeper.proofs.Splits.{split_byte, split_line}
 use Rattle.file_keeper.proofs.lines.take_byte.Goals as goal
 

@@ -27,4 +27,4 @@ none_said (ran ∷ more) none = (none.0, none_said more none.1)
 pub returns-clause-fares : goal.returns-clause-fares
 returns-clause-fares c = λ ended key old new quiet story unentered tells none.
     subst (λ (l : List Entry). FaresInTurn l) (same_transcript (first key old) story)
-    (c.lines_fare_in_turn.ensures (keys_of key) old.records old.devices (all_said story) (none_said story none) (story_done c.lines_are_read_as_said.ensures ended key old new quiet story unentered tells))
+    (c.lines_fare_in_turn.ensures.once (keys_of key) old.records old.devices (all_said story) (none_said story none) (story_done c.lines_are_read_as_said.ensures ended key old new quiet story unentered tells))

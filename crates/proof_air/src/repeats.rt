@@ -1,0 +1,23 @@
+//! Frames that lines repeat.
+
+ghost use Rattle.std.specs.Prelude.{Option, List, ℕ};
+ghost use Rattle.s0_crypto.specs.declared.key_pair.Keys.{Keys};
+ghost use Rattle.device_sim.specs.State.{State};
+ghost use Rattle.law_transcript.specs.Fates.{NumbersFrames};
+ghost use Rattle.law_transcript.specs.Sessions.{KeepsSessions};
+ghost use Rattle.world_model.specs.State.{first_machine};
+ghost use Rattle.proof_spoken.specs.Spoken.{Spoken, transcript_of};
+ghost use Rattle.proof_spoken.specs.Lines.{AreDone};
+ghost use Rattle.proof_air.specs.Hearing.{RepeatsFresh};
+
+/// Over any lines from the first on, the last of which an allocation failure may have cut short, what is heard directly after a `repeat` is heard while the
+/// frame that the line names is fresh by the transcript, where frames and sessions are numbered in order.
+pub fn lines_repeat_what_is_fresh()
+    ensures { (keys : Keys) (records : Option (List (List ℕ))) (devices : List State) (lines : List Spoken) →
+        AreDone (first_machine keys records devices) lines →
+        NumbersFrames (transcript_of (first_machine keys records devices) lines) →
+        KeepsSessions (transcript_of (first_machine keys records devices) lines) →
+        RepeatsFresh (transcript_of (first_machine keys records devices) lines) }
+{
+    chip_sim::rules_of_events();
+}
