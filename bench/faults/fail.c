@@ -101,6 +101,11 @@ ssize_t write(int file, const void *bytes, size_t size) {
     return syscall(SYS_write, file, bytes, size);
 }
 
+/* The C library has a second name for each of these two. */
+ssize_t __read(int file, void *bytes, size_t size) { return read(file, bytes, size); }
+
+ssize_t __write(int file, const void *bytes, size_t size) { return write(file, bytes, size); }
+
 ssize_t writev(int file, const struct iovec *parts, int count) {
     if (file != 2 && fails(file == 1 ? WRITE : KEEP)) return failed();
     return syscall(SYS_writev, file, parts, count);
