@@ -38,7 +38,7 @@ returns-clause-fares c = λ key old new story unentered is may.
     (may_fare (transcript_of (first key old) (all_said story)) (RepeatsNothing story) (KeepsRecords key old story)
     (λ none. c.lines_fare_in_turn.ensures.once (keys_of key) old.records old.devices (all_said story) (none_said story none) (story_done c.lines_are_read_as_said.ensures key old new story unentered is))
     (λ well. c.lines_fare_in_turn.ensures.again (keys_of key) old.records old.devices (all_said story) (story_done c.lines_are_read_as_said.ensures key old new story unentered is)
-        (subst (λ (l : List Entry). HostLaws l) (sym (same_transcript (first key old) story)) (c.stories_keep_laws.ensures.orders key old new story unentered is well)).sessions_keep)
+    (subst (λ (l : List Entry). HostLaws l) (sym (same_transcript (first key old) story)) (c.stories_keep_laws.ensures.orders key old new story unentered is well)).sessions_keep)
     may)
 
 pub returns-clause-collides : goal.returns-clause-collides
