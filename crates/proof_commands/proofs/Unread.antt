@@ -24,8 +24,8 @@ use Rattle.world_model.specs.Events.{Event, Outside_does, Host_does, Host_takes,
 use Rattle.world_model.specs.Did.{happens_all, entries_all, MayAll, Schedule, Then, Nothing, PrefixOf, ThenPrefix}
 use Rattle.world_model.specs.Settling.{Outside, IsPump, IsChipPart, IsHostPart, IsMove, IfMoved, Passes, Settles}
 use Rattle.world_model.specs.Ticking.{IsClockTick, IsDelivery, IsGiving, IsDeviceTick, IsChipTick, IsOutsideTick, IsHostTick, IsTick, Ticks}
-use Rattle.world_model.specs.Lines.{IsRefusal, IsDone, Asks, IsDiscovery, IsEffect, IsLineBegin, IsLineRest, IsLine}
-use Rattle.world_model.specs.Prefixes.{PassesPrefix, SettlesPrefix, OutsideTickPrefix, TickPrefix, TicksPrefix, EffectPrefix, LineRestPrefix, LinePrefix, LinePart, IsLineBefore}
+use Rattle.world_model.specs.Lines.{IsRefusal, IsDone, Asks, IsEffect, IsLineBegin, IsLineRest, IsLine}
+use Rattle.world_model.specs.Prefixes.{PassesPrefix, SettlesPrefix, OutsideTickPrefix, TickPrefix, TicksPrefix, EffectPrefix, LineRestPrefix, LinePart, IsLineBefore}
 use Rattle.world_model.proofs.Pieces.{Of, Law, Pieces, of_line_before}
 use Rattle.world_model.proofs.Along.{IsOfPart, pieces_along, anywhere}
 use Rattle.law_transcript.specs.Restarts.{is_restart}

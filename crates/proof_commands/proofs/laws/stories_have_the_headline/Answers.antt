@@ -26,7 +26,7 @@ use Rattle.proof_headline.proofs.PlainTying.{was_there}
 use Rattle.proof_headline.specs.Truly.{IsAskable, SucceedsAfterChangeOf}
 use Rattle.proof_headline.specs.Supervised.{IsPlainOrLock, IsSupervisedNode}
 use Rattle.proof_commands.specs.Around.{Around}
-use Rattle.proof_commands.specs.Laws.{Ran, IsFairRun, IsReadAs, IsStory, events_of, first, lines_of, transcript, with_last}
+use Rattle.proof_commands.specs.Laws.{Ran, IsFairRun, IsReadAs, IsStory, events_of, first, transcript, with_last}
 use Rattle.proof_commands.specs.Generate.{plain_lines}
 use Rattle.proof_commands.proofs.Unentered.{same_lines, further_may, further_devices, further_host}
 use Rattle.proof_commands.proofs.Reading.{AreRead, story_lines}
