@@ -1,20 +1,18 @@
 -- A law that judges each entry asks something of a few of them: it holds where these have what it asks.
 use Rattle.std.proofs.Common.{◌≡◌, ℕ, ◌==◌, ◌||◌, Bool, true, false, List, [], ◌∷◌, ◌++◌, refl, inl, inr, arith}
-use Rattle.std.specs.Prelude.{⊤, Option, Some, None, is_some}
+use Rattle.std.specs.Prelude.{⊤}
 use Rattle.std.specs.List.{AllByRecursion}
 use Rattle.std.proofs.lemmas.Bool.Decides.{nat_tests}
 use Rattle.device_stack.specs.State.{State}
-use Rattle.class_info.specs.declared.report_status.ReportStatus.{ReportStatus}
 use Rattle.zw_words.specs.declared.side.Side.TheVariants.{Host, Chip}
 use Rattle.zw_text.specs.declared.line.Line.{Line}
 use Rattle.zw_text.specs.declared.entry.Ended.TheVariants as endings
 use Rattle.zw_text.specs.declared.entry.Entry.{Entry}
-use Rattle.zw_text.specs.declared.entry.Entry.TheVariants.{Said, Accepted, Refused, Begin, Out, Air, Heard, Lost, Unheard, Time, Written, Store, Report, Awake, Old, Interviewed}
+use Rattle.zw_text.specs.declared.entry.Entry.TheVariants.{Said, Accepted, Refused, Begin, Out, Air, Heard, Lost, Unheard, Time, Written, Store}
 use Rattle.zw_text.specs.Transcript.{line_last}
 use Rattle.law_transcript.specs.Lists.{EachAfter, Has}
 use Rattle.law_transcript.specs.Answers.{MayAnswer, Follows, MayCancel, CancelsWhenAsked, before_last}
 use Rattle.law_transcript.specs.Carrying.{MaySend, CarriesUnits, MayBring, BringsWhatWasHeard, WereHeard}
-use Rattle.law_transcript.specs.Causes.{HasCause, HasReport, EachHasCause, status_of}
 use Rattle.law_transcript.specs.Fates.{MayAir, NumbersFrames, MayFare, FaresInTurn, MayBeMarked, LosesMarked}
 use Rattle.law_transcript.specs.Once.{MayEnd, SucceedsAfterChange}
 use Rattle.law_transcript.specs.Payloads.{MayRequest, SendsWhatIsDue, FollowsBegin, BeginsWithUnit}
@@ -216,33 +214,6 @@ quiet_beginning (first ∷ next ∷ rest) entry is = quiet_beginning (next ∷ r
 
 pub begins_with_unit : (transcript : List Entry) → AllAsked is_after_begin FollowsBegin [] transcript → BeginsWithUnit transcript
 begins_with_unit = each is_after_begin FollowsBegin quiet_beginning []
-
--- ---- causes
-
-abbrev pub is_caused : List Entry → Entry → Bool
-is_caused past (Out number ended) = is_some (status_of ended)
-is_caused past (Report node setting) = true
-is_caused past (Awake node) = true
-is_caused past (Old node id) = true
-is_caused past (Interviewed node) = true
-is_caused past _ = false
-
-quiet_outcome : (listing : ℕ → List ℕ) (key : List ℕ) (past : List Entry) (number : ℕ) (status : Option ReportStatus) → is_some status ≡ false
-    → HasReport listing key past number status
-quiet_outcome listing key past number None is = tt
-quiet_outcome listing key past number (Some status) is = cc
-
-quiet_causes : (listing : ℕ → List ℕ) (key : List ℕ) → Quiet is_caused (HasCause listing key)
-quiet_causes listing key past (Out number ended) is = quiet_outcome listing key past number (status_of ended) is
-quiet_causes listing key past (Report node setting) is = cc
-quiet_causes listing key past (Awake node) is = cc
-quiet_causes listing key past (Old node id) is = cc
-quiet_causes listing key past (Interviewed node) is = cc
-quiet_causes listing key past _ is = tt
-
-pub each_has_cause : (listing : ℕ → List ℕ) (key : List ℕ) (transcript : List Entry)
-    → AllAsked is_caused (HasCause listing key) [] transcript → EachHasCause listing key transcript
-each_has_cause listing key = each is_caused (HasCause listing key) (quiet_causes listing key) []
 
 -- ---- marked frames
 

@@ -5,5 +5,5 @@ pub mod Entries
 pub mod Having
 mod Dues
 mod Ciphering
-mod Sealing
+pub mod Sealing
 mod Headlines

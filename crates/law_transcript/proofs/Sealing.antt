@@ -158,13 +158,3 @@ opened_report =
     ap (λ (keys : Keys). unsealed_at keys report_nonce report_ends (report_with report_code)) keys_are
     ∙ ap (λ (code : List ℕ). opened_by report_text report_code code (aes encrypting (report_own ++ report_nonce))) report_code_is
     ∙ ap (λ (block : List ℕ). opened_by report_text report_code report_code block) report_stream_is
-
--- with another code it does not
-abbrev pub other_code : List ℕ
-other_code = 0xFE ∷ 0x76 ∷ 0x1C ∷ 0x24 ∷ 0xE5 ∷ 0xDC ∷ 0xC4 ∷ 0x1F ∷ []
-
-pub unopened_report : unsealed_at (keys_of network_key) report_nonce report_ends (report_with other_code) ≡ None
-unfolding unsealed_at ofb_from key_block
-unopened_report =
-    ap (λ (keys : Keys). unsealed_at keys report_nonce report_ends (report_with other_code)) keys_are
-    ∙ ap (λ (code : List ℕ). opened_by report_text other_code code (aes encrypting (report_own ++ report_nonce))) report_code_is

@@ -85,10 +85,6 @@ sendings transcript = flat_map sending_in (arrived Host transcript)
 abbrev pub bringings : List Entry → List Carried
 bringings transcript = flat_map bringing_in (arrived Chip transcript)
 
--- the notices of the chip that arrive
-abbrev pub notices : List Entry → List Notice
-notices transcript = flat_map notice_in (arrived Chip transcript)
-
 -- the payload, where it is to or from that node
 abbrev pub from_node : ℕ → Carried → List (List ℕ)
 from_node node carried = if carried.node == node then carried.payload ∷ [] else []
@@ -96,7 +92,3 @@ from_node node carried = if carried.node == node then carried.payload ∷ [] els
 -- the payloads that came from a node
 abbrev pub payloads_from : ℕ → List Entry → List (List ℕ)
 payloads_from node transcript = flat_map (from_node node) (bringings transcript)
-
--- the payloads that the host asked to be sent to a node
-abbrev pub payloads_to : ℕ → List Entry → List (List ℕ)
-payloads_to node transcript = flat_map (from_node node) (sendings transcript)

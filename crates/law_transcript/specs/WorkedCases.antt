@@ -9,10 +9,9 @@ use Rattle.host_orders.specs.Settings.{setting}
 use Rattle.device_kinds.specs.declared.kind.Kind.TheVariants as kinds
 use Rattle.device_stack.specs.State.{State, fresh}
 use Rattle.zw_text.specs.declared.entry.Ended.{Ended}
-use Rattle.zw_text.specs.declared.entry.Ended.TheVariants as endings
 use Rattle.zw_text.specs.declared.entry.Refusal.TheVariants as refusals
 use Rattle.zw_text.specs.declared.entry.Entry.{Entry}
-use Rattle.zw_text.specs.declared.entry.Entry.TheVariants.{Said, Accepted, Refused, Begin, Written, Garbled, Air, Heard, Lost, Out, Report, Old, Interviewed, Time}
+use Rattle.zw_text.specs.declared.entry.Entry.TheVariants.{Said, Accepted, Refused, Begin, Written, Garbled, Air, Heard, Lost, Out, Report, Interviewed, Time}
 use Rattle.law_transcript.specs.Worked.{bytes}
 
 -- ---- sessions and outcomes
@@ -117,29 +116,3 @@ nonces_counted =
     nonce_asked ∷ Written Host (bytes (codes "01110013040A9880019E0A1249BB594F2501AC")) ∷ nonce_asked ∷
     Written Host (bytes (codes "01110013040A9880019E0A1249BB594F2502AF")) ∷ nonce_asked ∷
     Written Host (bytes (codes "01110013040A988002010203040506072503CF")) ∷ []
-
--- a report tells that a command failed, that it is not supported, and that it succeeded and the node asks to be kept awake
-abbrev pub failure_told : List Entry
-failure_told =
-    Said (codes "set 2 on") ∷ Accepted 1 2 ∷ Begin 2 1 1 ∷ Written Chip (bytes (codes "010B00040002056C020102009A")) ∷
-    Out 1 endings.Fail ∷ []
-
-abbrev pub unsupported_told : List Entry
-unsupported_told =
-    Said (codes "set 2 on") ∷ Accepted 1 2 ∷ Begin 2 1 1 ∷ Written Chip (bytes (codes "010B00040002056C0201000098")) ∷
-    Out 1 endings.NoSupport ∷ []
-
-abbrev pub success_told_asking : List Entry
-success_told_asking =
-    Said (codes "set 2 on") ∷ Accepted 1 2 ∷ Begin 2 1 1 ∷ Written Chip (bytes (codes "010B00040002056C0241FF0027")) ∷
-    Out 1 endings.Success ∷ []
-
--- a switch tells its value
-abbrev pub value_told : List Entry
-value_told = Written Chip (bytes (codes "010900040002032503FF2A")) ∷ Report 2 (setting 0 names.Switch 255) ∷ []
-
--- a lock that has been given a nonce tells a sealed report, which is old
-abbrev pub old_sealed : List Entry
-old_sealed =
-    Written Host (bytes (codes "01110013040A9880019E0A1249BB594F2504A9")) ∷
-    Written Chip (bytes (codes "011F000400041998810AED115731C616E72C1D6945BFE201FE761C24E5DCC41E55")) ∷ Old 4 1 ∷ []

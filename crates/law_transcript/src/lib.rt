@@ -7,9 +7,9 @@
 //!
 //! The definitions are in `specs/`, one file a law: `Nodes` and `Commands` (what is known of nodes, and what is asked
 //! of them), `Restarts`, `Sessions`, `Once`, `Values` and `Headline`; `Answers` and `Stores` of the host, `Payloads`
-//! and `Causes` of what it sends and enters; `Units`, `Links` and `Carrying` of the serial line; `Fates` and `Repeats`
-//! of the air; `Devices`, `Records`, `Table`. `Lists` has their words for lists; `Worked..` are the transcripts that
-//! the functions here speak of.
+//! of what it sends; `Units`, `Links` and `Carrying` of the serial line; `Fates` and `Repeats` of the air; `Devices`,
+//! `Records`, `Table`. `Lists` has their words for lists; `Worked..` are the transcripts that the functions here speak
+//! of.
 #![tactic(auto)]
 
 mod air;
@@ -32,6 +32,5 @@ pub use once::{
     worked_once, worked_sessions, worked_successes, worked_values,
 };
 pub use wire::{
-    rejected_payloads, rejected_wire, worked_begins, worked_bringing, worked_causes,
-    worked_payloads, worked_units,
+    rejected_payloads, rejected_wire, worked_begins, worked_bringing, worked_payloads, worked_units,
 };

@@ -1,10 +1,9 @@
-//! What the laws of units, payloads and causes say of worked transcripts, and of others with one thing wrong.
+//! What the laws of units and payloads say of worked transcripts, and of others with one thing wrong.
 
 ghost use Rattle.std.specs.Prelude.{[], ◌∷◌};
 ghost use Rattle.law_transcript.specs.Nodes.{listing_of};
 ghost use Rattle.law_transcript.specs.Carrying.{CarriesUnits, BringsWhatWasHeard};
 ghost use Rattle.law_transcript.specs.Payloads.{SendsWhatIsDue, BeginsWithUnit};
-ghost use Rattle.law_transcript.specs.Causes.{EachHasCause};
 ghost use Rattle.law_transcript.specs.Worked.{
   plain_exchange,
   repeated_exchange,
@@ -27,11 +26,6 @@ ghost use Rattle.law_transcript.specs.WorkedCases.{
   nonces_counted,
   sent_by_old_list,
   set_by_old_list,
-  failure_told,
-  unsupported_told,
-  success_told_asking,
-  value_told,
-  old_sealed,
   the_dimmer,
 };
 ghost use Rattle.law_transcript.specs.WorkedWrongWire.{
@@ -41,8 +35,6 @@ ghost use Rattle.law_transcript.specs.WorkedWrongWire.{
   aired_elsewhere,
   aired_for_lost,
   aired_as_written,
-  told_of_sealed_failure,
-  interviewed_of_another,
   brought_unheard,
   brought_otherwise,
   brought_of_another,
@@ -50,28 +42,6 @@ ghost use Rattle.law_transcript.specs.WorkedWrongWire.{
   begun_silently,
   begun_elsewhere,
   begun_emptily,
-  told_by_none,
-  told_of_another,
-  told_of_earlier,
-  told_of_node,
-  told_of_failure,
-  told_of_session,
-  told_openly,
-  woken_by_none,
-  woken_by_another,
-  woken_by_value,
-  old_from_none,
-  old_otherwise,
-  old_of_another,
-  old_for_none,
-  interviewed_by_none,
-  interviewed_otherwise,
-  reported_by_none,
-  reported_otherwise,
-  reported_of_another,
-  told_for_none,
-  told_for_longer,
-  told_unopened,
 };
 ghost use Rattle.law_transcript.specs.WorkedWrongPayloads.{
   sent_otherwise,
@@ -157,23 +127,6 @@ pub fn worked_payloads()
     ensures set_old_list { SendsWhatIsDue (listing_of (the_dimmer ∷ [])) [] set_by_old_list }
 {}
 
-/// In worked transcripts outcomes, wakings, old reports, interviews and heard values have their causes, also where a report is sealed.
-pub fn worked_causes()
-    ensures plain { EachHasCause (listing_of (the_switch ∷ [])) [] plain_exchange }
-    ensures repeated { EachHasCause (listing_of (the_switch ∷ [])) [] repeated_exchange }
-    ensures lossy { EachHasCause (listing_of (the_switch ∷ [])) [] lossy_exchange }
-    ensures cancelled { EachHasCause (listing_of (the_switch ∷ [])) [] cancelled_order }
-    ensures restarted { EachHasCause (listing_of (the_switch ∷ [])) [] restarted_host }
-    ensures sleeping { EachHasCause (listing_of (the_sensor ∷ [])) [] sleeping_node }
-    ensures sealed { EachHasCause (listing_of (the_lock ∷ [])) network_key sealed_exchange }
-    ensures cut { EachHasCause (listing_of (the_plug ∷ [])) [] long_message }
-    ensures failed { EachHasCause (listing_of (the_switch ∷ [])) [] failure_told }
-    ensures unsupported { EachHasCause (listing_of (the_switch ∷ [])) [] unsupported_told }
-    ensures asking { EachHasCause (listing_of (the_switch ∷ [])) [] success_told_asking }
-    ensures value { EachHasCause (listing_of (the_switch ∷ [])) [] value_told }
-    ensures sealed_report { EachHasCause (listing_of (the_lock ∷ [])) network_key old_sealed }
-{}
-
 /// Each of these breaks one part of the law of what is sent: the message of another session, of an earlier one, before one begins, or by
 /// the classes that came to be known later; one that is sealed though its node lists no Security 0, or not though it does, sealed for no
 /// nonce that was given or for one of nine bytes, with another byte, or under a longer nonce; one that is not cut though its node lists
@@ -210,12 +163,8 @@ pub fn rejected_payloads()
 {}
 
 /// Each of these breaks one part of the laws: a frame that no unit asked for, for another node, twice for one unit, in another order, for a unit that was
-/// lost, or as one was before it was changed; a payload brought that was not heard, or another, or of another node, or that the controller sent; a session
-/// that begins without its unit, with one for another node, or one that sends nothing; an outcome of a command that no session carries, or an earlier one,
-/// of which the report is of another node or session or tells another status, also sealed, or that a lock tells unsealed, for no nonce that it was given,
-/// for one of nine bytes, or with another code; an old report with another id, or of another node, or sealed for no nonce; an interview with other
-/// classes, or by the information of another node; another value than was heard, or of another node; a waking that another node told, or another
-/// message; and an outcome, a waking, an old report, an interview and a heard value without a cause.
+/// lost, or as one was before it was changed; a payload brought that was not heard, or another, or of another node, or that the controller sent; and a
+/// session that begins without its unit, with one for another node, or one that sends nothing.
 pub fn rejected_wire()
     ensures aired { CarriesUnits aired_unasked → ⊥ }
     ensures aired_elsewhere { CarriesUnits aired_elsewhere → ⊥ }
@@ -230,28 +179,4 @@ pub fn rejected_wire()
     ensures silently { BeginsWithUnit begun_silently → ⊥ }
     ensures elsewhere { BeginsWithUnit begun_elsewhere → ⊥ }
     ensures emptily { BeginsWithUnit begun_emptily → ⊥ }
-    ensures another { EachHasCause (listing_of (the_switch ∷ [])) [] told_of_another → ⊥ }
-    ensures earlier { EachHasCause (listing_of (the_switch ∷ [])) [] told_of_earlier → ⊥ }
-    ensures node { EachHasCause (listing_of (the_switch ∷ [])) [] told_of_node → ⊥ }
-    ensures failure { EachHasCause (listing_of (the_switch ∷ [])) [] told_of_failure → ⊥ }
-    ensures sealed_failure { EachHasCause (listing_of (the_lock ∷ [])) network_key told_of_sealed_failure → ⊥ }
-    ensures session { EachHasCause (listing_of (the_switch ∷ [])) [] told_of_session → ⊥ }
-    ensures old_id { EachHasCause (listing_of (the_switch ∷ [])) [] old_otherwise → ⊥ }
-    ensures old_node { EachHasCause (listing_of (the_switch ∷ [])) [] old_of_another → ⊥ }
-    ensures old_unopened { EachHasCause (listing_of (the_lock ∷ [])) network_key old_for_none → ⊥ }
-    ensures other_value { EachHasCause (listing_of (the_switch ∷ [])) [] reported_otherwise → ⊥ }
-    ensures value_node { EachHasCause (listing_of (the_switch ∷ [])) [] reported_of_another → ⊥ }
-    ensures openly { EachHasCause (listing_of (the_lock ∷ [])) [] told_openly → ⊥ }
-    ensures for_none { EachHasCause (listing_of (the_lock ∷ [])) network_key told_for_none → ⊥ }
-    ensures for_longer { EachHasCause (listing_of (the_lock ∷ [])) network_key told_for_longer → ⊥ }
-    ensures unopened { EachHasCause (listing_of (the_lock ∷ [])) network_key told_unopened → ⊥ }
-    ensures told { EachHasCause (listing_of (the_switch ∷ [])) [] told_by_none → ⊥ }
-    ensures woken { EachHasCause (listing_of (the_sensor ∷ [])) [] woken_by_none → ⊥ }
-    ensures woken_node { EachHasCause (listing_of (the_sensor ∷ [])) [] woken_by_another → ⊥ }
-    ensures woken_value { EachHasCause (listing_of (the_sensor ∷ [])) [] woken_by_value → ⊥ }
-    ensures old { EachHasCause (listing_of (the_switch ∷ [])) [] old_from_none → ⊥ }
-    ensures interviewed { EachHasCause (listing_of (the_sensor ∷ [])) [] interviewed_by_none → ⊥ }
-    ensures other_classes { EachHasCause (listing_of []) [] interviewed_otherwise → ⊥ }
-    ensures other_node { EachHasCause (listing_of (the_sensor ∷ [])) [] interviewed_of_another → ⊥ }
-    ensures reported { EachHasCause (listing_of (the_switch ∷ [])) [] reported_by_none → ⊥ }
 {}
