@@ -15,9 +15,8 @@ use Rattle.law_time.specs.Moments.{clock, now_at}
 use Rattle.law_time.specs.Judged.{is_acknowledgement, is_mark}
 use Rattle.law_time.specs.Requests.{are_none, asked, is_new, starts_anew}
 use Rattle.law_time.specs.Questions.{same_bool}
-use Rattle.law_time.specs.Rests.{is_over}
-use Rattle.law_time.specs.Sessions.{is_open}
-use Rattle.law_time.specs.Waking.{is_up}
+use Rattle.law_time.specs.Ends.{is_over}
+use Rattle.law_time.specs.Choice.{is_to_begin}
 use Rattle.law_time.specs.Queue.{is_before_host}
 use Rattle.law_host.specs.Course.{Course, each_in_turn, restarted}
 use Rattle.law_host.specs.Frames.{frame_next, judges}
@@ -54,7 +53,7 @@ is_note entry = false
 -- a session of a node may begin, but for its record
 abbrev pub may_begin : ℕ → List Entry → Bool
 may_begin node past =
-    is_over (asked past) (clock past) && is_up node past && not (is_open node past) && not (are_none (waiting node past))
+    is_over (asked past) (clock past) && is_to_begin node past
 
 -- what may stand where no note does: a session is not begun since its record is not kept; that No More Information is dropped is told by the
 -- law of the queue

@@ -23,7 +23,8 @@ use Rattle.law_transcript.specs.Sessions.{MayBegin}
 use Rattle.law_transcript.specs.Stores.{StoresConfirmed}
 use Rattle.law_transcript.specs.Table.{value_lines}
 use Rattle.law_time.specs.Moments.{Allows}
-use Rattle.law_time.specs.Queue.{may_queue, may_send}
+use Rattle.law_time.specs.Choice.{may_follow, may_number, may_send}
+use Rattle.law_time.specs.Queue.{may_queue}
 use Rattle.law_time.specs.Rests.{may_rest, rests_well}
 use Rattle.law_host.specs.Notes.{NotesWhatHappens, Start}
 
@@ -97,6 +98,8 @@ pub record IsHostLegal (key : List ℕ) (listing : ℕ → List ℕ) (start : St
   pub begins : EachAfter FollowsBegin start.before heard
   pub fits : EachKeeps (may_queue listing) start heard
   pub turn : EachKeeps (may_send listing) start heard
+  pub one_by_one : EachKeeps may_follow start heard
+  pub numbers : EachKeeps may_number start heard
   pub prompt : EachKeeps (may_rest listing) start heard
   pub rested : whole ≡ true → rests_well listing (start.before ++ heard) (Said []) ≡ true
   pub records_kept : IfSome records (KeepsRecords (start.before ++ heard))

@@ -1,6 +1,6 @@
 -- Which nonces the host uses (Security 0 Command Class; how nonces are counted is this project's own rule): a text is sealed for the last Nonce
 -- Report that was taken while it waited, once; a Nonce Report has the nonce that was live when it was asked for.
-use Rattle.std.specs.Prelude.{◌≡◌, ℕ, ◌+◌, ◌%◌, ◌&&◌, ◌||◌, not, bytes_eq, nat_le, Bool, if◌then◌else◌, List, [], ◌∷◌, ◌++◌, length, drop, take, map}
+use Rattle.std.specs.Prelude.{◌≡◌, ℕ, ◌+◌, ◌%◌, ◌&&◌, ◌||◌, not, bytes_eq, Bool, if◌then◌else◌, List, [], ◌∷◌, ◌++◌, length, drop, take, map}
 use Rattle.std.specs.List.{list_any, list_all, AllByRecursion}
 use Rattle.device_kinds.specs.Sealing.{keys_of, sealed_text, unsealed_at}
 use Rattle.encap.specs.Opening.{begins_with}
@@ -11,13 +11,12 @@ use Rattle.law_transcript.specs.Units.{Carried, sending_in}
 use Rattle.law_time.specs.Moments.{clock}
 use Rattle.law_time.specs.Requests.{are_none}
 use Rattle.law_time.specs.Sessions.{last_command, session_of}
-use Rattle.law_time.specs.Unanswered.{attempts_of}
+use Rattle.law_time.specs.Attempts.{is_late as is_late_at, serving}
 use Rattle.law_host.specs.Course.{Course, Giver, Offer, Opening, Ready, Seal, Sealer, each_in_turn, giver_of, sealer_of, with_giver, with_sealer}
 
 -- the last sign of an attempt of a node is 100 ticks ago: it is over, and nothing of it waits
 abbrev pub is_late : (ℕ → List ℕ) → List Entry → ℕ → Bool
-is_late listing past node =
-    list_any (λ command. list_any (λ tick. nat_le (tick + 100) (clock past)) (attempts_of listing node command past).sign) (last_command node past)
+is_late listing past node = list_any (is_late_at (clock past)) (serving listing (node ∷ []) past).each
 
 -- ---- what a request does
 

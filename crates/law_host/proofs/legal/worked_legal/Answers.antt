@@ -7,7 +7,8 @@ use Rattle.law_transcript.specs.Links.{KeepsLink}
 use Rattle.law_transcript.specs.Lists.{EachAfter}
 use Rattle.law_transcript.specs.Nodes.{listing_of}
 use Rattle.law_transcript.specs.Worked.{refused_lines, the_switch}
-use Rattle.law_time.specs.Queue.{may_queue, may_send}
+use Rattle.law_time.specs.Choice.{may_follow, may_number, may_send}
+use Rattle.law_time.specs.Queue.{may_queue}
 use Rattle.law_time.specs.Rests.{may_rest}
 use Rattle.law_host.specs.Heard.{heard_by_host}
 use Rattle.law_host.specs.Legal.{AnswersLine}
@@ -63,6 +64,8 @@ returns-clause-refused c = record {
   begins = (tt, (tt, (tt, (tt, (tt, (tt, (tt, (tt, (tt, (tt, (tt, (tt, (tt, tt)))))))))))));
   fits = kept (may_queue listing) lines refl;
   turn = kept (may_send listing) lines refl;
+  one_by_one = kept may_follow lines refl;
+  numbers = kept may_number lines refl;
   prompt = kept (may_rest listing) lines refl;
   rested = λ whole. refl;
   records_kept = tt;
