@@ -11,7 +11,7 @@ use Rattle.serial_link.specs.declared.turn.Turn.{Turn}
 use Rattle.serial_link.specs.declared.turn.Turn.TheVariants.{Idle, Copied, Paused}
 use Rattle.serial_link.specs.declared.out.LinkOut.{LinkOut}
 use Rattle.serial_link.specs.declared.out.LinkOut.TheVariants.{Write}
-use Rattle.law_transcript.specs.Links.{text_of}
+use Rattle.law_wire.specs.Links.{text_of}
 use Rattle.law_wire.specs.Asked.{course_of, is_first}
 use Rattle.law_wire.proofs.Silence.{prefix_none, rest_none, texts, unanswered}
 use Rattle.law_wire.proofs.Overspeaking.{own_all, not_sent}

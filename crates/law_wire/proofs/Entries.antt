@@ -1,7 +1,8 @@
 -- Of which entries the laws of the chip and of the air ask something: a law holds where these have what it asks.
-use Rattle.std.proofs.Common.{◌≡◌, ℕ, suc, ◌||◌, Bool, true, false, List, [], ◌∷◌, ◌++◌, length, refl, sym, ap, subst, ◌∙◌}
-use Rattle.std.specs.Prelude.{⊤, zero, if◌then◌else◌}
-use Rattle.std.proofs.lemmas.List.{append-nil, append_assoc}
+use Rattle.std.proofs.Common.{◌≡◌, ℕ, suc, ◌||◌, Bool, true, false, List, [], ◌∷◌, ◌++◌, length, refl, sym, ap, subst, ◌∙◌, arith}
+use Rattle.std.specs.Prelude.{⊤, zero, ◌+◌, ◌≤◌, nat_le, if◌then◌else◌}
+use Rattle.std.proofs.lemmas.Bool.{leb-true}
+use Rattle.std.proofs.lemmas.List.{append-nil, append_assoc, length-append}
 use Rattle.device_stack.specs.State.{State}
 use Rattle.zw_words.specs.declared.side.Side.TheVariants.{Chip}
 use Rattle.zw_text.specs.declared.line.Line.{Line}
@@ -11,10 +12,12 @@ use Rattle.zw_text.specs.declared.entry.Entry.TheVariants.{Said, Air, Heard, Los
 use Rattle.zw_text.specs.Transcript.{line_last}
 use Rattle.law_wire.specs.Routes.{MayGo, GoesByRoute}
 use Rattle.law_wire.specs.Arriving.{Hop, MayMeet, MeetsWhatIsDue, FollowsRepeat, RepeatsWhatIsAsked, IsForgotten, forgets, ForgetsDeadHops}
-use Rattle.law_wire.specs.Asked.{Course, is_ack}
+use Rattle.serial_link.specs.Rules.{Step}
+use Rattle.law_wire.specs.Links.{joined}
+use Rattle.law_wire.specs.Asked.{Course, course_of, is_ack}
 use Rattle.law_wire.specs.Taking.{goes_on, to_air, IsPassedOver, MayAir, AirsWhatIsTaken}
 use Rattle.law_wire.specs.Given.{Given, IsOf, given_at, given}
-use Rattle.law_wire.specs.Answering.{begins_next, begun_at, begun, drops, AreOf, IsNext, MayAnswer, AnswersInOrder, MayWait, DropsWhenFull}
+use Rattle.law_wire.specs.Answering.{begins_next, begun_at, begun, dropped_at, dropped, without, waiting, AreOf, IsNext, MayAnswer, AnswersInOrder, is_judged, AreFew, MayWait, DropsWhenFull, MayStay, WaitsWhileBusy}
 use Rattle.law_wire.specs.Marks.{IsMarked, to_stand, MarksUnits, AnswersBy, is_can, MayCollide, CollidesWhenAsked}
 use Rattle.law_transcript.specs.Lists.{EachAfter, shown_after}
 use Rattle.law_transcript.proofs.Entries.{Asked, AllAsked, Quiet, each, has_some, is_air, none_of}
@@ -137,23 +140,6 @@ abbrev pub is_beginning : Course → List Entry → Entry → Bool
 is_beginning course past (Written Chip unit) = begins_next course past
 is_beginning course past _ = false
 
--- a frame that is dropped, and where a line or tick begins
-abbrev pub is_turn : List Entry → Entry → Bool
-is_turn past ChipFull = true
-is_turn past (Said words) = true
-is_turn past (Time tick) = true
-is_turn past _ = false
-
-quiet_turns : (devices : List State) (course : Course) → Quiet is_turn (MayWait devices course)
-quiet_turns devices course past ChipFull is = cc
-quiet_turns devices course past (Said words) is = cc
-quiet_turns devices course past (Time tick) is = cc
-quiet_turns devices course past _ is = tt
-
-pub drops_when_full : (devices : List State) (course : Course) (transcript : List Entry)
-    → AllAsked is_turn (MayWait devices course) [] transcript → DropsWhenFull devices course transcript
-drops_when_full devices course = each is_turn (MayWait devices course) (quiet_turns devices course) []
-
 -- ---- the frames of the chip, one after another
 
 -- a unit is what the chip has for the host at a place
@@ -162,14 +148,14 @@ IsAt devices unit [] place = ⊥
 IsAt devices unit (one ∷ more) zero = IsOf devices unit one
 IsAt devices unit (one ∷ more) (suc place) = IsAt devices unit more place
 
-are_and : (devices : List State) (units : List (List ℕ)) (given : List Given) (unit : List ℕ) → AreOf devices 0 units given
-    → IsAt devices unit given (length units) → AreOf devices 0 (units ++ unit ∷ []) given
+are_and : (devices : List State) (units : List (List ℕ)) (given : List Given) (unit : List ℕ) → AreOf devices units given
+    → IsAt devices unit given (length units) → AreOf devices (units ++ unit ∷ []) given
 are_and devices [] [] unit are at = at
 are_and devices [] (one ∷ more) unit are at = (at, tt)
 are_and devices (first ∷ units) [] unit are at = are
 are_and devices (first ∷ units) (one ∷ more) unit are at = (are.0, are_and devices units more unit are.1 at)
 
-are_among : (devices : List State) (units : List (List ℕ)) (given later : List Given) → AreOf devices 0 units given → AreOf devices 0 units (given ++ later)
+are_among : (devices : List State) (units : List (List ℕ)) (given later : List Given) → AreOf devices units given → AreOf devices units (given ++ later)
 are_among devices [] given later are = tt
 are_among devices (unit ∷ units) [] later are = absurd are
 are_among devices (unit ∷ units) (one ∷ more) later are = (are.0, are_among devices units more later are.1)
@@ -187,10 +173,10 @@ drops_nothing (entry ∷ entries) = drops_nothing entries
 
 -- what a unit that is written makes of what was begun
 begun_so : (begins : Bool) (devices : List State) (course : Course) (past : List Entry) (unit : List ℕ)
-    → AreOf devices 0 (begun course past) (given devices course past) → Asked begins (IsNextAt devices course past (Written Chip unit)) ⊤
-    → AreOf devices 0 (begun course past ++ (if begins then unit ∷ [] else [])) (given devices course past)
+    → AreOf devices (begun course past) (given devices course past) → Asked begins (IsNextAt devices course past (Written Chip unit)) ⊤
+    → AreOf devices (begun course past ++ (if begins then unit ∷ [] else [])) (given devices course past)
 begun_so true devices course past unit are asked = are_and devices (begun course past) (given devices course past) unit are asked.0
-begun_so false devices course past unit are asked = subst (λ (units : List (List ℕ)). AreOf devices 0 units (given devices course past)) (sym (append-nil (begun course past))) are
+begun_so false devices course past unit are asked = subst (λ (units : List (List ℕ)). AreOf devices units (given devices course past)) (sym (append-nil (begun course past))) are
 
 shown_one : {B : Type 0} (shows : List Entry → Entry → List B) (before past : List Entry) (entry : Entry)
     → shown_after shows before (past ++ entry ∷ []) ≡ shown_after shows before past ++ shows (before ++ past) entry
@@ -201,25 +187,25 @@ shown_one shows before (first ∷ past) entry =
     ∙ ap (λ all. shown_after shows before (first ∷ past) ++ shows all entry) (append_assoc before (first ∷ []) past)
 
 -- so of any entry
-begun_with : (devices : List State) (course : Course) (past : List Entry) (entry : Entry) → AreOf devices 0 (begun course past) (given devices course past)
+begun_with : (devices : List State) (course : Course) (past : List Entry) (entry : Entry) → AreOf devices (begun course past) (given devices course past)
     → Asked (is_beginning course past entry) (IsNextAt devices course past entry) ⊤
-    → AreOf devices 0 (begun course past ++ begun_at course past entry) (given devices course past)
+    → AreOf devices (begun course past ++ begun_at course past entry) (given devices course past)
 begun_with devices course past (Written Chip unit) are asked = begun_so (begins_next course past) devices course past unit are asked
-begun_with devices course past _ are asked = subst (λ (units : List (List ℕ)). AreOf devices 0 units (given devices course past)) (sym (append-nil (begun course past))) are
+begun_with devices course past _ are asked = subst (λ (units : List (List ℕ)). AreOf devices units (given devices course past)) (sym (append-nil (begun course past))) are
 
 begun_after : (devices : List State) (course : Course) (past : List Entry) (entry : Entry)
-    → AreOf devices 0 (begun course past ++ begun_at course past entry) (given devices course past)
-    → AreOf devices 0 (begun course (past ++ entry ∷ [])) (given devices course (past ++ entry ∷ []))
+    → AreOf devices (begun course past ++ begun_at course past entry) (given devices course past)
+    → AreOf devices (begun course (past ++ entry ∷ [])) (given devices course (past ++ entry ∷ []))
 begun_after devices course past entry are =
-    subst (λ (units : List (List ℕ)). AreOf devices 0 units (given devices course (past ++ entry ∷ []))) (sym (shown_one (begun_at course) [] past entry))
-    (subst (λ (all : List Given). AreOf devices 0 (begun course past ++ begun_at course past entry) all) (sym (shown_one (given_at devices course) [] past entry))
+    subst (λ (units : List (List ℕ)). AreOf devices units (given devices course (past ++ entry ∷ []))) (sym (shown_one (begun_at course) [] past entry))
+    (subst (λ (all : List Given). AreOf devices (begun course past ++ begun_at course past entry) all) (sym (shown_one (given_at devices course) [] past entry))
     (are_among devices _ (given devices course past) (given_at devices course past entry) are))
 
 -- nothing was dropped then
-none_dropped : (past : List Entry) → drops_nothing past ≡ true → drops past ≡ 0
-none_dropped [] nothing = refl
-none_dropped (ChipFull ∷ past) nothing = cc
-none_dropped (entry ∷ past) nothing = none_dropped past nothing
+none_dropped : (course : Course) (before past : List Entry) → drops_nothing past ≡ true → shown_after (dropped_at course) before past ≡ []
+none_dropped course before [] nothing = refl
+none_dropped course before (ChipFull ∷ past) nothing = cc
+none_dropped course before (entry ∷ past) nothing = none_dropped course (before ++ entry ∷ []) past nothing
 
 nothing_more : (past : List Entry) (entry : Entry) → drops_nothing past ≡ true → drops_nothing (entry ∷ []) ≡ true → drops_nothing (past ++ entry ∷ []) ≡ true
 nothing_more [] entry nothing more = more
@@ -234,16 +220,16 @@ rest_drops : (entry : Entry) (rest : List Entry) → drops_nothing (entry ∷ re
 rest_drops ChipFull rest nothing = cc
 rest_drops _ rest nothing = nothing
 
-answers_by : (begins : Bool) (devices : List State) (course : Course) (past : List Entry) (unit : List ℕ) → drops past ≡ 0
-    → AreOf devices 0 (begun course past) (given devices course past) → Asked begins (IsNextAt devices course past (Written Chip unit)) ⊤
+answers_by : (begins : Bool) (devices : List State) (course : Course) (past : List Entry) (unit : List ℕ) → dropped course past ≡ []
+    → AreOf devices (begun course past) (given devices course past) → Asked begins (IsNextAt devices course past (Written Chip unit)) ⊤
     → IsNext begins devices course past unit
 answers_by true devices course past unit none are asked =
-    subst (λ (dropped : ℕ). AreOf devices dropped (begun course past ++ unit ∷ []) (given devices course past)) (sym none)
+    subst (λ (places : List ℕ). AreOf devices (begun course past ++ unit ∷ []) (without places (given devices course past))) (sym none)
     (are_and devices (begun course past) (given devices course past) unit are asked.0)
 answers_by false devices course past unit none are asked = tt
 
-answers_here : (devices : List State) (course : Course) (past : List Entry) (entry : Entry) → drops past ≡ 0
-    → AreOf devices 0 (begun course past) (given devices course past) → Asked (is_beginning course past entry) (IsNextAt devices course past entry) ⊤
+answers_here : (devices : List State) (course : Course) (past : List Entry) (entry : Entry) → dropped course past ≡ []
+    → AreOf devices (begun course past) (given devices course past) → Asked (is_beginning course past entry) (IsNextAt devices course past entry) ⊤
     → MayAnswer devices course past entry
 answers_here devices course past (Written Chip unit) none are asked = answers_by (begins_next course past) devices course past unit none are asked
 answers_here devices course past _ none are asked = tt
@@ -257,12 +243,12 @@ asked_later true First Later asked = asked.1
 asked_later false First Later asked = asked
 
 answers_each : (devices : List State) (course : Course) (past rest : List Entry) → drops_nothing past ≡ true → drops_nothing rest ≡ true
-    → AreOf devices 0 (begun course past) (given devices course past) → AllAsked (is_beginning course) (IsNextAt devices course) past rest
+    → AreOf devices (begun course past) (given devices course past) → AllAsked (is_beginning course) (IsNextAt devices course) past rest
     → EachAfter (MayAnswer devices course) past rest
 answers_each devices course past [] before following are asked = tt
 answers_each devices course past (entry ∷ rest) before following are asked =
     let here = asked_here (is_beginning course past entry) _ _ asked in (
-      answers_here devices course past entry (none_dropped past before) are here,
+      answers_here devices course past entry (none_dropped course [] past before) are here,
       answers_each devices course (past ++ entry ∷ []) rest (nothing_more past entry before (first_drops entry rest following)) (rest_drops entry rest following)
           (begun_after devices course past entry (begun_with devices course past entry are here)) (asked_later (is_beginning course past entry) _ _ asked),
     )
@@ -271,3 +257,72 @@ answers_each devices course past (entry ∷ rest) before following are asked =
 pub answers_one_by_one : (devices : List State) (course : Course) (transcript : List Entry) → drops_nothing transcript ≡ true
     → AllAsked (is_beginning course) (IsNextAt devices course) [] transcript → AnswersInOrder devices course transcript
 answers_one_by_one devices course transcript nothing asked = answers_each devices course [] transcript refl nothing tt asked
+
+-- ---- how many wait
+
+-- where no more is had for the host in all than may wait, none is dropped
+few_wait : (judged : Bool) (count : ℕ) → count ≤ 32 → AreFew judged count
+few_wait true count few = few
+few_wait false count few = tt
+
+waits_well : (devices : List State) (course : Course) (past : List Entry) (entry : Entry) → drops_nothing (entry ∷ []) ≡ true
+    → length (given devices course past) ≤ 32 → MayWait devices course past entry
+waits_well devices course past ChipFull nothing few = cc
+waits_well devices course past entry nothing few = few_wait (is_judged entry) (waiting devices course past) (omega (arith, few))
+
+drops_each : (devices : List State) (course : Course) (past rest : List Entry) → drops_nothing rest ≡ true
+    → length (given devices course past) + length (shown_after (given_at devices course) past rest) ≤ 32 → EachAfter (MayWait devices course) past rest
+drops_each devices course past [] nothing few = tt
+drops_each devices course past (entry ∷ rest) nothing few =
+    let now : ℕ = length (given devices course past) in
+    let later : List Given = shown_after (given_at devices course) (past ++ entry ∷ []) rest in
+    let next : length (given devices course (past ++ entry ∷ [])) ≡ now + length (given_at devices course past entry) =
+    ap (λ (all : List Given). length all) (shown_one (given_at devices course) [] past entry)
+    ∙ length-append (given devices course past) (given_at devices course past entry)
+    in
+    let sum : length (given_at devices course past entry ++ later) ≡ length (given_at devices course past entry) + length later =
+    length-append (given_at devices course past entry) later
+    in
+    let here : now + length (given_at devices course past entry ++ later) ≤ 32 = few in (
+      waits_well devices course past entry (first_drops entry rest nothing) (omega (arith, here)),
+      drops_each devices course (past ++ entry ∷ []) rest (rest_drops entry rest nothing) (omega (arith, next, sum, here)),
+    )
+
+pub drops_when_few : (devices : List State) (course : Course) (transcript : List Entry) → drops_nothing transcript ≡ true
+    → nat_le (length (given devices course transcript)) 32 ≡ true → DropsWhenFull devices course transcript
+drops_when_few devices course transcript nothing few = drops_each devices course [] transcript nothing (leb-true _ _ few)
+
+-- where a line or tick begins
+abbrev pub is_turn : List Entry → Entry → Bool
+is_turn past (Said words) = true
+is_turn past (Time tick) = true
+is_turn past _ = false
+
+quiet_turns : (devices : List State) (parts : List (List Step)) → Quiet is_turn (MayStay devices parts)
+quiet_turns devices parts past (Said words) is = cc
+quiet_turns devices parts past (Time tick) is = cc
+quiet_turns devices parts past _ is = tt
+
+none_stays : (devices : List State) (parts : List (List Step)) (past : List Entry) (entry : Entry)
+    → waiting devices (course_of (joined parts)) past ≡ 0 → MayStay devices parts past entry
+none_stays devices parts past (Said words) none = λ idle. none
+none_stays devices parts past (Time tick) none = λ idle. none
+none_stays devices parts past _ none = tt
+
+both_ways : (is : Bool) {First Second Later After : Type 0} → (First → Second) → (Later → After) → Asked is First Later → Asked is Second After
+both_ways true onward later asked = (onward asked.0, later asked.1)
+both_ways false onward later asked = later asked
+
+all_stay : (asks : List Entry → Entry → Bool) (First Second : List Entry → Entry → Type 0) → ((past : List Entry) (entry : Entry) → First past entry → Second past entry)
+    → (past rest : List Entry) → AllAsked asks First past rest → AllAsked asks Second past rest
+all_stay asks First Second onward past [] asked = tt
+all_stay asks First Second onward past (entry ∷ rest) asked =
+    both_ways (asks past entry) (onward past entry) (all_stay asks First Second onward (past ++ entry ∷ []) rest) asked
+
+-- none waits where a line or tick begins
+pub waits_while_busy : (devices : List State) (parts : List (List Step)) (course : Course) (transcript : List Entry) → course_of (joined parts) ≡ course
+    → AllAsked is_turn (λ past entry. waiting devices course past ≡ 0) [] transcript → WaitsWhileBusy devices parts transcript
+waits_while_busy devices parts course transcript same none =
+    each is_turn (MayStay devices parts) (quiet_turns devices parts) [] transcript
+    (all_stay is_turn (λ past entry. waiting devices course past ≡ 0) (MayStay devices parts)
+    (λ past entry empty. none_stays devices parts past entry (ap (λ (one : Course). waiting devices one past) same ∙ empty)) [] transcript none)

@@ -1,14 +1,23 @@
+mod Apart
 mod Beginnings
 mod Computing
+mod Crowds
 mod Differing
 mod Entries
 mod Halting
+mod Judging
 mod Keeping
+mod Linked
 mod Listening
+mod Losing
+mod Machine
 mod Moves
 mod NothingHeard
 mod Overspeaking
+mod Parts
 mod Plain
+mod Rejecting
+mod Replies
 mod Serving
 mod Silence
 pub mod Walks

@@ -1,5 +1,5 @@
 -- What holds of a plain exchange.
-use Rattle.std.proofs.Common.{[], ◌∷◌, refl, inl, arith}
+use Rattle.std.proofs.Common.{[], ◌∷◌, refl, inl}
 use Rattle.std.specs.Prelude.{codes, take}
 use Rattle.law_transcript.specs.Worked.{bytes, plain_exchange, the_switch}
 use Rattle.law_wire.specs.WorkedCourses.{chip_history}
@@ -8,6 +8,7 @@ use Rattle.law_wire.specs.Marks.{CollidesWhenAsked}
 use Rattle.law_wire.specs.Taking.{AirsWhatIsTaken}
 use Rattle.law_wire.specs.Answering.{AnswersInOrder, DropsWhenFull}
 use Rattle.law_wire.proofs.Computing.{reckoning}
+use Rattle.law_wire.proofs.Entries.{drops_when_few}
 
 pub plain_airs : AirsWhatIsTaken (the_switch ∷ []) (course_of chip_history) plain_exchange
 unfolding reckoning
@@ -97,70 +98,7 @@ plain_answers = (
 
 pub plain_drops : DropsWhenFull (the_switch ∷ []) (course_of chip_history) plain_exchange
 unfolding reckoning
-plain_drops = (
-  omega arith,
-  (
-    tt,
-    (
-      tt,
-      (
-        tt,
-        (
-          tt,
-          (
-            tt,
-            (
-              tt,
-              (
-                tt,
-                (
-                  omega arith,
-                  (
-                    omega arith,
-                    (
-                      tt,
-                      (
-                        tt,
-                        (
-                          tt,
-                          (
-                            tt,
-                            (
-                              tt,
-                              (
-                                omega arith,
-                                (
-                                  tt,
-                                  (
-                                    tt,
-                                    (
-                                      tt,
-                                      (
-                                        tt,
-                                        (
-                                          tt,
-                                          tt,
-                                        ),
-                                      ),
-                                    ),
-                                  ),
-                                ),
-                              ),
-                            ),
-                          ),
-                        ),
-                      ),
-                    ),
-                  ),
-                ),
-              ),
-            ),
-          ),
-        ),
-      ),
-    ),
-  ),
-)
+plain_drops = drops_when_few (the_switch ∷ []) (course_of chip_history) plain_exchange refl refl
 
 pub plain_collides : CollidesWhenAsked plain_exchange
 unfolding reckoning

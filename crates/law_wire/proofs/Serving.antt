@@ -1,18 +1,26 @@
--- What the chip does in the worked transcripts, law by law, and that with a history of its link it serves the host.
-use Rattle.std.proofs.Common.{◌≡◌, List, [], ◌∷◌, refl, sym, subst, ap, ◌∙◌, inl, arith}
-use Rattle.std.specs.Prelude.{codes, take}
+-- What the chip does in the worked transcripts, law by law, and that with the course of its link it serves the host.
+use Rattle.std.proofs.Common.{◌≡◌, List, [], ◌∷◌, ◌++◌, refl, sym, subst, inl}
+use Rattle.std.specs.Prelude.{true, codes, take}
+use Rattle.std.specs.List.{AllByRecursion}
+use Rattle.std.proofs.lemmas.List.{append-nil, append_assoc}
 use Rattle.device_sim.specs.State.{State}
 use Rattle.zw_words.specs.declared.side.Side.TheVariants.{Chip}
 use Rattle.zw_text.specs.declared.entry.Entry.{Entry}
-use Rattle.law_transcript.specs.Links.{KeepsLink}
+use Rattle.zw_text.specs.declared.entry.Entry.TheVariants.{Said}
 use Rattle.law_transcript.specs.Worked.{bytes, repeated_exchange, lossy_exchange, cancelled_order, restarted_host, sleeping_node, sealed_exchange, long_message, the_switch, the_sensor, the_lock, the_plug}
-use Rattle.law_wire.specs.Asked.{Course, course_of, sending_of}
+use Rattle.law_transcript.specs.Lists.{EachAfter}
+use Rattle.law_transcript.proofs.Entries.{AllAsked}
+use Rattle.law_wire.specs.Serial.{ended}
+use Rattle.law_wire.specs.Links.{KeepsLink, joined}
+use Rattle.law_wire.specs.Asked.{Course, course_of, Sending, sending_of}
 use Rattle.law_wire.specs.Marks.{CollidesWhenAsked}
-use Rattle.law_wire.specs.Taking.{AirsWhatIsTaken}
+use Rattle.law_wire.specs.Networks.{chip_network}
+use Rattle.law_wire.specs.Routes.{HasNoRoute}
+use Rattle.law_wire.specs.Taking.{to_air, MayAir, AirsWhatIsTaken}
 use Rattle.law_wire.specs.Answering.{AnswersInOrder, DropsWhenFull, ServesHost, waiting}
 use Rattle.law_wire.specs.WorkedCourses.{without_copies, passed_in_repeated, passed_in_lossy, passed_in_cancelled, passed_in_restarted, passed_in_sleeping, passed_in_sealed, passed_in_cut}
 use Rattle.law_wire.proofs.Computing.{reckoning}
-use Rattle.law_wire.proofs.Entries.{collides_when_asked, airs_what_is_taken, answers_one_by_one, drops_when_full}
+use Rattle.law_wire.proofs.Entries.{collides_when_asked, airs_what_is_taken, answers_one_by_one, drops_when_few, is_turn, waits_while_busy}
 use Rattle.law_wire.proofs.Walks.{direct}
 
 -- ---- a frame is answered ACK
@@ -348,148 +356,58 @@ cut_answers = answers_one_by_one (the_plug ∷ []) (without_copies passed_in_cut
 
 pub repeated_drops : DropsWhenFull (the_switch ∷ []) (without_copies passed_in_repeated repeated_exchange) repeated_exchange
 unfolding reckoning
-repeated_drops = drops_when_full (the_switch ∷ []) (without_copies passed_in_repeated repeated_exchange) repeated_exchange (
-  omega arith,
-  (
-    omega arith,
-    (
-      omega arith,
-      (omega arith, (omega arith, (omega arith, tt))),
-    ),
-  ),
-)
+repeated_drops = drops_when_few (the_switch ∷ []) (without_copies passed_in_repeated repeated_exchange) repeated_exchange refl refl
 
 pub lossy_drops : DropsWhenFull (the_switch ∷ []) (without_copies passed_in_lossy lossy_exchange) lossy_exchange
 unfolding reckoning
-lossy_drops = drops_when_full (the_switch ∷ []) (without_copies passed_in_lossy lossy_exchange) lossy_exchange (
-  omega arith,
-  (
-    omega arith,
-    (
-      omega arith,
-      (
-        omega arith,
-        (omega arith, (omega arith, (omega arith, (omega arith, (omega arith, (omega arith, (omega arith, (omega arith, tt)))))))),
-      ),
-    ),
-  ),
-)
+lossy_drops = drops_when_few (the_switch ∷ []) (without_copies passed_in_lossy lossy_exchange) lossy_exchange refl refl
 
 pub cancelled_drops : DropsWhenFull (the_switch ∷ []) (without_copies passed_in_cancelled cancelled_order) cancelled_order
 unfolding reckoning
-cancelled_drops = drops_when_full (the_switch ∷ []) (without_copies passed_in_cancelled cancelled_order) cancelled_order (
-  omega arith,
-  (
-    omega arith,
-    (
-      omega arith,
-      (omega arith, (omega arith, (omega arith, (omega arith, tt)))),
-    ),
-  ),
-)
+cancelled_drops = drops_when_few (the_switch ∷ []) (without_copies passed_in_cancelled cancelled_order) cancelled_order refl refl
 
 pub restarted_drops : DropsWhenFull (the_switch ∷ []) (without_copies passed_in_restarted restarted_host) restarted_host
 unfolding reckoning
-restarted_drops = drops_when_full (the_switch ∷ []) (without_copies passed_in_restarted restarted_host) restarted_host (omega arith, (omega arith, (omega arith, (omega arith, (omega arith, tt)))))
+restarted_drops = drops_when_few (the_switch ∷ []) (without_copies passed_in_restarted restarted_host) restarted_host refl refl
 
 pub sleeping_drops : DropsWhenFull (the_sensor ∷ []) (without_copies passed_in_sleeping sleeping_node) sleeping_node
 unfolding reckoning
-sleeping_drops = drops_when_full (the_sensor ∷ []) (without_copies passed_in_sleeping sleeping_node) sleeping_node (
-  omega arith,
-  (
-    omega arith,
-    (
-      omega arith,
-      (
-        omega arith,
-        (omega arith, (omega arith, (omega arith, (omega arith, (omega arith, (omega arith, (omega arith, (omega arith, (omega arith, (omega arith, (omega arith, (omega arith, tt)))))))))))),
-      ),
-    ),
-  ),
-)
+sleeping_drops = drops_when_few (the_sensor ∷ []) (without_copies passed_in_sleeping sleeping_node) sleeping_node refl refl
 
 pub sealed_drops : DropsWhenFull (the_lock ∷ []) (without_copies passed_in_sealed sealed_exchange) sealed_exchange
 unfolding reckoning
-sealed_drops = drops_when_full (the_lock ∷ []) (without_copies passed_in_sealed sealed_exchange) sealed_exchange (
-  omega arith,
-  (
-    omega arith,
-    (
-      omega arith,
-      (
-        omega arith,
-        (
-          omega arith,
-          (
-            omega arith,
-            (
-              omega arith,
-              (
-                omega arith,
-                (
-                  omega arith,
-                  (
-                    omega arith,
-                    (
-                      omega arith,
-                      (
-                        omega arith,
-                        (
-                          omega arith,
-                          (
-                            omega arith,
-                            (
-                              omega arith,
-                              (
-                                omega arith,
-                                (omega arith, (omega arith, (omega arith, tt))),
-                              ),
-                            ),
-                          ),
-                        ),
-                      ),
-                    ),
-                  ),
-                ),
-              ),
-            ),
-          ),
-        ),
-      ),
-    ),
-  ),
-)
+sealed_drops = drops_when_few (the_lock ∷ []) (without_copies passed_in_sealed sealed_exchange) sealed_exchange refl refl
 
 pub cut_drops : DropsWhenFull (the_plug ∷ []) (without_copies passed_in_cut long_message) long_message
 unfolding reckoning
-cut_drops = drops_when_full (the_plug ∷ []) (without_copies passed_in_cut long_message) long_message (
-  omega arith,
-  (
-    omega arith,
-    (
-      omega arith,
-      (
-        omega arith,
-        (
-          omega arith,
-          (omega arith, (omega arith, (omega arith, (omega arith, (omega arith, tt))))),
-        ),
-      ),
-    ),
-  ),
-)
+cut_drops = drops_when_few (the_plug ∷ []) (without_copies passed_in_cut long_message) long_message refl refl
 
 -- ---- all of it
 
--- with the course of its link the chip serves the host
-pub serves : (devices : List State) (transcript : List Entry) (course : Course) (link : KeepsLink Chip transcript) → course_of link.history ≡ course
-    → CollidesWhenAsked transcript → AirsWhatIsTaken devices course transcript → AnswersInOrder devices course transcript
-    → DropsWhenFull devices course transcript → waiting devices course transcript ≡ 0 → ServesHost devices transcript
+-- with the course of its link the chip serves the host, up to the end of the run
+pub serves : (devices : List State) (transcript : List Entry) (course : Course) (link : KeepsLink Chip (ended true transcript))
+    → course_of (joined link.parts) ≡ course → CollidesWhenAsked transcript → AirsWhatIsTaken devices course (ended true transcript)
+    → AnswersInOrder devices course transcript → DropsWhenFull devices course (ended true transcript)
+    → AllAsked is_turn (λ past entry. waiting devices course past ≡ 0) [] (ended true transcript) → ServesHost true devices transcript
 serves devices transcript course link same collides airs answers drops waits = record {
   link = link;
   collides = collides;
-  airs = subst (λ (one : Course). AirsWhatIsTaken devices one transcript) (sym same) airs;
+  airs = subst (λ (one : Course). AirsWhatIsTaken devices one (ended true transcript)) (sym same) airs;
   answers = subst (λ (one : Course). AnswersInOrder devices one transcript) (sym same) answers;
-  drops = subst (λ (one : Course). DropsWhenFull devices one transcript) (sym same) drops;
-  waits = λ idle. ap (λ (one : Course). waiting devices one transcript) same ∙ waits;
+  drops = subst (λ (one : Course). DropsWhenFull devices one (ended true transcript)) (sym same) drops;
+  waits = waits_while_busy devices link.parts course (ended true transcript) same waits;
 }
+
+-- what stands of each entry stands of one more
+each_more : (Allowed : List Entry → Entry → Type 0) (past rest : List Entry) (entry : Entry) → EachAfter Allowed past rest → Allowed (past ++ rest) entry
+    → EachAfter Allowed past (rest ++ entry ∷ [])
+each_more Allowed past [] entry each last = (subst (λ (all : List Entry). Allowed all entry) (append-nil past) last, tt)
+each_more Allowed past (first ∷ rest) entry each last = (
+  each.0,
+  each_more Allowed (past ++ first ∷ []) rest entry each.1 (subst (λ (all : List Entry). Allowed all entry) (sym (append_assoc past (first ∷ []) rest)) last),
+)
+
+pub airs_to_the_end : (devices : List State) (course : Course) (transcript : List Entry) → AirsWhatIsTaken devices course transcript
+    → AllByRecursion (λ (sending : Sending). HasNoRoute (chip_network devices transcript) sending.node) (to_air course transcript)
+    → AirsWhatIsTaken devices course (ended true transcript)
+airs_to_the_end devices course transcript airs last = each_more (MayAir devices course) [] transcript (Said []) airs last

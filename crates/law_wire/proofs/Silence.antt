@@ -2,10 +2,8 @@
 use Rattle.std.proofs.Common.{◌≡◌, ℕ, suc, Bool, List, [], ◌∷◌, ◌++◌, refl, sym, ap, subst, ◌∙◌}
 use Rattle.std.specs.List.{AllByRecursion, flat_map}
 use Rattle.std.specs.Prelude.{zero, slice_index}
-use Rattle.serial_frame.specs.Stream.{Signal, Rest, byte, mark, bytes_of, Splits, Starts}
 use Rattle.serial_frame.specs.declared.item.Item.{Item}
 use Rattle.serial_frame.specs.declared.unit.Unit.TheVariants.{Ack, Nak, Can, Framed}
-use Rattle.serial_frame.proofs.Streams.{bytes_of-append}
 use Rattle.serial_frame.specs.Frame.{FrameParts}
 use Rattle.serial_link.specs.Rules.{own_of, Copies, Stands, Turns, Event, heard, ticked, submitted, asked, Step, outs_of, item_of, items_of, answers_of, answer_due, collides, Answers}
 use Rattle.serial_link.specs.declared.turn.Turn.{Turn}
@@ -13,17 +11,11 @@ use Rattle.serial_link.specs.declared.turn.Turn.TheVariants.{Idle, Copied, Pause
 use Rattle.serial_link.specs.declared.out.LinkOut.{LinkOut}
 use Rattle.serial_link.specs.declared.out.LinkOut.TheVariants.{Write, Got, Sent, Failed, Bad}
 use Rattle.std.proofs.lemmas.List.Concat.{flat_map-append}
-use Rattle.law_transcript.specs.Links.{text_of}
+use Rattle.law_wire.specs.Links.{text_of}
 
 -- no list begins with an item and is empty
 pub not_empty : {A : Type 0} (item : A) (items : List A) → item ∷ items ≡ [] → ⊥
 not_empty item items e = cc
-
--- signals that begin with a byte have bytes
-starts_bytes : (signals : List Signal) → Starts signals → bytes_of signals ≡ [] → ⊥
-starts_bytes [] starts e = starts
-starts_bytes (byte b ∷ signals) starts e = not_empty b (bytes_of signals) e
-starts_bytes (mark ∷ signals) starts e = starts
 
 -- lists of nothing
 pub prefix_none : {A : Type 0} (first second : List A) → first ++ second ≡ [] → first ≡ []
@@ -33,14 +25,6 @@ prefix_none (item ∷ first) second e = absurd (not_empty item (first ++ second)
 pub rest_none : {A : Type 0} (first second : List A) → first ++ second ≡ [] → second ≡ []
 rest_none [] second e = e
 rest_none (item ∷ first) second e = absurd (not_empty item (first ++ second) e)
-
--- where no byte came, no item was heard
-pub none_heard : (signals : List Signal) (items : List Item) → (rest : Rest) → Splits signals items rest → bytes_of signals ≡ [] → items ≡ []
-none_heard signals [] rest splits none = refl
-none_heard signals (item ∷ items) rest (idle, span, more, still, parts, spans, later) none =
-    let all : bytes_of (idle ++ span) ++ bytes_of more ≡ [] = sym (bytes_of-append (idle ++ span) more) ∙ sym (ap bytes_of parts) ∙ none in
-    let here : bytes_of idle ++ bytes_of span ≡ [] = sym (bytes_of-append idle span) ∙ prefix_none (bytes_of (idle ++ span)) _ all in
-    absurd (starts_bytes span spans.starts (rest_none (bytes_of idle) (bytes_of span) here))
 
 -- a text that begins a data frame
 abbrev pub BeginsFrame : List ℕ → Type 0
@@ -58,7 +42,7 @@ no_answers (Sent ∷ outs) none = no_answers outs none
 no_answers (Failed n ∷ outs) none = no_answers outs none
 no_answers (Bad r ∷ outs) none = absurd (not_empty _ _ none)
 
-all_append : {A : Type 0} (P : A → Type 0) (first second : List A) → AllByRecursion P first → AllByRecursion P second → AllByRecursion P (first ++ second)
+pub all_append : {A : Type 0} (P : A → Type 0) (first second : List A) → AllByRecursion P first → AllByRecursion P second → AllByRecursion P (first ++ second)
 all_append P [] second one two = two
 all_append P (item ∷ first) second one two = (one.0, all_append P first second one.1 two)
 
@@ -83,7 +67,7 @@ silent past (step ∷ steps) answers none =
 abbrev pub texts : List Step → List (List ℕ)
 texts steps = flat_map text_of (outs_of steps)
 
-texts_append : (first second : List Step) → texts (first ++ second) ≡ texts first ++ texts second
+pub texts_append : (first second : List Step) → texts (first ++ second) ≡ texts first ++ texts second
 texts_append first second =
     ap (λ outs. flat_map text_of outs) (flat_map-append (λ (step : Step). step.outs) first second) ∙ flat_map-append text_of (outs_of first) (outs_of second)
 

@@ -8,6 +8,10 @@ pub mod Results
 pub mod Given
 pub mod Marks
 pub mod Pipes
+pub mod Serial
+pub mod Links
+pub mod Clearing
+pub mod Times
 pub mod Halted
 pub mod Answering
 pub mod Worked
@@ -17,6 +21,7 @@ pub mod WorkedChip
 pub mod WorkedMarks
 pub mod WorkedFull
 pub mod WorkedPipes
+pub mod WorkedLinks
 pub mod WorkedHalted
 pub mod WorkedRecords
 pub mod WorkedWrong

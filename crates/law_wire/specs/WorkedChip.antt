@@ -7,7 +7,7 @@ use Rattle.serial_frame.specs.declared.unit.Unit.TheVariants.{Ack, Nak, Framed}
 use Rattle.device_stack.specs.State.{State}
 use Rattle.zw_words.specs.declared.side.Side.TheVariants.{Host, Chip}
 use Rattle.zw_text.specs.declared.entry.Entry.{Entry}
-use Rattle.zw_text.specs.declared.entry.Entry.TheVariants.{Said, Written, Heard, Lost, Unheard, Forget, ChipFull}
+use Rattle.zw_text.specs.declared.entry.Entry.TheVariants.{Said, Written, Heard, Lost, Unheard, Forget}
 use Rattle.law_wire.specs.Asked.{Course}
 use Rattle.law_wire.specs.Answering.{MayAnswer}
 use Rattle.law_wire.specs.WorkedCourses.{request, response, switching_on, taking_it, without_copies}
@@ -157,12 +157,9 @@ withdrawn_without = without_a_way ++ asks withdrawing ++ tells (called_back 1 2)
 abbrev pub heard_home : List Entry
 heard_home = Said (codes "local 2 1") ∷ coming_home 1 255 ∷ (a_tick 1 ++ Heard 1 ∷ [])
 
--- two such frames, and three, of which one is dropped
+-- two such frames
 abbrev pub two_heard : List Entry
 two_heard = coming_home 1 255 ∷ coming_home 2 0 ∷ (a_tick 1 ++ Heard 1 ∷ Heard 2 ∷ [])
-
-abbrev pub three_heard : List Entry
-three_heard = coming_home 1 255 ∷ coming_home 2 0 ∷ coming_home 3 7 ∷ (a_tick 1 ++ Heard 1 ∷ Heard 2 ∷ Heard 3 ∷ ChipFull ∷ [])
 
 -- node 5 is asked for its information, and a tick begins
 abbrev pub five_asked : List Entry

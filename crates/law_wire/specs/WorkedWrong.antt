@@ -161,12 +161,14 @@ spoken_over = Written Chip (bytes (codes "010500130100E8")) ∷ Written Chip (by
 abbrev pub host_spoke_over : List Entry
 host_spoke_over = Written Host (bytes (codes "01030002FE")) ∷ Written Host (bytes (codes "0104004105BF")) ∷ []
 
--- the host answers what came before it restarted; and where the restart is refused
+-- in a stall the host restarts, and answers what came before; and where the restart is refused
 abbrev pub answered_over_restart : List Entry
-answered_over_restart = Written Chip (bytes (codes "010500130100E8")) ∷ Said (codes "restart") ∷ Written Host (bytes (codes "06")) ∷ []
+answered_over_restart =
+    Said (codes "stall 1") ∷ Written Chip (bytes (codes "010500130100E8")) ∷ Said (codes "restart") ∷ Said (codes "tick 1") ∷ Time 1 ∷
+    Written Host (bytes (codes "06")) ∷ []
 
 abbrev pub refused_restart : List Entry
-refused_restart = with_more_at 2 (Refused KeeperFault) answered_over_restart
+refused_restart = with_more_at 3 (Refused KeeperFault) answered_over_restart
 
 -- the first frame of the host is answered CAN
 abbrev pub collided_at_once : List Entry

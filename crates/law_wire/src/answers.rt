@@ -34,7 +34,6 @@ ghost use Rattle.law_wire.specs.WorkedChip.{
   switching_again,
   telling_home,
   tells,
-  three_heard,
   to_a_stranger,
   two_heard,
   unheard_there,
@@ -46,7 +45,7 @@ ghost use Rattle.law_wire.specs.WorkedChip.{
 };
 ghost use Rattle.law_wire.specs.WorkedCourses.{request, response, switching_on, taking_it};
 ghost use Rattle.law_transcript.specs.Worked.{the_sensor, the_switch};
-ghost use Rattle.zw_text.specs.declared.entry.Entry.TheVariants.{ChipFull, Heard, Lost, Said};
+ghost use Rattle.zw_text.specs.declared.entry.Entry.TheVariants.{Heard, Lost, Said};
 ghost use Rattle.chip_functions.specs.declared.response.Response.TheVariants as answers;
 
 /// The chip takes a SendData of 46 bytes, one after another that was aborted, and one in the tick after the last; it refuses one to a node that has not joined.
@@ -151,18 +150,17 @@ pub fn rejected_responses()
 {}
 
 /// The chip brings what it hears with its sender, also where it is repeated, and the information of a node that it asked for, also where
-/// the next line cuts the node's link; where a frame was dropped it goes on with the next one.
+/// the next line cuts the node's link.
 pub fn worked_notices()
     ensures brings { MayTell (the_switch ∷ []) ([]) heard_home (reported 255) }
     ensures informs { MayTell (the_sensor ∷ []) (asking_five ∷ []) five_asked (informing) }
     ensures informs_still { MayTell (the_sensor ∷ []) (asking_five ∷ []) cut_after_tick (informing) }
-    ensures dropped { MayTell (the_switch ∷ []) ([]) (two_heard ++ ChipFull ∷ []) (reported 0) }
     ensures brings_again { MayTell (the_switch ∷ []) [] (heard_home ++ tells (reported 255) ++ Said (codes "repeat 1") ∷ Heard 1 ∷ []) (reported 255) }
 {}
 
 /// Each of these breaks one part of the law: the chip brings its own frame, what it hears from another sender, once more what it brought,
 /// and what was lost; information that nobody asked for, another class list, another node's; none, where the next line cuts the node's
-/// link; and it leaves out a frame though none was dropped, and two where one was.
+/// link; and it leaves out a frame though none was dropped.
 pub fn rejected_notices()
     ensures own { MayTell (the_switch ∷ []) (switching_on ∷ []) heard_there (request 0x04 (codes "0001076C0101032501FF")) → ⊥ }
     ensures sender { MayTell (the_switch ∷ []) ([]) heard_home (request 0x04 (codes "0003032503FF")) → ⊥ }
@@ -171,7 +169,6 @@ pub fn rejected_notices()
     ensures node { MayTell (the_sensor ∷ []) (asking_five ∷ []) five_asked (request 0x49 (codes "8406070400003180846C")) → ⊥ }
     ensures still { MayTell (the_sensor ∷ []) (asking_five ∷ []) cut_after_tick (not_informing) → ⊥ }
     ensures left_out { MayTell (the_switch ∷ []) ([]) two_heard (reported 0) → ⊥ }
-    ensures two { MayTell (the_switch ∷ []) ([]) three_heard (reported 7) → ⊥ }
     ensures again { MayTell (the_switch ∷ []) [] (heard_home ++ tells (reported 255)) (reported 255) → ⊥ }
     ensures lost { MayTell (the_switch ∷ []) [] (coming_home 1 255 ∷ (a_tick 1 ++ Lost 1 ∷ [])) (reported 255) → ⊥ }
 {}

@@ -8,7 +8,8 @@
 //! (whether a node can be reached), `Arriving` (fates, repeats and what the chip forgets); `Asked`, `Taking` (which
 //! SendData the chip accepts and which frames it puts on the air), `Results`, `Given` and `Answering` (what it has for
 //! the host and what it writes); `Marks` (which units are lost, changed or answered CAN because a line asks for it) and
-//! `Pipes` (which units find no room); `Halted` (what a device did when an allocation failure ended the run).
+//! `Pipes` (which units find no room); `Serial` and `Links` (what the sides of the serial line write, hear and tick),
+//! `Clearing` (what a restart loses) and `Times` (when the number of a tick stands); `Halted` (what a device did when an allocation failure ended the run).
 //! `Worked..` are the transcripts that the functions here speak of.
 #![tactic(auto)]
 
@@ -20,11 +21,13 @@ mod full;
 mod halted;
 mod links;
 mod marks;
+mod moments;
 mod networks;
 mod pipes;
 mod records;
 mod routes;
 mod taking;
+mod times;
 
 pub use answers::{
     rejected_callbacks, rejected_notices, rejected_responses, rejected_taken, worked_ack_marks,
@@ -45,6 +48,9 @@ pub use marks::{
     rejected_answers_by, rejected_losses, rejected_marks, worked_answers_by, worked_collisions,
     worked_losses, worked_marks,
 };
+pub use moments::{
+    rejected_hearing, rejected_ticks, worked_asking, worked_hearing, worked_ticks,
+};
 pub use networks::{worked_air_links, worked_repeaters, worked_table};
 pub use pipes::{rejected_pipes, rejected_room, worked_bytes, worked_pipes, worked_room};
 pub use records::{rejected_records, worked_records};
@@ -52,3 +58,4 @@ pub use routes::{
     rejected_reach, rejected_routes, rejected_walks, worked_reach, worked_routes, worked_walks,
 };
 pub use taking::{rejected_airing, worked_airing, worked_course, worked_takes, worked_under_way};
+pub use times::{rejected_clearing, rejected_times, worked_clearing, worked_times};

@@ -32,10 +32,6 @@ pub returns-clause-left_out : goal.returns-clause-left_out
 unfolding reckoning
 returns-clause-left_out c = λ law. differ_at 9 _ _ law.0 refl
 
-pub returns-clause-two : goal.returns-clause-two
-unfolding reckoning
-returns-clause-two c = λ law. elim law [ inl first ↦ differ_at 9 _ _ first.0 refl | inr second ↦ differ_at 9 _ _ second.0 refl ]
-
 pub returns-clause-again : goal.returns-clause-again
 unfolding reckoning
 returns-clause-again c = λ law. law.1

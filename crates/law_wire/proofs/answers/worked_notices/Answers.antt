@@ -1,4 +1,4 @@
-use Rattle.std.proofs.Common.{[], refl, inl, inr}
+use Rattle.std.proofs.Common.{[], refl, inl}
 use Rattle.law_wire.proofs.Computing.{reckoning}
 use Rattle.law_wire.proofs.Walks.{direct}
 use Rattle.law_wire.proofs.answers.worked_notices.Goals as goal
@@ -14,10 +14,6 @@ returns-clause-informs c = (refl, (inl (record { joined = refl; way = []; route 
 pub returns-clause-informs_still : goal.returns-clause-informs_still
 unfolding reckoning
 returns-clause-informs_still c = (refl, (inl (record { joined = refl; way = []; route = (direct _ _ 5 refl).walk; awake = refl }, refl), tt))
-
-pub returns-clause-dropped : goal.returns-clause-dropped
-unfolding reckoning
-returns-clause-dropped c = inr (refl, tt)
 
 pub returns-clause-brings_again : goal.returns-clause-brings_again
 unfolding reckoning

@@ -1,5 +1,9 @@
-use Rattle.std.proofs.Common.{arith}
+use Rattle.std.proofs.Common.{[], ◌∷◌, refl}
+use Rattle.law_transcript.specs.Worked.{the_switch}
+use Rattle.law_wire.specs.Worked.{copied}
+use Rattle.law_wire.specs.WorkedCourses.{copied_course}
 use Rattle.law_wire.proofs.Computing.{reckoning}
+use Rattle.law_wire.proofs.Entries.{drops_when_few}
 use Rattle.law_wire.proofs.Serving.{repeated_drops, lossy_drops, cancelled_drops, restarted_drops, sleeping_drops, sealed_drops, cut_drops}
 use Rattle.law_wire.proofs.Plain.{plain_drops}
 use Rattle.law_wire.proofs.chip.worked_drops.Goals as goal
@@ -9,64 +13,7 @@ returns-clause-plain c = plain_drops
 
 pub returns-clause-copied : goal.returns-clause-copied
 unfolding reckoning
-returns-clause-copied c = (
-  omega arith,
-  (
-    tt,
-    (
-      tt,
-      (
-        tt,
-        (
-          tt,
-          (
-            tt,
-            (
-              tt,
-              (
-                tt,
-                (
-                  omega arith,
-                  (
-                    omega arith,
-                    (
-                      omega arith,
-                      (
-                        tt,
-                        (
-                          tt,
-                          (
-                            tt,
-                            (
-                              tt,
-                              (
-                                tt,
-                                (
-                                  tt,
-                                  (
-                                    omega arith,
-                                    (
-                                      tt,
-                                      (omega arith, (tt, (tt, (tt, (tt, (tt, (tt, tt))))))),
-                                    ),
-                                  ),
-                                ),
-                              ),
-                            ),
-                          ),
-                        ),
-                      ),
-                    ),
-                  ),
-                ),
-              ),
-            ),
-          ),
-        ),
-      ),
-    ),
-  ),
-)
+returns-clause-copied c = drops_when_few (the_switch ∷ []) copied_course copied refl refl
 
 pub returns-clause-repeated : goal.returns-clause-repeated
 returns-clause-repeated c = repeated_drops
