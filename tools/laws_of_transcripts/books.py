@@ -198,9 +198,10 @@ def ConfirmsLast(past):
         last = {}
         for by, settings in changes:
             last.update({which: (by, value) for which, value in settings.items()})
+        stored = confirmed(past, node)
         for which, (by, value) in last.items():
             if by not in ("local", "plain") and past.outcomes.get(past.carried(node, int(by))) == "success":
-                if confirmed(past, node).get(which) != value:
+                if stored.get(which) != value:
                     return "%s of node %d is not confirmed as %d" % (which, node, value)
     return None
 

@@ -25,12 +25,20 @@ def substitutions():
 
 BOX = substitutions()
 TWICE = [times(byte, 2) for byte in range(256)]
-SHIFTED = [0, 5, 10, 15, 4, 9, 14, 3, 8, 13, 2, 7, 12, 1, 6, 11]
+
+
+def columns():
+    """What a substituted byte of each row gives a mixed column, as a number of 32 bits: four tables."""
+    first = [TWICE[byte] << 24 | byte << 16 | byte << 8 | TWICE[byte] ^ byte for byte in BOX]
+    return [[word >> 8 * row | word << 32 - 8 * row & 0xFFFFFFFF for word in first] for row in range(4)]
+
+
+COLUMNS = columns()
 
 
 @lru_cache(maxsize=64)
 def round_keys(key):
-    """The eleven round keys."""
+    """The columns of the eleven round keys, as numbers."""
     words, constant = [list(key[4 * i:4 * i + 4]) for i in range(4)], 1
     for i in range(4, 44):
         word = list(words[-1])
@@ -39,24 +47,24 @@ def round_keys(key):
             word[0] ^= constant
             constant = TWICE[constant]
         words.append([x ^ y for x, y in zip(words[i - 4], word)])
-    return [sum(words[4 * i:4 * i + 4], []) for i in range(11)]
+    return [int.from_bytes(bytes(word), "big") for word in words]
 
 
+@lru_cache(maxsize=4096)
 def enciphered(key, block):
     """AES-128 of a block."""
-    keys = round_keys(key)
-    state = [x ^ y for x, y in zip(block, keys[0])]
-    for which in range(1, 11):
-        state = [BOX[state[place]] for place in SHIFTED]
-        if which < 10:
-            mixed = []
-            for column in range(0, 16, 4):
-                a, b, c, d = state[column:column + 4]
-                mixed += [TWICE[a] ^ TWICE[b] ^ b ^ c ^ d, a ^ TWICE[b] ^ TWICE[c] ^ c ^ d,
-                          a ^ b ^ TWICE[c] ^ TWICE[d] ^ d, TWICE[a] ^ a ^ b ^ c ^ TWICE[d]]
-            state = mixed
-        state = [x ^ y for x, y in zip(state, keys[which])]
-    return bytes(state)
+    keys, (first, second, third, fourth) = round_keys(key), COLUMNS
+    a, b, c, d = (int.from_bytes(block[4 * i:4 * i + 4], "big") ^ keys[i] for i in range(4))
+    for i in range(4, 40, 4):
+        a, b, c, d = (
+            first[a >> 24] ^ second[b >> 16 & 255] ^ third[c >> 8 & 255] ^ fourth[d & 255] ^ keys[i],
+            first[b >> 24] ^ second[c >> 16 & 255] ^ third[d >> 8 & 255] ^ fourth[a & 255] ^ keys[i + 1],
+            first[c >> 24] ^ second[d >> 16 & 255] ^ third[a >> 8 & 255] ^ fourth[b & 255] ^ keys[i + 2],
+            first[d >> 24] ^ second[a >> 16 & 255] ^ third[b >> 8 & 255] ^ fourth[c & 255] ^ keys[i + 3])
+    last = ((a, b, c, d), (b, c, d, a), (c, d, a, b), (d, a, b, c))
+    return b"".join(
+        ((BOX[w >> 24] << 24 | BOX[x >> 16 & 255] << 16 | BOX[y >> 8 & 255] << 8 | BOX[z & 255]) ^ keys[40 + i]).to_bytes(4, "big")
+        for i, (w, x, y, z) in enumerate(last))
 
 
 def streamed(key, vector, text):

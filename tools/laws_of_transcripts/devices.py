@@ -107,6 +107,8 @@ class Device:
 
     def next_wait(self):
         """The tick at which a wait of the device ends, or None."""
+        if self.work is None and self.kind != SENSOR:
+            return None
         waits = [self.work[0]] if self.work else []
         if self.awake and self.kind == SENSOR:
             waits.append(self.last + ASLEEP_AFTER)

@@ -29,9 +29,9 @@ def is_replay(transcript):
     return any(entry.kind == "line" and entry.fields[0][0] == "chip" for entry in transcript.entries)
 
 
-def violations(lines, key=KEY, alone=None):
+def judged(lines, key=KEY, alone=None):
     """The violations in a transcript, in the order in which they stand: of the laws that go by what stands before, the first of all;
-    of those of sessions and values, the first of each."""
+    of those of sessions and values, the first of each. And how many stretches were judged in it."""
     transcript = transcript_of(lines)
     alone = is_replay(transcript) if alone is None else alone
     reading = HostReading(key) if alone else SimReading(key)
@@ -40,4 +40,9 @@ def violations(lines, key=KEY, alone=None):
     end = len(transcript.entries) + 1
     for law, part, entry in violations_of_books(transcript, key, commands):
         found.append(Violation(law, part, entry.at if entry else end, entry.text if entry else "the end"))
-    return sorted(found, key=lambda violation: violation.at)
+    return sorted(found, key=lambda violation: violation.at), 0 if alone else reading.stretches.judged
+
+
+def violations(lines, key=KEY, alone=None):
+    """The violations alone."""
+    return judged(lines, key, alone)[0]

@@ -24,8 +24,8 @@ use Rattle.law_time.specs.Judged.{is_data, acknowledgements_come, last_of}
 use Rattle.law_time.specs.Requests.{are_none}
 use Rattle.law_time.specs.Interviews.{listens}
 use Rattle.law_time.specs.Waking.{is_awake_sleeper}
-use Rattle.law_time.specs.Sessions.{runs}
-use Rattle.law_time.specs.Rests.{is_rest, all_final}
+use Rattle.law_time.specs.Sessions.{is_open, runs}
+use Rattle.law_time.specs.Rests.{is_rest}
 
 -- ---- nothing is still to be lost
 
@@ -158,7 +158,7 @@ is_to_come past now command = list_any (λ tick. nat_lt now (tick + 100)) (last_
 
 abbrev pub is_not_stuck : List Entry → ℕ → ℕ → Bool
 is_not_stuck past now node =
-    not (listens node past) || are_none (waiting node past) || all_final node past || list_all (is_to_come past now) (last_of (sessions node past))
+    not (listens node past) || are_none (waiting node past) || not (is_open node past) || list_all (is_to_come past now) (last_of (sessions node past))
 
 -- ---- calm
 

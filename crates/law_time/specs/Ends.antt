@@ -100,6 +100,10 @@ has_ended asked now =
 abbrev pub is_line_free : Asked → ℕ → Bool
 is_line_free asked now = not (are_none (sent_at asked)) || list_any (λ fails. nat_le fails.tick now) (failing asked)
 
+-- it is over by a time: its frame was acknowledged or given up, and it has ended
+abbrev pub is_over : Asked → ℕ → Bool
+is_over asked now = are_none asked.frame || (is_line_free asked now && has_ended asked now)
+
 -- a SendData that was taken and ends in silence is aborted
 abbrev pub is_sending : Request → Bool
 is_sending (SendData node payload options id) = true

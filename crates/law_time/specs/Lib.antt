@@ -10,8 +10,11 @@ pub mod Holds
 pub mod Sessions
 pub mod Wants
 pub mod Queue
+pub mod Attempts
+pub mod Choice
 pub mod Unanswered
 pub mod Rests
+pub mod Prompt
 pub mod Calm
 pub mod Verdicts
 pub mod Stretches
@@ -26,6 +29,7 @@ pub mod WorkedTurns
 pub mod WorkedAttempts
 pub mod WorkedCalm
 pub mod WorkedBetween
+pub mod WorkedChoice
 pub mod WrongRequests
 pub mod WrongWaits
 pub mod WrongStretches
@@ -37,3 +41,4 @@ pub mod WrongTurns
 pub mod WrongAttempts
 pub mod WrongCalm
 pub mod WrongBetween
+pub mod WrongChoice

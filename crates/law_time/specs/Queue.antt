@@ -1,4 +1,4 @@
--- Which requests wait, and in which order they are sent (this project's own rule: 64 may wait; what nodes ask for, Security 0, Transport
+-- Which requests wait, and when their queue is full (this project's own rule: 64 may wait; what nodes ask for, Security 0, Transport
 -- Service and Wake Up Command Classes).
 use Rattle.std.specs.Prelude.{ℕ, ◌+◌, ◌-◌, ◌==◌, ◌&&◌, ◌||◌, not, bytes_eq, is_some, nat_le, nat_lt, Bool, true, false, if◌then◌else◌, List, [], ◌∷◌, ◌++◌, length, filter, map, take, drop}
 use Rattle.std.specs.List.{flat_map, list_any}
@@ -11,11 +11,11 @@ use Rattle.law_transcript.specs.Answers.{before_last}
 use Rattle.law_transcript.specs.Commands.{waiting}
 use Rattle.law_transcript.specs.Nodes.{known_classes}
 use Rattle.law_transcript.specs.Restarts.{begins_refused}
-use Rattle.law_transcript.specs.Units.{Carried, request_in, sending_in}
+use Rattle.law_transcript.specs.Units.{Carried, request_in}
 use Rattle.law_time.specs.Moments.{Keeps, clock, later_of, now_at}
 use Rattle.law_time.specs.Judged.{is_data, is_acknowledgement, is_mark, is_of_air, is_of_chip, brought_here}
 use Rattle.law_time.specs.Requests.{Asked, are_none, asked, asked_after, asked_nothing, is_new, starts_anew}
-use Rattle.law_time.specs.Ends.{has_ended, is_abort_frame, owes_abort}
+use Rattle.law_time.specs.Ends.{has_ended, is_abort_frame}
 use Rattle.law_time.specs.Sessions.{runs}
 use Rattle.law_time.specs.Waking.{is_awake_sleeper}
 use Rattle.law_time.specs.Holds.{held_until}
@@ -248,21 +248,3 @@ may_queue listing past entry = is_mark entry || owes_no_refusal listing past ent
 
 abbrev pub FitsQueue : (ℕ → List ℕ) → List Entry → Type 0
 FitsQueue listing transcript = Keeps (may_queue listing) transcript
-
--- a request that is no abort is the one that waited longest; where none waits it is of the session of a node whose series runs
-abbrev pub is_next : List Entry → List ℕ → List (List ℕ) → Bool
-is_next past unit [] = list_any (λ carried. runs carried.node past (clock past)) (sending_in unit)
-is_next past unit (want ∷ wants) = list_any (λ request. bytes_eq want (want_of request)) (request_in unit)
-
--- an abort goes before all others, where one is owed
-abbrev pub is_in_turn : (ℕ → List ℕ) → List Entry → List ℕ → Bool
-is_in_turn listing past unit =
-    if owes_abort (asked past) (clock past) then is_abort_frame unit
-    else not (is_abort_frame unit) && is_next past unit (queue_before listing past (Written Host unit)).wants
-
-abbrev pub may_send : (ℕ → List ℕ) → List Entry → Entry → Bool
-may_send listing past (Written Host unit) = not (is_new (asked past) unit) || is_in_turn listing past unit
-may_send listing past entry = true
-
-abbrev pub SendsInTurn : (ℕ → List ℕ) → List Entry → Type 0
-SendsInTurn listing transcript = Keeps (may_send listing) transcript

@@ -1,23 +1,22 @@
 -- Rests, and what the host owes at one (this project's own rule): nothing that was asked for is left, no command waits for a node
--- that is awake, no attempt is overdue, and a node that sleeps is kept awake for a reason alone.
+-- that is awake, no part of an attempt, and no attempt, is left unsent, none is overdue, and a node that sleeps is kept awake for a reason alone.
 use Rattle.std.specs.Prelude.{◌≡◌, ℕ, ◌+◌, ◌==◌, ◌&&◌, ◌||◌, not, nat_lt, Bool, true, List, [], ◌∷◌, length}
 use Rattle.std.specs.List.{flat_map, list_any, list_all}
 use Rattle.zw_text.specs.declared.line.Line.{Line}
 use Rattle.zw_text.specs.declared.line.Line.TheVariants as lines
 use Rattle.zw_text.specs.declared.entry.Entry.{Entry}
 use Rattle.zw_text.specs.declared.entry.Entry.TheVariants.{Said, Interviewed, InterviewFailed, Unkept, Time}
-use Rattle.zw_text.specs.Transcript.{sessions, outcome, joined, shown, line_of, lines_run, lines_done, requests_done, where_same}
-use Rattle.law_transcript.specs.Commands.{waiting}
+use Rattle.zw_text.specs.Transcript.{joined, shown, line_of, lines_run, lines_done, requests_done, where_same}
 use Rattle.law_transcript.specs.Lists.{shown_after}
 use Rattle.law_transcript.specs.Restarts.{since_restart, ticks_asked}
-use Rattle.law_time.specs.Moments.{Keeps, clock, now_at}
-use Rattle.law_time.specs.Judged.{acknowledged, frames_come, last_of}
-use Rattle.law_time.specs.Requests.{Asked, asked, are_none}
-use Rattle.law_time.specs.Ends.{has_ended, is_line_free, owes_abort}
-use Rattle.law_time.specs.Sessions.{is_final, last_command, runs}
-use Rattle.law_time.specs.Waking.{is_up}
-use Rattle.law_time.specs.Queue.{queue_before}
-use Rattle.law_time.specs.Unanswered.{attempts_of}
+use Rattle.law_time.specs.Moments.{Keeps, now_at}
+use Rattle.law_time.specs.Judged.{acknowledged, frames_come}
+use Rattle.law_time.specs.Requests.{asked, are_none}
+use Rattle.law_time.specs.Ends.{is_over, owes_abort}
+use Rattle.law_time.specs.Sessions.{runs}
+use Rattle.law_time.specs.Queue.{waits_before}
+use Rattle.law_time.specs.Attempts.{Attempts, Serving, serving}
+use Rattle.law_time.specs.Choice.{is_in_tick, is_to_begin, parts_of, unkept_when}
 
 -- ---- when it rests
 
@@ -31,10 +30,6 @@ stall_at past entry = flat_map (stall_by (ticks_asked (lines_run past))) (line_o
 
 abbrev pub is_stalled : List Entry → ℕ → Bool
 is_stalled past now = list_any (nat_lt now) (shown_after stall_at [] past)
-
--- the last request is over: its frame was acknowledged or given up, and it has ended
-abbrev pub is_over : Asked → ℕ → Bool
-is_over last now = are_none last.frame || (is_line_free last now && has_ended last now)
 
 -- the host rests: no stall lasts, every frame of the chip is judged, and no request is under way
 abbrev pub is_rest : List Entry → ℕ → Bool
@@ -74,48 +69,36 @@ has_come node past =
 
 -- ---- no command waits for a node that is awake
 
--- each session of a node has a final outcome
-abbrev pub all_final : ℕ → List Entry → Bool
-all_final node past = list_all (λ number. is_final (outcome number past)) (sessions node past)
-
--- when the keeper failed for a node
-abbrev pub unkept_when : ℕ → List Entry → Entry → List ℕ
-unkept_when node past (Unkept of) = where_same of node (clock past)
-unkept_when node past _ = []
-
--- whether it did since the host started, and no tick has passed since the last time
-abbrev pub is_blocked : ℕ → List Entry → ℕ → Bool
-is_blocked node past now =
-    is_unkept node (since_restart past) && list_any (λ tick. tick == now) (last_of (shown_after (unkept_when node) [] past))
-
 -- no command waits for a node that is up and whose sessions have all ended, but where the keeper has just failed
 abbrev pub none_waits : ℕ → List Entry → ℕ → Bool
-none_waits node past now = not (is_up node past) || not (all_final node past) || are_none (waiting node past) || is_blocked node past now
+none_waits node past now = not (is_to_begin node past) || is_in_tick (unkept_when node) past now
 
 -- ---- no attempt is overdue
 
--- the attempt of a session whose series runs has begun, and its last sign is less than 100 ticks ago
-abbrev pub is_at_work : (ℕ → List ℕ) → ℕ → List Entry → ℕ → ℕ → Bool
-is_at_work listing node past now command = list_any (λ tick. nat_lt now (tick + 100)) (attempts_of listing node command past).sign
+-- the attempt of a session whose series runs has begun, has sent all that it could, and its last sign is less than 100 ticks ago
+abbrev pub is_at_work : (ℕ → List ℕ) → List Entry → ℕ → Attempts → Bool
+is_at_work listing past now attempts =
+    are_none (parts_of listing past (asked past) now attempts) && list_any (λ tick. nat_lt now (tick + 100)) attempts.sign
 
-abbrev pub none_overdue : (ℕ → List ℕ) → ℕ → List Entry → ℕ → Bool
-none_overdue listing node past now = not (runs node past now) || list_all (is_at_work listing node past now) (last_command node past)
+abbrev pub none_overdue : (ℕ → List ℕ) → List Entry → ℕ → Attempts → Bool
+none_overdue listing past now attempts = not (runs attempts.node past now) || is_at_work listing past now attempts
 
 -- ---- the law
 
 -- nothing is owed to a node
-abbrev pub owes_nothing : (ℕ → List ℕ) → List Entry → ℕ → ℕ → Bool
-owes_nothing listing past now node = has_come node (since_restart past) && none_waits node past now && none_overdue listing node past now
+abbrev pub owes_nothing : (ℕ → List ℕ) → List Entry → ℕ → Attempts → Bool
+owes_nothing listing past now attempts =
+    has_come attempts.node (since_restart past) && none_waits attempts.node past now && none_overdue listing past now attempts
 
 -- no request waits, no abort is owed, and nothing is owed to any node
-abbrev pub owes_none : (ℕ → List ℕ) → List Entry → Entry → Bool
-owes_none listing past entry =
-    are_none (queue_before listing past entry).wants && not (owes_abort (asked past) (now_at past entry))
-    && list_all (owes_nothing listing past (now_at past entry)) (joined past)
+abbrev pub owes_none : (ℕ → List ℕ) → List Entry → Entry → Serving → Bool
+owes_none listing past entry serving =
+    are_none (waits_before listing past serving.requests entry).wants && not (owes_abort (asked past) (now_at past entry))
+    && list_all (owes_nothing listing past (now_at past entry)) serving.each
 
 -- where the host rests before an entry
 abbrev pub rests_well : (ℕ → List ℕ) → List Entry → Entry → Bool
-rests_well listing past entry = not (is_rest past (now_at past entry)) || owes_none listing past entry
+rests_well listing past entry = not (is_rest past (now_at past entry)) || owes_none listing past entry (serving listing (joined past) past)
 
 -- which begins a line or a tick
 abbrev pub may_rest : (ℕ → List ℕ) → List Entry → Entry → Bool
@@ -124,6 +107,6 @@ may_rest listing past (Time tick) = rests_well listing past (Time tick)
 may_rest listing past entry = true
 
 -- at each rest nothing is owed
-pub record IsPrompt (whole : Bool) (listing : ℕ → List ℕ) (transcript : List Entry) : Type 0 where
+pub record RestsWell (whole : Bool) (listing : ℕ → List ℕ) (transcript : List Entry) : Type 0 where
   pub between : Keeps (may_rest listing) transcript
   pub in_the_end : whole ≡ true → rests_well listing transcript (Said []) ≡ true

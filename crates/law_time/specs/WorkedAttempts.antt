@@ -99,7 +99,7 @@ given_up_over_refused =
 -- the first segment of a third attempt is called back as failed
 abbrev pub three_segments : List Entry
 three_segments =
-    take 5 given_up_plug ++ first_sent ∷
+    take 6 given_up_plug ++ first_sent ∷
     by_host (codes "01340013082D55C02F106C01012B70070000250101010101010101010101010101010101010101010101010101010101014E7A250251") ∷
     by_host (codes "01340013082D55C02F106C01012B70070000250101010101010101010101010101010101010101010101010101010101014E7A250350") ∷ []
 

@@ -38,7 +38,7 @@ awake_unknown = Said (codes "join 5") ∷ Awake 5 ∷ []
 
 -- a command waits for a node that was given up: it sleeps, or its next series is to come
 abbrev pub waiting_asleep : List Entry
-waiting_asleep = Said (codes "join 5") ∷ given_up_sleeper ++ Said (codes "interval 5 600") ∷ Accepted 2 5 ∷ Said (codes "tick 200") ∷ []
+waiting_asleep = given_up_sleeper ++ Said (codes "interval 5 600") ∷ Accepted 2 5 ∷ Said (codes "tick 200") ∷ []
 
 abbrev pub given_up_before_series : List Entry
 given_up_before_series =

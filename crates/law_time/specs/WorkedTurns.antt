@@ -19,7 +19,7 @@ given_up = Said (codes "set 2 on") ∷ Accepted 1 2 ∷ Begin 2 1 1 ∷ Out 1 en
 -- that of node 5, which sleeps again
 abbrev pub given_up_sleeper : List Entry
 given_up_sleeper =
-    Awake 5 ∷ Said (codes "interval 5 300") ∷ Accepted 1 5 ∷ Begin 5 1 1 ∷ Out 1 endings.Unanswered ∷ Asleep 5 ∷ []
+    Said (codes "join 5") ∷ Awake 5 ∷ Said (codes "interval 5 300") ∷ Accepted 1 5 ∷ Begin 5 1 1 ∷ Out 1 endings.Unanswered ∷ Asleep 5 ∷ []
 
 -- the message is sent again after another command, a Wake Up Notification, and a restart
 abbrev pub again_by_command : List Entry
@@ -134,12 +134,12 @@ told_by_time_as_numbered = as_numbered ++ both_held ++ no_more_to_six ∷ no_mor
 
 -- ---- segments
 
--- a command of node 8 has two segments, and was given up
+-- a command of node 8, which is awake, has two segments, and was given up
 abbrev pub given_up_plug : List Entry
 given_up_plug =
     Said (codes "join 8") ∷ Interviewed 8 ∷
-    Said (codes "bulk 8 0 01010101010101010101010101010101010101010101010101010101010101010101010101") ∷ Accepted 1 8 ∷ Begin 8 1 1 ∷
-    Out 1 endings.Unanswered ∷ []
+    Said (codes "bulk 8 0 01010101010101010101010101010101010101010101010101010101010101010101010101") ∷ Accepted 1 8 ∷ Awake 8 ∷ Begin 8 1 1 ∷
+    Out 1 endings.Unanswered ∷ Asleep 8 ∷ []
 
 -- it asks for the segment at byte 0, or at byte 39
 abbrev pub first_wanted : Entry
@@ -151,11 +151,14 @@ second_wanted = by_chip (codes "010A000400080455C8102757")
 abbrev pub first_sent : Entry
 first_sent = by_host (codes "01340013082D55C02F106C01012B70070000250101010101010101010101010101010101010101010101010101010101014E7A250152")
 
+abbrev pub second_sent : Entry
+second_sent = by_host (codes "01160013080F55E02F102701010101010101018A77250189")
+
 abbrev pub first_resent : List Entry
 first_resent = given_up_plug ++ first_wanted ∷ host_acknowledges ∷ first_sent ∷ []
 
 abbrev pub second_resent : List Entry
-second_resent = given_up_plug ++ second_wanted ∷ host_acknowledges ∷ by_host (codes "01160013080F55E02F102701010101010101018A77250189") ∷ []
+second_resent = given_up_plug ++ second_wanted ∷ host_acknowledges ∷ second_sent ∷ []
 
 -- ---- a full queue
 

@@ -43,14 +43,14 @@ sent_asleep = given_up_sleeper ++ Said (codes "interval 5 600") ∷ Accepted 2 5
 
 -- after the waking of another node
 abbrev pub sent_by_other_waking : List Entry
-sent_by_other_waking = take 5 given_up_sleeper ++ Awake 6 ∷ sleeper_sent ∷ []
+sent_by_other_waking = take 6 given_up_sleeper ++ Awake 6 ∷ sleeper_sent ∷ []
 
 -- after a restart that is refused, and after one that leaves the node asleep
 abbrev pub sent_by_refused_restart : List Entry
 sent_by_refused_restart = given_up ++ Said (codes "restart") ∷ Refused refusals.KeeperFault ∷ message_sent ∷ []
 
 abbrev pub sent_over_restart : List Entry
-sent_over_restart = take 4 given_up_sleeper ++ Said (codes "restart") ∷ sleeper_sent ∷ []
+sent_over_restart = take 5 given_up_sleeper ++ Said (codes "restart") ∷ sleeper_sent ∷ []
 
 -- while the series of another node runs
 abbrev pub sent_to_other : List Entry
@@ -111,7 +111,7 @@ resent_beyond =
 
 -- of a session that has its final outcome, and of a message that does not go in segments
 abbrev pub resent_when_ended : List Entry
-resent_when_ended = take 5 given_up_plug ++ Out 1 endings.Success ∷ first_wanted ∷ host_acknowledges ∷ first_sent ∷ []
+resent_when_ended = take 6 given_up_plug ++ Out 1 endings.Success ∷ Asleep 8 ∷ first_wanted ∷ host_acknowledges ∷ first_sent ∷ []
 
 abbrev pub resent_of_plain : List Entry
 resent_of_plain =

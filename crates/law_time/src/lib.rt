@@ -8,12 +8,14 @@
 //! The definitions are in `specs/`, one file a law: `Moments` (the clock, and laws that judge each entry by those
 //! before it), `Judged`, `Requests` and `Ends` (what the host has judged, its last request, and how that ends);
 //! `Errands`, `Questions` and `Interviews` (what is said of ends); `Waking` and `Holds`; `Sessions` (whether attempts
-//! of a session run), `Wants` and `Queue` (which requests wait, and in which order they go); `Unanswered`; `Rests`
-//! (what is owed when the host rests); `Calm` and `Stretches`. `Worked..` and `Wrong..` are the transcripts that the
-//! functions here speak of.
+//! of a session run), `Wants` and `Queue` (which requests wait), `Attempts` (what an attempt has sent, and when it is
+//! over) and `Choice` (which request is next); `Unanswered`; `Rests` (what is owed when the host rests) and `Prompt`
+//! (those of the queue, of turns, attempts and rests as one); `Calm` and `Stretches`. `Worked..` and `Wrong..` are the
+//! transcripts that the functions here speak of.
 #![tactic(auto)]
 
 mod calm;
+mod choice;
 mod queue;
 mod requests;
 mod waits;
@@ -23,10 +25,14 @@ pub use calm::{
     owed_stretches, rejected_calm, rejected_stretches, stuck_stretches, unkept_stretches,
     worked_calm, worked_stretches,
 };
+pub use choice::{
+    rejected_callbacks, rejected_choice, rejected_one_by_one, worked_callbacks, worked_choice,
+    worked_one_by_one,
+};
 pub use queue::{rejected_queue, rejected_turns, worked_queue, worked_turns};
 pub use requests::{
     rejected_errands, rejected_interviews, rejected_questions, worked_errands, worked_interviews,
     worked_questions,
 };
-pub use waits::{rejected_rests, rejected_waits, worked_attempts, worked_rests};
+pub use waits::{rejected_rests, rejected_waits, worked_attempts, worked_prompt, worked_rests};
 pub use waking::{rejected_waking, worked_holds, worked_sleeping, worked_waking};

@@ -1,7 +1,8 @@
 //! What the laws of the queue of requests say of worked transcripts, and of others with one thing wrong.
 
 ghost use Rattle.std.specs.Prelude.{[], ◌∷◌};
-ghost use Rattle.law_time.specs.Queue.{FitsQueue, SendsInTurn};
+ghost use Rattle.law_time.specs.Choice.{SendsInTurn};
+ghost use Rattle.law_time.specs.Queue.{FitsQueue};
 ghost use Rattle.law_time.specs.WorkedQueue.{dropped_no_more, dropped_nonce, resent_segments, silent_attempt};
 ghost use Rattle.law_time.specs.WorkedWaits.{answered_errands, full_queue, held_node, the_keeper, the_other_switch, woken_before_restart};
 ghost use Rattle.law_time.specs.WrongEntries.{dropped_of_another, refused_for_fewer, sent_after_end};

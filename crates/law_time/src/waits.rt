@@ -1,7 +1,8 @@
 //! What the laws of attempts and of rests say of worked transcripts, and of others with one thing wrong.
 
 ghost use Rattle.std.specs.Prelude.{◌≡◌, true, false, [], ◌∷◌};
-ghost use Rattle.law_time.specs.Rests.{IsPrompt};
+ghost use Rattle.law_time.specs.Prompt.{IsPrompt};
+ghost use Rattle.law_time.specs.Rests.{RestsWell};
 ghost use Rattle.law_time.specs.Unanswered.{GivesUpAfterThree};
 ghost use Rattle.law_time.specs.Waking.{is_up};
 ghost use Rattle.law_time.specs.WorkedWaits.{
@@ -15,7 +16,9 @@ ghost use Rattle.law_time.specs.WorkedWaits.{
   woken_before_restart,
 };
 ghost use Rattle.law_time.specs.WorkedBetween.{told_after_restart, told_as_chip_writes};
+ghost use Rattle.law_time.specs.WorkedChoice.{attempt_follows};
 ghost use Rattle.law_time.specs.WrongBetween.{held_over_restart};
+ghost use Rattle.law_time.specs.WrongChoice.{left_due, left_sealed, left_segment};
 ghost use Rattle.law_time.specs.WorkedQueue.{failed_attempts, resent_segments, silent_attempt};
 ghost use Rattle.law_time.specs.WrongEntries.{given_up_unbegun, left_unended_in_silence, left_unsaid_in_silence};
 ghost use Rattle.law_time.specs.WrongQueue.{
@@ -138,33 +141,40 @@ pub fn worked_attempts()
 /// In worked transcripts nothing is owed at a rest: a command may wait for a node that sleeps, or in the tick in which the keeper has
 /// failed, and an interview may have ended in each way. In one a restart leaves a node as asleep though it was last said to be awake and
 /// was taken to listen: were it still taken to be awake, its command would wait for nothing. What is sent to a node is sent once though it
-/// fails in a tick in which the chip has written, and a restart ends a hold.
+/// fails in a tick in which the chip has written, and a restart ends a hold. The attempt after one whose
+/// last segment has failed begins in that tick.
 pub fn worked_rests()
-    ensures plain { IsPrompt true (listing_of (the_switch ∷ [])) plain_exchange }
-    ensures errands { IsPrompt true (listing_of (the_switch ∷ [])) answered_errands }
-    ensures waited { IsPrompt true (listing_of (the_switch ∷ [])) waited_attempts }
-    ensures sleeping { IsPrompt true (listing_of (the_sensor ∷ [])) sleeping_node }
-    ensures sealed { IsPrompt true (listing_of (the_lock ∷ [])) sealed_exchange }
-    ensures resent { IsPrompt true (listing_of (the_plug ∷ [])) resent_segments }
-    ensures restarted { IsPrompt true (listing_of (the_sensor ∷ the_other_switch ∷ [])) woken_before_restart }
+    ensures plain { RestsWell true (listing_of (the_switch ∷ [])) plain_exchange }
+    ensures errands { RestsWell true (listing_of (the_switch ∷ [])) answered_errands }
+    ensures waited { RestsWell true (listing_of (the_switch ∷ [])) waited_attempts }
+    ensures sleeping { RestsWell true (listing_of (the_sensor ∷ [])) sleeping_node }
+    ensures sealed { RestsWell true (listing_of (the_lock ∷ [])) sealed_exchange }
+    ensures resent { RestsWell true (listing_of (the_plug ∷ [])) resent_segments }
+    ensures restarted { RestsWell true (listing_of (the_sensor ∷ the_other_switch ∷ [])) woken_before_restart }
     ensures said_awake { last_or false (wakings 5 woken_before_restart) ≡ true }
     ensures not_up { is_up 5 woken_before_restart ≡ false }
     ensures waits { waiting 5 woken_before_restart ≡ 1 ∷ [] }
-    ensures repeated { IsPrompt true (listing_of (the_switch ∷ [])) repeated_exchange }
-    ensures lossy { IsPrompt true (listing_of (the_switch ∷ [])) lossy_exchange }
-    ensures cancelled { IsPrompt true (listing_of (the_switch ∷ [])) cancelled_order }
-    ensures host_restarted { IsPrompt true (listing_of (the_switch ∷ [])) restarted_host }
-    ensures cut { IsPrompt true (listing_of (the_plug ∷ [])) long_message }
-    ensures kept { IsPrompt true (listing_of (the_switch ∷ [])) begun_kept }
-    ensures asleep { IsPrompt true (listing_of (the_switch ∷ [])) waits_asleep }
-    ensures before_restart { IsPrompt true (listing_of (the_switch ∷ [])) asked_before_restart }
-    ensures informed { IsPrompt true (listing_of (the_switch ∷ [])) informed }
-    ensures uninformed { IsPrompt true (listing_of (the_switch ∷ [])) interview_uninformed }
-    ensures unkept { IsPrompt true (listing_of (the_switch ∷ [])) informed_unkept }
-    ensures for_line { IsPrompt true (listing_of (the_switch ∷ [])) waits_for_line }
-    ensures for_judging { IsPrompt true (listing_of (the_switch ∷ [])) waits_for_judging }
-    ensures as_chip_writes { IsPrompt true (listing_of (the_switch ∷ the_sensor ∷ [])) told_as_chip_writes }
-    ensures after_restart { IsPrompt true (listing_of (the_keeper ∷ [])) told_after_restart }
+    ensures repeated { RestsWell true (listing_of (the_switch ∷ [])) repeated_exchange }
+    ensures lossy { RestsWell true (listing_of (the_switch ∷ [])) lossy_exchange }
+    ensures cancelled { RestsWell true (listing_of (the_switch ∷ [])) cancelled_order }
+    ensures host_restarted { RestsWell true (listing_of (the_switch ∷ [])) restarted_host }
+    ensures cut { RestsWell true (listing_of (the_plug ∷ [])) long_message }
+    ensures kept { RestsWell true (listing_of (the_switch ∷ [])) begun_kept }
+    ensures asleep { RestsWell true (listing_of (the_switch ∷ [])) waits_asleep }
+    ensures before_restart { RestsWell true (listing_of (the_switch ∷ [])) asked_before_restart }
+    ensures informed { RestsWell true (listing_of (the_switch ∷ [])) informed }
+    ensures uninformed { RestsWell true (listing_of (the_switch ∷ [])) interview_uninformed }
+    ensures unkept { RestsWell true (listing_of (the_switch ∷ [])) informed_unkept }
+    ensures for_line { RestsWell true (listing_of (the_switch ∷ [])) waits_for_line }
+    ensures for_judging { RestsWell true (listing_of (the_switch ∷ [])) waits_for_judging }
+    ensures as_chip_writes { RestsWell true (listing_of (the_switch ∷ the_sensor ∷ [])) told_as_chip_writes }
+    ensures after_restart { RestsWell true (listing_of (the_keeper ∷ [])) told_after_restart }
+    ensures attempt { RestsWell true (listing_of (the_plug ∷ [])) attempt_follows }
+{}
+
+/// In a plain exchange the host is prompt.
+pub fn worked_prompt()
+    ensures { IsPrompt true (listing_of (the_switch ∷ [])) plain_exchange }
 {}
 
 /// Each of these breaks one part of the law: a command given up without a session, after two attempts, or while the third is under way, or
@@ -204,25 +214,29 @@ pub fn rejected_waits()
 /// Each of these breaks one part of the law of rests: a rest at which a command waits for a node that is awake, also a tick after the
 /// keeper has failed, as it has for another node, or before a restart; a Set or an interview has not begun, the end of a Get or of an
 /// interview is not said, or is left out as the keeper fails for another node; an attempt is overdue, a node is kept awake for nothing, or
-/// since a host before this one has held it, or a Nonce Report, a segment that was asked for or an abort is not sent.
+/// since a host before this one has held it, or a Nonce Report, a segment that was asked for or an abort is not sent, nor the second segment
+/// of an attempt, the message that could be sealed, or the attempt that follows one that is over.
 pub fn rejected_rests()
-    ensures waiting { IsPrompt true (listing_of (the_switch ∷ [])) left_waiting → ⊥ }
-    ensures unsent { IsPrompt true (listing_of (the_switch ∷ [])) left_unsent → ⊥ }
-    ensures unbegun { IsPrompt true (listing_of (the_sensor ∷ [])) left_unbegun → ⊥ }
-    ensures overdue { IsPrompt true (listing_of (the_switch ∷ [])) left_overdue → ⊥ }
-    ensures awake { IsPrompt true (listing_of (the_sensor ∷ [])) left_awake → ⊥ }
-    ensures unreported { IsPrompt true (listing_of (the_lock ∷ [])) left_unreported → ⊥ }
-    ensures unresent { IsPrompt true (listing_of (the_plug ∷ [])) left_unresent → ⊥ }
-    ensures unaborted { IsPrompt true (listing_of (the_switch ∷ [])) left_unaborted → ⊥ }
-    ensures unended { IsPrompt true (listing_of (the_switch ∷ [])) left_unended_in_silence → ⊥ }
-    ensures unsaid { IsPrompt true (listing_of (the_switch ∷ [])) left_unsaid_in_silence → ⊥ }
-    ensures unkept { IsPrompt true (listing_of (the_switch ∷ [])) left_unkept → ⊥ }
-    ensures beside_unkept { IsPrompt true (listing_of (the_switch ∷ [])) left_beside_unkept → ⊥ }
-    ensures over_restart { IsPrompt true (listing_of (the_switch ∷ [])) left_over_restart → ⊥ }
-    ensures uninterviewed { IsPrompt true (listing_of (the_switch ∷ [])) left_uninterviewed → ⊥ }
-    ensures after_abort { IsPrompt true (listing_of (the_switch ∷ [])) left_after_abort → ⊥ }
-    ensures following_line { IsPrompt true (listing_of (the_switch ∷ [])) left_after_line → ⊥ }
-    ensures a_tick { IsPrompt true (listing_of (the_switch ∷ [])) left_a_tick → ⊥ }
-    ensures given_up { IsPrompt true (listing_of (the_switch ∷ [])) left_given_up → ⊥ }
-    ensures held { IsPrompt true (listing_of (the_keeper ∷ [])) held_over_restart → ⊥ }
+    ensures waiting { RestsWell true (listing_of (the_switch ∷ [])) left_waiting → ⊥ }
+    ensures unsent { RestsWell true (listing_of (the_switch ∷ [])) left_unsent → ⊥ }
+    ensures unbegun { RestsWell true (listing_of (the_sensor ∷ [])) left_unbegun → ⊥ }
+    ensures overdue { RestsWell true (listing_of (the_switch ∷ [])) left_overdue → ⊥ }
+    ensures awake { RestsWell true (listing_of (the_sensor ∷ [])) left_awake → ⊥ }
+    ensures unreported { RestsWell true (listing_of (the_lock ∷ [])) left_unreported → ⊥ }
+    ensures unresent { RestsWell true (listing_of (the_plug ∷ [])) left_unresent → ⊥ }
+    ensures unaborted { RestsWell true (listing_of (the_switch ∷ [])) left_unaborted → ⊥ }
+    ensures unended { RestsWell true (listing_of (the_switch ∷ [])) left_unended_in_silence → ⊥ }
+    ensures unsaid { RestsWell true (listing_of (the_switch ∷ [])) left_unsaid_in_silence → ⊥ }
+    ensures unkept { RestsWell true (listing_of (the_switch ∷ [])) left_unkept → ⊥ }
+    ensures beside_unkept { RestsWell true (listing_of (the_switch ∷ [])) left_beside_unkept → ⊥ }
+    ensures over_restart { RestsWell true (listing_of (the_switch ∷ [])) left_over_restart → ⊥ }
+    ensures uninterviewed { RestsWell true (listing_of (the_switch ∷ [])) left_uninterviewed → ⊥ }
+    ensures after_abort { RestsWell true (listing_of (the_switch ∷ [])) left_after_abort → ⊥ }
+    ensures following_line { RestsWell true (listing_of (the_switch ∷ [])) left_after_line → ⊥ }
+    ensures a_tick { RestsWell true (listing_of (the_switch ∷ [])) left_a_tick → ⊥ }
+    ensures given_up { RestsWell true (listing_of (the_switch ∷ [])) left_given_up → ⊥ }
+    ensures held { RestsWell true (listing_of (the_keeper ∷ [])) held_over_restart → ⊥ }
+    ensures segment { RestsWell true (listing_of (the_plug ∷ [])) left_segment → ⊥ }
+    ensures nonce { RestsWell true (listing_of (the_lock ∷ [])) left_sealed → ⊥ }
+    ensures due { RestsWell true (listing_of (the_plug ∷ [])) left_due → ⊥ }
 {}

@@ -473,8 +473,8 @@ module _ (rules : StartsSo) where
 
   pub air_law : Outer MayHear Knows JoinsNode
   air_law = record {
-    line = λ awaits past w knows. same_knows w _ (same w.outer _ refl refl refl) past knows;
-    tick = λ awaits past w knows. (tt, same_knows w _ (same w.outer _ refl refl refl) past knows);
+    line = λ covers awaits past w knows. same_knows w _ (same w.outer _ refl refl refl) past knows;
+    tick = λ covers awaits past w knows. (tt, same_knows w _ (same w.outer _ refl refl refl) past knows);
     number = λ past w knows.
         ((silent nothing w w (entry.Time w.outer.clock ∷ []) (tt, tt) (same w.outer w.outer refl refl refl)).ties past knows.0, fresh_after past (entry.Time w.outer.clock ∷ []) (tt, tt) knows.1);
     stamps = λ awaits stamped past w knows. same_knows w _ (same w.outer _ refl refl refl) past knows;

@@ -4,8 +4,11 @@ pub mod Stories
 pub mod SimKeeping
 pub mod Reading
 pub mod Speaking
+pub mod Unread
+pub mod Told
 pub mod Unentered
 pub mod Tables
+pub mod Generated
 pub mod Stepping
 pub mod Living
 pub mod HostKeeping

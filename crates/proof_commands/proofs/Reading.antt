@@ -1,5 +1,5 @@
 -- The lines of a story were read from texts, and its events are their schedules.
-use Rattle.std.proofs.Common.{◌≡◌, ℕ, List, [], ◌∷◌, ◌++◌, Option, Some, None, Result, Ok, Err, refl, sym, subst}
+use Rattle.std.proofs.Common.{◌≡◌, ℕ, List, [], ◌∷◌, ◌++◌, Option, Some, None, Result, Ok, Err, inl, inr, refl, sym, subst, ◌∙◌, append-nil}
 use Rattle.std.specs.List.{AllByRecursion}
 use Rattle.zw_words.specs.declared.fault.LineFault.{LineFault}
 use Rattle.zw_text.specs.Line.{line_at}
@@ -10,13 +10,11 @@ use Rattle.world_model.specs.Did.{happens_all}
 use Rattle.world_model.specs.Prefixes.{IsLineBefore}
 use Rattle.proof_serial.specs.Line.{AreLines}
 use Rattle.run_lines.specs.declared.running.LinesEnd.{LinesEnd}
+use Rattle.run_lines.specs.declared.running.LinesEnd.TheVariants.{All, Bad, ReadFailed, TooMuch, WriteFailed, NoMemory}
 use Rattle.run_lines.specs.Lines.{TextLine, listed, lines_in}
-use Rattle.proof_commands.specs.Laws.{Ran, events_of, lines_of, AreRun, AreBegun}
-use Rattle.proof_commands.proofs.Stories.{are_prefix}
-
--- a line, and the text that was read as it
-abbrev pub IsReadAs : TextLine Line → Type 0
-IsReadAs one = line_at one.text ≡ Ok (Some one.line)
+use Rattle.proof_commands.specs.Laws.{Ran, AreBegun, IsReadAs, events_of, lines_of}
+use Rattle.proof_commands.specs.Sim.{AreRun}
+use Rattle.proof_commands.specs.Generate.{plain_lines}
 
 -- the line of a text was read from it
 listed_read : (text : List ℕ) (reading : Result (Option Line) LineFault) (more : List (TextLine Line)) → line_at text ≡ reading → AllByRecursion IsReadAs more
@@ -29,14 +27,19 @@ all_read : (texts : List (List ℕ)) → AllByRecursion IsReadAs (lines_in line_
 all_read [] = tt
 all_read (text ∷ texts) = listed_read text (line_at text) (lines_in line_at texts) refl (all_read texts)
 
--- the lines of a story, without their texts
-abbrev pub plain_lines : List Ran → List Line
-plain_lines [] = []
-plain_lines (ran ∷ more) = ran.line.line ∷ plain_lines more
-
 -- so of the lines of a story
 abbrev pub AreRead : List Ran → Type 0
 AreRead story = AllByRecursion IsReadAs (lines_of story)
+
+-- its lines are a prefix of those that were read
+are_prefix : (end : LinesEnd) (story : List Ran) (lines : List (TextLine Line)) → AreRun end story lines → (rest : List (TextLine Line)) × (lines_of story ++ rest ≡ lines)
+are_prefix All story lines are = ([], append-nil (lines_of story) ∙ are)
+are_prefix (Bad number fault) story lines are = ([], append-nil (lines_of story) ∙ are)
+are_prefix ReadFailed story lines are = ([], append-nil (lines_of story) ∙ are)
+are_prefix TooMuch story lines are = ([], append-nil (lines_of story) ∙ are)
+are_prefix WriteFailed story lines are = ([], append-nil (lines_of story) ∙ are)
+are_prefix NoMemory story lines (inl are) = ([], append-nil (lines_of story) ∙ are)
+are_prefix NoMemory story lines (inr (line, are)) = (line ∷ [], are)
 
 prefix_read : (a b : List (TextLine Line)) → AllByRecursion IsReadAs (a ++ b) → AllByRecursion IsReadAs a
 prefix_read [] b all = tt

@@ -13,12 +13,10 @@ use Rattle.run_lines.specs.Pieces.{said_text}
 use Rattle.proof_spoken.specs.Spoken.{Spoken, after_all, transcript_of}
 use Rattle.proof_spoken.specs.Lines.{AreDone, events_of as events_said}
 use Rattle.proof_spoken.proofs.Speaking.{all_after}
-use Rattle.run_lines.specs.declared.status.Status.{Status}
 use Rattle.proof_commands.specs.Around.{Around}
-use Rattle.proof_commands.specs.Laws.{Ran, Tells, events_of, first, transcript_from, AreBegun}
-use Rattle.proof_commands.proofs.Stories.{is_begun}
+use Rattle.proof_commands.specs.Laws.{Ran, AreBegun, IsStory, events_of, first, transcript_from}
 use Rattle.proof_commands.proofs.SimKeeping.{may_prefix, may_rest}
-use Rattle.proof_commands.proofs.Reading.{AreRead, texts_read}
+use Rattle.proof_commands.proofs.Reading.{AreRead}
 
 -- ---- the same story
 
@@ -64,8 +62,6 @@ all_done again m (ran ∷ more) read are may = (
 -- ---- of a run
 
 -- the lines of its story were said and done
-pub story_done : ReadAgain → (ended : Status) (key : List ℕ) (old new : Around) (quiet : Bool) (story : List Ran) (unentered : List Event) → Tells ended quiet key old new story unentered
-    → AreDone (first key old) (all_said story)
-story_done again ended key old new quiet story unentered tells =
-    all_done again (first key old) story (texts_read tells.ran.told.end story _ tells.lines) (is_begun tells.ran.told.end (first key old) story tells.scheduled)
-    (may_prefix (first key old) (events_of story) unentered tells.may)
+pub story_done : ReadAgain → (key : List ℕ) (old new : Around) (story : List Ran) (unentered : List Event) → IsStory key old new story unentered → AreDone (first key old) (all_said story)
+story_done again key old new story unentered is =
+    all_done again (first key old) story is.read is.begun (may_prefix (first key old) (events_of story) unentered is.may)

@@ -20,7 +20,9 @@ use Rattle.run_lines.specs.declared.status.Status.{Status}
 use Rattle.run_lines.specs.Lines.{TextLine, lines_in, AllRan, StopsIn, RanLines}
 use Rattle.run_sim.specs.Sim.{Point, point_of, at, LineRan, PartRan, said}
 use Rattle.proof_commands.specs.Around.{Around}
-use Rattle.proof_commands.specs.Laws.{Ran, RunsSim, events_of, lines_of, transcript_from, AreSchedules, AreBegun, AreScheduled, AreRun, with_last, IsUnentered, EndsAs, Tells}
+use Rattle.proof_commands.specs.Laws.{Ran, events_of, lines_of, transcript_from, AreSchedules, AreBegun, with_last, IsUnentered}
+use Rattle.proof_commands.specs.Sim.{AreRun, EndsAs, EndsWhole, RunsSim, Tells}
+use Rattle.proof_commands.proofs.Reading.{texts_read}
 
 -- lines that were run whole, with their events
 pub record Tale (lines : List (TextLine Line)) (m m' : Machine) (T : List Entry) : Type 0 where
@@ -31,7 +33,12 @@ pub record Tale (lines : List (TextLine Line)) (m m' : Machine) (T : List Entry)
   pub state : m' ≡ happens_all m (events_of story)
   pub entered : T ≡ transcript_from m story
 
-tale_on : (line : TextLine Line) (lines : List (TextLine Line)) (events : List Event) (m m' : Machine) (T : List Entry) → IsLine line.line m events → MayAll m events
+-- no line
+pub no_tale : (m m' : Machine) (T : List Entry) → m' ≡ m → T ≡ [] → Tale [] m m' T
+no_tale m m' T stays none = record { story = []; lines_are = refl; schedules = tt; may = tt; state = stays; entered = none }
+
+-- one line before others
+pub tale_on : (line : TextLine Line) (lines : List (TextLine Line)) (events : List Event) (m m' : Machine) (T : List Entry) → IsLine line.line m events → MayAll m events
     → Tale lines (happens_all m events) m' T → Tale (line ∷ lines) m m' (said line ++ (entries_all m events ++ T))
 tale_on line lines events m m' T is may tale = record {
   story = record { line = line; events = events } ∷ tale.story;
@@ -50,8 +57,8 @@ tale_of_line line lines old mid m' some T ran tale =
     (sym (append_assoc (said line) (entries_all old.machine events) T) ∙ ap (λ (l : List Entry). l ++ T) (sym did.entries))
     (tale_on line lines events old.machine m' T is did.may (subst (λ (m : Machine). Tale lines m m' T) did.state tale))
 
-pub tale_of : (lines : List (TextLine Line)) (old new : Point) (T : List Entry) → AllRan LineRan lines old new T → Tale lines old.machine new.machine T
-tale_of [] old new T ran = record { story = []; lines_are = refl; schedules = tt; may = tt; state = ap (λ (p : Point). p.machine) ran.0; entered = ran.1 }
+tale_of : (lines : List (TextLine Line)) (old new : Point) (T : List Entry) → AllRan LineRan lines old new T → Tale lines old.machine new.machine T
+tale_of [] old new T ran = no_tale old.machine new.machine T (ap (λ (p : Point). p.machine) ran.0) ran.1
 tale_of (line ∷ lines) old new T ran =
     let (mid, some, later, one, rest, are) = ran in
     subst (λ (l : List Entry). Tale (line ∷ lines) old.machine new.machine l) (sym are)
@@ -60,34 +67,17 @@ tale_of (line ∷ lines) old new T ran =
 -- ---- the whole run
 
 -- what a story says of a run that came to this end
-pub record Story (end : LinesEnd) (lines : List (TextLine Line)) (m last : Machine) (T : List Entry) : Type 0 where
+record Story (end : LinesEnd) (lines : List (TextLine Line)) (m last : Machine) (T : List Entry) : Type 0 where
   pub story : List Ran
   pub unentered : List Event
   pub lines_are : AreRun end story lines
-  pub scheduled : AreScheduled end m story
+  pub begun : AreBegun m story
   pub may : MayAll m (events_of story ++ unentered)
   pub entered : T ≡ transcript_from m story
+  pub rest : IsUnentered m story unentered
   pub ends : EndsAs end m story unentered last
   pub devices : last.outside.devices ≡ (happens_all m (events_of story ++ unentered)).outside.devices
   pub records : last.records ≡ (happens_all m (events_of story ++ unentered)).records
-
--- all lines were run whole
-whole_story : (end : LinesEnd) (lines all : List (TextLine Line)) (m m' : Machine) (T : List Entry) → ((story : List Ran) → lines_of story ≡ lines → AreRun end story all)
-    → ((story : List Ran) → AreSchedules m story → AreScheduled end m story)
-    → ((story : List Ran) → AreSchedules m story → m' ≡ happens_all m (events_of story) → EndsAs end m story [] m') → Tale lines m m' T → Story end all m m' T
-whole_story end lines all m m' T run scheduled ends tale =
-    let state : m' ≡ happens_all m (events_of tale.story ++ []) = tale.state ∙ ap (λ (l : List Event). happens_all m l) (sym (append-nil (events_of tale.story))) in
-    record {
-      story = tale.story;
-      unentered = [];
-      lines_are = run tale.story tale.lines_are;
-      scheduled = scheduled tale.story tale.schedules;
-      may = subst (λ (l : List Event). MayAll m l) (sym (append-nil (events_of tale.story))) tale.may;
-      entered = tale.entered;
-      ends = ends tale.story tale.schedules tale.state;
-      devices = ap (λ (x : Machine). x.outside.devices) state;
-      records = ap (λ (x : Machine). x.records) state;
-    }
 
 -- ---- stories whose last line may be cut short
 
@@ -96,7 +86,7 @@ whole_before : {A : Type 0} (more : List A) (line : Line) (m : Machine) (events 
 whole_before [] line m events is = inl is
 whole_before (next ∷ more) line m events is = is
 
-schedules_begun : (m : Machine) (story : List Ran) → AreSchedules m story → AreBegun m story
+pub schedules_begun : (m : Machine) (story : List Ran) → AreSchedules m story → AreBegun m story
 schedules_begun m [] are = tt
 schedules_begun m (ran ∷ more) are = (whole_before more ran.line.line m ran.events are.0, schedules_begun (happens_all m ran.events) more are.1)
 
@@ -106,7 +96,7 @@ with_none [] = refl
 with_none (ran ∷ []) = ap (λ (l : List Event). record { line = ran.line; events = l } ∷ []) (append-nil ran.events)
 with_none (ran ∷ (next ∷ more)) = ap (λ (l : List Ran). ran ∷ l) (with_none (next ∷ more))
 
-none_unentered : (m : Machine) (story : List Ran) → AreBegun m story → IsUnentered m story []
+pub none_unentered : (m : Machine) (story : List Ran) → AreBegun m story → IsUnentered m story []
 none_unentered m story begun = record {
   last = None;
   kept = [];
@@ -115,6 +105,28 @@ none_unentered m story begun = record {
   moved = subst (AreBegun m) (sym (with_none story)) begun;
   of_host = tt;
 }
+
+-- ---- all lines were run whole
+
+module _ (end : LinesEnd) (lines all : List (TextLine Line)) (m m' : Machine) (T : List Entry)
+    (run : (story : List Ran) → lines_of story ≡ lines → AreRun end story all) (ends : (story : List Ran) → EndsWhole m story [] m' → EndsAs end m story [] m') where
+  whole_story : Tale lines m m' T → Story end all m m' T
+  whole_story tale =
+      let all_of : events_of tale.story ++ [] ≡ events_of tale.story = append-nil (events_of tale.story) in
+      let state : m' ≡ happens_all m (events_of tale.story ++ []) = tale.state ∙ ap (λ (l : List Event). happens_all m l) (sym all_of) in
+      let begun = schedules_begun m tale.story tale.schedules in
+      record {
+        story = tale.story;
+        unentered = [];
+        lines_are = run tale.story tale.lines_are;
+        begun = begun;
+        may = subst (λ (l : List Event). MayAll m l) (sym all_of) tale.may;
+        entered = tale.entered;
+        rest = none_unentered m tale.story begun;
+        ends = ends tale.story (record { schedules = tale.schedules; all_entered = refl; is_last = tale.state });
+        devices = ap (λ (x : Machine). x.outside.devices) state;
+        records = ap (λ (x : Machine). x.records) state;
+      }
 
 -- ---- a last line that was run in part
 
@@ -192,10 +204,11 @@ cut_story lines line m mid new T some tale stops =
       story = prefix ++ one_of line stops.whole;
       unentered = last_of stops.last ++ stops.kept;
       lines_are = inl (map-append (λ (r : Ran). r.line) prefix (one_of line stops.whole) ∙ ap (λ (l : List (TextLine Line)). l ++ line ∷ []) tale.lines_are);
-      scheduled = begun_following m prefix line stops.whole tale.schedules (subst (λ (x : Machine). LinePart line.line x stops.whole) there stops.prefix);
+      begun = begun_following m prefix line stops.whole tale.schedules (subst (λ (x : Machine). LinePart line.line x stops.whole) there stops.prefix);
       may = subst (λ (l : List Event). MayAll m l) (sym all) (may_all-append m (events_of prefix) part tale.may (subst (λ (x : Machine). MayAll x part) there stops.may));
       entered = part_entered m prefix line stops.whole T some mid.machine tale.entered there stops.entered;
-      ends = part_unentered m prefix line stops.whole stops.last stops.kept tale.schedules (subst (λ (x : Machine). LinePart line.line x (stops.whole ++ last_of stops.last)) there stops.moved) stops.of_host;
+      rest = part_unentered m prefix line stops.whole stops.last stops.kept tale.schedules (subst (λ (x : Machine). LinePart line.line x (stops.whole ++ last_of stops.last)) there stops.moved) stops.of_host;
+      ends = tt;
       devices = stops.devices ∙ ap (λ (x : Machine). x.outside.devices) after;
       records = stops.records ∙ ap (λ (x : Machine). x.records) after;
     }
@@ -212,7 +225,7 @@ part_story : (lines : List (TextLine Line)) (line : TextLine Line) (m : Machine)
 part_story lines line m mid new T some tale (inl none) =
     subst (λ (l : List Entry). Story NoMemory (lines ++ line ∷ []) m new.machine l) (sym (ap (λ (l : List Entry). T ++ l) none.1 ∙ append-nil T))
     (subst (λ (p : Point). Story NoMemory (lines ++ line ∷ []) m p.machine T) (sym none.0)
-    (whole_story NoMemory lines (lines ++ line ∷ []) m mid.machine T (but_last line lines) (schedules_begun m) (λ story are is. none_unentered m story (schedules_begun m story are)) tale))
+    (whole_story NoMemory lines (lines ++ line ∷ []) m mid.machine T (but_last line lines) (λ story whole. tt) tale))
 part_story lines line m mid new T some tale (inr stops) = cut_story lines line m mid new T some tale stops
 
 stopped_story : (lines : List (TextLine Line)) (old new : Point) (T : List Entry) → StopsIn LineRan PartRan lines old new T → Story NoMemory lines old.machine new.machine T
@@ -227,18 +240,17 @@ stopped_story lines old new T stops =
 some_story : (lines : List (TextLine Line)) (old new : Point) (T : List Entry) → AllRan LineRan lines old new T ⊎ StopsIn LineRan PartRan lines old new T
     → Story NoMemory lines old.machine new.machine T
 some_story lines old new T (inl ran) =
-    whole_story NoMemory lines lines old.machine new.machine T (λ story are. all_run story lines are) (schedules_begun old.machine)
-    (λ story are is. none_unentered old.machine story (schedules_begun old.machine story are)) (tale_of lines old new T ran)
+    whole_story NoMemory lines lines old.machine new.machine T (λ story are. all_run story lines are) (λ story whole. tt) (tale_of lines old new T ran)
 some_story lines old new T (inr stops) = stopped_story lines old new T stops
 
 story_of : (end : LinesEnd) (lines : List (TextLine Line)) (old new : Point) (T : List Entry) → RanLines end LineRan PartRan lines old new T
     → Story end lines old.machine new.machine T
-story_of All lines old new T ran = whole_story All lines lines old.machine new.machine T (λ story are. are) (λ story are. are) (λ story are is. (refl, is)) (tale_of lines old new T ran)
+story_of All lines old new T ran = whole_story All lines lines old.machine new.machine T (λ story are. are) (λ story whole. whole) (tale_of lines old new T ran)
 story_of (Bad number fault) lines old new T ran =
-    whole_story (Bad number fault) lines lines old.machine new.machine T (λ story are. are) (λ story are. are) (λ story are is. (refl, is)) (tale_of lines old new T ran)
-story_of ReadFailed lines old new T ran = whole_story ReadFailed lines lines old.machine new.machine T (λ story are. are) (λ story are. are) (λ story are is. (refl, is)) (tale_of lines old new T ran)
-story_of TooMuch lines old new T ran = whole_story TooMuch lines lines old.machine new.machine T (λ story are. are) (λ story are. are) (λ story are is. (refl, is)) (tale_of lines old new T ran)
-story_of WriteFailed lines old new T ran = whole_story WriteFailed lines lines old.machine new.machine T (λ story are. are) (λ story are. are) (λ story are is. (refl, is)) (tale_of lines old new T ran)
+    whole_story (Bad number fault) lines lines old.machine new.machine T (λ story are. are) (λ story whole. whole) (tale_of lines old new T ran)
+story_of ReadFailed lines old new T ran = whole_story ReadFailed lines lines old.machine new.machine T (λ story are. are) (λ story whole. whole) (tale_of lines old new T ran)
+story_of TooMuch lines old new T ran = whole_story TooMuch lines lines old.machine new.machine T (λ story are. are) (λ story whole. whole) (tale_of lines old new T ran)
+story_of WriteFailed lines old new T ran = whole_story WriteFailed lines lines old.machine new.machine T (λ story are. are) (λ story whole. whole) (tale_of lines old new T ran)
 story_of NoMemory lines old new T ran = some_story lines old new T ran
 
 pub has_story : (ended : Status) (key : List ℕ) (old new : Around) (quiet : Bool) → RunsSim ended quiet key old new
@@ -250,44 +262,15 @@ has_story ended key old new quiet ran =
       record {
         ran = ran;
         lines = s.lines_are;
-        scheduled = s.scheduled;
-        may = s.may;
+        is = record {
+          read = texts_read ran.told.end s.story ran.told.texts s.lines_are;
+          begun = s.begun;
+          may = s.may;
+          rest = s.rest;
+          devices = sym ran.devices ∙ s.devices;
+          records = sym ran.records_are ∙ s.records;
+        };
         entered = s.entered;
         ends = s.ends;
-        devices = sym ran.devices ∙ s.devices;
-        records = sym ran.records_are ∙ s.records;
       },
     )
-
--- ---- what each end has in common
-
--- the story is begun
-pub is_begun : (end : LinesEnd) (m : Machine) (story : List Ran) → AreScheduled end m story → AreBegun m story
-is_begun All m story are = schedules_begun m story are
-is_begun (Bad number fault) m story are = schedules_begun m story are
-is_begun ReadFailed m story are = schedules_begun m story are
-is_begun TooMuch m story are = schedules_begun m story are
-is_begun WriteFailed m story are = schedules_begun m story are
-is_begun NoMemory m story are = are
-
--- what was not entered is so of every end
-whole_unentered : (m last : Machine) (story : List Ran) (unentered : List Event) → AreSchedules m story → (unentered ≡ []) × (last ≡ happens_all m (events_of story)) → IsUnentered m story unentered
-whole_unentered m last story unentered are ends = subst (IsUnentered m story) (sym ends.0) (none_unentered m story (schedules_begun m story are))
-
-pub is_unentered : (end : LinesEnd) (m last : Machine) (story : List Ran) (unentered : List Event) → AreScheduled end m story → EndsAs end m story unentered last → IsUnentered m story unentered
-is_unentered All m last story unentered are ends = whole_unentered m last story unentered are ends
-is_unentered (Bad number fault) m last story unentered are ends = whole_unentered m last story unentered are ends
-is_unentered ReadFailed m last story unentered are ends = whole_unentered m last story unentered are ends
-is_unentered TooMuch m last story unentered are ends = whole_unentered m last story unentered are ends
-is_unentered WriteFailed m last story unentered are ends = whole_unentered m last story unentered are ends
-is_unentered NoMemory m last story unentered are ends = ends
-
--- its lines are a prefix of those that were read
-pub are_prefix : (end : LinesEnd) (story : List Ran) (lines : List (TextLine Line)) → AreRun end story lines → (rest : List (TextLine Line)) × (lines_of story ++ rest ≡ lines)
-are_prefix All story lines are = ([], append-nil (lines_of story) ∙ are)
-are_prefix (Bad number fault) story lines are = ([], append-nil (lines_of story) ∙ are)
-are_prefix ReadFailed story lines are = ([], append-nil (lines_of story) ∙ are)
-are_prefix TooMuch story lines are = ([], append-nil (lines_of story) ∙ are)
-are_prefix WriteFailed story lines are = ([], append-nil (lines_of story) ∙ are)
-are_prefix NoMemory story lines (inl are) = ([], append-nil (lines_of story) ∙ are)
-are_prefix NoMemory story lines (inr (line, are)) = (line ∷ [], are)

@@ -1,5 +1,7 @@
 pub mod Around
 pub mod Laws
+pub mod Sim
+pub mod Generate
 pub mod Lives
 pub mod Port
 pub mod Replay

@@ -230,9 +230,9 @@ simple_comes w (Cuts size) simple none = unchanged 0 w (outside (outcome w (Cuts
 
 pub counts : Link MayCollide (Tie 0) IsNoCollision
 counts = record {
-  tick = λ awaits past w ties. tt;
+  line = λ awaits past w ties. ties;
+  tick = λ covers awaits past w ties. (tt, ties);
   number = λ past w ties. (unchanged 0 w w (entry.Time w.outer.clock ∷ []) (tt, tt) refl false past (λ (is : false ≡ true). absurd cc) ties).1;
-  awaits = λ old new past w ties. ties;
   simple = simple_comes;
   session = λ w node session command. unchanged 0 w w (entry.Begin node session command ∷ []) (tt, tt) refl;
   chip = chip_comes;

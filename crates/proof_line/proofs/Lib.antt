@@ -1,4 +1,6 @@
 mod Units
 mod Counting
+mod Standing
+pub mod Marking
 mod Colliding
 pub mod Asking

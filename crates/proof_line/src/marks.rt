@@ -3,7 +3,7 @@
 ghost use Rattle.std.specs.Prelude.{Option, List, ℕ};
 ghost use Rattle.s0_crypto.specs.declared.key_pair.Keys.{Keys};
 ghost use Rattle.device_sim.specs.State.{State};
-ghost use Rattle.law_wire.specs.Marks.{CollidesWhenAsked};
+ghost use Rattle.law_wire.specs.Marks.{CollidesWhenAsked, MarksUnits};
 ghost use Rattle.world_model.specs.State.{first_machine};
 ghost use Rattle.proof_spoken.specs.Spoken.{Spoken, transcript_of};
 ghost use Rattle.proof_spoken.specs.Lines.{AreDone};
@@ -14,4 +14,12 @@ pub fn lines_collide_when_asked()
     ensures { (keys : Keys) (records : Option (List (List ℕ))) (devices : List State) (lines : List Spoken) →
         AreDone (first_machine keys records devices) lines →
         CollidesWhenAsked (transcript_of (first_machine keys records devices) lines) }
+{}
+
+/// Over any such lines, directly after a unit stands that it was lost, where a `drop` of its side waits, and else, of a data frame, that it was changed, as the
+/// oldest `garble` of its side that waits says; and no other unit is told so.
+pub fn lines_mark_units()
+    ensures { (keys : Keys) (records : Option (List (List ℕ))) (devices : List State) (lines : List Spoken) →
+        AreDone (first_machine keys records devices) lines →
+        MarksUnits (transcript_of (first_machine keys records devices) lines) }
 {}

@@ -11,3 +11,5 @@ pub mod Noting
 pub mod Stamping
 pub mod Machines
 pub mod ByLine
+pub mod Clock
+pub mod Over

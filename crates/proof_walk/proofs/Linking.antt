@@ -60,7 +60,7 @@ sends_of_air : (joined : Bool) (air : AirState) (node : ℕ) (way : Option Route
 sends_of_air true air node way replies = answers_of_air air node way replies
 sends_of_air false air node way replies = tt
 
-acts_of_air : (o : OuterState) (device : State) (event : DeviceEvent) (route : Option Route) → AreOfAir (acts o device event route).entries
+pub acts_of_air : (o : OuterState) (device : State) (event : DeviceEvent) (route : Option Route) → AreOfAir (acts o device event route).entries
 acts_of_air o device event route =
     all-append IsOfAir (changes_entries device.node (new_changes device event))
     (flat_map sent_entries (answers_if (is_joined o.air device.node) o.air device.node (option_map backwards route) (device_replies device event)))
@@ -106,10 +106,10 @@ module _ (Asks : List Entry → Entry → Type 0) (Knows : Knowing) (Covers : Ou
 
     results : Gives Goes
     results = record {
-      still = λ o p is. still o p (record { chip = is.chip; to_host = is.to_host });
+      still = λ o p is. still o p (record { chip = is.chip; to_host = is.to_host; clock = is.clock });
       both = λ o first next one later.
           moves_both Asks Knows Knows Knows (outside o devices) (outside first.outer devices) (outside (next first.outer).outer devices) first.entries (next first.outer).entries one (later first.outer);
-      later = λ o p x is goes. after_still o p x (record { chip = is.chip; to_host = is.to_host }) goes;
+      later = λ o p x is goes. after_still o p x (record { chip = is.chip; to_host = is.to_host; clock = is.clock }) goes;
       does = given;
       forgotten = forgotten;
     }
@@ -136,24 +136,24 @@ module _ (Asks : List Entry → Entry → Type 0) (Knows : Knowing) (Covers : Ou
   acts_go w place device event route =
       let later : Outside = outside (acts w.outer device event route).outer (slice_set w.devices place (device_after device event)) in
       moves_then Asks Knows Knows Knows w w later (acts w.outer device event route).entries (all_of_air w (acts w.outer device event route).entries (acts_of_air w.outer device event route))
-      (λ awaits past knows. law.same awaits past w later (record { chip = refl; to_host = refl }) knows)
+      (λ awaits past knows. law.same awaits past w later (record { chip = refl; to_host = refl; clock = refl }) knows)
 
   pub of_link : Outer Asks (λ pending. Knows) Covers
   of_link = record {
-    line = λ awaits past w knows. law.awaits awaits false past _ (law.same awaits past w _ (record { chip = refl; to_host = refl }) knows);
-    tick = λ awaits past w knows. (law.tick awaits past w knows, law.awaits awaits true past _ (law.same awaits past w _ (record { chip = refl; to_host = refl }) knows));
+    line = λ covers awaits past w knows. law.same false past w _ (record { chip = refl; to_host = refl; clock = refl }) (law.line awaits past w knows);
+    tick = λ covers awaits past w knows. law.tick covers awaits past w knows;
     number = law.number;
-    stamps = λ awaits stamped past w knows. law.same awaits past w _ (record { chip = refl; to_host = refl }) knows;
+    stamps = λ awaits stamped past w knows. law.same awaits past w _ (record { chip = refl; to_host = refl; clock = refl }) knows;
     simple = law.simple;
     session = λ w node session command.
         let later : Outside = outside (session_begins w.outer node session command).outer w.devices in
-        moves_both Asks Knows Knows Knows w later later [] (entry.Begin node session command ∷ []) (same w later (record { chip = refl; to_host = refl })) (law.session later node session command);
-    takes = λ w count rest ways may. same w _ (record { chip = refl; to_host = refl });
+        moves_both Asks Knows Knows Knows w later later [] (entry.Begin node session command ∷ []) (same w later (record { chip = refl; to_host = refl; clock = refl })) (law.session later node session command);
+    takes = λ w count rest ways may. same w _ (record { chip = refl; to_host = refl; clock = refl });
     judges = λ w way ways may. law.chip w (Judged way.0 way.1) tt;
     judged = λ awaits past w knows. knows;
-    ticks = λ w. does w.devices w.outer (record w.outer { chip = record { decoder = after_tick w.outer.chip.decoder; state = w.outer.chip.state } }) Ticked tt (record { chip = refl; to_host = refl });
+    ticks = λ w. does w.devices w.outer (record w.outer { chip = record { decoder = after_tick w.outer.chip.decoder; state = w.outer.chip.state } }) Ticked tt (record { chip = refl; to_host = refl; clock = refl });
     gives = λ w route may. gives_go (Goes w.devices) (results w.devices) w.outer w.devices w.outer.due route;
-    steps = λ w step hearing may. same w _ (record { chip = refl; to_host = refl });
+    steps = λ w step hearing may. same w _ (record { chip = refl; to_host = refl; clock = refl });
     deals = λ w event events. deals_go w.devices w.outer event;
     acts = λ w place device event route found may. acts_go w place device event route;
   }

@@ -34,8 +34,8 @@ use Rattle.proof_walk.proofs.Times.{time_of, IsSameTime, IsWithin, does_chip, ou
 
 -- a simple event is to be covered
 abbrev pub Fits : (OuterEvent → Type 0) → OuterEvent → Type 0
-Fits Covers Begins_line = Unit {0}
-Fits Covers Begins_tick = Unit {0}
+Fits Covers Begins_line = Covers Begins_line
+Fits Covers Begins_tick = Covers Begins_tick
 Fits Covers (Chip_takes count rest ways) = Unit {0}
 Fits Covers (Arrives drawn route) = Unit {0}
 Fits Covers (Gives route) = Unit {0}
@@ -192,9 +192,9 @@ module _ (Asks : List Entry → Entry → Type 0) (Knows : Pending → Knowing) 
     pub outer_keeps : (w : Outside) (event : OuterEvent) → Fits Covers event → May w event → Keeps w (entries w event) (happens w event)
     unfolding outcome devices_after
     outer_keeps w Begins_line fits may past known =
-        (tt, subst (λ (l : List Entry). Known Asks Knows l (happens w Begins_line)) (sym (append-nil past)) (law.line (awaits_number w.outer) past w known.0, tt))
+        (tt, subst (λ (l : List Entry). Known Asks Knows l (happens w Begins_line)) (sym (append-nil past)) (law.line fits (awaits_number w.outer) past w known.0, tt))
     outer_keeps w Begins_tick fits may past known =
-        let got = law.tick (awaits_number w.outer) past w known.0 in
+        let got = law.tick fits (awaits_number w.outer) past w known.0 in
         (tt, subst (λ (l : List Entry). Known Asks Knows l (happens w Begins_tick)) (sym (append-nil past)) (got.1, (got.0, tt)))
     outer_keeps w event fits may past known = within_keeps w event tt fits may past known
 

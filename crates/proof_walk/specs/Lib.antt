@@ -3,3 +3,4 @@ pub mod Paths
 pub mod Walk
 pub mod Outside
 pub mod ByLine
+pub mod Time

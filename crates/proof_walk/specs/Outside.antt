@@ -101,11 +101,11 @@ IsHearing (mesh.Arrives drawn route) = Unit {0}
 IsHearing (mesh.Repeats number drawn route) = Unit {0}
 IsHearing _ = ⊥
 
--- The law judges entries by those before it. Of the simple events it owes those that it covers.
+-- The law judges entries by those before it. Of lines and ticks that begin, and of the simple events, it owes those that it covers.
 pub record Outer (Asks : List Entry → Entry → Type 0) (Knows : Pending → Knowing) (Covers : OuterEvent → Type 0) : Type 0 where
   -- a line begins; a tick begins, whose number may stand next; that is entered; whether it was is left to the flag
-  pub line : (awaits : Bool) (past : List Entry) (w : Outside) → Knows nothing awaits past w → Knows nothing false past (outside (record w.outer { in_tick = false }) w.devices)
-  pub tick : (awaits : Bool) (past : List Entry) (w : Outside) → Knows nothing awaits past w
+  pub line : Covers Begins_line → (awaits : Bool) (past : List Entry) (w : Outside) → Knows nothing awaits past w → Knows nothing false past (outside (record w.outer { in_tick = false }) w.devices)
+  pub tick : Covers Begins_tick → (awaits : Bool) (past : List Entry) (w : Outside) → Knows nothing awaits past w
       → Asks past (entry.Time (w.outer.clock + 1)) × Knows nothing true past (outside (record w.outer { clock = w.outer.clock + 1; in_tick = true; stamped = false }) w.devices)
   pub number : (past : List Entry) (w : Outside) → Knows nothing true past w → Knows nothing false (past ++ entry.Time w.outer.clock ∷ []) w
   pub stamps : (awaits stamped : Bool) (past : List Entry) (w : Outside) → Knows nothing awaits past w → Knows nothing awaits past (outside (record w.outer { stamped = stamped }) w.devices)
@@ -160,10 +160,11 @@ IsOfAir (entry.Dev node by setting) = Unit {0}
 IsOfAir (entry.Forget first second) = Unit {0}
 IsOfAir _ = ⊥
 
--- only the link to the host, and what is known to have been written, concern the law: whatever the chip is fed and waits for, whatever the air and the devices are
+-- only the link to the host, what is known to have been written, and the clock concern the law: whatever the chip is fed and waits for, whatever the air and the devices are
 pub record IsSameLink (old new : OuterState) : Type 0 where
   pub chip : new.chip.state ≡ old.chip.state
   pub to_host : new.to_host ≡ old.to_host
+  pub clock : new.clock ≡ old.clock
 
 -- an event that the chip is made to do; the others only set what it knows
 abbrev pub IsDone : ChipEvent → Type 0
@@ -172,11 +173,12 @@ IsDone (Linked a b live) = ⊥
 IsDone Collides = ⊥
 IsDone _ = Unit {0}
 
--- It owes the events of the chip, whatever the chip waits for, and that all else changes nothing of what is known.
+-- It owes what begins a line or a tick, the events of the chip, whatever the chip waits for, and that all else changes nothing of what is known.
 pub record Link (Asks : List Entry → Entry → Type 0) (Knows : Knowing) (Covers : OuterEvent → Type 0) : Type 0 where
-  pub tick : (awaits : Bool) (past : List Entry) (w : Outside) → Knows awaits past w → Asks past (entry.Time (w.outer.clock + 1))
+  pub line : (awaits : Bool) (past : List Entry) (w : Outside) → Knows awaits past w → Knows false past w
+  pub tick : Covers Begins_tick → (awaits : Bool) (past : List Entry) (w : Outside) → Knows awaits past w
+      → Asks past (entry.Time (w.outer.clock + 1)) × Knows true past (outside (record w.outer { clock = w.outer.clock + 1; in_tick = true; stamped = false }) w.devices)
   pub number : (past : List Entry) (w : Outside) → Knows true past w → Knows false (past ++ entry.Time w.outer.clock ∷ []) w
-  pub awaits : (old new : Bool) (past : List Entry) (w : Outside) → Knows old past w → Knows new past w
   pub simple : (w : Outside) (event : OuterEvent) → IsSimple event → Covers event → Comes Asks Knows w (outcome w event) w.devices Knows
   pub session : (w : Outside) (node session command : ℕ) → Moves Asks Knows w (entry.Begin node session command ∷ []) Knows w
   pub chip : (w : Outside) (event : ChipEvent) → IsDone event → Comes Asks Knows w (chip_does w.outer event) w.devices Knows

@@ -16,3 +16,15 @@ pub record Walk (Asks : List Entry → Entry → Type 0) (Know : Phase → List 
   pub event : (here next : Phase) (past : List Entry) (m : Machine) (event : Event) → Goes here m event next → May m event → Know here past m →
       EachAfter Asks past (entries m event) × Know next (past ++ entries m event) (happens m event)
   pub turn : (here next : Phase) (past : List Entry) (m : Machine) → Turns here m next → Know here past m → Know next past m
+
+-- The same, where more is known at each phase: what another walk knows is the ground of this one.
+pub record WalkOver (Ground : Phase → List Entry → Machine → Type 0) (Asks : List Entry → Entry → Type 0) (Know : Phase → List Entry → Machine → Type 0) : Type 0 where
+  pub said : (past : List Entry) (m : Machine) (words : List ℕ) (line : Line) → line_of (Said words) ≡ line ∷ [] → Ground Between past m → Know Between past m →
+      Asks past (Said words) × Know (Said_line line) (past ++ Said words ∷ []) m
+  pub event : (here next : Phase) (past : List Entry) (m : Machine) (event : Event) → Goes here m event next → May m event → Ground here past m → Know here past m →
+      EachAfter Asks past (entries m event) × Know next (past ++ entries m event) (happens m event)
+  pub turn : (here next : Phase) (past : List Entry) (m : Machine) → Turns here m next → Ground here past m → Know here past m → Know next past m
+
+-- what both know
+abbrev pub both_know : (Ground Know : Phase → List Entry → Machine → Type 0) → Phase → List Entry → Machine → Type 0
+both_know Ground Know here past m = Ground here past m × Know here past m

@@ -17,11 +17,11 @@ use Rattle.run_tools.specs.Events.{EventsRan, event_fault}
 use Rattle.include_text.specs.Line.{line_at as include_at}
 use Rattle.run_include.specs.Run.{IncludeRan}
 use Rattle.run_replay.specs.Replay.{ReplayRan}
-use Rattle.run_sim.specs.Generate.{GenerateRan}
 use Rattle.port_run.specs.Ending.{desk, HostRan, HasGoodPort, IsServed}
 use Rattle.run_audit.specs.Audited.{HasAudited, IsInOrder}
 use Rattle.proof_commands.specs.Around.{Around}
-use Rattle.proof_commands.specs.Laws.{RunsSim}
+use Rattle.proof_commands.specs.Sim.{RunsSim}
+use Rattle.proof_commands.specs.Generate.{RunsGenerate}
 
 -- devices and keeper are as before
 pub record LeavesDevices (old new : Around) : Type 0 where
@@ -40,8 +40,7 @@ unfoldable pub Does : Asked → List (List ℕ) → List ℕ → Status → Arou
 Does (Sim quiet) words key ended old new = RunsSim ended quiet key old new
 Does (Check from) words key ended old new = HasChecked ended from old.left new.left old.written new.written × LeavesDevices old new
 Does (Generate hundreds) words key ended old new =
-    GenerateRan ended hundreds key old.devices new.devices old.records new.records old.keeper_faults new.keeper_faults old.written new.written
-    × (new.left ≡ old.left)
+    RunsGenerate ended hundreds key old new × (new.left ≡ old.left)
 Does Replay words key ended old new =
     ReplayRan ended key old.left new.left old.records new.records old.keeper_faults new.keeper_faults old.written new.written × (new.devices ≡ old.devices)
 Does Events words key ended old new = EventsRan ended old.left new.left old.written new.written × LeavesDevices old new

@@ -1,5 +1,5 @@
 use Rattle.std.proofs.Common.{[], ◌∷◌, refl}
-use Rattle.law_time.specs.Queue.{may_send}
+use Rattle.law_time.specs.Choice.{may_send}
 use Rattle.law_time.specs.WrongBetween.{told_again_as_chip_writes}
 use Rattle.law_time.specs.WrongQueue.{aborted_unasked, sent_before_abort, sent_before_report}
 use Rattle.law_time.specs.WrongRequests.{sent_out_of_turn, sent_unasked}

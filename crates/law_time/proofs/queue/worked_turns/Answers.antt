@@ -1,5 +1,5 @@
 use Rattle.std.proofs.Common.{[], ◌∷◌, refl}
-use Rattle.law_time.specs.Queue.{may_send}
+use Rattle.law_time.specs.Choice.{may_send}
 use Rattle.law_time.specs.WorkedBetween.{told_after_restart, told_as_chip_writes}
 use Rattle.law_time.specs.WorkedQueue.{resent_segments, silent_attempt}
 use Rattle.law_time.specs.WorkedWaits.{answered_errands, held_node, the_keeper, the_other_switch, woken_before_restart}

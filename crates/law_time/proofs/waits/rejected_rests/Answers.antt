@@ -1,6 +1,7 @@
 use Rattle.std.proofs.Common.{[], ◌∷◌, refl}
 use Rattle.law_time.specs.Rests.{may_rest}
 use Rattle.law_time.specs.WrongBetween.{held_over_restart}
+use Rattle.law_time.specs.WrongChoice.{left_due, left_sealed, left_segment}
 use Rattle.law_time.specs.WorkedWaits.{the_keeper}
 use Rattle.law_time.specs.WrongQueue.{left_unaborted, left_unreported, left_unresent}
 use Rattle.law_time.specs.WrongWaits.{left_awake, left_overdue, left_unbegun, left_unsent, left_waiting}
@@ -86,3 +87,15 @@ returns-clause-given_up c = λ law. broken (may_rest (listing_of (the_switch ∷
 pub returns-clause-held : goal.returns-clause-held
 unfolding computing
 returns-clause-held c = λ law. broken (may_rest (listing_of (the_keeper ∷ []))) held_over_restart refl law.between
+
+pub returns-clause-segment : goal.returns-clause-segment
+unfolding computing
+returns-clause-segment c = λ law. broken (may_rest (listing_of (the_plug ∷ []))) left_segment refl law.between
+
+pub returns-clause-nonce : goal.returns-clause-nonce
+unfolding computing
+returns-clause-nonce c = λ law. broken (may_rest (listing_of (the_lock ∷ []))) left_sealed refl law.between
+
+pub returns-clause-due : goal.returns-clause-due
+unfolding computing
+returns-clause-due c = λ law. broken (may_rest (listing_of (the_plug ∷ []))) left_due refl law.between

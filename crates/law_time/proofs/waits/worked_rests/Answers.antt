@@ -1,6 +1,7 @@
 use Rattle.std.proofs.Common.{[], ◌∷◌, refl}
 use Rattle.law_time.specs.Rests.{may_rest}
 use Rattle.law_time.specs.WorkedBetween.{told_after_restart, told_as_chip_writes}
+use Rattle.law_time.specs.WorkedChoice.{attempt_follows}
 use Rattle.law_time.specs.WorkedQueue.{resent_segments}
 use Rattle.law_time.specs.WorkedWaits.{answered_errands, the_keeper, the_other_switch, waited_attempts, woken_before_restart}
 use Rattle.law_transcript.specs.Nodes.{listing_of}
@@ -110,3 +111,7 @@ returns-clause-as_chip_writes c = record { between = kept (may_rest (listing_of 
 pub returns-clause-after_restart : goal.returns-clause-after_restart
 unfolding computing
 returns-clause-after_restart c = record { between = kept (may_rest (listing_of (the_keeper ∷ []))) told_after_restart refl; in_the_end = λ whole. refl }
+
+pub returns-clause-attempt : goal.returns-clause-attempt
+unfolding computing
+returns-clause-attempt c = record { between = kept (may_rest (listing_of (the_plug ∷ []))) attempt_follows refl; in_the_end = λ whole. refl }

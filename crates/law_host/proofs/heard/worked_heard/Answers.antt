@@ -1,0 +1,19 @@
+use Rattle.std.proofs.Common.{refl}
+use Rattle.law_host.proofs.Computing.{computing}
+use Rattle.law_host.proofs.heard.worked_heard.Goals as goal
+
+pub returns-clause-plain : goal.returns-clause-plain
+unfolding computing
+returns-clause-plain c = refl
+
+pub returns-clause-mixed : goal.returns-clause-mixed
+unfolding computing
+returns-clause-mixed c = refl
+
+pub returns-clause-sensor : goal.returns-clause-sensor
+unfolding computing
+returns-clause-sensor c = refl
+
+pub returns-clause-lock : goal.returns-clause-lock
+unfolding computing
+returns-clause-lock c = refl

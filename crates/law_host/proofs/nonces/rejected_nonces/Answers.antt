@@ -1,0 +1,36 @@
+use Rattle.std.proofs.Common.{◌≡◌, Bool, true, false, ℕ, List, [], ◌∷◌, refl}
+use Rattle.std.specs.Prelude.{Option}
+use Rattle.law_host.specs.Nonces.{UsesNonces}
+use Rattle.law_host.specs.Notes.{course_of, first_start}
+use Rattle.law_host.specs.Worked.{given_new, nonce_again}
+use Rattle.law_transcript.specs.Nodes.{listing_of}
+use Rattle.law_transcript.specs.Worked.{network_key, the_lock}
+use Rattle.law_transcript.proofs.Deciding.{not_true}
+use Rattle.law_host.proofs.Computing.{computing}
+use Rattle.law_host.proofs.Noting.{unfit}
+use Rattle.law_host.proofs.nonces.rejected_nonces.Goals as goal
+
+-- whether the records of the interview and of the nonce were kept or not, the text has no nonce
+again_fails : (keepings : List Bool) (texts : List (Option (List ℕ)))
+    → (course_of (listing_of (the_lock ∷ [])) first_start nonce_again (record { keepings = keepings; texts = texts })).fits ≡ false
+unfolding computing
+again_fails [] texts = refl
+again_fails (true ∷ []) texts = refl
+again_fails (true ∷ true ∷ keepings) texts = refl
+again_fails (true ∷ false ∷ keepings) texts = refl
+again_fails (false ∷ keepings) texts = refl
+
+pub returns-clause-again : goal.returns-clause-again
+returns-clause-again c = unfit network_key (listing_of (the_lock ∷ [])) first_start nonce_again (λ choices. again_fails choices.keepings choices.texts)
+
+-- whether the record of the first nonce was kept or not, the second is not the one that is live
+new_fails : (drawn : ℕ → ℕ → List ℕ) (keepings : List Bool) (texts : List (Option (List ℕ)))
+    → (course_of (listing_of (the_lock ∷ [])) first_start given_new (record { keepings = keepings; texts = texts })).fits ≡ true
+    → UsesNonces network_key drawn (course_of (listing_of (the_lock ∷ [])) first_start given_new (record { keepings = keepings; texts = texts })) → ⊥
+unfolding computing
+new_fails drawn [] texts fits uses = let same = uses.offered.1.0 in cc
+new_fails drawn (true ∷ keepings) texts fits uses = let same = uses.offered.1.0 in cc
+new_fails drawn (false ∷ keepings) texts fits uses = not_true fits
+
+pub returns-clause-new : goal.returns-clause-new
+returns-clause-new c = λ law. new_fails law.drawn law.choices.keepings law.choices.texts law.fits law.nonces

@@ -1,0 +1,83 @@
+use Rattle.std.proofs.Common.{◌≡◌, Bool, true, false, ℕ, List, [], ◌∷◌, refl}
+use Rattle.std.specs.Prelude.{Option, drop}
+use Rattle.law_host.specs.Following.{ended_whole}
+use Rattle.law_host.specs.Notes.{course_of, first_start}
+use Rattle.law_host.specs.Worked.{after_begun, after_lock_begun, after_sessions, after_waking, ended_by_first, ended_by_other, ended_of_another, ended_openly, ended_otherwise, old_left_out, value_again, value_left_out, value_otherwise, value_twice, woken_by_another}
+use Rattle.law_time.specs.WrongEnds.{awake_after_link, awake_in_next_line}
+use Rattle.law_transcript.specs.Nodes.{listing_of}
+use Rattle.law_transcript.specs.Worked.{the_lock, the_sensor, the_switch}
+use Rattle.law_host.proofs.Computing.{computing}
+use Rattle.law_host.proofs.Noting.{unended, unfit}
+use Rattle.law_host.proofs.notes.rejected_notes.Goals as goal
+
+pub returns-clause-left_out : goal.returns-clause-left_out
+unfolding computing
+returns-clause-left_out c = unended [] (listing_of (the_switch ∷ [])) first_start value_left_out (λ choices. refl)
+
+pub returns-clause-twice : goal.returns-clause-twice
+unfolding computing
+returns-clause-twice c = unfit [] (listing_of (the_switch ∷ [])) first_start value_twice (λ choices. refl)
+
+pub returns-clause-again : goal.returns-clause-again
+unfolding computing
+returns-clause-again c = unfit [] (listing_of (the_switch ∷ [])) first_start value_again (λ choices. refl)
+
+-- whether the record of the outcome was kept or not, something is to be noted at the end
+old_fails : (keepings : List Bool) (texts : List (Option (List ℕ)))
+    → (ended_whole (listing_of (the_switch ∷ [])) old_left_out (course_of (listing_of (the_switch ∷ [])) first_start old_left_out (record { keepings = keepings; texts = texts }))).fits ≡ false
+unfolding computing
+old_fails [] texts = refl
+old_fails (true ∷ keepings) texts = refl
+old_fails (false ∷ keepings) texts = refl
+
+pub returns-clause-old : goal.returns-clause-old
+returns-clause-old c = unended [] (listing_of (the_switch ∷ [])) first_start old_left_out (λ choices. old_fails choices.keepings choices.texts)
+
+pub returns-clause-first : goal.returns-clause-first
+unfolding computing
+returns-clause-first c = unfit [] (listing_of (the_switch ∷ [])) after_sessions ended_by_first (λ choices. refl)
+
+pub returns-clause-value : goal.returns-clause-value
+unfolding computing
+returns-clause-value c = unfit [] (listing_of (the_switch ∷ [])) first_start value_otherwise (λ choices. refl)
+
+pub returns-clause-by_other : goal.returns-clause-by_other
+unfolding computing
+returns-clause-by_other c = unfit [] (listing_of (the_switch ∷ [])) after_begun ended_by_other (λ choices. refl)
+
+pub returns-clause-openly : goal.returns-clause-openly
+unfolding computing
+returns-clause-openly c = unfit [] (listing_of (the_lock ∷ [])) after_lock_begun ended_openly (λ choices. refl)
+
+pub returns-clause-woken : goal.returns-clause-woken
+unfolding computing
+returns-clause-woken c = unfit [] (listing_of (the_sensor ∷ [])) first_start woken_by_another (λ choices. refl)
+
+pub returns-clause-next_line : goal.returns-clause-next_line
+unfolding computing
+returns-clause-next_line c = unfit [] (listing_of (the_sensor ∷ [])) after_waking (drop 1 awake_in_next_line) (λ choices. refl)
+
+pub returns-clause-after_link : goal.returns-clause-after_link
+unfolding computing
+returns-clause-after_link c = unfit [] (listing_of (the_sensor ∷ [])) after_waking (drop 1 awake_after_link) (λ choices. refl)
+
+-- whether the record of the outcome was kept or not, it is that of the report and of its command
+ended_fails : (keepings : List Bool) (texts : List (Option (List ℕ)))
+    → (course_of (listing_of (the_switch ∷ [])) after_begun ended_otherwise (record { keepings = keepings; texts = texts })).fits ≡ false
+unfolding computing
+ended_fails [] texts = refl
+ended_fails (true ∷ keepings) texts = refl
+ended_fails (false ∷ keepings) texts = refl
+
+pub returns-clause-otherwise : goal.returns-clause-otherwise
+returns-clause-otherwise c = unfit [] (listing_of (the_switch ∷ [])) after_begun ended_otherwise (λ choices. ended_fails choices.keepings choices.texts)
+
+another_fails : (keepings : List Bool) (texts : List (Option (List ℕ)))
+    → (course_of (listing_of (the_switch ∷ [])) after_begun ended_of_another (record { keepings = keepings; texts = texts })).fits ≡ false
+unfolding computing
+another_fails [] texts = refl
+another_fails (true ∷ keepings) texts = refl
+another_fails (false ∷ keepings) texts = refl
+
+pub returns-clause-of_another : goal.returns-clause-of_another
+returns-clause-of_another c = unfit [] (listing_of (the_switch ∷ [])) after_begun ended_of_another (λ choices. another_fails choices.keepings choices.texts)

@@ -1,0 +1,11 @@
+pub mod Course
+pub mod Nonces
+pub mod Messages
+pub mod Ends
+pub mod Frames
+pub mod Ticks
+pub mod Following
+pub mod Notes
+pub mod Heard
+pub mod Legal
+pub mod Worked

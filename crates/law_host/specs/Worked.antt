@@ -1,0 +1,211 @@
+-- Worked transcripts of notes and of nonces, and others with one thing wrong, made by hand in the form in which the program prints them, as a
+-- host hears them.
+use Rattle.std.specs.Prelude.{ℕ, true, false, List, [], ◌∷◌, ◌++◌, codes, take, Some}
+use Rattle.std.specs.List.{flat_map, range_with_len}
+use Rattle.zw_base.specs.declared.property.Name.TheVariants as names
+use Rattle.host_orders.specs.Settings.{setting}
+use Rattle.zw_words.specs.declared.side.Side.TheVariants.{Host, Chip}
+use Rattle.zw_text.specs.declared.entry.Done.TheVariants as done
+use Rattle.zw_text.specs.declared.entry.Ended.TheVariants as endings
+use Rattle.zw_text.specs.declared.entry.Refusal.TheVariants as refusals
+use Rattle.zw_text.specs.declared.entry.Entry.{Entry}
+use Rattle.zw_text.specs.declared.entry.Entry.TheVariants.{Said, Accepted, Refused, Begin, Dropped, Garbled, Overrun, Air, Out, Store, Report, Old, Unread, Awake, Interviewed, Done, ChipFull, Unkept, Time}
+use Rattle.law_transcript.specs.Worked.{bytes, plain_exchange, repeated_exchange, sealed_exchange}
+use Rattle.law_time.specs.WorkedUnits.{by_chip, by_host, chip_acknowledges, delivered, host_acknowledges, nonce_asked, notified, taken}
+use Rattle.law_host.specs.Course.{Choices}
+use Rattle.law_host.specs.Notes.{Start}
+
+-- every record is kept, and no message of a lock is heard
+abbrev pub all_kept : Choices
+all_kept = record { keepings = []; texts = [] }
+
+-- ---- values
+
+-- `get 2`, `tick 2`: a switch is asked for its value, and tells it
+abbrev pub value_heard : List Entry
+value_heard =
+    Said (codes "get 2") ∷ by_host (codes "01090013020225022501E6") ∷ chip_acknowledges ∷ taken ∷ host_acknowledges ∷ Said (codes "tick 2") ∷
+    Time 1 ∷ delivered ∷ host_acknowledges ∷ Done 2 done.Delivered ∷ Time 2 ∷ by_chip (codes "01090004000203250300D5") ∷ host_acknowledges ∷
+    Report 2 (setting 0 names.Switch 0) ∷ []
+
+-- it is left out, entered twice, entered as another, and entered again without being told
+abbrev pub value_left_out : List Entry
+value_left_out = take 13 value_heard
+
+abbrev pub value_twice : List Entry
+value_twice = value_heard ++ Report 2 (setting 0 names.Switch 0) ∷ []
+
+abbrev pub value_otherwise : List Entry
+value_otherwise = take 13 value_heard ++ Report 2 (setting 0 names.Switch 255) ∷ []
+
+abbrev pub value_again : List Entry
+value_again = value_heard ++ Said (codes "tick 1") ∷ Time 3 ∷ Report 2 (setting 0 names.Switch 0) ∷ []
+
+-- ---- reports of sessions
+
+-- the report that comes a second time is old, and that is left out
+abbrev pub old_left_out : List Entry
+old_left_out = take 35 repeated_exchange
+
+-- 64 sessions of node 2 have succeeded, of the first of which the report stands there
+abbrev pub sessions_before : List Entry
+sessions_before = plain_exchange ++ flat_map (λ number. Begin 2 number number ∷ Out number endings.Success ∷ []) (range_with_len 2 63)
+
+abbrev pub after_sessions : Start
+after_sessions = record { before = sessions_before; books = [] }
+
+-- the next session has the id of the first: its report comes, and it succeeds
+abbrev pub last_session : List Entry
+last_session =
+    Said (codes "set 2 on") ∷ Accepted 65 2 ∷ Begin 2 65 65 ∷ by_host (codes "010E001302076C0101032501FF250274") ∷ chip_acknowledges ∷ taken ∷
+    host_acknowledges ∷ Said (codes "tick 2") ∷ Time 3 ∷ by_chip (codes "010500130200EB") ∷ host_acknowledges ∷ Time 4 ∷
+    by_chip (codes "010B00040002056C0201FF0067") ∷ host_acknowledges ∷ Out 65 endings.Success ∷ Store 2 (setting 0 names.Switch 255) ∷ []
+
+-- it succeeds with the report of the first session alone
+abbrev pub ended_by_first : List Entry
+ended_by_first = take 12 last_session ++ Out 65 endings.Success ∷ Store 2 (setting 0 names.Switch 255) ∷ []
+
+-- a command of node 2 is sent, and its report says that it failed, or is not supported, or is that of another session
+abbrev pub begun : List Entry
+begun = Said (codes "set 2 on") ∷ Accepted 1 2 ∷ Begin 2 1 1 ∷ []
+
+abbrev pub after_begun : Start
+after_begun = record { before = begun; books = [] }
+
+abbrev pub judged : List ℕ → List Entry → List Entry
+judged report notes = by_chip report ∷ host_acknowledges ∷ notes
+
+abbrev pub failure_told : List Entry
+failure_told = judged (codes "010B00040002056C020102009A") (Out 1 endings.Fail ∷ [])
+
+abbrev pub unsupported_told : List Entry
+unsupported_told = judged (codes "010B00040002056C0201000098") (Out 1 endings.NoSupport ∷ [])
+
+abbrev pub other_told : List Entry
+other_told = judged (codes "010B00040002056C0202FF0064") (Old 2 2 ∷ [])
+
+-- it ends otherwise than the report says, as another command, or by the report of another session
+abbrev pub ended_otherwise : List Entry
+ended_otherwise = judged (codes "010B00040002056C020102009A") (Out 1 endings.Success ∷ [])
+
+abbrev pub ended_of_another : List Entry
+ended_of_another = judged (codes "010B00040002056C020102009A") (Out 2 endings.Fail ∷ [])
+
+abbrev pub ended_by_other : List Entry
+ended_by_other = judged (codes "010B00040002056C0202FF0064") (Out 1 endings.Success ∷ [])
+
+-- a lock has a session; its report comes openly, and is not read
+abbrev pub lock_begun : List Entry
+lock_begun = Said (codes "join 4") ∷ Interviewed 4 ∷ Said (codes "set 4 on") ∷ Accepted 1 4 ∷ Begin 4 1 1 ∷ []
+
+abbrev pub after_lock_begun : Start
+after_lock_begun = record { before = lock_begun; books = [] }
+
+abbrev pub told_openly : List Entry
+told_openly = judged (codes "010B00040004056C0201FF0061") (Unread 4 (0x6C ∷ 0x02 ∷ 0x01 ∷ 0xFF ∷ 0x00 ∷ []) ∷ [])
+
+-- it is taken for the report
+abbrev pub ended_openly : List Entry
+ended_openly = judged (codes "010B00040004056C0201FF0061") (Out 1 endings.Success ∷ Store 4 (setting 0 names.Lock 255) ∷ [])
+
+-- it comes sealed for a nonce that was given before the host started, and was kept as live
+abbrev pub after_nonce_given : Start
+after_nonce_given = record {
+  before = lock_begun;
+  books = record { node = 4; sealer = record { seen = 1; pending = []; ready = [] }; giver = record { given = 1; live = true; offers = [] } } ∷ [];
+}
+
+abbrev pub told_sealed : List ℕ
+told_sealed = codes "011F000400041998810AED115731C616E72C1D6945BFE201FE761C24E5DCC41E55"
+
+abbrev pub ended_sealed : List Entry
+ended_sealed = judged told_sealed (Out 1 endings.Success ∷ Store 4 (setting 0 names.Lock 255) ∷ [])
+
+-- ---- waking and sleep
+
+-- a node tells that it is awake, or another does
+abbrev pub woken : List Entry
+woken = notified ∷ host_acknowledges ∷ Awake 5 ∷ []
+
+abbrev pub woken_by_another : List Entry
+woken_by_another = notified ∷ host_acknowledges ∷ Awake 6 ∷ []
+
+-- a node is awake
+abbrev pub after_waking : Start
+after_waking = record { before = Awake 5 ∷ []; books = [] }
+
+-- ---- nonces that the host takes
+
+-- a message is sealed for the nonce that the lock gave, and is not heard
+abbrev pub seal_unheard : List Entry
+seal_unheard = take 54 sealed_exchange ++ Time 106 ∷ by_chip (codes "010500130301EB") ∷ host_acknowledges ∷ []
+
+-- the next attempt asks for a nonce, or is sealed for the same one
+abbrev pub asked_anew : List Entry
+asked_anew = seal_unheard ++ by_host (codes "010900130402984025041A") ∷ []
+
+abbrev pub nonce_again : List Entry
+nonce_again =
+    seal_unheard ++ by_host (codes "01220013041B98816B71E54E0F8EE3186CCEA9D132AB2C95018A573A88D6BE287E250488") ∷ []
+
+-- ---- nonces that the host gives
+
+-- node 4 asks for a nonce twice, and is given the live one
+abbrev pub nonce_given : List Entry
+nonce_given =
+    nonce_asked ∷ host_acknowledges ∷ by_host (codes "01110013040A9880019E0A1249BB594F2501AC") ∷ chip_acknowledges ∷ taken ∷ host_acknowledges ∷
+    delivered ∷ host_acknowledges ∷ nonce_asked ∷ host_acknowledges ∷ []
+
+abbrev pub given_live : List Entry
+given_live = nonce_given ++ by_host (codes "01110013040A9880019E0A1249BB594F2502AF") ∷ []
+
+-- or a new one
+abbrev pub given_new : List Entry
+given_new = nonce_given ++ by_host (codes "01110013040A988002010203040506072502CE") ∷ []
+
+-- ---- what no entry shows
+
+-- the report of the lock is judged, and one of two records is not kept: that the nonce is spent, or how the session ended; it asks for a nonce again
+abbrev pub report_unkept : List Entry
+report_unkept = take 78 sealed_exchange ++ Unkept 4 ∷ nonce_asked ∷ host_acknowledges ∷ []
+
+-- where the nonce was not spent it is given again, and where it was, the next one
+abbrev pub given_unspent : List Entry
+given_unspent = report_unkept ++ by_host (codes "01110013040A9880019E0A1249BB594F2505A8") ∷ []
+
+abbrev pub given_spent : List Entry
+given_spent = report_unkept ++ by_host (codes "01110013040A988002010203040506072505C9") ∷ []
+
+-- which records were kept, and what the report opens to where it is opened
+abbrev pub sealed_report : List ℕ
+sealed_report = 0x6C ∷ 0x02 ∷ 0x01 ∷ 0xFF ∷ 0x00 ∷ []
+
+abbrev pub report_kept : Choices
+report_kept = record { keepings = []; texts = Some sealed_report ∷ [] }
+
+abbrev pub unspent : Choices
+unspent = record { keepings = true ∷ true ∷ true ∷ false ∷ []; texts = [] }
+
+abbrev pub spent : Choices
+spent = record { keepings = true ∷ true ∷ true ∷ true ∷ false ∷ []; texts = Some sealed_report ∷ [] }
+
+-- ---- what a host hears
+
+-- what it hears of the plain exchange
+abbrev pub plain_heard : List Entry
+plain_heard =
+    Said (codes "set 2 on") ∷ Accepted 1 2 ∷ Begin 2 1 1 ∷ by_host (codes "010E001302076C0101032501FF250177") ∷ chip_acknowledges ∷ taken ∷
+    host_acknowledges ∷ Said (codes "tick 2") ∷ Time 1 ∷ delivered ∷ host_acknowledges ∷ Time 2 ∷ by_chip (codes "010B00040002056C0201FF0067") ∷
+    host_acknowledges ∷ Out 1 endings.Success ∷ Store 2 (setting 0 names.Switch 255) ∷ []
+
+-- units of the chip are lost, overrun and changed, and a unit of the host is lost; lines ask for a frame again and wake a node
+abbrev pub mixed : List Entry
+mixed =
+    Said (codes "repeat 1") ∷ Refused refusals.NeverSent ∷ Said (codes "wake 5") ∷ Air 1 5 1 [] (0x84 ∷ 7 ∷ []) ∷ notified ∷ Dropped Chip ∷ notified ∷
+    Overrun Chip ∷ notified ∷ Garbled Chip (bytes (codes "01080004000502840776")) ∷ by_host (codes "15") ∷ notified ∷ host_acknowledges ∷ Dropped Host ∷
+    Awake 5 ∷ ChipFull ∷ Said (codes "cancel 1") ∷ Refused (refusals.NotWaiting 1) ∷ []
+
+abbrev pub mixed_heard : List Entry
+mixed_heard =
+    by_chip (codes "01080004000502840776") ∷ Garbled Chip (bytes (codes "01080004000502840776")) ∷ by_host (codes "15") ∷ notified ∷
+    host_acknowledges ∷ Dropped Host ∷ Awake 5 ∷ Said (codes "cancel 1") ∷ Refused (refusals.NotWaiting 1) ∷ []

@@ -1,0 +1,87 @@
+//! What the law of notes says of worked transcripts, and of others with one thing wrong.
+
+ghost use Rattle.std.specs.Prelude.{◌∷◌, [], drop, true};
+ghost use Rattle.law_host.specs.Notes.{NotesWhatHappens, first_start};
+ghost use Rattle.law_host.specs.Worked.{
+  after_begun,
+  after_lock_begun,
+  after_sessions,
+  after_waking,
+  ended_by_first,
+  ended_by_other,
+  ended_of_another,
+  ended_openly,
+  ended_otherwise,
+  failure_told,
+  last_session,
+  old_left_out,
+  other_told,
+  told_openly,
+  unsupported_told,
+  value_again,
+  value_heard,
+  value_left_out,
+  value_otherwise,
+  value_twice,
+  woken,
+  woken_by_another,
+};
+ghost use Rattle.law_time.specs.WorkedEnds.{asleep_given_up, asleep_in_silence, given_up_at_answer};
+ghost use Rattle.law_time.specs.WorkedWaits.{answered_errands, waited_attempts};
+ghost use Rattle.law_time.specs.WrongEnds.{awake_after_link, awake_in_next_line};
+ghost use Rattle.law_transcript.specs.Nodes.{listing_of};
+ghost use Rattle.law_transcript.specs.Worked.{
+  cancelled_order,
+  lossy_exchange,
+  plain_exchange,
+  repeated_exchange,
+  restarted_host,
+  sleeping_node,
+  the_lock,
+  the_sensor,
+  the_switch,
+};
+
+/// In worked transcripts the host notes what happens: outcomes of each kind, values, old reports and one that a lock told openly, waking and
+/// sleep, interviews, questions and the ends of what lines asked for, by frames, by waits, and by an answer that has the line give up. The last
+/// of 65 sessions ends by its report.
+pub fn worked_notes()
+    ensures plain { NotesWhatHappens [] (listing_of (the_switch ∷ [])) first_start true plain_exchange }
+    ensures repeated { NotesWhatHappens [] (listing_of (the_switch ∷ [])) first_start true repeated_exchange }
+    ensures lossy { NotesWhatHappens [] (listing_of (the_switch ∷ [])) first_start true lossy_exchange }
+    ensures cancelled { NotesWhatHappens [] (listing_of (the_switch ∷ [])) first_start true cancelled_order }
+    ensures restarted { NotesWhatHappens [] (listing_of (the_switch ∷ [])) first_start true restarted_host }
+    ensures sleeping { NotesWhatHappens [] (listing_of (the_sensor ∷ [])) first_start true sleeping_node }
+    ensures answered { NotesWhatHappens [] (listing_of (the_switch ∷ [])) first_start true answered_errands }
+    ensures waited { NotesWhatHappens [] (listing_of (the_switch ∷ [])) first_start true waited_attempts }
+    ensures value { NotesWhatHappens [] (listing_of (the_switch ∷ [])) first_start true value_heard }
+    ensures last { NotesWhatHappens [] (listing_of (the_switch ∷ [])) after_sessions true last_session }
+    ensures failed { NotesWhatHappens [] (listing_of (the_switch ∷ [])) after_begun true failure_told }
+    ensures unsupported { NotesWhatHappens [] (listing_of (the_switch ∷ [])) after_begun true unsupported_told }
+    ensures other { NotesWhatHappens [] (listing_of (the_switch ∷ [])) after_begun true other_told }
+    ensures openly { NotesWhatHappens [] (listing_of (the_lock ∷ [])) after_lock_begun true told_openly }
+    ensures woken { NotesWhatHappens [] (listing_of (the_sensor ∷ [])) first_start true woken }
+    ensures in_silence { NotesWhatHappens [] (listing_of (the_sensor ∷ [])) after_waking true (drop 1 asleep_in_silence) }
+    ensures given_up { NotesWhatHappens [] (listing_of (the_sensor ∷ [])) after_waking true (drop 1 asleep_given_up) }
+    ensures at_answer { NotesWhatHappens [] (listing_of (the_switch ∷ [])) first_start true given_up_at_answer }
+{}
+
+/// Each of these breaks the law by one entry: a value that was told is left out, is entered twice, as another, or again later; an old report is
+/// left out; the last of 65 sessions ends, of which the report did not come, though that of the first, with the same id, once did; a command ends
+/// otherwise than its report says, as another, by the report of another session, or by one that a lock told openly; another node counts as awake
+/// than told so; and a node still counts as awake in the line after its message ended in silence, or in the tick after the line gave that up.
+pub fn rejected_notes()
+    ensures left_out { NotesWhatHappens [] (listing_of (the_switch ∷ [])) first_start true value_left_out → ⊥ }
+    ensures twice { NotesWhatHappens [] (listing_of (the_switch ∷ [])) first_start true value_twice → ⊥ }
+    ensures again { NotesWhatHappens [] (listing_of (the_switch ∷ [])) first_start true value_again → ⊥ }
+    ensures old { NotesWhatHappens [] (listing_of (the_switch ∷ [])) first_start true old_left_out → ⊥ }
+    ensures first { NotesWhatHappens [] (listing_of (the_switch ∷ [])) after_sessions true ended_by_first → ⊥ }
+    ensures value { NotesWhatHappens [] (listing_of (the_switch ∷ [])) first_start true value_otherwise → ⊥ }
+    ensures otherwise { NotesWhatHappens [] (listing_of (the_switch ∷ [])) after_begun true ended_otherwise → ⊥ }
+    ensures of_another { NotesWhatHappens [] (listing_of (the_switch ∷ [])) after_begun true ended_of_another → ⊥ }
+    ensures by_other { NotesWhatHappens [] (listing_of (the_switch ∷ [])) after_begun true ended_by_other → ⊥ }
+    ensures openly { NotesWhatHappens [] (listing_of (the_lock ∷ [])) after_lock_begun true ended_openly → ⊥ }
+    ensures woken { NotesWhatHappens [] (listing_of (the_sensor ∷ [])) first_start true woken_by_another → ⊥ }
+    ensures next_line { NotesWhatHappens [] (listing_of (the_sensor ∷ [])) after_waking true (drop 1 awake_in_next_line) → ⊥ }
+    ensures after_link { NotesWhatHappens [] (listing_of (the_sensor ∷ [])) after_waking true (drop 1 awake_after_link) → ⊥ }
+{}

@@ -1,0 +1,25 @@
+-- All laws together.
+use Rattle.proof_commands.proofs.laws.every_story_keeps_laws.Goals as goal
+
+pub returns : goal.returns
+returns c = λ key old new. record {
+  kept = c.stories_keep_records.ensures key old new;
+  orders = c.stories_keep_laws.ensures.orders key old new;
+  tables = c.stories_keep_laws.ensures.tables key old new;
+  values = c.stories_keep_laws.ensures.values key old new;
+  taken_back = c.stories_tell_of_commands.ensures.taken_back key old new;
+  stores = c.stories_tell_of_commands.ensures.stores key old new;
+  written = c.stories_tell_of_commands.ensures.written key old new;
+  once = c.stories_take_once.ensures.once key old new;
+  same = c.stories_take_once.ensures.same key old new;
+  shown = c.stories_take_once.ensures.shown key old new;
+  groups = c.stories_take_once.ensures.groups key old new;
+  headline = c.stories_have_the_headline.ensures.one key old new;
+  after_change = c.stories_have_the_headline.ensures.after_change key old new;
+  whole_headline = c.stories_have_the_headline.ensures.whole key old new;
+  numbers = c.stories_keep_air_laws.ensures.numbers key old new;
+  loses = c.stories_keep_air_laws.ensures.loses key old new;
+  fares = c.stories_keep_air_laws.ensures.fares key old new;
+  collides = c.stories_keep_air_laws.ensures.collides key old new;
+  marks = c.stories_keep_air_laws.ensures.marks key old new;
+}

@@ -1,0 +1,157 @@
+-- The lines of a story were said, and the headline is of lines that were said.
+use Rattle.std.proofs.Common.{◌≡◌, ℕ, List, [], ◌++◌, inl, inr, Some, Ok, ap, sym, subst, ◌∙◌}
+use Rattle.std.specs.List.{AllByRecursion}
+use Rattle.s0_crypto.specs.declared.key_pair.Keys.{Keys}
+use Rattle.device_kinds.specs.Sealing.{keys_of as device_keys}
+use Rattle.device_kinds.specs.Kind.{lists}
+use Rattle.device_kinds.specs.declared.kind.Kind.{Kind}
+use Rattle.device_sim.specs.State.{State}
+use Rattle.proof_device.specs.GoingOn.{AreSame}
+use Rattle.proof_device.specs.Showing.{AreUnchanged}
+use Rattle.host_core.specs.Network.{keys_of}
+use Rattle.zw_text.specs.Line.{line_at}
+use Rattle.zw_text.specs.declared.line.Line.{Line}
+use Rattle.zw_text.specs.declared.entry.Entry.{Entry}
+use Rattle.law_transcript.specs.Headline.{Headline, HeadlineOf, IsAsMade}
+use Rattle.law_transcript.specs.Nodes.{device_of, first_node, listing_of}
+use Rattle.world_model.specs.State.{Machine, first_machine}
+use Rattle.world_model.specs.Events.{Event}
+use Rattle.world_model.specs.Did.{MayAll}
+use Rattle.proof_serial.specs.Line.{AreLines}
+use Rattle.run_lines.specs.Pieces.{said_text}
+use Rattle.run_lines.specs.Lines.{TextLine}
+use Rattle.proof_spoken.specs.Spoken.{after_all, transcript_of}
+use Rattle.proof_spoken.specs.Lines.{AreDone, events_of as events_said}
+use Rattle.proof_headline.proofs.PlainTying.{was_there}
+use Rattle.proof_headline.specs.Truly.{IsAskable, SucceedsAfterChangeOf}
+use Rattle.proof_headline.specs.Supervised.{IsPlainOrLock, IsSupervisedNode}
+use Rattle.proof_commands.specs.Around.{Around}
+use Rattle.proof_commands.specs.Laws.{Ran, IsFairRun, IsReadAs, IsStory, events_of, first, lines_of, transcript, with_last}
+use Rattle.proof_commands.specs.Generate.{plain_lines}
+use Rattle.proof_commands.proofs.Unentered.{same_lines, further_may, further_devices, further_host}
+use Rattle.proof_commands.proofs.Reading.{AreRead, story_lines}
+use Rattle.proof_commands.proofs.Speaking.{all_done, all_said, same_events, same_machine, same_transcript}
+use Rattle.proof_commands.proofs.Told.{ToldStory, fresh, same_restarts, story_told, told_story}
+use Rattle.proof_commands.proofs.laws.stories_have_the_headline.Goals as goal
+
+-- which nodes are plain or of a lock, by the keys of the network
+abbrev AreBy : (List ℕ → Keys) → Type 0
+AreBy keys = (key : List ℕ) (devices : List State) (lines : List Line) (events : List Event) (node : ℕ) → AllByRecursion (IsAsMade key) devices →
+    AreLines lines (first_machine (keys key) (Some []) devices) events → MayAll (first_machine (keys key) (Some []) devices) events →
+    IsSupervisedNode devices node → IsPlainOrLock (keys key) devices events node
+
+-- devices have the keys of the network
+as_network : AreBy device_keys → AreBy keys_of
+unfolding device_keys
+as_network are = are
+
+-- a node that may be asked is node 2, or has such a device
+askable_supervised : (devices : List State) (node : ℕ) → IsSupervisedNode devices first_node → IsAskable devices node → IsSupervisedNode devices node
+askable_supervised devices node first_is (inl first) = subst (IsSupervisedNode devices) (sym first) first_is
+askable_supervised devices node first_is (inr (device, found, knows)) = record { device = device; first = found; supervised = knows }
+
+-- the laws that are used
+record Laws : Type 0 where
+  again : (text : List ℕ) (line : Line) → line_at text ≡ Ok (Some line) → line_at (said_text text) ≡ Ok (Some line)
+  unchanged : (key : List ℕ) (devices : List State) → AllByRecursion (IsAsMade key) devices → AreUnchanged devices
+  are : AreBy device_keys
+
+-- a story over a keeper that tells its records and had none, with devices as their makers left them
+record Fair (key : List ℕ) (old : Around) (story : List Ran) : Type 0 where
+  told : ToldStory key old story
+  read : AreRead story
+  made : AllByRecursion (IsAsMade key) old.devices
+
+module _ (laws : Laws) (key : List ℕ) (old : Around) (story : List Ran) (fair : Fair key old story) where
+  done : AreDone (fresh key old) (all_said story)
+  done = all_done laws.again (fresh key old) story fair.read fair.told.begun fair.told.may
+
+  plain_or_lock : (node : ℕ) → IsSupervisedNode old.devices node → IsPlainOrLock (keys_of key) old.devices (events_said (all_said story)) node
+  plain_or_lock node supervised = subst (λ (events : List Event). IsPlainOrLock (keys_of key) old.devices events node) (sym (same_events story))
+      (as_network laws.are key old.devices (plain_lines story) (events_of story) node fair.made (story_lines (fresh key old) story fair.told.begun) fair.told.may supervised)
+
+-- ---- a story, and the story with what its last line did besides
+
+module _ (key : List ℕ) (old new : Around) (story : List Ran) (unentered : List Event) (is : IsStory key old new story unentered) (fair : IsFairRun key old story) where
+  told : ToldStory key old story
+  told = story_told key old new story unentered is fair.told
+
+  fairly : Fair key old story
+  fairly = record { told = told; read = is.read; made = fair.made }
+
+  abbrev further : List Ran
+  further = with_last is.rest.last story
+
+  further_told : ToldStory key old further
+  further_told = told_story key old further (same_restarts old further story (same_lines is.rest.last story) fair.told) is.rest.moved
+      (further_may (first key old) story unentered is.rest is.may)
+
+  further_fairly : Fair key old further
+  further_fairly = record {
+    told = further_told;
+    read = subst (λ (l : List (TextLine Line)). AllByRecursion IsReadAs l) (sym (same_lines is.rest.last story)) is.read;
+    made = fair.made;
+  }
+
+  reads_as : transcript_of (fresh key old) (all_said story) ≡ transcript key old story
+  reads_as = same_transcript (fresh key old) story ∙ told.entered
+
+  devices_are : new.devices ≡ (after_all (fresh key old) (all_said further)).outside.devices
+  devices_are =
+      is.devices
+      ∙ (further_devices (first key old) story unentered is.rest
+      ∙ sym (ap (λ (x : Machine). x.outside.devices) (same_machine (fresh key old) further ∙ further_told.leaves)))
+
+  host_is : (after_all (fresh key old) (all_said further)).host.state ≡ (after_all (fresh key old) (all_said story)).host.state
+  host_is =
+      ap (λ (x : Machine). x.host.state) (same_machine (fresh key old) further ∙ further_told.leaves)
+      ∙ (further_host (first key old) story unentered is.rest
+      ∙ sym (ap (λ (x : Machine). x.host.state) (same_machine (fresh key old) story ∙ told.leaves)))
+
+pub returns-clause-one : goal.returns-clause-one
+returns-clause-one c = λ key old new story unentered is fair node device found knows.
+    let laws : Laws = record {
+      again = c.lines_are_read_as_said.ensures;
+      unchanged = c.devices_as_made_begin_courses.ensures.unchanged;
+      are = c.supervised_nodes_are_plain_or_locks.ensures;
+    } in
+    let d = old.devices in
+    let on = further key old new story unentered is fair in
+    let f = fairly key old new story unentered is fair in
+    let g = further_fairly key old new story unentered is fair in
+    let was = was_there node d new.devices device
+    (subst (λ (l : List State). AreSame d l) (sym is.devices) (c.runs_take_once.ensures.same (keys_of key) old.records d (events_of story ++ unentered))) found in
+    let supervised : IsSupervisedNode d node = record { device = was.before; first = was.found; supervised = ap (λ (k : Kind). lists k 0x6C) (sym was.kind) ∙ knows } in
+    subst (λ (l : List Entry). HeadlineOf (listing_of d) node l device) (reads_as key old new story unentered is fair)
+    (c.nodes_have_the_headline.ensures (keys_of key) d (all_said story) (all_said on) node device (plain_or_lock laws key old on g node supervised) (laws.unchanged key d fair.made)
+    (done laws key old story f) (done laws key old on g) (host_is key old new story unentered is fair)
+    (subst (λ (l : List State). device_of node l ≡ Some device) (devices_are key old new story unentered is fair) found) knows)
+
+pub returns-clause-after_change : goal.returns-clause-after_change
+returns-clause-after_change c = λ key old new story unentered is fair node supervised.
+    let laws : Laws = record {
+      again = c.lines_are_read_as_said.ensures;
+      unchanged = c.devices_as_made_begin_courses.ensures.unchanged;
+      are = c.supervised_nodes_are_plain_or_locks.ensures;
+    } in
+    let f = fairly key old new story unentered is fair in
+    subst (λ (l : List Entry). SucceedsAfterChangeOf node l) (reads_as key old new story unentered is fair)
+    (c.nodes_report_after_the_change.ensures (keys_of key) old.devices (all_said story) node (plain_or_lock laws key old story f node supervised) (laws.unchanged key old.devices fair.made)
+    (done laws key old story f))
+
+pub returns-clause-whole : goal.returns-clause-whole
+returns-clause-whole c = λ key old new story unentered is fair first_is.
+    let laws : Laws = record {
+      again = c.lines_are_read_as_said.ensures;
+      unchanged = c.devices_as_made_begin_courses.ensures.unchanged;
+      are = c.supervised_nodes_are_plain_or_locks.ensures;
+    } in
+    let d = old.devices in
+    let on = further key old new story unentered is fair in
+    let f = fairly key old new story unentered is fair in
+    let g = further_fairly key old new story unentered is fair in
+    subst (λ (l : List State). Headline d l (transcript key old story)) (sym (devices_are key old new story unentered is fair))
+    (subst (λ (l : List Entry). Headline d (after_all (fresh key old) (all_said on)).outside.devices l) (reads_as key old new story unentered is fair)
+    (c.askable_nodes_have_the_headline.ensures (keys_of key) d (all_said story) (all_said on) (λ node askable. plain_or_lock laws key old story f node (askable_supervised d node first_is askable))
+    (λ node askable. plain_or_lock laws key old on g node (askable_supervised d node first_is askable)) (laws.unchanged key d fair.made)
+    (done laws key old story f) (done laws key old on g) (host_is key old new story unentered is fair)))

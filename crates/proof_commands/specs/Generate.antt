@@ -1,0 +1,46 @@
+-- What a run of `generate` keeps true (this project's own rule): it has a story, whose lines are those of the scenario, and it writes the summary of the
+-- transcript of this story, and not that transcript.
+use Rattle.std.specs.Prelude.{◌≡◌, ℕ, List, [], map, Option}
+use Rattle.std.specs.Io.KnownBytes.{Appends}
+use Rattle.zw_text.specs.Transcript.{lines_run}
+use Rattle.zw_text.specs.declared.line.Line.{Line}
+use Rattle.run_lines.specs.Lines.{TextLine}
+use Rattle.run_lines.specs.Writing.{AppendsPrefix}
+use Rattle.run_lines.specs.declared.status.Status.{Status}
+use Rattle.run_lines.specs.declared.status.Status.TheVariants.{Ok, WriteFault, NoMemory}
+use Rattle.run_sim.specs.Generate.{GenerateRan, generated_lines, summary_text}
+use Rattle.law_transcript.specs.Nodes.{listing_of}
+use Rattle.law_transcript.specs.Restarts.{ticks_asked}
+use Rattle.law_transcript.specs.Table.{table_of}
+use Rattle.proof_commands.specs.Around.{Around}
+use Rattle.proof_commands.specs.Laws.{AreSchedules, IsStory, Ran, first, lines_of, transcript}
+
+-- `generate` ran so, with what it was given and what it leaves
+abbrev pub RunsGenerate : Status → ℕ → List ℕ → Around → Around → Type 0
+RunsGenerate ended hundreds key old new =
+    GenerateRan ended hundreds key old.devices new.devices old.records new.records old.keeper_faults new.keeper_faults old.written new.written
+
+-- the lines of a story, without their texts
+abbrev pub plain_lines : List Ran → List Line
+plain_lines story = map (λ (one : TextLine Line). one.line) (lines_of story)
+
+-- the text was written, or a prefix of it where a write failed
+abbrev pub Writes : Status → List ℕ → Option (List ℕ) → Option (List ℕ) → Type 0
+Writes Ok text sink sink' = Appends sink sink' text
+Writes WriteFault text sink sink' = AppendsPrefix sink sink' text
+Writes status text sink sink' = ⊥
+
+-- A run of `generate` has this story: all lines of the scenario, each run whole. What was written is the summary of its transcript and of the table that this
+-- shows, at the clock of the ticks that its lines ask for and with the devices as they are at exit.
+pub record Tells (ended : Status) (hundreds : ℕ) (key : List ℕ) (old new : Around) (story : List Ran) : Type 0 where
+  pub lines : plain_lines story ≡ generated_lines hundreds
+  pub is : IsStory key old new story []
+  pub schedules : AreSchedules (first key old) story
+  pub written : Writes ended
+      (summary_text (transcript key old story)
+      (table_of (listing_of old.devices) (ticks_asked (lines_run (transcript key old story))) (transcript key old story) new.devices)) old.written new.written
+
+-- so every run that did not run out of memory
+abbrev pub GenerateKeepsLaws : Status → List ℕ → Around → Around → Type 0
+GenerateKeepsLaws ended key old new =
+    (hundreds : ℕ) → RunsGenerate ended hundreds key old new → (ended ≡ NoMemory → ⊥) → (story : List Ran) × Tells ended hundreds key old new story

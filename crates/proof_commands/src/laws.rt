@@ -1,0 +1,129 @@
+//! The laws of stories, of whichever command: each is the contract of a function that does nothing.
+
+ghost use Rattle.std.specs.Prelude.{ℕ, List};
+ghost use Rattle.proof_commands.specs.Around.{Around};
+ghost use Rattle.proof_commands.specs.Laws.{
+  AppliesOnce,
+  CollidesAsAsked,
+  ConfirmsValues,
+  FaresFrames,
+  GroupsChanges,
+  HasHeadline,
+  HasWholeHeadline,
+  KeepsDevices,
+  KeepsOrders,
+  KeepsWell,
+  LosesFrames,
+  MarksAsAsked,
+  NumbersAir,
+  ReportsAfterChange,
+  ShowsChanges,
+  ShowsTables,
+  StoresValues,
+  StoriesKeepLaws,
+  TakesBackWhenAsked,
+  WritesSessions,
+};
+
+use crate::lines_are_read_as_said;
+use proof_headline::{
+    askable_nodes_have_the_headline, devices_as_made_begin_courses, nodes_have_the_headline,
+    nodes_report_after_the_change, supervised_nodes_are_plain_or_locks,
+};
+use proof_host::{asides_keep_facts, laws_follow};
+use proof_line::{lines_collide_when_asked, lines_mark_units};
+use proof_transcript::{
+    commands_are_taken_back_when_asked, lines_fare_in_turn, lines_lose_marked_frames,
+    lines_number_frames, sessions_begin_with_their_unit, values_are_stored_as_asked,
+};
+use proof_world::{
+    lines_keep_and_ask_well, restarts_go_on, runs_take_once, the_machine_keeps_facts,
+};
+
+/// Every story from what a command was given to what it leaves keeps the laws.
+pub fn every_story_keeps_laws()
+    ensures { (key : List ℕ) (old new : Around) → StoriesKeepLaws key old new }
+{
+    stories_keep_records();
+    stories_keep_laws();
+    stories_tell_of_commands();
+    stories_take_once();
+    stories_have_the_headline();
+    stories_keep_air_laws();
+}
+
+/// A story has the records that these laws assume, if the keeper tells them and had none at first, or no line is `restart`.
+fn stories_keep_records()
+    ensures { (key : List ℕ) (old new : Around) → KeepsWell key old new }
+{
+    lines_keep_and_ask_well();
+}
+
+/// The transcript of a story keeps the laws of orders, sessions, outcomes and confirmed values, and shows the tables of the host.
+fn stories_keep_laws()
+    ensures orders { (key : List ℕ) (old new : Around) → KeepsOrders key old new }
+    ensures tables { (key : List ℕ) (old new : Around) → ShowsTables key old new }
+    ensures values { (key : List ℕ) (old new : Around) → ConfirmsValues key old new }
+{
+    the_machine_keeps_facts();
+    restarts_go_on();
+    asides_keep_facts();
+    laws_follow();
+}
+
+/// What becomes of commands is entered where it belongs.
+fn stories_tell_of_commands()
+    ensures taken_back { (key : List ℕ) (old new : Around) → TakesBackWhenAsked key old new }
+    ensures stores { (key : List ℕ) (old new : Around) → StoresValues key old new }
+    ensures written { (key : List ℕ) (old new : Around) → WritesSessions key old new }
+{
+    lines_are_read_as_said();
+    stories_keep_laws();
+    the_machine_keeps_facts();
+    restarts_go_on();
+    commands_are_taken_back_when_asked();
+    values_are_stored_as_asked();
+    sessions_begin_with_their_unit();
+}
+
+/// The devices change at most once by each session, and the transcript of a story shows their changes.
+fn stories_take_once()
+    ensures once { (key : List ℕ) (old new : Around) → AppliesOnce key old new }
+    ensures same { (key : List ℕ) (old new : Around) → KeepsDevices key old new }
+    ensures shown { (key : List ℕ) (old new : Around) → ShowsChanges key old new }
+    ensures groups { (key : List ℕ) (old new : Around) → GroupsChanges key old new }
+{
+    runs_take_once();
+}
+
+/// What is so of lines that were said is so of a story, whose transcript has the words of each line.
+fn stories_have_the_headline()
+    ensures one { (key : List ℕ) (old new : Around) → HasHeadline key old new }
+    ensures after_change { (key : List ℕ) (old new : Around) → ReportsAfterChange key old new }
+    ensures whole { (key : List ℕ) (old new : Around) → HasWholeHeadline key old new }
+{
+    lines_are_read_as_said();
+    devices_as_made_begin_courses();
+    supervised_nodes_are_plain_or_locks();
+    nodes_have_the_headline();
+    nodes_report_after_the_change();
+    askable_nodes_have_the_headline();
+    runs_take_once();
+}
+
+/// The frames on the air, and the units of the serial line, are those of lines that were said.
+fn stories_keep_air_laws()
+    ensures numbers { (key : List ℕ) (old new : Around) → NumbersAir key old new }
+    ensures loses { (key : List ℕ) (old new : Around) → LosesFrames key old new }
+    ensures fares { (key : List ℕ) (old new : Around) → FaresFrames key old new }
+    ensures collides { (key : List ℕ) (old new : Around) → CollidesAsAsked key old new }
+    ensures marks { (key : List ℕ) (old new : Around) → MarksAsAsked key old new }
+{
+    lines_are_read_as_said();
+    stories_keep_laws();
+    lines_number_frames();
+    lines_lose_marked_frames();
+    lines_fare_in_turn();
+    lines_collide_when_asked();
+    lines_mark_units();
+}
