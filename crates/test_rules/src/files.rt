@@ -75,31 +75,35 @@ fn add_record<K: Keeper>(
     }
 }
 
-/// The records that a keeper finds in a store that holds this. None where it does not open.
-fn found_in(alloc: Global, held: &[u8]) -> Result<Option<Bytes>, NoMemory> {
-    let mut keeper = keeper_over(alloc, held, &[])?;
-    if !opens(&mut keeper) {
-        return Ok(None);
-    }
-    let mut text = Bytes::new(alloc);
+/// Adds all records of the keeper, and answers whether all were read.
+fn add_all<K: Keeper>(
+    alloc: Global,
+    keeper: &mut K,
+    text: &mut Bytes,
+) -> Result<bool, NoMemory> {
     for at in 0..keeper.count() {
-        if !add_record(alloc, &mut keeper, at, &mut text)? {
-            return Ok(None);
+        if !add_record(alloc, keeper, at, text)? {
+            return Ok(false);
         }
     }
-    Ok(Some(text))
+    Ok(true)
+}
+
+/// Adds the records that a keeper finds in a store that holds this, and answers whether it opens and reads them.
+fn add_found(alloc: Global, held: &[u8], text: &mut Bytes) -> Result<bool, NoMemory> {
+    let mut keeper = keeper_over(alloc, held, &[])?;
+    Ok(opens(&mut keeper) && add_all(alloc, &mut keeper, text)?)
 }
 
 /// Whether the next keeper finds what was kept where these calls fail, and no more where it is to be all.
 fn finds(alloc: Global, failing: &[u64], is_all: bool) -> Result<bool, NoMemory> {
     let mut kept = Bytes::from_slice(alloc, FIRST)?;
     let held = held_after(alloc, failing, &mut kept)?;
-    Ok(match found_in(alloc, held.as_slice())? {
-        Some(found) => {
-            found.as_slice().starts_with(kept.as_slice()) && (!is_all || found.len() == kept.len())
-        }
-        None => false,
-    })
+    let mut found = Bytes::new(alloc);
+    if !add_found(alloc, held.as_slice(), &mut found)? {
+        return Ok(false);
+    }
+    Ok(found.as_slice().starts_with(kept.as_slice()) && (!is_all || found.len() == kept.len()))
 }
 
 #[test]
@@ -112,18 +116,24 @@ fn what_was_kept_is_found_wherever_a_call_fails(rt: HostRuntime) -> Result<(), F
     Ok(())
 }
 
+/// Whether two records are not kept, each with a fault.
+fn fails_twice(keeper: &mut FileKeeper<MemoryStore>) -> Result<bool, NoMemory> {
+    Ok(!keeps(keeper, b"[2,3]")?
+        && !keeps(keeper, b"[2,4]")?
+        && keeper.count() == 1
+        && keeper.faults() == 2)
+}
+
+/// Whether the first record is not read.
+fn is_closed<K: Keeper>(alloc: Global, keeper: &mut K) -> bool {
+    matches!(read(alloc, keeper, 0), Some(Err(KeepFault::Failed)))
+}
+
 #[test]
 fn a_keeper_that_cannot_undo_fails_from_then_on(rt: HostRuntime) -> Result<(), Fail> {
     let mut keeper = keeper_over(rt.alloc(), HELD, &[4, 5])?;
-    assert!(rt; opens(&mut keeper));
-    assert!(rt; !keeps(&mut keeper, b"[2,3]")?);
-    assert!(rt; !keeps(&mut keeper, b"[2,4]")?);
-    assert!(rt; keeper.count() == 1 && keeper.faults() == 2);
-    let is_refused = matches!(
-        read(rt.alloc(), &mut keeper, 0),
-        Some(Err(KeepFault::Failed))
-    );
-    assert!(rt; is_refused);
+    let is_so = opens(&mut keeper) && fails_twice(&mut keeper)? && is_closed(rt.alloc(), &mut keeper);
+    assert!(rt; is_so);
     Ok(())
 }
 
