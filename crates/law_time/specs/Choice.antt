@@ -12,7 +12,7 @@ use Rattle.host_orders.specs.declared.carriage.Form.TheVariants.{Plain, Cut, Sea
 use Rattle.zw_words.specs.declared.side.Side.TheVariants.{Host}
 use Rattle.zw_text.specs.declared.entry.Entry.{Entry}
 use Rattle.zw_text.specs.declared.entry.Entry.TheVariants.{Begin, Written, Unkept}
-use Rattle.zw_text.specs.Transcript.{joined, where_same}
+use Rattle.zw_text.specs.Transcript.{joined, where_same, written}
 use Rattle.law_transcript.specs.Commands.{waiting}
 use Rattle.law_transcript.specs.Lists.{shown_after, last_or}
 use Rattle.law_transcript.specs.Payloads.{nonce_get}
@@ -156,17 +156,13 @@ SendsOneByOne transcript = Keeps may_follow transcript
 
 -- ---- callback ids
 
--- the callback ids of the messages that were asked to be sent since the host started, in order
+-- the callback id of the last message that was asked to be sent since the host started, and 0 before one
 abbrev pub id_of : Request → List ℕ
 id_of (SendData node payload options id) = id ∷ []
 id_of request = []
 
-abbrev pub id_at : List Entry → Entry → List ℕ
-id_at past (Written Host unit) = if is_new (asked past) unit then flat_map id_of (request_in unit) else []
-id_at past entry = []
-
 abbrev pub last_id : List Entry → ℕ
-last_id past = last_or 0 (shown_after id_at [] (since_restart past))
+last_id past = last_or 0 (flat_map id_of (flat_map request_in (written Host (since_restart past))))
 
 -- a message has the next one after the last, 1 to 255 and 1 again, and the options of each
 abbrev pub is_numbered : ℕ → Request → Bool

@@ -1,10 +1,12 @@
 -- Worked transcripts of which request is next where none waits, made by hand in the form in which the program prints them.
 use Rattle.std.specs.Prelude.{List, [], ◌∷◌, ◌++◌, codes, take}
+use Rattle.device_kinds.specs.declared.kind.Kind.TheVariants as kinds
+use Rattle.device_stack.specs.State.{State, fresh}
 use Rattle.zw_text.specs.declared.entry.Done.TheVariants as done
 use Rattle.zw_text.specs.declared.entry.Entry.{Entry}
 use Rattle.zw_text.specs.declared.entry.Entry.TheVariants.{Said, Accepted, Begin, Awake, Interviewed, Done, Unkept, Time}
 use Rattle.law_transcript.specs.Worked.{long_message}
-use Rattle.law_time.specs.WorkedAttempts.{second_attempt, third_attempt, working}
+use Rattle.law_time.specs.WorkedAttempts.{second_attempt, third_attempt, unkept_order, working}
 use Rattle.law_time.specs.WorkedEnds.{set_under_way}
 use Rattle.law_time.specs.WorkedTurns.{first_sent, given_up, given_up_plug}
 use Rattle.law_time.specs.WorkedUnits.{abort_sent, by_chip, by_host, chip_acknowledges, delivered, failed, host_acknowledges, message_sent, nonce_asked, not_acknowledged, set_sent, taken}
@@ -102,6 +104,10 @@ abbrev pub sealed_for_next : List Entry
 sealed_for_next =
     asked_again ++ second_nonce_come ∷ host_acknowledges ∷ by_host (codes "011E0013041798810101010101010101AABBCCDD0201020304050607082504D3") ∷ []
 
+-- a lock that is taken for a switch at first
+abbrev pub the_near_lock : State
+the_near_lock = fresh 2 kinds.Lock []
+
 -- the nonces are counted over a restart, and where the keeper fails for another node
 abbrev pub sealed_over_restart : List Entry
 sealed_over_restart =
@@ -149,6 +155,10 @@ begun_beside_unkept = both_wait ++ Unkept 2 ∷ sleeper_begun
 abbrev pub begun_after_unkept : List Entry
 begun_after_unkept =
     Said (codes "join 4") ∷ Awake 4 ∷ Said (codes "set 4 on") ∷ Accepted 1 4 ∷ nonce_asked ∷ host_acknowledges ∷ Unkept 4 ∷ Begin 4 1 1 ∷ []
+
+-- a host that starts in the tick in which the keeper had failed begins it
+abbrev pub begun_after_restart : List Entry
+begun_after_restart = unkept_order ++ Said (codes "restart") ∷ Begin 2 1 1 ∷ message_sent ∷ []
 
 -- a session begins after an abort
 abbrev pub silent_set : List Entry

@@ -1,11 +1,13 @@
 -- Transcripts like those of which request is next that break its law, one thing wrong in each.
 use Rattle.std.specs.Prelude.{List, [], ◌∷◌, ◌++◌, codes, take}
+use Rattle.zw_text.specs.declared.entry.Done.TheVariants as done
+use Rattle.zw_text.specs.declared.entry.Ended.TheVariants as endings
 use Rattle.zw_text.specs.declared.entry.Entry.{Entry}
-use Rattle.zw_text.specs.declared.entry.Entry.TheVariants.{Said, Accepted, Begin, Dropped, Unkept, Time}
+use Rattle.zw_text.specs.declared.entry.Entry.TheVariants.{Said, Accepted, Begin, Dropped, Out, Awake, Interviewed, Done, Unkept, Time}
 use Rattle.zw_words.specs.declared.side.Side.TheVariants.{Host}
 use Rattle.law_transcript.specs.Worked.{long_message, sealed_exchange}
 use Rattle.law_time.specs.WorkedAttempts.{second_attempt, third_attempt, third_failed, third_lost, unkept_order, working}
-use Rattle.law_time.specs.WorkedChoice.{begun, both_wait, first_over, first_sent_next, first_served, first_taken, lock_asked, lock_begun, nonce_come, restarted_beside, sealed_for_second, sealed_once, sealed_sent, second_failed, second_nonce_come, second_served, segment_after_failed, segment_after_lost, segment_begun, set_before, silent_set, sleeper_begun}
+use Rattle.law_time.specs.WorkedChoice.{begun, both_wait, first_over, first_sent_next, first_served, first_taken, get_sent, lock_asked, lock_begun, nonce_come, restarted_beside, sealed_for_second, sealed_once, sealed_sent, second_failed, second_nonce_come, second_served, segment_after_failed, segment_after_lost, segment_begun, set_before, silent_set, sleeper_begun}
 use Rattle.law_time.specs.WorkedEnds.{set_under_way}
 use Rattle.law_time.specs.WorkedTurns.{given_up, given_up_plug, probed, second_sent}
 use Rattle.law_time.specs.WorkedUnits.{by_chip, by_host, failed_asked, host_acknowledges, message_sent, not_acknowledged, refused, set_sent}
@@ -32,6 +34,11 @@ sent_before_wait = first_taken ++ Said (codes "tick 10") ∷ second_attempt ∷ 
 
 abbrev pub sent_though_working : List Entry
 sent_though_working = first_taken ++ Time 50 ∷ working ∷ host_acknowledges ∷ Said (codes "tick 10") ∷ Time 101 ∷ second_attempt ∷ []
+
+-- or as a Get has failed
+abbrev pub sent_after_get : List Entry
+sent_after_get =
+    first_taken ++ Said (codes "get 2") ∷ get_sent ∷ by_chip (codes "010500130202E9") ∷ host_acknowledges ∷ Done 2 done.Fail ∷ third_attempt ∷ []
 
 -- a fourth attempt begins
 abbrev pub sent_fourth : List Entry
@@ -88,12 +95,28 @@ sealed_twice = sealed_once ++ by_host (codes "011E0013041798810101010101010101AA
 abbrev pub sealed_when_over : List Entry
 sealed_when_over = lock_asked ++ not_acknowledged ∷ host_acknowledges ∷ nonce_come ∷ host_acknowledges ∷ sealed_sent ∷ []
 
+-- for a second one, when it was sealed; and for one after one that came when the attempt was over
+abbrev pub sealed_again : List Entry
+sealed_again = sealed_once ++ second_nonce_come ∷ host_acknowledges ∷ by_host (codes "011E0013041798810101010101010101AABBCCDD0201020304050607082503D4") ∷ []
+
+abbrev pub sealed_after_late : List Entry
+sealed_after_late =
+    lock_asked ++ not_acknowledged ∷ host_acknowledges ∷ nonce_come ∷ host_acknowledges ∷ by_host (codes "010900130402984025021C") ∷ second_nonce_come ∷
+    host_acknowledges ∷ by_host (codes "011E0013041798810101010101010101AABBCCDD0201020304050607082503D4") ∷ []
+
 -- for one whose number was left out, and for one after one that came when nothing waited for it
 abbrev pub sealed_for_skipped : List Entry
 sealed_for_skipped = lock_asked ++ second_nonce_come ∷ host_acknowledges ∷ sealed_for_second ∷ []
 
 abbrev pub sealed_for_uncounted : List Entry
 sealed_for_uncounted = nonce_come ∷ host_acknowledges ∷ lock_asked ++ second_nonce_come ∷ host_acknowledges ∷ sealed_for_second ∷ []
+
+-- and for one after one that came when the node was taken for a switch
+abbrev pub sealed_after_plain : List Entry
+sealed_after_plain =
+    begun ++ by_chip (codes "0110000400020A988001A1A2A3A4A5A6A75A") ∷ host_acknowledges ∷ Out 1 endings.Success ∷ Interviewed 2 ∷
+    Said (codes "set 2 on") ∷ Accepted 2 2 ∷ Awake 2 ∷ Begin 2 2 2 ∷ by_host (codes "010900130202984025021A") ∷ by_chip (codes "0110000400020A988002A1A2A3A4A5A6A759") ∷
+    host_acknowledges ∷ by_host (codes "011E0013021798810101010101010101AABBCCDD0201020304050607082503D2") ∷ []
 
 -- ---- two nodes
 

@@ -9,18 +9,20 @@ ghost use Rattle.law_time.specs.WorkedChoice.{
   again_after_wait,
   again_though_working,
   begun_after_abort,
+  begun_after_restart,
   begun_after_unkept,
   begun_beside_unkept,
   first_after_restart,
   first_again,
+  last_id_sent,
   sealed_beside_unkept,
   sealed_for_next,
   sealed_for_same,
   sealed_over_restart,
   segment_after_failed,
   segment_after_lost,
-  last_id_sent,
   sent_after_last,
+  the_near_lock,
 };
 ghost use Rattle.law_time.specs.WorkedQueue.{failed_attempts, silent_attempt};
 ghost use Rattle.law_time.specs.WorkedTurns.{copied_after_overrun};
@@ -42,6 +44,9 @@ ghost use Rattle.law_time.specs.WrongChoice.{
   id_repeated,
   id_skipped,
   nonce_asked_plainly,
+  sealed_after_late,
+  sealed_after_plain,
+  sealed_again,
   sealed_for_none,
   sealed_for_other,
   sealed_for_skipped,
@@ -55,6 +60,7 @@ ghost use Rattle.law_time.specs.WrongChoice.{
   second_sent_twice,
   second_served_first,
   second_served_twice,
+  sent_after_get,
   sent_after_third,
   sent_before_wait,
   sent_beyond,
@@ -82,7 +88,7 @@ ghost use Rattle.law_transcript.specs.Worked.{
 /// the one before it is over: as its request ends, though others went before it, or after 100 ticks, though the node then told that it is at work.
 /// The second segment follows the first, and after a failure the first one again. A message is sealed for the last nonce that came and was kept,
 /// the same again or the next, over a restart too. Two nodes are served in turn, the first one first when the host has restarted. A session begins
-/// after an abort, and beside a node for which the keeper failed in this tick.
+/// after an abort, after a restart, and beside a node for which the keeper failed in this tick.
 pub fn worked_choice()
     ensures again { SendsInTurn (listing_of (the_switch ∷ [])) again_after_set }
     ensures following_get { SendsInTurn (listing_of (the_switch ∷ [])) again_after_get }
@@ -99,14 +105,15 @@ pub fn worked_choice()
     ensures beside_unbegun { SendsInTurn (listing_of (the_switch ∷ [])) begun_beside_unkept }
     ensures following_unkept { SendsInTurn (listing_of (the_lock ∷ [])) begun_after_unkept }
     ensures kept { SendsInTurn (listing_of (the_switch ∷ [])) begun_kept }
+    ensures restart_unblocks { SendsInTurn (listing_of (the_switch ∷ [])) begun_after_restart }
     ensures following_abort { SendsInTurn (listing_of (the_switch ∷ [])) begun_after_abort }
 {}
 
 /// Each of these breaks one part of the law: where an attempt is due, the Set of an earlier line is sent again, or a Nonce Get to a node that
 /// lists no Security 0, or a message unsealed to one that does; an attempt begins while the last one is under way, a tick too early, while the
-/// node has told that it is at work, or after three; a segment is sent before the first, twice, beyond the last, or when the third attempt is
+/// node has told that it is at work, as a Get has failed, or after three; a segment is sent before the first, twice, beyond the last, or when the third attempt is
 /// over; what is sent for a nonce is not sealed; a message is sealed for no nonce, for another one, for one that was not kept or not counted,
-/// twice for one, or when its attempt is over; a node is served twice while another one has work, or before a lower one, also after a restart;
+/// twice for one, for a second one, or when its attempt is over; a node is served twice while another one has work, or before a lower one, also after a restart;
 /// and a session begins out of order, before a request or an abort, of a node that is asleep, while the last one is open, or in the tick in which
 /// the keeper has failed.
 pub fn rejected_choice()
@@ -116,6 +123,7 @@ pub fn rejected_choice()
     ensures under_way { SendsInTurn (listing_of (the_switch ∷ [])) sent_while_under_way → ⊥ }
     ensures too_early { SendsInTurn (listing_of (the_switch ∷ [])) sent_before_wait → ⊥ }
     ensures working { SendsInTurn (listing_of (the_switch ∷ [])) sent_though_working → ⊥ }
+    ensures get_failed { SendsInTurn (listing_of (the_switch ∷ [])) sent_after_get → ⊥ }
     ensures fourth { SendsInTurn (listing_of (the_switch ∷ [])) sent_fourth → ⊥ }
     ensures second_first { SendsInTurn (listing_of (the_plug ∷ [])) second_sent_first → ⊥ }
     ensures first_twice { SendsInTurn (listing_of (the_plug ∷ [])) first_sent_twice → ⊥ }
@@ -131,6 +139,9 @@ pub fn rejected_choice()
     ensures over { SendsInTurn (listing_of (the_lock ∷ [])) sealed_when_over → ⊥ }
     ensures skipped { SendsInTurn (listing_of (the_lock ∷ [])) sealed_for_skipped → ⊥ }
     ensures uncounted { SendsInTurn (listing_of (the_lock ∷ [])) sealed_for_uncounted → ⊥ }
+    ensures second_nonce { SendsInTurn (listing_of (the_lock ∷ [])) sealed_again → ⊥ }
+    ensures late_nonce { SendsInTurn (listing_of (the_lock ∷ [])) sealed_after_late → ⊥ }
+    ensures plain_nonce { SendsInTurn (listing_of (the_near_lock ∷ [])) sealed_after_plain → ⊥ }
     ensures lower_twice { SendsInTurn (listing_of (the_switch ∷ [])) first_served_twice → ⊥ }
     ensures greater_twice { SendsInTurn (listing_of (the_switch ∷ [])) second_served_twice → ⊥ }
     ensures greater_first { SendsInTurn (listing_of (the_switch ∷ [])) second_served_first → ⊥ }

@@ -1,6 +1,7 @@
 use Rattle.std.proofs.Common.{[], ◌∷◌, refl}
 use Rattle.law_time.specs.Choice.{may_send}
-use Rattle.law_time.specs.WrongChoice.{begun_asleep, begun_before_abort, begun_before_request, begun_out_of_order, begun_unkept, begun_while_open, first_sent_twice, first_served_twice, nonce_asked_plainly, sealed_for_none, sealed_for_other, sealed_for_skipped, sealed_for_uncounted, sealed_for_unkept, sealed_for_unkept_lost, sealed_twice, sealed_when_over, second_after_restart, second_sent_first, second_sent_twice, second_served_first, second_served_twice, sent_after_third, sent_before_wait, sent_beyond, sent_for_nonce, sent_fourth, sent_though_working, sent_unsealed, sent_while_under_way, set_repeated}
+use Rattle.law_time.specs.WorkedChoice.{the_near_lock}
+use Rattle.law_time.specs.WrongChoice.{begun_asleep, begun_before_abort, begun_before_request, begun_out_of_order, begun_unkept, begun_while_open, first_sent_twice, first_served_twice, nonce_asked_plainly, sealed_after_late, sealed_after_plain, sealed_again, sealed_for_none, sealed_for_other, sealed_for_skipped, sealed_for_uncounted, sealed_for_unkept, sealed_for_unkept_lost, sealed_twice, sealed_when_over, second_after_restart, second_sent_first, second_sent_twice, second_served_first, second_served_twice, sent_after_get, sent_after_third, sent_before_wait, sent_beyond, sent_for_nonce, sent_fourth, sent_though_working, sent_unsealed, sent_while_under_way, set_repeated}
 use Rattle.law_transcript.specs.Nodes.{listing_of}
 use Rattle.law_transcript.specs.Worked.{the_lock, the_plug, the_switch}
 use Rattle.law_time.proofs.Computing.{computing}
@@ -30,6 +31,10 @@ returns-clause-too_early c = broken (may_send (listing_of (the_switch ∷ []))) 
 pub returns-clause-working : goal.returns-clause-working
 unfolding computing
 returns-clause-working c = broken (may_send (listing_of (the_switch ∷ []))) sent_though_working refl
+
+pub returns-clause-get_failed : goal.returns-clause-get_failed
+unfolding computing
+returns-clause-get_failed c = broken (may_send (listing_of (the_switch ∷ []))) sent_after_get refl
 
 pub returns-clause-fourth : goal.returns-clause-fourth
 unfolding computing
@@ -90,6 +95,18 @@ returns-clause-skipped c = broken (may_send (listing_of (the_lock ∷ []))) seal
 pub returns-clause-uncounted : goal.returns-clause-uncounted
 unfolding computing
 returns-clause-uncounted c = broken (may_send (listing_of (the_lock ∷ []))) sealed_for_uncounted refl
+
+pub returns-clause-second_nonce : goal.returns-clause-second_nonce
+unfolding computing
+returns-clause-second_nonce c = broken (may_send (listing_of (the_lock ∷ []))) sealed_again refl
+
+pub returns-clause-late_nonce : goal.returns-clause-late_nonce
+unfolding computing
+returns-clause-late_nonce c = broken (may_send (listing_of (the_lock ∷ []))) sealed_after_late refl
+
+pub returns-clause-plain_nonce : goal.returns-clause-plain_nonce
+unfolding computing
+returns-clause-plain_nonce c = broken (may_send (listing_of (the_near_lock ∷ []))) sealed_after_plain refl
 
 pub returns-clause-lower_twice : goal.returns-clause-lower_twice
 unfolding computing

@@ -1,7 +1,7 @@
 use Rattle.std.proofs.Common.{[], ◌∷◌, refl}
 use Rattle.law_time.specs.Choice.{may_send}
 use Rattle.law_time.specs.WorkedAttempts.{begun_kept}
-use Rattle.law_time.specs.WorkedChoice.{again_after_get, again_after_set, again_after_wait, again_though_working, begun_after_abort, begun_after_unkept, begun_beside_unkept, first_after_restart, first_again, sealed_beside_unkept, sealed_for_next, sealed_for_same, sealed_over_restart, segment_after_failed, segment_after_lost}
+use Rattle.law_time.specs.WorkedChoice.{again_after_get, again_after_set, again_after_wait, again_though_working, begun_after_abort, begun_after_restart, begun_after_unkept, begun_beside_unkept, first_after_restart, first_again, sealed_beside_unkept, sealed_for_next, sealed_for_same, sealed_over_restart, segment_after_failed, segment_after_lost}
 use Rattle.law_transcript.specs.Nodes.{listing_of}
 use Rattle.law_transcript.specs.Worked.{the_lock, the_plug, the_switch}
 use Rattle.law_time.proofs.Computing.{computing}
@@ -67,6 +67,10 @@ returns-clause-following_unkept c = kept (may_send (listing_of (the_lock ∷ [])
 pub returns-clause-kept : goal.returns-clause-kept
 unfolding computing
 returns-clause-kept c = kept (may_send (listing_of (the_switch ∷ []))) begun_kept refl
+
+pub returns-clause-restart_unblocks : goal.returns-clause-restart_unblocks
+unfolding computing
+returns-clause-restart_unblocks c = kept (may_send (listing_of (the_switch ∷ []))) begun_after_restart refl
 
 pub returns-clause-following_abort : goal.returns-clause-following_abort
 unfolding computing
