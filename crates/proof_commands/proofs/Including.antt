@@ -1,5 +1,5 @@
 -- The lines of `include` in parts, and each part as events.
-use Rattle.std.proofs.Common.{◌≡◌, ℕ, ◌≤◌, ◌⊎◌, inl, inr, Option, Some, List, [], ◌∷◌, ◌++◌, map, refl, sym, ap, subst, ◌∙◌, append_assoc, append-nil}
+use Rattle.std.proofs.Common.{◌≡◌, ℕ, ◌≤◌, inl, inr, Option, Some, List, [], ◌∷◌, ◌++◌, map, refl, sym, ap, subst, ◌∙◌, append_assoc, append-nil}
 use Rattle.include_text.specs.declared.line.IncludeLine.{IncludeLine}
 use Rattle.include_text.specs.declared.line.IncludeLine.TheVariants.{Add}
 use Rattle.include_text.specs.declared.entry.IncludeEntry.{IncludeEntry}

@@ -11,7 +11,6 @@ use Rattle.zw_base.specs.declared.order.Word.{Word}
 use Rattle.zw_base.specs.declared.order.Word.TheVariants.{On, Off, Level}
 use Rattle.zw_words.specs.Words.{is_blank, is_remark, is_word, words}
 use Rattle.zw_words.specs.Texts.{side_word, target_word, value_word}
-use Rattle.zw_words.specs.declared.side.Side.TheVariants as side
 use Rattle.zw_text.specs.declared.line.Line.{Line}
 use Rattle.zw_text.specs.declared.line.Line.TheVariants.{Command, Tick, Cut, Stall, Drop, Garble, Collide, Send, Get, Join, Interview, Lose, LoseAck, Repeat, Wake, Cancel, Link, Unlink, Discover, Neighbours, Failed, Probe, Local, Show, Store, Restart}
 use Rattle.zw_text.specs.declared.word.LineWord.{LineWord}
