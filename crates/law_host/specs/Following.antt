@@ -1,6 +1,6 @@
 -- The host's notes: after each event stand exactly those that it makes, in order, before the next event, and none stands elsewhere (this
 -- project's own rule).
-use Rattle.std.specs.Prelude.{ℕ, ◌==◌, ◌&&◌, not, bytes_eq, nat_lt, Bool, true, false, if◌then◌else◌, List, [], ◌∷◌, ◌++◌}
+use Rattle.std.specs.Prelude.{ℕ, ◌==◌, ◌&&◌, ◌||◌, not, bytes_eq, nat_lt, Bool, true, false, if◌then◌else◌, List, [], ◌∷◌, ◌++◌}
 use Rattle.serial_frame.specs.declared.unit.TheConstants.{NAK}
 use Rattle.zw_base.specs.PropertyOrder.{same_property}
 use Rattle.zw_base.specs.declared.property.Setting.{Setting}
@@ -144,10 +144,11 @@ makes listing past entry rest course = course
 
 -- ---- the course of a transcript
 
--- one entry, after what stands before it and with what stands after it; what became of a unit of the host changes nothing
+-- one entry, after what stands before it and with what stands after it; what became of a unit of the host changes nothing, and where an entry
+-- may not stand the course has ended
 abbrev pub after : (ℕ → List ℕ) → List Entry → Entry → List Entry → Course → Course
 after listing past entry rest course =
-    if is_mark entry then course else makes listing past entry rest (stands past entry (comes_to listing past entry course))
+    if is_mark entry || not course.fits then course else makes listing past entry rest (stands past entry (comes_to listing past entry course))
 
 abbrev pub course_after : (ℕ → List ℕ) → List Entry → List Entry → Course → Course
 course_after listing past [] course = course

@@ -1,6 +1,6 @@
 -- What a legal host does, over what it heard, from whatever its keeper kept (this project's own rule): the laws of the host alone, as one.
 use Rattle.std.specs.Prelude.{◌≡◌, ℕ, ◌==◌, ◌||◌, ◌&&◌, not, Bool, true, List, [], ◌∷◌, ◌++◌, Option, ⊤, IfSome}
-use Rattle.std.specs.List.{flat_map, list_any, AllByRecursion}
+use Rattle.std.specs.List.{flat_map, list_any}
 use Rattle.value_store.specs.ValueText.{values_text}
 use Rattle.value_store.specs.declared.stored.Held.{Held}
 use Rattle.host_orders.specs.Errands.{send_refusal, get_refusal}
@@ -13,7 +13,6 @@ use Rattle.zw_text.specs.declared.entry.Entry.TheVariants.{Said, Json, TableValu
 use Rattle.zw_text.specs.Transcript.{accepted_numbers, line_last, outcome}
 use Rattle.law_transcript.specs.Answers.{IsAnswer, IsNoAnswer, IsRefusal, MayCancel, answer_to, before_last, known_of, refusal_entry, refused_unless}
 use Rattle.law_transcript.specs.Commands.{is_waiting}
-use Rattle.law_transcript.specs.Links.{KeepsLink, between_restarts}
 use Rattle.law_transcript.specs.Lists.{EachAfter, listed}
 use Rattle.law_transcript.specs.Nodes.{controller, is_joined}
 use Rattle.law_transcript.specs.Once.{CarriesOnce}
@@ -22,6 +21,8 @@ use Rattle.law_transcript.specs.Records.{KeepsRecords}
 use Rattle.law_transcript.specs.Sessions.{MayBegin}
 use Rattle.law_transcript.specs.Stores.{StoresConfirmed}
 use Rattle.law_transcript.specs.Table.{value_lines}
+use Rattle.law_wire.specs.Links.{KeepsLink}
+use Rattle.law_wire.specs.Serial.{ended}
 use Rattle.law_time.specs.Moments.{Allows}
 use Rattle.law_time.specs.Choice.{may_follow, may_number, may_send}
 use Rattle.law_time.specs.Queue.{may_queue}
@@ -90,7 +91,7 @@ pub record IsHostLegal (key : List ℕ) (listing : ℕ → List ℕ) (start : St
   pub cancels : EachAfter MayCancel start.before heard
   pub sessions : EachAfter MayBegin start.before heard
   pub carries : (node : ℕ) → CarriesOnce node (start.before ++ heard)
-  pub link : AllByRecursion (KeepsLink Host) (between_restarts [] heard)
+  pub link : KeepsLink Host (ended whole heard)
   pub notes : NotesWhatHappens key listing start whole heard
   pub stores : StoresConfirmed whole listing (start.before ++ heard)
   pub values : EachAfter (ShowsValues listing) start.before heard

@@ -15,7 +15,6 @@ pub mod Records
 pub mod Units
 pub mod Carrying
 pub mod Payloads
-pub mod Links
 pub mod Table
 pub mod Worked
 pub mod WorkedWrong

@@ -5,13 +5,13 @@ mod Crowds
 mod Differing
 mod Entries
 mod Halting
-mod Judging
+pub mod Judging
 mod Keeping
 mod Linked
 mod Listening
 mod Losing
 mod Machine
-mod Moves
+pub mod Moves
 mod NothingHeard
 mod Overspeaking
 mod Parts

@@ -27,8 +27,8 @@ use Rattle.outside_model.specs.Events.{OuterEvent, Begins_line, Joins, Repeats, 
 use Rattle.world_model.specs.State.{Machine}
 use Rattle.world_model.specs.Events.{Event, Outside_does, Host_does, happens, entries, May}
 use Rattle.world_model.specs.Lines.{IsEffect}
-use Rattle.proof_spoken.specs.Spoken.{Spoken, transcript_of}
-use Rattle.proof_spoken.specs.Lines.{AreDone}
+use Rattle.world_lines.specs.Spoken.{Spoken, transcript_of}
+use Rattle.world_lines.specs.Done.{AreDone}
 use Rattle.proof_walk.specs.Outside.{nothing, Known, CoversOuter}
 use Rattle.proof_walk.specs.ByLine.{by_line, IsOfTick, CoversLine, ByLine}
 use Rattle.proof_walk.proofs.ByLine.{effect_covered, common_covered, walk_of}

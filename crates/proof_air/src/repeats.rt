@@ -6,8 +6,8 @@ ghost use Rattle.device_sim.specs.State.{State};
 ghost use Rattle.law_transcript.specs.Fates.{NumbersFrames};
 ghost use Rattle.law_transcript.specs.Sessions.{KeepsSessions};
 ghost use Rattle.world_model.specs.State.{first_machine};
-ghost use Rattle.proof_spoken.specs.Spoken.{Spoken, transcript_of};
-ghost use Rattle.proof_spoken.specs.Lines.{AreDone};
+ghost use Rattle.world_lines.specs.Spoken.{Spoken, transcript_of};
+ghost use Rattle.world_lines.specs.Done.{AreDone};
 ghost use Rattle.proof_air.specs.Hearing.{RepeatsFresh};
 
 /// Over any lines from the first on, the last of which an allocation failure may have cut short, what is heard directly after a `repeat` is heard while the

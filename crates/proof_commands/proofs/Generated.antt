@@ -27,7 +27,7 @@ use Rattle.run_lines.specs.declared.status.Status.{Status}
 use Rattle.run_lines.specs.declared.status.Status.TheVariants as status
 use Rattle.run_sim.specs.Generate.{AllDone, SumsUp, command_lines, first_lines, generated_lines, is_accepted, is_success, joining_lines, loss_lines, node_at, summary_text, word_at}
 use Rattle.run_sim.specs.Sim.{said}
-use Rattle.proof_spoken.specs.Lines.{IsRead}
+use Rattle.world_lines.specs.Done.{IsRead}
 use Rattle.proof_commands.specs.Around.{Around}
 use Rattle.proof_commands.specs.Laws.{AreBegun, IsReadAs, IsStory, Ran, TellsAtRestarts, events_of, first, has_restart, transcript}
 use Rattle.proof_commands.specs.Generate.{RunsGenerate, Tells, Writes, plain_lines}

@@ -10,8 +10,8 @@ use Rattle.world_model.specs.Events.{Event}
 use Rattle.world_model.specs.Did.{happens_all, entries_all, MayAll}
 use Rattle.world_model.specs.Prefixes.{IsLineBefore}
 use Rattle.run_lines.specs.Pieces.{said_text}
-use Rattle.proof_spoken.specs.Spoken.{Spoken, after_all, transcript_of}
-use Rattle.proof_spoken.specs.Lines.{AreDone, events_of as events_said}
+use Rattle.world_lines.specs.Spoken.{Spoken, after_all, transcript_of}
+use Rattle.world_lines.specs.Done.{AreDone, events_of as events_said}
 use Rattle.proof_spoken.proofs.Speaking.{all_after}
 use Rattle.proof_commands.specs.Around.{Around}
 use Rattle.proof_commands.specs.Laws.{Ran, AreBegun, IsStory, events_of, first, transcript_from}

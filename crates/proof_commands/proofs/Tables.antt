@@ -21,9 +21,9 @@ use Rattle.run_lines.specs.declared.running.LinesEnd.TheVariants.{All, Bad, Read
 use Rattle.run_lines.specs.declared.status.Status.TheVariants.{Ok}
 use Rattle.run_lines.proofs.Shown.{pieces_text}
 use Rattle.run_sim.specs.Sim.{IsTable, Point, shown_text}
-use Rattle.proof_spoken.specs.Spoken.{Spoken, after_all, transcript_of}
-use Rattle.proof_spoken.specs.Lines.{AreDone}
-use Rattle.proof_spoken.specs.Whole.{AreWhole}
+use Rattle.world_lines.specs.Spoken.{Spoken, after_all, transcript_of}
+use Rattle.world_lines.specs.Done.{AreDone}
+use Rattle.world_lines.specs.Whole.{AreWhole}
 use Rattle.proof_commands.specs.Around.{Around}
 use Rattle.proof_commands.specs.Laws.{Ran, AreSchedules, IsStory, TellsAtRestarts, events_of, first, last, transcript}
 use Rattle.proof_commands.specs.Sim.{EndsAs, EndsWhole, Tells, WritesTable}

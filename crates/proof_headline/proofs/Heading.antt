@@ -7,7 +7,7 @@ use Rattle.world_model.specs.State.{Machine}
 use Rattle.world_model.specs.Events.{Event}
 use Rattle.world_model.specs.Did.{happens_all}
 use Rattle.proof_once.specs.InSessions.{ChangesInSessions}
-use Rattle.proof_spoken.specs.Spoken.{Spoken, after, after_all}
+use Rattle.world_lines.specs.Spoken.{Spoken, after, after_all}
 
 -- devices that have changed in sessions alone still have so
 module _ (goes : (m : Machine) (events : List Event) → GoOn m.outside.devices (happens_all m events).outside.devices)

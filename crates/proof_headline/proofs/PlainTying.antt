@@ -19,8 +19,8 @@ use Rattle.host_model.specs.State.{Command}
 use Rattle.host_node.specs.TableState.{node_of}
 use Rattle.proof_once.specs.Tied.{AreOutcomes, AreTied, IsTied, MakesWhatIsTaken}
 use Rattle.proof_once.specs.Truly.{AreTrue}
-use Rattle.proof_spoken.specs.Spoken.{Spoken, after}
-use Rattle.proof_spoken.specs.Lines.{IsRead, events_of}
+use Rattle.world_lines.specs.Spoken.{Spoken, after}
+use Rattle.world_lines.specs.Done.{IsRead, events_of}
 use Rattle.proof_headline.specs.Truly.{LinesAreTrue}
 use Rattle.proof_course_plain.specs.World.{HasCourse, NamesEnd}
 use Rattle.proof_course_plain.proofs.Replies.{one_place, one_stands}

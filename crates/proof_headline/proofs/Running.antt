@@ -16,7 +16,8 @@ use Rattle.world_model.specs.State.{Machine}
 use Rattle.world_model.specs.Events.{Event, entries, happens, May}
 use Rattle.world_model.specs.Did.{happens_all, entries_all, MayAll}
 use Rattle.proof_world.specs.Restarts.{AllStartWell, StartsWell}
-use Rattle.proof_spoken.specs.Spoken.{Spoken, IsSpoken, AreSpoken, after, after_all, entries_of, transcript_of}
+use Rattle.world_lines.specs.Spoken.{Spoken, after, after_all, entries_of, transcript_of}
+use Rattle.proof_spoken.specs.Spoken.{IsSpoken, AreSpoken}
 use Rattle.proof_once.specs.Truly.{AreTrue, IsTrue}
 use Rattle.proof_headline.specs.Truly.{LinesAreTrue}
 use Rattle.proof_headline.proofs.Shown.{said_shown}

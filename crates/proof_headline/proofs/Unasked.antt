@@ -39,7 +39,8 @@ use Rattle.world_model.proofs.Silence.{judged_silent}
 use Rattle.proof_world.specs.Restarts.{AllStartWell, StartsWell}
 use Rattle.proof_once.specs.Truly.{AreTrue, IsTrue, TellTruly, TellsTruly}
 use Rattle.proof_spoken.specs.Said.{AllKnow, KnowsListing}
-use Rattle.proof_spoken.specs.Spoken.{Spoken, IsSpoken, AreSpoken, after as after_line, entries_of}
+use Rattle.world_lines.specs.Spoken.{Spoken, after as after_line, entries_of}
+use Rattle.proof_spoken.specs.Spoken.{IsSpoken, AreSpoken}
 use Rattle.proof_spoken.proofs.Orders.{IsNoOrder, SameOrders, event_kept}
 use Rattle.proof_spoken.proofs.Plain.{ArePlain, spoken_part, line_kind, line_orders, line_plain, silent_none}
 use Rattle.proof_spoken.proofs.Saying.{events_kept, machine_kept, may_accept, taken_then}

@@ -15,8 +15,9 @@ ghost use Rattle.world_model.specs.Events.{Event, entries, May};
 ghost use Rattle.proof_once.specs.Tied.{AllTied, AreTied};
 ghost use Rattle.proof_once.specs.Truly.{IsTrue};
 ghost use Rattle.proof_spoken.specs.Said.{LinesTell};
-ghost use Rattle.proof_spoken.specs.Spoken.{Spoken, AreSpoken, after_all, transcript_of};
-ghost use Rattle.proof_spoken.specs.Lines.{AreDone};
+ghost use Rattle.world_lines.specs.Spoken.{Spoken, after_all, transcript_of};
+ghost use Rattle.proof_spoken.specs.Spoken.{AreSpoken};
+ghost use Rattle.world_lines.specs.Done.{AreDone};
 ghost use Rattle.proof_headline.specs.Truly.{IsAskable, LinesAreTrue, SucceedsAfterChangeOf};
 
 use proof_device::{changes_are_shown, devices_go_on};

@@ -10,8 +10,8 @@ ghost use Rattle.proof_headline.specs.Locks.{IsLockKind, IsLockNode};
 ghost use Rattle.s0_crypto.specs.declared.key_pair.Keys.{Keys};
 ghost use Rattle.world_model.specs.State.{first_machine};
 ghost use Rattle.proof_once.specs.Tied.{AreTied};
-ghost use Rattle.proof_spoken.specs.Spoken.{Spoken, after_all};
-ghost use Rattle.proof_spoken.specs.Lines.{AreDone};
+ghost use Rattle.world_lines.specs.Spoken.{Spoken, after_all};
+ghost use Rattle.world_lines.specs.Done.{AreDone};
 ghost use Rattle.proof_headline.specs.Truly.{LinesAreTrue};
 
 use proof_course_plain::{idle_devices_stay_idle, lines_ask_plainly};

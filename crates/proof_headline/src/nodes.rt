@@ -8,8 +8,8 @@ ghost use Rattle.law_transcript.specs.Headline.{Headline, HeadlineOf};
 ghost use Rattle.law_transcript.specs.Nodes.{device_of, is_supervised, listing_of};
 ghost use Rattle.world_model.specs.State.{first_machine};
 ghost use Rattle.proof_once.specs.Tied.{AreTied};
-ghost use Rattle.proof_spoken.specs.Spoken.{Spoken, after_all, transcript_of};
-ghost use Rattle.proof_spoken.specs.Lines.{AreDone, events_of};
+ghost use Rattle.world_lines.specs.Spoken.{Spoken, after_all, transcript_of};
+ghost use Rattle.world_lines.specs.Done.{AreDone, events_of};
 ghost use Rattle.proof_headline.specs.Truly.{IsAskable, LinesAreTrue, SucceedsAfterChangeOf};
 ghost use Rattle.proof_headline.specs.Supervised.{IsPlainOrLock};
 

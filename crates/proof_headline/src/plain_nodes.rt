@@ -17,8 +17,8 @@ ghost use Rattle.world_model.specs.Did.{MayAll};
 ghost use Rattle.proof_serial.specs.Line.{AreLines};
 ghost use Rattle.proof_course_plain.specs.World.{OrdersPlain};
 ghost use Rattle.proof_once.specs.Tied.{AreTied};
-ghost use Rattle.proof_spoken.specs.Spoken.{Spoken, after_all};
-ghost use Rattle.proof_spoken.specs.Lines.{AreDone, events_of};
+ghost use Rattle.world_lines.specs.Spoken.{Spoken, after_all};
+ghost use Rattle.world_lines.specs.Done.{AreDone, events_of};
 ghost use Rattle.proof_headline.specs.Truly.{LinesAreTrue};
 
 use host_node::a_restart_needs_the_records_alone;

@@ -14,8 +14,8 @@ use Rattle.outside_model.specs.Events.{OuterEvent, Begins_line, Collides_next, o
 use Rattle.world_model.specs.State.{Machine}
 use Rattle.world_model.specs.Events.{Event, Outside_does, happens, entries, May}
 use Rattle.world_model.specs.Lines.{IsEffect}
-use Rattle.proof_spoken.specs.Spoken.{Spoken, transcript_of}
-use Rattle.proof_spoken.specs.Lines.{AreDone}
+use Rattle.world_lines.specs.Spoken.{Spoken, transcript_of}
+use Rattle.world_lines.specs.Done.{AreDone}
 use Rattle.proof_walk.specs.ByLine.{by_line, IsOfTick, CoversLine, ByLine}
 use Rattle.proof_walk.specs.Outside.{CoversOuter}
 use Rattle.proof_walk.proofs.Linking.{of_link}

@@ -5,8 +5,8 @@ ghost use Rattle.s0_crypto.specs.declared.key_pair.Keys.{Keys};
 ghost use Rattle.device_sim.specs.State.{State};
 ghost use Rattle.law_wire.specs.Marks.{CollidesWhenAsked, MarksUnits};
 ghost use Rattle.world_model.specs.State.{first_machine};
-ghost use Rattle.proof_spoken.specs.Spoken.{Spoken, transcript_of};
-ghost use Rattle.proof_spoken.specs.Lines.{AreDone};
+ghost use Rattle.world_lines.specs.Spoken.{Spoken, transcript_of};
+ghost use Rattle.world_lines.specs.Done.{AreDone};
 
 /// Over any lines from the first on, the last of which an allocation failure may have cut short, the chip answers a good frame CAN where a line has asked for a
 /// collision that has not come, and ACK only where there is none.

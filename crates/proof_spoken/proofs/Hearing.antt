@@ -66,7 +66,7 @@ use Rattle.proof_serial.proofs.ChipWays.{does_each, does_one}
 use Rattle.proof_serial.proofs.Outer.{entered_still, routed_all, notes_all, Written, tick_still}
 use Rattle.proof_world.proofs.Always.{one, none, either}
 use Rattle.proof_world.proofs.Heard.{IsOfPayload, payload_of}
-use Rattle.proof_spoken.specs.Lines.{HearsList, HearLists}
+use Rattle.proof_spoken.specs.Interviews.{HearsList, HearLists}
 use Rattle.proof_spoken.proofs.Telling.{NoticeTells, UpdateTells}
 use Rattle.proof_spoken.proofs.Frames.{UnitTells, IsTelling, FrameTells, PortTells, EventTells, events_port, events_out}
 use Rattle.proof_spoken.proofs.Informing.{Informs, Lists, here, still_informs, gives_informs, steps_inform, repeats_inform, at_informs, hand_informs, joins_inform, discovers_inform, collides_inform}

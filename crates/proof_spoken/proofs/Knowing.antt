@@ -37,7 +37,8 @@ use Rattle.world_model.specs.State.{Machine, begun_in, host_does, host_entries, 
 use Rattle.world_model.specs.Events.{Event, Outside_does, Host_does, Host_takes, Decoder_ticks, Refuses, Shows_values, Restarts, answers, entries, fed, happens, notes, shown_values, May}
 use Rattle.world_model.specs.Did.{happens_all, entries_all, MayAll}
 use Rattle.world_model.proofs.Hosting.{entries_cons}
-use Rattle.proof_spoken.specs.Spoken.{Spoken, AreSpoken, after, entries_of}
+use Rattle.world_lines.specs.Spoken.{Spoken, after, entries_of}
+use Rattle.proof_spoken.specs.Spoken.{AreSpoken}
 use Rattle.proof_spoken.specs.Said.{AllKnow, AllTell, IsTrueInterview, KnowsAgain, KnowsListing, LinesTell, TellListing, TellsListing, Tells}
 use Rattle.proof_spoken.proofs.Classes.{IsNoInterview, LeavesRecords, classes_of, event_kept, joined_place, set_here, set_there}
 use Rattle.proof_spoken.proofs.Noting.{AreRoutine, IsRoutine, after_routine, event_routine}

@@ -15,7 +15,7 @@ use Rattle.world_model.specs.Did.{MayAll}
 use Rattle.proof_world.specs.Restarts.{StartsWell, KeepsWell, AllKeepWell, AreHeld, IsHeld}
 use Rattle.proof_world.specs.Lines.{IsAsked, AsksWell, AllAsked}
 use Rattle.proof_spoken.specs.Said.{TellsListing, TellListing, KnowsAgain, Tells, AllTell}
-use Rattle.proof_spoken.specs.Lines.{HearsList, HearLists}
+use Rattle.proof_spoken.specs.Interviews.{HearsList, HearLists}
 
 -- ---- interviews
 

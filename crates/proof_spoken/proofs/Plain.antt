@@ -21,7 +21,8 @@ use Rattle.world_model.proofs.Pieces.{Law, Pieces, of_settling, of_settling_pref
 use Rattle.world_model.proofs.Own.{IsOwn}
 use Rattle.world_model.proofs.Along.{IsAskedBy, IsOfPart, IsOfEffect, along, pieces_along, effect_along, anywhere}
 use Rattle.world_model.proofs.Hosting.{Silent}
-use Rattle.proof_spoken.specs.Spoken.{Spoken, IsSpoken}
+use Rattle.world_lines.specs.Spoken.{Spoken}
+use Rattle.proof_spoken.specs.Spoken.{IsSpoken}
 use Rattle.proof_spoken.proofs.Orders.{IsNoOrder}
 
 -- ---- events that answer no line

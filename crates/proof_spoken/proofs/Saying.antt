@@ -31,7 +31,8 @@ use Rattle.world_model.specs.Prefixes.{LinePart}
 use Rattle.world_model.proofs.Silence.{judged_silent}
 use Rattle.world_model.proofs.Doing.{entries_all-append}
 use Rattle.proof_world.specs.Restarts.{StartsWell, AllStartWell}
-use Rattle.proof_spoken.specs.Spoken.{Spoken, IsSpoken, AreSpoken, after, after_all, entries_of, transcript_of}
+use Rattle.world_lines.specs.Spoken.{Spoken, after, after_all, entries_of, transcript_of}
+use Rattle.proof_spoken.specs.Spoken.{IsSpoken, AreSpoken}
 use Rattle.proof_spoken.specs.Said.{AllKnow, AreSaid, IsSaid, KnowsListing, MayAnswer}
 use Rattle.proof_spoken.proofs.Orders.{IsNoOrder, SameOrders, event_kept, push_is, push_stays, restart_kept, same_orders, then_same}
 use Rattle.proof_spoken.proofs.Plain.{IsPlain, ArePlain, Orders, spoken_part, line_kind, line_orders, line_plain, silent_none}

@@ -13,9 +13,10 @@ use Rattle.world_model.specs.Prefixes.{IsLineBefore}
 use Rattle.world_model.proofs.Doing.{happens_all-append, may_all-append}
 use Rattle.proof_serial.specs.Line.{AreLines}
 use Rattle.proof_world.specs.Restarts.{AllStartWell}
-use Rattle.proof_spoken.specs.Spoken.{Spoken, AreSpoken, after, after_all}
+use Rattle.world_lines.specs.Spoken.{Spoken, after, after_all}
+use Rattle.proof_spoken.specs.Spoken.{AreSpoken}
 use Rattle.proof_spoken.specs.Said.{AllTell, LinesTell}
-use Rattle.proof_spoken.specs.Lines.{IsRead, AreDone, events_of}
+use Rattle.world_lines.specs.Done.{IsRead, AreDone, events_of}
 
 abbrev pub lines_of : List Spoken → List Line
 lines_of lines = map (λ (spoken : Spoken). spoken.line) lines

@@ -1,4 +1,3 @@
 pub mod Spoken
 pub mod Said
-pub mod Lines
-pub mod Whole
+pub mod Interviews

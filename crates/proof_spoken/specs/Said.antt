@@ -16,7 +16,7 @@ use Rattle.host_model.specs.After.{after as host_after}
 use Rattle.proof_host.specs.Tables.{taken_at}
 use Rattle.world_model.specs.State.{Machine}
 use Rattle.world_model.specs.Events.{Event, Host_does, Host_takes, Restarts, happens}
-use Rattle.proof_spoken.specs.Spoken.{Spoken, after, entries_of}
+use Rattle.world_lines.specs.Spoken.{Spoken, after, entries_of}
 
 -- ---- orders
 

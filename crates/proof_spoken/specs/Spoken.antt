@@ -1,27 +1,12 @@
--- Lines as they are said, one after another, with what the machine does at each; an allocation failure may have cut the last one short (this project's own).
-use Rattle.std.specs.Prelude.{◌≡◌, ℕ, List, [], ◌∷◌, ◌++◌}
-use Rattle.zw_text.specs.declared.line.Line.{Line}
-use Rattle.zw_text.specs.declared.entry.Entry.{Entry}
+-- Lines as they are said, whose restarts go on from what was recorded (this project's own).
+use Rattle.std.specs.Prelude.{◌≡◌, List, [], ◌∷◌}
 use Rattle.zw_text.specs.declared.entry.Entry.TheVariants.{Said}
 use Rattle.zw_text.specs.Transcript.{line_of}
 use Rattle.world_model.specs.State.{Machine}
-use Rattle.world_model.specs.Events.{Event}
-use Rattle.world_model.specs.Did.{happens_all, entries_all, MayAll}
+use Rattle.world_model.specs.Did.{MayAll}
 use Rattle.world_model.specs.Prefixes.{IsLineBefore}
+use Rattle.world_lines.specs.Spoken.{Spoken, after}
 use Rattle.proof_world.specs.Restarts.{AllStartWell}
-
--- the words that were said, the line that they are, and the events of it
-pub record Spoken : Type 0 where
-  pub words : List ℕ
-  pub line : Line
-  pub events : List Event
-
--- what is entered of it: the words, and then what its events enter
-abbrev pub entries_of : Machine → Spoken → List Entry
-entries_of m spoken = Said spoken.words ∷ entries_all m spoken.events
-
-abbrev pub after : Machine → Spoken → Machine
-after m spoken = happens_all m spoken.events
 
 -- the words are read as the line; its events are those of such a line, all of them where others follow, and may happen; and a host that starts again has what the one before recorded
 pub record IsSpoken (more : List Spoken) (m : Machine) (spoken : Spoken) : Type 0 where
@@ -34,12 +19,3 @@ pub record IsSpoken (more : List Spoken) (m : Machine) (spoken : Spoken) : Type 
 abbrev pub AreSpoken : Machine → List Spoken → Type 0
 AreSpoken m [] = Unit {0}
 AreSpoken m (spoken ∷ more) = IsSpoken more m spoken × AreSpoken (after m spoken) more
-
-abbrev pub after_all : Machine → List Spoken → Machine
-after_all m [] = m
-after_all m (spoken ∷ more) = after_all (after m spoken) more
-
--- the transcript of them
-abbrev pub transcript_of : Machine → List Spoken → List Entry
-transcript_of m [] = []
-transcript_of m (spoken ∷ more) = entries_of m spoken ++ transcript_of (after m spoken) more

@@ -10,9 +10,11 @@ ghost use Rattle.world_model.specs.State.{first_machine};
 ghost use Rattle.world_model.specs.Events.{Event};
 ghost use Rattle.world_model.specs.Did.{MayAll};
 ghost use Rattle.proof_serial.specs.Line.{AreLines};
-ghost use Rattle.proof_spoken.specs.Spoken.{Spoken, AreSpoken};
+ghost use Rattle.world_lines.specs.Spoken.{Spoken};
+ghost use Rattle.proof_spoken.specs.Spoken.{AreSpoken};
 ghost use Rattle.proof_spoken.specs.Said.{AllTell, LinesTell};
-ghost use Rattle.proof_spoken.specs.Lines.{HearLists, AreDone};
+ghost use Rattle.world_lines.specs.Done.{AreDone};
+ghost use Rattle.proof_spoken.specs.Interviews.{HearLists};
 
 use crate::interviews_give_what_is_known;
 use proof_device::{devices_go_on, devices_stay_the_same};

@@ -2,14 +2,14 @@
 //! list.
 //!
 //! An interview that ends well concerns a joined node, and tells what the first device of that node lists. Each law is
-//! the contract of a function with an empty body, over lines that are said one after another (`specs/Spoken`) and the
+//! the contract of a function with an empty body, over lines that are said one after another (`world_lines`) and the
 //! events of the machine that each line is. `answers_stand_after_their_lines` is the induction over the lines.
 //! `tables_are_what_was_said` gives what `proof_once` asks of the table. `interviews_give_what_is_known` says which
 //! classes the host then knows, and `lines_tell_what_nodes_list` that they are those that the device lists: the list
 //! goes from the kind of a device to the chip (`proofs/Informing`), through the chip's frames (`proofs/Frames`,
 //! `proofs/Telling`) and over the line to the host (`proofs/Hearing`).
-//! The definitions are in `specs/`: `Spoken`, `Said` (what is claimed of an order, and what is assumed of interviews),
-//! `Lines`, and `Whole` (lines that were all run whole).
+//! The definitions are in `specs/`: `Spoken` (with what is assumed of restarts), `Said` (what is claimed of an order, and
+//! what is assumed of interviews) and `Interviews`.
 #![tactic(auto)]
 
 mod interviews;

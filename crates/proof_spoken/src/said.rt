@@ -13,7 +13,8 @@ ghost use Rattle.world_model.specs.Events.{Event, happens};
 ghost use Rattle.proof_world.specs.Restarts.{AreHeld, StartsWell};
 ghost use Rattle.proof_once.specs.Tied.{KeepsOrders};
 ghost use Rattle.proof_once.specs.ByTable.{IsTable};
-ghost use Rattle.proof_spoken.specs.Spoken.{Spoken, IsSpoken, AreSpoken, after, after_all, entries_of, transcript_of};
+ghost use Rattle.world_lines.specs.Spoken.{Spoken, after, after_all, entries_of, transcript_of};
+ghost use Rattle.proof_spoken.specs.Spoken.{IsSpoken, AreSpoken};
 ghost use Rattle.proof_spoken.specs.Said.{AllKnow, AreSaid, KnowsAgain, KnowsListing, LinesTell};
 
 use host_keep::texts_give_one_thing;

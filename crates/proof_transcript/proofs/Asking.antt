@@ -31,8 +31,8 @@ use Rattle.world_model.proofs.Own.{IsOwn}
 use Rattle.world_model.proofs.Pieces.{Law, Pieces, of_settling, of_settling_prefix, of_line_part}
 use Rattle.world_model.proofs.Along.{IsAskedBy, IsOfPart, IsOfEffect, along, pieces_along, effect_along, anywhere}
 use Rattle.world_model.proofs.Silence.{judged_silent}
-use Rattle.proof_spoken.specs.Spoken.{Spoken, after, entries_of, transcript_of}
-use Rattle.proof_spoken.specs.Lines.{AreDone, IsDone}
+use Rattle.world_lines.specs.Spoken.{Spoken, after, entries_of, transcript_of}
+use Rattle.world_lines.specs.Done.{AreDone, IsDone}
 use Rattle.proof_transcript.proofs.Common.{IsCommon, IsNoTaking, aside_common, event_common}
 use Rattle.proof_transcript.proofs.Entering.{IsOf, events_free}
 

@@ -26,9 +26,9 @@ use Rattle.world_model.specs.Did.{happens_all, AllAlong}
 use Rattle.world_model.specs.Table.{node_entries, table_entries}
 use Rattle.proof_once.specs.ByTable.{IsTable}
 use Rattle.proof_once.specs.Tied.{settings_taken}
-use Rattle.proof_spoken.specs.Spoken.{Spoken, after, after_all, entries_of, transcript_of}
-use Rattle.proof_spoken.specs.Lines.{AreDone, IsRead, events_of}
-use Rattle.proof_spoken.specs.Whole.{AreWhole}
+use Rattle.world_lines.specs.Spoken.{Spoken, after, after_all, entries_of, transcript_of}
+use Rattle.world_lines.specs.Done.{AreDone, IsRead, events_of}
+use Rattle.world_lines.specs.Whole.{AreWhole}
 use Rattle.proof_transcript.proofs.Hosts.{LeavesRecords}
 use Rattle.proof_transcript.specs.Told.{IsTold}
 use Rattle.proof_transcript.proofs.Telling.{GoesOn, line_told}

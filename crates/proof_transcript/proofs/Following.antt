@@ -37,7 +37,8 @@ use Rattle.world_model.specs.Events.{Event, Host_does, Host_takes, entries, happ
 use Rattle.world_model.specs.Did.{happens_all, entries_all, MayAll}
 use Rattle.proof_world.specs.Restarts.{AllStartWell, StartsWell}
 use Rattle.proof_world.proofs.Aside.{Asides, told_aside}
-use Rattle.proof_spoken.specs.Spoken.{Spoken, AreSpoken, IsSpoken, after, entries_of, transcript_of}
+use Rattle.world_lines.specs.Spoken.{Spoken, after, entries_of, transcript_of}
+use Rattle.proof_spoken.specs.Spoken.{AreSpoken, IsSpoken}
 use Rattle.proof_spoken.proofs.Plain.{spoken_part}
 use Rattle.proof_transcript.proofs.Common.{IsCommon, IsNoBeginning, aside_common, event_common}
 use Rattle.proof_transcript.proofs.Entering.{IsOf, event_free}

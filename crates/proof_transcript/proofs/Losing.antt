@@ -17,8 +17,8 @@ use Rattle.outside_model.specs.Events.{Begins_tick, Arrives, Loses, Repeats, out
 use Rattle.world_model.specs.State.{Machine}
 use Rattle.world_model.specs.Events.{Event, Outside_does, happens, entries, May}
 use Rattle.world_model.specs.Did.{happens_all, entries_all, MayAll}
-use Rattle.proof_spoken.specs.Spoken.{Spoken, transcript_of}
-use Rattle.proof_spoken.specs.Lines.{AreDone}
+use Rattle.world_lines.specs.Spoken.{Spoken, transcript_of}
+use Rattle.world_lines.specs.Done.{AreDone}
 use Rattle.proof_transcript.proofs.Keeping.{Keeps, keeps_none, keeps_both}
 use Rattle.proof_transcript.proofs.Arriving.{arrives_lands}
 use Rattle.proof_transcript.proofs.Events.{lands_keep, calm_keeps}

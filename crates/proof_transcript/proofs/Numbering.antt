@@ -22,8 +22,8 @@ use Rattle.outside_model.specs.Events.{OuterEvent, Begins_line, Begins_tick, Hos
 use Rattle.world_model.specs.State.{Machine}
 use Rattle.world_model.specs.Events.{Event, Outside_does, happens, entries, May}
 use Rattle.world_model.specs.Did.{happens_all, entries_all, MayAll}
-use Rattle.proof_spoken.specs.Spoken.{Spoken, after, after_all, entries_of, transcript_of}
-use Rattle.proof_spoken.specs.Lines.{AreDone}
+use Rattle.world_lines.specs.Spoken.{Spoken, after, after_all, entries_of, transcript_of}
+use Rattle.world_lines.specs.Done.{AreDone}
 use Rattle.proof_transcript.proofs.Plain.{IsNoAir, plain_no_air}
 use Rattle.proof_transcript.proofs.Keeping.{Keeps, Airs, Goes, keeps_none, keeps_both}
 use Rattle.proof_transcript.proofs.Arriving.{IsFate, IsAgain, arrives_lands, repeats_again}

@@ -30,7 +30,7 @@ use Rattle.world_model.specs.Did.{happens_all, entries_all, AllAlong, MayAll, Th
 use Rattle.world_model.proofs.Doing.{happens_all-append, entries_all-append}
 use Rattle.world_model.specs.Settling.{Settles}
 use Rattle.world_model.specs.Lines.{IsLine, IsLineRest, IsEffect}
-use Rattle.proof_spoken.specs.Lines.{IsRead}
+use Rattle.world_lines.specs.Done.{IsRead}
 use Rattle.proof_transcript.specs.Told.{IsTold}
 use Rattle.proof_transcript.proofs.Outer.{ArePlain}
 use Rattle.proof_transcript.proofs.Hosts.{LeavesRecords, SameJoined, heard_in, joined_in, joined_here, joined_there}

@@ -32,8 +32,8 @@ use Rattle.world_model.specs.Did.{happens_all, entries_all, MayAll}
 use Rattle.proof_transcript.proofs.Plain.{IsPlain}
 use Rattle.proof_transcript.proofs.Keeping.{Keeps, Airs, IsAsAired, keeps_none}
 use Rattle.proof_transcript.proofs.Arriving.{IsFate, Lands, arrives_lands}
-use Rattle.proof_spoken.specs.Spoken.{Spoken, transcript_of}
-use Rattle.proof_spoken.specs.Lines.{AreDone}
+use Rattle.world_lines.specs.Spoken.{Spoken, transcript_of}
+use Rattle.world_lines.specs.Done.{AreDone}
 use Rattle.proof_transcript.specs.Lines.{IsNoRepeat, RepeatsNone}
 use Rattle.proof_transcript.specs.Fares.{IsHeardBy, MayFareBy}
 use Rattle.proof_transcript.proofs.Events.{Stamps, calm_keeps}

@@ -9,8 +9,9 @@ ghost use Rattle.law_transcript.specs.Payloads.{BeginsWithUnit};
 ghost use Rattle.law_transcript.specs.Stores.{StoresConfirmed};
 ghost use Rattle.proof_host.specs.Laws.{HostLaws};
 ghost use Rattle.world_model.specs.State.{Machine, first_machine};
-ghost use Rattle.proof_spoken.specs.Spoken.{Spoken, AreSpoken, transcript_of};
-ghost use Rattle.proof_spoken.specs.Lines.{AreDone};
+ghost use Rattle.world_lines.specs.Spoken.{Spoken, transcript_of};
+ghost use Rattle.proof_spoken.specs.Spoken.{AreSpoken};
+ghost use Rattle.world_lines.specs.Done.{AreDone};
 
 use host_model::attempts_have_what_they_give;
 use host_requests::callback_ids;

@@ -9,10 +9,10 @@ ghost use Rattle.law_transcript.specs.Restarts.{ticks_asked};
 ghost use Rattle.law_transcript.specs.Table.{table_of};
 ghost use Rattle.world_model.specs.State.{first_machine};
 ghost use Rattle.world_model.specs.Table.{table_entries};
-ghost use Rattle.proof_spoken.specs.Spoken.{Spoken, after_all, transcript_of};
-ghost use Rattle.proof_spoken.specs.Lines.{AreDone};
+ghost use Rattle.world_lines.specs.Spoken.{Spoken, after_all, transcript_of};
+ghost use Rattle.world_lines.specs.Done.{AreDone};
 ghost use Rattle.proof_transcript.specs.Told.{IsTold};
-ghost use Rattle.proof_spoken.specs.Whole.{AreWhole};
+ghost use Rattle.world_lines.specs.Whole.{AreWhole};
 
 use host_keep::texts_give_one_thing;
 use host_model::a_restart_keeps_what_is_held;

@@ -14,9 +14,9 @@ use Rattle.world_model.specs.Did.{entries_all, Nothing, Then, PrefixOf, ThenPref
 use Rattle.world_model.specs.Settling.{Settles}
 use Rattle.world_model.specs.Lines.{IsEffect, IsLineBegin, IsLineRest, IsLine, restart_events}
 use Rattle.world_model.specs.Prefixes.{SettlesPrefix, EffectPrefix, LineRestPrefix, LinePart}
-use Rattle.proof_spoken.specs.Spoken.{Spoken, after, after_all, entries_of, transcript_of}
-use Rattle.proof_spoken.specs.Lines.{AreDone}
-use Rattle.proof_spoken.specs.Whole.{AreWhole}
+use Rattle.world_lines.specs.Spoken.{Spoken, after, after_all, entries_of, transcript_of}
+use Rattle.world_lines.specs.Done.{AreDone}
+use Rattle.world_lines.specs.Whole.{AreWhole}
 use Rattle.proof_walk.specs.Phases.{Phase, Between, Said_line, Begun, Doing, To_tick, Sleeping}
 use Rattle.proof_walk.specs.Paths.{Path, Leads, Begins}
 use Rattle.proof_walk.specs.Paths.Path.{Ends, Turned, Stepped}

@@ -1,4 +1,4 @@
-use Rattle.std.proofs.Common.{◌≡◌, Bool, true, false, ℕ, List, [], ◌∷◌, refl}
+use Rattle.std.proofs.Common.{◌≡◌, Bool, true, false, ℕ, List, [], ◌∷◌, refl, ap, arith}
 use Rattle.std.specs.Prelude.{Option}
 use Rattle.law_host.specs.Nonces.{UsesNonces}
 use Rattle.law_host.specs.Notes.{course_of, first_start}
@@ -23,13 +23,20 @@ again_fails (false ∷ keepings) texts = refl
 pub returns-clause-again : goal.returns-clause-again
 returns-clause-again c = unfit network_key (listing_of (the_lock ∷ [])) first_start nonce_again (λ choices. again_fails choices.keepings choices.texts)
 
+two_one : ◌≡◌ {A = ℕ} 2 1 → ⊥
+two_one e = omega (arith, e)
+
+abbrev first_byte : List ℕ → ℕ
+first_byte [] = 0
+first_byte (byte ∷ bytes) = byte
+
 -- whether the record of the first nonce was kept or not, the second is not the one that is live
 new_fails : (drawn : ℕ → ℕ → List ℕ) (keepings : List Bool) (texts : List (Option (List ℕ)))
     → (course_of (listing_of (the_lock ∷ [])) first_start given_new (record { keepings = keepings; texts = texts })).fits ≡ true
     → UsesNonces network_key drawn (course_of (listing_of (the_lock ∷ [])) first_start given_new (record { keepings = keepings; texts = texts })) → ⊥
 unfolding computing
-new_fails drawn [] texts fits uses = let same = uses.offered.1.0 in cc
-new_fails drawn (true ∷ keepings) texts fits uses = let same = uses.offered.1.0 in cc
+new_fails drawn [] texts fits uses = two_one (ap (λ (nonce : List ℕ). first_byte nonce) uses.offered.1.0)
+new_fails drawn (true ∷ keepings) texts fits uses = two_one (ap (λ (nonce : List ℕ). first_byte nonce) uses.offered.1.0)
 new_fails drawn (false ∷ keepings) texts fits uses = not_true fits
 
 pub returns-clause-new : goal.returns-clause-new

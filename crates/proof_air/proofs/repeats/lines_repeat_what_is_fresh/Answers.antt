@@ -5,7 +5,7 @@ use Rattle.air_frames.proofs.Counted.{IsOf-first}
 use Rattle.chip_sim.specs.Nodes.{none_marked}
 use Rattle.outside_model.specs.State.{first_outer}
 use Rattle.world_model.specs.State.{first_machine}
-use Rattle.proof_spoken.specs.Spoken.{transcript_of}
+use Rattle.world_lines.specs.Spoken.{transcript_of}
 use Rattle.proof_air.proofs.Hearing.{lines_hear}
 use Rattle.proof_air.proofs.Fresh.{repeats_fresh}
 use Rattle.proof_air.proofs.repeats.lines_repeat_what_is_fresh.Goals as goal

@@ -20,8 +20,8 @@ use Rattle.world_model.specs.Did.{MayAll}
 use Rattle.proof_serial.specs.Line.{AreLines}
 use Rattle.run_lines.specs.Pieces.{said_text}
 use Rattle.run_lines.specs.Lines.{TextLine}
-use Rattle.proof_spoken.specs.Spoken.{after_all, transcript_of}
-use Rattle.proof_spoken.specs.Lines.{AreDone, events_of as events_said}
+use Rattle.world_lines.specs.Spoken.{after_all, transcript_of}
+use Rattle.world_lines.specs.Done.{AreDone, events_of as events_said}
 use Rattle.proof_headline.proofs.PlainTying.{was_there}
 use Rattle.proof_headline.specs.Truly.{IsAskable, SucceedsAfterChangeOf}
 use Rattle.proof_headline.specs.Supervised.{IsPlainOrLock, IsSupervisedNode}

@@ -5,7 +5,7 @@ use Rattle.zw_text.specs.declared.entry.Entry.{Entry}
 use Rattle.law_transcript.specs.Fates.{FaresInTurn, LosesMarked, NumbersFrames}
 use Rattle.law_wire.specs.Marks.{CollidesWhenAsked, MarksUnits}
 use Rattle.proof_host.specs.Laws.{HostLaws}
-use Rattle.proof_spoken.specs.Spoken.{transcript_of}
+use Rattle.world_lines.specs.Spoken.{transcript_of}
 use Rattle.proof_transcript.specs.Lines.{RepeatsNone}
 use Rattle.host_core.specs.Network.{keys_of}
 use Rattle.proof_commands.specs.Laws.{Ran, RepeatsNothing, KeepsRecords, first}

@@ -7,8 +7,8 @@ use Rattle.proof_device.specs.GoingOn.{GoOn}
 use Rattle.host_model.specs.State.{HostState}
 use Rattle.world_model.specs.State.{Machine, first_machine}
 use Rattle.proof_once.specs.Tied.{AreTied}
-use Rattle.proof_spoken.specs.Spoken.{after_all}
-use Rattle.proof_spoken.specs.Lines.{events_of}
+use Rattle.world_lines.specs.Spoken.{after_all}
+use Rattle.world_lines.specs.Done.{events_of}
 use Rattle.proof_spoken.proofs.Speaking.{all_after}
 use Rattle.proof_headline.proofs.PlainTying.{was_there}
 use Rattle.proof_headline.proofs.nodes.askable_nodes_have_the_headline.Goals as goal

@@ -1,8 +1,8 @@
 -- The course of the node ties it, and the truth of what the host is told goes line by line.
 use Rattle.std.proofs.Common.{[], Some, refl, sym, subst}
 use Rattle.world_model.specs.State.{Machine, first_machine}
-use Rattle.proof_spoken.specs.Spoken.{after_all}
-use Rattle.proof_spoken.specs.Lines.{events_of}
+use Rattle.world_lines.specs.Spoken.{after_all}
+use Rattle.world_lines.specs.Done.{events_of}
 use Rattle.proof_spoken.proofs.Speaking.{lines_of, all_read, all_lines, all_may, all_after}
 use Rattle.proof_course_plain.specs.World.{HasCourse}
 use Rattle.proof_headline.proofs.PlainTying.{all_name, course_ties, lines_true, plain_at}

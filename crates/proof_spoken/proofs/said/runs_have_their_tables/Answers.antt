@@ -1,6 +1,6 @@
 use Rattle.std.proofs.Common.{[]}
 use Rattle.world_model.specs.State.{first_machine}
-use Rattle.proof_spoken.specs.Spoken.{after_all, transcript_of}
+use Rattle.world_lines.specs.Spoken.{after_all, transcript_of}
 use Rattle.proof_spoken.proofs.said.runs_have_their_tables.Goals as goal
 
 pub returns : goal.returns

@@ -1,6 +1,6 @@
 use Rattle.std.proofs.Common.{[], Some, refl}
 use Rattle.world_model.specs.State.{first_machine}
-use Rattle.proof_spoken.specs.Lines.{events_of}
+use Rattle.world_lines.specs.Done.{events_of}
 use Rattle.proof_spoken.proofs.Speaking.{all_lines, all_may, all_read, lines_of}
 use Rattle.proof_transcript.proofs.Beginning.{first_told}
 use Rattle.proof_transcript.proofs.Ending.{lines_told}

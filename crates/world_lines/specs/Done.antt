@@ -1,30 +1,14 @@
--- What interviews hear, and lines that are said one after another with no word of restarts (this project's own).
+-- Lines that were done, one after another, with no word of restarts; an allocation failure may have cut the last one short (this project's own).
 use Rattle.std.specs.Prelude.{◌≡◌, ℕ, List, [], ◌∷◌, ◌++◌, Ok, Some}
-use Rattle.std.specs.List.{AllByRecursion}
 use Rattle.zw_text.specs.Line.{line_at}
 use Rattle.zw_text.specs.declared.line.Line.{Line}
 use Rattle.zw_text.specs.declared.entry.Entry.TheVariants.{Said}
 use Rattle.zw_text.specs.Transcript.{line_of}
-use Rattle.host_model.specs.Events.{HostEvent, Interviews}
 use Rattle.world_model.specs.State.{Machine}
-use Rattle.world_model.specs.Events.{Event, Host_takes}
+use Rattle.world_model.specs.Events.{Event}
 use Rattle.world_model.specs.Did.{MayAll}
 use Rattle.world_model.specs.Prefixes.{IsLineBefore}
-use Rattle.proof_spoken.specs.Spoken.{Spoken, after}
-
--- ---- interviews
-
--- an interview that ends well hears the list of its node
-abbrev pub HearsList : (ℕ → List ℕ) → HostEvent → Type 0
-HearsList listing (Interviews n listens classes update) = classes ≡ listing n
-HearsList listing event = Unit {0}
-
--- so where the host takes bytes: elsewhere it ends no interview
-abbrev pub HearLists : (ℕ → List ℕ) → Event → Type 0
-HearLists listing (Host_takes count rest items events) = AllByRecursion (HearsList listing) events
-HearLists listing event = Unit {0}
-
--- ---- lines
+use Rattle.world_lines.specs.Spoken.{Spoken, after}
 
 -- a line that was read from a text
 abbrev pub IsRead : Line → Type 0

@@ -2,7 +2,7 @@
 use Rattle.std.specs.Prelude.{List, [], ◌∷◌}
 use Rattle.world_model.specs.State.{Machine}
 use Rattle.world_model.specs.Lines.{IsLine}
-use Rattle.proof_spoken.specs.Spoken.{Spoken, after}
+use Rattle.world_lines.specs.Spoken.{Spoken, after}
 
 -- the events of each are all of its schedule
 abbrev pub AreWhole : Machine → List Spoken → Type 0

@@ -1,0 +1,15 @@
+-- What interviews hear (this project's own).
+use Rattle.std.specs.Prelude.{◌≡◌, ℕ, List}
+use Rattle.std.specs.List.{AllByRecursion}
+use Rattle.host_model.specs.Events.{HostEvent, Interviews}
+use Rattle.world_model.specs.Events.{Event, Host_takes}
+
+-- an interview that ends well hears the list of its node
+abbrev pub HearsList : (ℕ → List ℕ) → HostEvent → Type 0
+HearsList listing (Interviews n listens classes update) = classes ≡ listing n
+HearsList listing event = Unit {0}
+
+-- so where the host takes bytes: elsewhere it ends no interview
+abbrev pub HearLists : (ℕ → List ℕ) → Event → Type 0
+HearLists listing (Host_takes count rest items events) = AllByRecursion (HearsList listing) events
+HearLists listing event = Unit {0}

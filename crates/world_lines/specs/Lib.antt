@@ -1,0 +1,3 @@
+pub mod Spoken
+pub mod Done
+pub mod Whole
