@@ -10,7 +10,7 @@ told, every second, third and so on is taken. What is asked of each:
   memory   status 6, and what was written is a prefix of what the run without a fault writes, up to the end of a line; or all is as in that run
   read     status 4, and just the lines were run whose line feed had been read
   write    status 5, and what was written is such a prefix
-  keep     10 with nothing written, or 9 and a word on standard error, or all is as without a fault
+  keep     10 with nothing written; or a word on standard error, and 9, or 0 where the records have the end of each order; or all is as without a fault
   short    a read, write or call on the file that moves one byte changes nothing; the status and all that is written are the same
 
 Besides each run is made with a broken pipe and with a full disk as its output, which must end with 5, and with no input at all, which must end with 4
@@ -21,6 +21,7 @@ must take it; where memory, a read or a write failed, it is a prefix of the file
 """
 import argparse
 import collections
+import itertools
 import os
 import subprocess
 import sys
@@ -34,6 +35,8 @@ from laws_of_transcripts.judge import violations  # noqa: E402
 
 NO_MEMORY, READ_FAULT, WRITE_FAULT, UNDONE, KEEPER_FAULT = 6, 4, 5, 9, 10
 KINDS = ("memory", "read", "write", "keep")
+# the rows of records that are asked for (docs/RECORDS.md)
+ROW_COMMAND, ROW_BEGIN, ROW_END, SUCCESS = 1, 4, 5, 255
 STATUS = {"memory": NO_MEMORY, "read": READ_FAULT, "write": WRITE_FAULT}
 # name: words, the input (a file of the repository, or what another run wrote) and the most bytes of a read
 RUNS = {
@@ -46,6 +49,14 @@ RUNS = {
 ASKED = b"set 2 on\ninterview 2\nget 2\nprobe\ntick 20\n"
 
 Ended = collections.namedtuple("Ended", "status out said kept")
+
+
+def are_done(kept):
+    """Whether each command of the records has ended with success."""
+    rows = [[int(number) for number in line[1:-1].split(b",")] for line in kept.split(b"\n")[:-1]]
+    carried = {(row[1], row[2]): row[3] for row in rows if row[0] == ROW_BEGIN}
+    done = {carried[row[1], row[2]] for row in rows if row[0] == ROW_END and row[3] == SUCCESS}
+    return {row[1] for row in rows if row[0] == ROW_COMMAND} == done
 
 
 class Faults:
@@ -79,12 +90,16 @@ class Faults:
             os.remove(self.records)
         return self.call(RUNS[name][0], data, self.records if name == "host" else None, **faults)
 
-    def laws(self, name, out):
-        """What the laws say of what was written, once for each text."""
+    def laws(self, name, out, is_whole):
+        """What the laws say of what was written, once for each text; of a table that is not whole they say nothing."""
         if RUNS[name][0][0] not in ("sim", "replay"):
             return None
+        lines = out.decode().split("\n")[:-1]
+        if not is_whole:
+            lines = list(itertools.takewhile(lambda line: not line.startswith("end "), lines))
+        out = tuple(lines)
         if out not in self.judged:
-            found = violations(out.decode().split("\n")[:-1], alone=RUNS[name][0][0] == "replay")
+            found = violations(lines, alone=RUNS[name][0][0] == "replay")
             self.judged[out] = f"{found[0].law}: {found[0].text}" if found else None
         return self.judged[out]
 
@@ -93,9 +108,8 @@ class Faults:
         if is_short or ended[:3] == base[:3] and kind in ("memory", "keep"):
             return None if ended == base else f"{ended.status} in place of {base.status}, or other output"
         if kind == "keep":
-            if ended.status == KEEPER_FAULT and not ended.out and ended.said or ended.status == UNDONE and ended.said:
-                return self.fault_of_records(ended)
-            return f"{ended.status}, said {ended.said!r}"
+            is_right = not ended.out if ended.status == KEEPER_FAULT else ended.status == UNDONE or ended.status == 0 and are_done(ended.kept)
+            return self.fault_of_records(ended) if is_right and ended.said else f"{ended.status}, said {ended.said!r}"
         if ended.status != STATUS[kind] or ended.said:
             return f"{ended.status} in place of {STATUS[kind]}, said {ended.said!r}"
         if not base.out.startswith(ended.out) or name != "host" and ended.out and not ended.out.endswith(b"\n"):
@@ -107,7 +121,7 @@ class Faults:
                 return f"{len(lines)} lines were read"
         if not base.kept.startswith(ended.kept):
             return "the records are no prefix of those without a fault"
-        return self.fault_of_records(ended) if name == "host" else self.laws(name, ended.out)
+        return self.fault_of_records(ended) if name == "host" else self.laws(name, ended.out, False)
 
     def fault_of_records(self, ended):
         """Whether a later run takes the records."""
@@ -152,7 +166,7 @@ class Faults:
         base = self.run(name, data, piece=RUNS[name][2])
         with open(self.sums, encoding="ascii") as file:
             counts = dict(zip(KINDS, map(int, file.read().split())))
-        print(f"{name}: status {base.status}, {len(base.out)} bytes, laws: {self.laws(name, base.out) or 'none broken'}", flush=True)
+        print(f"{name}: status {base.status}, {len(base.out)} bytes, laws: {self.laws(name, base.out, True) or 'none broken'}", flush=True)
         self.broken(name, data)
         for kind in KINDS:
             for is_short in (False, True)[:1 if kind == "memory" else 2]:

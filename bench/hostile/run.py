@@ -24,6 +24,7 @@ import os
 import random
 import re
 import resource
+import signal
 import subprocess
 import sys
 import tempfile
@@ -68,7 +69,7 @@ class Material:
         with open(os.path.join(TOP, "crates", "zwave_console", "stdin"), "rb") as file:
             self.texts["sim"].append(file.read())
         long = scenarios()
-        self.texts["sim"] += [long.scenario(kind, 2000, MOST_READ)[0].encode() for kind in long.KINDS]
+        self.texts["sim"] += [long.scenario(kind, 400, MOST_READ)[0].encode() for kind in long.KINDS]
         for lines in self.texts["sim"][-1 - len(long.KINDS):]:
             self.see(subprocess.run([program, "sim"], input=lines, stdout=subprocess.PIPE, check=True).stdout)
 
@@ -319,11 +320,15 @@ def main():
     options = parser.parse_args()
     material, judge = Material(options.program), Judge(options)
     began, seed = time.monotonic(), options.seed
-    while True:
-        judge.one(Run(material, seed, options.commands.split(","), options.longest), seed)
-        if sum(judge.bytes.values()) >= options.bytes or options.seconds and time.monotonic() - began > options.seconds:
-            break
-        seed += 1
+    signal.signal(signal.SIGTERM, signal.default_int_handler)
+    try:
+        while True:
+            judge.one(Run(material, seed, options.commands.split(","), options.longest), seed)
+            if sum(judge.bytes.values()) >= options.bytes or options.seconds and time.monotonic() - began > options.seconds:
+                break
+            seed += 1
+    except KeyboardInterrupt:
+        print(f"interrupted in the run of seed {seed}")
     judge.sums(seed)
     return 1 if judge.faults else 0
 
