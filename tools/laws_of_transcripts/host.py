@@ -414,7 +414,7 @@ class Host:
     @staticmethod
     def unread(node, payload):
         """A payload that is no message, or does not open, or should have been sealed."""
-        return Owed("EachHasCause", "a payload that cannot be read", "unread", (node.number, payload))
+        return Owed("NotesWhatHappens", "a payload that cannot be read", "unread", (node.number, payload))
 
     def opens(self, node, payload):
         """The text of a Security message for the live nonce, which is spent; None where it opens to none, False where that is not kept."""
@@ -447,7 +447,7 @@ class Host:
     def takes_report(self, node, session, status, wake_request):
         """A Supervision Report: of the open session, and kept, it gives the outcome; another one is old."""
         if not node.open or session != len(node.sessions) % 64:
-            yield Owed("EachHasCause", "a report of another session", "old", (node.number, session))
+            yield Owed("NotesWhatHappens", "a report of another session", "old", (node.number, session))
             return
         if status == 1:
             if node.series == "runs":
@@ -460,7 +460,7 @@ class Host:
         node.segments, node.sealed_for, node.pending = [], None, None
         command = self.commands[node.sessions[-1] - 1]
         command.outcome = OUTCOMES[status]
-        yield Owed("EachHasCause", "a report of the open session is taken", "out", (command.number, command.outcome))
+        yield Owed("NotesWhatHappens", "a report of the open session is taken", "out", (command.number, command.outcome))
         if status == 0xFF:
             for which, value in sorted(command.asked.settings, key=lambda setting: property_order(setting[0])):
                 self.store(node.number, which, value, None)
@@ -479,11 +479,11 @@ class Host:
     def hears_value(self, node, which, value):
         """A value that a node reports."""
         if which not in node.properties() and len(node.properties()) >= orders.MOST_PROPERTIES:
-            yield Owed("EachHasCause", "a value for which there is no room", "unstored", (node.number, property_text(which)))
+            yield Owed("NotesWhatHappens", "a value for which there is no room", "unstored", (node.number, property_text(which)))
             return
         node.heard.add(which)
         self.store(node.number, which, None, value)
-        yield Owed("EachHasCause", "a value that is told", "report", (node.number, property_text(which), value))
+        yield Owed("NotesWhatHappens", "a value that is told", "report", (node.number, property_text(which), value))
 
     def wakes(self, node):
         """A Wake Up Notification."""

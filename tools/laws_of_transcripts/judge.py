@@ -6,7 +6,7 @@ from .reading import SimReading, Violation
 
 KEY = bytes(range(16))
 HOST_LAWS = (
-    "AnswersLines", "CancelsWhenAsked", "KeepsSessions", "CarriesOnce", "SendsWhatIsDue", "EachHasCause", "StoresConfirmed", "KeepsLinks",
+    "AnswersLines", "CancelsWhenAsked", "KeepsSessions", "CarriesOnce", "SendsWhatIsDue", "NotesWhatHappens", "StoresConfirmed", "KeepsLinks",
     "SaysHowDone", "AnswersQuestions", "EndsInterviews", "WakesAsTold", "FallsAsleep", "HoldsAsAsked", "FitsQueue", "SendsInTurn",
     "GivesUpAfterThree", "IsPrompt", "CountsFaults", "ShowsValues", "TellsTime", "EndsWithTable",
 )

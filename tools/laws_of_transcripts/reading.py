@@ -18,7 +18,7 @@ LAW_OF = {
     "accepted": "AnswersLines", "refused": "AnswersLines", "begin": "IsPrompt", "h": "SendsInTurn", "c": "AnswersInOrder",
     "dropped": "MarksUnits", "garbled": "MarksUnits", "overrun": "OverrunsWhenFull", "air": "AirsWhatIsTaken", "heard": "FaresInTurn",
     "lost": "FaresInTurn", "unheard": "FaresInTurn", "dev": "RanAsShown", "forget": "ForgetsDeadHops", "store": "StoresConfirmed",
-    "report": "EachHasCause", "unstored": "EachHasCause", "old": "EachHasCause", "unread": "EachHasCause", "awake": "WakesAsTold",
+    "report": "NotesWhatHappens", "unstored": "NotesWhatHappens", "old": "NotesWhatHappens", "unread": "NotesWhatHappens", "awake": "WakesAsTold",
     "asleep": "FallsAsleep", "interviewed": "EndsInterviews", "uninterviewed": "EndsInterviews", "done": "SaysHowDone",
     "neighbours": "AnswersQuestions", "failed": "AnswersQuestions", "chipfull": "DropsWhenFull", "queuefull": "FitsQueue",
     "held": "HoldsAsAsked", "unkept": "CountsFaults", "cleared": "ClearsLine", "device": "ShowsValues", "json": "ShowsValues",
@@ -29,7 +29,7 @@ LAW_OF_ENDING = {"unanswered": "GivesUpAfterThree", "cancelled": "CancelsWhenAsk
 
 def not_due(entry):
     """An entry that nothing demands breaks the law that speaks of it."""
-    law = LAW_OF_ENDING.get(entry.fields[1], "EachHasCause") if entry.kind == "out" else LAW_OF[entry.kind]
+    law = LAW_OF_ENDING.get(entry.fields[1], "NotesWhatHappens") if entry.kind == "out" else LAW_OF[entry.kind]
     return Broken(law, "nothing demands this entry here")
 
 
