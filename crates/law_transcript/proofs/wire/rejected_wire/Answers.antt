@@ -3,7 +3,6 @@ use Rattle.law_transcript.specs.Units.{Carried}
 use Rattle.law_transcript.proofs.Computing.{computing}
 use Rattle.law_transcript.proofs.wire.rejected_wire.Goals as goal
 
-
 -- the last byte of a payload
 abbrev last_byte : ℕ → List ℕ → ℕ
 last_byte before [] = before
