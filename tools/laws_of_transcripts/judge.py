@@ -8,14 +8,14 @@ KEY = bytes(range(16))
 HOST_LAWS = (
     "AnswersLines", "CancelsWhenAsked", "KeepsSessions", "CarriesOnce", "SendsWhatIsDue", "NotesWhatHappens", "StoresConfirmed", "KeepsLinks",
     "SaysHowDone", "AnswersQuestions", "EndsInterviews", "WakesAsTold", "FallsAsleep", "HoldsAsAsked", "FitsQueue", "SendsInTurn",
-    "GivesUpAfterThree", "IsPrompt", "CountsFaults", "ShowsValues", "TellsTime", "EndsWithTable",
+    "GivesUpAfterThree", "RestsWell", "CountsFaults", "ShowsValues", "TellsTime", "EndsWithTable",
 )
 WORLD_LAWS = (
     "CollidesWhenAsked", "MarksUnits", "OverrunsWhenFull", "ClearsLine", "AnswersInOrder", "DropsWhenFull", "AirsWhatIsTaken", "NumbersFrames",
     "GoesByRoute", "FaresInTurn", "MeetsWhatIsDue", "RepeatsWhatIsAsked", "ForgetsDeadHops", "RanAsShown", "ChangesOnce", "ChangesWhole",
     "SucceedsAfterChange", "EndsTruly", "ConfirmsLast",
 )
-PROMPT_LAWS = ("IsPrompt", "SendsInTurn", "FitsQueue", "GivesUpAfterThree")
+PROMPT_LAWS = ("RestsWell", "SendsInTurn", "FitsQueue", "GivesUpAfterThree")
 WHOLES = {
     "IsHostLegal": HOST_LAWS,
     "IsLegal": tuple(law for law in HOST_LAWS if law not in PROMPT_LAWS) + WORLD_LAWS,

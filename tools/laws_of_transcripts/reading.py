@@ -15,7 +15,7 @@ HOST_NOTES = ("begin", "out", "store", "report", "unstored", "old", "unread", "a
               "neighbours", "failed", "queuefull", "held", "unkept")
 # the law that speaks of an entry which nothing demands
 LAW_OF = {
-    "accepted": "AnswersLines", "refused": "AnswersLines", "begin": "IsPrompt", "h": "SendsInTurn", "c": "AnswersInOrder",
+    "accepted": "AnswersLines", "refused": "AnswersLines", "begin": "RestsWell", "h": "SendsInTurn", "c": "AnswersInOrder",
     "dropped": "MarksUnits", "garbled": "MarksUnits", "overrun": "OverrunsWhenFull", "air": "AirsWhatIsTaken", "heard": "FaresInTurn",
     "lost": "FaresInTurn", "unheard": "FaresInTurn", "dev": "RanAsShown", "forget": "ForgetsDeadHops", "store": "StoresConfirmed",
     "report": "NotesWhatHappens", "unstored": "NotesWhatHappens", "old": "NotesWhatHappens", "unread": "NotesWhatHappens", "awake": "WakesAsTold",

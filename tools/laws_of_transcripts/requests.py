@@ -19,7 +19,7 @@ class OwedUnit(Owed):
     """A request is written next: an unsealed one byte for byte, a sealed or drawn text as its test says."""
 
     def __init__(self, request, rule):
-        Owed.__init__(self, "IsPrompt", rule, "h", (request.function,))
+        Owed.__init__(self, "RestsWell", rule, "h", (request.function,))
         self.request = request
 
     def met_by(self, entry):
@@ -49,7 +49,7 @@ class OwedBegin(Owed):
     """A session begins next."""
 
     def __init__(self, node, session, command):
-        Owed.__init__(self, "IsPrompt", "a waiting command of a node that is awake", "begin", (node, session, command))
+        Owed.__init__(self, "RestsWell", "a waiting command of a node that is awake", "begin", (node, session, command))
 
     def broken_by(self, entry):
         broken = Owed.broken_by(self, entry)
