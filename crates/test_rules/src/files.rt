@@ -76,11 +76,7 @@ fn add_record<K: Keeper>(
 }
 
 /// Adds all records of the keeper, and answers whether all were read.
-fn add_all<K: Keeper>(
-    alloc: Global,
-    keeper: &mut K,
-    text: &mut Bytes,
-) -> Result<bool, NoMemory> {
+fn add_all<K: Keeper>(alloc: Global, keeper: &mut K, text: &mut Bytes) -> Result<bool, NoMemory> {
     for at in 0..keeper.count() {
         if !add_record(alloc, keeper, at, text)? {
             return Ok(false);
@@ -118,10 +114,12 @@ fn what_was_kept_is_found_wherever_a_call_fails(rt: HostRuntime) -> Result<(), F
 
 /// Whether two records are not kept, each with a fault.
 fn fails_twice(keeper: &mut FileKeeper<MemoryStore>) -> Result<bool, NoMemory> {
-    Ok(!keeps(keeper, b"[2,3]")?
-        && !keeps(keeper, b"[2,4]")?
-        && keeper.count() == 1
-        && keeper.faults() == 2)
+    Ok(
+        !keeps(keeper, b"[2,3]")?
+            && !keeps(keeper, b"[2,4]")?
+            && keeper.count() == 1
+            && keeper.faults() == 2,
+    )
 }
 
 /// Whether the first record is not read.
@@ -132,7 +130,9 @@ fn is_closed<K: Keeper>(alloc: Global, keeper: &mut K) -> bool {
 #[test]
 fn a_keeper_that_cannot_undo_fails_from_then_on(rt: HostRuntime) -> Result<(), Fail> {
     let mut keeper = keeper_over(rt.alloc(), HELD, &[4, 5])?;
-    let is_so = opens(&mut keeper) && fails_twice(&mut keeper)? && is_closed(rt.alloc(), &mut keeper);
+    let is_so = opens(&mut keeper)
+        && fails_twice(&mut keeper)?
+        && is_closed(rt.alloc(), &mut keeper);
     assert!(rt; is_so);
     Ok(())
 }
