@@ -63,11 +63,10 @@ all_written side (one ∷ moments) = writes_last one.steps (unit_by side one.eve
 
 pub write_all : (side : Side) (moments : List Moment) → all_written side moments ≡ true → AllByRecursion (WritesThere side) moments
 write_all side [] are = tt
-write_all side (one ∷ moments) are =
-    (
-      write_last one.steps (unit_by side one.event) (first_of _ _ are),
-      write_all side moments (second_of (writes_last one.steps (unit_by side one.event)) _ are),
-    )
+write_all side (one ∷ moments) are = (
+  write_last one.steps (unit_by side one.event) (first_of _ _ are),
+  write_all side moments (second_of (writes_last one.steps (unit_by side one.event)) _ are),
+)
 
 -- ---- hearing
 

@@ -102,8 +102,7 @@ chip_obeys : (h : List Step) (link : LinkSide) (events : List SerialEvent) (acts
 chip_obeys h link [] acts obeys = (link, subst (λ (all : List Step). SideObeys all link) (sym (append-nil h)) obeys)
 chip_obeys h link (event ∷ events) [] obeys = (link, subst (λ (all : List Step). SideObeys all link) (sym (append-nil h)) obeys)
 chip_obeys h link (event ∷ events) (now ∷ acts) obeys =
-    let later = chip_obeys (h ++ run link now) (link_after link now) events acts (obeys_run h link now obeys) in
-    (
+    let later = chip_obeys (h ++ run link now) (link_after link now) events acts (obeys_run h link now obeys) in (
       later.0,
       subst (λ (all : List Step). SideObeys all later.0)
           (append_assoc h (run link now) (steps_in (moments_of events (parts_of Chip (link_after link now) events acts)))) later.1,

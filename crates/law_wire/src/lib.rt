@@ -48,9 +48,7 @@ pub use marks::{
     rejected_answers_by, rejected_losses, rejected_marks, worked_answers_by, worked_collisions,
     worked_losses, worked_marks,
 };
-pub use moments::{
-    rejected_hearing, rejected_ticks, worked_asking, worked_hearing, worked_ticks,
-};
+pub use moments::{rejected_hearing, rejected_ticks, worked_asking, worked_hearing, worked_ticks};
 pub use networks::{worked_air_links, worked_repeaters, worked_table};
 pub use pipes::{rejected_pipes, rejected_room, worked_bytes, worked_pipes, worked_room};
 pub use records::{rejected_records, worked_records};
