@@ -290,7 +290,9 @@ drops_each devices course past (entry ∷ rest) nothing few =
 
 pub drops_when_few : (devices : List State) (course : Course) (transcript : List Entry) → drops_nothing transcript ≡ true
     → nat_le (length (given devices course transcript)) 32 ≡ true → DropsWhenFull devices course transcript
-drops_when_few devices course transcript nothing few = drops_each devices course [] transcript nothing (leb-true _ _ few)
+drops_when_few devices course transcript nothing few =
+    let all : length (shown_after (given_at devices course) [] transcript) ≤ 32 = leb-true _ _ few in
+    drops_each devices course [] transcript nothing (omega (arith, all))
 
 -- where a line or tick begins
 abbrev pub is_turn : List Entry → Entry → Bool
