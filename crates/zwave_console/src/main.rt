@@ -121,7 +121,8 @@ fn records_name(rt: &HostRuntime, words: &[String]) -> Result<Option<String>, St
     match env::var(rt, RECORDS) {
         Ok(name) => Ok(Some(name)),
         Err(VarError::NotPresent) => Ok(None),
-        Err(_) => {
+        Err(VarError::OutOfMemory) => Err(Status::NoMemory),
+        Err(VarError::NotUnicode) => {
             let _ = eprintln!(rt; "zwave_console: {RECORDS} is not UTF-8");
             Err(Status::KeeperFault)
         }

@@ -41,22 +41,24 @@ silent = keeps_link Host (ended true lines) (acts_of Host (ended true lines)) re
 pub returns : goal.returns
 unfolding computing
 returns c = record {
-  answers = answered;
-  answered = λ whole. tt;
-  cancels = (tt, (tt, (tt, (tt, (tt, (tt, (tt, (tt, (tt, (tt, (tt, (tt, (tt, tt)))))))))))));
-  sessions = (tt, (tt, (tt, (tt, (tt, (tt, (tt, (tt, (tt, (tt, (tt, (tt, (tt, tt)))))))))))));
-  carries = λ node. record { commands_rise = tt; commands_accepted = tt };
-  link = silent;
-  notes = noted [] listing first_start lines all_kept refl;
-  stores = record { asked = ([], refl); all = λ whole. refl; following = (tt, (tt, (tt, (tt, (tt, (tt, (tt, (tt, (tt, (tt, (tt, (tt, (tt, tt))))))))))))) };
-  values = (tt, (tt, (tt, (tt, (tt, (tt, (tt, (tt, (tt, (tt, (tt, (tt, (tt, tt)))))))))))));
-  sends = (tt, (tt, (tt, (tt, (tt, (tt, (tt, (tt, (tt, (tt, (tt, (tt, (tt, tt)))))))))))));
-  begins = (tt, (tt, (tt, (tt, (tt, (tt, (tt, (tt, (tt, (tt, (tt, (tt, (tt, tt)))))))))))));
-  fits = kept (may_queue listing) lines refl;
-  turn = kept (may_send listing) lines refl;
-  one_by_one = kept may_follow lines refl;
-  numbers = kept may_number lines refl;
-  prompt = kept (may_rest listing) lines refl;
-  rested = λ whole. refl;
-  records_kept = tt;
+  refused = record {
+    answers = answered;
+    answered = λ whole. tt;
+    cancels = (tt, (tt, (tt, (tt, (tt, (tt, (tt, (tt, (tt, (tt, (tt, (tt, (tt, tt)))))))))))));
+    sessions = (tt, (tt, (tt, (tt, (tt, (tt, (tt, (tt, (tt, (tt, (tt, (tt, (tt, tt)))))))))))));
+    carries = λ node. record { commands_rise = tt; commands_accepted = tt };
+    link = silent;
+    notes = noted [] listing first_start lines all_kept refl;
+    stores = record { asked = ([], refl); all = λ whole. refl; following = (tt, (tt, (tt, (tt, (tt, (tt, (tt, (tt, (tt, (tt, (tt, (tt, (tt, tt))))))))))))) };
+    values = (tt, (tt, (tt, (tt, (tt, (tt, (tt, (tt, (tt, (tt, (tt, (tt, (tt, tt)))))))))))));
+    sends = (tt, (tt, (tt, (tt, (tt, (tt, (tt, (tt, (tt, (tt, (tt, (tt, (tt, tt)))))))))))));
+    begins = (tt, (tt, (tt, (tt, (tt, (tt, (tt, (tt, (tt, (tt, (tt, (tt, (tt, tt)))))))))))));
+    fits = kept (may_queue listing) lines refl;
+    turn = kept (may_send listing) lines refl;
+    one_by_one = kept may_follow lines refl;
+    numbers = kept may_number lines refl;
+    prompt = kept (may_rest listing) lines refl;
+    rested = λ whole. refl;
+    records_kept = tt;
+  };
 }
