@@ -12,12 +12,14 @@ use Rattle.proof_commands.proofs.laws.stories_keep_air_laws.Goals as goal
 pub returns-clause-numbers : goal.returns-clause-numbers
 returns-clause-numbers c = λ key old new story unentered is.
     subst (λ (l : List Entry). NumbersFrames l) (same_transcript (first key old) story)
-    (c.lines_number_frames.ensures (keys_of key) old.records old.devices (all_said story) (story_done c.lines_are_read_as_said.ensures key old new story unentered is))
+    (c.lines_number_frames.ensures (keys_of key) old.records old.devices (all_said story)
+    (story_done c.lines_are_read_as_said.ensures key old new story unentered is))
 
 pub returns-clause-loses : goal.returns-clause-loses
 returns-clause-loses c = λ key old new story unentered is.
     subst (λ (l : List Entry). LosesMarked l) (same_transcript (first key old) story)
-    (c.lines_lose_marked_frames.ensures (keys_of key) old.records old.devices (all_said story) (story_done c.lines_are_read_as_said.ensures key old new story unentered is))
+    (c.lines_lose_marked_frames.ensures (keys_of key) old.records old.devices (all_said story)
+    (story_done c.lines_are_read_as_said.ensures key old new story unentered is))
 
 -- they repeat none either
 none_said : (story : List Ran) → RepeatsNothing story → AllByRecursion RepeatsNone (all_said story)
@@ -27,4 +29,5 @@ none_said (ran ∷ more) none = (none.0, none_said more none.1)
 pub returns-clause-fares : goal.returns-clause-fares
 returns-clause-fares c = λ key old new story unentered is none.
     subst (λ (l : List Entry). FaresInTurn l) (same_transcript (first key old) story)
-    (c.lines_fare_in_turn.ensures (keys_of key) old.records old.devices (all_said story) (none_said story none) (story_done c.lines_are_read_as_said.ensures key old new story unentered is))
+    (c.lines_fare_in_turn.ensures (keys_of key) old.records old.devices (all_said story) (none_said story none)
+    (story_done c.lines_are_read_as_said.ensures key old new story unentered is))
