@@ -173,8 +173,12 @@ told_of (line ∷ lines) old new (mid, (events, is, run), rest) =
     let some = entries_all old.machine events in
     record {
       transcript = said line ++ (some ++ later.transcript);
-      tale = tale_on line lines events old.machine new.machine later.transcript is run.may (subst (λ (m : Machine). Tale lines m new.machine later.transcript) run.state later.tale);
-      counted = one_more (said_text line.text) old.entries some later.transcript new.entries (subst (λ (l : List Entry). SameCounted new.entries (l ++ later.transcript)) run.entries later.counted);
+      tale =
+          tale_on line lines events old.machine new.machine later.transcript is run.may
+          (subst (λ (m : Machine). Tale lines m new.machine later.transcript) run.state later.tale);
+      counted =
+          one_more (said_text line.text) old.entries some later.transcript new.entries
+          (subst (λ (l : List Entry). SameCounted new.entries (l ++ later.transcript)) run.entries later.counted);
     }
 
 -- ---- the run
@@ -242,7 +246,8 @@ module _ (again : ReadAgain) (tables : TablesShown) (hundreds : ℕ) (key : List
   }
 
 module _ (again : ReadAgain) (tables : TablesShown) (key : List ℕ) (old new : Around) (hundreds : ℕ) where
-  pub generate_told : (ended : Status) → RunsGenerate ended hundreds key old new → (ended ≡ status.NoMemory → ⊥) → (story : List Ran) × Tells ended hundreds key old new story
+  pub generate_told : (ended : Status) → RunsGenerate ended hundreds key old new → (ended ≡ status.NoMemory → ⊥)
+      → (story : List Ran) × Tells ended hundreds key old new story
   generate_told status.Ok (text, sums, writes) memory = (_, tells again tables hundreds key old new text sums status.Ok writes)
   generate_told status.WriteFault (text, sums, writes) memory = (_, tells again tables hundreds key old new text sums status.WriteFault writes)
   generate_told status.NoMemory ran memory = absurd (memory refl)

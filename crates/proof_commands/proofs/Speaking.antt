@@ -62,6 +62,7 @@ all_done again m (ran ∷ more) read are may = (
 -- ---- of a run
 
 -- the lines of its story were said and done
-pub story_done : ReadAgain → (key : List ℕ) (old new : Around) (story : List Ran) (unentered : List Event) → IsStory key old new story unentered → AreDone (first key old) (all_said story)
+pub story_done : ReadAgain → (key : List ℕ) (old new : Around) (story : List Ran) (unentered : List Event) → IsStory key old new story unentered
+    → AreDone (first key old) (all_said story)
 story_done again key old new story unentered is =
     all_done again (first key old) story is.read is.begun (may_prefix (first key old) (events_of story) unentered is.may)

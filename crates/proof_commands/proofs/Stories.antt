@@ -38,7 +38,8 @@ pub no_tale : (m m' : Machine) (T : List Entry) → m' ≡ m → T ≡ [] → Ta
 no_tale m m' T stays none = record { story = []; lines_are = refl; schedules = tt; may = tt; state = stays; entered = none }
 
 -- one line before others
-pub tale_on : (line : TextLine Line) (lines : List (TextLine Line)) (events : List Event) (m m' : Machine) (T : List Entry) → IsLine line.line m events → MayAll m events
+pub tale_on : (line : TextLine Line) (lines : List (TextLine Line)) (events : List Event) (m m' : Machine) (T : List Entry) → IsLine line.line m events
+    → MayAll m events
     → Tale lines (happens_all m events) m' T → Tale (line ∷ lines) m m' (said line ++ (entries_all m events ++ T))
 tale_on line lines events m m' T is may tale = record {
   story = record { line = line; events = events } ∷ tale.story;
@@ -109,7 +110,8 @@ none_unentered m story begun = record {
 -- ---- all lines were run whole
 
 module _ (end : LinesEnd) (lines all : List (TextLine Line)) (m m' : Machine) (T : List Entry)
-    (run : (story : List Ran) → lines_of story ≡ lines → AreRun end story all) (ends : (story : List Ran) → EndsWhole m story [] m' → EndsAs end m story [] m') where
+    (run : (story : List Ran) → lines_of story ≡ lines → AreRun end story all)
+    (ends : (story : List Ran) → EndsWhole m story [] m' → EndsAs end m story [] m') where
   whole_story : Tale lines m m' T → Story end all m m' T
   whole_story tale =
       let all_of : events_of tale.story ++ [] ≡ events_of tale.story = append-nil (events_of tale.story) in
@@ -207,7 +209,9 @@ cut_story lines line m mid new T some tale stops =
       begun = begun_following m prefix line stops.whole tale.schedules (subst (λ (x : Machine). LinePart line.line x stops.whole) there stops.prefix);
       may = subst (λ (l : List Event). MayAll m l) (sym all) (may_all-append m (events_of prefix) part tale.may (subst (λ (x : Machine). MayAll x part) there stops.may));
       entered = part_entered m prefix line stops.whole T some mid.machine tale.entered there stops.entered;
-      rest = part_unentered m prefix line stops.whole stops.last stops.kept tale.schedules (subst (λ (x : Machine). LinePart line.line x (stops.whole ++ last_of stops.last)) there stops.moved) stops.of_host;
+      rest =
+          part_unentered m prefix line stops.whole stops.last stops.kept tale.schedules
+          (subst (λ (x : Machine). LinePart line.line x (stops.whole ++ last_of stops.last)) there stops.moved) stops.of_host;
       ends = tt;
       devices = stops.devices ∙ ap (λ (x : Machine). x.outside.devices) after;
       records = stops.records ∙ ap (λ (x : Machine). x.records) after;
@@ -248,9 +252,12 @@ story_of : (end : LinesEnd) (lines : List (TextLine Line)) (old new : Point) (T 
 story_of All lines old new T ran = whole_story All lines lines old.machine new.machine T (λ story are. are) (λ story whole. whole) (tale_of lines old new T ran)
 story_of (Bad number fault) lines old new T ran =
     whole_story (Bad number fault) lines lines old.machine new.machine T (λ story are. are) (λ story whole. whole) (tale_of lines old new T ran)
-story_of ReadFailed lines old new T ran = whole_story ReadFailed lines lines old.machine new.machine T (λ story are. are) (λ story whole. whole) (tale_of lines old new T ran)
-story_of TooMuch lines old new T ran = whole_story TooMuch lines lines old.machine new.machine T (λ story are. are) (λ story whole. whole) (tale_of lines old new T ran)
-story_of WriteFailed lines old new T ran = whole_story WriteFailed lines lines old.machine new.machine T (λ story are. are) (λ story whole. whole) (tale_of lines old new T ran)
+story_of ReadFailed lines old new T ran =
+    whole_story ReadFailed lines lines old.machine new.machine T (λ story are. are) (λ story whole. whole) (tale_of lines old new T ran)
+story_of TooMuch lines old new T ran =
+    whole_story TooMuch lines lines old.machine new.machine T (λ story are. are) (λ story whole. whole) (tale_of lines old new T ran)
+story_of WriteFailed lines old new T ran =
+    whole_story WriteFailed lines lines old.machine new.machine T (λ story are. are) (λ story whole. whole) (tale_of lines old new T ran)
 story_of NoMemory lines old new T ran = some_story lines old new T ran
 
 pub has_story : (ended : Status) (key : List ℕ) (old new : Around) (quiet : Bool) → RunsSim ended quiet key old new

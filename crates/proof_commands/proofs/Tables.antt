@@ -47,7 +47,8 @@ TablesShown = (keys : Keys) (devices : List State) (lines : List Spoken) →
     AreDone m lines → AreWhole m lines → table_entries (after_all m lines)
     ≡ table_of (listing_of devices) (ticks_asked (lines_run (transcript_of m lines))) (transcript_of m lines) (after_all m lines).outside.devices
 
-module _ (again : ReadAgain) (tables : TablesShown) (key : List ℕ) (old new : Around) (story : List Ran) (is : IsStory key old new story []) (schedules : AreSchedules (first key old) story)
+module _ (again : ReadAgain) (tables : TablesShown) (key : List ℕ) (old new : Around) (story : List Ran) (is : IsStory key old new story [])
+    (schedules : AreSchedules (first key old) story)
     (tells : TellsAtRestarts old story) where
   told : ToldStory key old story
   told = story_told key old new story [] is tells
@@ -82,8 +83,10 @@ record EndsWell (m : Machine) (story : List Ran) (unentered : List Event) (point
   pub table : Appends between all (text_of pieces)
 
 ends_well : (end : LinesEnd) (m : Machine) (story : List Ran) (unentered : List Event) (point : Point) (written between all : Option (List ℕ)) (text : List ℕ)
-    → EndsAs end m story unentered point.machine → WrittenTo end written between text → Closes IsTable end Ok point between all → EndsWell m story unentered point written between all text
-ends_well All m story unentered point written between all text whole told (pieces, are, table) = record { whole = whole; told = told; pieces = pieces; are = are; table = table }
+    → EndsAs end m story unentered point.machine → WrittenTo end written between text → Closes IsTable end Ok point between all
+    → EndsWell m story unentered point written between all text
+ends_well All m story unentered point written between all text whole told (pieces, are, table) =
+    record { whole = whole; told = told; pieces = pieces; are = are; table = table }
 ends_well (Bad number fault) m story unentered point written between all text whole told closes = absurd closes
 ends_well ReadFailed m story unentered point written between all text whole told closes = let bad = closes.0 in absurd cc
 ends_well TooMuch m story unentered point written between all text whole told closes = let bad = closes.0 in absurd cc
@@ -95,7 +98,8 @@ unfolding IsTable
 table_text point pieces are = ap text_of are ∙ pieces_text false (table_entries point.machine)
 
 module _ (again : ReadAgain) (tables : TablesShown) where
-  pub writes_table : (key : List ℕ) (old new : Around) (quiet : Bool) (story : List Ran) (unentered : List Event) → Tells Ok quiet key old new story unentered → TellsAtRestarts old story
+  pub writes_table : (key : List ℕ) (old new : Around) (quiet : Bool) (story : List Ran) (unentered : List Event)
+      → Tells Ok quiet key old new story unentered → TellsAtRestarts old story
       → WritesTable quiet key old new story
   writes_table key old new quiet story unentered tells restarts =
       let told = tells.ran.told in

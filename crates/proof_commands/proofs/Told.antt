@@ -91,7 +91,8 @@ pub record Restarting : Type 0 where
       → MayAll m events → AllKeepWell m events → AllStartWell m events × IsHeld (happens_all m events).host.state (happens_all m events).records
 
 starts_by : Restarting → (key : List ℕ) (old : Around) (story : List Ran) (restarts : Bool) → has_restart story ≡ restarts
-    → Facts [] (first key old).host.state → AreBegun (first key old) story → MayAll (first key old) (events_of story) → KeepsRecords key old story → AllStartWell (first key old) (events_of story)
+    → Facts [] (first key old).host.state → AreBegun (first key old) story → MayAll (first key old) (events_of story) → KeepsRecords key old story
+    → AllStartWell (first key old) (events_of story)
 starts_by laws key old story true is facts begun may well =
     (laws.goes_on [] (first key old) (events_of story) facts (laws.held (keys_of key) old.records (well.empty is)) may well.well).0
 starts_by laws key old story false is facts begun may well =

@@ -1,4 +1,4 @@
--- The records of the keeper are read at a `restart` alone: lines that are none go the same way over a keeper that holds other records, and have the same entries.
+-- The records of the keeper are read at a `restart` alone: lines that are none go the same way over a keeper that holds other records, with the same entries.
 use Rattle.std.proofs.Common.{◌≡◌, ℕ, zero, suc, Bool, true, false, ◌||◌, List, [], ◌∷◌, ◌++◌, length, map, inl, inr, refl, sym, ap, subst, ◌∙◌}
 use Rattle.std.specs.Prelude.{Option, Some, None}
 use Rattle.std.specs.List.{AllByRecursion}
@@ -67,7 +67,8 @@ enters_over m records (Restarts state) = refl
 abbrev kept_after : Machine → Records → List Event → Records
 kept_after m records events = (happens_all (over m records) events).records
 
-pub all_over : (m : Machine) (records : Records) (events : List Event) → happens_all (over m records) events ≡ over (happens_all m events) (kept_after m records events)
+pub all_over : (m : Machine) (records : Records) (events : List Event)
+    → happens_all (over m records) events ≡ over (happens_all m events) (kept_after m records events)
 all_over m records [] = refl
 all_over m records (event ∷ events) =
     let kept = (happens (over m records) event).records in

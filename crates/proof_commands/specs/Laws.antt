@@ -238,11 +238,13 @@ HasHeadline key old new = InFairRuns key old new
 
 -- success of a command of such a node is reported after its change
 abbrev pub ReportsAfterChange : List ℕ → Around → Around → Type 0
-ReportsAfterChange key old new = InFairRuns key old new (λ story. (node : ℕ) → IsSupervisedNode old.devices node → SucceedsAfterChangeOf node (transcript key old story))
+ReportsAfterChange key old new =
+    InFairRuns key old new (λ story. (node : ℕ) → IsSupervisedNode old.devices node → SucceedsAfterChangeOf node (transcript key old story))
 
 -- The whole headline, where node 2 has a device whose kind lists Supervision. The host takes node 2 for a switch from the start, so it may be asked whatever its device is; of all other nodes no more is assumed.
 abbrev pub HasWholeHeadline : List ℕ → Around → Around → Type 0
-HasWholeHeadline key old new = InFairRuns key old new (λ story. IsSupervisedNode old.devices first_node → Headline old.devices new.devices (transcript key old story))
+HasWholeHeadline key old new =
+    InFairRuns key old new (λ story. IsSupervisedNode old.devices first_node → Headline old.devices new.devices (transcript key old story))
 
 -- ---- all of them
 

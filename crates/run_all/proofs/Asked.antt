@@ -1,8 +1,7 @@
 -- What was asked, and how the program ends.
-use Rattle.std.proofs.Common.{◌≡◌, ◌≢◌, ◌≤◌, ◌⊎◌, inl, inr, ℕ, List, [], ◌∷◌, drop, String, Bool, Option, Result, Ok, Err, refl, sym, ap, subst, ◌∙◌, arith}
+use Rattle.std.proofs.Common.{◌≡◌, ◌≢◌, ◌≤◌, ◌⊎◌, inl, ℕ, List, [], ◌∷◌, drop, String, Bool, Option, Ok, sym, ap, subst, ◌∙◌, arith}
 use Rattle.zw_words.specs.declared.side.Side.{Side}
 use Rattle.device_sim.specs.State.{State}
-use Rattle.run_lines.specs.Complete.{IsDone}
 use Rattle.run_lines.specs.Run.{Closes}
 use Rattle.run_lines.specs.Status.{code_of}
 use Rattle.run_lines.specs.declared.running.LinesEnd.{LinesEnd}

@@ -68,11 +68,13 @@ module _ (laws : Laws) (key : List ℕ) (old : Around) (story : List Ran) (fair 
 
   plain_or_lock : (node : ℕ) → IsSupervisedNode old.devices node → IsPlainOrLock (keys_of key) old.devices (events_said (all_said story)) node
   plain_or_lock node supervised = subst (λ (events : List Event). IsPlainOrLock (keys_of key) old.devices events node) (sym (same_events story))
-      (as_network laws.are key old.devices (plain_lines story) (events_of story) node fair.made (story_lines (fresh key old) story fair.told.begun) fair.told.may supervised)
+      (as_network laws.are key old.devices (plain_lines story) (events_of story) node fair.made
+      (story_lines (fresh key old) story fair.told.begun) fair.told.may supervised)
 
 -- ---- a story, and the story with what its last line did besides
 
-module _ (key : List ℕ) (old new : Around) (story : List Ran) (unentered : List Event) (is : IsStory key old new story unentered) (fair : IsFairRun key old story) where
+module _ (key : List ℕ) (old new : Around) (story : List Ran) (unentered : List Event) (is : IsStory key old new story unentered)
+    (fair : IsFairRun key old story) where
   told : ToldStory key old story
   told = story_told key old new story unentered is fair.told
 
@@ -120,10 +122,13 @@ returns-clause-one c = λ key old new story unentered is fair node device found 
     let f = fairly key old new story unentered is fair in
     let g = further_fairly key old new story unentered is fair in
     let was = was_there node d new.devices device
-    (subst (λ (l : List State). AreSame d l) (sym is.devices) (c.runs_take_once.ensures.same (keys_of key) old.records d (events_of story ++ unentered))) found in
-    let supervised : IsSupervisedNode d node = record { device = was.before; first = was.found; supervised = ap (λ (k : Kind). lists k 0x6C) (sym was.kind) ∙ knows } in
+    (subst (λ (l : List State). AreSame d l) (sym is.devices)
+    (c.runs_take_once.ensures.same (keys_of key) old.records d (events_of story ++ unentered))) found in
+    let knew = ap (λ (k : Kind). lists k 0x6C) (sym was.kind) ∙ knows in
+    let supervised : IsSupervisedNode d node = record { device = was.before; first = was.found; supervised = knew } in
     subst (λ (l : List Entry). HeadlineOf (listing_of d) node l device) (reads_as key old new story unentered is fair)
-    (c.nodes_have_the_headline.ensures (keys_of key) d (all_said story) (all_said on) node device (plain_or_lock laws key old on g node supervised) (laws.unchanged key d fair.made)
+    (c.nodes_have_the_headline.ensures (keys_of key) d (all_said story) (all_said on) node device (plain_or_lock laws key old on g node supervised)
+    (laws.unchanged key d fair.made)
     (done laws key old story f) (done laws key old on g) (host_is key old new story unentered is fair)
     (subst (λ (l : List State). device_of node l ≡ Some device) (devices_are key old new story unentered is fair) found) knows)
 
@@ -136,7 +141,8 @@ returns-clause-after_change c = λ key old new story unentered is fair node supe
     } in
     let f = fairly key old new story unentered is fair in
     subst (λ (l : List Entry). SucceedsAfterChangeOf node l) (reads_as key old new story unentered is fair)
-    (c.nodes_report_after_the_change.ensures (keys_of key) old.devices (all_said story) node (plain_or_lock laws key old story f node supervised) (laws.unchanged key old.devices fair.made)
+    (c.nodes_report_after_the_change.ensures (keys_of key) old.devices (all_said story) node (plain_or_lock laws key old story f node supervised)
+    (laws.unchanged key old.devices fair.made)
     (done laws key old story f))
 
 pub returns-clause-whole : goal.returns-clause-whole
@@ -152,6 +158,7 @@ returns-clause-whole c = λ key old new story unentered is fair first_is.
     let g = further_fairly key old new story unentered is fair in
     subst (λ (l : List State). Headline d l (transcript key old story)) (sym (devices_are key old new story unentered is fair))
     (subst (λ (l : List Entry). Headline d (after_all (fresh key old) (all_said on)).outside.devices l) (reads_as key old new story unentered is fair)
-    (c.askable_nodes_have_the_headline.ensures (keys_of key) d (all_said story) (all_said on) (λ node askable. plain_or_lock laws key old story f node (askable_supervised d node first_is askable))
+    (c.askable_nodes_have_the_headline.ensures (keys_of key) d (all_said story) (all_said on) (λ node askable. plain_or_lock laws key old story f node
+    (askable_supervised d node first_is askable))
     (λ node askable. plain_or_lock laws key old on g node (askable_supervised d node first_is askable)) (laws.unchanged key d fair.made)
     (done laws key old story f) (done laws key old on g) (host_is key old new story unentered is fair)))

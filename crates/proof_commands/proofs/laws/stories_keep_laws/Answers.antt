@@ -22,7 +22,8 @@ record Keeping : Type 0 where
   aside : (past : List Entry) (h : HostState) (entry : Entry) → Facts past h → IsAside entry → Facts (past ++ entry ∷ []) h
   restarting : Restarting
 
-keeps : Keeping → (key : List ℕ) (old new : Around) (story : List Ran) (unentered : List Event) → Facts [] (first key old).host.state → IsStory key old new story unentered → KeepsRecords key old story
+keeps : Keeping → (key : List ℕ) (old new : Around) (story : List Ran) (unentered : List Event) → Facts [] (first key old).host.state
+    → IsStory key old new story unentered → KeepsRecords key old story
     → Facts (transcript key old story) (last key old story).host.state
 keeps laws key old new story unentered begins is well =
     story_keeps laws.all laws.aside [] (first key old) story begins (may_prefix (first key old) (events_of story) unentered is.may)
@@ -32,16 +33,19 @@ pub returns-clause-orders : goal.returns-clause-orders
 returns-clause-orders c = λ key old new story unentered is well.
     let restarting : Restarting = record { held = c.restarts_go_on.ensures.first; goes_on = c.restarts_go_on.ensures.all } in
     let laws : Keeping = record { all = c.the_machine_keeps_facts.ensures.all; aside = c.asides_keep_facts.ensures; restarting = restarting } in
-    c.laws_follow.ensures.laws _ _ (keeps laws key old new story unentered (c.the_machine_keeps_facts.ensures.first (keys_of key) old.records old.devices) is well)
+    c.laws_follow.ensures.laws _ _
+    (keeps laws key old new story unentered (c.the_machine_keeps_facts.ensures.first (keys_of key) old.records old.devices) is well)
 
 pub returns-clause-tables : goal.returns-clause-tables
 returns-clause-tables c = λ key old new story unentered is well.
     let restarting : Restarting = record { held = c.restarts_go_on.ensures.first; goes_on = c.restarts_go_on.ensures.all } in
     let laws : Keeping = record { all = c.the_machine_keeps_facts.ensures.all; aside = c.asides_keep_facts.ensures; restarting = restarting } in
-    c.laws_follow.ensures.tables _ _ (keeps laws key old new story unentered (c.the_machine_keeps_facts.ensures.first (keys_of key) old.records old.devices) is well)
+    c.laws_follow.ensures.tables _ _
+    (keeps laws key old new story unentered (c.the_machine_keeps_facts.ensures.first (keys_of key) old.records old.devices) is well)
 
 pub returns-clause-values : goal.returns-clause-values
 returns-clause-values c = λ key old new story unentered is well.
     let restarting : Restarting = record { held = c.restarts_go_on.ensures.first; goes_on = c.restarts_go_on.ensures.all } in
     let laws : Keeping = record { all = c.the_machine_keeps_facts.ensures.all; aside = c.asides_keep_facts.ensures; restarting = restarting } in
-    c.laws_follow.ensures.stores _ _ (keeps laws key old new story unentered (c.the_machine_keeps_facts.ensures.first (keys_of key) old.records old.devices) is well)
+    c.laws_follow.ensures.stores _ _
+    (keeps laws key old new story unentered (c.the_machine_keeps_facts.ensures.first (keys_of key) old.records old.devices) is well)

@@ -13,5 +13,7 @@ returns c = λ key old new story unentered is tells.
     let told = story_told key old new story unentered is tells in
     record {
       empty = λ restarts. subst (λ (records : Option (List (List ℕ))). BeginsEmpty records) (sym (tells restarts)) refl;
-      well = told.well ((c.lines_keep_and_ask_well.ensures (keys_of key) old.devices (plain_lines story) (events_of story) (story_lines (fresh key old) story told.begun) told.may).0);
+      well =
+          told.well ((c.lines_keep_and_ask_well.ensures (keys_of key) old.devices (plain_lines story) (events_of story)
+          (story_lines (fresh key old) story told.begun) told.may).0);
     }

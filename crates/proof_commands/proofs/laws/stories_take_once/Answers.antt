@@ -13,11 +13,13 @@ use Rattle.proof_commands.proofs.laws.stories_take_once.Goals as goal
 
 pub returns-clause-once : goal.returns-clause-once
 returns-clause-once c = λ key old new story unentered is order.
-    subst (λ (l : List State). TakeOnce l) (sym is.devices) (c.runs_take_once.ensures.once (keys_of key) old.records old.devices (events_of story ++ unentered) order)
+    subst (λ (l : List State). TakeOnce l) (sym is.devices) (c.runs_take_once.ensures.once (keys_of key) old.records old.devices
+    (events_of story ++ unentered) order)
 
 pub returns-clause-same : goal.returns-clause-same
 returns-clause-same c = λ key old new story unentered is.
-    subst (λ (l : List State). AreSame old.devices l) (sym is.devices) (c.runs_take_once.ensures.same (keys_of key) old.records old.devices (events_of story ++ unentered))
+    subst (λ (l : List State). AreSame old.devices l) (sym is.devices) (c.runs_take_once.ensures.same (keys_of key) old.records old.devices
+    (events_of story ++ unentered))
 
 pub returns-clause-shown : goal.returns-clause-shown
 returns-clause-shown c = λ key old new story unentered is made apart.

@@ -21,7 +21,8 @@ returns-clause-taken_back c = λ key old new story unentered is well.
     let same = same_transcript m story in
     let done = story_done c.lines_are_read_as_said.ensures key old new story unentered is in
     let laws = c.stories_keep_laws.ensures.orders key old new story unentered is well in
-    subst (λ (l : List Entry). CancelsWhenAsked l) same (c.commands_are_taken_back_when_asked.ensures m (all_said story) done (subst (λ (l : List Entry). HostLaws l) (sym same) laws))
+    subst (λ (l : List Entry). CancelsWhenAsked l) same
+    (c.commands_are_taken_back_when_asked.ensures m (all_said story) done (subst (λ (l : List Entry). HostLaws l) (sym same) laws))
 
 pub returns-clause-stores : goal.returns-clause-stores
 returns-clause-stores c = λ key old new story unentered is tells.
@@ -37,4 +38,5 @@ returns-clause-written c = λ key old new story unentered is well.
     let restarting : Restarting = record { held = c.restarts_go_on.ensures.first; goes_on = c.restarts_go_on.ensures.all } in
     let starts = starts_well restarting key old new story unentered is (c.the_machine_keeps_facts.ensures.first (keys_of key) old.records old.devices) well in
     let spoken = are_spoken m (all_said story) done (subst (λ (l : List Event). AllStartWell m l) (sym (same_events story)) starts) in
-    subst (λ (l : List Entry). BeginsWithUnit l) (same_transcript m story) (c.sessions_begin_with_their_unit.ensures (keys_of key) old.records old.devices (all_said story) spoken)
+    subst (λ (l : List Entry). BeginsWithUnit l) (same_transcript m story) (c.sessions_begin_with_their_unit.ensures (keys_of key) old.records old.devices
+    (all_said story) spoken)
