@@ -18,8 +18,8 @@ use Rattle.host_model.specs.Opening.{opened}
 use Rattle.host_model.specs.Recording.{AllOfJoined}
 use Rattle.proof_host.specs.Facts.{Facts}
 use Rattle.proof_host.specs.Lives.{AreLives, with_records, entries_of_lives, last_of_lives}
-use Rattle.proof_host.proofs.Living.{nothing_kept, nothing_legal}
-use Rattle.proof_world.proofs.Recording.{texts_of_range, texts_both}
+use Rattle.proof_host.proofs.HostsFromRecords.{nothing_kept, nothing_legal}
+use Rattle.proof_world.proofs.HeldRecords.{texts_of_range, texts_both}
 use Rattle.proof_commands.specs.Lives.{records_from, records_of, entries_of, AreLivesOf, HasRecords, GoesOn}
 
 -- ---- lives from records on

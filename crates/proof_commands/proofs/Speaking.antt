@@ -12,7 +12,7 @@ use Rattle.world_model.specs.Prefixes.{IsLineBefore}
 use Rattle.run_lines.specs.Pieces.{said_text}
 use Rattle.world_lines.specs.Spoken.{Spoken, after_all, transcript_of}
 use Rattle.world_lines.specs.Done.{AreDone, events_of as events_said}
-use Rattle.proof_spoken.proofs.Speaking.{all_after}
+use Rattle.proof_spoken.proofs.SpokenLines.{all_after}
 use Rattle.proof_commands.specs.Around.{Around}
 use Rattle.proof_commands.specs.Laws.{Ran, AreBegun, IsStory, events_of, first, transcript_from}
 use Rattle.proof_commands.proofs.SimKeeping.{may_prefix, may_rest}

@@ -14,7 +14,7 @@ use Rattle.proof_course.specs.HostNonceFacts.{IsDue, FitsBy, Fits, IsOnTime, Non
 use Rattle.proof_course.specs.NonceLaws.{TakesOffer, NamesGiven}
 use Rattle.proof_course.proofs.Lists.{all-remove, all-doubled, never-remove, never-doubled, never-push, none-remove, none-doubled, none-push, none-begin}
 use Rattle.proof_course.proofs.NonceNumbers.{same_of_256, first_byte_of, IsTakenFor, is_taken_for, seen_grows, where_waits}
-use Rattle.proof_course.proofs.Moving.{hosts-push, keeps-push, keeps-raise}
+use Rattle.proof_course.proofs.FramesOnAir.{hosts-push, keeps-push, keeps-raise}
 
 pub first_facts : NonceFacts first_nonces
 first_facts = record {

@@ -1,9 +1,9 @@
 mod Lists
 mod Parts
-mod Moving
+mod FramesOnAir
 mod SessionEnds
 mod SessionSteps
-mod SessionKeeping
+mod SessionFactsKept
 mod NonceNumbers
 mod NodeNonceSteps
 mod HostNonceSteps

@@ -12,7 +12,7 @@ use Rattle.proof_course.specs.NodeNonceFacts.{IsDue, FitsBy, Fits, IsOnTime, its
 use Rattle.proof_course.specs.NonceLaws.{NamesLive, TakesIt}
 use Rattle.proof_course.proofs.Lists.{all-remove, all-doubled, never-remove, never-doubled, never-push, none-remove, none-doubled, none-push, none-begin}
 use Rattle.proof_course.proofs.NonceNumbers.{same_of_256, first_byte_of, IsTakenFor, is_taken_for, seen_grows, where_waits}
-use Rattle.proof_course.proofs.Moving.{hosts-push, keeps-begin, keeps-push, keeps-send}
+use Rattle.proof_course.proofs.FramesOnAir.{hosts-push, keeps-begin, keeps-push, keeps-send}
 
 pub first_facts : NonceFacts first_nonces
 first_facts = record {

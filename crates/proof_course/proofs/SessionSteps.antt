@@ -17,7 +17,7 @@ use Rattle.proof_course.specs.Ways.{doubled, NeverFalls, NoneAhead}
 use Rattle.proof_course.specs.Flying.{Flight, hosts, one_of, KeepsUp}
 use Rattle.proof_course.specs.SessionFacts.{IsDue, IsTrueReport, FitsBy, Fits, IsOnTime, IsOfNext, CourseFacts, reported}
 use Rattle.proof_course.proofs.Lists.{all-remove, all-doubled, never-remove, never-doubled, never-push, none-remove, none-doubled, none-push, none-begin}
-use Rattle.proof_course.proofs.Moving.{hosts-push, keeps-begin, keeps-push, keeps-send}
+use Rattle.proof_course.proofs.FramesOnAir.{hosts-push, keeps-begin, keeps-push, keeps-send}
 use Rattle.proof_course.proofs.SessionEnds.{one_more, true-begin, fits-begin, fits-sent, taking, fits-taking, on_time-taking, same_of_16, new_heard, command_at-last, fits-finish, on_time-finish, report-cases}
 
 -- ---- the host

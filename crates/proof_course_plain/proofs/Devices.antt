@@ -28,7 +28,7 @@ use Rattle.device_sim.specs.State.{State, fresh}
 use Rattle.device_sim.specs.Event.{DeviceEvent, Hears, Ticks, Wakes, Sets, outcome_of, device_after, device_replies}
 use Rattle.proof_device.specs.GoingOn.{IsSame}
 use Rattle.proof_messages.specs.Ending.{one_at_work, HasEnded}
-use Rattle.proof_messages.proofs.Ending.{numbered_last}
+use Rattle.proof_messages.proofs.DeviceEnds.{numbered_last}
 use Rattle.proof_messages.specs.Asking.{message_in, takes_openly, verdict_on, IsLeft, Follows}
 use Rattle.proof_messages.specs.Landing.{HasLanded, IsOf, LandsAs}
 use Rattle.proof_messages.specs.Others.{IsOther}
@@ -38,9 +38,9 @@ use Rattle.proof_messages.specs.Segments.{KeepsPart, IsWhole, KeepsSegment, Make
 use Rattle.proof_course_plain.specs.Meaning.{Asked, IsMessageOf, IsSegmentOf, IsMessage, HostMeans}
 use Rattle.proof_course_plain.specs.Making.{KeepsNext, Makes, NamesNext, Names}
 use Rattle.proof_course_plain.specs.Device.{AtDevice, finishes, Says, GoesAs, HearsAs}
-use Rattle.proof_messages.proofs.Following.{knows_supervision}
+use Rattle.proof_messages.proofs.SessionMessages.{knows_supervision}
 use Rattle.proof_course_plain.proofs.Segments.{Laws as SegmentLaws, message_whole, part_of, IsNext, IsAnother, segment_heard}
-use Rattle.proof_course_plain.proofs.Saying.{IsBare, AllOwnTaken, in_segments_bare, none_own, openly_bare, AllTaken, get_taken, later, openly_same, never_own, all_said, all_taken, weaken_taken, ticks_bare, wakes_bare, wakes_same, sets_bare_all, sets_same}
+use Rattle.proof_course_plain.proofs.DevicePayloads.{IsBare, AllOwnTaken, in_segments_bare, none_own, openly_bare, AllTaken, get_taken, later, openly_same, never_own, all_said, all_taken, weaken_taken, ticks_bare, wakes_bare, wakes_same, sets_bare_all, sets_same}
 
 -- ---- statuses that are added
 

@@ -52,11 +52,11 @@ use Rattle.proof_course_plain.specs.Meaning.{Asked, IsMessageOf, IsSegmentOf, Is
 use Rattle.proof_course_plain.specs.Lines.{Asks, Moves}
 use Rattle.proof_course_plain.specs.HostGoing.{IsAside}
 use Rattle.proof_course_plain.specs.Host.{NodeAs, asked_of, IsPlainFor, IsTaskFor, AtHost, AsksPlainly}
-use Rattle.proof_course_plain.proofs.Moving.{move_sign, move_heard, move_ticked, copies_of}
-use Rattle.proof_course_plain.proofs.NodeKeeping.{IsQuiet, SameHost, same_host, same_then, does_same, other_same, requests_same, request_same, room_same, holding_same, failing_same, ended_same, works_keeps, outcome_orders, set_as}
+use Rattle.proof_course_plain.proofs.WayLabels.{move_sign, move_heard, move_ticked, copies_of}
+use Rattle.proof_course_plain.proofs.KeptSessions.{IsQuiet, SameHost, same_host, same_then, does_same, other_same, requests_same, request_same, room_same, holding_same, failing_same, ended_same, works_keeps, outcome_orders, set_as}
 use Rattle.proof_course_plain.proofs.Flights.{segment_stays}
 use Rattle.proof_course_plain.proofs.HostFrames.{attempt_asks, abort_asks, segment_asks, task_asks}
-use Rattle.proof_course_plain.proofs.HostDoing.{Wrote, quietly, accepts, turns, submits_other, submits_message}
+use Rattle.proof_course_plain.proofs.HostActs.{Wrote, quietly, accepts, turns, submits_other, submits_message}
 
 -- ---- commands by their numbers
 

@@ -60,19 +60,19 @@ use Rattle.proof_course_plain.specs.Host.{NodeAs, AsksPlainly}
 use Rattle.proof_once.specs.Tied.{AreOutcomes}
 use Rattle.proof_course_plain.specs.Told.{HasPast}
 use Rattle.proof_course_plain.specs.HostGoing.{HostFollows, HostGoes, IsAside, IsNoBegin, IsAnswer, EndsNone, AllWell}
-use Rattle.proof_course_plain.proofs.Thinning.{goes_nowhere, goes_on, goes_once, down_thins}
-use Rattle.proof_course_plain.proofs.Moving.{thinned_same, thinned_after, first_label}
+use Rattle.proof_course_plain.proofs.ThinnedWays.{goes_nowhere, goes_on, goes_once, down_thins}
+use Rattle.proof_course_plain.proofs.WayLabels.{thinned_same, thinned_after, first_label}
 use Rattle.proof_course_plain.proofs.Outer.{has_same, mesh_down}
-use Rattle.proof_course_plain.proofs.NodeKeeping.{SameHost, holding_same, outcome_orders}
-use Rattle.proof_course_plain.proofs.HostDoing.{AirLaws, SameAir, routed_air, writes_go, begin_goes, set_here}
+use Rattle.proof_course_plain.proofs.KeptSessions.{SameHost, holding_same, outcome_orders}
+use Rattle.proof_course_plain.proofs.HostActs.{AirLaws, SameAir, routed_air, writes_go, begin_goes, set_here}
 use Rattle.proof_course_plain.proofs.HostEvents.{event_wrote, noted_none, open_is, owned}
 use Rattle.host_model.proofs.Going.{final_session}
-use Rattle.proof_once.proofs.Going.{told_more}
+use Rattle.proof_once.proofs.TieSteps.{told_more}
 use Rattle.proof_host.proofs.Commands.{outcome_same}
 use Rattle.proof_host.proofs.Effects.{held_commands}
 use Rattle.proof_course_plain.proofs.Told.{PastLaws, past_kept, outcomes_kept, outcomes_stay}
 use Rattle.proof_course_plain.proofs.HostEntries.{event_begins_none}
-use Rattle.proof_course_plain.proofs.HostJudging.{AllAside, IsFinish, Bytes, item_told}
+use Rattle.proof_course_plain.proofs.HostJudgements.{AllAside, IsFinish, Bytes, item_told}
 
 -- ---- lists of events
 

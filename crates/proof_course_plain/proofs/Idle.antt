@@ -8,7 +8,7 @@ use Rattle.device_sim.specs.Event.{Ticks, outcome_of, device_after, device_repli
 use Rattle.proof_course_plain.specs.Meaning.{Asked}
 use Rattle.proof_course_plain.specs.Making.{Makes}
 use Rattle.proof_course_plain.specs.Device.{IsIdle, OthersAreIdle}
-use Rattle.proof_course_plain.proofs.Making.{set_holds}
+use Rattle.proof_course_plain.proofs.MadeSettings.{set_holds}
 
 idle_by : (device : State) → IsIdle device → device.work_left == 0 ≡ true → IsIdle (ticked device).device × ((ticked device).replies ≡ [])
 unfolding ticked

@@ -54,7 +54,7 @@ use Rattle.outside_model.specs.State.{OuterState, Outside, outside, with_chip, e
 use Rattle.outside_model.specs.Chip.{put_out, chip_does, chip_takes, MayTake}
 use Rattle.outside_model.specs.Events.{has_entered}
 use Rattle.proof_traffic.specs.OutsideTraffic.{one_outward, outward}
-use Rattle.proof_traffic.proofs.Judging.{passed_item}
+use Rattle.proof_traffic.proofs.JudgedItems.{passed_item}
 use Rattle.proof_traffic.proofs.Mild.{each-append}
 use Rattle.proof_traffic.specs.OnAir.{IsFew, StaysFew, fed_chip}
 use Rattle.proof_serial.specs.Way.{Carries, items_all}
@@ -72,11 +72,11 @@ use Rattle.proof_course_plain.specs.Making.{AllMake}
 use Rattle.proof_course_plain.specs.Mesh.{HasDevice, InMesh, IsTold, labels, Adds}
 use Rattle.proof_course_plain.specs.Lines.{TellsAs, Tells, Asks, asked_as, ItemIs, OnWay, Later}
 use Rattle.proof_course_plain.specs.Outside.{Follows, OuterGoes}
-use Rattle.proof_course_plain.proofs.Thinning.{goes_nowhere, goes_on, goes_once, up_thins, down_thins}
-use Rattle.proof_course_plain.proofs.Moving.{thinned_same, thinned_after, thinned_both, thinned_then, first_label}
-use Rattle.proof_course_plain.proofs.Chipping.{chips_move}
+use Rattle.proof_course_plain.proofs.ThinnedWays.{goes_nowhere, goes_on, goes_once, up_thins, down_thins}
+use Rattle.proof_course_plain.proofs.WayLabels.{thinned_same, thinned_after, thinned_both, thinned_then, first_label}
+use Rattle.proof_course_plain.proofs.ChipSide.{chips_move}
 use Rattle.proof_course_plain.proofs.Replies.{Flying}
-use Rattle.proof_course_plain.proofs.ChipTelling.{AreMild, each_mild, queued_mild, served_mild, ChipTells}
+use Rattle.proof_course_plain.proofs.ChipNotices.{AreMild, each_mild, queued_mild, served_mild, ChipTells}
 
 -- ---- courses with other things on their way
 

@@ -46,7 +46,7 @@ use Rattle.proof_traffic.specs.OutsideTraffic.{outward}
 use Rattle.proof_traffic.specs.OnAir.{IsFew, OuterStaysFew}
 use Rattle.proof_serial.specs.Way.{Carries}
 use Rattle.proof_serial.proofs.Ways.{carries_none}
-use Rattle.proof_device.proofs.Telling.{place_is}
+use Rattle.proof_device.proofs.ChangesOutside.{place_is}
 use Rattle.proof_course_plain.specs.Ways.{Thinned}
 use Rattle.proof_course_plain.specs.Meaning.{Asked}
 use Rattle.proof_course_plain.specs.Air.{OnAir}
@@ -54,13 +54,13 @@ use Rattle.proof_course_plain.specs.Making.{Makes, AllMake, HearsNone}
 use Rattle.proof_course_plain.specs.Device.{AtDevice, GoesAs}
 use Rattle.proof_course_plain.specs.Mesh.{HasDevice, InMesh, IsTold, labels, brought, Adds, MeshGoes}
 use Rattle.proof_course_plain.specs.Outside.{Follows, OuterGoes, SideRests, Rests}
-use Rattle.proof_course_plain.proofs.Thinning.{goes_nowhere, up_thins, down_thins}
-use Rattle.proof_course_plain.proofs.Moving.{thinned_same, thinned_after, labels-append}
+use Rattle.proof_course_plain.proofs.ThinnedWays.{goes_nowhere, up_thins, down_thins}
+use Rattle.proof_course_plain.proofs.WayLabels.{thinned_same, thinned_after, labels-append}
 use Rattle.proof_course_plain.proofs.Segments.{kept_none}
-use Rattle.proof_course_plain.proofs.Making.{first_makes}
+use Rattle.proof_course_plain.proofs.MadeSettings.{first_makes}
 use Rattle.proof_course_plain.proofs.Idle.{idle_makes}
 use Rattle.proof_course_plain.proofs.Replies.{Flying, one_place, one_stands}
-use Rattle.proof_course_plain.proofs.ChipTelling.{ChipTells, tells_still, tells_one, deals_tell, gives_tells, joins_tell, discovers_tell, collides_tell}
+use Rattle.proof_course_plain.proofs.ChipNotices.{ChipTells, tells_still, tells_one, deals_tell, gives_tells, joins_tell, discovers_tell, collides_tell}
 use Rattle.proof_course_plain.proofs.Outer.{mesh_down, mesh_up, outer_goes, entered, takes_go}
 
 -- the laws that are used

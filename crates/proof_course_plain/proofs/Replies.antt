@@ -22,7 +22,7 @@ use Rattle.mesh_sim.specs.Air.{AirState, is_joined, no_route, departing}
 use Rattle.mesh_sim.specs.Steps.{answered, answered_if}
 use Rattle.mesh_sim.specs.Fates.{Mesh, place_of}
 use Rattle.proof_device.specs.GoingOn.{IsSame}
-use Rattle.proof_device.proofs.Telling.{place_is, place_set, get_set}
+use Rattle.proof_device.proofs.ChangesOutside.{place_is, place_set, get_set}
 use Rattle.proof_messages.specs.Ending.{HasEnded}
 use Rattle.proof_messages.specs.Landing.{IsOf}
 use Rattle.proof_course_plain.specs.Ways.{Beside, Goes}
@@ -31,8 +31,8 @@ use Rattle.proof_course_plain.specs.Air.{BearsBy, Bears, OnAir}
 use Rattle.proof_course_plain.specs.Device.{AtDevice, IsIdle, finishes, Says, GoesAs}
 use Rattle.proof_course_plain.specs.Making.{Makes, AllMake, HearsNone}
 use Rattle.proof_course_plain.specs.Mesh.{HasDevice, InMesh, labels, Brings, Adds, MeshGoes}
-use Rattle.proof_course_plain.proofs.Thinning.{goes_nowhere, goes_on, goes_once}
-use Rattle.proof_course_plain.proofs.Making.{get_other, set_holds, all_make_set}
+use Rattle.proof_course_plain.proofs.ThinnedWays.{goes_nowhere, goes_on, goes_once}
+use Rattle.proof_course_plain.proofs.MadeSettings.{get_other, set_holds, all_make_set}
 use Rattle.proof_course_plain.proofs.Idle.{idle_makes, others_set}
 
 -- how frames go on the air, as the course has it

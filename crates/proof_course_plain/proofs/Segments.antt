@@ -28,7 +28,7 @@ use Rattle.proof_messages.specs.Landing.{IsOf}
 use Rattle.proof_messages.specs.Others.{IsNoGet}
 use Rattle.proof_messages.specs.Reporting.{TellsNone}
 use Rattle.proof_messages.specs.Segments.{KeepsSegment, MakesWhole}
-use Rattle.proof_messages.proofs.Following.{knows_supervision}
+use Rattle.proof_messages.proofs.SessionMessages.{knows_supervision}
 use Rattle.proof_course_plain.specs.Meaning.{Asked, IsMessageOf, IsSegmentOf}
 use Rattle.proof_course_plain.specs.Making.{KeepsNext, NamesNext}
 

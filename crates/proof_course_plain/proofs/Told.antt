@@ -13,7 +13,7 @@ use Rattle.proof_host.specs.Facts.{AreShown, Facts}
 use Rattle.proof_host.specs.Laws.{HostLaws, IsOver}
 use Rattle.proof_host.specs.Tables.{outcome_in, recorded}
 use Rattle.proof_once.specs.Tied.{AreOutcomes}
-use Rattle.proof_once.proofs.Going.{recorded_over, over_recorded, final_over}
+use Rattle.proof_once.proofs.TieSteps.{recorded_over, over_recorded, final_over}
 use Rattle.proof_course_plain.specs.Told.{KeepsOutcomes, HasPast}
 
 -- ---- places

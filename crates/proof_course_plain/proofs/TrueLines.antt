@@ -31,9 +31,9 @@ use Rattle.proof_course_plain.specs.Mesh.{HasDevice}
 use Rattle.proof_course_plain.specs.Told.{HasPast}
 use Rattle.proof_course_plain.specs.HostGoing.{HostFollows, AllWell}
 use Rattle.proof_course_plain.specs.World.{WorldFollows, WorldGoes, IsPlainly, EndsByHearing}
-use Rattle.proof_course_plain.proofs.Telling.{none_true}
+use Rattle.proof_course_plain.proofs.TrueSuccesses.{none_true}
 use Rattle.proof_course_plain.proofs.Whole.{units_each, fed_outside, fed_follows}
-use Rattle.proof_course_plain.proofs.Running.{nodes_of}
+use Rattle.proof_course_plain.proofs.Runs.{nodes_of}
 
 -- ---- one event
 

@@ -36,7 +36,7 @@ use Rattle.proof_serial.specs.Way.{Carries}
 use Rattle.proof_serial.specs.Line.{host_unit, host_units, WritesWell, AllWriteWell, OuterAtRest, IsAtRest, AllAtRest}
 use Rattle.proof_serial.specs.Chip.{HasFrames}
 use Rattle.proof_serial.proofs.Outer.{Written}
-use Rattle.proof_serial.proofs.Reading.{LeftOf}
+use Rattle.proof_serial.proofs.EndedItems.{LeftOf}
 use Rattle.proof_serial.proofs.Ways.{carries_left}
 use Rattle.proof_world.specs.Restarts.{StartsWell, KeepsWell, AllKeepWell, IsHeld}
 use Rattle.proof_traffic.specs.OnAir.{OuterStaysFew, EventStaysFew, AlwaysFew}
@@ -51,10 +51,10 @@ use Rattle.proof_once.specs.Tied.{AreOutcomes}
 use Rattle.proof_course_plain.specs.Told.{HasPast}
 use Rattle.proof_course_plain.specs.HostGoing.{HostFollows, HostGoes, EndsNone, UnitsAll, AllWell}
 use Rattle.proof_course_plain.specs.World.{WorldFollows, WorldGoes, IsPlainly, EndsByHearing}
-use Rattle.proof_course_plain.proofs.Thinning.{CourseLaw, course_goes, goes_nowhere, goes_on}
-use Rattle.proof_course_plain.proofs.HostDoing.{SameAir, note_air}
+use Rattle.proof_course_plain.proofs.ThinnedWays.{CourseLaw, course_goes, goes_nowhere, goes_on}
+use Rattle.proof_course_plain.proofs.HostActs.{SameAir, note_air}
 use Rattle.proof_course_plain.proofs.Told.{PastLaws, past_kept}
-use Rattle.proof_course_plain.proofs.Restarting.{Laws as RestartLaws, restart_goes}
+use Rattle.proof_course_plain.proofs.Restarts.{Laws as RestartLaws, restart_goes}
 
 -- ---- entries alone
 

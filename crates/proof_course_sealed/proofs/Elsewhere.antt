@@ -15,8 +15,8 @@ use Rattle.outside_model.specs.Events.{mesh_of}
 use Rattle.proof_messages.specs.Numbers.{IsNonce, HasGiven}
 use Rattle.proof_course_plain.specs.Meaning.{Asked}
 use Rattle.proof_course_plain.specs.Making.{AllMake}
-use Rattle.proof_course_plain.proofs.Making.{all_make_more}
-use Rattle.proof_course_plain.proofs.HostDoing.{SameAir as SameOuter}
+use Rattle.proof_course_plain.proofs.MadeSettings.{all_make_more}
+use Rattle.proof_course_plain.proofs.HostActs.{SameAir as SameOuter}
 use Rattle.proof_course_sealed.specs.Labels.{Sent, Late}
 use Rattle.proof_course_sealed.specs.Courses.{Courses, HasSeen, with_up, with_down}
 use Rattle.proof_course_sealed.specs.Meaning.{Past, Grows}
@@ -25,7 +25,7 @@ use Rattle.proof_course_sealed.specs.Air.{OnAir, SameAir}
 use Rattle.proof_course_sealed.specs.Mesh.{HasLock, InMesh, told_as}
 use Rattle.proof_course_sealed.specs.Lines.{Tells, Asks, asked_as}
 use Rattle.proof_course_sealed.proofs.Meanings.{host_means_stays, node_means_stays}
-use Rattle.proof_course_sealed.proofs.Going.{grows_none}
+use Rattle.proof_course_sealed.proofs.CourseSteps.{grows_none}
 
 -- ---- frames on the line, as more was
 

@@ -26,7 +26,7 @@ use Rattle.proof_course_sealed.specs.Labels.{Held, Sealed, Offer, Reports, Shows
 use Rattle.proof_course_sealed.specs.Courses.{Courses, first_courses, Aloft, Fly, of_sessions, of_node, of_host}
 use Rattle.proof_course_sealed.specs.Meaning.{Past, first_past, Grows, HostMeans, NodeMeans}
 use Rattle.proof_course_sealed.specs.Air.{WentAt, WentIf, MeansBy, Bears, OnAir, SameAir, CountsBy, now_aloft, Puts, landed, Lands, IsRecent, IsRecentBy, WasThere}
-use Rattle.proof_course_sealed.proofs.Going.{grows_none}
+use Rattle.proof_course_sealed.proofs.CourseSteps.{grows_none}
 use Rattle.proof_course_sealed.proofs.Meanings.{means_by_stays, shows_none, get_shows_none, sealed_is_security, offer_is_security}
 
 -- the laws of how the air counts nonces

@@ -34,10 +34,10 @@ use Rattle.host_model.specs.Events.{Begins}
 use Rattle.proof_once.specs.Tied.{AreOutcomes}
 use Rattle.proof_course_plain.specs.Ways.{Beside}
 use Rattle.proof_course_plain.specs.Told.{KeepsOutcomes}
-use Rattle.proof_course_plain.proofs.Thinning.{goes_once}
-use Rattle.proof_course_plain.proofs.Moving.{thinned_same, move_same}
-use Rattle.proof_course_plain.proofs.NodeKeeping.{outcome_orders}
-use Rattle.proof_course_plain.proofs.HostDoing.{AirLaws, open_same, set_here, waits_somewhere}
+use Rattle.proof_course_plain.proofs.ThinnedWays.{goes_once}
+use Rattle.proof_course_plain.proofs.WayLabels.{thinned_same, move_same}
+use Rattle.proof_course_plain.proofs.KeptSessions.{outcome_orders}
+use Rattle.proof_course_plain.proofs.HostActs.{AirLaws, open_same, set_here, waits_somewhere}
 use Rattle.proof_course_plain.proofs.Told.{outcomes_stay, outcomes_begin}
 use Rattle.proof_course_sealed.specs.Labels.{Sent}
 use Rattle.proof_course_sealed.specs.Courses.{Courses, CoursesGo, with_up}
@@ -46,11 +46,11 @@ use Rattle.proof_course_sealed.specs.Air.{OnAir}
 use Rattle.proof_course_sealed.specs.Lines.{Asks}
 use Rattle.proof_course_sealed.specs.Host.{TextIs, TaskIs, AtHost}
 use Rattle.proof_course_sealed.specs.HostGoing.{HostFollows, HostGoes}
-use Rattle.proof_course_sealed.proofs.Thinning.{node_nowhere, host_nowhere}
-use Rattle.proof_course_sealed.proofs.Going.{goes_nowhere, list_same}
-use Rattle.proof_course_sealed.proofs.HostKeeping.{SameHost, same_host, same_then, other_same}
+use Rattle.proof_course_sealed.proofs.ThinnedWays.{node_nowhere, host_nowhere}
+use Rattle.proof_course_sealed.proofs.CourseSteps.{goes_nowhere, list_same}
+use Rattle.proof_course_sealed.proofs.KeptBooks.{SameHost, same_host, same_then, other_same}
 use Rattle.proof_course_sealed.proofs.Elsewhere.{AirStays, lock_itself, air_itself, mesh_with}
-use Rattle.proof_course_sealed.proofs.HostDoing.{Wrote, leaves, writes_go, quietly}
+use Rattle.proof_course_sealed.proofs.HostActs.{Wrote, leaves, writes_go, quietly}
 use Rattle.proof_course_sealed.proofs.HostEvents.{Writing}
 
 -- a session of the node has begun in the courses

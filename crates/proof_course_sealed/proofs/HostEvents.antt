@@ -48,14 +48,14 @@ use Rattle.host_model.specs.Facts.{HostFacts, FitsForm, IsCommandOf, IsSound}
 use Rattle.host_model.specs.Events.{HostEvent, Accepts, Cancels, Joins, Queues, Queues_interview, Queues_probe, Hears, Requests_do, Interviews, Interview_unkept, Unreads, Is_unkept, Reports_old, Works, Finishes, Offers, Gives, Spends, Spends_unread, Takes_nonce, Notifies, Resends, Hears_value, Has_no_room, Line_ticks, Node_ticks, Queues_no_more, Drops_no_more, Submits_abort, Submits_front, Starts, Gives_text, Gives_segment, Begins, Begin_unkept}
 use Rattle.proof_serial.specs.Line.{host_units}
 use Rattle.proof_messages.specs.Hosts.{IsOpenPlan, IsAside, LeavesNonces}
-use Rattle.proof_messages.proofs.Answering.{some_same}
+use Rattle.proof_messages.proofs.LockSessions.{some_same}
 use Rattle.proof_course_plain.specs.Ways.{Beside}
 use Rattle.proof_course_plain.specs.Mesh.{labels}
 use Rattle.proof_course_plain.specs.Lines.{Moves}
 use Rattle.proof_course_plain.specs.Host.{asked_of}
 use Rattle.proof_course_plain.specs.HostGoing.{IsNoBegin}
-use Rattle.proof_course_plain.proofs.Moving.{thinned_same, move_ticked, copies_of}
-use Rattle.proof_course_plain.proofs.NodeKeeping.{outcome_orders}
+use Rattle.proof_course_plain.proofs.WayLabels.{thinned_same, move_ticked, copies_of}
+use Rattle.proof_course_plain.proofs.KeptSessions.{outcome_orders}
 use Rattle.proof_course_plain.proofs.HostEvents.{session_numbered, command_numbered, get_map, owned, open_is, map_more, noted_none, copy_units, answered}
 use Rattle.proof_course_sealed.specs.Labels.{Sent, Sealed, Offer, Up}
 use Rattle.proof_course_sealed.specs.Courses.{Courses, CoursesGo, GoUp, with_up}
@@ -63,12 +63,12 @@ use Rattle.proof_course_sealed.specs.Meaning.{Past, Grows, IsSealedMessage, IsNe
 use Rattle.proof_course_sealed.specs.Lines.{Asks}
 use Rattle.proof_course_sealed.specs.Host.{TextIs, TaskIs, NamesEndFor, AtHost, AsksFitly}
 use Rattle.proof_course_sealed.specs.HostGoing.{IsUnheard}
-use Rattle.proof_course_sealed.proofs.Going.{list_same}
+use Rattle.proof_course_sealed.proofs.CourseSteps.{list_same}
 use Rattle.proof_course_sealed.proofs.Meanings.{host_means_stays, sealed_message_stays}
-use Rattle.proof_course_sealed.proofs.HostKeeping.{IsQuiet, SameHost, tasks_stay, same_host, same_then, does_same, works_same, other_same, requests_same, request_same, room_same, holding_same, failing_same, ended_same}
-use Rattle.proof_course_sealed.proofs.Leaving.{HasSegment}
+use Rattle.proof_course_sealed.proofs.KeptBooks.{IsQuiet, SameHost, tasks_stay, same_host, same_then, does_same, works_same, other_same, requests_same, request_same, room_same, holding_same, failing_same, ended_same}
+use Rattle.proof_course_sealed.proofs.UnsealedMessages.{HasSegment}
 use Rattle.proof_course_sealed.proofs.HostFrames.{attempt_asks, abort_asks, task_asks}
-use Rattle.proof_course_sealed.proofs.HostDoing.{Wrote, UpThins, Leaves, leaves, leaves_line, at_side, turns, quietly, accepts, submits_other, submits_text, submits_nonce}
+use Rattle.proof_course_sealed.proofs.HostActs.{Wrote, UpThins, Leaves, leaves, leaves_line, at_side, turns, quietly, accepts, submits_other, submits_text, submits_nonce}
 
 -- the laws of what the host writes and keeps
 pub record Writing : Type 0 where

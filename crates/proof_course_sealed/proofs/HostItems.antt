@@ -40,17 +40,17 @@ use Rattle.proof_course_plain.specs.Ways.{Thinned, Goes}
 use Rattle.proof_course_plain.specs.Lines.{OnWay}
 use Rattle.proof_course_plain.specs.Told.{HasPast}
 use Rattle.proof_course_plain.specs.HostGoing.{AllWell}
-use Rattle.proof_course_plain.proofs.Thinning.{goes_on as sessions_on, goes_once, down_thins}
-use Rattle.proof_course_plain.proofs.Moving.{first_label, thinned_same, thinned_after, thinned_both}
-use Rattle.proof_course_plain.proofs.NodeKeeping.{get_set, outcome_orders}
-use Rattle.proof_course_plain.proofs.HostDoing.{set_here}
+use Rattle.proof_course_plain.proofs.ThinnedWays.{goes_on as sessions_on, goes_once, down_thins}
+use Rattle.proof_course_plain.proofs.WayLabels.{first_label, thinned_same, thinned_after, thinned_both}
+use Rattle.proof_course_plain.proofs.KeptSessions.{get_set, outcome_orders}
+use Rattle.proof_course_plain.proofs.HostActs.{set_here}
 use Rattle.proof_course_plain.proofs.HostEntries.{event_begins_none}
 use Rattle.proof_course_plain.proofs.HostEvents.{noted_none, open_is, owned}
 use Rattle.host_model.proofs.Doing.{after_all-append, outs_all-append}
 use Rattle.proof_course_plain.proofs.HostItems.{routed_then, well_prefix, told_same, judged_final, final_node}
-use Rattle.proof_course_plain.proofs.HostJudging.{Bytes}
+use Rattle.proof_course_plain.proofs.HostJudgements.{Bytes}
 use Rattle.host_model.proofs.Going.{final_session}
-use Rattle.proof_once.proofs.Going.{told_more}
+use Rattle.proof_once.proofs.TieSteps.{told_more}
 use Rattle.proof_host.proofs.Commands.{outcome_same}
 use Rattle.proof_host.proofs.Effects.{held_commands}
 use Rattle.proof_course_plain.proofs.Told.{PastLaws, past_kept, outcomes_kept, outcomes_stay}
@@ -60,12 +60,12 @@ use Rattle.proof_course_sealed.specs.Meaning.{Past}
 use Rattle.proof_course_sealed.specs.Lines.{Tells}
 use Rattle.proof_course_sealed.specs.Host.{AtHost}
 use Rattle.proof_course_sealed.specs.HostGoing.{HostFollows, HostGoes}
-use Rattle.proof_course_sealed.proofs.Thinning.{node_on, node_up, host_on}
-use Rattle.proof_course_sealed.proofs.Going.{FactLaws, facts_go, goes_nowhere, grows_none, list_same}
-use Rattle.proof_course_sealed.proofs.HostKeeping.{holding_same}
-use Rattle.proof_course_sealed.proofs.HostDoing.{none_some}
-use Rattle.proof_course_sealed.proofs.HostGoing.{OneGoes, AreAside, goes_then, asides_go}
-use Rattle.proof_course_sealed.proofs.HostJudging.{Opens, JudgesNext, MarkJudges, SaidDoes, MarkDoes, IsGiving, IsEnding, item_does}
+use Rattle.proof_course_sealed.proofs.ThinnedWays.{node_on, node_up, host_on}
+use Rattle.proof_course_sealed.proofs.CourseSteps.{FactLaws, facts_go, goes_nowhere, grows_none, list_same}
+use Rattle.proof_course_sealed.proofs.KeptBooks.{holding_same}
+use Rattle.proof_course_sealed.proofs.HostActs.{none_some}
+use Rattle.proof_course_sealed.proofs.HostSteps.{OneGoes, AreAside, goes_then, asides_go}
+use Rattle.proof_course_sealed.proofs.HostJudgements.{Opens, JudgesNext, MarkJudges, SaidDoes, MarkDoes, IsGiving, IsEnding, item_does}
 use Rattle.proof_course_sealed.proofs.HostNonces.{Laws as NonceLaws, Books, judged, NodeAt, silent, sessions_down, node_has_down, host_has_down, drops, takes, report_first, spent, node_left, host_left, spends, offers, gives, given_to}
 
 -- the laws that are used

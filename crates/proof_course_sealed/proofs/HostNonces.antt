@@ -49,24 +49,24 @@ use Rattle.proof_course_plain.specs.Ways.{Thinned, Goes}
 use Rattle.proof_course_plain.specs.Mesh.{labels}
 use Rattle.proof_course_plain.specs.Lines.{OnWay}
 use Rattle.proof_course_plain.specs.Told.{HasPast}
-use Rattle.proof_course_plain.proofs.Thinning.{goes_nowhere as sessions_nowhere}
+use Rattle.proof_course_plain.proofs.ThinnedWays.{goes_nowhere as sessions_nowhere}
 use Rattle.proof_course_plain.proofs.Flights.{beside-append}
-use Rattle.proof_course_plain.proofs.Moving.{thinned_same, labels-append}
-use Rattle.proof_course_plain.proofs.HostDoing.{BeginsNone, SameAir as SameOutside, routed_air, way_weaker}
+use Rattle.proof_course_plain.proofs.WayLabels.{thinned_same, labels-append}
+use Rattle.proof_course_plain.proofs.HostActs.{BeginsNone, SameAir as SameOutside, routed_air, way_weaker}
 use Rattle.proof_course_sealed.specs.Labels.{Late, Reports, Shows, picked, sealed_for, offer_of, report_of, shown_by, answers_for}
 use Rattle.proof_course_sealed.specs.Courses.{Courses, NodeGoes, HostGoes as NoncesGo, CoursesGo, CoursesFacts, GoDown, HasSeen, with_down}
 use Rattle.proof_course_sealed.specs.Meaning.{Past, GoesOn, Grows, IsSealedMessage}
 use Rattle.proof_course_sealed.specs.Lines.{Tells, Asks}
 use Rattle.proof_course_sealed.specs.Host.{TextIs, TaskIs, AtHost}
 use Rattle.proof_course_sealed.specs.HostGoing.{HostFollows, HostGoes}
-use Rattle.proof_course_sealed.proofs.Thinning.{node_step, node_nowhere, host_step, host_nowhere, host_on}
-use Rattle.proof_course_sealed.proofs.Going.{list_same, grows_none}
+use Rattle.proof_course_sealed.proofs.ThinnedWays.{node_step, node_nowhere, host_step, host_nowhere, host_on}
+use Rattle.proof_course_sealed.proofs.CourseSteps.{list_same, grows_none}
 use Rattle.proof_course_sealed.proofs.Meanings.{sealed_message_stays}
-use Rattle.proof_course_sealed.proofs.HostKeeping.{tasks_stay}
+use Rattle.proof_course_sealed.proofs.KeptBooks.{tasks_stay}
 use Rattle.proof_course_sealed.proofs.Elsewhere.{AirStays, asks_stays, tells_stays, mesh_stays}
-use Rattle.proof_course_sealed.proofs.HostDoing.{none_some}
+use Rattle.proof_course_sealed.proofs.HostActs.{none_some}
 use Rattle.proof_course_sealed.proofs.HostEvents.{text_stays}
-use Rattle.proof_course_sealed.proofs.HostJudging.{IsTaking}
+use Rattle.proof_course_sealed.proofs.HostJudgements.{IsTaking}
 use Rattle.proof_messages.proofs.Bare.{never_ends}
 
 -- ---- the courses as the host judges

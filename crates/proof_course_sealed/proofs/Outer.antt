@@ -43,9 +43,9 @@ use Rattle.proof_serial.proofs.ChipWays.{does_one, does_each}
 use Rattle.proof_course_plain.specs.Ways.{Beside, Thinned}
 use Rattle.proof_course_plain.specs.Mesh.{labels}
 use Rattle.proof_course_plain.specs.Lines.{ItemIs, OnWay}
-use Rattle.proof_course_plain.proofs.Moving.{thinned_same, thinned_after, thinned_then, first_label}
-use Rattle.proof_course_plain.proofs.ChipTelling.{ChipTells}
-use Rattle.proof_course_plain.proofs.HostDoing.{way_weaker}
+use Rattle.proof_course_plain.proofs.WayLabels.{thinned_same, thinned_after, thinned_then, first_label}
+use Rattle.proof_course_plain.proofs.ChipNotices.{ChipTells}
+use Rattle.proof_course_plain.proofs.HostActs.{way_weaker}
 use Rattle.proof_course_plain.proofs.Outer.{Way, WayGoes, way_goes, thinned_given, Departs, item_air, asked_node}
 use Rattle.proof_course_sealed.specs.Labels.{Sent, Sealed, Offer, Reports, Shows, Late, Held, Up, Of_host, Down, Of_node, picked, offer_of, report_of, shown_by, answers_for, as_session, as_node, as_host}
 use Rattle.proof_course_sealed.specs.Courses.{Courses, CoursesGo, HostGoes, GoUp, GoDown, with_up, with_down, Aloft, of_sessions, of_node, of_host, SameBooks, SameUp, AddsDown}
@@ -54,8 +54,8 @@ use Rattle.proof_course_sealed.specs.Air.{MeansBy, Bears, OnAir, Puts}
 use Rattle.proof_course_sealed.specs.Mesh.{InMesh, IsTold}
 use Rattle.proof_course_sealed.specs.Lines.{Tells, Asks, asked_as}
 use Rattle.proof_course_sealed.specs.Outside.{Follows, OuterGoes}
-use Rattle.proof_course_sealed.proofs.Thinning.{picked-append, up_together, down_together}
-use Rattle.proof_course_sealed.proofs.Going.{goes_on, goes_once, goes_nowhere, grows_none, gives_none, gives_grows}
+use Rattle.proof_course_sealed.proofs.ThinnedWays.{picked-append, up_together, down_together}
+use Rattle.proof_course_sealed.proofs.CourseSteps.{goes_on, goes_once, goes_nowhere, grows_none, gives_none, gives_grows}
 use Rattle.proof_course_sealed.proofs.Elsewhere.{asks_stays, tells_stays, SameLock, AirStays, mesh_with, mesh_up, mesh_down}
 
 -- ---- other labels on their way

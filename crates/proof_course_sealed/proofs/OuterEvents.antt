@@ -36,16 +36,16 @@ use Rattle.outside_model.specs.Events.{OuterEvent, Begins_line, Begins_tick, Hos
 use Rattle.proof_traffic.specs.OnAir.{OuterStaysFew}
 use Rattle.proof_serial.specs.Way.{Carries}
 use Rattle.proof_serial.proofs.Ways.{carries_none}
-use Rattle.proof_device.proofs.Telling.{place_is}
+use Rattle.proof_device.proofs.ChangesOutside.{place_is}
 use Rattle.proof_course_plain.specs.Ways.{Thinned}
 use Rattle.proof_course_plain.specs.Making.{Makes, AllMake, HearsNone}
 use Rattle.proof_course_plain.specs.Mesh.{labels, brought}
 use Rattle.proof_course_plain.specs.Outside.{SideRests, Rests}
-use Rattle.proof_course_plain.proofs.Moving.{thinned_same, thinned_after, labels-append}
-use Rattle.proof_course_plain.proofs.Making.{first_makes}
+use Rattle.proof_course_plain.proofs.WayLabels.{thinned_same, thinned_after, labels-append}
+use Rattle.proof_course_plain.proofs.MadeSettings.{first_makes}
 use Rattle.proof_course_plain.proofs.Idle.{idle_makes}
 use Rattle.proof_course_plain.proofs.Replies.{one_stands}
-use Rattle.proof_course_plain.proofs.ChipTelling.{ChipTells, tells_still, tells_one, deals_tell, gives_tells, joins_tell, discovers_tell, collides_tell}
+use Rattle.proof_course_plain.proofs.ChipNotices.{ChipTells, tells_still, tells_one, deals_tell, gives_tells, joins_tell, discovers_tell, collides_tell}
 use Rattle.supervision.specs.Device.{Taken}
 use Rattle.s0_crypto.specs.declared.key_pair.Keys.{Keys}
 use Rattle.proof_course_sealed.specs.Labels.{Sent, Late}
@@ -54,8 +54,8 @@ use Rattle.proof_course_sealed.specs.Meaning.{Past, first_past}
 use Rattle.proof_course_sealed.specs.Air.{OnAir}
 use Rattle.proof_course_sealed.specs.Mesh.{HasLock, InMesh, IsTold, MeshGoes}
 use Rattle.proof_course_sealed.specs.Outside.{Follows, OuterGoes}
-use Rattle.proof_course_sealed.proofs.Thinning.{up_together, down_together}
-use Rattle.proof_course_sealed.proofs.Going.{goes_nowhere, gives_none}
+use Rattle.proof_course_sealed.proofs.ThinnedWays.{up_together, down_together}
+use Rattle.proof_course_sealed.proofs.CourseSteps.{goes_nowhere, gives_none}
 use Rattle.proof_course_sealed.proofs.Elsewhere.{mesh_up, mesh_down}
 use Rattle.proof_course_sealed.proofs.Outer.{AirLaws, same_books, books_up, books_down, up_down, down_up, outer_goes, entered, takes_go}
 

@@ -22,11 +22,11 @@ use Rattle.mesh_sim.specs.Steps.{answered, answered_if}
 use Rattle.proof_messages.specs.Payloads.{IsOffer}
 use Rattle.proof_course_plain.specs.Ways.{Goes}
 use Rattle.proof_course_plain.specs.Device.{IsIdle, finishes}
-use Rattle.proof_course_plain.proofs.Making.{get_other}
+use Rattle.proof_course_plain.proofs.MadeSettings.{get_other}
 use Rattle.proof_course_plain.proofs.Idle.{others_set}
-use Rattle.proof_device.proofs.Telling.{place_set, get_set}
+use Rattle.proof_device.proofs.ChangesOutside.{place_set, get_set}
 use Rattle.proof_course_plain.proofs.Replies.{nodes_set}
-use Rattle.proof_course_plain.proofs.Thinning.{goes_on as sessions_on, goes_once}
+use Rattle.proof_course_plain.proofs.ThinnedWays.{goes_on as sessions_on, goes_once}
 use Rattle.proof_course_sealed.specs.Labels.{Held, Sealed, Offer, Reports, Shows, Up, Of_host, Down, Of_node, as_session, as_node, as_host}
 use Rattle.proof_course_sealed.specs.Courses.{Courses, CoursesGo, NodeGoes, HostGoes, SameBooks, SameUp, AddsDown}
 use Rattle.proof_course_sealed.specs.Meaning.{Past, Grows, HostMeans, NodeMeans}
@@ -34,9 +34,9 @@ use Rattle.proof_course_sealed.specs.Lock.{AtLock}
 use Rattle.proof_course_sealed.specs.Device.{Reply, Nothing, Tells, Gives, Asks, after_message, after_nonce, given_by, waits_by, heard_by, SaysBy}
 use Rattle.proof_course_sealed.specs.Air.{MeansBy, OnAir, SameAir, Puts}
 use Rattle.proof_course_sealed.specs.Mesh.{HasLock}
-use Rattle.proof_course_sealed.proofs.Going.{goes_nowhere, goes_on, grows_none}
+use Rattle.proof_course_sealed.proofs.CourseSteps.{goes_nowhere, goes_on, grows_none}
 use Rattle.proof_course_sealed.proofs.Elsewhere.{SameLock, lock_itself, lock_then, AirStays}
-use Rattle.proof_course_sealed.proofs.Thinning.{node_on, node_step, host_on, host_step}
+use Rattle.proof_course_sealed.proofs.ThinnedWays.{node_on, node_step, host_on, host_step}
 
 -- ---- what stays
 

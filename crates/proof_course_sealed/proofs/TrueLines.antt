@@ -21,14 +21,14 @@ use Rattle.proof_traffic.specs.OnAir.{AlwaysFew}
 use Rattle.proof_once.specs.Truly.{TellTruly, IsTrue, AreTrue}
 use Rattle.proof_course_plain.specs.Told.{HasPast}
 use Rattle.proof_course_plain.specs.HostGoing.{AllWell}
-use Rattle.proof_course_plain.proofs.Telling.{none_true}
+use Rattle.proof_course_plain.proofs.TrueSuccesses.{none_true}
 use Rattle.proof_course_plain.proofs.Whole.{units_each, fed_outside}
 use Rattle.proof_course_sealed.specs.Courses.{Courses, CoursesFacts}
 use Rattle.proof_course_sealed.specs.Meaning.{Past}
 use Rattle.proof_course_sealed.specs.HostGoing.{HostFollows}
 use Rattle.proof_course_sealed.specs.World.{WorldFollows, WorldGoes, IsFitly, HearsInPipe}
 use Rattle.proof_course_sealed.proofs.Whole.{Laws, fed_follows, event_goes}
-use Rattle.proof_course_sealed.proofs.HostTelling.{aside_ends}
+use Rattle.proof_course_sealed.proofs.TrueSuccesses.{aside_ends}
 
 -- the law of items
 abbrev pub Judges : Type 0

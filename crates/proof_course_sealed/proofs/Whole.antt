@@ -32,7 +32,7 @@ use Rattle.proof_serial.specs.Way.{Carries}
 use Rattle.proof_serial.specs.Line.{host_units, WritesWell, AllWriteWell, OuterAtRest, IsAtRest, AllAtRest}
 use Rattle.proof_serial.specs.Chip.{HasFrames}
 use Rattle.proof_serial.proofs.Outer.{Written}
-use Rattle.proof_serial.proofs.Reading.{LeftOf}
+use Rattle.proof_serial.proofs.EndedItems.{LeftOf}
 use Rattle.proof_serial.proofs.Ways.{carries_left}
 use Rattle.proof_world.specs.Restarts.{StartsWell, KeepsWell, AllKeepWell, IsHeld}
 use Rattle.proof_traffic.specs.OnAir.{OuterStaysFew, EventStaysFew, AlwaysFew}
@@ -41,7 +41,7 @@ use Rattle.proof_course_plain.specs.Lines.{OnWay}
 use Rattle.proof_course_plain.specs.Outside.{Rests}
 use Rattle.proof_course_plain.specs.Told.{HasPast}
 use Rattle.proof_course_plain.specs.HostGoing.{AllWell}
-use Rattle.proof_course_plain.proofs.HostDoing.{SameAir, note_air}
+use Rattle.proof_course_plain.proofs.HostActs.{SameAir, note_air}
 use Rattle.proof_course_plain.proofs.Told.{PastLaws, past_kept}
 use Rattle.proof_course_plain.proofs.Whole.{note_written, units_each, fed_outside, rests_of}
 use Rattle.proof_course_sealed.specs.Courses.{Courses, CoursesFacts}
@@ -52,9 +52,9 @@ use Rattle.proof_course_sealed.specs.Outside.{Follows, OuterGoes}
 use Rattle.proof_course_sealed.specs.Host.{AsksFitly}
 use Rattle.proof_course_sealed.specs.HostGoing.{HostFollows, HostGoes, IsUnheard}
 use Rattle.proof_course_sealed.specs.World.{WorldFollows, WorldGoes, IsFitly, HearsInPipe}
-use Rattle.proof_course_sealed.proofs.Going.{FactLaws, facts_go, goes_nowhere, goes_on, grows_none, grows_then, gives_grows}
-use Rattle.proof_course_sealed.proofs.Staying.{host_same}
-use Rattle.proof_course_sealed.proofs.Restarting.{Laws as RestartLaws, restart_goes}
+use Rattle.proof_course_sealed.proofs.CourseSteps.{FactLaws, facts_go, goes_nowhere, goes_on, grows_none, grows_then, gives_grows}
+use Rattle.proof_course_sealed.proofs.KeptMeanings.{host_same}
+use Rattle.proof_course_sealed.proofs.Restarts.{Laws as RestartLaws, restart_goes}
 
 -- ---- entries alone
 

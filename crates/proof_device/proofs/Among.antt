@@ -17,8 +17,8 @@ use Rattle.proof_device.specs.GoingOn.{IsSame}
 use Rattle.proof_device.specs.Showing.{IsShownAmong}
 use Rattle.law_transcript.proofs.Having.{has_either, has_left, has_right}
 use Rattle.proof_device.proofs.Others.{made_both}
-use Rattle.proof_device.proofs.Showing.{Adds, event_tells, new_are, node_at}
-use Rattle.proof_device.proofs.Telling.{TellsOne}
+use Rattle.proof_device.proofs.ShownChanges.{Adds, event_tells, new_are, node_at}
+use Rattle.proof_device.proofs.ChangesOutside.{TellsOne}
 
 -- more entries leave shown what was
 still_among : (past T : List Entry) (device : State) → IsShownAmong past device → IsShownAmong (past ++ T) device

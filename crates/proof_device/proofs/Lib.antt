@@ -1,11 +1,11 @@
-pub mod Staying
-pub mod Moving
-pub mod GoingOn
+pub mod KeptKinds
+pub mod MovedDevices
+pub mod DevicePlaces
 pub mod Once
 pub mod Others
 pub mod HostOuts
 mod HostOthers
-pub mod Telling
+pub mod ChangesOutside
 pub mod Told
-pub mod Showing
+pub mod ShownChanges
 mod Among

@@ -27,7 +27,7 @@ use Rattle.outside_model.specs.Chip.{chip_does}
 use Rattle.outside_model.specs.Devices.{acts_at, device_set, acts_by_hand, set_by_hand}
 use Rattle.outside_model.specs.Events.{OuterEvent, Begins_line, Begins_tick, Host_writes, Host_takes, Host_notes, Host_begins, Chip_takes, Arrives, Gives, Device_ticks, Chip_ticks, Repeats, Wakes_device, Sets_device, Shows, Joins, Discovers, Links, Loses, Loses_acks, Marks_loss, Marks_change, Clears_pipe, Collides_next, Stalls, Cuts, is_own, mesh_of, steps, repeats, devices_repeated, outcome, devices_after, entries}
 use Rattle.proof_device.proofs.Others.{Others, each_other, does_other, gives_other, shown_other, cleared_other, told_other, none_made, made_stamped}
-use Rattle.proof_device.proofs.Telling.{TellsOne, tells_as, acts_told, of_event, each_made, hearing_told, Grows, listener_is, fate_listens}
+use Rattle.proof_device.proofs.ChangesOutside.{TellsOne, tells_as, acts_told, of_event, each_made, hearing_told, Grows, listener_is, fate_listens}
 
 still : (devices : List State) (told : List Entry) → Others told → TellsOne (λ n. made n told) devices devices
 still devices told others = inl (refl, λ n. none_made n told others)

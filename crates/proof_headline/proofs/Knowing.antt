@@ -13,7 +13,7 @@ use Rattle.world_model.specs.Events.{Event, Outside_does, Host_does, Host_takes,
 use Rattle.world_model.specs.Did.{MayAll}
 use Rattle.proof_spoken.specs.Said.{AllTell, TellListing, Tells, TellsListing}
 use Rattle.proof_spoken.proofs.Classes.{LeavesRecords, classes_of, event_kept, joined_place, set_here, set_there}
-use Rattle.proof_messages.proofs.Answering.{some_same}
+use Rattle.proof_messages.proofs.LockSessions.{some_same}
 
 -- ---- what the host knows of the node
 

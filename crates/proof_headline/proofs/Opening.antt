@@ -14,7 +14,7 @@ use Rattle.world_model.specs.Events.{Event, Host_does, May}
 use Rattle.proof_spoken.proofs.Classes.{classes_of}
 use Rattle.proof_course_plain.specs.World.{OrderPlain, OrdersPlain}
 use Rattle.proof_headline.specs.Plain.{IsOpenList, IsPlainKind}
-use Rattle.proof_messages.proofs.Answering.{some_same}
+use Rattle.proof_messages.proofs.LockSessions.{some_same}
 use Rattle.proof_headline.proofs.Carrying.{goes_unsealed}
 
 -- ---- lists

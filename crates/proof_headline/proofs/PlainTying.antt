@@ -7,7 +7,7 @@ use Rattle.proof_course.specs.SessionFacts.{CourseFacts}
 use Rattle.device_sim.specs.State.{State}
 use Rattle.proof_messages.specs.Ending.{HasEnded}
 use Rattle.proof_device.specs.GoingOn.{AreSame, IsSame}
-use Rattle.proof_device.proofs.Telling.{place_is}
+use Rattle.proof_device.proofs.ChangesOutside.{place_is}
 use Rattle.mesh_sim.specs.Fates.{place_of}
 use Rattle.zw_text.specs.Line.{line_at}
 use Rattle.zw_text.specs.declared.line.Line.{Line}

@@ -41,7 +41,7 @@ use Rattle.proof_once.specs.Tied.{MakesWhatIsTaken}
 use Rattle.law_transcript.proofs.Having.{all_has}
 use Rattle.proof_once.specs.Truly.{IsDoneBy, IsTrue, TellTruly, TellsTruly}
 use Rattle.proof_headline.specs.Truly.{MayEndOf}
-use Rattle.proof_spoken.proofs.Noting.{AreRoutine, IsRoutine, after_routine, event_routine}
+use Rattle.proof_spoken.proofs.RoutineNotes.{AreRoutine, IsRoutine, after_routine, event_routine}
 
 -- ---- entries that may stand anywhere
 

@@ -43,7 +43,7 @@ use Rattle.world_lines.specs.Spoken.{Spoken, after as after_line, entries_of}
 use Rattle.proof_spoken.specs.Spoken.{IsSpoken, AreSpoken}
 use Rattle.proof_spoken.proofs.Orders.{IsNoOrder, SameOrders, event_kept}
 use Rattle.proof_spoken.proofs.Plain.{ArePlain, spoken_part, line_kind, line_orders, line_plain, silent_none}
-use Rattle.proof_spoken.proofs.Saying.{events_kept, machine_kept, may_accept, taken_then}
+use Rattle.proof_spoken.proofs.SaidOrders.{events_kept, machine_kept, may_accept, taken_then}
 use Rattle.proof_headline.specs.Truly.{IsAskable, LinesAreTrue}
 use Rattle.proof_headline.proofs.Succeeding.{owned}
 

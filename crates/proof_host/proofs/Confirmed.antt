@@ -31,7 +31,7 @@ use Rattle.proof_host.proofs.Owned.{apart, opened_ends}
 use Rattle.proof_host.proofs.Effect.{SameConfirmed, Begins, Finishes, Effect, Leaving, Unanswering, Accepting, Cancelling, Beginning, Finishing}
 use Rattle.proof_host.proofs.Values.{AreDistinct, confirming_here, confirming_other, settings_distinct}
 use Rattle.proof_host.proofs.InOrder.{opened_is, waiting_is, oldest_is, waiting_waits, oldest_waits}
-use Rattle.proof_host.proofs.Ending.{same_sessions, one_sessions}
+use Rattle.proof_host.proofs.CommandEnds.{same_sessions, one_sessions}
 use Rattle.host_model.proofs.Confirmed.{either_first}
 
 -- ---- what commands give

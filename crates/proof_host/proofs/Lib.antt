@@ -6,13 +6,13 @@ mod Effect
 mod Values
 pub mod Effects
 mod InOrder
-mod Ending
-mod Waiting
+mod CommandEnds
+mod WaitingCommands
 mod Shown
 mod Stored
 pub mod Confirmed
-mod Standing
-mod Keeping
-mod Restarting
-pub mod Living
+mod EntryOrder
+mod FactsKept
+mod Restarts
+pub mod HostsFromRecords
 mod Over

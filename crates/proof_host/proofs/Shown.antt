@@ -18,7 +18,7 @@ use Rattle.proof_host.specs.Facts.{AreAccepted, AreBegun}
 use Rattle.proof_host.proofs.Commands.{outcome_other, outcome_same, outcome_pushed, nodes_set, length-outcome, nodes_pushed, nodes_last, nodes_past}
 use Rattle.proof_host.proofs.Views.{nodes-silent, numbers-silent, sessions-silent, outcome-silent, nodes-ended, numbers-ended, sessions-ended, outcome-ended, outcome-other, nodes-begun, numbers-begun, sessions-begun, sessions-begun_other, outcome-begun, outcome-begun_other, nodes-accepted, nodes-accepted_other, count-accepted, sessions-accepted, outcome-accepted}
 use Rattle.proof_host.proofs.Effect.{Leaves, Accepts, Begins}
-use Rattle.proof_host.proofs.Ending.{Ends, asides_silent}
+use Rattle.proof_host.proofs.CommandEnds.{Ends, asides_silent}
 
 -- by the equations of what an event does
 pub moved : (P : List Entry → List Command → Type 0) {es es' : List Entry} {cs cs' : List Command} → es' ≡ es → cs' ≡ cs → P es cs → P es' cs'

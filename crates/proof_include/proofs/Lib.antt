@@ -7,4 +7,4 @@ pub mod Ticks
 pub mod TickParts
 pub mod Marks
 pub mod Lines
-pub mod Adding
+pub mod AddedNodes

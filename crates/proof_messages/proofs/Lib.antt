@@ -1,20 +1,20 @@
-pub mod Ending
+pub mod DeviceEnds
 pub mod Bare
-mod Opening
+mod OpenedMessages
 mod Verdicts
-pub mod Following
-mod Leaving
-mod Reporting
-mod Saying
-mod Parting
-mod Segmenting
+pub mod SessionMessages
+mod OtherMessages
+mod DeviceReports
+mod DevicePayloads
+mod SegmentParts
+mod DeviceSegments
 mod Courses
-mod Unsealing
-pub mod Numbering
+mod SealedAtLock
+pub mod NonceNumbers
 pub mod Texts
-mod Locking
-mod Hosting
-mod UnsealingByNumber
-mod Showing
-pub mod Answering
+mod LockPayloads
+mod HostNonces
+mod SealedByNumber
+mod ShownNonces
+pub mod LockSessions
 mod Unnumbered

@@ -1,12 +1,12 @@
-mod Carrying
-mod Succeeding
-pub mod Starting
+mod CommandsOfSessions
+mod Successes
+pub mod BegunCommands
 mod Once
-mod Valuing
-mod Confirming
+mod SettingValues
+mod ConfirmedValues
 mod InSessions
-mod Tying
-pub mod Going
-mod Showing
-mod Telling
-pub mod Heading
+mod Ties
+pub mod TieSteps
+mod ShownChanges
+mod ByTranscript
+pub mod Headline

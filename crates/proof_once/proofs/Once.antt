@@ -31,10 +31,10 @@ use Rattle.proof_once.specs.Tied.{IsTied, MakesWhatIsTaken}
 use Rattle.proof_once.specs.ByTable.{OnceByTable}
 use Rattle.law_transcript.proofs.Having.{all_has, all_of}
 use Rattle.proof_device.proofs.Once.{numbers_are}
-use Rattle.proof_once.proofs.Carrying.{carried_has, has_carried, has_session, session_has, session_within}
-use Rattle.proof_once.proofs.Succeeding.{has_success, successes_rise, successes_within, success_has}
-use Rattle.proof_once.proofs.Starting.{IsStarted, started_has}
-use Rattle.proof_once.proofs.Going.{session_prefix}
+use Rattle.proof_once.proofs.CommandsOfSessions.{carried_has, has_carried, has_session, session_has, session_within}
+use Rattle.proof_once.proofs.Successes.{has_success, successes_rise, successes_within, success_has}
+use Rattle.proof_once.proofs.BegunCommands.{IsStarted, started_has}
+use Rattle.proof_once.proofs.TieSteps.{session_prefix}
 
 -- ---- outcomes
 

@@ -22,7 +22,7 @@ use Rattle.proof_serial.specs.Way.{Carries, written_all, items_all}
 use Rattle.proof_serial.specs.Chip.{HasFrames}
 use Rattle.world_model.specs.Settling.{TakesWhole, OuterTakesAll}
 use Rattle.proof_serial.specs.Line.{Carried, IsWhole, AreAtRest, LineAfter, IsAtRest, OuterAtRest, Stays, AllTakeWhole, WritesWell, AllWriteWell, Change, Grows, Becomes, up_change, down_change, host_writes, host_rest, chip_rest, outer_rest}
-use Rattle.proof_serial.proofs.Reading.{feeds_all}
+use Rattle.proof_serial.proofs.EndedItems.{feeds_all}
 use Rattle.proof_serial.proofs.Ways.{carries_all, carries_left}
 use Rattle.proof_serial.proofs.Outer.{Written, routed_all, notes_all, written_both, nothing_done, still_frames, outer_after, tick_still}
 

@@ -1,5 +1,5 @@
-pub mod Reading
-pub mod Changing
+pub mod EndedItems
+pub mod ChangedUnits
 pub mod Ways
 pub mod Frames
 pub mod ChipWays

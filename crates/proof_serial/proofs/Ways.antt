@@ -15,8 +15,8 @@ use Rattle.serial_pipes.specs.declared.pipe.TheConstants.{CAPACITY}
 use Rattle.serial_pipes.specs.declared.marks.Garble.{Garble}
 use Rattle.serial_pipes.specs.declared.marks.Mark.TheVariants.{Lost}
 use Rattle.proof_serial.specs.Way.{Carries, items_of, unit_item, changed_item, written_all, items_all}
-use Rattle.proof_serial.proofs.Reading.{feeds_more, feeds_left, LeftOf}
-use Rattle.proof_serial.proofs.Changing.{changed_text, garbled_long}
+use Rattle.proof_serial.proofs.EndedItems.{feeds_more, feeds_left, LeftOf}
+use Rattle.proof_serial.proofs.ChangedUnits.{changed_text, garbled_long}
 
 -- ---- one unit
 

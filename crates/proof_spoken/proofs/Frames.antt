@@ -37,7 +37,7 @@ use Rattle.zw_base.specs.declared.profile.Profile.{Profile}
 use Rattle.device_kinds.specs.declared.kind.Kind.{Kind as DeviceKind}
 use Rattle.device_kinds.specs.Kind.{classes_of}
 use Rattle.outside_model.specs.Results.{profile_of}
-use Rattle.proof_spoken.proofs.Telling.{NoticeTells, others_tell, failed_tells, kind_tells}
+use Rattle.proof_spoken.proofs.NoticeLists.{NoticeTells, others_tell, failed_tells, kind_tells}
 
 -- what each node lists
 module _ (listing : ℕ → List ℕ) where

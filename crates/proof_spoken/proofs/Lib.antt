@@ -1,16 +1,16 @@
 pub mod Orders
-mod Keeping
+mod KeptCommands
 pub mod Plain
-pub mod Saying
-mod Reading
+pub mod SaidOrders
+mod ReadOrders
 mod Outside
 pub mod Classes
-pub mod Noting
-mod Knowing
-pub mod Telling
+pub mod RoutineNotes
+mod KnownClasses
+pub mod NoticeLists
 pub mod Frames
-pub mod Informing
-pub mod Hearing
-pub mod Listing
-pub mod KnowingLists
-pub mod Speaking
+pub mod ListsAtChip
+pub mod HeardLists
+pub mod NodeLists
+pub mod KnownLists
+pub mod SpokenLines

@@ -6,8 +6,8 @@
 //! events of the machine that each line is. `answers_stand_after_their_lines` is the induction over the lines.
 //! `tables_are_what_was_said` gives what `proof_once` asks of the table. `interviews_give_what_is_known` says which
 //! classes the host then knows, and `lines_tell_what_nodes_list` that they are those that the device lists: the list
-//! goes from the kind of a device to the chip (`proofs/Informing`), through the chip's frames (`proofs/Frames`,
-//! `proofs/Telling`) and over the line to the host (`proofs/Hearing`).
+//! goes from the kind of a device to the chip (`proofs/ListsAtChip`), through the chip's frames (`proofs/Frames`,
+//! `proofs/NoticeLists`) and over the line to the host (`proofs/HeardLists`).
 //! The definitions are in `specs/`: `Spoken` (with what is assumed of restarts), `Said` (what is claimed of an order, and
 //! what is assumed of interviews) and `Interviews`.
 #![tactic(auto)]

@@ -31,7 +31,7 @@ use Rattle.proof_traffic.specs.Requests as course
 use Rattle.proof_traffic.specs.Facts.{flying_in}
 use Rattle.proof_traffic.specs.OutsideTraffic.{flags, one_outward, outward, Follows, Goes}
 use Rattle.proof_traffic.proofs.Mild.{queued_mild, does_mild}
-use Rattle.proof_traffic.proofs.Judging.{Flying}
+use Rattle.proof_traffic.proofs.JudgedItems.{Flying}
 use Rattle.proof_traffic.proofs.Calls.{Half}
 use Rattle.proof_traffic.proofs.Results.{frame_ends_go}
 

@@ -47,7 +47,7 @@ use Rattle.proof_traffic.specs.Requests as course
 use Rattle.proof_traffic.specs.Facts.{flying_in}
 use Rattle.proof_traffic.specs.OutsideTraffic.{flags, outward, no_routes_due, without_frame, Follows, Goes, AreNodes, InTurn}
 use Rattle.proof_traffic.proofs.Mild.{AreMild, mild-append, written_mild, served_mild, queued_mild, Untouched, SameChip, follows_chip, follows_untouched, does_mild}
-use Rattle.proof_traffic.proofs.Judging.{Flying}
+use Rattle.proof_traffic.proofs.JudgedItems.{Flying}
 use Rattle.proof_traffic.proofs.Calls.{Half, Leaves, call_half, call_leaves}
 use Rattle.proof_traffic.proofs.Results.{host_called, less_due}
 use Rattle.proof_traffic.proofs.Arrivals.{told_then, told-append, changed_told, answers_if_told, AreTold, outward-append, Homes, answered_if_homes, within_all, goes_nowhere, goes_later, heard_by_chip, Landing, Nexting, NoNexting, arrives_go}

@@ -11,7 +11,7 @@ use Rattle.proof_traffic.specs.Flights.{flown_in, Fly}
 use Rattle.outside_model.specs.State.{OuterState}
 use Rattle.proof_traffic.specs.Requests.{Traffic}
 use Rattle.proof_traffic.specs.Facts.{RequestFacts, flying_in}
-use Rattle.proof_traffic.proofs.Keeping.{two_by_facts}
+use Rattle.proof_traffic.proofs.FactsKept.{two_by_facts}
 use Rattle.proof_traffic.specs.OutsideTraffic.{one_outward, outward, Follows}
 use Rattle.proof_traffic.proofs.Arrivals.{outward-append}
 use Rattle.proof_traffic.specs.OnAir.{on_air, IsFew}

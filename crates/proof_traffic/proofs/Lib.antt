@@ -1,28 +1,28 @@
 mod Words
-pub mod Keeping
-mod HostGoing
+pub mod FactsKept
+mod HostSteps
 mod Quiet
-mod Submitting
+mod Submissions
 mod Items
-mod HostTicking
+mod HostTicks
 mod FlightsInOrder
 mod Functions
 pub mod Mild
-pub mod Judging
+pub mod JudgedItems
 mod Calls
 mod Results
 pub mod Arrivals
 mod Events
 pub mod Parts
 pub mod Flights
-pub mod Telling
-pub mod Arriving
-pub mod Losing
+pub mod ChipNotices
+pub mod ArrivedFrames
+pub mod LostUnits
 pub mod Calm
-pub mod Going
+pub mod CourseSteps
 pub mod Outside
-pub mod Parting
-pub mod Hosting
-pub mod Settling
-pub mod Ticking
+pub mod EventParts
+pub mod HostCourse
+pub mod Settlings
+pub mod Ticks
 pub mod Lines

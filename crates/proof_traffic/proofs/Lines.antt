@@ -27,11 +27,11 @@ use Rattle.world_model.specs.Prefixes.{SettlesPrefix, EffectPrefix, LineRestPref
 use Rattle.proof_serial.specs.Line.{AreLines}
 use Rattle.proof_traffic.specs.Course.{Follows, Goes}
 use Rattle.proof_traffic.proofs.Parts.{Laws}
-use Rattle.proof_traffic.proofs.Going.{Fair, AllFair, GoesOf, goes_nowhere, goes_both, goes_then, goes_as, goes_none, goes_then_prefix, Begun, goes_whole, goes_prefix}
+use Rattle.proof_traffic.proofs.CourseSteps.{Fair, AllFair, GoesOf, goes_nowhere, goes_both, goes_then, goes_as, goes_none, goes_then_prefix, Begun, goes_whole, goes_prefix}
 use Rattle.proof_traffic.proofs.Outside.{IsFree, free_goes}
-use Rattle.proof_traffic.proofs.Hosting.{IsAsked, asks_go, refuses_goes, shows_goes, restart_begins, restart_goes}
-use Rattle.proof_traffic.proofs.Settling.{settles_go, settles_prefix_go}
-use Rattle.proof_traffic.proofs.Ticking.{ticks_go, ticks_prefix_go}
+use Rattle.proof_traffic.proofs.HostCourse.{IsAsked, asks_go, refuses_goes, shows_goes, restart_begins, restart_goes}
+use Rattle.proof_traffic.proofs.Settlings.{settles_go, settles_prefix_go}
+use Rattle.proof_traffic.proofs.Ticks.{ticks_go, ticks_prefix_go}
 
 -- ---- events that go on to be those of an effect
 

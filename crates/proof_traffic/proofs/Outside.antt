@@ -27,15 +27,15 @@ use Rattle.world_model.specs.State.{Machine}
 use Rattle.world_model.specs.Events.{Event, Outside_does, May, happens}
 use Rattle.world_model.specs.Settling.{OuterTakesAll}
 use Rattle.proof_serial.specs.Line.{LineAfter, Change, Grows, Becomes, outer_up}
-use Rattle.proof_serial.proofs.Reading.{feeds_all}
+use Rattle.proof_serial.proofs.EndedItems.{feeds_all}
 use Rattle.proof_serial.proofs.Events.{event_after, at_rest, rests_after}
 use Rattle.proof_traffic.specs.OnAir.{on_air, IsFew, StaysFew, fed_chip, OuterStaysFew}
 use Rattle.proof_traffic.specs.Course.{Follows, Goes}
 use Rattle.proof_traffic.proofs.Parts.{Laws}
 use Rattle.proof_traffic.proofs.Flights.{hosts_few, follows_on_air}
-use Rattle.proof_traffic.proofs.Losing.{words_both}
+use Rattle.proof_traffic.proofs.LostUnits.{words_both}
 use Rattle.proof_traffic.proofs.Calm.{Calm, calm_entered}
-use Rattle.proof_traffic.proofs.Going.{Fair, whole_of, nodes_kept}
+use Rattle.proof_traffic.proofs.CourseSteps.{Fair, whole_of, nodes_kept}
 
 -- ---- words
 

@@ -42,7 +42,7 @@ use Rattle.host_model.specs.Taking.{IsKeptOr, is_secure, FinalEvents, ReportEven
 use Rattle.proof_traffic.specs.Requests.{Word, Traffic}
 use Rattle.proof_traffic.specs.Requests as course
 use Rattle.proof_traffic.specs.HostTraffic.{words_out, word_on, pending_of, InOrder, Knows, Writes, Goes}
-use Rattle.proof_traffic.proofs.HostGoing.{goes_nowhere, words-append}
+use Rattle.proof_traffic.proofs.HostSteps.{goes_nowhere, words-append}
 
 -- the host's own frame, its request under way, and whether it owes an abort are as they were
 pub record Same (h g : HostState) : Type 0 where

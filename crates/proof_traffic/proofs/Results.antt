@@ -18,7 +18,7 @@ use Rattle.proof_traffic.specs.Requests.{Word, Traffic, Step, called}
 use Rattle.proof_traffic.specs.Requests as course
 use Rattle.proof_traffic.specs.Facts.{flying_in}
 use Rattle.proof_traffic.specs.OutsideTraffic.{flags, outward, no_routes_due, without_frame, Follows, HostStays, Goes}
-use Rattle.proof_traffic.proofs.Judging.{steps-append, may-append}
+use Rattle.proof_traffic.proofs.JudgedItems.{steps-append, may-append}
 use Rattle.proof_traffic.proofs.Calls.{Half, Leaves, call_half, call_leaves}
 
 -- ---- a call changes nothing of the host's

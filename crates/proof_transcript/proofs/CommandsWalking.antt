@@ -18,8 +18,8 @@ use Rattle.world_model.specs.Prefixes.{PassesPrefix, SettlesPrefix, OutsideTickP
 use Rattle.world_model.proofs.Along.{IsAskedBy, IsOfEffect, along, anywhere, effect_along}
 use Rattle.world_model.proofs.Pieces.{Law, Of}
 use Rattle.proof_transcript.proofs.Common.{IsNoBeginning}
-use Rattle.proof_transcript.proofs.Pairing.{Paired, BeginsNone, both_paired, none_paired, outside_none}
-use Rattle.proof_transcript.proofs.Serving.{pump_paired}
+use Rattle.proof_transcript.proofs.PairedEvents.{Paired, BeginsNone, both_paired, none_paired, outside_none}
+use Rattle.proof_transcript.proofs.ServedNodes.{pump_paired}
 
 -- ---- where no session begins
 

@@ -9,7 +9,7 @@ use Rattle.host_model.specs.State.{HostState}
 use Rattle.host_model.specs.Events.{HostEvent, Accepts, Cancels, Finishes, Begins}
 use Rattle.proof_host.specs.Entries.{IsAside, entries_at}
 use Rattle.proof_device.proofs.HostOuts.{OwnIs, SharedAre}
-use Rattle.proof_spoken.proofs.Noting.{entries_are}
+use Rattle.proof_spoken.proofs.RoutineNotes.{entries_are}
 
 -- an entry that does neither
 abbrev pub IsCommon : Entry → Type 0

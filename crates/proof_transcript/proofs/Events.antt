@@ -31,8 +31,8 @@ use Rattle.law_transcript.specs.Lists.{EachAfter}
 use Rattle.proof_host.proofs.Lists.{each-append}
 use Rattle.proof_transcript.proofs.Plain.{IsPlain, Plains, told_plain, shown_plain, cleared_plain}
 use Rattle.proof_transcript.proofs.HostOuts.{PlainOuts, all_outs_plain, answers_plain}
-use Rattle.proof_transcript.proofs.Keeping.{Keeps, Airs, Goes, IsSameTime, keeps_none, keeps_both}
-use Rattle.proof_transcript.proofs.Arriving.{IsFate, Lands}
+use Rattle.proof_transcript.proofs.KeptOverLists.{Keeps, Airs, Goes, IsSameTime, keeps_none, keeps_both}
+use Rattle.proof_transcript.proofs.Arrivals.{IsFate, Lands}
 use Rattle.proof_transcript.proofs.Outcomes.{goes_still, each_goes, does_goes, gives_goes, at_goes, hand_goes}
 
 -- an event that lets no frame arrive, begins no line or tick, and marks no frames; what the host notes speaks of none of these

@@ -22,7 +22,7 @@ use Rattle.world_model.specs.Prefixes.{SettlesPrefix, TicksPrefix, EffectPrefix,
 use Rattle.world_model.proofs.Doing.{happens_all-append, entries_all-append}
 use Rattle.world_lines.specs.Spoken.{Spoken, after, entries_of, transcript_of}
 use Rattle.world_lines.specs.Done.{AreDone}
-use Rattle.proof_transcript.proofs.Keeping.{Keeps, keeps_none, keeps_both}
+use Rattle.proof_transcript.proofs.KeptOverLists.{Keeps, keeps_none, keeps_both}
 use Rattle.proof_transcript.proofs.Events.{IsCalm}
 use Rattle.proof_transcript.proofs.Calm.{CalmlyAfter, Arriving, ArrivingPrefix, IsCalmLine, calm_settling, calm_settling_prefix, calm_effect, calm_effect_prefix, calm_restart_prefix, ticks_calmly, ticks_calmly_prefix}
 

@@ -1,39 +1,39 @@
 mod Common
-mod Entering
-mod Asking
-mod Storing
+mod HostLaws
+mod TakenBack
+mod StoredValues
 mod Heard
-mod Pairing
-mod Serving
+mod PairedEvents
+mod ServedNodes
 mod CommandsWalking
-mod Sending
-mod Following
+mod AttemptUnits
+mod AttemptStarts
 mod Outer
 mod Noted
 mod Hosts
 mod Judged
 mod Routed
-mod Going
+mod TicksBegun
 mod Mild
 mod Shown
-mod Telling
+mod ToldState
 mod Over
-mod Beginning
+mod FirstMachine
 mod Ordered
 mod Values
 mod Nodes
-mod Ending
+mod LastTable
 pub mod Plain
 pub mod HostOuts
-pub mod Keeping
+pub mod KeptOverLists
 pub mod Outcomes
-pub mod Arriving
+pub mod Arrivals
 pub mod Events
-mod Numbering
+mod FrameNumbers
 mod Ring
-mod Marking
+mod MarkedFrames
 mod Calm
 mod FramesWalking
 mod Repeating
-mod Losing
+mod LostFrames
 mod Turning

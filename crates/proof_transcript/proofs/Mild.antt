@@ -27,7 +27,7 @@ use Rattle.world_model.proofs.Own.{IsOwn, pump_own, tick_own}
 use Rattle.world_model.proofs.Pieces.{Of, Law, of_then}
 use Rattle.proof_transcript.proofs.Outer.{IsMildOuter}
 use Rattle.proof_transcript.proofs.Hosts.{IsNoJoin, LeavesRecords}
-use Rattle.proof_transcript.proofs.Going.{IsMild, AreMild, Goes, goes_none, goes_both, mild_goes, tick_goes}
+use Rattle.proof_transcript.proofs.TicksBegun.{IsMild, AreMild, Goes, goes_none, goes_both, mild_goes, tick_goes}
 
 -- ---- a settling
 

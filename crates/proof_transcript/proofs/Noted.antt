@@ -5,7 +5,7 @@ use Rattle.host_model.specs.Outs.{outs}
 use Rattle.host_model.specs.Events.{HostEvent, Accepts, Hears_value}
 use Rattle.proof_host.specs.Entries.{notes_of}
 use Rattle.proof_device.proofs.HostOuts.{OwnIs, SharedAre, outs_are}
-use Rattle.proof_spoken.proofs.Noting.{notes_are}
+use Rattle.proof_spoken.proofs.RoutineNotes.{notes_are}
 use Rattle.proof_transcript.proofs.Outer.{IsPlain, ArePlain}
 
 -- an event at which a value is heard only where that may be

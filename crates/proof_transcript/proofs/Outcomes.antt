@@ -30,7 +30,7 @@ use Rattle.outside_model.specs.Results.{owes_call, call_back, no_route, no_route
 use Rattle.outside_model.specs.Air.{to_chip, sent_entries}
 use Rattle.outside_model.specs.Devices.{changes_entries, new_changes, sends, acts, acts_at, acts_by_hand}
 use Rattle.proof_transcript.proofs.Plain.{Plains, told_plain, changes_plain}
-use Rattle.proof_transcript.proofs.Keeping.{Keeps, Airs, Goes, IsSameTime, same_then, keeps_none, keeps_both, keeps_plain}
+use Rattle.proof_transcript.proofs.KeptOverLists.{Keeps, Airs, Goes, IsSameTime, same_then, keeps_none, keeps_both, keeps_plain}
 
 module _ (Asks : List Entry → Entry → Type 0) (Knows : List Entry → AirState → Type 0) (airs : Airs Asks Knows) where
   -- ---- one thing after another

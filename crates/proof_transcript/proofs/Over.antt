@@ -18,7 +18,7 @@ use Rattle.world_model.specs.Events.{Event, Host_does, Restarts, OpensFrom, happ
 use Rattle.world_model.specs.Did.{AllAlong, MayAll}
 use Rattle.proof_world.specs.Restarts.{StartsWell, KeepsWell, AllKeepWell, AreHeld, IsHeld}
 use Rattle.proof_transcript.proofs.Hosts.{SameJoined}
-use Rattle.proof_transcript.proofs.Telling.{GoesOn, StartsOver}
+use Rattle.proof_transcript.proofs.ToldState.{GoesOn, StartsOver}
 
 abbrev OneThing : Type 0
 OneThing = (texts : List (List ℕ)) (kept other : Kept) → Give texts kept → Give texts other → kept ≡ other

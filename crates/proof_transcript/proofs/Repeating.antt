@@ -15,8 +15,8 @@ use Rattle.outside_model.specs.State.{OuterState, Outside, Outcome}
 use Rattle.outside_model.specs.Events.{Repeats, stamp, has_entered, outcome, repeats}
 use Rattle.world_model.specs.State.{Machine}
 use Rattle.world_model.specs.Events.{Event, Outside_does, happens, entries}
-use Rattle.proof_transcript.proofs.Keeping.{Keeps, Airs, Goes, keeps_both}
-use Rattle.proof_transcript.proofs.Arriving.{IsAgain, repeats_again}
+use Rattle.proof_transcript.proofs.KeptOverLists.{Keeps, Airs, Goes, keeps_both}
+use Rattle.proof_transcript.proofs.Arrivals.{IsAgain, repeats_again}
 use Rattle.proof_transcript.proofs.Events.{Stamps, stamped_keeps}
 use Rattle.proof_transcript.proofs.FramesWalking.{begun}
 

@@ -12,7 +12,7 @@ use Rattle.zw_text.proofs.Views.{folded-append, shown-append}
 use Rattle.law_transcript.specs.Restarts.{begins_refused, is_restart, since_restart, since_restart_from, ticks_asked}
 use Rattle.law_transcript.specs.Stores.{heard_value, last_value}
 use Rattle.proof_transcript.proofs.Outer.{IsPlain, ArePlain}
-use Rattle.proof_transcript.proofs.Going.{last_append}
+use Rattle.proof_transcript.proofs.TicksBegun.{last_append}
 
 -- ---- ticks that lines ask for
 

@@ -30,8 +30,8 @@ use Rattle.world_model.specs.State.{Machine}
 use Rattle.world_model.specs.Events.{Event, Outside_does, happens, entries, May}
 use Rattle.world_model.specs.Did.{happens_all, entries_all, MayAll}
 use Rattle.proof_transcript.proofs.Plain.{IsPlain}
-use Rattle.proof_transcript.proofs.Keeping.{Keeps, Airs, IsAsAired, keeps_none}
-use Rattle.proof_transcript.proofs.Arriving.{IsFate, Lands, arrives_lands}
+use Rattle.proof_transcript.proofs.KeptOverLists.{Keeps, Airs, IsAsAired, keeps_none}
+use Rattle.proof_transcript.proofs.Arrivals.{IsFate, Lands, arrives_lands}
 use Rattle.world_lines.specs.Spoken.{Spoken, transcript_of}
 use Rattle.world_lines.specs.Done.{AreDone}
 use Rattle.proof_transcript.specs.Lines.{IsNoRepeat, RepeatsNone}
@@ -40,7 +40,7 @@ use Rattle.proof_transcript.proofs.Events.{Stamps, calm_keeps}
 use Rattle.proof_transcript.proofs.Calm.{Arriving, ArrivingPrefix}
 use Rattle.proof_transcript.proofs.FramesWalking.{Stands, Walks, RepeatsOnly, begun, lines_stand}
 use Rattle.proof_transcript.proofs.Repeating.{repeat_keeps}
-use Rattle.proof_transcript.proofs.Marking.{shown_one}
+use Rattle.proof_transcript.proofs.MarkedFrames.{shown_one}
 
 -- so many more frames arrive in this tick: those that are due and have no fate yet. Until all have arrived, the last entry is not the words of a `repeat`.
 pub record Flies (left : ℕ) (past : List Entry) (air : AirState) : Type 0 where

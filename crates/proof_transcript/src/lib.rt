@@ -3,7 +3,7 @@
 //! This holds whatever is lost, delayed or repeated, whatever the host does, and whatever becomes of the devices. Each
 //! law is the contract of a function with an empty body, over lines that are said one after another (`proof_spoken`)
 //! and the events of the machine that each line is; the laws themselves are those of `law_transcript`. Of frames:
-//! `lines_number_frames`, `lines_fare_in_turn`, `lines_lose_marked_frames`. Of commands:
+//! `lines_number_frames`, `ticks_decide_each_frame`, `lines_lose_marked_frames`. Of commands:
 //! `commands_are_taken_back_when_asked`, `values_are_stored_as_asked`, `sessions_begin_with_their_unit`. Of the table:
 //! `what_is_told` covers the clock, the joined nodes and the heard values (`specs/Told`), line by line, and
 //! `tables_are_what_is_shown` the whole table if all lines were run whole (`AreWhole` of `proof_spoken`).
@@ -16,5 +16,5 @@ mod table;
 pub use commands::{
     commands_are_taken_back_when_asked, sessions_begin_with_their_unit, values_are_stored_as_asked,
 };
-pub use frames::{lines_fare_in_turn, lines_lose_marked_frames, lines_number_frames};
+pub use frames::{lines_lose_marked_frames, lines_number_frames, ticks_decide_each_frame};
 pub use table::{tables_are_what_is_shown, what_is_told};

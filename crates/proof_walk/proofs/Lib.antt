@@ -7,7 +7,7 @@ pub mod Times
 pub mod Entered
 pub mod Results
 pub mod Linking
-pub mod Noting
+pub mod HostNotes
 pub mod Stamping
 pub mod Machines
 pub mod ByLine

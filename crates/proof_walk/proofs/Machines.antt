@@ -20,7 +20,7 @@ use Rattle.outside_model.proofs.Doing.{happens_all-append, entries_all-append}
 use Rattle.world_model.specs.State.{Machine, begun_in, noted_by, routed, host_does}
 use Rattle.world_model.specs.Events.{Event, Outside_does, Host_does, Host_takes, Decoder_ticks, Refuses, Shows_values, Restarts, answers, notes, shown_values, happens, entries, May}
 use Rattle.proof_walk.specs.Outside.{Pending, Knowing, Outer, Known, CoversOuter, IsSimple, IsNote}
-use Rattle.proof_walk.proofs.Noting.{NoteOuts, all_outs_note}
+use Rattle.proof_walk.proofs.HostNotes.{NoteOuts, all_outs_note}
 use Rattle.proof_walk.proofs.Stamping.{Fits, outer_keeps, session_keeps}
 
 not_own : false ≡ true → ⊥

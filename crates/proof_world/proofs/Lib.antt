@@ -1,7 +1,7 @@
 pub mod Aside
 pub mod Notes
-pub mod Keeping
-pub mod Recording
+pub mod FactsKept
+pub mod HeldRecords
 pub mod Devices
 pub mod Errands
 pub mod Always
@@ -10,5 +10,5 @@ pub mod Heard
 pub mod Nodes
 pub mod Tasks
 pub mod Hosts
-pub mod Opening
+pub mod FirstHosts
 pub mod Runs

@@ -19,7 +19,7 @@ use Rattle.proof_world.specs.Asking.{HostAsks}
 use Rattle.proof_world.proofs.Always.{IsInOrder, AlwaysInOrder, asked_in_order}
 use Rattle.proof_world.proofs.Heard.{all_judged_in_order}
 use Rattle.proof_world.proofs.Hosts.{of_joined, event_fits, event_asks}
-use Rattle.proof_world.proofs.Opening.{first_asks, opened_asks}
+use Rattle.proof_world.proofs.FirstHosts.{first_asks, opened_asks}
 
 -- ---- events of a host
 

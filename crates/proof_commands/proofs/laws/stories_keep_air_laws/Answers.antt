@@ -36,8 +36,8 @@ pub returns-clause-fares : goal.returns-clause-fares
 returns-clause-fares c = λ key old new story unentered is may.
     subst (λ (l : List Entry). FaresInTurn l) (same_transcript (first key old) story)
     (may_fare (transcript_of (first key old) (all_said story)) (RepeatsNothing story) (KeepsRecords key old story)
-    (λ none. c.lines_fare_in_turn.ensures.once (keys_of key) old.records old.devices (all_said story) (none_said story none) (story_done c.lines_are_read_as_said.ensures key old new story unentered is))
-    (λ well. c.lines_fare_in_turn.ensures.again (keys_of key) old.records old.devices (all_said story) (story_done c.lines_are_read_as_said.ensures key old new story unentered is)
+    (λ none. c.ticks_decide_each_frame.ensures.once (keys_of key) old.records old.devices (all_said story) (none_said story none) (story_done c.lines_are_read_as_said.ensures key old new story unentered is))
+    (λ well. c.ticks_decide_each_frame.ensures.again (keys_of key) old.records old.devices (all_said story) (story_done c.lines_are_read_as_said.ensures key old new story unentered is)
     (subst (λ (l : List Entry). HostLaws l) (sym (same_transcript (first key old) story)) (c.stories_keep_laws.ensures.orders key old new story unentered is well)).sessions_keep)
     may)
 

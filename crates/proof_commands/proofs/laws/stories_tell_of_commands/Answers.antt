@@ -9,7 +9,7 @@ use Rattle.host_core.specs.Network.{keys_of}
 use Rattle.world_model.specs.Events.{Event}
 use Rattle.proof_host.specs.Laws.{HostLaws}
 use Rattle.proof_world.specs.Restarts.{AllStartWell}
-use Rattle.proof_spoken.proofs.Speaking.{are_spoken}
+use Rattle.proof_spoken.proofs.SpokenLines.{are_spoken}
 use Rattle.proof_commands.specs.Laws.{first}
 use Rattle.proof_commands.proofs.Speaking.{all_done, all_said, same_events, same_transcript, story_done}
 use Rattle.proof_commands.proofs.Told.{Restarting, fresh, starts_well, story_told}

@@ -1,4 +1,4 @@
-use Rattle.proof_course.proofs.SessionKeeping.{first_facts, each_kept, all_kept}
+use Rattle.proof_course.proofs.SessionFactsKept.{first_facts, each_kept, all_kept}
 use Rattle.proof_course.proofs.sessions.courses_keep_facts.Goals as goal
 
 pub returns-clause-first : goal.returns-clause-first

@@ -1,4 +1,4 @@
-use Rattle.proof_course.proofs.SessionKeeping.{landing_named, repeated_named, kept_named, judged_named}
+use Rattle.proof_course.proofs.SessionFactsKept.{landing_named, repeated_named, kept_named, judged_named}
 use Rattle.proof_course.proofs.sessions.ids_name_one_session.Goals as goal
 
 pub returns-clause-landing : goal.returns-clause-landing

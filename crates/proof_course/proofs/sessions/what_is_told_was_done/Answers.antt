@@ -1,5 +1,5 @@
 use Rattle.proof_course.specs.Sessions.{first_course}
-use Rattle.proof_course.proofs.SessionKeeping.{first_facts, all_kept, step_takes, done_by_facts, applied_by_facts}
+use Rattle.proof_course.proofs.SessionFactsKept.{first_facts, all_kept, step_takes, done_by_facts, applied_by_facts}
 use Rattle.proof_course.specs.Sessions.{after_all}
 use Rattle.proof_course.proofs.sessions.what_is_told_was_done.Goals as goal
 

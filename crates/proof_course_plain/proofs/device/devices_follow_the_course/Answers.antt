@@ -1,6 +1,6 @@
 -- Each clause is a lemma, over the laws of devices and of messages.
 use Rattle.proof_course_plain.proofs.Devices.{fresh_at, payload_heard, tick_goes, wake_goes, set_goes}
-use Rattle.proof_course_plain.proofs.Making.{payload_makes, event_makes}
+use Rattle.proof_course_plain.proofs.MadeSettings.{payload_makes, event_makes}
 use Rattle.proof_course_plain.proofs.device.devices_follow_the_course.Goals as goal
 
 pub returns-clause-fresh : goal.returns-clause-fresh

@@ -1,6 +1,6 @@
 -- Each clause is a lemma.
 use Rattle.chip_sim.proofs.Histories.{well_all}
-use Rattle.proof_course_plain.proofs.Chipping.{chips_move}
+use Rattle.proof_course_plain.proofs.ChipSide.{chips_move}
 use Rattle.proof_course_plain.specs.Mesh.{IsTold}
 use Rattle.proof_course_plain.proofs.lines.chips_carry_reports.Goals as goal
 

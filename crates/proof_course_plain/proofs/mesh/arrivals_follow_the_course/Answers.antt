@@ -1,5 +1,5 @@
 -- Each clause is a lemma, over the laws of the air and of the device.
-use Rattle.proof_course_plain.proofs.Arriving.{arrives_go, repeats_go}
+use Rattle.proof_course_plain.proofs.Arrivals.{arrives_go, repeats_go}
 use Rattle.proof_course_plain.proofs.Replies.{own_goes, ticks_go}
 use Rattle.proof_course_plain.proofs.mesh.arrivals_follow_the_course.Goals as goal
 

@@ -1,6 +1,6 @@
 -- The law is a lemma, over the laws of the air, of the host, of what the bytes mean and of reports.
 use Rattle.proof_course_plain.proofs.HostItems.{nonces_other}
-use Rattle.proof_course_plain.proofs.Telling.{items_true}
+use Rattle.proof_course_plain.proofs.TrueSuccesses.{items_true}
 use Rattle.proof_course_plain.proofs.truth.hosts_are_told_the_truth.Goals as goal
 
 pub returns : goal.returns

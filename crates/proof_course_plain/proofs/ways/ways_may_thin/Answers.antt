@@ -1,5 +1,5 @@
 -- Each clause is a lemma.
-use Rattle.proof_course_plain.proofs.Thinning.{up_thins, down_thins}
+use Rattle.proof_course_plain.proofs.ThinnedWays.{up_thins, down_thins}
 use Rattle.proof_course_plain.proofs.ways.ways_may_thin.Goals as goal
 
 pub returns-clause-up : goal.returns-clause-up

@@ -1,7 +1,7 @@
 -- Each clause is a lemma, over the laws of devices, of messages and of the nonces of each end.
-use Rattle.proof_course_sealed.proofs.Locking.{other_event}
-use Rattle.proof_course_sealed.proofs.Hearing.{payload_heard}
-use Rattle.proof_course_sealed.proofs.LockMaking.{payload_makes}
+use Rattle.proof_course_sealed.proofs.LockStates.{other_event}
+use Rattle.proof_course_sealed.proofs.HeardPayloads.{payload_heard}
+use Rattle.proof_course_sealed.proofs.MadeSettings.{payload_makes}
 use Rattle.proof_course_sealed.proofs.device.locks_follow_the_courses.Goals as goal
 
 pub returns-clause-hears : goal.returns-clause-hears

@@ -3,8 +3,8 @@ use Rattle.std.proofs.Common.{◌*◌, ◌%◌, length}
 use Rattle.transport_segments.specs.Parts.{slice_at}
 use Rattle.host_requests.specs.Frames.{no_more_information}
 use Rattle.host_model.specs.Sessions.{nonce_get}
-use Rattle.proof_course_sealed.proofs.Leaving.{others_leave, messages_leave, segments_leave}
-use Rattle.proof_course_sealed.proofs.HostGoing.{aside_goes}
+use Rattle.proof_course_sealed.proofs.UnsealedMessages.{others_leave, messages_leave, segments_leave}
+use Rattle.proof_course_sealed.proofs.HostSteps.{aside_goes}
 use Rattle.proof_course_sealed.proofs.host.hosts_do_as_the_courses_have_it.Goals as goal
 
 pub returns : goal.returns

@@ -1,6 +1,6 @@
 -- Each clause is a lemma, over the laws of the host, of what the bytes mean and of the courses.
 use Rattle.proof_course_sealed.proofs.HostItems.{judge_items}
-use Rattle.proof_course_sealed.proofs.HostTelling.{items_true}
+use Rattle.proof_course_sealed.proofs.TrueSuccesses.{items_true}
 use Rattle.proof_course_sealed.proofs.host.hosts_judge_as_the_courses_have_it.Goals as goal
 
 pub returns-clause-judges : goal.returns-clause-judges

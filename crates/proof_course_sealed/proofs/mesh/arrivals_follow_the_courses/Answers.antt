@@ -1,5 +1,5 @@
 -- Each clause is a lemma, over the laws of the air, of the lock and of the courses.
-use Rattle.proof_course_sealed.proofs.Arriving.{Laws, arrives_go, repeats_go, own_goes, ticks_go}
+use Rattle.proof_course_sealed.proofs.Arrivals.{Laws, arrives_go, repeats_go, own_goes, ticks_go}
 use Rattle.proof_course_sealed.proofs.mesh.arrivals_follow_the_courses.Goals as goal
 
 laws_of : (c : goal.After-first_bytes_name_one_of_the_host) → Laws

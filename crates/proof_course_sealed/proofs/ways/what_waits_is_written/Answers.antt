@@ -1,5 +1,5 @@
 -- Each clause is a lemma on ways.
-use Rattle.proof_course_sealed.proofs.Thinning.{text_written, task_written}
+use Rattle.proof_course_sealed.proofs.ThinnedWays.{text_written, task_written}
 use Rattle.proof_course_sealed.proofs.ways.what_waits_is_written.Goals as goal
 
 pub returns-clause-text : goal.returns-clause-text

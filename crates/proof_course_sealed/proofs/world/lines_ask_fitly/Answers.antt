@@ -1,6 +1,6 @@
 -- Each clause is a lemma, over what the host sends beside orders.
-use Rattle.proof_course_sealed.proofs.Leaving.{others_leave}
-use Rattle.proof_course_sealed.proofs.Asking.{lines_hear, lines_fitly}
+use Rattle.proof_course_sealed.proofs.UnsealedMessages.{others_leave}
+use Rattle.proof_course_sealed.proofs.OtherAsks.{lines_hear, lines_fitly}
 use Rattle.host_orders.specs.Errands.{send_text, get_text}
 use Rattle.proof_course_sealed.proofs.world.lines_ask_fitly.Goals as goal
 

@@ -1,6 +1,6 @@
 -- Each clause is a lemma, over the laws of the events of the machine, of its line and of courses.
 use Rattle.world_model.specs.State.{first_machine}
-use Rattle.proof_course_sealed.proofs.Running.{first_follows, lines_have, lines_true}
+use Rattle.proof_course_sealed.proofs.Runs.{first_follows, lines_have, lines_true}
 use Rattle.proof_course_sealed.proofs.world.lines_have_courses.Goals as goal
 
 pub returns-clause-first : goal.returns-clause-first

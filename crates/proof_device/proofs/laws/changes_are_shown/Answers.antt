@@ -1,6 +1,6 @@
 -- What one event shows, many show.
 use Rattle.proof_device.proofs.Among.{event_among}
-use Rattle.proof_device.proofs.Showing.{adds_by, event_shows, run_shows, shown_all, groups}
+use Rattle.proof_device.proofs.ShownChanges.{adds_by, event_shows, run_shows, shown_all, groups}
 use Rattle.proof_device.proofs.laws.changes_are_shown.Goals as goal
 
 pub returns-clause-each : goal.returns-clause-each

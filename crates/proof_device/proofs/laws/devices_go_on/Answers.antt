@@ -1,6 +1,6 @@
 -- Each clause is a lemma on events.
-use Rattle.proof_device.proofs.Moving.{one_moves}
-use Rattle.proof_device.proofs.GoingOn.{outside_goes, machine_goes, run_goes}
+use Rattle.proof_device.proofs.MovedDevices.{one_moves}
+use Rattle.proof_device.proofs.DevicePlaces.{outside_goes, machine_goes, run_goes}
 use Rattle.proof_device.proofs.laws.devices_go_on.Goals as goal
 
 pub returns-clause-one : goal.returns-clause-one

@@ -1,6 +1,6 @@
 -- Each clause is a lemma on one device or on a list.
-use Rattle.proof_device.proofs.Staying.{event_same}
-use Rattle.proof_device.proofs.GoingOn.{go_same}
+use Rattle.proof_device.proofs.KeptKinds.{event_same}
+use Rattle.proof_device.proofs.DevicePlaces.{go_same}
 use Rattle.proof_device.proofs.laws.devices_stay_the_same.Goals as goal
 
 pub returns-clause-event : goal.returns-clause-event

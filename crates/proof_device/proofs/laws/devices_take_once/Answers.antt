@@ -1,5 +1,5 @@
 -- What one event keeps, all events keep.
-use Rattle.proof_device.proofs.GoingOn.{go_in_order}
+use Rattle.proof_device.proofs.DevicePlaces.{go_in_order}
 use Rattle.proof_device.proofs.Once.{take_once}
 use Rattle.proof_device.proofs.laws.devices_take_once.Goals as goal
 

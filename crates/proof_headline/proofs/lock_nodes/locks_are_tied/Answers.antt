@@ -3,7 +3,7 @@ use Rattle.std.proofs.Common.{[], Some, refl, sym, subst}
 use Rattle.world_model.specs.State.{Machine, first_machine}
 use Rattle.world_lines.specs.Spoken.{after_all}
 use Rattle.world_lines.specs.Done.{events_of}
-use Rattle.proof_spoken.proofs.Speaking.{lines_of, all_read, all_lines, all_may, all_after}
+use Rattle.proof_spoken.proofs.SpokenLines.{lines_of, all_read, all_lines, all_may, all_after}
 use Rattle.proof_course_sealed.specs.World.{HasCourses}
 use Rattle.proof_headline.proofs.PlainTying.{all_name, course_ties, lines_true}
 use Rattle.proof_headline.proofs.LockTying.{lock_at}

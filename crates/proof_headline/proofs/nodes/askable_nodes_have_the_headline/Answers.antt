@@ -9,7 +9,7 @@ use Rattle.world_model.specs.State.{Machine, first_machine}
 use Rattle.proof_once.specs.Tied.{AreTied}
 use Rattle.world_lines.specs.Spoken.{after_all}
 use Rattle.world_lines.specs.Done.{events_of}
-use Rattle.proof_spoken.proofs.Speaking.{all_after}
+use Rattle.proof_spoken.proofs.SpokenLines.{all_after}
 use Rattle.proof_headline.proofs.PlainTying.{was_there}
 use Rattle.proof_headline.proofs.nodes.askable_nodes_have_the_headline.Goals as goal
 

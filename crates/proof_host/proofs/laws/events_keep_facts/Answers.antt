@@ -1,5 +1,5 @@
 -- What the host keeps and what its nodes record give what the transcript keeps.
-use Rattle.proof_host.proofs.Keeping.{each_kept, all_kept, done_kept}
+use Rattle.proof_host.proofs.FactsKept.{each_kept, all_kept, done_kept}
 use Rattle.proof_host.proofs.laws.events_keep_facts.Goals as goal
 
 pub returns-clause-each : goal.returns-clause-each

@@ -1,4 +1,4 @@
-use Rattle.proof_host.proofs.Keeping.{first_kept}
+use Rattle.proof_host.proofs.FactsKept.{first_kept}
 use Rattle.proof_host.proofs.laws.first_facts_hold.Goals as goal
 
 pub returns : goal.returns

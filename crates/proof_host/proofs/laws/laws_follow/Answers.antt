@@ -1,5 +1,5 @@
-use Rattle.proof_host.proofs.Keeping.{laws_hold}
-use Rattle.proof_host.proofs.Restarting.{stores_hold, tables_shown}
+use Rattle.proof_host.proofs.FactsKept.{laws_hold}
+use Rattle.proof_host.proofs.Restarts.{stores_hold, tables_shown}
 use Rattle.proof_host.proofs.laws.laws_follow.Goals as goal
 
 pub returns-clause-laws : goal.returns-clause-laws

@@ -1,4 +1,4 @@
-use Rattle.proof_host.proofs.Restarting.{told_each, told_all}
+use Rattle.proof_host.proofs.Restarts.{told_each, told_all}
 use Rattle.proof_host.proofs.laws.outcomes_are_told.Goals as goal
 
 pub returns-clause-each : goal.returns-clause-each

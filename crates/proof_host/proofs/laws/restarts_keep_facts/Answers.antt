@@ -1,4 +1,4 @@
-use Rattle.proof_host.proofs.Restarting.{restart_kept, runs_kept}
+use Rattle.proof_host.proofs.Restarts.{restart_kept, runs_kept}
 use Rattle.proof_host.proofs.laws.restarts_keep_facts.Goals as goal
 
 pub returns-clause-one : goal.returns-clause-one

@@ -1,4 +1,4 @@
-use Rattle.proof_host.proofs.Living.{lives_kept}
+use Rattle.proof_host.proofs.HostsFromRecords.{lives_kept}
 use Rattle.proof_host.proofs.lives.lives_keep_facts.Goals as goal
 
 pub returns : goal.returns

@@ -4,7 +4,7 @@ use Rattle.host_keep.specs.Kept.{Kept}
 use Rattle.host_model.specs.Holding.{Holds}
 use Rattle.host_model.specs.State.{first_host}
 use Rattle.proof_host.specs.Lives.{entries_of_lives, last_of_lives}
-use Rattle.proof_host.proofs.Living.{nothing_kept, nothing_legal}
+use Rattle.proof_host.proofs.HostsFromRecords.{nothing_kept, nothing_legal}
 use Rattle.proof_host.proofs.lives.lives_keep_laws.Goals as goal
 
 pub returns-clause-laws : goal.returns-clause-laws

@@ -1,4 +1,4 @@
-use Rattle.proof_host.proofs.Living.{starts_as}
+use Rattle.proof_host.proofs.HostsFromRecords.{starts_as}
 use Rattle.proof_host.proofs.lives.what_is_kept_starts_a_host.Goals as goal
 
 pub returns : goal.returns

@@ -1,5 +1,5 @@
 -- Each clause is a lemma on events.
-use Rattle.proof_messages.proofs.Hosting.{node_leaves, aside_leaves, gives_own, spends_own, starts_own, seals_own, sends_own, accounts_kept}
+use Rattle.proof_messages.proofs.HostNonces.{node_leaves, aside_leaves, gives_own, spends_own, starts_own, seals_own, sends_own, accounts_kept}
 use Rattle.proof_messages.proofs.hosts.hosts_leave_nonces.Goals as goal
 
 pub returns-clause-node : goal.returns-clause-node

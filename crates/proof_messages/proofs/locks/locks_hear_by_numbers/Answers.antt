@@ -1,5 +1,5 @@
 -- Each clause is a lemma on what a lock hears.
-use Rattle.proof_messages.proofs.Locking.{unnumbered_heard, offer_heard, sealed_heard, other_event, sealed_unnamed}
+use Rattle.proof_messages.proofs.LockPayloads.{unnumbered_heard, offer_heard, sealed_heard, other_event, sealed_unnamed}
 use Rattle.proof_messages.proofs.locks.locks_hear_by_numbers.Goals as goal
 
 pub returns-clause-unnumbered : goal.returns-clause-unnumbered

@@ -1,5 +1,5 @@
 -- Each clause is a lemma on a device that hears.
-use Rattle.proof_messages.proofs.Following.{message_followed, message_unheard, asleep_after}
+use Rattle.proof_messages.proofs.SessionMessages.{message_followed, message_unheard, asleep_after}
 use Rattle.proof_messages.proofs.Verdicts.{makes_only}
 use Rattle.proof_messages.proofs.messages.messages_do_what_is_asked.Goals as goal
 

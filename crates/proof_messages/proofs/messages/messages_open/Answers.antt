@@ -1,5 +1,5 @@
 -- Each clause is a lemma on what is written.
-use Rattle.proof_messages.proofs.Opening.{message_opens, target_is, all_read}
+use Rattle.proof_messages.proofs.OpenedMessages.{message_opens, target_is, all_read}
 use Rattle.proof_messages.proofs.messages.messages_open.Goals as goal
 
 pub returns-clause-opened : goal.returns-clause-opened

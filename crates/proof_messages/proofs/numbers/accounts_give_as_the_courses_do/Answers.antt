@@ -1,5 +1,5 @@
 -- Each clause is a lemma on numbers of nonces.
-use Rattle.proof_messages.proofs.Numbering.{first_given, node_gives, host_gives, offered_is}
+use Rattle.proof_messages.proofs.NonceNumbers.{first_given, node_gives, host_gives, offered_is}
 use Rattle.proof_messages.proofs.numbers.accounts_give_as_the_courses_do.Goals as goal
 
 pub returns-clause-first : goal.returns-clause-first

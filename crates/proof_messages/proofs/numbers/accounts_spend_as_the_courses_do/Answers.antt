@@ -1,5 +1,5 @@
 -- Each clause is a lemma on numbers of nonces.
-use Rattle.proof_messages.proofs.Numbering.{node_spends, host_spends, found_live, none_named}
+use Rattle.proof_messages.proofs.NonceNumbers.{node_spends, host_spends, found_live, none_named}
 use Rattle.proof_messages.proofs.numbers.accounts_spend_as_the_courses_do.Goals as goal
 
 pub returns-clause-node : goal.returns-clause-node

@@ -1,5 +1,5 @@
 -- Each clause is a lemma on numbers of nonces.
-use Rattle.proof_messages.proofs.Numbering.{nonce_taken, nonce_stays, one_nonce}
+use Rattle.proof_messages.proofs.NonceNumbers.{nonce_taken, nonce_stays, one_nonce}
 use Rattle.proof_messages.proofs.numbers.sealers_take_as_the_courses_do.Goals as goal
 
 pub returns-clause-taken : goal.returns-clause-taken

@@ -1,5 +1,5 @@
 -- The clause is a lemma.
-use Rattle.proof_messages.proofs.UnsealingByNumber.{sealed_opens}
+use Rattle.proof_messages.proofs.SealedByNumber.{sealed_opens}
 use Rattle.proof_messages.proofs.opened.hosts_open_what_was_sealed.Goals as goal
 
 pub returns : goal.returns

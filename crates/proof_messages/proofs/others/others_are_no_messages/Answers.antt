@@ -1,5 +1,5 @@
 -- Each clause is a lemma on a text, or on a device that hears.
-use Rattle.proof_messages.proofs.Leaving.{nonce_get_other, nonce_report_other, no_more_other, send_other, get_other, other_left}
+use Rattle.proof_messages.proofs.OtherMessages.{nonce_get_other, nonce_report_other, no_more_other, send_other, get_other, other_left}
 use Rattle.proof_messages.proofs.others.others_are_no_messages.Goals as goal
 
 pub returns-clause-nonce_get : goal.returns-clause-nonce_get

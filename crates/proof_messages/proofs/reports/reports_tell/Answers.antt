@@ -1,6 +1,6 @@
 -- Each clause is a lemma on an event.
-use Rattle.proof_messages.proofs.Reporting.{replies_true, status_said}
-use Rattle.proof_messages.proofs.Saying.{fresh_can, event_can}
+use Rattle.proof_messages.proofs.DeviceReports.{replies_true, status_said}
+use Rattle.proof_messages.proofs.DevicePayloads.{fresh_can, event_can}
 use Rattle.proof_messages.proofs.reports.reports_tell.Goals as goal
 
 pub returns-clause-replies : goal.returns-clause-replies

@@ -1,5 +1,5 @@
 -- Each clause is a lemma on a lock that hears.
-use Rattle.proof_messages.proofs.Unsealing.{sealed_followed, sealed_answered}
+use Rattle.proof_messages.proofs.SealedAtLock.{sealed_followed, sealed_answered}
 use Rattle.proof_messages.proofs.sealed.sealed_messages_do_what_is_asked.Goals as goal
 
 pub returns-clause-heard : goal.returns-clause-heard

@@ -1,7 +1,7 @@
 -- Each clause is a lemma on a segment that is heard.
-use Rattle.proof_messages.proofs.Parting.{is_part}
-use Rattle.proof_messages.proofs.Segmenting.{next_segment, other_segment, other_says, segment_elsewhere, part_no_get}
-use Rattle.proof_messages.proofs.Reporting.{complete_none}
+use Rattle.proof_messages.proofs.SegmentParts.{is_part}
+use Rattle.proof_messages.proofs.DeviceSegments.{next_segment, other_segment, other_says, segment_elsewhere, part_no_get}
+use Rattle.proof_messages.proofs.DeviceReports.{complete_none}
 use Rattle.proof_messages.proofs.segments.segments_tell.Goals as goal
 
 pub returns-clause-part : goal.returns-clause-part

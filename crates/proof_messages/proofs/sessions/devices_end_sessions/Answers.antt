@@ -1,5 +1,5 @@
 -- Each event adds what it ends.
-use Rattle.proof_messages.proofs.Ending.{fresh_ended, event_ends}
+use Rattle.proof_messages.proofs.DeviceEnds.{fresh_ended, event_ends}
 use Rattle.proof_messages.proofs.sessions.devices_end_sessions.Goals as goal
 
 pub returns-clause-fresh : goal.returns-clause-fresh

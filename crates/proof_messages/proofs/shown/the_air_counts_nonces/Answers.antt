@@ -1,5 +1,5 @@
 -- Each clause is a lemma on histories.
-use Rattle.proof_messages.proofs.Showing.{first_shown, begins_shown, elsewhere_shown, none_shown, homeward_shown, outward_shown, more_shown, fresh_nonces}
+use Rattle.proof_messages.proofs.ShownNonces.{first_shown, begins_shown, elsewhere_shown, none_shown, homeward_shown, outward_shown, more_shown, fresh_nonces}
 use Rattle.proof_messages.proofs.shown.the_air_counts_nonces.Goals as goal
 
 pub returns-clause-first : goal.returns-clause-first

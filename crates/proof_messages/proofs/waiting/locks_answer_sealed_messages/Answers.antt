@@ -1,5 +1,5 @@
 -- Each clause is a lemma on what a lock hears.
-use Rattle.proof_messages.proofs.Answering.{message_followed, message_waits, fresh_waits, waits_still, says_sealed}
+use Rattle.proof_messages.proofs.LockSessions.{message_followed, message_waits, fresh_waits, waits_still, says_sealed}
 use Rattle.proof_messages.proofs.waiting.locks_answer_sealed_messages.Goals as goal
 
 pub returns-clause-follows : goal.returns-clause-follows

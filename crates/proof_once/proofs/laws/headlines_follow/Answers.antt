@@ -1,4 +1,4 @@
-use Rattle.proof_once.proofs.Heading.{headline, headline_one}
+use Rattle.proof_once.proofs.Headline.{headline, headline_one}
 use Rattle.proof_once.proofs.laws.headlines_follow.Goals as goal
 
 pub returns-clause-one : goal.returns-clause-one

@@ -1,5 +1,5 @@
 use Rattle.std.proofs.Common.{refl}
-use Rattle.proof_once.proofs.Telling.{confirms_so, once_so}
+use Rattle.proof_once.proofs.ByTranscript.{confirms_so, once_so}
 use Rattle.proof_once.proofs.laws.laws_of_transcripts_follow.Goals as goal
 
 pub returns-clause-once : goal.returns-clause-once

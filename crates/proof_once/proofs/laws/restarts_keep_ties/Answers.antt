@@ -1,4 +1,4 @@
-use Rattle.proof_once.proofs.Tying.{tied_again}
+use Rattle.proof_once.proofs.Ties.{tied_again}
 use Rattle.proof_once.proofs.laws.restarts_keep_ties.Goals as goal
 
 pub returns : goal.returns

@@ -1,4 +1,4 @@
-use Rattle.proof_once.proofs.Confirming.{confirms}
+use Rattle.proof_once.proofs.ConfirmedValues.{confirms}
 use Rattle.proof_once.proofs.laws.ties_confirm_what_was_set.Goals as goal
 
 pub returns : goal.returns

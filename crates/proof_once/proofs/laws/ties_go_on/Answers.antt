@@ -1,4 +1,4 @@
-use Rattle.proof_once.proofs.Going.{made_more, made_stays, outcomes_stay, told_more}
+use Rattle.proof_once.proofs.TieSteps.{made_more, made_stays, outcomes_stay, told_more}
 use Rattle.proof_once.proofs.laws.ties_go_on.Goals as goal
 
 pub returns-clause-outcomes : goal.returns-clause-outcomes

@@ -1,4 +1,4 @@
-use Rattle.proof_spoken.proofs.Saying.{line_answers, lines_answer}
+use Rattle.proof_spoken.proofs.SaidOrders.{line_answers, lines_answer}
 use Rattle.proof_spoken.proofs.said.answers_stand_after_their_lines.Goals as goal
 
 pub returns-clause-line : goal.returns-clause-line

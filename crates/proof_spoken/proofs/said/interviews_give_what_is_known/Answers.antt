@@ -1,4 +1,4 @@
-use Rattle.proof_spoken.proofs.Knowing.{first_known, lines_know, same_records}
+use Rattle.proof_spoken.proofs.KnownClasses.{first_known, lines_know, same_records}
 use Rattle.proof_spoken.proofs.said.interviews_give_what_is_known.Goals as goal
 
 pub returns-clause-first : goal.returns-clause-first

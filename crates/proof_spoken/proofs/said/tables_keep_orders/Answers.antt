@@ -1,4 +1,4 @@
-use Rattle.proof_spoken.proofs.Keeping.{event_keeps, machine_keeps}
+use Rattle.proof_spoken.proofs.KeptCommands.{event_keeps, machine_keeps}
 use Rattle.proof_spoken.proofs.said.tables_keep_orders.Goals as goal
 
 pub returns-clause-host : goal.returns-clause-host

@@ -1,6 +1,6 @@
-use Rattle.proof_traffic.proofs.Submitting.{pump_goes}
+use Rattle.proof_traffic.proofs.Submissions.{pump_goes}
 use Rattle.proof_traffic.proofs.Items.{items_go}
-use Rattle.proof_traffic.proofs.HostTicking.{tick_goes}
+use Rattle.proof_traffic.proofs.HostTicks.{tick_goes}
 use Rattle.proof_traffic.proofs.host_steps.hosts_make_requests.Goals as goal
 
 pub returns-clause-pump : goal.returns-clause-pump

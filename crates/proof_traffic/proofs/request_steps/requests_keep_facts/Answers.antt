@@ -1,4 +1,4 @@
-use Rattle.proof_traffic.proofs.Keeping.{first_facts, each_kept, all_kept}
+use Rattle.proof_traffic.proofs.FactsKept.{first_facts, each_kept, all_kept}
 use Rattle.proof_traffic.proofs.request_steps.requests_keep_facts.Goals as goal
 
 pub returns-clause-first : goal.returns-clause-first

@@ -1,5 +1,5 @@
 use Rattle.proof_traffic.specs.Requests.{no_traffic, after_all}
-use Rattle.proof_traffic.proofs.Keeping.{first_facts, all_kept, two_by_facts, room_by_facts}
+use Rattle.proof_traffic.proofs.FactsKept.{first_facts, all_kept, two_by_facts, room_by_facts}
 use Rattle.proof_traffic.proofs.request_steps.two_at_most.Goals as goal
 
 pub returns-clause-always : goal.returns-clause-always

@@ -5,7 +5,7 @@ use Rattle.outside_model.specs.State.{first_outer}
 use Rattle.proof_serial.proofs.First.{first_carried, first_frames, first_at_rest}
 use Rattle.proof_traffic.proofs.Parts.{Laws}
 use Rattle.proof_traffic.proofs.Flights.{follows_on_air}
-use Rattle.proof_traffic.proofs.Going.{all_fair}
+use Rattle.proof_traffic.proofs.CourseSteps.{all_fair}
 use Rattle.proof_traffic.proofs.Lines.{part_goes, lines_go}
 use Rattle.proof_traffic.specs.Requests.{no_traffic}
 use Rattle.proof_traffic.proofs.world_steps.lines_make_requests.Goals as goal

@@ -1,4 +1,4 @@
-use Rattle.proof_transcript.proofs.Asking.{lines_cancel}
+use Rattle.proof_transcript.proofs.TakenBack.{lines_cancel}
 use Rattle.proof_transcript.proofs.commands.commands_are_taken_back_when_asked.Goals as goal
 
 pub returns : goal.returns

@@ -1,5 +1,5 @@
 use Rattle.world_model.specs.State.{first_machine}
-use Rattle.proof_transcript.proofs.Following.{lines_begin_with_units}
+use Rattle.proof_transcript.proofs.AttemptStarts.{lines_begin_with_units}
 use Rattle.proof_transcript.proofs.commands.sessions_begin_with_their_unit.Goals as goal
 
 pub returns : goal.returns

@@ -2,7 +2,7 @@ use Rattle.std.proofs.Common.{[], Some}
 use Rattle.law_transcript.specs.Nodes.{listing_of}
 use Rattle.world_model.specs.State.{first_machine}
 use Rattle.world_lines.specs.Spoken.{after_all, transcript_of}
-use Rattle.proof_transcript.proofs.Storing.{stores_confirmed}
+use Rattle.proof_transcript.proofs.StoredValues.{stores_confirmed}
 use Rattle.proof_transcript.proofs.commands.values_are_stored_as_asked.Goals as goal
 
 pub returns : goal.returns

@@ -1,9 +1,9 @@
 use Rattle.std.proofs.Common.{[], Some, refl}
 use Rattle.world_model.specs.State.{first_machine}
 use Rattle.world_lines.specs.Done.{events_of}
-use Rattle.proof_spoken.proofs.Speaking.{all_lines, all_may, all_read, lines_of}
-use Rattle.proof_transcript.proofs.Beginning.{first_told}
-use Rattle.proof_transcript.proofs.Ending.{lines_told}
+use Rattle.proof_spoken.proofs.SpokenLines.{all_lines, all_may, all_read, lines_of}
+use Rattle.proof_transcript.proofs.FirstMachine.{first_told}
+use Rattle.proof_transcript.proofs.LastTable.{lines_told}
 use Rattle.proof_transcript.proofs.Over.{all_go_on}
 use Rattle.proof_transcript.proofs.table.what_is_told.Goals as goal
 

@@ -1,5 +1,5 @@
 -- What the keeper holds goes on with the host.
-use Rattle.proof_world.proofs.Recording.{first_held, event_held, events_held}
+use Rattle.proof_world.proofs.HeldRecords.{first_held, event_held, events_held}
 use Rattle.proof_world.proofs.machine.restarts_go_on.Goals as goal
 
 pub returns-clause-first : goal.returns-clause-first

@@ -1,5 +1,5 @@
 -- The induction over the events of the machine.
-use Rattle.proof_world.proofs.Keeping.{event_keeps, events_keep}
+use Rattle.proof_world.proofs.FactsKept.{event_keeps, events_keep}
 use Rattle.proof_world.proofs.machine.the_machine_keeps_facts.Goals as goal
 
 pub returns-clause-first : goal.returns-clause-first

@@ -1,0 +1,268 @@
+-- What a device makes of a segment of a message.
+use Rattle.std.proofs.Common.{◌≡◌, ◌≢◌, ℕ, zero, suc, ◌+◌, ◌-◌, ◌%◌, ◌<◌, ◌≤◌, ◌==◌, ◌⊎◌, inl, inr, Bool, true, false, ◌&&◌, nat_lt, if◌then◌else◌, Option, Some, None, List, [], ◌∷◌, length, map, refl, ap, sym, ◌∙◌, subst, arith}
+use Rattle.std.specs.Prelude.{nat_le, slice_index_or, is_some}
+use Rattle.std.specs.List.{AllByRecursion}
+use Rattle.std.proofs.lemmas.Bool.Decides.{Decides-eqb, nat_tests}
+use Rattle.zw_base.specs.Crc.{crc}
+use Rattle.class_info.specs.declared.message.InfoMessage.TheVariants.{TransportComplete}
+use Rattle.class_info.specs.InfoSpelling.{form}
+use Rattle.encap.specs.Begins.{IsMisplaced}
+use Rattle.transport_segments.specs.Segment.{IsSegment, id_of, size_of, offset_of, payload_of, extension_of, check_of, covered_of}
+use Rattle.transport_segments.specs.Faults.{IsSound}
+use Rattle.transport_segments.specs.Places.{IsThere, IsLeastMissing, present}
+use Rattle.transport_segments.specs.Kept.{Reassembly, Empty, Partial}
+use Rattle.transport_segments.specs.Reassembly.{places_after}
+use Rattle.transport_segments.specs.Runs.{IsPart, Agrees}
+use Rattle.transport_segments.specs.Taking.{is_segment, is_sound, ends_its_datagram, first_missing, taken_by, taken_at, kept_after}
+use Rattle.transport_segments.specs.declared.assembler.Taken.TheVariants.{Kept, Need, Whole}
+use Rattle.transport_segments.proofs.PlacesLemmas.{there_at, missing_at}
+use Rattle.transport_segments.proofs.AgreeLemmas.{keeps_agreement}
+use Rattle.transport_segments.proofs.TakingLemmas.{segment_decides}
+use Rattle.device_kinds.specs.declared.kind.Kind.{Kind}
+use Rattle.device_kinds.specs.declared.kind.Kind.TheVariants.{Relay, Switch, Dimmer, Lock, Sensor, Thermostat, Strip, Configurable}
+use Rattle.device_kinds.specs.Kind.{lists}
+use Rattle.device_stack.specs.State.{State, Outcome, silent}
+use Rattle.device_kinds.specs.Segments.{segment_session}
+use Rattle.device_stack.specs.Hearing.{hears_openly, assembles, repeats_segment, hears_segment, hears_in_segments, hears_by, active, hears}
+use Rattle.device_sim.specs.Event.{Hears, outcome_of, device_after, device_replies}
+use Rattle.proof_messages.specs.Asking.{IsLeft}
+use Rattle.proof_messages.specs.Others.{IsNoGet}
+use Rattle.proof_messages.specs.Reporting.{TellsNone}
+use Rattle.proof_messages.specs.Segments.{KeepsPart, KeepsSegment, MakesWhole}
+use Rattle.proof_messages.proofs.Bare.{never_begins}
+use Rattle.proof_messages.proofs.SessionMessages.{left}
+use Rattle.proof_messages.proofs.OtherMessages.{bare_no_get, openly_left, securely_left, if_awake}
+use Rattle.proof_messages.proofs.DeviceReports.{request_none}
+
+-- ---- a sound segment is taken
+
+both : (a b : Bool) → a ≡ true → b ≡ true → a && b ≡ true
+both a b e f = rw (e, f) refl
+
+at_most : (a b : ℕ) → a ≤ b → nat_le a b ≡ true
+at_most a b le = grind (arith, nat_tests)
+
+sound_is : (bytes : List ℕ) → IsSound bytes → is_sound bytes ≡ true
+sound_is bytes sound =
+    let segment : is_segment bytes ≡ true = (segment_decides bytes).1 sound.sized.plain.intact.segment in
+    let check : (check_of bytes == crc (covered_of bytes)) ≡ true = (Decides-eqb (check_of bytes) (crc (covered_of bytes))).1 sound.sized.plain.intact.check in
+    let extension : (extension_of bytes == 0) ≡ true = (Decides-eqb (extension_of bytes) 0).1 sound.sized.plain.extension in
+    let some : nat_le 1 (size_of bytes) ≡ true = at_most 1 (size_of bytes) sound.sized.from_one in
+    let most : nat_le (size_of bytes) 512 ≡ true = at_most (size_of bytes) 512 sound.sized.to_most in
+    let inside : nat_le (offset_of bytes + length (payload_of bytes)) (size_of bytes) ≡ true = at_most (offset_of bytes + length (payload_of bytes)) (size_of bytes) sound.inside in
+    both _ _ (both _ _ (both _ _ (both _ _ (both _ _ segment check) extension) some) most) inside
+
+taken_is : (kept : Reassembly) (bytes : List ℕ) → IsSound bytes → taken_at kept bytes ≡ Some (taken_by (places_after kept bytes) (first_missing 0 (places_after kept bytes)))
+unfolding taken_at
+taken_is kept bytes sound = rw (sound_is bytes sound) refl
+
+none_missing : (from : ℕ) (places : List (Option ℕ)) → first_missing from places ≡ None → places ≡ map Some (present places)
+none_missing from [] e = refl
+none_missing from (None ∷ places) e = cc
+none_missing from (Some byte ∷ places) e = ap (λ (more : List (Option ℕ)). Some byte ∷ more) (none_missing (suc from) places e)
+
+-- the first place that is missing, counted from a number on
+record IsFirstMissing (from : ℕ) (places : List (Option ℕ)) (first : ℕ) : Type 0 where
+  at : ℕ
+  is : first ≡ from + at
+  least : IsLeastMissing places at
+  some : 1 ≤ length places
+
+same_number : (a b : ℕ) → Some a ≡ Some b → a ≡ b
+same_number a b e = cc
+
+one_missing : (from : ℕ) (places : List (Option ℕ)) (first : ℕ) → first_missing from places ≡ Some first → IsFirstMissing from places first
+one_missing from [] first e = cc
+one_missing from (None ∷ places) first e = record {
+  at = 0;
+  is = omega (arith, same_number from first e);
+  least = record { missing = refl; least = λ before less. absurd (omega (arith, less)) };
+  some = omega arith;
+}
+one_missing from (Some byte ∷ places) first e =
+    let later = one_missing (suc from) places first e in
+    let place = later.is in
+    record {
+      at = suc later.at;
+      is = omega (arith, place);
+      least = record { missing = later.least.missing; least = λ before less. there before less later.least.least };
+      some = omega arith;
+    }
+  where
+    there : {at : ℕ} (before : ℕ) → before < suc at → ((earlier : ℕ) → earlier < at → IsThere places earlier) → IsThere (Some byte ∷ places) before
+    there zero less more = (byte, refl)
+    there (suc before) less more = more before (omega (arith, less))
+
+-- the last byte has come
+abbrev has_last : List (Option ℕ) → Bool
+has_last places = is_some (slice_index_or places (length places - 1) None)
+
+-- what is kept agrees with the message, while one of its bytes is missing
+still_agrees : (message segment : List ℕ) (id : ℕ) (kept : Reassembly) (first : ℕ) → IsPart message id segment → Agrees message id kept
+    → first_missing 0 (places_after kept segment) ≡ Some first → Agrees message id (Partial (id_of segment) (places_after kept segment))
+still_agrees message segment id kept first part agrees e = by (has_last (places_after kept segment)) refl
+  where
+    by : (b : Bool) → has_last (places_after kept segment) ≡ b → Agrees message id (Partial (id_of segment) (places_after kept segment))
+    by true is =
+        let places = places_after kept segment in
+        let missing = one_missing 0 places first e in
+        let some = missing.some in
+        (keeps_agreement message segment id kept (Partial (id_of segment) places) (Need missing.at) part agrees
+        ((missing.least, there_at places (length places - 1) (omega (arith, some)) is), refl)).0
+    by false is =
+        let places = places_after kept segment in
+        let missing = one_missing 0 places first e in
+        let some = missing.some in
+        (keeps_agreement message segment id kept (Partial (id_of segment) places) Kept part agrees
+        (missing_at places (length places - 1) (omega (arith, some)) is, refl)).0
+
+-- ---- the next session's segment
+
+segment_is : (message segment : List ℕ) (id : ℕ) → IsPart message id segment → is_segment segment ≡ true
+segment_is message segment id part = (segment_decides segment).1 part.sound.sized.plain.intact.segment
+
+kept_part : (device : State) (message segment : List ℕ) (id first : ℕ) → IsPart message id segment → Agrees message id device.reassembly
+    → first_missing 0 (places_after device.reassembly segment) ≡ Some first → KeepsPart message id device (record device { active_at = device.clock; reassembly = kept_after device.reassembly segment })
+unfolding kept_after
+kept_part device message segment id first part agrees e = record {
+  untouched = record { journal = refl; sessions = refl; work_left = refl; work = refl };
+  places = places_after device.reassembly segment;
+  kept = ap (λ (n : ℕ). Partial n (places_after device.reassembly segment)) part.session;
+  agrees = still_agrees message segment id device.reassembly first part agrees e;
+}
+
+-- what is answered of segments alone is no report
+abbrev TellNone : List (List ℕ) → Type 0
+TellNone replies = AllByRecursion TellsNone replies
+
+assembled : (device : State) (message segment : List ℕ) (id : ℕ) → IsPart message id segment → Agrees message id device.reassembly
+    → KeepsSegment message id device (assembles (active device) segment (taken_at device.reassembly segment)).device (assembles (active device) segment (taken_at device.reassembly segment)).replies
+    ⊎ MakesWhole id (hears_openly (active device) message).device (hears_openly (active device) message).replies
+    (assembles (active device) segment (taken_at device.reassembly segment)).device (assembles (active device) segment (taken_at device.reassembly segment)).replies
+assembled device message segment id part agrees =
+    rw (taken_is device.reassembly segment part.sound) (by (first_missing 0 (places_after device.reassembly segment)) refl)
+  where
+    asks : (b : Bool) (first : ℕ) → first_missing 0 (places_after device.reassembly segment) ≡ Some first
+        → KeepsSegment message id device (assembles (active device) segment (Some (if b then Need first else Kept))).device (assembles (active device) segment (Some (if b then Need first else Kept))).replies
+    asks true first e = (kept_part device message segment id first part agrees e, (request_none (id_of segment) first, tt))
+    asks false first e = (kept_part device message segment id first part agrees e, tt)
+
+    by : (first : Option ℕ) → first_missing 0 (places_after device.reassembly segment) ≡ first
+        → KeepsSegment message id device (assembles (active device) segment (Some (taken_by (places_after device.reassembly segment) first))).device
+        (assembles (active device) segment (Some (taken_by (places_after device.reassembly segment) first))).replies
+        ⊎ MakesWhole id (hears_openly (active device) message).device (hears_openly (active device) message).replies
+        (assembles (active device) segment (Some (taken_by (places_after device.reassembly segment) first))).device
+        (assembles (active device) segment (Some (taken_by (places_after device.reassembly segment) first))).replies
+    by (Some first) e = inl (asks (has_last (places_after device.reassembly segment)) first e)
+    by None e =
+        let places = places_after device.reassembly segment in
+        let whole : present places ≡ message = (keeps_agreement message segment id device.reassembly Empty (Whole (present places)) part agrees (none_missing 0 places e, refl)).1 in
+        inr (
+          ap (λ (bytes : List ℕ). record (hears_openly (active device) bytes).device { reassembly = Empty }) whole,
+          ap (λ (bytes : List ℕ). form (TransportComplete (id_of segment)) ∷ (hears_openly (active device) bytes).replies) whole
+              ∙ ap (λ (n : ℕ). form (TransportComplete n) ∷ (hears_openly (active device) message).replies) part.session,
+        )
+
+next_assembles : (device : State) (segment : List ℕ) → is_segment segment ≡ true → id_of segment ≡ (device.sessions.taken + 1) % 16
+    → hears_in_segments device segment ≡ assembles device segment (taken_at device.reassembly segment)
+unfolding hears_in_segments hears_segment
+next_assembles device segment is id = rw (is, (Decides-eqb (id_of segment) ((device.sessions.taken + 1) % 16)).1 id) refl
+
+whole_heard : (device : State) (message : List ℕ) → is_segment message ≡ false → hears_in_segments device message ≡ hears_openly device message
+unfolding hears_in_segments
+whole_heard device message is = rw is refl
+
+by_kind : (device : State) (payload drawn : List ℕ) → device.awake ≡ true → device.kind ≡ Configurable
+    → outcome_of device (Hears payload drawn) ≡ hears_in_segments (active device) payload
+unfolding outcome_of hears
+by_kind device payload drawn awake kind = rw (awake, kind) refl
+
+pub next_segment : (device : State) (message segment drawn : List ℕ) (session : ℕ) → device.awake ≡ true → device.kind ≡ Configurable
+    → IsPart message (session % 16) segment → is_segment message ≡ false → session % 16 ≡ (device.sessions.taken + 1) % 16 → Agrees message (session % 16) device.reassembly
+    → KeepsSegment message (session % 16) device (device_after device (Hears segment drawn)) (device_replies device (Hears segment drawn))
+    ⊎ MakesWhole (session % 16) (device_after device (Hears message drawn)) (device_replies device (Hears message drawn)) (device_after device (Hears segment drawn)) (device_replies device (Hears segment drawn))
+unfolding device_after device_replies
+next_segment device message segment drawn session awake kind part whole id agrees =
+    let of_segment : outcome_of device (Hears segment drawn) ≡ assembles (active device) segment (taken_at device.reassembly segment) =
+    by_kind device segment drawn awake kind
+    ∙ next_assembles (active device) segment (segment_is message segment (session % 16) part) (part.session ∙ id) in
+    let of_message : outcome_of device (Hears message drawn) ≡ hears_openly (active device) message =
+    by_kind device message drawn awake kind ∙ whole_heard (active device) message whole in
+    let taken : Outcome = assembles (active device) segment (taken_at device.reassembly segment) in
+    subst (λ (o : Outcome). KeepsSegment message (session % 16) device o.device o.replies ⊎ MakesWhole (session % 16) (outcome_of device (Hears message drawn)).device (outcome_of device (Hears message drawn)).replies o.device o.replies) (sym of_segment)
+    (subst (λ (o : Outcome). KeepsSegment message (session % 16) device taken.device taken.replies ⊎ MakesWhole (session % 16) o.device o.replies taken.device taken.replies) (sym of_message)
+    (assembled device message segment (session % 16) part agrees))
+
+-- ---- any other
+
+never_true : (c : Bool) → (c ≡ true → ⊥) → c ≡ false
+never_true true not = absurd (not refl)
+never_true false not = refl
+
+differs : (a b : ℕ) → a ≢ b → (a == b) ≡ false
+differs a b not = never_true (a == b) (λ e. not ((Decides-eqb a b).0 e))
+
+other_same : (device : State) (segment : List ℕ) → is_segment segment ≡ true → id_of segment ≢ (device.sessions.taken + 1) % 16
+    → ((hears_in_segments device segment).device ≡ device) × ((0 < device.sessions.taken) ⊎ ((hears_in_segments device segment).replies ≡ []))
+unfolding hears_in_segments hears_segment
+other_same device segment is other =
+    rw (is, differs (id_of segment) ((device.sessions.taken + 1) % 16) other)
+    (by (nat_lt 0 device.sessions.taken) refl (id_of segment == segment_session device.sessions.taken) (ends_its_datagram segment))
+  where
+    by : (a : Bool) → nat_lt 0 device.sessions.taken ≡ a → (b d : Bool) → ((if a && b && d then repeats_segment device segment else silent device).device ≡ device)
+        × ((0 < device.sessions.taken) ⊎ ((if a && b && d then repeats_segment device segment else silent device).replies ≡ []))
+    by true some true true = (refl, inl (grind (arith, some)))
+    by true some true false = (refl, inr refl)
+    by true some false d = (refl, inr refl)
+    by false none b d = (refl, inr refl)
+
+pub other_segment : (device : State) (message segment drawn : List ℕ) (session : ℕ) → device.kind ≡ Configurable
+    → IsPart message (session % 16) segment → session % 16 ≢ (device.sessions.taken + 1) % 16 → IsLeft device (device_after device (Hears segment drawn))
+other_segment device message segment drawn session kind part other =
+    if_awake device segment drawn
+    (let same : (hears_by device.kind (active device) segment drawn).device ≡ active device =
+    ap (λ (k : Kind). (hears_by k (active device) segment drawn).device) kind
+    ∙ (other_same (active device) segment (segment_is message segment (session % 16) part) (λ e. other (sym part.session ∙ e))).0 in
+    subst (λ (new : State). IsLeft (active device) new) (sym same) (left (active device)))
+
+pub other_says : (device : State) (message segment drawn : List ℕ) (session : ℕ) → device.awake ≡ true → device.kind ≡ Configurable
+    → IsPart message (session % 16) segment → session % 16 ≢ (device.sessions.taken + 1) % 16 → (0 < device.sessions.taken) ⊎ (device_replies device (Hears segment drawn) ≡ [])
+unfolding device_replies
+other_says device message segment drawn session awake kind part other =
+    subst (λ (o : Outcome). (0 < device.sessions.taken) ⊎ (o.replies ≡ [])) (sym (by_kind device segment drawn awake kind))
+    (other_same (active device) segment (segment_is message segment (session % 16) part) (λ e. other (sym part.session ∙ e))).1
+
+-- ---- at other devices
+
+segment_no_get : (segment : List ℕ) → IsSegment segment → IsNoGet segment
+segment_no_get segment is = bare_no_get segment (record { some = long is.of_command; placed = placed })
+    (rw is.of_class (never_begins _ _))
+  where
+    long : {P Q : Type 0} → (P × (7 ≤ length segment)) ⊎ (Q × (8 ≤ length segment)) → 1 ≤ length segment
+    long (inl (p, l)) = omega (arith, l)
+    long (inr (q, l)) = omega (arith, l)
+
+    placed : IsMisplaced false segment → ⊥
+    placed (inl (inl b)) = let bad : 85 ≡ 143 = sym is.of_class ∙ b.class_is in absurd (omega (arith, bad))
+    placed (inl (inr (inl b))) = let bad : 85 ≡ 108 = sym is.of_class ∙ b.class_is in absurd (omega (arith, bad))
+    placed (inl (inr (inr (inl b)))) = let bad : 85 ≡ 96 = sym is.of_class ∙ b.class_is in absurd (omega (arith, bad))
+    placed (inl (inr (inr (inr b)))) = let bad : 85 ≡ 86 = sym is.of_class ∙ b.class_is in absurd (omega (arith, bad))
+    placed (inr (inside, b)) = let bad : false ≡ true = inside in cc
+
+kind_elsewhere : (kind : Kind) (device : State) (payload drawn : List ℕ) → kind ≢ Configurable → IsNoGet payload → lists device.kind 0x6C ≡ true → IsLeft device (hears_by kind device payload drawn).device
+kind_elsewhere Lock device payload drawn not is known = securely_left device payload drawn is.not_sealed
+kind_elsewhere Configurable device payload drawn not is known = absurd (not refl)
+kind_elsewhere Relay device payload drawn not is known = openly_left device payload is known
+kind_elsewhere Switch device payload drawn not is known = openly_left device payload is known
+kind_elsewhere Dimmer device payload drawn not is known = openly_left device payload is known
+kind_elsewhere Sensor device payload drawn not is known = openly_left device payload is known
+kind_elsewhere Thermostat device payload drawn not is known = openly_left device payload is known
+kind_elsewhere Strip device payload drawn not is known = openly_left device payload is known
+
+pub segment_elsewhere : (device : State) (message segment drawn : List ℕ) (session : ℕ) → device.kind ≢ Configurable → lists device.kind 0x6C ≡ true
+    → IsPart message (session % 16) segment → IsLeft device (device_after device (Hears segment drawn))
+segment_elsewhere device message segment drawn session not known part =
+    if_awake device segment drawn (kind_elsewhere device.kind (active device) segment drawn not (segment_no_get segment part.sound.sized.plain.intact.segment) known)
+
+pub part_no_get : (message segment : List ℕ) (id : ℕ) → IsPart message id segment → IsNoGet segment
+part_no_get message segment id part = segment_no_get segment part.sound.sized.plain.intact.segment
