@@ -83,7 +83,7 @@ pub record Course : Type 0 where
   pub opened : List Opening
   pub sealed : List Seal
 
--- what no entry shows of a host's life: whether each record was kept that its notes ask for, in order (those behind the last were), and what
+-- what no entry shows of a host's life: whether each record was kept that its notes ask for, in order (those after the last were), and what
 -- each message opened to that named a live nonce
 pub record Choices : Type 0 where
   pub keepings : List Bool

@@ -169,7 +169,7 @@ is_unkept_next node [] = false
 is_unkept_next node (Unkept of ∷ rest) = of == node
 is_unkept_next node (entry ∷ rest) = is_mark entry && is_unkept_next node rest
 
--- up to an acknowledgement, behind which these entries stand
+-- up to an acknowledgement, after which these entries stand
 abbrev pub with_nonces_here : (ℕ → List ℕ) → List Entry → Asked → List Entry → Attempts → Attempts
 with_nonces_here listing past last rest attempts =
     if waits_for_nonce listing past last attempts

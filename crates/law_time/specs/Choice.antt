@@ -90,7 +90,7 @@ has_work listing past last now attempts =
     not (are_none (parts_of listing past last now attempts))
     || (is_to_begin attempts.node past && not (is_in_tick (unkept_when attempts.node) past now))
 
--- where a node comes behind the one that was served last: the greater numbers first, in order
+-- where a node comes after the one that was served last: the greater numbers first, in order
 abbrev pub turn_of : ℕ → ℕ → ℕ
 turn_of served node = if nat_lt served node then node else node + MAX_NODE
 

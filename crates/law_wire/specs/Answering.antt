@@ -41,7 +41,7 @@ drops past = length (shown drop_at past)
 abbrev pub most_waiting : ℕ
 most_waiting = 32
 
--- the places of those that were dropped, among all that the chip had for the host: each came behind those begun, those dropped before it, and 32 that waited
+-- the places of those that were dropped, among all that the chip had for the host: each came after those begun, those dropped before it, and 32 that waited
 abbrev pub dropped_at : Course → List Entry → Entry → List ℕ
 dropped_at course past ChipFull = (length (begun course past) + drops past + most_waiting) ∷ []
 dropped_at course past _ = []

@@ -1,4 +1,4 @@
--- What a restart of the host loses on the serial line (this project's own rule): directly behind one that is not refused stands how many bytes were on
+-- What a restart of the host loses on the serial line (this project's own rule): directly after one that is not refused stands how many bytes were on
 -- their way, first from the host and then from the chip, where there were any; and nowhere else.
 use Rattle.std.specs.Prelude.{◌≡◌, ℕ, zero, suc, Bool, true, false, not, ◌&&◌, if◌then◌else◌, List, [], ◌∷◌, ◌++◌, length, ⊤}
 use Rattle.std.specs.List.{flat_map}
@@ -32,7 +32,7 @@ abbrev pub to_clear : List ℕ → List ℕ → List (List Entry)
 to_clear (host ∷ hosts) (chip ∷ chips) = (cleared Host host ++ cleared Chip chip) ∷ to_clear hosts chips
 to_clear _ _ = []
 
--- what of this stands directly behind a restart, and whether more stands behind that
+-- what of this stands directly after a restart, and whether more stands after that
 pub record Cleared_there : Type 0 where
   pub entries : List Entry
   pub is_over : Bool

@@ -39,7 +39,7 @@ restarted_with told = Said (codes "stall 5") ∷ a_get ∷ a_call ∷ Said (code
 abbrev pub both_cleared : List Entry
 both_cleared = restarted_with (Cleared Host 11 ∷ Cleared Chip 7 ∷ [])
 
--- the run ends behind the first of them
+-- the run ends after the first of them
 abbrev pub cleared_in_part : List Entry
 cleared_in_part = Said (codes "stall 5") ∷ a_get ∷ a_call ∷ Said (codes "restart") ∷ Cleared Host 11 ∷ []
 

@@ -32,7 +32,7 @@ pub fn rejected_ticks()
     ensures later { TicksInTime Chip (a_collision ∷ []) (steps_before (hears_frame calling_back ∷ asks ∷ [])) → ⊥ }
 {}
 
-/// A side hears nothing while a stall lasts, and all when it is over; what the host writes behind 63 units of a line may be left.
+/// A side hears nothing while a stall lasts, and all when it is over; what the host writes after 63 units of a line may be left.
 pub fn worked_hearing()
     ensures stalled { HearsInTime Host (a_stall ∷ an_ack Chip ∷ []) (steps_before []) }
     ensures over { HearsInTime Host (a_stall ∷ an_ack Chip ∷ a_tick ∷ []) (steps_before (hears_ack ∷ [])) }
@@ -49,7 +49,7 @@ pub fn rejected_hearing()
     ensures passes { HearsInTime Chip (answers_of_host 63) (hears_so_many 62) → ⊥ }
 {}
 
-/// A collision is asked of the chip behind a line that asks for it; it breaks the law without one, if it is left out, or if it is asked of the host.
+/// A collision is asked of the chip after a line that asks for it; it breaks the law without one, if it is left out, or if it is asked of the host.
 pub fn worked_asking()
     ensures asked { CollidesAsTold Chip (a_collision ∷ []) (steps_before (asks ∷ [])) }
     ensures host { CollidesAsTold Host (a_collision ∷ []) (steps_before []) }

@@ -13,7 +13,7 @@ pub fn worked_times()
 {}
 
 /// Each of these breaks one part of that: the number is left out, stands twice, is not later, belongs to a tick that no line asks for, and has no entry
-/// behind it before the next one or before a line.
+/// after it before the next one or before a line.
 pub fn rejected_times()
     ensures left_out { MayBeTold not_told (Heard 1) → ⊥ }
     ensures twice { MayBeTold just_told (Time 2) → ⊥ }

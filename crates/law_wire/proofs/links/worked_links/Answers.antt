@@ -52,7 +52,7 @@ returns-clause-copied c = record {
   host = keeps_link Host (ended false (copied_in 16)) (acts_of Host (ended false (copied_in 16))) refl refl refl refl refl;
 }
 
--- the host hears in the tick behind the stall what came before
+-- the host hears in the tick after the stall what came before
 pub returns-clause-refused : goal.returns-clause-refused
 unfolding reckoning
 returns-clause-refused c = record {
