@@ -66,7 +66,7 @@ zero_cases n x y z e hit miss = if_cases (eqb n 0) x y z e (λ t. hit (eqb-true 
 prefix_takes : (p q r : Place) (n code : ℕ) (text : List ℕ) → n ≡ code → Takes p q (n ∷ []) → Takes q r text → Takes p r (code ∷ text)
 prefix_takes p q r n code text same first rest = subst (λ (k : ℕ). Takes p r (k ∷ text)) same (Takes-then p q r (n ∷ []) text first rest)
 
--- what was read after a node that is invalid of 0 and the numbers above 232
+-- what was read after a node that is neither 0 nor above 232
 named_takes : (p q r : Place) (n : ℕ) (said : AddedNode) → IsNode n → Takes p q (n ∷ []) → named_at n q ≡ Ok (said, r) → Takes p r (added_spelling said) × IsAdded said
 unfolding named_at
 named_takes p q r n said node first e =

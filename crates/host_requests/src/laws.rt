@@ -11,7 +11,7 @@ ghost use Rattle.host_requests.specs.declared.under_way.UnderWay.{UnderWay as Th
 ghost use Rattle.chip_functions.specs.Request.{request_function};
 
 /// What holds at the beginning, and what each event keeps.
-pub fn what_holds()
+pub fn requests_stay_valid()
     ensures first { IsRequests no_requests }
     ensures step { (s : RequestsState) (event : RequestsEvent) → IsRequests s → May s event → IsRequests (after s event) }
     ensures all { (s : RequestsState) (events : List RequestsEvent) → IsRequests s → MayAll s events → IsRequests (after_all s events) }

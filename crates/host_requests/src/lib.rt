@@ -15,7 +15,7 @@ mod task;
 mod under_way;
 
 pub use end::{End, How};
-pub use laws::{callback_ids, each_request_ends, interviews_are_whole, what_holds};
+pub use laws::{callback_ids, each_request_ends, interviews_are_whole, requests_stay_valid};
 pub use requests::{QUEUE_CAPACITY, Requests};
 pub use task::{Purpose, Task};
 pub use under_way::{Progress, UnderWay};

@@ -22,8 +22,8 @@ use zw_base::{Bytes, List, NoMemory, NodeId, Payload, Setting};
 use zw_text::Outcome;
 
 impl HostCore {
-    /// What holds of a host.
-    pub fn what_holds(&self)
+    /// The invariant of a host.
+    pub fn invariant_holds(&self)
         ensures { HostFacts self.now.state }
     {
         let _ = &self.nodes;

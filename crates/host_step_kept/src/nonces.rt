@@ -89,7 +89,7 @@ fn give_if_kept(
     ensures outs { out.new.items ≡ out.old.items ++ outs core.old.state (chosen is_kept (Gives node drawn) (Is_unkept node)) }
 {
     facts_are_kept();
-    core.what_holds();
+    core.invariant_holds();
     if !is_kept {
         out.put(HostOut::Note(Entry::Unkept { node }));
         return;
@@ -128,7 +128,7 @@ pub fn take_nonce<P: Keeper>(
     ensures never_falls { P.faults keeper.old ≤ P.faults keeper.new }
 {
     facts_are_kept();
-    core.what_holds();
+    core.invariant_holds();
     if seen != core.node(node).seen() {
         out.reserve(1)?;
         if !keep_record(core.alloc(), &Record::Seen { node, seen }, keeper)? {

@@ -57,7 +57,7 @@ pub fn open<P: Keeper>(
     ensures never_falls { P.faults keeper.old ≤ P.faults keeper.new }
 {
     facts_are_kept();
-    core.what_holds();
+    core.invariant_holds();
     let told = read_sealed(core, node, nonce, payload)?;
     let copy = Bytes::from_slice(core.alloc(), payload)?;
     out.reserve(1)?;

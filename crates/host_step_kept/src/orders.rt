@@ -31,7 +31,7 @@ pub fn join<P: Keeper>(core: &mut HostCore, node: NodeId, keeper: &mut P) -> Res
     ensures never_falls { P.faults keeper.old ≤ P.faults keeper.new }
 {
     facts_are_kept();
-    core.what_holds();
+    core.invariant_holds();
     let is_kept = keep_record(core.alloc(), &Record::Joined { node }, keeper)?;
     if is_kept {
         core.join(node);
@@ -57,7 +57,7 @@ pub fn cancel<P: Keeper>(
     ensures never_falls { P.faults keeper.old ≤ P.faults keeper.new }
 {
     facts_are_kept();
-    core.what_holds();
+    core.invariant_holds();
     if !keep_record(core.alloc(), &Record::Cancelled { command }, keeper)? {
         return Ok(false);
     }
@@ -135,7 +135,7 @@ fn end_interview(
         outs core.old.state (chosen is_kept (Interviews node listens classes update) (Interview_unkept node update)) }
 {
     facts_are_kept();
-    core.what_holds();
+    core.invariant_holds();
     core.tell_update(update);
     if !is_kept {
         out.put(HostOut::Note(Entry::Unkept { node }));

@@ -112,7 +112,7 @@ fn end_session(
     ensures outs { out.new.items ≡ out.old.items ++ outs core.old.state (Finishes node session id command status wake_request) }
 {
     facts_are_kept();
-    core.what_holds();
+    core.invariant_holds();
     let is_held = asks_for_hold(core.node(node), wake_request);
     core.finish(node, id, command, status, is_held, confirmed);
     out.put(HostOut::Note(Entry::Out {

@@ -69,7 +69,7 @@ fn restore_joined(core: &mut HostCore, node: NodeId) -> bool
     ensures state { core.new ≡ record core.old { state = restored_if result core.old.state (record_of.Joined node) } }
 {
     a_record_restores_what_it_says();
-    core.what_holds();
+    core.invariant_holds();
     let may = may_join(core, node);
     if may {
         core.join(node);
@@ -83,7 +83,7 @@ fn restore_classes(core: &mut HostCore, node: NodeId, listens: bool, classes: By
     ensures state { core.new ≡ record core.old { state = restored_if result core.old.state (record_of.Classes node listens classes) } }
 {
     a_record_restores_what_it_says();
-    core.what_holds();
+    core.invariant_holds();
     let may = is_joined(core, node);
     if may {
         core.learn(node, listens, classes);
@@ -97,7 +97,7 @@ fn restore_begun(core: &mut HostCore, node: NodeId, session: u64, command: u32) 
     ensures state { core.new ≡ record core.old { state = restored_if result core.old.state (record_of.Begun node session command) } }
 {
     a_record_restores_what_it_says();
-    core.what_holds();
+    core.invariant_holds();
     let may = may_begin(core, node, session, command);
     if may {
         core.begin(node, command);
@@ -116,7 +116,7 @@ fn restore_final(
     ensures state { IfOk result (λ taken. core.new ≡ record core.old { state = restored_if taken core.old.state (record_of.Final node session status) }) }
 {
     a_record_restores_what_it_says();
-    core.what_holds();
+    core.invariant_holds();
     if core.node(node).current() != Some(session) {
         return Ok(false);
     }
@@ -139,7 +139,7 @@ fn restore_cancelled(core: &mut HostCore, command: u32) -> bool
     ensures state { core.new ≡ record core.old { state = restored_if result core.old.state (record_of.Cancelled command) } }
 {
     a_record_restores_what_it_says();
-    core.what_holds();
+    core.invariant_holds();
     let Some(node) = waits_for(core, command) else {
         return false;
     };
@@ -153,7 +153,7 @@ fn restore_given(core: &mut HostCore, node: NodeId, given: u64, nonce: [u8; 8]) 
     ensures state { core.new ≡ record core.old { state = restored_if result core.old.state (record_of.Given node given nonce) } }
 {
     a_record_restores_what_it_says();
-    core.what_holds();
+    core.invariant_holds();
     let may = may_give(core, node, given, nonce);
     if may {
         core.restore_nonce(node, given, nonce);
@@ -167,7 +167,7 @@ fn restore_spent(core: &mut HostCore, node: NodeId) -> bool
     ensures state { core.new ≡ record core.old { state = restored_if result core.old.state (record_of.Spent node) } }
 {
     a_record_restores_what_it_says();
-    core.what_holds();
+    core.invariant_holds();
     let may = has_live(core, node);
     if may {
         core.spend(node);
@@ -181,7 +181,7 @@ fn restore_seen(core: &mut HostCore, node: NodeId, seen: u64) -> bool
     ensures state { core.new ≡ record core.old { state = restored_if result core.old.state (record_of.Seen node seen) } }
 {
     a_record_restores_what_it_says();
-    core.what_holds();
+    core.invariant_holds();
     let may = may_see(core, node, seen);
     if may {
         core.restore_seen(node, seen);
@@ -218,7 +218,7 @@ fn waits_for(core: &HostCore, command: u32) -> Option<NodeId>
     ensures waits { IfSome result (λ node. (node ≡ node_for core.now.state command) × Contains (node_of core.now.state node).waiting command) }
     ensures none { result ≡ None → may_restore core.now.state (record_of.Cancelled command) ≡ false }
 {
-    core.what_holds();
+    core.invariant_holds();
     let node = core.command_at(command)?.order().node;
     if core.node(node).waits(command) {
         Some(node)

@@ -65,7 +65,7 @@ fn begin_or_block(
     ensures outs { out.new.items ≡ out.old.items ++ outs core.old.state (chosen is_kept (Begins node session command) (Begin_unkept node)) }
 {
     facts_are_kept();
-    core.what_holds();
+    core.invariant_holds();
     if !is_kept {
         core.block(node);
         out.put(HostOut::Note(Entry::Unkept { node }));

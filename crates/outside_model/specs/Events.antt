@@ -185,7 +185,7 @@ happens w event = outside (has_entered (outcome w event).outer (outcome w event)
 abbrev pub entries : Outside → OuterEvent → List Entry
 entries w event = stamp (outcome w event).outer (outcome w event).entries
 
--- an event that is invalid of the host's at the line, and a list of such
+-- an event that is not the host's at the line, and a list of such
 abbrev pub is_own : OuterEvent → Bool
 is_own (Host_writes unit) = false
 is_own (Host_takes count) = false

@@ -84,7 +84,7 @@ abbrev pub reserving : Values → ℕ → List Property → Values
 reserving values node [] = values
 reserving values node (property ∷ more) = reserving (map.insert values (node, property) (stored_of values node property)) node more
 
--- a key that is invalid of these properties of the node
+-- a key that is not one of these properties of the node
 abbrev pub is_other : ℕ → List Property → Key → Bool
 is_other node properties key = not ((key.0 == node) && is_among properties key.1)
 

@@ -12,4 +12,4 @@ cancel-requires-clause-waits g c = subst (λ (n : ℕ). Contains (node_of c.args
 pub cancel-requires-clause-facts : goal.cancel-requires-clause-facts
 cancel-requires-clause-facts g c =
     subst (λ (n : ℕ). HostFacts (cancelling c.args.core.now.state n c.args.command)) (sym c.requires.node)
-    (c.facts_are_kept.ensures.each c.args.core.now.state (Cancels c.args.command) c.what_holds.ensures c.requires.may)
+    (c.facts_are_kept.ensures.each c.args.core.now.state (Cancels c.args.command) c.invariant_holds.ensures c.requires.may)

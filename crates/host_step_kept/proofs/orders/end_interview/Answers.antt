@@ -9,4 +9,4 @@ use Rattle.host_step_kept.proofs.orders.end_interview.Goals as goal
 pub learn-requires : goal.learn-requires
 learn-requires c =
     subst (λ (s : HostParts). HostFacts (node_does s.state c.args.node (node_interviews c.args.listens c.args.classes))) (sym c.tell_update.ensures)
-    (c.facts_are_kept.ensures.each c.args.core.now.state (Interviews c.args.node c.args.listens c.args.classes c.args.update) c.what_holds.ensures c.requires.may)
+    (c.facts_are_kept.ensures.each c.args.core.now.state (Interviews c.args.node c.args.listens c.args.classes c.args.update) c.invariant_holds.ensures c.requires.may)

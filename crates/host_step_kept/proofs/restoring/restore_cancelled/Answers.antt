@@ -14,4 +14,4 @@ cancel-requires-clause-facts c =
     let command = c.args.command in
     let found = rw c.in-Some.is at c.waits_for.ensures.waits in
     let may : may_restore h (Cancelled command) ≡ true = may_be_cancelled h command (subst (λ (k : ℕ). Contains (node_of h k).waiting command) found.0 found.1) in
-    subst (λ (n : ℕ). HostFacts (cancelling h n command)) (sym found.0) (c.a_record_restores_what_it_says.ensures.facts h (Cancelled command) c.what_holds.ensures may)
+    subst (λ (n : ℕ). HostFacts (cancelling h n command)) (sym found.0) (c.a_record_restores_what_it_says.ensures.facts h (Cancelled command) c.invariant_holds.ensures may)

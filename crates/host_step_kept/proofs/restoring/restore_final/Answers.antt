@@ -19,7 +19,7 @@ finish-requires-clause-reserved c =
     let carried : command_of_session (node_of h c.args.node).book.commands c.args.session ≡ Some c.unwrap-command.result
     = subst (λ (s : NodeState). command_of_session s.book.commands c.args.session ≡ Some c.unwrap-command.result) c.node-2.ensures.value (sym c.command_of.ensures ∙ c.unwrap-command.ensures) in
     subst (λ (made : List Setting). AllByRecursion (λ (one : Setting). IsReserved h.store c.args.node one.property) made) (sym (c.as_slice.ensures ∙ c.in_ok-confirmed.ensures))
-    (settings_are_kept h c.args.node c.args.session c.unwrap-command.result c.args.status c.what_holds.ensures carried)
+    (settings_are_kept h c.args.node c.args.session c.unwrap-command.result c.args.status c.invariant_holds.ensures carried)
 
 pub finish-requires-clause-facts : goal.finish-requires-clause-facts
 finish-requires-clause-facts c =
@@ -32,4 +32,4 @@ finish-requires-clause-facts c =
     let opened : open_session (node_of h n).book ≡ Some c.args.session
     = subst (λ (s : NodeState). open_session s.book ≡ Some c.args.session) c.node.ensures.value (sym c.current.ensures ∙ current) in
     subst (λ (k : ℕ). HostFacts (finishing h n k command c.args.status)) (sym c.session_id.ensures.value)
-    (final_kept c.a_record_restores_what_it_says.ensures.facts h n c.args.session command c.args.status c.what_holds.ensures (opened_so (open_session (node_of h n).book) c.args.session opened) carried)
+    (final_kept c.a_record_restores_what_it_says.ensures.facts h n c.args.session command c.args.status c.invariant_holds.ensures (opened_so (open_session (node_of h n).book) c.args.session opened) carried)

@@ -8,7 +8,7 @@ use Rattle.host_step_kept.proofs.Waiting.{none_is_cancelled, not_cancelled_by}
 use Rattle.host_step_kept.proofs.restoring.waits_for.Goals as goal
 
 pub returns-in_err-command_at-clause-none : goal.returns-in_err-command_at-clause-none
-returns-in_err-command_at-clause-none c = λ _. none_is_cancelled c.args.core.now.state c.args.command c.what_holds.ensures (sym c.in_err-command_at.ensures)
+returns-in_err-command_at-clause-none c = λ _. none_is_cancelled c.args.core.now.state c.args.command c.invariant_holds.ensures (sym c.in_err-command_at.ensures)
 
 pub returns-else-waits-clause-none : goal.returns-else-waits-clause-none
 returns-else-waits-clause-none c = λ _.

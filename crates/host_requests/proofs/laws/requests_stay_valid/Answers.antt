@@ -1,5 +1,5 @@
 use Rattle.host_requests.proofs.Keeping.{kept, kept_all}
-use Rattle.host_requests.proofs.laws.what_holds.Goals as goal
+use Rattle.host_requests.proofs.laws.requests_stay_valid.Goals as goal
 
 pub returns-clause-step : goal.returns-clause-step
 returns-clause-step c = kept
