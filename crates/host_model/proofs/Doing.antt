@@ -58,10 +58,15 @@ adds_both (Some kept) b c x y first later =
 -- ---- faults
 
 -- what rose twice rose by both
-pub rose_both : (a b f g k : ℕ) → f ≤ g → g ≤ k → RoseBy a f g → RoseBy b g k → RoseBy (a + b) f k
-rose_both a b f g k before later (inl first) (inl last) = inl (omega (arith, first, last))
-rose_both a b f g k before later (inl first) (inr top) = inr top
-rose_both a b f g k before later (inr top) rose = inr (omega (arith, top, later))
+pub rose_both : (a b f g k : ℕ) → RoseBy a f g → RoseBy b g k → RoseBy (a + b) f k
+rose_both a b f g k (inl first) (inl last) = inl (omega (arith, first, last))
+rose_both a b f g k first (inr top) = inr top
+rose_both a b f g k (inr top) (inl last) = inr (omega (arith, top, last))
+
+-- what rose by more rose by less
+pub rose_less : (a b f g : ℕ) → a ≤ b → RoseBy b f g → RoseBy a f g
+rose_less a b f g less (inl rose) = inl (omega (arith, less, rose))
+rose_less a b f g less (inr top) = inr top
 
 pub rose_one : (b : Bool) (f g : ℕ) → f ≤ g → RoseIf b f g → RoseBy (one_if b) f g
 rose_one true f g falls (inl rose) = inl (omega (arith, rose))
@@ -112,6 +117,6 @@ did_both a b old mid new before some all s t u first later =
           ∙ ap (λ (l : List Record). texts_of l) (ap (λ (h : HostState). records_all old a ++ records_all h b) first.state ∙ sym (records_all-append old a b)))
           (adds_both s.records t.records u.records (texts_of (records_all old a)) (texts_of (records_all mid b)) first.records later.records);
       rose = subst (λ (n : ℕ). RoseBy n s.faults u.faults) (sym (unkept-append a b))
-          (rose_both (unkept_in a) (unkept_in b) s.faults t.faults u.faults first.never_falls later.never_falls first.rose later.rose);
+          (rose_both (unkept_in a) (unkept_in b) s.faults t.faults u.faults first.rose later.rose);
       never_falls = omega (arith, first.never_falls, later.never_falls);
     }

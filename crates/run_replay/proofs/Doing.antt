@@ -31,9 +31,9 @@ alone_rose : (e : Event) (f g : ℕ) → RoseBy (unkept_of e) f g → RoseBy (un
 alone_rose e f g rose = subst (λ (n : ℕ). RoseBy n f g) (omega arith) rose
 
 -- those of two lists are both
-both_rose : (a b : List Event) (f g k : ℕ) → f ≤ g → g ≤ k → RoseBy (unkept_in a) f g → RoseBy (unkept_in b) g k → RoseBy (unkept_in (a ++ b)) f k
-both_rose a b f g k before later first last =
-    subst (λ (n : ℕ). RoseBy n f k) (sym (unkept-append a b)) (rose_both (unkept_in a) (unkept_in b) f g k before later first last)
+both_rose : (a b : List Event) (f g k : ℕ) → RoseBy (unkept_in a) f g → RoseBy (unkept_in b) g k → RoseBy (unkept_in (a ++ b)) f k
+both_rose a b f g k first last =
+    subst (λ (n : ℕ). RoseBy n f k) (sym (unkept-append a b)) (rose_both (unkept_in a) (unkept_in b) f g k first last)
 
 -- ---- runs
 
@@ -67,7 +67,7 @@ ran_both a b old mid new first later =
       may = may_all-append old.lone a b first.may (subst (λ (m : Lone). MayAll m b) there later.may);
       state = later.state ∙ (ap (λ (m : Lone). happens_all m b) there ∙ sym (happens_all-append old.lone a b));
       entered = entered_on a b old.lone mid.lone old.entries mid.entries new.entries there first.entered later.entered;
-      rose = both_rose a b old.faults mid.faults new.faults first.never_falls later.never_falls first.rose later.rose;
+      rose = both_rose a b old.faults mid.faults new.faults first.rose later.rose;
       never_falls = omega (arith, first.never_falls, later.never_falls);
     }
 
@@ -111,7 +111,7 @@ stopped_later a old mid new first later =
       records = later.records ∙ ap (λ (m : Lone). m.records) after;
       more = later.more;
       prefix = entered_on a later.events old.lone mid.lone old.entries mid.entries (new.entries ++ later.more) there first.entered later.prefix;
-      rose = both_rose a later.events old.faults mid.faults new.faults first.never_falls later.never_falls first.rose later.rose;
+      rose = both_rose a later.events old.faults mid.faults new.faults first.rose later.rose;
       never_falls = omega (arith, first.never_falls, later.never_falls);
     }
 

@@ -42,7 +42,7 @@ counted_kept e f g kept falls = counted_one e f g (subst (λ (n : ℕ). RoseBy n
 pub counted_both : (a b : List Event) (f g k : ℕ) → Counted a f g → Counted b g k → Counted (a ++ b) f k
 counted_both a b f g k first later = record {
   rose = subst (λ (n : ℕ). RoseBy n f k) (sym (unkept-append a b))
-      (rose_both (unkept_in a) (unkept_in b) f g k first.never_falls later.never_falls first.rose later.rose);
+      (rose_both (unkept_in a) (unkept_in b) f g k first.rose later.rose);
   never_falls = omega (arith, first.never_falls, later.never_falls);
 }
 
