@@ -76,6 +76,10 @@ rose_one false f g falls rose = inl (omega (arith, falls))
 pub rose_none : (f g : ℕ) → f ≤ g → RoseBy 0 f g
 rose_none f g falls = inl (omega (arith, falls))
 
+-- one event has its own alone
+pub unkept_alone : (e : HostEvent) → one_if (is_unkept e) ≡ unkept_in (e ∷ [])
+unkept_alone e = let same : one_if (is_unkept e) ≡ one_if (is_unkept e) + 0 = omega arith in same
+
 unkept-append : (a b : List HostEvent) → unkept_in (a ++ b) ≡ unkept_in a + unkept_in b
 unkept-append [] b = omega arith
 unkept-append (e ∷ a) b = omega (arith, unkept-append a b)
@@ -98,7 +102,7 @@ did_one e old new before all shelf shelf' may range state put records rose falls
       state = state;
       outs = put ∙ ap (λ (t : List HostOut). before ++ t) (sym (append-nil (outs old e)));
       records = subst (λ (t : List Record). OptAdds shelf.records shelf'.records (texts_of t)) (sym (append-nil (records_at old e))) records;
-      rose = subst (λ (n : ℕ). RoseBy n shelf.faults shelf'.faults) (omega arith) (rose_one (is_unkept e) shelf.faults shelf'.faults falls rose);
+      rose = subst (λ (n : ℕ). RoseBy n shelf.faults shelf'.faults) (unkept_alone e) (rose_one (is_unkept e) shelf.faults shelf'.faults falls rose);
       never_falls = falls;
     }
 

@@ -1,5 +1,5 @@
 -- A restart reads the records, line after line.
-use Rattle.std.proofs.Common.{◌≡◌, ◌≢◌, ◌⊎◌, ℕ, ◌+◌, ◌<◌, ◌≤◌, ◌||◌, Bool, true, false, List, [], ◌∷◌, ◌++◌, refl, sym, ap, subst, ◌∙◌, inl, inr, append_assoc, append-nil, arith}
+use Rattle.std.proofs.Common.{◌≡◌, ◌⊎◌, ℕ, ◌+◌, ◌<◌, ◌≤◌, ◌||◌, Bool, true, false, List, [], ◌∷◌, ◌++◌, refl, sym, ap, subst, ◌∙◌, inl, inr, append_assoc, append-nil, true≢false, arith}
 use Rattle.zw_text.specs.Line.{line_at}
 use Rattle.zw_text.specs.declared.line.Line.{Line}
 use Rattle.zw_text.specs.declared.line.Line.TheVariants.{Command, Restart}
@@ -41,15 +41,15 @@ kept_or_refused line es n m r s (inr next) = inr (refused_next line es next)
 
 line_reads : (k : Bool) (line : Line) (refused : Bool) (n m r s : ℕ) → (k ≡ true → 0 < n) → RoseBy 0 r s → Keeps line n m r s ⊎ (refused ≡ true) → RoseBy (reads_of k line refused) r s
 line_reads true Restart false n m r s some falls (inl keeps) = rose_less 1 n r s (some refl) keeps
-line_reads true Restart false n m r s some falls (inr is) = absurd (grind (arith, is))
+line_reads true Restart false n m r s some falls (inr is) = absurd (true≢false (sym is))
 line_reads k line refused n m r s some falls either = falls
 
 -- an order that was accepted added a record
 some_kept : (k : Bool) (line : Line) (es : List Entry) (n m r s : ℕ) → (k ≡ true → 0 < n) → n ≤ m → Keeps line n m r s ⊎ (begins_refused es ≡ true) → (k || accepts line es) ≡ true → 0 < m
 some_kept true line es n m r s some more either is = let first = some refl in omega (arith, first, more)
 some_kept false (Command order) (Accepted command node ∷ es) n m r s some more (inl keeps) is = omega (arith, keeps)
-some_kept false (Command order) (Accepted command node ∷ es) n m r s some more (inr refused) is = absurd (grind (arith, refused))
-some_kept false line es n m r s some more either is = absurd (grind (arith, is))
+some_kept false (Command order) (Accepted command node ∷ es) n m r s some more (inr refused) is = absurd (true≢false (sym refused))
+some_kept false line es n m r s some more either is = absurd (true≢false (sym is))
 
 -- ---- lines that were run whole
 
@@ -110,7 +110,7 @@ record Read (end : LinesEnd) (lines : List (TextLine Line)) (m : Machine) (T : L
   rose : RoseBy (reads_in false m tale.story) r r'
 
 no_order : (n : ℕ) → false ≡ true → 0 < n
-no_order n e = absurd (grind (arith, e))
+no_order n e = absurd (true≢false (sym e))
 
 all_read : (end : LinesEnd) (lines : List (TextLine Line)) (old new : Point) (T : List Entry) → ((story : List Ran) → lines_of story ≡ lines → AreRun end story lines)
     → AllRan LineRan lines old new T → Read end lines old.machine T old.reads new.reads
@@ -135,6 +135,8 @@ part_falls line old new some (inr (stops, goes)) = goes.never_falls
 some_read : (lines : List (TextLine Line)) (old new : Point) (T : List Entry) → StopsIn LineRan PartRan lines old new T → Read NoMemory lines old.machine T old.reads new.reads
 some_read lines old new T stops =
     let whole = read_of stops.prefix old stops.mid stops.before stops.ran in
+    let count = reads_in false old.machine whole.tale.story in
+    let same : count + 0 ≡ count = omega arith in
     record {
       prefix = stops.prefix;
       m' = stops.mid.machine;
@@ -144,8 +146,8 @@ some_read lines old new T stops =
       are = inr (stops.last, ap (λ (l : List (TextLine Line)). l ++ stops.last ∷ []) whole.tale.lines_are ∙ sym stops.lines_are);
       entered = stops.transcript_is;
       whole = λ other. absurd (other refl);
-      rose = subst (λ (k : ℕ). RoseBy k old.reads new.reads) (omega arith)
-          (rose_both (reads_in false old.machine whole.tale.story) 0 old.reads stops.mid.reads new.reads (whole.read false (no_order old.number))
+      rose = subst (λ (k : ℕ). RoseBy k old.reads new.reads) same
+          (rose_both count 0 old.reads stops.mid.reads new.reads (whole.read false (no_order old.number))
           (part_falls stops.last stops.mid new stops.entries stops.stopped));
     }
 

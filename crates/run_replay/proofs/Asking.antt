@@ -24,7 +24,7 @@ use Rattle.host_model.specs.State.{HostState, HostParts}
 use Rattle.host_model.specs.Events.{HostEvent, Accepts, Cancels}
 use Rattle.host_model.specs.Events.{Joins as joins_host}
 use Rattle.host_model.specs.Did.{Did, RoseIf, RoseBy, is_unkept, one_if, unkept_in, records_all, texts_of}
-use Rattle.host_model.proofs.Doing.{rose_one, rose_none}
+use Rattle.host_model.proofs.Doing.{rose_one, rose_none, unkept_alone}
 use Rattle.host_model.specs.Asking.{carriage_for, Waits}
 use Rattle.host_model.specs.declared.out.HostOut.{HostOut}
 use Rattle.host_step_bytes.specs.Calls.{DoesAlone, Are, scene}
@@ -125,7 +125,7 @@ none_more (Some kept) r' adds = adds ∙ ap (λ (l : List (List ℕ)). Some l) (
 -- ---- one event
 
 asked_rose : (e : HostEvent) (f g : ℕ) → RoseBy (unkept_in (e ∷ [])) f g → RoseBy (one_if (is_unkept e)) f g
-asked_rose e f g rose = subst (λ (n : ℕ). RoseBy n f g) (omega arith) rose
+asked_rose e f g rose = subst (λ (n : ℕ). RoseBy n f g) (sym (unkept_alone e)) rose
 
 -- the host does what was asked, and answers
 asked_ran : (e : HostEvent) (host host' : HostParts) (clock : ℕ) (r r' : Option (List (List ℕ))) (before all : List Entry) (f g : ℕ)

@@ -28,7 +28,7 @@ unkept-append (e ∷ a) b = omega (arith, unkept-append a b)
 
 -- those of one event are its own
 alone_rose : (e : Event) (f g : ℕ) → RoseBy (unkept_of e) f g → RoseBy (unkept_in (e ∷ [])) f g
-alone_rose e f g rose = subst (λ (n : ℕ). RoseBy n f g) (omega arith) rose
+alone_rose e f g rose = let same : unkept_of e ≡ unkept_of e + 0 = omega arith in subst (λ (n : ℕ). RoseBy n f g) same rose
 
 -- those of two lists are both
 both_rose : (a b : List Event) (f g k : ℕ) → RoseBy (unkept_in a) f g → RoseBy (unkept_in b) g k → RoseBy (unkept_in (a ++ b)) f k

@@ -32,8 +32,12 @@ unkept-append (e ∷ a) b = omega (arith, unkept-append a b)
 pub counted_none : (f g : ℕ) → f ≤ g → Counted [] f g
 counted_none f g falls = record { rose = rose_none f g falls; never_falls = falls }
 
+-- one event has its own alone
+unkept_alone : (e : Event) → unkept_of e ≡ unkept_in (e ∷ [])
+unkept_alone e = let same : unkept_of e ≡ unkept_of e + 0 = omega arith in same
+
 pub counted_one : (e : Event) (f g : ℕ) → RoseBy (unkept_of e) f g → f ≤ g → Counted (e ∷ []) f g
-counted_one e f g rose falls = record { rose = subst (λ (n : ℕ). RoseBy n f g) (omega arith) rose; never_falls = falls }
+counted_one e f g rose falls = record { rose = subst (λ (n : ℕ). RoseBy n f g) (unkept_alone e) rose; never_falls = falls }
 
 -- an event at which all is done that asks the keeper
 pub counted_kept : (e : Event) (f g : ℕ) → unkept_of e ≡ 0 → f ≤ g → Counted (e ∷ []) f g

@@ -40,10 +40,10 @@ returns-in-Err-clause-err g c = err_then c.unopened.result (refusal_stops c.unop
     c.args.out.now.items c.unopened.new.out.items (g.P.Keeper.faults c.args.keeper.now) (g.P.Keeper.faults c.open.new.keeper) c.in-Err.ensures.records c.in-Err.ensures.never_falls c.unopened.ensures.err) (λ stops ds. stopped_as Nothing RestartPrefix _ _ (λ events none. inl none) (stops ds))
 
 pub returns-in-Ok-clause-goes_on : goal.returns-in-Ok-clause-goes_on
-returns-in-Ok-clause-goes_on g c = record { never_fewer = omega (arith, c.open.ensures.number); never_falls = c.open.ensures.reads_never_fall }
+returns-in-Ok-clause-goes_on g c = record { never_fewer = omega (arith, c.in-Ok.ensures.number); never_falls = c.in-Ok.ensures.reads_never_fall }
 
 pub returns-in-Err-clause-goes_on : goal.returns-in-Err-clause-goes_on
-returns-in-Err-clause-goes_on g c = record { never_fewer = omega (arith, c.open.ensures.number); never_falls = c.open.ensures.reads_never_fall }
+returns-in-Err-clause-goes_on g c = record { never_fewer = omega (arith, c.in-Err.ensures.number); never_falls = c.in-Err.ensures.reads_never_fall }
 
 pub returns-in-Ok-clause-keeps : goal.returns-in-Ok-clause-keeps
 returns-in-Ok-clause-keeps g c = ok_then c.go_on_with.result c.go_on_with.ensures.ok (λ goes quiet. inl c.in-Ok.ensures.reads)
