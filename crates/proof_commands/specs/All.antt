@@ -5,7 +5,7 @@ use Rattle.port_run.specs.Ending.{desk}
 use Rattle.proof_commands.specs.Around.{Around}
 use Rattle.proof_commands.specs.Laws.{StoriesKeepLaws}
 use Rattle.proof_commands.specs.Sim.{SimKeepsLaws}
-use Rattle.proof_commands.specs.Reads.{ReadsAtRestarts}
+use Rattle.proof_commands.specs.RestartReads.{ReadsAtRestarts}
 use Rattle.proof_commands.specs.Generate.{GenerateKeepsLaws}
 use Rattle.proof_commands.specs.Replay.{ReplayKeepsLaws}
 use Rattle.proof_commands.specs.Include.{IncludeKeepsLaws}

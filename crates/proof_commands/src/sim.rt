@@ -4,7 +4,7 @@ ghost use Rattle.std.specs.Prelude.{ℕ, List};
 ghost use Rattle.run_lines.specs.declared.status.Status.{Status};
 ghost use Rattle.proof_commands.specs.Around.{Around};
 ghost use Rattle.proof_commands.specs.Sim.{EndsWithTable, HasStory, SimKeepsLaws};
-ghost use Rattle.proof_commands.specs.Reads.{ReadsAtRestarts};
+ghost use Rattle.proof_commands.specs.RestartReads.{ReadsAtRestarts};
 
 use crate::lines_are_read_as_said;
 use proof_transcript::tables_are_what_is_shown;

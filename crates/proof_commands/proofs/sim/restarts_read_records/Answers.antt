@@ -1,5 +1,5 @@
 -- Line after line of the run.
-use Rattle.proof_commands.proofs.Reads.{reads_records}
+use Rattle.proof_commands.proofs.RestartReads.{reads_records}
 use Rattle.proof_commands.proofs.sim.restarts_read_records.Goals as goal
 
 pub returns : goal.returns

@@ -20,9 +20,14 @@ use Rattle.run_lines.specs.Lines.{TextLine, lines_in, AllRan, StopsIn, RanLines}
 use Rattle.run_sim.specs.Sim.{Point, point_of, LineRan, PartRan, said}
 use Rattle.law_transcript.specs.Restarts.{begins_refused}
 use Rattle.proof_commands.specs.Around.{Around}
+<<<<<<< HEAD:crates/proof_commands/proofs/Reads.antt
 use Rattle.proof_commands.specs.Laws.{Ran, lines_of, transcript_from}
 use Rattle.proof_commands.specs.Sim.{AreRun, RunsSim}
 use Rattle.proof_commands.specs.Reads.{accepts, reads_of, reads_in, ReadsRecords}
+=======
+use Rattle.proof_commands.specs.Laws.{Ran, RunsSim, AreRun, lines_of, transcript_from}
+use Rattle.proof_commands.specs.RestartReads.{accepts, reads_of, reads_in, ReadsRecords}
+>>>>>>> wip: a free name:crates/proof_commands/proofs/RestartReads.antt
 use Rattle.proof_commands.proofs.Stories.{Tale, tale_on}
 
 -- ---- one line
