@@ -20,19 +20,14 @@ use Rattle.run_lines.specs.Lines.{TextLine, lines_in, AllRan, StopsIn, RanLines}
 use Rattle.run_sim.specs.Sim.{Point, point_of, LineRan, PartRan, said}
 use Rattle.law_transcript.specs.Restarts.{begins_refused}
 use Rattle.proof_commands.specs.Around.{Around}
-<<<<<<< HEAD:crates/proof_commands/proofs/Reads.antt
 use Rattle.proof_commands.specs.Laws.{Ran, lines_of, transcript_from}
 use Rattle.proof_commands.specs.Sim.{AreRun, RunsSim}
-use Rattle.proof_commands.specs.Reads.{accepts, reads_of, reads_in, ReadsRecords}
-=======
-use Rattle.proof_commands.specs.Laws.{Ran, RunsSim, AreRun, lines_of, transcript_from}
 use Rattle.proof_commands.specs.RestartReads.{accepts, reads_of, reads_in, ReadsRecords}
->>>>>>> wip: a free name:crates/proof_commands/proofs/RestartReads.antt
-use Rattle.proof_commands.proofs.Stories.{Tale, tale_on}
+use Rattle.proof_commands.proofs.Stories.{Tale, no_tale, tale_on}
 
 -- ---- one line
 
-tail_of : List Entry → List Entry
+abbrev tail_of : List Entry → List Entry
 tail_of [] = []
 tail_of (entry ∷ rest) = rest
 
@@ -92,7 +87,7 @@ reads_are old new same = subst (λ (p : Point). RoseBy 0 old.reads p.reads) (sym
 
 read_of : (lines : List (TextLine Line)) (old new : Point) (T : List Entry) → AllRan LineRan lines old new T → ReadTale lines old.machine new.machine T old.number old.reads new.reads
 read_of [] old new T ran = record {
-  tale = record { story = []; lines_are = refl; schedules = tt; may = tt; state = ap (λ (p : Point). p.machine) ran.0; entered = ran.1 };
+  tale = no_tale old.machine new.machine T (ap (λ (p : Point). p.machine) ran.0) ran.1;
   read = λ k some. reads_are old new ran.0;
 }
 read_of (line ∷ lines) old new T ran =

@@ -34,11 +34,11 @@ pub record Tale (lines : List (TextLine Line)) (m m' : Machine) (T : List Entry)
   pub entered : T ≡ transcript_from m story
 
 -- no line
-pub no_tale : (m m' : Machine) (T : List Entry) → m' ≡ m → T ≡ [] → Tale [] m m' T
+abbrev pub no_tale : (m m' : Machine) (T : List Entry) → m' ≡ m → T ≡ [] → Tale [] m m' T
 no_tale m m' T stays none = record { story = []; lines_are = refl; schedules = tt; may = tt; state = stays; entered = none }
 
 -- one line before others
-pub tale_on : (line : TextLine Line) (lines : List (TextLine Line)) (events : List Event) (m m' : Machine) (T : List Entry) → IsLine line.line m events
+abbrev pub tale_on : (line : TextLine Line) (lines : List (TextLine Line)) (events : List Event) (m m' : Machine) (T : List Entry) → IsLine line.line m events
     → MayAll m events
     → Tale lines (happens_all m events) m' T → Tale (line ∷ lines) m m' (said line ++ (entries_all m events ++ T))
 tale_on line lines events m m' T is may tale = record {

@@ -38,14 +38,14 @@ impl Simulation {
         ensures is_line { OnOk result (fault_by line_at text.now ≡ None) }
         ensures ok { OnOk result (SimRuns self.old.quiet
             (point_of self.old.world (map (λ d. state d) devices.old.items) (P.records keeper.old) (P.faults keeper.old)
-        (P.number keeper.old) (P.reads keeper.old)) text.now
+            (P.number keeper.old) (P.reads keeper.old)) text.now
             (point_of self.new.world (map (λ d. state d) devices.new.items) (P.records keeper.new) (P.faults keeper.new)
-        (P.number keeper.new) (P.reads keeper.new)) out.new.items) }
+            (P.number keeper.new) (P.reads keeper.new)) out.new.items) }
         ensures err { IfErr result (λ fault. RefusesBy fault (SimStops self.old.quiet) (fault_by line_at text.now)
             (point_of self.old.world (map (λ d. state d) devices.old.items) (P.records keeper.old) (P.faults keeper.old)
-        (P.number keeper.old) (P.reads keeper.old)) text.now
+            (P.number keeper.old) (P.reads keeper.old)) text.now
             (point_of self.new.world (map (λ d. state d) devices.new.items) (P.records keeper.new) (P.faults keeper.new)
-        (P.number keeper.new) (P.reads keeper.new)) out.new.items) }
+            (P.number keeper.new) (P.reads keeper.new)) out.new.items) }
         ensures quiet { self.new.quiet ≡ self.old.quiet }
         ensures kept { length devices.new.items ≡ length devices.old.items }
     {
@@ -73,14 +73,14 @@ impl Simulation {
         requires empty { out.old.items ≡ [] }
         ensures ok { OnOk result (AnswersLine self.old.quiet text.now line.now
             (point_of self.old.world (map (λ d. state d) devices.old.items) (P.records keeper.old) (P.faults keeper.old)
-        (P.number keeper.old) (P.reads keeper.old))
+            (P.number keeper.old) (P.reads keeper.old))
             (point_of self.new.world (map (λ d. state d) devices.new.items) (P.records keeper.new) (P.faults keeper.new)
-        (P.number keeper.new) (P.reads keeper.new)) out.new.items) }
+            (P.number keeper.new) (P.reads keeper.new)) out.new.items) }
         ensures err { OnErr result (StopsLine self.old.quiet text.now line.now
             (point_of self.old.world (map (λ d. state d) devices.old.items) (P.records keeper.old) (P.faults keeper.old)
-        (P.number keeper.old) (P.reads keeper.old))
+            (P.number keeper.old) (P.reads keeper.old))
             (point_of self.new.world (map (λ d. state d) devices.new.items) (P.records keeper.new) (P.faults keeper.new)
-        (P.number keeper.new) (P.reads keeper.new)) out.new.items) }
+            (P.number keeper.new) (P.reads keeper.new)) out.new.items) }
         ensures quiet { self.new.quiet ≡ self.old.quiet }
         ensures kept { length devices.new.items ≡ length devices.old.items }
     {
