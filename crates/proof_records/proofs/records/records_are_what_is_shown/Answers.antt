@@ -38,11 +38,14 @@ returns c = λ keys devices lines are whole.
     let tells : TellsCancelled past end.records = lines_tell m lines are whole (record { texts = []; told = refl; kept = []; are = tt; cancelled = refl }) in
     let is_held : IsHeld end.host.state end.records = subst (λ (n : Machine). IsHeld n.host.state n.records) (sym (all_after m lines)) all_held.1 in
     let held : AreHeld end.host.state tells.texts = subst (λ (o : Option (List (List ℕ))). IsHeld end.host.state o) tells.told is_held in
-    let same : tells.kept ≡ held.records = one_reading c.a_text_is_of_one_record.ensures tells.kept held.records tells.texts tells.are held.are in
-    (tells.texts, tells.told, record {
-      kept = kept_of held.records;
-      gives = record { records = held.records; are = held.are; legal = held.legal; gives = refl };
-      shows = shows listing past end.host.state (kept_of held.records) facts held.holds (c.laws_follow.ensures.laws past end.host.state facts) (c.laws_follow.ensures.tables past end.host.state facts)
-          told.are_joined knows said (λ node. c.tables_are_what_was_said.ensures listing past end.host.state node facts said)
-          (all_cancelled first_kept held.records ∙ (ap (λ (l : List Record). flat_map cancelled_by l) (sym same) ∙ tells.cancelled));
-    })
+    let same : tells.kept ≡ held.records = one_reading c.a_text_is_of_one_record.ensures tells.kept held.records tells.texts tells.are held.are in (
+      tells.texts,
+      tells.told,
+      record {
+        kept = kept_of held.records;
+        gives = record { records = held.records; are = held.are; legal = held.legal; gives = refl };
+        shows = shows listing past end.host.state (kept_of held.records) facts held.holds (c.laws_follow.ensures.laws past end.host.state facts) (c.laws_follow.ensures.tables past end.host.state facts)
+            told.are_joined knows said (λ node. c.tables_are_what_was_said.ensures listing past end.host.state node facts said)
+            (all_cancelled first_kept held.records ∙ (ap (λ (l : List Record). flat_map cancelled_by l) (sym same) ∙ tells.cancelled));
+      },
+    )
