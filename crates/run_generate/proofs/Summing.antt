@@ -8,7 +8,7 @@ use Rattle.world_model.specs.Did.{Scene, Does}
 use Rattle.world_model.specs.Lines.{IsLine}
 use Rattle.world_model.specs.Table.{table_entries}
 use Rattle.zw_world.specs.World.{WorldState, first_world, machine_of, scene}
-use Rattle.run_sim.specs.Generate.{AllDone, SumsUp, generated_lines, summary_text}
+use Rattle.run_generate.specs.Generate.{AllDone, SumsUp, generated_lines, summary_text}
 
 done-more : (lines : List Line) (line : Line) (old mid new : Scene) → AllDone lines old mid → Does (IsLine line) mid new → AllDone (lines ++ line ∷ []) old new
 done-more [] line old mid new done does = (new, subst (λ (s : Scene). Does (IsLine line) s new) done does, refl)

@@ -1,7 +1,7 @@
 //! The lines of a scenario that is made from a number.
 
 ghost use Rattle.std.specs.Prelude.{◌≡◌, ◌++◌, IfOk, IfSome, OnOk};
-ghost use Rattle.run_sim.specs.Generate.{command_lines, generated_lines, joining_lines, node_at, word_at};
+ghost use Rattle.run_generate.specs.Generate.{command_lines, generated_lines, joining_lines, node_at, word_at};
 
 use std::alloc::Global;
 use zw_base::{EndPoint, List, NoMemory, NodeId, Order, What, Word, read_node};

@@ -2,7 +2,7 @@
 use Rattle.std.proofs.Common.{List, ℕ, subst}
 use Rattle.std.specs.Io.KnownBytes.{Appends}
 use Rattle.run_lines.specs.Writing.{AppendsPrefix}
-use Rattle.run_sim.proofs.generate.run_generate.Goals as goal
+use Rattle.run_generate.proofs.generate.run_generate.Goals as goal
 
 pub returns-in-Ok-write_piece-clause-ran : goal.returns-in-Ok-write_piece-clause-ran
 returns-in-Ok-write_piece-clause-ran g c = (

@@ -1,7 +1,7 @@
 -- Line after line.
 use Rattle.std.proofs.Common.{◌∙◌}
-use Rattle.run_sim.proofs.Summing.{done_next}
-use Rattle.run_sim.proofs.generate.run_all.Goals as goal
+use Rattle.run_generate.proofs.Summing.{done_next}
+use Rattle.run_generate.proofs.generate.run_all.Goals as goal
 
 pub loop-line-preserved : goal.loop-line-preserved
 loop-line-preserved g c = record {

@@ -1,7 +1,7 @@
 use Rattle.std.proofs.Common.{◌≡◌, length, map, take}
 use Rattle.zw_world.specs.World.{scene}
-use Rattle.run_sim.specs.Generate.{AllDone}
-use Rattle.run_sim.proofs.generate.run_all.Given as goal
+use Rattle.run_generate.specs.Generate.{AllDone}
+use Rattle.run_generate.proofs.generate.run_all.Given as goal
 
 abbrev pub invariant-loop-line : goal.invariant-loop-line
 invariant-loop-line g l = record {

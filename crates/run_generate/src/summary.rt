@@ -1,7 +1,7 @@
 //! What is printed of a scenario that was made from a number.
 
 ghost use Rattle.std.specs.Prelude.{◌≡◌, ◌++◌, IfOk, OnOk};
-ghost use Rattle.run_sim.specs.Generate.{accepted_count, is_accepted, is_success, success_count, summary_text, table_line};
+ghost use Rattle.run_generate.specs.Generate.{accepted_count, is_accepted, is_success, success_count, summary_text, table_line};
 
 use std::alloc::Global;
 use zw_base::{Bytes, NoMemory};

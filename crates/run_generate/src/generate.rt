@@ -4,7 +4,7 @@ ghost use Rattle.std.specs.Prelude.{◌≡◌, ◌<◌, ◌≤◌, ◌^◌, leng
 ghost use Rattle.zw_base.specs.Faults.{Rose};
 ghost use Rattle.run_lines.specs.Complete.{IsDone};
 ghost use Rattle.zw_world.specs.World.{first_world, scene};
-ghost use Rattle.run_sim.specs.Generate.{AllDone, GenerateRan, SumsUp};
+ghost use Rattle.run_generate.specs.Generate.{AllDone, GenerateRan, SumsUp};
 
 use crate::generated::generated;
 use crate::summary::summary;

@@ -5,7 +5,7 @@ use Rattle.std.proofs.lemmas.List.{flat_map_more}
 use Rattle.std.proofs.lemmas.List.Folds.{flat_map-map}
 use Rattle.std.proofs.lemmas.List.FromFn.{map-range_with_len_more}
 use Rattle.zw_text.specs.declared.line.Line.{Line}
-use Rattle.run_sim.specs.Generate.{command_lines}
+use Rattle.run_generate.specs.Generate.{command_lines}
 
 abbrev same : ℕ → ℕ
 same turn = turn

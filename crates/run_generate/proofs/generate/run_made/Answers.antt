@@ -1,8 +1,8 @@
 -- The scenario, its run, its table and its summary.
 use Rattle.std.proofs.Common.{map}
 use Rattle.std.proofs.lemmas.Result.{IfOk-weaker}
-use Rattle.run_sim.proofs.Summing.{sums_up}
-use Rattle.run_sim.proofs.generate.run_made.Goals as goal
+use Rattle.run_generate.proofs.Summing.{sums_up}
+use Rattle.run_generate.proofs.generate.run_made.Goals as goal
 
 pub returns-clause-ok : goal.returns-clause-ok
 returns-clause-ok g c = IfOk-weaker c.summary.result _ _
