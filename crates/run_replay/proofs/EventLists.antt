@@ -3,7 +3,7 @@ use Rattle.std.proofs.Common.{◌≡◌, ℕ, ◌+◌, ◌≤◌, List, [], ◌�
 use Rattle.std.proofs.lemmas.List.{append-nil}
 use Rattle.zw_text.specs.declared.entry.Entry.{Entry}
 use Rattle.host_model.specs.Did.{RoseBy}
-use Rattle.host_model.proofs.Doing.{rose_both, rose_none}
+use Rattle.host_model.proofs.EventLists.{rose_both, rose_none}
 use Rattle.run_replay.specs.Machine.{Lone, Event, Scene, Schedule, Run, Does, Stops, Then, May, MayAll, happens, happens_all, entries, entries_all, unkept_of, unkept_in}
 
 pub happens_all-append : (m : Lone) (a b : List Event) → happens_all m (a ++ b) ≡ happens_all (happens_all m a) b

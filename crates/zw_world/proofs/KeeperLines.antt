@@ -8,7 +8,7 @@ use Rattle.zw_text.specs.declared.entry.Entry.{Entry}
 use Rattle.zw_text.specs.declared.entry.Entry.TheVariants.{Refused, Time}
 use Rattle.zw_text.specs.declared.entry.Refusal.{Refusal}
 use Rattle.host_model.specs.Did.{RoseBy}
-use Rattle.host_model.proofs.Doing.{rose_both, rose_none}
+use Rattle.host_model.proofs.EventLists.{rose_both, rose_none}
 use Rattle.outside_model.specs.State.{OuterState, Outside, outside}
 use Rattle.outside_model.specs.Events.{Begins_line, Host_notes, outcome}
 use Rattle.outside_model.specs.Did.{Goes}

@@ -14,7 +14,7 @@ use Rattle.host_model.specs.Records.{records_at, KeepsInRange}
 use Rattle.host_model.specs.May.{May}
 use Rattle.host_model.specs.Did.{after_all, is_unkept, RoseIf, texts_of}
 use Rattle.host_model.specs.declared.out.HostOut.{HostOut}
-use Rattle.host_model.proofs.Doing.{none_added, did_nothing, did_one, did_both}
+use Rattle.host_model.proofs.EventLists.{none_added, did_nothing, did_one, did_both}
 use Rattle.host_step_kept.specs.Choices.{chosen}
 use Rattle.host_step_bytes.specs.Calls.{Scene, beside, Does, Stops, DoesAlone, StopsAlone}
 

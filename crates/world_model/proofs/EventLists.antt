@@ -4,7 +4,7 @@ use Rattle.std.specs.Prelude.{None}
 use Rattle.std.proofs.lemmas.List.{append-nil}
 use Rattle.zw_text.specs.declared.entry.Entry.{Entry}
 use Rattle.host_model.specs.Did.{RoseBy}
-use Rattle.host_model.proofs.Doing.{rose_both, rose_none}
+use Rattle.host_model.proofs.EventLists.{rose_both, rose_none}
 use Rattle.world_model.specs.State.{Machine}
 use Rattle.world_model.specs.Events.{Event, happens, entries}
 use Rattle.world_model.specs.Did.{happens_all, entries_all, MayAll, unkept_of, unkept_in, Counted, Scene, Run, Schedule, last_of, Stops}

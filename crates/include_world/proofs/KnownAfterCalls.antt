@@ -5,7 +5,7 @@ use Rattle.include_text.specs.declared.line.IncludeLine.{IncludeLine}
 use Rattle.include_world.specs.World.{WorldState, IncludeEvent, Did, first_world, after_all, entries_all}
 use Rattle.include_world.specs.Line.{IsLine}
 use Rattle.include_world.specs.Added.{Reached, TellsOn}
-use Rattle.include_world.proofs.Doing.{AllDrawn-append, after_all-append, entries_all-append}
+use Rattle.include_world.proofs.DoneEvents.{AllDrawn-append, after_all-append, entries_all-append}
 use Rattle.include_world.proofs.Events.{added}
 
 first_reached : (key : List ℕ) (w : WorldState) → length key ≡ 16 → w ≡ first_world key → Reached key [] w
