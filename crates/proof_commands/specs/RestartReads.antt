@@ -34,7 +34,7 @@ reads_in accepted m (ran ∷ more) =
     + reads_in (accepted || accepts ran.line.line (entries_all m ran.events)) (happens_all m ran.events) more
 
 -- The lines that were run whole, each with its events: where there was no memory, perhaps all but the last, of which something was entered. For each restart among
--- them that is not refused, behind an accepted order, the keeper's count of reads rose; or it is at its greatest value.
+-- them that is not refused, after an accepted order, the keeper's count of reads rose; or it is at its greatest value.
 pub record ReadsRecords (ended : Status) (quiet : Bool) (key : List ℕ) (old new : Around) (ran : RunsSim ended quiet key old new) : Type 0 where
   pub story : List Ran
   pub rest : List Entry
