@@ -1,6 +1,6 @@
 -- The tables of a host stand in the records of its keeper, whatever happens to the host.
 use Rattle.std.proofs.Common.{◌≡◌, ℕ, zero, suc, ◌+◌, ◌≤◌, ◌==◌, ◌&&◌, Bool, true, false, if◌then◌else◌, is_none, List, [], ◌∷◌, ◌++◌, length, get_or, set, Option, Some, None, option_map, inl, inr, refl, sym, ap, ◌∙◌, subst, append_assoc, arith}
-use Rattle.std.specs.Prelude.{IfSome, slice_get}
+use Rattle.std.specs.Prelude.{IfSome, slice_get, Result, Ok, Err, OnOk, OnErr}
 use Rattle.std.specs.List.{AllByRecursion}
 use Rattle.std.proofs.lemmas.Bool.{cases_eq, cases_lt}
 use Rattle.std.proofs.lemmas.List.{get_or-set_same, get_or-set_other, set_past}
@@ -12,15 +12,21 @@ use Rattle.host_orders.specs.declared.carriage.Carriage.{Carriage}
 use Rattle.host_node.specs.State.{NodeState, unknown}
 use Rattle.host_node.specs.Steps.{after_begin, oldest}
 use Rattle.host_node.specs.TableState.{node_of as node_among}
-use Rattle.host_keep.specs.Keeping.{OptAdds}
+use Rattle.host_keep.specs.Keeping.{OptAdds, Kept}
 use Rattle.host_keep.specs.Legal.{AreTextsOf}
 use Rattle.host_keep.specs.RecordText.{record_text}
 use Rattle.host_keep.specs.Rows.{IsRecord}
 use Rattle.host_keep.specs.declared.record.Record.{Record}
 use Rattle.host_keep.specs.declared.record.Record.TheVariants.{Accepted, Begun}
-use Rattle.host_model.specs.State.{HostState, Command, node_of, with_node, command_at, set_at, with_outcome}
-use Rattle.host_model.specs.Did.{texts_of}
+use Rattle.host_model.specs.State.{HostState, HostParts, Command, node_of, with_node, command_at, set_at, with_outcome}
+use Rattle.host_model.specs.After.{after}
+use Rattle.host_model.specs.Events.{HostEvent}
+use Rattle.host_model.specs.Did.{texts_of, Shelf, Did}
+use Rattle.host_model.specs.Taking.{Fed, FedPrefix}
+use Rattle.host_model.specs.declared.out.HostOut.{HostOut}
 use Rattle.host_model.proofs.Numbered.{pushed_at}
+use Rattle.host_step_kept.specs.Choices.{after_if}
+use Rattle.host_step_bytes.specs.Calls.{Scene, beside, Does, Stops}
 use Rattle.host_core.specs.Opening.{AreTold}
 use Rattle.host_core.specs.Recorded.{HasText, IsTold, TablesAreTold}
 
@@ -70,11 +76,10 @@ none_told (one ∷ more) = (tt, none_told more)
 texts_told : (records : List Record) (before texts : List (List ℕ)) → AreTextsOf records texts → AllByRecursion (IsTold (Some (before ++ texts))) records
 texts_told [] before texts are = tt
 texts_told (one ∷ more) before [] are = absurd are
-texts_told (one ∷ more) before (text ∷ texts) are =
-    (
-      record { at = length before; text = text; stands = get_after before texts text; is = are.0 },
-      subst (λ (t : List (List ℕ)). AllByRecursion (IsTold (Some t)) more) (append_assoc before (text ∷ []) texts) (texts_told more (before ++ text ∷ []) texts are.1),
-    )
+texts_told (one ∷ more) before (text ∷ texts) are = (
+  record { at = length before; text = text; stands = get_after before texts text; is = are.0 },
+  subst (λ (t : List (List ℕ)). AllByRecursion (IsTold (Some t)) more) (append_assoc before (text ∷ []) texts) (texts_told more (before ++ text ∷ []) texts are.1),
+)
 
 written : (records : List Record) → AllByRecursion IsRecord records → AreTextsOf records (texts_of records)
 written [] range = tt
@@ -226,3 +231,42 @@ pushed_told told old new one nodes commands is t = record {
   sessions = λ n. subst (λ (l : List NodeState). Sessions told n (node_among l n).book.commands) (sym nodes) (t.sessions n);
   commands = subst (λ (l : List Command). Commands told l) (sym commands) (one_command told old.commands one t.commands is);
 }
+
+-- ---- calls
+
+-- what events leave
+abbrev pub EventsLeave : Type 0
+EventsLeave = (events : List HostEvent) (old new : HostState) (before all : List HostOut) (shelf shelf' : Shelf) → Did events old new before all shelf shelf'
+    → TablesAreTold shelf.records old → TablesAreTold shelf'.records new
+
+-- a call that did events, or stopped after some
+pub does_or_stops : {A E : Type 0} (law : EventsLeave) (Kind : List HostEvent → Type 0) (r : Result A E) (a b : Scene) → OnOk r (Does Kind a b) → OnErr r (Stops a b)
+    → TablesAreTold a.shelf.records a.host → TablesAreTold b.shelf.records b.host
+does_or_stops law Kind (Ok value) a b did stopped t = law did.events a.host b.host a.outs b.outs a.shelf b.shelf did.did t
+does_or_stops law Kind (Err fault) a b did stopped t = law stopped.events a.host b.host a.outs b.outs a.shelf b.shelf stopped.did t
+
+-- a call that left all as it was
+pub nothing_kept : (old new : HostParts) (told told' : Option (List (List ℕ))) → new ≡ old → OptAdds told told' [] → TablesAreTold told old.state → TablesAreTold told' new.state
+nothing_kept old new told told' same none t = subst (λ (p : HostParts). TablesAreTold told' p.state) (sym same) (tables_on told told' [] old.state none t)
+
+-- a call that did events, or left all as it was
+pub does_or_leaves : {A E : Type 0} (law : EventsLeave) (Kind : List HostEvent → Type 0) (r : Result A E) (old new : HostParts) (a b : Shelf) → OnOk r (Does Kind (beside a old.state []) (beside b new.state []))
+    → OnErr r (new ≡ old) → OnErr r (OptAdds a.records b.records []) → TablesAreTold a.records old.state → TablesAreTold b.records new.state
+does_or_leaves law Kind (Ok value) old new a b did same none t = law did.events old.state new.state [] [] a b did.did t
+does_or_leaves law Kind (Err fault) old new a b did same none t = nothing_kept old new a.records b.records same none t
+
+-- bytes were taken, all of them or a prefix
+pub fed_or_prefix : {A E : Type 0} (r : Result A E) (old : HostParts) (bytes : List ℕ) (new : HostParts) (before all : List HostOut) (a b : Shelf)
+    → ((old new : HostParts) (bytes : List ℕ) (before all : List HostOut) (shelf shelf' : Shelf) → Fed old bytes new before all shelf shelf' → TablesAreTold shelf.records old.state → TablesAreTold shelf'.records new.state)
+    → ((old new : HostParts) (bytes : List ℕ) (before all : List HostOut) (shelf shelf' : Shelf) → FedPrefix old bytes new before all shelf shelf' → TablesAreTold shelf.records old.state → TablesAreTold shelf'.records new.state)
+    → OnOk r (Fed old bytes new before all a b) → OnErr r (FedPrefix old bytes new before all a b) → TablesAreTold a.records old.state → TablesAreTold b.records new.state
+fed_or_prefix (Ok value) old bytes new before all a b fed prefix f p t = fed old new bytes before all a b f t
+fed_or_prefix (Err fault) old bytes new before all a b fed prefix f p t = prefix old new bytes before all a b p t
+
+-- one event that leaves them, whose record was kept or not
+pub kept_or_not : (is_kept : Bool) (event : HostEvent) (text : List ℕ) (old new : HostParts) (told told' : Option (List (List ℕ))) (faults faults' : ℕ) → Alike old.state (after old.state event)
+    → Kept is_kept text told told' faults faults' → new ≡ record old { state = after_if is_kept old.state event } → TablesAreTold told old.state → TablesAreTold told' new.state
+kept_or_not true event text old new told told' faults faults' alike kept state t =
+    subst (λ (p : HostParts). TablesAreTold told' p.state) (sym state) (alike_tables told' old.state (after old.state event) alike (tables_on told told' (text ∷ []) old.state kept t))
+kept_or_not false event text old new told told' faults faults' alike kept state t =
+    subst (λ (p : HostParts). TablesAreTold told' p.state) (sym state) (tables_on told told' [] old.state kept.0 t)

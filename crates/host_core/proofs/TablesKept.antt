@@ -45,15 +45,17 @@ use Rattle.host_model.specs.After.{after, accepting, node_does, node_for, reques
 use Rattle.host_model.specs.Events.{HostEvent, Accepts, Cancels, Joins, Queues, Queues_interview, Queues_probe, Hears, Requests_do, Interviews, Interview_unkept, Unreads, Is_unkept, Reports_old, Works, Finishes, Offers, Gives, Spends, Spends_unread, Takes_nonce, Notifies, Resends, Hears_value, Has_no_room, Line_ticks, Node_ticks, Queues_no_more, Drops_no_more, Submits_abort, Submits_front, Starts, Gives_text, Gives_segment, Begins, Begin_unkept}
 use Rattle.host_model.specs.Records.{records_at}
 use Rattle.host_model.specs.May.{May}
-use Rattle.host_model.specs.Did.{after_all, records_all, MayAll}
+use Rattle.host_model.specs.Did.{after_all, records_all, texts_of, MayAll, Shelf, Did}
 use Rattle.host_model.specs.Facts.{HostFacts}
+use Rattle.host_model.specs.declared.out.HostOut.{HostOut}
+use Rattle.host_model.proofs.EventLists.{all_in_range}
 use Rattle.host_model.specs.Holding.{Holds, HoldsAlone}
 use Rattle.host_model.specs.Restoring.{may_restore, restored, ending, carriage_for}
 use Rattle.host_model.specs.Opening.{restored_all, restarted}
 use Rattle.host_model.proofs.Fold.{step_none}
 use Rattle.host_model.proofs.Tests.{both_true, all_true, first_is}
 use Rattle.host_core.specs.Recorded.{IsTold, TablesAreTold}
-use Rattle.host_core.proofs.Tables.{Sessions, each_set, order_with, Alike, alike_tables, then_alike, plain, node_so, outcome_so, begins_told, pushed_told}
+use Rattle.host_core.proofs.Tables.{added_told, tables_on, Sessions, each_set, order_with, Alike, alike_tables, then_alike, plain, node_so, outcome_so, begins_told, pushed_told}
 
 -- ---- at the beginning
 
@@ -118,7 +120,10 @@ offered_so : (h : HostState) (n : ℕ) (live : Option (List ℕ)) → Alike h (o
 offered_so h n None = plain refl refl
 offered_so h n (Some nonce) = queued_so h (Offer n nonce)
 
-cancelled_so : (h : HostState) (command : ℕ) → Alike h (after h (Cancels command))
+pub joined_so : (h : HostState) (n : ℕ) → Alike h (after h (Joins n))
+joined_so h n = node_so h n (after_node (node_of h n) node_joins) refl
+
+pub cancelled_so : (h : HostState) (command : ℕ) → Alike h (after h (Cancels command))
 cancelled_so h command =
     then_alike (node_does h (node_for h command) (node_cancels command)) (node_so h (node_for h command) (after_node (node_of h (node_for h command)) (node_cancels command)) refl)
     (outcome_so (node_does h (node_for h command) (node_cancels command)) command outcome.Cancelled)
@@ -195,11 +200,11 @@ module _ (others : (n : NodeState) (event : NodeEvent) → is_recorded n event �
       begins_told told h n session command (with_outcome h.commands command outcome.Begun) next first (order_with h.commands command outcome.Begun) is t
 
   -- what an event leaves as it is, but for accepted orders and begun sessions
-  event_told : (told : Option (List (List ℕ))) (h : HostState) (event : HostEvent) → May h event → AllByRecursion (IsTold told) (records_at h event) → TablesAreTold told h → TablesAreTold told (after h event)
+  pub event_told : (told : Option (List (List ℕ))) (h : HostState) (event : HostEvent) → May h event → AllByRecursion (IsTold told) (records_at h event) → TablesAreTold told h → TablesAreTold told (after h event)
   event_told told h (Accepts order carriage) may all t = accepted_told told h order carriage all.0 t
   event_told told h (Begins n session command) may all t = begun_told told h n session command may.2 may.3 all.0 t
   event_told told h (Cancels command) may all t = alike_tables told h _ (cancelled_so h command) t
-  event_told told h (Joins n) may all t = alike_tables told h _ (node_so h n (after_node (node_of h n) node_joins) refl) t
+  event_told told h (Joins n) may all t = alike_tables told h _ (joined_so h n) t
   event_told told h (Queues task) may all t = alike_tables told h _ (plain refl refl) t
   event_told told h (Queues_interview n) may all t = alike_tables told h _ (plain refl refl) t
   event_told told h Queues_probe may all t = alike_tables told h _ (plain refl refl) t
@@ -243,7 +248,7 @@ module _ (others : (n : NodeState) (event : NodeEvent) → is_recorded n event �
   event_told told h (Begin_unkept n) may all t = alike_tables told h _ (quiet_so h n node_blocks refl) t
 
   -- and of events one after another
-  pub events_told : (told : Option (List (List ℕ))) (h : HostState) (events : List HostEvent) → MayAll h events → AllByRecursion (IsTold told) (records_all h events) → TablesAreTold told h → TablesAreTold told (after_all h events)
+  events_told : (told : Option (List (List ℕ))) (h : HostState) (events : List HostEvent) → MayAll h events → AllByRecursion (IsTold told) (records_all h events) → TablesAreTold told h → TablesAreTold told (after_all h events)
   events_told told h [] may all t = t
   events_told told h (event ∷ more) may all t =
       let both = apart (records_at h event) (records_all (after h event) more) all in
@@ -252,6 +257,12 @@ module _ (others : (n : NodeState) (event : NodeEvent) → is_recorded n event �
       apart : (a b : List Record) → AllByRecursion (IsTold told) (a ++ b) → AllByRecursion (IsTold told) a × AllByRecursion (IsTold told) b
       apart [] b so = (tt, so)
       apart (one ∷ a) b so = let rest = apart a b so.1 in ((so.0, rest.0), rest.1)
+
+  pub did_told : (events : List HostEvent) (old new : HostState) (before all : List HostOut) (shelf shelf' : Shelf) → Did events old new before all shelf shelf' → TablesAreTold shelf.records old → TablesAreTold shelf'.records new
+  did_told events old new before all shelf shelf' d t =
+      subst (λ (h : HostState). TablesAreTold shelf'.records h) (sym d.state)
+      (events_told shelf'.records old events d.may (added_told (records_all old events) shelf.records shelf'.records (all_in_range old events d.may) d.records)
+      (tables_on shelf.records shelf'.records (texts_of (records_all old events)) old d.records t))
 
   -- ---- records that are taken up
 
@@ -262,7 +273,7 @@ module _ (others : (n : NodeState) (event : NodeEvent) → is_recorded n event �
   taken_up_told told h (Accepted command order) may is t =
       accepted_told told h order (carriage_for h order)
       (subst (λ (k : ℕ). IsTold told (Accepted k order)) (eqb-true command (length h.commands + 1) (both_true (command == length h.commands + 1) _ may).0) is) t
-  taken_up_told told h (Joined n) may is t = alike_tables told h _ (node_so h n (after_node (node_of h n) node_joins) refl) t
+  taken_up_told told h (Joined n) may is t = alike_tables told h _ (joined_so h n) t
   taken_up_told told h (Classes n listens classes) may is t = alike_tables told h _ (node_so h n (after_node (node_of h n) (node_interviews listens classes)) refl) t
   taken_up_told told h (Begun n session command) may is t =
       let s = node_of h n in

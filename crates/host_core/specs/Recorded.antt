@@ -21,14 +21,15 @@ IsTold (Some texts) one = HasText texts one
 -- each session of a node that was begun has its command, and the record that it began for it
 abbrev pub SessionsAreTold : Option (List (List ℕ)) → ℕ → HostBook → Type 0
 SessionsAreTold told node book =
-    (session : ℕ) → 1 ≤ session → session ≤ begun_of book → (command : ℕ) × (command_of_session book.commands session ≡ Some command) × IsTold told (Begun node session command)
+    (session : ℕ) → 1 ≤ session → session ≤ begun_of book
+    → (command : ℕ) × (command_of_session book.commands session ≡ Some command) × IsTold told (Begun node session command)
 
 -- Each session that is counted has its record `begun`, and each command whose outcome is there its record `accepted`.
 pub record TablesAreTold (told : Option (List (List ℕ))) (h : HostState) : Type 0 where
   pub sessions : (node : ℕ) → SessionsAreTold told node (node_of h node).book
   pub commands : (number : ℕ) → IfSome (command_at h.commands number) (λ command. IsTold told (Accepted number command.order))
 
--- a call changed neither
+-- the nodes with their sessions, and the commands, are as they were
 pub record SameTables (old new : HostState) : Type 0 where
-  pub sessions : (node : ℕ) → (node_of new node).book ≡ (node_of old node).book
+  pub nodes : new.nodes ≡ old.nodes
   pub commands : new.commands ≡ old.commands
