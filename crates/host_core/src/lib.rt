@@ -9,6 +9,7 @@
 #![tactic(auto)]
 
 mod host;
+mod laws;
 mod opening;
 mod orders;
 mod pumping;
@@ -17,5 +18,6 @@ mod ticking;
 
 pub use host::Host;
 pub use host_model::HostOut;
+pub use laws::tables_stand_in_the_records;
 pub use opening::OpenFault;
 pub use orders::{CancelFault, Question};
