@@ -15,6 +15,7 @@ use Rattle.run_lines.specs.declared.status.Status.{Status}
 use Rattle.run_lines.specs.declared.status.Status.TheVariants.{NoMemory as no_memory}
 use Rattle.run_lines.specs.Pieces.{pieces_of, said_text}
 use Rattle.run_lines.specs.Lines.{TextLine, StopsText, LinesTold, fault_in, fault_by}
+use Rattle.host_model.proofs.EventLists.{rose_none}
 use Rattle.run_lines.proofs.Shown.{pieces-append, pieces_text}
 use Rattle.run_lines.proofs.ToldLines.{lines_told, none_told}
 use Rattle.run_replay.specs.Machine.{ReplayState, Scene, Does, Stops, first_replay, lone_of}
@@ -24,7 +25,15 @@ use Rattle.run_replay.specs.Replay.{Point, ReplayRan, ReplayRuns, ReplayStops, A
 -- nothing of a line was done, and nothing of it was entered
 pub nothing_done : (line : TextLine ReplayLine) (point : Point) → PartRan line point point []
 nothing_done line point =
-    record { events = []; may = tt; records = refl; more = said line; prefix = sym (append-nil (said line)); never_falls = omega arith }
+    record {
+      events = [];
+      may = tt;
+      records = refl;
+      more = said line;
+      prefix = sym (append-nil (said line));
+      rose = rose_none point.faults point.faults (omega arith);
+      never_falls = omega arith;
+    }
 
 -- the text was not read for lack of memory
 module _ (text : List ℕ) (old : Point) (pieces : List (List ℕ)) (none : pieces ≡ []) where
@@ -67,6 +76,7 @@ part_of line s u done = record {
   records = ap (λ (m : Rattle.run_replay.specs.Machine.Lone). m.records) done.2.state;
   more = [];
   prefix = append-nil u.entries ∙ done.2.entered;
+  rose = done.2.rose;
   never_falls = done.2.never_falls;
 }
 
