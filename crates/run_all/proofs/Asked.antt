@@ -17,7 +17,7 @@ use Rattle.run_tools.specs.Events.{EventsRan}
 use Rattle.run_include.specs.Run.{IncludeRan}
 use Rattle.run_replay.specs.Replay.{ReplayRan}
 use Rattle.run_sim.specs.Sim.{SimRan}
-use Rattle.run_sim.specs.Generate.{GenerateRan}
+use Rattle.run_generate.specs.Generate.{GenerateRan}
 use Rattle.zw_base.specs.Faults.{Rose}
 use Rattle.run_words.specs.Parsing.{texts_of}
 use Rattle.host_core.specs.declared.opening.OpenFault.TheVariants as opening
@@ -57,11 +57,11 @@ include_is ended key left left' sink sink' h e =
     let c : IncludeRan status.Usage key left left' sink sink' = subst (λ (s : Status). IncludeRan s key left left' sink sink') e h in
     closes_not _ c.told.end _ c.told.mid sink' c.told.closes
 
-pub sim_is : (ended : Status) (quiet : Bool) (key : List ℕ) (left left' : Option (List ℕ)) (before after : List State) (records records' : Option (List (List ℕ))) (faults faults' : ℕ)
-    (sink sink' : Option (List ℕ)) → SimRan ended quiet key left left' before after records records' faults faults' sink sink' → ended ≢ status.Usage
-sim_is ended quiet key left left' before after records records' faults faults' sink sink' h e =
-    let c : SimRan status.Usage quiet key left left' before after records records' faults faults' sink sink' =
-    subst (λ (s : Status). SimRan s quiet key left left' before after records records' faults faults' sink sink') e h in
+pub sim_is : (ended : Status) (quiet : Bool) (key : List ℕ) (left left' : Option (List ℕ)) (before after : List State) (records records' : Option (List (List ℕ))) (faults faults' number number' reads reads' : ℕ)
+    (sink sink' : Option (List ℕ)) → SimRan ended quiet key left left' before after records records' faults faults' number number' reads reads' sink sink' → ended ≢ status.Usage
+sim_is ended quiet key left left' before after records records' faults faults' number number' reads reads' sink sink' h e =
+    let c : SimRan status.Usage quiet key left left' before after records records' faults faults' number number' reads reads' sink sink' =
+    subst (λ (s : Status). SimRan s quiet key left left' before after records records' faults faults' number number' reads reads' sink sink') e h in
     closes_not _ c.told.end _ c.told.mid sink' c.told.closes
 
 pub generate_is : (ended : Status) (hundreds : ℕ) (key : List ℕ) (before after : List State) (records records' : Option (List (List ℕ))) (faults faults' : ℕ)

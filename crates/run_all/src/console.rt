@@ -11,10 +11,11 @@ use host_keep::Keeper;
 use port_run::run_host;
 use proof_commands::commands_keep_laws;
 use run_audit::run_audit;
+use run_generate::run_generate;
 use run_include::run_include;
 use run_lines::Status;
 use run_replay::run_replay;
-use run_sim::{run_generate, run_sim};
+use run_sim::run_sim;
 use run_tools::{run_check, run_events};
 use run_words::{Asked, WordsFault, read_words};
 use std::alloc::Global;
@@ -37,16 +38,16 @@ pub fn run<S: Source, K: Sink, D: Draw, P: Keeper>(
     // The words ask for a command exactly as its command line takes them, it is run, and the status says how that ended.
     ensures ran { RunsWords (texts_of words.now) key result
         (around (S.left source.old) (S.faults source.old) (K.written sink.old) (K.faults sink.old)
-        (map (λ d. state d) devices.old.items) (P.number keeper.old) (P.records keeper.old) (P.faults keeper.old))
+        (map (λ d. state d) devices.old.items) (P.number keeper.old) (P.records keeper.old) (P.faults keeper.old) (P.reads keeper.old))
         (around (S.left source.new) (S.faults source.new) (K.written sink.new) (K.faults sink.new)
-        (map (λ d. state d) devices.new.items) (P.number keeper.new) (P.records keeper.new) (P.faults keeper.new)) }
+        (map (λ d. state d) devices.new.items) (P.number keeper.new) (P.records keeper.new) (P.faults keeper.new) (P.reads keeper.new)) }
 
     // Where that was `sim`, `replay`, `include` or `host`, the run has a story, and each story that it has keeps the laws of that command.
     ensures laws { KeepsLaws result (texts_of words.now) key
         (around (S.left source.old) (S.faults source.old) (K.written sink.old) (K.faults sink.old)
-        (map (λ d. state d) devices.old.items) (P.number keeper.old) (P.records keeper.old) (P.faults keeper.old))
+        (map (λ d. state d) devices.old.items) (P.number keeper.old) (P.records keeper.old) (P.faults keeper.old) (P.reads keeper.old))
         (around (S.left source.new) (S.faults source.new) (K.written sink.new) (K.faults sink.new)
-        (map (λ d. state d) devices.new.items) (P.number keeper.new) (P.records keeper.new) (P.faults keeper.new)) }
+        (map (λ d. state d) devices.new.items) (P.number keeper.new) (P.records keeper.new) (P.faults keeper.new) (P.reads keeper.new)) }
 {
     commands_keep_laws();
     match read_words(alloc, words) {
@@ -73,9 +74,9 @@ fn run_asked<S: Source, K: Sink, D: Draw, P: Keeper>(
     requires { length devices.old.items < 2 ^ 64 }
     ensures { Runs asked (texts_of words.now) key result
         (around (S.left source.old) (S.faults source.old) (K.written sink.old) (K.faults sink.old)
-        (map (λ d. state d) devices.old.items) (P.number keeper.old) (P.records keeper.old) (P.faults keeper.old))
+        (map (λ d. state d) devices.old.items) (P.number keeper.old) (P.records keeper.old) (P.faults keeper.old) (P.reads keeper.old))
         (around (S.left source.new) (S.faults source.new) (K.written sink.new) (K.faults sink.new)
-        (map (λ d. state d) devices.new.items) (P.number keeper.new) (P.records keeper.new) (P.faults keeper.new)) }
+        (map (λ d. state d) devices.new.items) (P.number keeper.new) (P.records keeper.new) (P.faults keeper.new) (P.reads keeper.new)) }
 {
     match asked {
         Asked::Sim { quiet } => run_sim(alloc, quiet, key, source, sink, devices, draw, keeper),
