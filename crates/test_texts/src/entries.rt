@@ -85,7 +85,7 @@ const TEXTS: &[&str] = &[
     "badline 1 TooLong",
 ];
 
-/// Texts behind `>` that are the words of no line, or not with one space between two.
+/// Texts after `>` that are the words of no line, or not with one space between two.
 const UNSAID: &[&str] = &[
     ">",
     "> ",

@@ -30,7 +30,7 @@ impl From<NoMemory> for EntryFault {
 /// The entry whose text this is, without a line feed.
 pub fn read_entry(alloc: Global, text: &[u8]) -> Result<Entry, EntryFault>
     ensures found { IfOk result (λ entry. text.now ≡ entry_text entry) }
-    // The words behind `>` are a line of a scenario.
+    // The words after `>` are a line of a scenario.
     ensures shows { IfOk result (λ entry. ShowsLine entry) }
     // The text of an entry is read as that entry, or there was no memory.
     ensures each { (entry : AnyEntry) → IsEntry entry → text.now ≡ entry_text entry → Answers result entry }
