@@ -122,7 +122,7 @@ broken-not-kept : (past : List Entry) (text : List ℕ) (broken : Break) (entry 
     IsNext text entry more → IsJudged past entry more None → ⊥
 broken-not-kept past text broken entry more breaks next judged =
     ⊎_elim
-    (λ (none : IsNone text broken). none.2 entry more next.fits next.feeds_none next.line)
+    (λ (none : IsNone text broken). none.2 entry more next.is next.feeds_none next.line)
     (λ (line : IsBreaking past text broken). both-judged past text None (Some broken) entry line.0 more line.1 next judged line.2 line.3 (λ e. cc))
     (which past text broken breaks)
 
@@ -132,11 +132,11 @@ broken-once past text a b first second =
     (λ (none : IsNone text a).
     ⊎_elim
     (λ (other : IsNone text b). none.0 ∙ sym other.0)
-    (λ (line : IsBreaking past text b). absurd (none.2 line.0 line.1 line.2.fits line.2.feeds_none line.2.line))
+    (λ (line : IsBreaking past text b). absurd (none.2 line.0 line.1 line.2.is line.2.feeds_none line.2.line))
     (which past text b second))
     (λ (line : IsBreaking past text a).
     ⊎_elim
-    (λ (none : IsNone text b). absurd (none.2 line.0 line.1 line.2.fits line.2.feeds_none line.2.line))
+    (λ (none : IsNone text b). absurd (none.2 line.0 line.1 line.2.is line.2.feeds_none line.2.line))
     (λ (other : IsBreaking past text b).
     same-rule a b (λ differ.
     both-judged past text (Some a) (Some b) line.0 other.0 line.1 other.1 line.2 line.3 other.2 other.3 (λ e. differ (some-is e))))

@@ -39,7 +39,7 @@ rest-once (x ∷ l) (y ∷ m) r s a b e = rest-once l m r s (rest_lacks x l a) (
 
 -- the entry of the first line, and what is after it
 pub next-entry : (text : List ℕ) (a b : Entry) (r s : List ℕ) → IsNext text a r → IsNext text b s → a ≡ b
-next-entry text a b r s x y = x.only b y.fits (cut-once _ _ r s x.feeds_none y.feeds_none (sym x.line ∙ y.line))
+next-entry text a b r s x y = x.only b y.is (cut-once _ _ r s x.feeds_none y.feeds_none (sym x.line ∙ y.line))
 
 pub next-rest : (text : List ℕ) (a b : Entry) (r s : List ℕ) → IsNext text a r → IsNext text b s → r ≡ s
 next-rest text a b r s x y = rest-once _ _ r s x.feeds_none y.feeds_none (sym x.line ∙ y.line)

@@ -2,19 +2,20 @@
 use Rattle.std.specs.Prelude.{◌≡◌, ℕ, List, [], ◌∷◌, ◌++◌}
 use Rattle.zw_text.specs.declared.entry.Entry.{Entry}
 use Rattle.zw_text.specs.Entry.{entry_text}
-use Rattle.zw_text.specs.Fits.{EntryFits, feeds}
+use Rattle.zw_text.specs.Fits.{feeds}
+use Rattle.zw_parse.specs.Said.{IsEntry}
 
 -- the text begins with the line of that entry, its line feed included, and that rest stands after it; no other entry has that line
 pub record IsNext (text : List ℕ) (entry : Entry) (rest : List ℕ) : Type 0 where
   pub line : text ≡ entry_text entry ++ (10 ∷ rest)
   pub feeds_none : feeds (entry_text entry) ≡ 0
-  pub fits : EntryFits entry
-  pub only : (other : Entry) → EntryFits other → entry_text entry ≡ entry_text other → entry ≡ other
+  pub is : IsEntry entry
+  pub only : (other : Entry) → IsEntry other → entry_text entry ≡ entry_text other → entry ≡ other
 
 -- the text begins with the line of no entry
 abbrev pub IsNoLine : List ℕ → Type 0
 IsNoLine text =
-    (entry : Entry) (rest : List ℕ) → EntryFits entry → feeds (entry_text entry) ≡ 0 → text ≡ entry_text entry ++ (10 ∷ rest) → ⊥
+    (entry : Entry) (rest : List ℕ) → IsEntry entry → feeds (entry_text entry) ≡ 0 → text ≡ entry_text entry ++ (10 ∷ rest) → ⊥
 
 -- the text is the lines of these entries, and then that rest
 abbrev pub Reads : List ℕ → List Entry → List ℕ → Type 0

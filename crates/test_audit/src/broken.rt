@@ -43,7 +43,7 @@ const REPORT: &str = "report 2 0/switch 255\n";
 const HEARD: &str = "node 2 sessions -\nvalue 2 0/switch confirmed - heard 255\n";
 
 /// Texts in pieces, the first line that breaks them, and the rule that it breaks.
-const CASES: [(&[&str], Option<(u32, Break)>); 67] = [
+const CASES: [(&[&str], Option<(u32, Break)>); 75] = [
     (&[], None),
     (
         &[
@@ -59,6 +59,14 @@ const CASES: [(&[&str], Option<(u32, Break)>); 67] = [
     (&[ORDER, "begin 2 1 1"], Some((3, Break::Text))),
     (&[ORDER, "begins 2 1 1\n"], Some((3, Break::Text))),
     (&["\n"], Some((1, Break::Text))),
+    (&[ORDER, ">  tick 1\n"], Some((3, Break::Text))),
+    (&[ORDER, "> tick 1 \n"], Some((3, Break::Text))),
+    (&[ORDER, "> tick\t1\n"], Some((3, Break::Text))),
+    (&[ORDER, "> tick 1\r\n"], Some((3, Break::Text))),
+    (&[ORDER, "> drop h0\n"], Some((3, Break::Text))),
+    (&[ORDER, "> drop h\n"], None),
+    (&["> \n"], Some((1, Break::Text))),
+    (&["> # set 2 on\n"], Some((1, Break::Text))),
     // sessions
     (
         &["> set 2 on\naccepted 2 node 2\n"],

@@ -2,13 +2,15 @@
 
 use crate::rows::check_row;
 use std::alloc::Global;
-use zw_parse::read_entry;
+use zw_parse::{EntryFault, read_entry};
 use zw_print::print_entry;
 use zw_text::Entry;
 
 /// Texts of entries, each of which is read and printed again.
 const TEXTS: &[&str] = &[
-    "> set  2   on",
+    "> set 2 on",
+    "> bulk 8 254 0aFF",
+    "> drop h",
     "accepted 4294967295 node 232",
     "refused notjoined",
     "refused notinterviewed",
@@ -83,6 +85,22 @@ const TEXTS: &[&str] = &[
     "badline 1 TooLong",
 ];
 
+/// Texts after `>` that are the words of no line, or not with one space between two.
+const UNSAID: &[&str] = &[
+    ">",
+    "> ",
+    ">  set 2 on",
+    "> set  2 on",
+    "> set 2 on ",
+    "> set\t2 on",
+    "> set 2 on\r",
+    "> set 2",
+    "> set 1 on",
+    "> drop h0",
+    "> # set 2 on",
+    "> chip 06",
+];
+
 /// Whether the entry is printed as the text.
 fn is_printed(alloc: Global, entry: &Entry, text: &str) -> bool {
     match print_entry(alloc, entry) {
@@ -96,6 +114,18 @@ fn is_printed_again(alloc: Global, text: &str) -> bool {
     match read_entry(alloc, text.as_bytes()) {
         Ok(entry) => is_printed(alloc, &entry, text),
         Err(_) => false,
+    }
+}
+
+/// Whether the text is that of no entry.
+fn is_no_entry(alloc: Global, text: &str) -> bool {
+    matches!(read_entry(alloc, text.as_bytes()), Err(EntryFault::Bad))
+}
+
+#[test]
+fn other_words_are_no_line(rt: HostRuntime) {
+    for (row, text) in UNSAID.iter().enumerate() {
+        check_row(&rt, is_no_entry(rt.alloc(), text), row);
     }
 }
 

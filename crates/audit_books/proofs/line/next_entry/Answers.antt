@@ -4,10 +4,10 @@ use Rattle.audit_books.proofs.Cuts.{cut-once}
 use Rattle.audit_books.proofs.line.next_entry.Goals as goal
 
 pub returns-in-Err-Bad : goal.returns-in-Err-Bad
-returns-in-Err-Bad c = λ entry rest fits none same.
+returns-in-Err-Bad c = λ entry rest is none same.
     let cut = c.in-Some.ensures in
     let line = cut-once _ _ _ _ cut.1 none (sym cut.0 ∙ same) in
-    rw c.in-Err-Bad.field-0-is at (c.in-Err-Bad.ensures.each entry fits line)
+    rw c.in-Err-Bad.field-0-is at (c.in-Err-Bad.ensures.each entry is line)
 
 pub returns-in-Ok : goal.returns-in-Ok
 returns-in-Ok c =
@@ -16,6 +16,6 @@ returns-in-Ok c =
     record {
       line = rw (← found) cut.0;
       feeds_none = rw (← found) cut.1;
-      fits = c.entry.ensures;
-      only = λ other fits same. c.in-Ok.ensures.each other fits (found ∙ same);
+      is = record { fits = c.entry.ensures; shows = c.in-Ok.ensures.shows };
+      only = λ other is same. c.in-Ok.ensures.each other is (found ∙ same);
     }
