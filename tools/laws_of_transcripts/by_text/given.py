@@ -6,7 +6,7 @@ from .. import ciphers, messages, orders, serial
 from ..devices import CLASSES, SWITCH, listing_of
 from ..entries import ORDERS, end_point_of
 from ..messages import property_order, property_text
-from .running import FOUND
+from .running import COARSE, FOUND, SELECTED
 from .values import EMPTY, WORLD, Function, Row, along, append, apply, concat, is_nil, row_of, same, tuple_of, uncons
 
 GIVEN = {}
@@ -119,6 +119,18 @@ def adds_all(function, value, item):
     return concat(value, apply(function, item))
 
 
+def selected(items, names):
+    """The entries of these kinds."""
+    return along(items, ("selected", names), EMPTY, lambda value, item: value.with_item(item) if item.name in names else value)
+
+
+@given(2)
+def flat_map(function, items):
+    """What a function gives for each item, in order; items for which it gives nothing are passed over."""
+    names = SELECTED.get(function.code)
+    return over(function, selected(items, names) if names and type(items) is Row else items, (), adds_all)
+
+
 def adds_one(function, value, item):
     """The value of a function behind what there is."""
     return append(value, apply(function, item))
@@ -129,7 +141,6 @@ def adds_some(function, value, item):
     return append(value, item) if apply(function, item) else value
 
 
-given(2, "flat_map")(lambda function, items: over(function, items, (), adds_all))
 given(2, "map")(lambda function, items: over(function, items, (), adds_one))
 given(2, "filter")(lambda function, items: over(function, items, (), adds_some))
 given(2, "list_any")(lambda function, items: any(apply(function, item) for item in tuple_of(items)))
@@ -157,6 +168,31 @@ def if_some(one, claim):
 
 
 # ---- over rows of entries, the same as the text says, without a walk from the front
+
+def by_outcomes(first):
+    """Keeps what a definition gives for a number and entries with the sessions that began and the commands that ended, and with what else it goes by."""
+    def wrap(code):
+        def kept(number, entries):
+            if type(entries) is not Row:
+                return code(number, entries)
+            row, key = selected(entries, OUTCOMES), (code, number, first(number, entries))
+            if key not in row.memo:
+                row.memo[key] = code(number, entries)
+            return row.memo[key]
+        return kept
+    return wrap
+
+
+def accepted_of(node, entries):
+    """The commands accepted for a node."""
+    from .laws import NAMES
+    return NAMES.get("zw_text.specs.Transcript.accepted").code(node, entries)
+
+
+OUTCOMES = frozenset(("Entry.Begin", "Entry.Out"))
+COARSE["zw_text.specs.Transcript.outcome"] = by_outcomes(lambda *_: None)
+COARSE["law_transcript.specs.Commands.waiting"] = by_outcomes(accepted_of)
+
 
 @given(2, "zw_text.specs.Transcript.last_with")
 def last_with(way, units):

@@ -132,12 +132,15 @@ class Maker:
         """Runs the text; a constant is worked out, and a function of entries keeps what it gives."""
         scope = self.run()
         code = scope[entry]
+        note_selected(self, code)
         if count == 0:
             self.resolve(scope)
             self.names.made[self.key] = code()
             return
-        kept = kept_place(self.module.types.get(self.name, []))
-        self.names.made[self.key] = Function(keeping(code, kept, count) if kept is not None and count else code, count)
+        kept = KEPT[self.key] if self.key in KEPT else kept_place(self.module.types.get(self.name, []))
+        wrap = COARSE.get(self.key)
+        code = wrap(code) if wrap else keeping(code, kept) if kept is not None else code
+        self.names.made[self.key] = Function(code, count)
         self.resolve(scope)
 
     def finish_chain(self, chain, parts, count):
@@ -447,6 +450,27 @@ class Maker:
              "field": of_field, "record": of_record_tree, "call": of_call}
 
 
+# at which argument what these give is kept, besides those of which `kept_place` says so
+KEPT = {"law_time.specs.Queue.requests_after": 1, "law_time.specs.Attempts.attempts_by_unit": 1}
+# of a definition that goes by a few kinds of entries: how what it gives is kept with these
+COARSE = {}
+# of a definition that gives nothing for all but a few variants of its last argument: these
+SELECTED = {}
+
+
+def note_selected(maker, code):
+    """Notes for which variants of its last argument a definition gives anything."""
+    parts = [equation_of(part) for part in maker.module.equations.get(maker.name, [])]
+    if len(parts) < 2 or not parts[0][1]:
+        return
+    *firsts, last = parts
+    lasts = [part[1][-1] for part in firsts]
+    if last[1][-1][0] in ("any", "name") and last[2] == ("nil",) and all(one[0] == "variant" for one in lasts):
+        variants = [maker.names.variant_of(maker.module, one[1]) for one in lasts]
+        if all(variants) and all(one[0].startswith("Entry.") for one in variants):
+            SELECTED[code] = frozenset(one[0] for one in variants)
+
+
 # for a record some of whose fields are things: their names, and what finds them
 FOUND = {}
 
@@ -574,7 +598,7 @@ def kept_place(types):
     return records[0] if len(records) == 1 else None
 
 
-def keeping(code, place, count):
+def keeping(code, place):
     """The same function, which keeps what it gives with one of its arguments."""
     def kept(*arguments):
         try:
@@ -587,5 +611,4 @@ def keeping(code, place, count):
         except KeyError:
             found = memo[key] = code(*arguments)
             return found
-    del count
     return kept
