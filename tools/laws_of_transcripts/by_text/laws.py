@@ -1,5 +1,8 @@
 """The laws of a transcript, by their text."""
+import gc
 import os
+import sys
+import threading
 from collections import namedtuple
 
 from ..entries import transcript_of
@@ -78,6 +81,7 @@ def test_of(path, wants, listing, key):
     return lambda past, entry: code(*first, past, entry)
 
 
+DEPTH, STACK = 200000, 1 << 29
 LINKS = ("HearsInTime", "TicksInTime", "CollidesAsTold", "WritesThere")
 
 
@@ -219,3 +223,31 @@ def violations(lines, key, parts=("sim", "host")):
     for part in parts:
         getattr(reading, part)()
     return reading.found
+
+
+def deep(code):
+    """What a piece of code gives that goes through long lists without a loop, in a thread with a stack for that."""
+    found = []
+
+    def run():
+        try:
+            found.append(code())
+        except BaseException as error:  # pylint: disable=broad-except
+            found.append(error)
+
+    limit, size = sys.getrecursionlimit(), threading.stack_size(STACK)
+    sys.setrecursionlimit(DEPTH)
+    gc.disable()
+    try:
+        thread = threading.Thread(target=run)
+        thread.start()
+        thread.join()
+    finally:
+        sys.setrecursionlimit(limit)
+        threading.stack_size(size)
+        WORLD.clear()
+        gc.enable()
+        gc.collect()
+    if isinstance(found[0], BaseException):
+        raise found[0]
+    return found[0]
