@@ -6,8 +6,8 @@
 MODEL is the folder of the model, which is no part of this repository. Scenario number i, from S on, is of the kind at i in a list in which each
 kind stands as often as it weighs. The kinds of `sim` are the profiles of the model; with each second one calm stretches follow its random lines. The
 others are the commands `replay`, `events`, `include`, `check` and `audit`. What the model gives for `sim` and `replay` is judged by
-tools/laws_of_transcripts; with --by-text those of `sim` also by the text of the laws, and --most-lines makes them short. With a program it is given the same input, and what it writes and its status are compared; drawn bytes are masked. A failing
-keeper is the model's alone.
+tools/laws_of_transcripts, and with --by-text that of `sim` also by the text of the laws; --most-lines makes scenarios short. With a program it is
+given the same input, and what it writes and its status are compared; drawn bytes are masked. A failing keeper is the model's alone.
 
 Each violation or difference is told at once, with the file of a smaller input in FOLDER; every 100 scenarios, and at the end, a line tells the sums.
 """
@@ -217,7 +217,8 @@ class Runs:
 
     def sums(self, seed):
         """The sums so far."""
-        told = ", ".join(f"{name} {self.counts[name]}" for name in ("judged", "entries", "stretches", "violation", "by text", "violation by text", "compared", "difference"))
+        names = ("judged", "entries", "stretches", "violation", "by text", "violation by text", "compared", "difference")
+        told = ", ".join(f"{name} {self.counts[name]}" for name in names)
         each = " ".join(f"{kind} {count}" for kind, count in sorted(self.kinds.items()))
         print(f"up to seed {seed}, {time.process_time():.0f} s of processor: {told}; {each}", flush=True)
 

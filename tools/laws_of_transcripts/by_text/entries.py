@@ -1,5 +1,4 @@
 """The entries of a transcript as the definitions have them."""
-from ..messages import property_text  # noqa: F401
 from .given import SIDES
 from .values import WORLD
 

@@ -1,4 +1,5 @@
 """What stands for the definitions of lower crates: lines, bodies of frames, messages, orders and seals, by the readers beside this folder."""
+import glob
 import re
 from functools import lru_cache
 
@@ -7,11 +8,10 @@ from ..devices import CLASSES, SWITCH, listing_of
 from ..entries import ORDERS, end_point_of
 from ..messages import property_order, property_text
 from .running import COARSE, FOUND, SELECTED
-from .values import EMPTY, WORLD, Function, Row, along, append, apply, concat, is_nil, row_of, same, tuple_of, uncons
+from .values import EMPTY, WORLD, Function, Row, along, append, apply, concat, is_nil, row_of, same, tuple_of
 
 GIVEN = {}
 NONE = WORLD.variant("None")
-ERR = WORLD.variant("Err")
 
 
 def some(value):
@@ -35,8 +35,6 @@ def given(count, *names):
 
 def arity_of(folder):
     """Says how many fields a variant of a type of the program has, by the source of its crate."""
-    import glob
-
     @lru_cache(maxsize=None)
     def table(crate, kind):
         for name in glob.glob("%s/%s/src/**/*.rt" % (folder, crate), recursive=True):
@@ -59,7 +57,7 @@ KINDS = {"Switch": SWITCH}
 
 GIVEN.update({"SOF": 1, "ACK": 6, "NAK": 0x15, "CAN": 0x18, "MAX_NODE": 232, "TRANSMIT_OPTIONS": 0x25, "GET_INIT_DATA": 2, "GET_CAPABILITIES": 7,
               "SEND_DATA": 0x13, "GET_VERSION": 0x15, "MEMORY_GET_ID": 0x20, "GET_NODE_PROTOCOL_INFO": 0x41, "REQUEST_NODE_INFO": 0x60, "IS_FAILED_NODE": 0x62,
-              "GET_ROUTING_INFO": 0x80, "Unit": True, "codes": None})
+              "GET_ROUTING_INFO": 0x80, "Unit": True})
 given(1, "length")(len)
 given(1, "suc")(lambda number: number + 1)
 given(1, "not")(lambda one: not one)
@@ -276,9 +274,9 @@ def is_prefix_of(prefix, whole):
 # ---- lines
 
 SIDES = {"h": WORLD.variant("Side.Host"), "c": WORLD.variant("Side.Chip")}
-WITH_NUMBERS = {"tick": "Tick", "cut": "Cut", "stall": "Stall", "join": "Join", "interview": "Interview", "lose": "Lose", "loseack": "LoseAck", "repeat": "Repeat",
-                "wake": "Wake", "cancel": "Cancel", "link": "Link", "unlink": "Unlink", "discover": "Discover", "neighbours": "Neighbours", "failed": "Failed",
-                "probe": "Probe", "local": "Local", "show": "Show", "store": "Store", "restart": "Restart", "collide": "Collide"}
+PLAIN_LINES = ("Tick", "Cut", "Stall", "Collide", "Join", "Interview", "Lose", "LoseAck", "Repeat", "Wake", "Cancel", "Link", "Unlink", "Discover", "Neighbours",
+               "Failed", "Probe", "Local", "Show", "Store", "Restart")
+WITH_NUMBERS = {name.lower(): name for name in PLAIN_LINES}
 
 
 @given(1)

@@ -201,13 +201,16 @@ class Reading:
         listing = listing_heard(entries)
         place = notes_broken(entries, listing, self.key, self.whole)
         if place is not None:
-            self.breaks("NotesWhatHappens", "IsHostLegal", "fits, in_the_end or nonces", place, repr(entries.items()[place]) if place < len(entries) else "the end")
+            entry = repr(entries.items()[place]) if place < len(entries) else "the end"
+            self.breaks("NotesWhatHappens", "IsHostLegal", "fits, in_the_end or nonces", place, entry)
         self.tests("IsHostLegal", HOST_TESTS, entries, listing)
         code, last = lambda path: NAMES.get(path).code, ended(entries) if self.whole else entries  # noqa: E731
         shown = code("zw_text.specs.Transcript.shown")(NAMES.get("law_transcript.specs.Stores.store_at"), entries)
         asked = code("law_transcript.specs.Stores.stores_asked")(listing, entries)
         carries = code("law_transcript.specs.Once.CarriesOnce")
+        before, last_line = code("law_transcript.specs.Answers.before_last")(entries), code("zw_text.specs.Transcript.line_last")(entries)
         self.claims("IsHostLegal", (
+            ("AnswersLines", "answered", not self.whole or code("law_host.specs.Legal.NeedsNone")(listing, before, last_line)),
             ("RestsWell", "rested", not self.whole or code("law_time.specs.Rests.rests_well")(listing, entries, WORLD.variant("Entry.Said", ()))),
             ("StoresConfirmed", "asked", tuple_of(asked)[:len(shown)] == tuple_of(shown)),
             ("StoresConfirmed", "all", not self.whole or len(shown) == len(asked)),

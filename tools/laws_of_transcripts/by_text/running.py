@@ -7,9 +7,8 @@ it has not looked at the end of the list. What else a definition gives for a row
 from operator import add
 
 from .grammar import Module, Parser, Unreadable, equation_of
-from .values import EMPTY, WORLD, Function, Rest, Row, append, apply, concat, is_nil, same, tuple_of, uncons
+from .values import EMPTY, WORLD, Function, Row, append, apply, concat, is_nil, same, tuple_of, uncons
 
-LASTING = {"Entry"}
 RAW = {"true": "True", "false": "False", "⊤": "True", "⊥": "False", "zero": "0"}
 SIGNS = {"&&": "({} and {})", "||": "({} or {})", "×": "({} and {})", "⊎": "({} or {})", "→": "(not {} or {})", "==": "same({}, {})",
          "≡": "same({}, {})", "≢": "not same({}, {})", "≤": "({} <= {})", "<": "({} < {})", "+": "({} + {})", "*": "({} * {})", "-": "max({} - {}, 0)",
@@ -519,7 +518,7 @@ def chain_of(name, parts):
     pattern = cons[place]
     if pattern[0] != "cons" or pattern[1][0] != "name" or pattern[2][0] != "name":
         return None
-    if any(one[0] not in ("name", "any") for at, one in enumerate(cons) if at != place) or any(one[0] not in ("name", "any") for at, one in enumerate(nil) if at != place):
+    if any(one[0] not in ("name", "any") for side in (nil, cons) for at, one in enumerate(side) if at != place):
         return None
     kind, call = "goes on", expression
     if expression[0] == "sign" and expression[1] in ("++", "+"):
