@@ -4,7 +4,7 @@
   bench/beside/breaks.py MODEL [--seconds T] [--seed S] [--most-lines N] [--by-text] [BREAK ..]
 
 MODEL is the folder of the model, which is no part of this repository; its own breaks (`mutate.py`) are tried beside those below. Each is tried in a process of
-its own, on random scenarios of its profiles, until a law is broken or so much time has passed. With --by-text the laws are read from their text too.
+its own, on random scenarios of its profiles, until a law is broken or so many seconds of processor are used. With --by-text the laws are read from their text too.
 """
 import argparse
 import os
@@ -207,8 +207,8 @@ def of_model():
 def one(model, name, make, profiles, options):
     """Tries a break until a law is broken by both readings."""
     make()
-    end, seed, tried, seen = time.monotonic() + options.seconds, options.seed, 0, {}
-    while time.monotonic() < end and len(seen) < 1 + options.by_text:
+    end, seed, tried, seen = time.process_time() + options.seconds, options.seed, 0, {}
+    while time.process_time() < end and len(seen) < 1 + options.by_text:
         for kind in profiles.split(","):
             random.seed(seed)
             try:
@@ -242,6 +242,8 @@ def main():
     options = parser.parse_intermixed_args()
     model = scenarios.Model(options.model, options.most_lines)
     known = {**of_model(), **breaks(model)}
+    if options.by_text:  # once for all of them
+        deep(lambda: violations_by_text(model.scenario("security", 2).finish(), KEY))
     for name in options.breaks or known:
         child = os.fork()
         if child == 0:
