@@ -6,8 +6,8 @@
 MODEL is the folder of the model, which is no part of this repository. Scenario number i, from S on, is of the kind at i in a list in which each
 kind stands as often as it weighs. The kinds of `sim` are the profiles of the model; with each second one calm stretches follow its random lines. The
 others are the commands `replay`, `events`, `include`, `check` and `audit`. What the model gives for `sim` and `replay` is judged by
-tools/laws_of_transcripts. With a program it is given the same input, and what it writes and its status are compared; drawn bytes are masked. A failing
-keeper is the model's alone.
+tools/laws_of_transcripts, and with --by-text that of `sim` also by the text of the laws; --most-lines makes scenarios short. With a program it is
+given the same input, and what it writes and its status are compared; drawn bytes are masked. A failing keeper is the model's alone.
 
 Each violation or difference is told at once, with the file of a smaller input in FOLDER; every 100 scenarios, and at the end, a line tells the sums.
 """
@@ -21,7 +21,8 @@ import time
 sys.dont_write_bytecode = True
 TOP = os.path.normpath(os.path.join(os.path.dirname(os.path.abspath(__file__)), "..", ".."))
 sys.path.insert(0, os.path.join(TOP, "tools"))
-from laws_of_transcripts.judge import judged  # noqa: E402
+from laws_of_transcripts.by_text.laws import deep, violations as violations_by_text  # noqa: E402
+from laws_of_transcripts.judge import KEY, judged  # noqa: E402
 
 # how often a kind stands in the list, where it is not four times: transcripts of these are ten times as long
 WEIGHTS = {"repeats": 1, "nonces": 1, "edge": 1}
@@ -33,8 +34,9 @@ TICKS_FOR_EACH, MOST_AT_WORK = 500, 16
 class Model:
     """The parts of the model that are asked."""
 
-    def __init__(self, folder):
+    def __init__(self, folder, most_lines=0):
         sys.path.insert(0, folder)
+        self.most_lines = most_lines
         import compare
         import fuzz
         import fuzz_more
@@ -58,6 +60,8 @@ class Model:
         fuzz.setup(run, chance, nodes, kind in ("routes", "mixed") or chance.random() < 0.1, 0.6 if kind == "noint" else 0)
         acts, of_each = list(weights), list(weights.values())
         goal = chance.randint(short, long)
+        if self.most_lines:
+            goal = chance.randint(min(short, self.most_lines // 2), min(long, self.most_lines))
         while len(run.lines) < goal:
             fuzz.act(run, chance, chance.choices(acts, of_each)[0], nodes, kind)
         if seed % 2:
@@ -174,6 +178,13 @@ class Runs:
                     return False
             self.tell("violation", kind, seed, smaller(lines, breaks), f"{law}: {found[0].part}: {found[0].text}")
 
+    def by_text(self, kind, seed, lines, written):
+        """Judges what the model wrote by the text of the laws."""
+        found = deep(lambda: violations_by_text(written, KEY))
+        self.counts["by text"] += 1
+        for broken in found[:3]:
+            self.tell("violation by text", kind, seed, lines, f"{broken.law} ({broken.whole}): {broken.part}: {broken.place}: {broken.entry}")
+
     def beside(self, kind, seed, words, lines, wanted):
         """Compares the program with what the model wrote."""
         program = self.options.program
@@ -199,12 +210,15 @@ class Runs:
         lines, written = list(run.lines), run.finish()
         if self.options.laws:
             self.law(kind, seed, lines, written, lambda fewer: self.model.fuzz.run_fixed(fewer, failing).finish())
+        if self.options.by_text:
+            self.by_text(kind, seed, lines, written)
         if self.options.program and not failing:
             self.beside(kind, seed, ("sim",), lines, (written, 0))
 
     def sums(self, seed):
         """The sums so far."""
-        told = ", ".join(f"{name} {self.counts[name]}" for name in ("judged", "entries", "stretches", "violation", "compared", "difference"))
+        names = ("judged", "entries", "stretches", "violation", "by text", "violation by text", "compared", "difference")
+        told = ", ".join(f"{name} {self.counts[name]}" for name in names)
         each = " ".join(f"{kind} {count}" for kind, count in sorted(self.kinds.items()))
         print(f"up to seed {seed}, {time.process_time():.0f} s of processor: {told}; {each}", flush=True)
 
@@ -219,9 +233,11 @@ def main():
     parser.add_argument("--seconds", type=float, default=0)
     parser.add_argument("--kinds")
     parser.add_argument("--without-laws", dest="laws", action="store_false")
+    parser.add_argument("--by-text", action="store_true")
+    parser.add_argument("--most-lines", type=int, default=0)
     parser.add_argument("--out", default="/tmp/moundurn-beside")
     options = parser.parse_args()
-    model = Model(options.model)
+    model = Model(options.model, options.most_lines)
     kinds = options.kinds.split(",") if options.kinds else list(model.fuzz.PROFILES) + list(COMMANDS)
     in_turn = [kind for turn in range(USUAL) for kind in kinds if turn < WEIGHTS.get(kind, USUAL)]
     runs, began, seed = Runs(model, options), time.monotonic(), options.seed
@@ -235,7 +251,7 @@ def main():
         if (seed - options.seed) % 100 == 99:
             runs.sums(seed)
     runs.sums(seed)
-    return 1 if runs.counts["violation"] or runs.counts["difference"] else 0
+    return 1 if runs.counts["violation"] or runs.counts["violation by text"] or runs.counts["difference"] else 0
 
 
 if __name__ == "__main__":

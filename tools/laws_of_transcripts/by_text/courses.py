@@ -1,0 +1,257 @@
+"""What a transcript does not show and a law says there is: the steps of both links, and which records a host kept.
+
+These are found from the transcript, and then judged by the text of the law.
+"""
+from ..ciphers import unsealed
+from ..serial import item_of
+from .values import EMPTY, WORLD, Rest, append, tuple_of
+
+FRAMED, WRITE = "Unit.Framed", "LinkOut.Write"
+IDLE, ASKED, TICKED = WORLD.variant("Turn.Idle"), WORLD.variant("Event.asked"), WORLD.variant("Event.ticked")
+KINDS = (WORLD.variant("Kind.Request"), WORLD.variant("Kind.Response"))
+ANSWERS = {6: "Unit.Ack", 0x15: "Unit.Nak", 0x18: "Unit.Can"}
+MOST_RECORDS, NEAR = 3, 10
+
+
+def checksum(data):
+    """The exclusive or of 0xFF and all bytes."""
+    total = 0xFF
+    for byte in data:
+        total ^= byte
+    return total
+
+
+def frame_in(unit):
+    """The frame of a unit, without its sum."""
+    return WORLD.record(("kind", "func", "body"), (KINDS[unit[2]], unit[3], tuple(unit[4:-1])))
+
+
+def item_in(unit):
+    """The item that a unit is by all its bytes."""
+    kind = item_of(bytes(unit)).kind
+    if kind == "good":
+        return WORLD.variant("Item.Good", WORLD.variant(FRAMED, frame_in(unit)))
+    if unit[0] in ANSWERS:
+        return WORLD.variant("Item.Good", WORLD.variant(ANSWERS[unit[0]]))
+    if kind == "bad":
+        want = checksum(unit[1:-1])
+        refusal = WORLD.variant("Refusal.BadSum", want, unit[-1]) if want != unit[-1] else WORLD.variant("Refusal.BadKind", unit[2])
+    elif kind == "short":
+        refusal = WORLD.variant("Refusal.BadLength", unit[1])
+    else:
+        refusal = WORLD.variant("Refusal.Stray", unit[0])
+    return WORLD.variant("Item.Refused", refusal)
+
+
+def text_of(unit):
+    """The bytes of a unit."""
+    if unit.name != FRAMED:
+        return ({"Unit.Ack": 6, "Unit.Nak": 0x15, "Unit.Can": 0x18}[unit.name],)
+    frame = unit.fields[0]
+    counted = (len(frame.body) + 3, KINDS.index(frame.kind), frame.func) + tuple(frame.body)
+    return (1,) + counted + (checksum(counted),)
+
+
+class Link:
+    """The steps of a side, as late as the units that it wrote allow."""
+
+    def __init__(self, names, is_chip):
+        self.is_chip, self.names = is_chip, names
+        for name in ("hear", "hear_outs", "tick_side", "outs_ticked"):
+            setattr(self, name, names.get("serial_link.specs.State." + name).code)
+        self.side = self.fresh()
+        self.ahead, self.part, self.round = [], [], []
+        self.is_tick = self.has_ticked = self.is_asked = False
+        self.clock, self.stalled_until = 0, 0
+
+    def fresh(self):
+        """A side with no frame of its own."""
+        return WORLD.record(("turn", "collisions"), (IDLE, 0))
+
+    def step(self, event, outs):
+        """One step; the bytes of the unit that it wrote, or None."""
+        self.part.append(WORLD.record(("event", "outs"), (event, tuple_of(outs))))
+        return next((text_of(one.fields[0]) for one in tuple_of(outs) if one.name == WRITE), None)
+
+    def ticks(self):
+        """The side's own tick."""
+        self.has_ticked = True
+        outs = self.outs_ticked(self.side.turn)
+        self.side = self.tick_side(self.side)
+        return self.step(TICKED, outs)
+
+    def hears(self):
+        """It hears what is next."""
+        item = item_in(self.ahead.pop(0))
+        outs = self.hear_outs(self.side, item)
+        self.side = self.hear(self.side, item)
+        return self.step(WORLD.variant("Event.heard", item), outs)
+
+    def peeks(self):
+        """What it would write for what is next."""
+        return next((True for one in tuple_of(self.hear_outs(self.side, item_in(self.ahead[0]))) if one.name == WRITE), False)
+
+    def submits(self, unit):
+        """It writes a frame of its own."""
+        frame = frame_in(unit)
+        self.side = WORLD.record(("turn", "collisions"), (WORLD.variant("Turn.Copied", frame, 1, 0), self.side.collisions))
+        return self.step(WORLD.variant("Event.submitted", frame), (WORLD.variant(WRITE, WORLD.variant(FRAMED, frame)),))
+
+    def is_stalled(self):
+        """Whether bytes are stalled."""
+        return self.clock < self.stalled_until
+
+    def asks(self):
+        """A collision is asked for."""
+        if self.is_asked:
+            self.is_asked = False
+            self.side = WORLD.record(("turn", "collisions"), (self.side.turn, self.side.collisions + 1))
+            self.step(ASKED, ())
+
+    def writes(self, unit):
+        """The steps up to a unit that the side wrote; whether they write it."""
+        self.asks()
+        while True:
+            may_submit = self.side.turn is IDLE and unit[0] == 1
+            if self.is_tick and not self.has_ticked and not (may_submit and self.is_chip):
+                written = self.ticks()
+            elif may_submit:
+                written = self.submits(unit)
+            elif self.ahead and not self.is_stalled():
+                written = self.hears()
+            else:
+                return False
+            if written is not None:
+                return written == unit
+
+    def ends(self):
+        """The steps up to the end of a line or tick."""
+        self.asks()
+        if self.is_tick and not self.has_ticked and self.ticks() is not None:
+            return False
+        while self.ahead and not self.is_stalled() and not self.peeks():
+            self.hears()
+        return True
+
+    def taken(self):
+        """The part so far."""
+        part, self.part = tuple(self.part), []
+        return part
+
+    def begins(self, event):
+        """A line or a tick begins."""
+        self.is_tick = event.name == "SerialEvent.Tick_begins"
+        self.has_ticked = False
+        if self.is_tick:
+            self.clock += 1
+            return
+        for line in tuple_of(event.fields[0]):
+            if line.name == "Line.Stall":
+                self.stalled_until = max(self.stalled_until, self.clock + line.fields[0])
+            elif line.name == "Line.Collide":
+                self.is_asked = self.is_chip
+            elif line.name == "Line.Restart":
+                self.ahead = []
+                if not self.is_chip:
+                    self.side = self.fresh()
+
+
+def parts_of(names, events, is_chip):
+    """The steps of a side up to each event of the serial line, or the place of the event up to which there are none."""
+    link, parts, own = Link(names, is_chip), [], "Side.Chip" if is_chip else "Side.Host"
+    for place, event in enumerate(events):
+        if event.name == "SerialEvent.Writes":
+            side, unit, arriving = event.fields
+            if side.name == own:
+                if not link.writes(tuple(unit)):
+                    return place
+            else:
+                link.ahead += [tuple(one) for one in tuple_of(arriving)]
+            parts.append(link.taken())
+        else:
+            if not link.ends():
+                return place
+            parts.append(link.taken())
+            link.begins(event)
+    return parts
+
+
+def moments_of(events, parts):
+    """Events with the steps before each, as a row."""
+    row = EMPTY
+    for event, part in zip(events, parts):
+        row = append(row, WORLD.record(("event", "steps"), (event, part)))
+    return row
+
+
+# ---- which records a host kept
+
+def keepings():
+    """Which of so many records may not be kept: each list ends with one that is not."""
+    found, longest = [()], [()]
+    for _ in range(MOST_RECORDS):
+        longest = [one + (kept,) for one in longest for kept in (True, False)]
+        found += [one for one in longest if not one[-1]]
+    return found
+
+
+KEEPINGS = keepings()
+
+
+class Notes:
+    """The courses that a host may have taken, entry by entry."""
+
+    def __init__(self, names, key, listing):
+        self.key, self.listing = key, listing
+        self.after = names.get("law_host.specs.Following.after").code
+        self.ended = names.get("law_host.specs.Following.ended_whole").code
+        self.frame_next = names.get("law_host.specs.Frames.frame_next").code
+        self.bringing_in = names.get("law_transcript.specs.Units.bringing_in").code
+        start = names.get("law_host.specs.Course.course_from").code((), WORLD.record(("keepings", "texts"), ((), ())))
+        self.courses, self.is_seal = [(start, {})], names.get("law_host.specs.Nonces.IsSeal").code
+
+    def goes_on(self, past, entry, array, place):
+        """An entry; whether a course is left."""
+        rest = Rest(array, place + 1, [False])
+        near = any(one.name == "Entry.Unkept" for one in array[place:place + NEAR])
+        found = {}
+        for course, drawn in self.courses:
+            for kept in KEEPINGS if near else ((),):
+                texts = self.texts(past, entry, course, drawn)
+                new = self.after(self.listing, past, entry, rest, WORLD.changed(course, ("keepings", "texts"), (kept, texts)))
+                if new.fits and new.keepings == ():
+                    shown = self.shown(course, new, drawn)
+                    if shown is not None:
+                        found[id(new)] = (new, shown)
+        self.courses = list(found.values())
+        return bool(found)
+
+    def texts(self, past, entry, course, drawn):
+        """What a sealed message that is judged here opens to for the last nonce that was given."""
+        if entry.name != "Entry.Written" or entry.fields[0].name != "Side.Host" or entry.fields[1] != (6,):
+            return ()
+        for frame in tuple_of(self.frame_next(past)):
+            for carried in tuple_of(self.bringing_in(frame)):
+                if carried.payload[:2] == (0x98, 0x81):
+                    book = next((one for one in course.books if one.node == carried.node), None)
+                    nonce = drawn.get((carried.node, book.giver.given)) if book else None
+                    text = nonce and unsealed(self.key, bytes(nonce), carried.node, 1, bytes(carried.payload))
+                    return (WORLD.variant("None") if text is None else WORLD.variant("Some", tuple(text)),)
+        return ()
+
+    def shown(self, old, new, drawn):
+        """The nonces that are shown, where what is new of them may be."""
+        for offer in new.offered[len(old.offered):] if isinstance(new.offered, tuple) else new.offered.last(len(new.offered) - len(old.offered)):
+            before = drawn.get((offer.node, offer.number))
+            if len(offer.nonce) != 8 or offer.nonce[0] != offer.number % 256 or before not in (None, offer.nonce):
+                return None
+            drawn = dict(drawn)
+            drawn[offer.node, offer.number] = offer.nonce
+        for seal in new.sealed[len(old.sealed):] if isinstance(new.sealed, tuple) else new.sealed.last(len(new.sealed) - len(old.sealed)):
+            if not self.is_seal(self.key, seal):
+                return None
+        return drawn
+
+    def ends(self, past):
+        """At the end of a whole run; whether a course is left."""
+        return any(self.ended(self.listing, past, course).fits for course, _ in self.courses)
