@@ -4,8 +4,10 @@
   bench/faults/run.py PROGRAM [--runs NAME,..] [--most N]
 
 fail.c beside this script is compiled by `cc` and loaded before the C library. Each run below is made once without a fault, and then once for each of its
-calls: an allocation (memory), a read of the input, a write of the output, a call on the file of records (keep). Where there are more than N, 2,000 if not
-told, every second, third and so on is taken. What is asked of each:
+calls: an allocation (memory), a read of the input, a write of the output, a call on the file of records (keep). So that each allocation can be tried, a
+copy of the program is made there in which it fails; `host`, which has a file of records, is run anew for each. Of other calls than allocations every
+second, third and so on is taken where there are more than N, 2,000 if not told. Once more each of these calls fails with all later ones of its kind.
+What is asked of each:
 
   memory   status 6, and what was written is a prefix of what the run without a fault writes, up to the end of a line; or all is as in that run
   read     status 4, and just the lines were run whose line feed had been read
@@ -48,6 +50,9 @@ RUNS = {
 # what `sim` is asked for the bytes that the chip sends in the run of `host`
 ASKED = b"set 2 on\ninterview 2\nget 2\nprobe\ntick 20\n"
 
+# how a call fails: alone; with all later ones; or it moves one byte
+ALONE, ON, SHORT = "", ", and all later ones", ", one byte"
+
 Ended = collections.namedtuple("Ended", "status out said kept")
 
 
@@ -64,11 +69,11 @@ class Faults:
 
     def __init__(self, options, folder):
         self.options, self.folder = options, folder
-        self.library, self.records, self.sums = (os.path.join(folder, name) for name in ("fail.so", "records", "sums"))
+        self.library, self.records, self.sums, self.copies = (os.path.join(folder, name) for name in ("fail.so", "records", "sums", "copies"))
         subprocess.run(["cc", "-O2", "-shared", "-fPIC", "-o", self.library, os.path.join(HERE, "fail.c")], check=True)
         self.judged, self.wrong = {}, 0
 
-    def call(self, words, data, records=None, **faults):
+    def call(self, words, data, records=None, seconds=120, **faults):
         """Runs the program; each word of `faults` is a variable of fail.c."""
         env = {f"FAULT_{name.upper()}": str(value) for name, value in faults.items()}
         env.update(LD_PRELOAD=self.library, FAULT_SUMS=self.sums)
@@ -77,7 +82,7 @@ class Faults:
         with tempfile.TemporaryFile() as given:
             given.write(data)
             given.seek(0)
-            ran = subprocess.run([self.options.program, *words], stdin=given, stdout=subprocess.PIPE, stderr=subprocess.PIPE, env=env, timeout=120)
+            ran = subprocess.run([self.options.program, *words], stdin=given, stdout=subprocess.PIPE, stderr=subprocess.PIPE, env=env, timeout=seconds)
         kept = b""
         if records and os.path.exists(records):
             with open(records, "rb") as file:
@@ -94,18 +99,17 @@ class Faults:
         """What the laws say of what was written, once for each text; of a table that is not whole they say nothing."""
         if RUNS[name][0][0] not in ("sim", "replay"):
             return None
-        lines = out.decode().split("\n")[:-1]
-        if not is_whole:
-            lines = list(itertools.takewhile(lambda line: not line.startswith("end "), lines))
-        out = tuple(lines)
-        if out not in self.judged:
+        if (out, is_whole) not in self.judged:
+            lines = out.decode().split("\n")[:-1]
+            if not is_whole:
+                lines = list(itertools.takewhile(lambda line: not line.startswith("end "), lines))
             found = violations(lines, alone=RUNS[name][0][0] == "replay")
-            self.judged[out] = f"{found[0].law}: {found[0].text}" if found else None
-        return self.judged[out]
+            self.judged[out, is_whole] = f"{found[0].law}: {found[0].text}" if found else None
+        return self.judged[out, is_whole]
 
-    def fault_of(self, name, kind, is_short, base, ended, data, at):
+    def fault_of(self, name, kind, how, base, ended, data, at):
         """What is wrong with a run of which that call failed, or None."""
-        if is_short or ended[:3] == base[:3] and kind in ("memory", "keep"):
+        if how == SHORT or ended[:3] == base[:3] and kind in ("memory", "keep"):
             return None if ended == base else f"{ended.status} in place of {base.status}, or other output"
         if kind == "keep":
             is_right = not ended.out if ended.status == KEEPER_FAULT else ended.status == UNDONE or ended.status == 0 and are_done(ended.kept)
@@ -130,19 +134,37 @@ class Faults:
         after = self.call(["host", "wait 1"], b"", self.records)
         return None if after.status in (0, UNDONE) else f"a later run ends with {after.status}: {after.said!r}"
 
-    def all_of(self, name, kind, is_short, base, data, count):
+    def each(self, name, kind, how, base, data, count):
+        """The calls of that kind that are to fail, and how the run ends at each."""
+        faults = {"kind": kind, "piece": RUNS[name][2], "short": int(how == SHORT), "on": int(how == ON)}
+        if kind == "memory" and name != "host":
+            ended = self.run(name, data, seconds=36000, copies=self.copies, **faults)
+            if ended != base:
+                raise SystemExit(f"{name}: a run with copies is not as one without")
+            yield from self.ends_of_copies(base)
+            return
+        for at in range(1, count + 1, max(1, -(-count // self.options.most))):
+            yield at, self.run(name, data, at=at, **faults)
+
+    def ends_of_copies(self, base):
+        """The number of each copy, and how it ended."""
+        with open(self.copies, "rb") as file:
+            for line in file:
+                at, status, before, size, words = map(int, line.split())
+                out, said = base.out[:before] + file.read(size), file.read(words)
+                yield at, Ended(os.waitstatus_to_exitcode(status), out, said, b"")
+
+    def all_of(self, name, kind, how, base, data, count):
         """Each call of that kind in turn."""
-        step = max(1, -(-count // self.options.most))
         ends = collections.Counter()
-        for at in range(1, count + 1, step):
-            ended = self.run(name, data, kind=kind, at=at, piece=RUNS[name][2], short=int(is_short))
+        for at, ended in self.each(name, kind, how, base, data, count):
             ends[ended.status] += 1
-            fault = self.fault_of(name, kind, is_short, base, ended, data, at)
+            fault = self.fault_of(name, kind, how, base, ended, data, at)
             if fault:
                 self.wrong += 1
-                print(f"{name}, {kind} {at}{', one byte' if is_short else ''}: {fault}", flush=True)
+                print(f"{name}, {kind} {at}{how}: {fault}", flush=True)
         told = " ".join(f"{status}:{times}" for status, times in sorted(ends.items()))
-        print(f"{name}: {kind}{', one byte' if is_short else ''}: {count} calls, {sum(ends.values())} failed in turn, statuses {told}", flush=True)
+        print(f"{name}: {kind}{how}: {count} calls, {sum(ends.values())} failed in turn, statuses {told}", flush=True)
 
     def broken(self, name, data):
         """Ends of the line that are broken from the first byte on."""
@@ -169,9 +191,9 @@ class Faults:
         print(f"{name}: status {base.status}, {len(base.out)} bytes, laws: {self.laws(name, base.out, True) or 'none broken'}", flush=True)
         self.broken(name, data)
         for kind in KINDS:
-            for is_short in (False, True)[:1 if kind == "memory" else 2]:
+            for how in (ALONE, ON, SHORT)[:2 if kind == "memory" else 3]:
                 if counts[kind]:
-                    self.all_of(name, kind, is_short, base, data, counts[kind])
+                    self.all_of(name, kind, how, base, data, counts[kind])
 
 
 def read(name):

@@ -7,6 +7,7 @@ import os
 import random
 import subprocess
 import sys
+import threading
 import time
 
 TOP = os.path.normpath(os.path.join(os.path.dirname(os.path.abspath(__file__)), "..", ".."))
@@ -46,8 +47,9 @@ class Desk:
         self.port.chip = Lossy(self.port.send, self.devices, part, seed)
         chip.set_line(self.port.theirs)
 
-    def start(self, lines, records=None, **how):
-        env = {name: value for name, value in os.environ.items() if name != "ZWAVE_RECORDS"}
+    def start(self, lines, records=None, more=None, **how):
+        """Starts the program; `more` are variables of its environment."""
+        env = {name: value for name, value in os.environ.items() if name != "ZWAVE_RECORDS"} | (more or {})
         if records:
             env["ZWAVE_RECORDS"] = records
         words = [self.program, "host", *lines]
@@ -69,6 +71,37 @@ class Desk:
 
     def run(self, lines, records=None, seconds=600.0, **how):
         return self.attend(self.start(lines, records, **how), seconds)
+
+
+class Served:
+    """A port whose chip answers by a thread of its own, as long as a `with` lasts or until it is pulled out."""
+
+    def __init__(self):
+        self.port = chip.Port(chip.make_devices(), lambda *_: None)
+        self.name, self.devices = os.ttyname(self.port.theirs), self.port.chip.devices
+        self.is_over = threading.Event()
+        self.serving = threading.Thread(target=self.serve)
+
+    def serve(self):
+        while not self.is_over.is_set():
+            self.port.turn(0.02)
+
+    def stop(self):
+        self.is_over.set()
+        self.serving.join()
+
+    def pull_out(self):
+        self.stop()
+        os.close(self.port.theirs)
+        os.close(self.port.ours)
+
+    def __enter__(self):
+        self.serving.start()
+        return self
+
+    def __exit__(self, *_):
+        if not self.is_over.is_set():
+            self.stop()
 
 
 class Records:

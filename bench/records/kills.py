@@ -3,10 +3,10 @@
 
   bench/records/kills.py [PROGRAM [KILLS [SEED]]]      100 kills and seed 1 if not told
 
-Each run gives up to three orders to nodes 2, 5, 6 and 8 and waits a little; a part of what the devices say is lost. After each kill the records
-are held against what the devices did: sessions one after another, each by the command that it carries, each once, and each that is told as done.
-The file may have grown, and lost at most an end without a line feed. In the end all is run to rest, and each command that was accepted was
-done once, in order.
+Runs follow each other until so many were killed. Each gives up to three orders to nodes 2, 5, 6 and 8 and waits a little; a part of what the devices
+say is lost. After each run the records are held against what the devices did: sessions one after another, each by the command that it carries, each
+once, and each that is told as done. The file may have grown, and lost at most an end without a line feed. In the end all is run to rest, and each
+command that was accepted was done once, in order.
 """
 import collections
 import os
@@ -18,6 +18,7 @@ import time
 from desk import SUCCESS, Desk, Records, check, faults_of, program_of
 
 NODES = (2, 5, 6, 8)
+KILLED = -9
 
 # a part of what the devices say is lost, and a run is killed within so many times the time that one takes
 LOST, WITHIN = 0.1, 1.3
@@ -49,21 +50,21 @@ def main(words):
         began = time.monotonic()
         desk.run(["wait 2"], records)
         longest = WITHIN * (time.monotonic() - began)
-        for kill in range(kills):
-            before = read(records)
-            lines = [order(chance, kill * 3 + at) for at in range(chance.randrange(4))]
+        while ends[KILLED] < kills:
+            turn, before = sum(ends.values()), read(records)
+            lines = [order(chance, turn * 3 + at) for at in range(chance.randrange(4))]
             ended = desk.run([*lines, f"wait {chance.randrange(1, 4)}"], records, chance.uniform(0, longest))
             ends[ended.status] += 1
             whole = before[: before.rfind(b"\n") + 1]
             for fault in faults_of(Records(records), desk.devices):
-                check(False, f"kill {kill}: {fault}")
+                check(False, f"run {turn}: {fault}")
             if not read(records).startswith(whole):
-                check(False, f"kill {kill}: the file lost a line")
-            if ended.status not in (-9, 0, 9):
-                check(False, f"kill {kill}: ended with {ended.status}: {ended.said}")
+                check(False, f"run {turn}: the file lost a line")
+            if ended.status not in (KILLED, 0, 9):
+                check(False, f"run {turn}: ended with {ended.status}: {ended.said}")
             if chance.random() < 0.5:
                 desk.port.chip.forget()
-        check(True, f"{kills} runs, by status: {dict(ends)}")
+        check(True, f"{sum(ends.values())} runs, by status: {dict(ends)}")
         rest(desk, records)
 
 
