@@ -49,20 +49,20 @@ not_below number (first ∷ rest) all =
 -- none of the first ones is among the later ones
 not_later : (a b : List ℕ) (number : ℕ) → Rise (a ++ b) → is_among a number ≡ true → is_among b number ≡ false
 not_later [] b number rise among = absurd cc
-not_later (first ∷ rest) b number rise among = by (first == number) refl among
+not_later (first ∷ rest) b number rise among = by (first == number) refl among (not_later rest b number rise.1)
   where
-    by : (t : Bool) → (first == number) ≡ t → (t || is_among rest number) ≡ true → is_among b number ≡ false
-    by true same is = not_below number b (subst (λ (n : ℕ). All (λ other. n < other) b) (eqb-true first number same) (all-right (λ other. first < other) rest b rise.0))
-    by false other is = not_later rest b number rise.1 is
+    by : (t : Bool) → (first == number) ≡ t → (t || is_among rest number) ≡ true → (is_among rest number ≡ true → is_among b number ≡ false) → is_among b number ≡ false
+    by true same is later = not_below number b (subst (λ (n : ℕ). All (λ other. n < other) b) (eqb-true first number same) (all-right (λ other. first < other) rest b rise.0))
+    by false other is later = later is
 
 -- a command of none of these sessions has no end in them
 not_begun : (sessions : List Session) (number : ℕ) → is_among (commands_of sessions) number ≡ false → ended_in sessions number ≡ None
 not_begun [] number none = refl
-not_begun (one ∷ more) number none = by (one.command == number) none
+not_begun (one ∷ more) number none = by (one.command == number) none (not_begun more number)
   where
-    by : (t : Bool) → (t || is_among (commands_of more) number) ≡ false → option_or (ended_in more number) (if t then Some one.ended else None) ≡ None
-    by true is = absurd cc
-    by false is = ap (λ (o : Option (Option FinalStatus)). option_or o None) (not_begun more number is)
+    by : (t : Bool) → (t || is_among (commands_of more) number) ≡ false → (is_among (commands_of more) number ≡ false → ended_in more number ≡ None) → option_or (ended_in more number) (if t then Some one.ended else None) ≡ None
+    by true is later = absurd cc
+    by false is later = ap (λ (o : Option (Option FinalStatus)). option_or o None) (later is)
 
 if_true : (b : Bool) (ended : Option FinalStatus) → b ≡ true → option_or None (if b then Some ended else None) ≡ Some ended
 if_true true ended is = refl
@@ -116,11 +116,11 @@ kept_by node number ended apart is =
 -- one of these is so
 one_is : (P : ℕ → Type 0) (numbers : List ℕ) (number : ℕ) → All P numbers → is_among numbers number ≡ true → P number
 one_is P [] number all among = absurd cc
-one_is P (first ∷ rest) number all among = by (first == number) refl among
+one_is P (first ∷ rest) number all among = by (first == number) refl among (one_is P rest number (All-tail P first rest all))
   where
-    by : (b : Bool) → (first == number) ≡ b → (b || is_among rest number) ≡ true → P number
-    by true same is = subst P (eqb-true first number same) (All-head P first rest all)
-    by false other is = one_is P rest number (All-tail P first rest all) is
+    by : (b : Bool) → (first == number) ≡ b → (b || is_among rest number) ≡ true → (is_among rest number ≡ true → P number) → P number
+    by true same is later = subst P (eqb-true first number same) (All-head P first rest all)
+    by false other is later = later is
 
 module _ (past : List Entry) (h : HostState) (kept : Kept) (facts : HostFacts h) (holds : Holds h kept) (tables : AreShown past h) (n : ℕ) where
   abbrev node : KeptNode

@@ -15,6 +15,7 @@ use Rattle.host_keep.specs.declared.record.Record.{Record}
 use Rattle.host_model.specs.State.{HostState}
 use Rattle.host_model.specs.Events.{HostEvent}
 use Rattle.host_model.specs.Outs.{outs}
+use Rattle.host_model.specs.Records.{records_at}
 use Rattle.host_model.specs.declared.out.HostOut.{HostOut}
 use Rattle.host_model.specs.Did.{MayAll as MayAllHost, records_all, texts_of}
 use Rattle.host_model.proofs.EventLists.{all_in_range}
@@ -39,7 +40,11 @@ use Rattle.proof_records.proofs.Cancelled.{asides_none, event_cancels, host_canc
 
 -- these entries take nothing back
 silent : (past es : List Entry) (records : Option (List (List ℕ))) → shown cancelled_at es ≡ [] → TellsCancelled past records → TellsCancelled (past ++ es) records
-silent past es records none tells = record tells {
+silent past es records none tells = record {
+  texts = tells.texts;
+  told = tells.told;
+  kept = tells.kept;
+  are = tells.are;
   cancelled = tells.cancelled ∙ sym (shown-append cancelled_at past es ∙ (ap (λ (l : List ℕ). shown cancelled_at past ++ l) none ∙ append-nil (shown cancelled_at past)));
 }
 
@@ -73,7 +78,7 @@ event_tells past m (Host_does event) may tells =
     subst (λ (l : List HostOut). Trailing (entries_at h event) (entries_all_outside m.outside (routed l) ++ entries_all_outside (host_does m (event ∷ [])).outside (map Host_notes (answers h event))))
     (sym (append-nil (outs h event))) (event_following m.outside (host_does m (event ∷ [])).outside h event) in
     host_adds past (entries m (Host_does event)) m.records h (event ∷ []) may
-    (ap (λ (l : List Record). flat_map cancelled_by l) (append-nil _) ∙ (event_cancels h event ∙ sym (trailing_same (entries_at h event) (entries m (Host_does event)) following))) tells
+    (ap (λ (l : List Record). flat_map cancelled_by l) (append-nil (records_at h event)) ∙ (event_cancels h event ∙ sym (trailing_same (entries_at h event) (entries m (Host_does event)) following))) tells
 event_tells past m (Host_takes count rest items events) may tells =
     host_adds past (host_entries (fed m count rest) events) m.records m.host.state events may.may (host_cancels (fed m count rest) events (judged_silent m.host.state items events may.judged)) tells
 event_tells past m Decoder_ticks may tells = silent past [] m.records refl tells
