@@ -7,8 +7,8 @@ use Rattle.zw_text.specs.declared.line.Line.TheVariants as lines
 use Rattle.zw_text.specs.declared.entry.Entry.{Entry}
 use Rattle.zw_text.specs.declared.entry.Entry.TheVariants.{Said, Interviewed, InterviewFailed, Unkept, Time}
 use Rattle.zw_text.specs.Transcript.{joined, shown, line_of, lines_run, lines_done, requests_done, where_same}
-use Rattle.law_transcript.specs.Lists.{shown_after}
 use Rattle.law_transcript.specs.Restarts.{since_restart, ticks_asked}
+use Rattle.law_wire.specs.Links.{lasts}
 use Rattle.law_time.specs.Moments.{Keeps, now_at}
 use Rattle.law_time.specs.Judged.{acknowledged, frames_come}
 use Rattle.law_time.specs.Requests.{asked, are_none}
@@ -20,16 +20,9 @@ use Rattle.law_time.specs.Choice.{is_in_tick, is_to_begin, parts_of, unkept_when
 
 -- ---- when it rests
 
--- until when a line stalls the serial bytes
-abbrev pub stall_by : ℕ → Line → List ℕ
-stall_by now (lines.Stall count) = (now + count) ∷ []
-stall_by now _ = []
-
-abbrev pub stall_at : List Entry → Entry → List ℕ
-stall_at past entry = flat_map (stall_by (ticks_asked (lines_run past))) (line_of entry)
-
+-- a line stalls the serial bytes from all ticks on that lines before it asked for
 abbrev pub is_stalled : List Entry → ℕ → Bool
-is_stalled past now = list_any (nat_lt now) (shown_after stall_at [] past)
+is_stalled past now = lasts (λ before. ticks_asked (lines_run before)) line_of past now
 
 -- the host rests: no stall lasts, every frame of the chip is judged, and no request is under way
 abbrev pub is_rest : List Entry → ℕ → Bool

@@ -2,6 +2,7 @@ use Rattle.std.proofs.Common.{ℕ, List, [], ◌∷◌, inl, refl}
 use Rattle.std.specs.Prelude.{true}
 use Rattle.zw_words.specs.declared.side.Side.TheVariants.{Host}
 use Rattle.zw_text.specs.declared.entry.Entry.{Entry}
+use Rattle.law_transcript.specs.Answers.{MayAnswer, refusals_by_host}
 use Rattle.law_transcript.specs.Lists.{EachAfter}
 use Rattle.law_transcript.specs.Nodes.{listing_of}
 use Rattle.law_transcript.specs.Worked.{refused_lines, the_switch}
@@ -11,13 +12,12 @@ use Rattle.law_time.specs.Choice.{may_follow, may_number, may_send}
 use Rattle.law_time.specs.Queue.{may_queue}
 use Rattle.law_time.specs.Rests.{may_rest}
 use Rattle.law_host.specs.Heard.{heard_by_host}
-use Rattle.law_host.specs.Legal.{AnswersLine}
 use Rattle.law_host.specs.Notes.{first_start}
 use Rattle.law_host.specs.Worked.{all_kept}
 use Rattle.law_transcript.proofs.Deciding.{kept}
 use Rattle.law_wire.proofs.Judging.{keeps_link}
 use Rattle.law_wire.proofs.Moves.{acts_of}
-use Rattle.law_host.proofs.Computing.{computing}
+use Rattle.law_time.proofs.Computing.{computing}
 use Rattle.law_host.proofs.Noting.{noted}
 use Rattle.law_host.proofs.legal.worked_legal.Goals as goal
 
@@ -29,7 +29,7 @@ abbrev listing : ℕ → List ℕ
 listing = listing_of (the_switch ∷ [])
 
 -- each line has the answer that is due
-answered : EachAfter (AnswersLine listing) [] lines
+answered : EachAfter (MayAnswer listing (refusals_by_host listing)) [] lines
 unfolding computing
 answered = (tt, (inl refl, (tt, (tt, (inl refl, (tt, (inl refl, (tt, (refl, (tt, (refl, (tt, (refl, tt)))))))))))))
 
@@ -42,8 +42,7 @@ pub returns : goal.returns
 unfolding computing
 returns c = record {
   refused = record {
-    answers = answered;
-    answered = λ whole. tt;
+    answers = record { between = answered; in_the_end = λ whole. tt };
     cancels = (tt, (tt, (tt, (tt, (tt, (tt, (tt, (tt, (tt, (tt, (tt, (tt, (tt, tt)))))))))))));
     sessions = (tt, (tt, (tt, (tt, (tt, (tt, (tt, (tt, (tt, (tt, (tt, (tt, (tt, tt)))))))))))));
     carries = λ node. record { commands_rise = tt; commands_accepted = tt };
@@ -59,6 +58,6 @@ returns c = record {
     numbers = kept may_number lines refl;
     prompt = kept (may_rest listing) lines refl;
     rested = λ whole. refl;
-    records_kept = tt;
+    records_kept = λ whole. tt;
   };
 }
