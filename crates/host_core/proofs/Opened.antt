@@ -12,10 +12,12 @@ use Rattle.host_keep.specs.RecordText.{IsTextOf}
 use Rattle.host_keep.specs.Kept.{Kept, first_kept, after_all as kept_after_all, kept_of}
 use Rattle.host_keep.specs.Legal.{AreTextsOf, AreLegal, IsFirstBad, first_illegal, is_legal}
 use Rattle.host_model.specs.State.{HostState, HostParts, first_host}
+use Rattle.host_model.specs.Did.{RoseBy}
+use Rattle.host_model.proofs.Doing.{rose_less}
 use Rattle.host_model.specs.Restoring.{may_restore, restored}
 use Rattle.host_model.specs.Opening.{restored_all, restarted}
 use Rattle.host_model.specs.Holding.{HoldsAlone}
-use Rattle.host_core.specs.Opening.{AreTold, Opens, ReadEach, IsRecordAt, Takes, MayTakeNone}
+use Rattle.host_core.specs.Opening.{AreTold, Opens, IsRecordAt, Takes, MayTakeNone}
 
 -- ---- what is known of records
 
@@ -151,13 +153,18 @@ below_top now top new less e = grind (arith, e)
 at_top : (now top new : ℕ) → top ≤ now → new ≡ min (now + 1) top → new ≡ top
 at_top now top new more e = grind (arith, e)
 
-one_read : (at reads now new top : ℕ) → (now < top) ⊎ (top ≤ now) → new ≡ min (now + 1) top → (reads + at ≤ now) ⊎ (now ≡ top) → (reads + (at + 1) ≤ new) ⊎ (new ≡ top)
-one_read at reads now new top (inr more) e so = inr (at_top now top new more e)
+one_read : (at reads now new top : ℕ) → (now < top) ⊎ (top ≤ now) → new ≡ min (now + 1) top → (reads + at ≤ now) ⊎ (top ≤ now) → (reads + (at + 1) ≤ new) ⊎ (top ≤ new)
+one_read at reads now new top (inr more) e so = inr (omega (arith, at_top now top new more e))
 one_read at reads now new top (inl less) e (inl some) = inl (omega (arith, some, below_top now top new less e))
 one_read at reads now new top (inl less) e (inr is) = absurd (omega (arith, less, is))
 
-pub read_none : (reads : ℕ) → ReadEach 0 reads reads
+pub read_none : (reads : ℕ) → RoseBy 0 reads reads
 read_none reads = inl (omega arith)
 
-pub read_more : (at reads now new : ℕ) → ReadEach at reads now → new ≡ raised now → ReadEach (at + 1) reads new
+pub read_more : (at reads now new : ℕ) → RoseBy at reads now → new ≡ raised now → RoseBy (at + 1) reads new
 read_more at reads now new so e = one_read at reads now new greatest_count (cases_lt now greatest_count) e so
+
+-- one record more was read, or none
+pub read_on : (at reads now new : ℕ) → RoseBy at reads now → (new ≡ now) ⊎ (new ≡ raised now) → RoseBy 0 reads new
+read_on at reads now new so (inl same) = subst (λ (n : ℕ). RoseBy 0 reads n) (sym same) (rose_less 0 at reads now (omega arith) so)
+read_on at reads now new so (inr more) = rose_less 0 (at + 1) reads new (omega arith) (read_more at reads now new so more)

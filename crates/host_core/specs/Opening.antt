@@ -1,6 +1,5 @@
 -- A host that starts from the records of a keeper (this project's own rule, docs/RECORDS.md).
-use Rattle.std.specs.Prelude.{◌≡◌, ◌⊎◌, ℕ, ◌+◌, ◌≤◌, true, false, List, length, Option, Some, None}
-use Rattle.zw_base.specs.Faults.{greatest_count}
+use Rattle.std.specs.Prelude.{◌≡◌, ℕ, true, false, List, length, Option, Some, None}
 use Rattle.serial_frame.specs.Stream.{no_rest}
 use Rattle.s0_crypto.specs.declared.key_pair.Keys.{Keys}
 use Rattle.host_keep.specs.declared.record.Record.{Record}
@@ -23,10 +22,6 @@ pub record Opens (keys : Keys) (number : ℕ) (told : Option (List (List ℕ))) 
   pub are : AreTold records told
   pub legal : AreLegal records
   pub state : host ≡ record { decoder = no_rest; state = opened keys records }
-
--- so many records were read: the count of reads rose by at least that, or is at its greatest value
-abbrev pub ReadEach : ℕ → ℕ → ℕ → Type 0
-ReadEach number reads reads' = (reads + number ≤ reads') ⊎ (reads' ≡ greatest_count)
 
 -- ---- one record
 

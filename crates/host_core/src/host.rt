@@ -1,6 +1,6 @@
 //! The host.
 
-ghost use Rattle.std.specs.Prelude.{◌≡◌, IfOk, OnOk, OnErr};
+ghost use Rattle.std.specs.Prelude.{◌≡◌, ◌≤◌, IfOk, OnOk, OnErr};
 ghost use Rattle.serial_frame.specs.Stream.{after_tick, no_rest};
 ghost use Rattle.host_core.specs.Network.{keys_of};
 ghost use Rattle.supervision.specs.Host.{begun_of, command_at as command_of_session};
@@ -67,6 +67,8 @@ impl Host {
         ensures decoder { self.new.decoder ≡ self.old.decoder }
         ensures err { OnErr result (Stops (scene self.old.state out.old.items (P.records keeper.old) (P.faults keeper.old))
             (scene self.new.state out.new.items (P.records keeper.new) (P.faults keeper.new))) }
+        ensures never_fewer { P.number keeper.old ≤ P.number keeper.new }
+        ensures reads { P.reads keeper.new ≡ P.reads keeper.old }
     {
         pump(&mut self.core, out, keeper)
     }
@@ -85,6 +87,8 @@ impl Host {
         ensures err { OnErr result (FedPrefix self.old piece.now self.new out.old.items out.new.items
             (scene self.old.state out.old.items (P.records keeper.old) (P.faults keeper.old)).shelf
             (scene self.new.state out.new.items (P.records keeper.new) (P.faults keeper.new)).shelf) }
+        ensures never_fewer { P.number keeper.old ≤ P.number keeper.new }
+        ensures reads { P.reads keeper.new ≡ P.reads keeper.old }
     {
         host_step_bytes::feed(&mut self.core, piece, draw, out, keeper)
     }
@@ -102,6 +106,8 @@ impl Host {
         ensures decoder { OnOk result (self.new.decoder ≡ after_tick self.old.decoder) }
         ensures err { OnErr result (Stops (scene self.old.state out.old.items (P.records _keeper.old) (P.faults _keeper.old))
             (scene self.new.state out.new.items (P.records _keeper.new) (P.faults _keeper.new))) }
+        ensures never_fewer { P.number _keeper.old ≤ P.number _keeper.new }
+        ensures reads { P.reads _keeper.new ≡ P.reads _keeper.old }
     {
         tick(&mut self.core, out)?;
         Ok(())

@@ -1,11 +1,12 @@
 //! A host that starts from its records.
 
-ghost use Rattle.std.specs.Prelude.{◌≡◌, ◌<◌, ◌≤◌, ℕ, List as Items, [], Some, Err, IfOk, OnOk};
+ghost use Rattle.std.specs.Prelude.{◌≡◌, ◌⊎◌, ◌<◌, ◌≤◌, ℕ, List as Items, [], Some, Err, IfOk, OnOk};
 ghost use Rattle.zw_base.specs.Faults.{Rose, raised};
 ghost use Rattle.host_keep.specs.Keeping.{OptAdds};
 ghost use Rattle.host_keep.specs.Legal.{IsFirstBad};
+ghost use Rattle.host_model.specs.Did.{RoseBy};
 ghost use Rattle.host_core.specs.Network.{keys_of};
-ghost use Rattle.host_core.specs.Opening.{Opens, ReadEach, IsRecordAt, IsNoneAt, Takes, MayTakeNone};
+ghost use Rattle.host_core.specs.Opening.{Opens, IsRecordAt, IsNoneAt, Takes, MayTakeNone};
 
 use crate::Host;
 use host_keep::{
@@ -47,7 +48,8 @@ impl Host {
         ensures bad { (at : ℕ) (texts : Items (Items ℕ)) → result ≡ Err (OpenFault.BadRecord at) → P.records keeper.old ≡ Some texts → IsFirstBad texts at }
         ensures place { (at : ℕ) → result ≡ Err (OpenFault.BadRecord at) → at < P.number keeper.old }
         ensures failed { result ≡ Err OpenFault.KeeperFault → Rose (P.faults keeper.old) (P.faults keeper.new) }
-        ensures reads { OnOk result (ReadEach (P.number keeper.old) (P.reads keeper.old) (P.reads keeper.new)) }
+        ensures reads { OnOk result (RoseBy (P.number keeper.old) (P.reads keeper.old) (P.reads keeper.new)) }
+        ensures reads_never_fall { RoseBy 0 (P.reads keeper.old) (P.reads keeper.new) }
         ensures number { P.number keeper.new ≡ P.number keeper.old }
         ensures records { OptAdds (P.records keeper.old) (P.records keeper.new) [] }
         ensures never_falls { P.faults keeper.old ≤ P.faults keeper.new }
@@ -78,6 +80,7 @@ fn take_up<P: Keeper>(
     ensures bad { (place : ℕ) → result ≡ Err (OpenFault.BadRecord place) → (place ≡ at) × MayTakeNone (P.records keeper.old) at core.old.state }
     ensures failed { result ≡ Err OpenFault.KeeperFault → Rose (P.faults keeper.old) (P.faults keeper.new) }
     ensures reads { OnOk result (P.reads keeper.new ≡ raised (P.reads keeper.old)) }
+    ensures read { (P.reads keeper.new ≡ P.reads keeper.old) ⊎ (P.reads keeper.new ≡ raised (P.reads keeper.old)) }
     ensures number { P.number keeper.new ≡ P.number keeper.old }
     ensures records { P.records keeper.new ≡ P.records keeper.old }
     ensures never_falls { P.faults keeper.old ≤ P.faults keeper.new }
@@ -101,6 +104,7 @@ fn record_at<P: Keeper>(alloc: Global, keeper: &mut P, at: u64) -> Result<Record
     ensures bad { (place : ℕ) → result ≡ Err (OpenFault.BadRecord place) → (place ≡ at) × IsNoneAt (P.records keeper.old) at }
     ensures failed { result ≡ Err OpenFault.KeeperFault → Rose (P.faults keeper.old) (P.faults keeper.new) }
     ensures reads { OnOk result (P.reads keeper.new ≡ raised (P.reads keeper.old)) }
+    ensures read { (P.reads keeper.new ≡ P.reads keeper.old) ⊎ (P.reads keeper.new ≡ raised (P.reads keeper.old)) }
     ensures number { P.number keeper.new ≡ P.number keeper.old }
     ensures records { P.records keeper.new ≡ P.records keeper.old }
     ensures never_falls { P.faults keeper.old ≤ P.faults keeper.new }

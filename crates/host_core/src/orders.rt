@@ -75,6 +75,8 @@ impl Host {
         ensures no_record { OnErr result (OptAdds (P.records keeper.old) (P.records keeper.new) []) }
         ensures failed { result ≡ Err Refused.KeeperFault → Rose (P.faults keeper.old) (P.faults keeper.new) }
         ensures never_falls { P.faults keeper.old ≤ P.faults keeper.new }
+        ensures never_fewer { P.number keeper.old ≤ P.number keeper.new }
+        ensures reads { P.reads keeper.new ≡ P.reads keeper.old }
     {
         if self.core.node(node).is_joined() || node.number() == CONTROLLER {
             return Err(Refused::AlreadyJoined);
@@ -98,6 +100,9 @@ impl Host {
         ensures no_record { OnErr result (OptAdds (P.records keeper.old) (P.records keeper.new) []) }
         ensures failed { result ≡ Err Refused.KeeperFault → Rose (P.faults keeper.old) (P.faults keeper.new) }
         ensures never_falls { P.faults keeper.old ≤ P.faults keeper.new }
+        ensures more { OnOk result (P.number keeper.old < P.number keeper.new) }
+        ensures never_fewer { P.number keeper.old ≤ P.number keeper.new }
+        ensures reads { P.reads keeper.new ≡ P.reads keeper.old }
     {
         self.core.accept(order, keeper)
     }
@@ -112,6 +117,8 @@ impl Host {
         ensures no_record { OnErr result (OptAdds (P.records keeper.old) (P.records keeper.new) []) }
         ensures failed { result ≡ Err CancelFault.KeeperFault → Rose (P.faults keeper.old) (P.faults keeper.new) }
         ensures never_falls { P.faults keeper.old ≤ P.faults keeper.new }
+        ensures never_fewer { P.number keeper.old ≤ P.number keeper.new }
+        ensures reads { P.reads keeper.new ≡ P.reads keeper.old }
     {
         let node = match self.core.command_at(command) {
             Some(found) => found.order().node,

@@ -1,6 +1,6 @@
 //! What the host does of itself: it lets nodes sleep, and submits the next request while none is under way.
 
-ghost use Rattle.std.specs.Prelude.{◌≡◌, ◌<◌, true, None, IfOk, OnOk, OnErr};
+ghost use Rattle.std.specs.Prelude.{◌≡◌, ◌≤◌, ◌<◌, true, None, IfOk, OnOk, OnErr};
 ghost use Rattle.host_node.specs.declared.series.Series.TheVariants.{Idle, Due, Running};
 ghost use Rattle.host_model.specs.State.{node_of};
 ghost use Rattle.host_model.specs.Facts.{HostFacts};
@@ -29,6 +29,8 @@ pub(crate) fn pump<P: Keeper>(
     ensures decoder { core.new.decoder ≡ core.old.decoder }
     ensures err { OnErr result (Stops (scene core.old.state out.old.items (P.records keeper.old) (P.faults keeper.old))
         (scene core.new.state out.new.items (P.records keeper.new) (P.faults keeper.new))) }
+    ensures never_fewer { P.number keeper.old ≤ P.number keeper.new }
+    ensures reads { P.reads keeper.new ≡ P.reads keeper.old }
 {
     let_sleep(core, out)?;
     submit(core, out, keeper)?;
@@ -47,6 +49,8 @@ fn submit<P: Keeper>(
     ensures decoder { core.new.decoder ≡ core.old.decoder }
     ensures err { OnErr result (Stops (scene core.old.state out.old.items (P.records keeper.old) (P.faults keeper.old))
         (scene core.new.state out.new.items (P.records keeper.new) (P.faults keeper.new))) }
+    ensures never_fewer { P.number keeper.old ≤ P.number keeper.new }
+    ensures reads { P.reads keeper.new ≡ P.reads keeper.old }
 {
     turns_of_a_pump_go_on();
     while submit_next(core, out, keeper)? {}
@@ -66,6 +70,8 @@ fn submit_next<P: Keeper>(
     ensures decoder { core.new.decoder ≡ core.old.decoder }
     ensures err { OnErr result (Stops (scene core.old.state out.old.items (P.records keeper.old) (P.faults keeper.old))
         (scene core.new.state out.new.items (P.records keeper.new) (P.faults keeper.new))) }
+    ensures never_fewer { P.number keeper.old ≤ P.number keeper.new }
+    ensures reads { P.reads keeper.new ≡ P.reads keeper.old }
 {
     a_pump_ends();
     know_facts(core);
@@ -103,6 +109,8 @@ fn serve<P: Keeper>(
     ensures decoder { core.new.decoder ≡ core.old.decoder }
     ensures err { OnErr result (Stops (scene core.old.state out.old.items (P.records keeper.old) (P.faults keeper.old))
         (scene core.new.state out.new.items (P.records keeper.new) (P.faults keeper.new))) }
+    ensures never_fewer { P.number keeper.old ≤ P.number keeper.new }
+    ensures reads { P.reads keeper.new ≡ P.reads keeper.old }
 {
     match core.node(node).series() {
         Series::Running => {
@@ -194,6 +202,8 @@ fn begin<P: Keeper>(
     ensures decoder { core.new.decoder ≡ core.old.decoder }
     ensures err { OnErr result (Stops (scene core.old.state out.old.items (P.records keeper.old) (P.faults keeper.old))
         (scene core.new.state out.new.items (P.records keeper.new) (P.faults keeper.new))) }
+    ensures never_fewer { P.number keeper.old ≤ P.number keeper.new }
+    ensures reads { P.reads keeper.new ≡ P.reads keeper.old }
 {
     a_pump_ends();
     let state = core.node(node);

@@ -1,6 +1,5 @@
 -- Lists of events that happened one after another.
-use Rattle.std.proofs.Common.{◌≡◌, ℕ, ◌≤◌, List, [], ◌∷◌, ◌++◌, inl, inr, refl, ap, sym, ◌∙◌, subst, append_assoc, arith}
-use Rattle.std.proofs.lemmas.Bool.{cases_eq}
+use Rattle.std.proofs.Common.{◌≡◌, ℕ, ◌+◌, ◌≤◌, List, [], ◌∷◌, ◌++◌, inl, inr, refl, ap, sym, ◌∙◌, subst, append_assoc, arith}
 use Rattle.std.specs.Prelude.{Option, Some, None, Bool, true, false}
 use Rattle.std.specs.List.{AllByRecursion}
 use Rattle.std.proofs.lemmas.List.{append-nil, map-append}
@@ -8,14 +7,13 @@ use Rattle.host_keep.specs.Keeping.{OptAdds}
 use Rattle.host_keep.specs.RecordText.{record_text}
 use Rattle.host_keep.specs.Rows.{IsRecord}
 use Rattle.host_keep.specs.declared.record.Record.{Record}
-use Rattle.zw_base.specs.Faults.{Rose, greatest_count}
 use Rattle.host_model.specs.State.{HostState}
 use Rattle.host_model.specs.Events.{HostEvent}
 use Rattle.host_model.specs.After.{after}
 use Rattle.host_model.specs.Outs.{outs}
 use Rattle.host_model.specs.Records.{records_at, KeepsInRange}
 use Rattle.host_model.specs.May.{May}
-use Rattle.host_model.specs.Did.{after_all, outs_all, records_all, texts_of, MayAll, is_unkept, RoseIf, RoseAll, Shelf, Did}
+use Rattle.host_model.specs.Did.{after_all, outs_all, records_all, texts_of, MayAll, is_unkept, RoseIf, RoseBy, one_if, unkept_in, Shelf, Did}
 use Rattle.host_model.specs.declared.out.HostOut.{HostOut}
 
 pub after_all-append : (h : HostState) (a b : List HostEvent) → after_all h (a ++ b) ≡ after_all (after_all h a) b
@@ -59,40 +57,32 @@ adds_both (Some kept) b c x y first later =
 
 -- ---- faults
 
--- what rose has risen later, and what rises later has risen since before
-pub rose_by_later : (f g k : ℕ) → f ≤ g → g ≤ k → Rose f g → Rose f k
-rose_by_later f g k before later (inl rose) = inl (omega (arith, rose, later))
-rose_by_later f g k before later (inr top) = elim (cases_eq k greatest_count) [
-  | inl there ↦ inr there
-  | inr past ↦ inl (omega (arith, top, before, later, past))
-]
+-- what rose twice rose by both
+pub rose_both : (a b f g k : ℕ) → RoseBy a f g → RoseBy b g k → RoseBy (a + b) f k
+rose_both a b f g k (inl first) (inl last) = inl (omega (arith, first, last))
+rose_both a b f g k first (inr top) = inr top
+rose_both a b f g k (inr top) (inl last) = inr (omega (arith, top, last))
 
-pub rose_since : (f g k : ℕ) → f ≤ g → g ≤ k → Rose g k → Rose f k
-rose_since f g k before later (inl rose) = inl (omega (arith, before, rose))
-rose_since f g k before later (inr top) = inr top
+-- what rose by more rose by less
+pub rose_less : (a b f g : ℕ) → a ≤ b → RoseBy b f g → RoseBy a f g
+rose_less a b f g less (inl rose) = inl (omega (arith, less, rose))
+rose_less a b f g less (inr top) = inr top
 
-if_by_later : (b : Bool) (f g k : ℕ) → f ≤ g → g ≤ k → RoseIf b f g → RoseIf b f k
-if_by_later true f g k before later rose = rose_by_later f g k before later rose
-if_by_later false f g k before later rose = tt
+pub rose_one : (b : Bool) (f g : ℕ) → f ≤ g → RoseIf b f g → RoseBy (one_if b) f g
+rose_one true f g falls (inl rose) = inl (omega (arith, rose))
+rose_one true f g falls (inr top) = inr (omega (arith, top))
+rose_one false f g falls rose = inl (omega (arith, falls))
 
-if_since : (b : Bool) (f g k : ℕ) → f ≤ g → g ≤ k → RoseIf b g k → RoseIf b f k
-if_since true f g k before later rose = rose_since f g k before later rose
-if_since false f g k before later rose = tt
+pub rose_none : (f g : ℕ) → f ≤ g → RoseBy 0 f g
+rose_none f g falls = inl (omega (arith, falls))
 
-all_by_later : (a : List HostEvent) (f g k : ℕ) → f ≤ g → g ≤ k → RoseAll a f g → RoseAll a f k
-all_by_later [] f g k before later rose = tt
-all_by_later (e ∷ a) f g k before later rose = (if_by_later (is_unkept e) f g k before later rose.0, all_by_later a f g k before later rose.1)
+-- one event has its own alone
+pub unkept_alone : (e : HostEvent) → one_if (is_unkept e) ≡ unkept_in (e ∷ [])
+unkept_alone e = let same : one_if (is_unkept e) ≡ one_if (is_unkept e) + 0 = omega arith in same
 
-all_since : (a : List HostEvent) (f g k : ℕ) → f ≤ g → g ≤ k → RoseAll a g k → RoseAll a f k
-all_since [] f g k before later rose = tt
-all_since (e ∷ a) f g k before later rose = (if_since (is_unkept e) f g k before later rose.0, all_since a f g k before later rose.1)
-
-joined : (a b : List HostEvent) (f k : ℕ) → RoseAll a f k → RoseAll b f k → RoseAll (a ++ b) f k
-joined [] b f k first later = later
-joined (e ∷ a) b f k first later = (first.0, joined a b f k first.1 later)
-
-pub rose_all-append : (a b : List HostEvent) (f g k : ℕ) → f ≤ g → g ≤ k → RoseAll a f g → RoseAll b g k → RoseAll (a ++ b) f k
-rose_all-append a b f g k before later first last = joined a b f k (all_by_later a f g k before later first) (all_since b f g k before later last)
+unkept-append : (a b : List HostEvent) → unkept_in (a ++ b) ≡ unkept_in a + unkept_in b
+unkept-append [] b = omega arith
+unkept-append (e ∷ a) b = omega (arith, unkept-append a b)
 
 -- ---- what was done
 
@@ -100,7 +90,7 @@ rose_all-append a b f g k before later first last = joined a b f k (all_by_later
 pub did_nothing : (old new : HostState) (before all : List HostOut) (shelf shelf' : Shelf) → new ≡ old → all ≡ before → OptAdds shelf.records shelf'.records [] → shelf.faults ≤ shelf'.faults
     → Did [] old new before all shelf shelf'
 did_nothing old new before all shelf shelf' state outs records falls =
-    record { may = tt; state = state; outs = outs ∙ sym (append-nil before); records = records; rose = tt; never_falls = falls }
+    record { may = tt; state = state; outs = outs ∙ sym (append-nil before); records = records; rose = rose_none shelf.faults shelf'.faults falls; never_falls = falls }
 
 -- one event happened
 pub did_one : (e : HostEvent) (old new : HostState) (before all : List HostOut) (shelf shelf' : Shelf) → May old e → KeepsInRange old e → new ≡ after old e → all ≡ before ++ outs old e
@@ -112,7 +102,7 @@ did_one e old new before all shelf shelf' may range state put records rose falls
       state = state;
       outs = put ∙ ap (λ (t : List HostOut). before ++ t) (sym (append-nil (outs old e)));
       records = subst (λ (t : List Record). OptAdds shelf.records shelf'.records (texts_of t)) (sym (append-nil (records_at old e))) records;
-      rose = (rose, tt);
+      rose = subst (λ (n : ℕ). RoseBy n shelf.faults shelf'.faults) (unkept_alone e) (rose_one (is_unkept e) shelf.faults shelf'.faults falls rose);
       never_falls = falls;
     }
 
@@ -130,6 +120,7 @@ did_both a b old mid new before some all s t u first later =
           (sym (texts-append (records_all old a) (records_all mid b))
           ∙ ap (λ (l : List Record). texts_of l) (ap (λ (h : HostState). records_all old a ++ records_all h b) first.state ∙ sym (records_all-append old a b)))
           (adds_both s.records t.records u.records (texts_of (records_all old a)) (texts_of (records_all mid b)) first.records later.records);
-      rose = rose_all-append a b s.faults t.faults u.faults first.never_falls later.never_falls first.rose later.rose;
+      rose = subst (λ (n : ℕ). RoseBy n s.faults u.faults) (sym (unkept-append a b))
+          (rose_both (unkept_in a) (unkept_in b) s.faults t.faults u.faults first.rose later.rose);
       never_falls = omega (arith, first.never_falls, later.never_falls);
     }

@@ -1,5 +1,5 @@
 -- Events of a host one after another, and what calls of it did (this project's own).
-use Rattle.std.specs.Prelude.{◌≡◌, ℕ, ◌≤◌, Bool, true, false, List, [], ◌∷◌, ◌++◌, map, Option}
+use Rattle.std.specs.Prelude.{◌≡◌, ◌⊎◌, ℕ, ◌+◌, ◌≤◌, Bool, true, false, List, [], ◌∷◌, ◌++◌, map, Option}
 use Rattle.host_keep.specs.Keeping.{OptAdds}
 use Rattle.host_keep.specs.RecordText.{record_text}
 use Rattle.host_keep.specs.declared.record.Record.{Record}
@@ -10,7 +10,7 @@ use Rattle.host_model.specs.Outs.{outs}
 use Rattle.host_model.specs.Records.{records_at, KeepsInRange}
 use Rattle.host_model.specs.May.{May}
 use Rattle.host_model.specs.declared.out.HostOut.{HostOut}
-use Rattle.zw_base.specs.Faults.{Rose}
+use Rattle.zw_base.specs.Faults.{Rose, greatest_count}
 
 -- the host after events
 abbrev pub after_all : HostState → List HostEvent → HostState
@@ -42,25 +42,35 @@ is_unkept (Interview_unkept n update) = true
 is_unkept (Begin_unkept n) = true
 is_unkept event = false
 
--- the keeper's count of faults rose where a record was not kept
+-- a count rose where that is so
 abbrev pub RoseIf : Bool → ℕ → ℕ → Type 0
-RoseIf true faults faults' = Rose faults faults'
-RoseIf false faults faults' = Unit {0}
+RoseIf true count count' = Rose count count'
+RoseIf false count count' = Unit {0}
 
-abbrev pub RoseAll : List HostEvent → ℕ → ℕ → Type 0
-RoseAll [] faults faults' = Unit {0}
-RoseAll (event ∷ events) faults faults' = RoseIf (is_unkept event) faults faults' × RoseAll events faults faults'
+-- a count rose by at least so many, or is at its greatest value
+abbrev pub RoseBy : ℕ → ℕ → ℕ → Type 0
+RoseBy number count count' = (count + number ≤ count') ⊎ (greatest_count ≤ count')
+
+-- one where that is so, else none
+abbrev pub one_if : Bool → ℕ
+one_if true = 1
+one_if false = 0
+
+-- how many of the events were not done, since their record was not kept
+abbrev pub unkept_in : List HostEvent → ℕ
+unkept_in [] = 0
+unkept_in (event ∷ events) = one_if (is_unkept event) + unkept_in events
 
 -- what a keeper holds, where it tells that, and how often it failed
 pub record Shelf : Type 0 where
   pub records : Option (List (List ℕ))
   pub faults : ℕ
 
--- These events happened; what they put out was added, and their records were kept. The count of faults never falls.
+-- These events happened; what they put out was added, and their records were kept. The count of faults never falls, and rose for each of them that was not kept.
 pub record Did (events : List HostEvent) (old new : HostState) (before all : List HostOut) (shelf shelf' : Shelf) : Type 0 where
   pub may : MayAll old events
   pub state : new ≡ after_all old events
   pub outs : all ≡ before ++ outs_all old events
   pub records : OptAdds shelf.records shelf'.records (texts_of (records_all old events))
-  pub rose : RoseAll events shelf.faults shelf'.faults
+  pub rose : RoseBy (unkept_in events) shelf.faults shelf'.faults
   pub never_falls : shelf.faults ≤ shelf'.faults

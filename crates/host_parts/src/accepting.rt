@@ -67,6 +67,9 @@ pub fn accept<P: Keeper>(
         record h { nodes = nodes.old; commands = commands.old.items; store = store.old }) }
     ensures no_record { OnErr result (OptAdds (P.records keeper.old) (P.records keeper.new) []) }
     ensures never_falls { P.faults keeper.old ≤ P.faults keeper.new }
+    ensures more { OnOk result (P.number keeper.old < P.number keeper.new) }
+    ensures never_fewer { P.number keeper.old ≤ P.number keeper.new }
+    ensures reads { P.reads keeper.new ≡ P.reads keeper.old }
 {
     let judged = judge_order(alloc, nodes, store, commands.len(), order)?;
     accept_judged(alloc, nodes, store, commands, order, &judged, keeper)
@@ -106,6 +109,9 @@ fn accept_judged<P: Keeper>(
         record h { nodes = nodes.old; commands = commands.old.items; store = store.old }) }
     ensures no_record { OnErr result (OptAdds (P.records keeper.old) (P.records keeper.new) []) }
     ensures never_falls { P.faults keeper.old ≤ P.faults keeper.new }
+    ensures more { OnOk result (P.number keeper.old < P.number keeper.new) }
+    ensures never_fewer { P.number keeper.old ≤ P.number keeper.new }
+    ensures reads { P.reads keeper.new ≡ P.reads keeper.old }
 {
     what_is_taken_back_is_undone();
     what_is_released_is_undone();
@@ -278,6 +284,9 @@ fn keep_accepted<P: Keeper>(
     ensures failed { result ≡ Err Refused.KeeperFault → Rose (P.faults keeper.old) (P.faults keeper.new) }
     ensures no_record { OnErr result (OptAdds (P.records keeper.old) (P.records keeper.new) []) }
     ensures never_falls { P.faults keeper.old ≤ P.faults keeper.new }
+    ensures more { OnOk result (P.number keeper.old < P.number keeper.new) }
+    ensures never_fewer { P.number keeper.old ≤ P.number keeper.new }
+    ensures reads { P.reads keeper.new ≡ P.reads keeper.old }
 {
     let fact = Record::Accepted {
         command: number,

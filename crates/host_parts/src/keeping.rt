@@ -1,7 +1,7 @@
 //! Records of events.
 
-ghost use Rattle.std.specs.Prelude.{◌≤◌, [], IfOk, OnOk, OnErr};
-ghost use Rattle.host_keep.specs.Keeping.{OptAdds, Kept};
+ghost use Rattle.std.specs.Prelude.{◌≡◌, ◌+◌, ◌≤◌, [], IfOk, OnOk, OnErr};
+ghost use Rattle.host_keep.specs.Keeping.{OptAdds, Kept, added};
 ghost use Rattle.host_keep.specs.Rows.{IsRecord};
 ghost use Rattle.host_keep.specs.RecordText.{record_text};
 
@@ -20,6 +20,9 @@ pub fn keep_record<P: Keeper>(
     ensures in_range { OnOk result (IsRecord kept.now) }
     ensures no_record { OnErr result (OptAdds (P.records keeper.old) (P.records keeper.new) []) }
     ensures never_falls { P.faults keeper.old ≤ P.faults keeper.new }
+    ensures added { IfOk result (λ is_kept. P.number keeper.new ≡ P.number keeper.old + added is_kept) }
+    ensures never_fewer { P.number keeper.old ≤ P.number keeper.new }
+    ensures reads { P.reads keeper.new ≡ P.reads keeper.old }
 {
     let text = write_record(alloc, kept)?;
     keep(keeper, text.as_slice())

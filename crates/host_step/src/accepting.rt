@@ -1,6 +1,6 @@
 //! An order that becomes a command, or is refused.
 
-ghost use Rattle.std.specs.Prelude.{◌≡◌, ◌+◌, ◌≤◌, ◌∷◌, [], length, IfOk, OnOk, OnErr, Err};
+ghost use Rattle.std.specs.Prelude.{◌≡◌, ◌+◌, ◌≤◌, ◌<◌, ◌∷◌, [], length, IfOk, OnOk, OnErr, Err};
 ghost use Rattle.zw_base.specs.Faults.{Rose};
 ghost use Rattle.host_keep.specs.Keeping.{OptAdds};
 ghost use Rattle.host_keep.specs.Rows.{IsRecord};
@@ -32,6 +32,9 @@ impl HostCore {
         ensures err { OnErr result (self.new ≡ self.old) }
         ensures no_record { OnErr result (OptAdds (P.records keeper.old) (P.records keeper.new) []) }
         ensures never_falls { P.faults keeper.old ≤ P.faults keeper.new }
+        ensures more { OnOk result (P.number keeper.old < P.number keeper.new) }
+        ensures never_fewer { P.number keeper.old ≤ P.number keeper.new }
+        ensures reads { P.reads keeper.new ≡ P.reads keeper.old }
     {
         facts_are_kept();
         accept(

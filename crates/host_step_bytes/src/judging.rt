@@ -42,6 +42,8 @@ pub fn feed<D: Draw, P: Keeper>(
     ensures err { OnErr result (FedPrefix core.old piece.now core.new out.old.items out.new.items
         (scene core.old.state out.old.items (P.records keeper.old) (P.faults keeper.old)).shelf
         (scene core.new.state out.new.items (P.records keeper.new) (P.faults keeper.new)).shelf) }
+    ensures never_fewer { P.number keeper.old ≤ P.number keeper.new }
+    ensures reads { P.reads keeper.new ≡ P.reads keeper.old }
 {
     let mut left = piece;
     while let Some(rest) = take_item(core, left, draw, out, keeper)? {
@@ -64,6 +66,8 @@ fn take_item<'a, D: Draw, P: Keeper>(
     ensures err { OnErr result (FedPrefix core.old piece.now core.new out.old.items out.new.items
         (scene core.old.state out.old.items (P.records keeper.old) (P.faults keeper.old)).shelf
         (scene core.new.state out.new.items (P.records keeper.new) (P.faults keeper.new)).shelf) }
+    ensures never_fewer { P.number keeper.old ≤ P.number keeper.new }
+    ensures reads { P.reads keeper.new ≡ P.reads keeper.old }
 {
     let _ = core.decoder();
     let (found, left) = core.next_item(piece)?;
@@ -88,6 +92,8 @@ fn judge<D: Draw, P: Keeper>(
     ensures decoder { core.new.decoder ≡ core.old.decoder }
     ensures err { OnErr result (Stops (scene core.old.state out.old.items (P.records keeper.old) (P.faults keeper.old))
         (scene core.new.state out.new.items (P.records keeper.new) (P.faults keeper.new))) }
+    ensures never_fewer { P.number keeper.old ≤ P.number keeper.new }
+    ensures reads { P.reads keeper.new ≡ P.reads keeper.old }
 {
     let was_busy = core.is_busy();
     core.hear(item, out)?;
@@ -110,6 +116,8 @@ fn follow<D: Draw, P: Keeper>(
     ensures decoder { core.new.decoder ≡ core.old.decoder }
     ensures err { OnErr result (Stops (scene core.old.state out.old.items (P.records keeper.old) (P.faults keeper.old))
         (scene core.new.state out.new.items (P.records keeper.new) (P.faults keeper.new))) }
+    ensures never_fewer { P.number keeper.old ≤ P.number keeper.new }
+    ensures reads { P.reads keeper.new ≡ P.reads keeper.old }
 {
     match item {
         Item::Good(unit) => {
@@ -136,6 +144,8 @@ fn follow_unit<D: Draw, P: Keeper>(
     ensures decoder { core.new.decoder ≡ core.old.decoder }
     ensures err { OnErr result (Stops (scene core.old.state out.old.items (P.records keeper.old) (P.faults keeper.old))
         (scene core.new.state out.new.items (P.records keeper.new) (P.faults keeper.new))) }
+    ensures never_fewer { P.number keeper.old ≤ P.number keeper.new }
+    ensures reads { P.reads keeper.new ≡ P.reads keeper.old }
 {
     match unit {
         Unit::Ack => {
@@ -202,6 +212,8 @@ fn take_frame<D: Draw, P: Keeper>(
     ensures decoder { core.new.decoder ≡ core.old.decoder }
     ensures err { OnErr result (Stops (scene core.old.state out.old.items (P.records keeper.old) (P.faults keeper.old))
         (scene core.new.state out.new.items (P.records keeper.new) (P.faults keeper.new))) }
+    ensures never_fewer { P.number keeper.old ≤ P.number keeper.new }
+    ensures reads { P.reads keeper.new ≡ P.reads keeper.old }
 {
     let body = frame.body.as_slice();
     take_body(core, frame.kind, frame.func, body, draw, out, keeper)?;
@@ -225,6 +237,8 @@ fn take_body<D: Draw, P: Keeper>(
     ensures decoder { core.new.decoder ≡ core.old.decoder }
     ensures err { OnErr result (Stops (scene core.old.state out.old.items (P.records keeper.old) (P.faults keeper.old))
         (scene core.new.state out.new.items (P.records keeper.new) (P.faults keeper.new))) }
+    ensures never_fewer { P.number keeper.old ≤ P.number keeper.new }
+    ensures reads { P.reads keeper.new ≡ P.reads keeper.old }
 {
     match kind {
         Kind::Response => {
@@ -285,6 +299,8 @@ fn take_notice<D: Draw, P: Keeper>(
     ensures decoder { core.new.decoder ≡ core.old.decoder }
     ensures err { OnErr result (Stops (scene core.old.state out.old.items (P.records keeper.old) (P.faults keeper.old))
         (scene core.new.state out.new.items (P.records keeper.new) (P.faults keeper.new))) }
+    ensures never_fewer { P.number keeper.old ≤ P.number keeper.new }
+    ensures reads { P.reads keeper.new ≡ P.reads keeper.old }
 {
     match read_notice(core.alloc(), func, body) {
         Ok(notice) => {
@@ -310,6 +326,8 @@ fn take_read<D: Draw, P: Keeper>(
     ensures decoder { core.new.decoder ≡ core.old.decoder }
     ensures err { OnErr result (Stops (scene core.old.state out.old.items (P.records keeper.old) (P.faults keeper.old))
         (scene core.new.state out.new.items (P.records keeper.new) (P.faults keeper.new))) }
+    ensures never_fewer { P.number keeper.old ≤ P.number keeper.new }
+    ensures reads { P.reads keeper.new ≡ P.reads keeper.old }
 {
     match notice {
         Notice::ApplicationCommandHandler {
@@ -348,6 +366,8 @@ fn take_update<P: Keeper>(
     ensures decoder { core.new.decoder ≡ core.old.decoder }
     ensures err { OnErr result (Stops (scene core.old.state out.old.items (P.records keeper.old) (P.faults keeper.old))
         (scene core.new.state out.new.items (P.records keeper.new) (P.faults keeper.new))) }
+    ensures never_fewer { P.number keeper.old ≤ P.number keeper.new }
+    ensures reads { P.reads keeper.new ≡ P.reads keeper.old }
 {
     let Some(capability) = core.requests().interviewed_by(&update) else {
         core.updated(update, out)?;

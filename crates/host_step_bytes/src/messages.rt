@@ -42,6 +42,8 @@ pub(crate) fn take_payload<D: Draw, P: Keeper>(
     ensures decoder { core.new.decoder ≡ core.old.decoder }
     ensures err { OnErr result (Stops (scene core.old.state out.old.items (P.records keeper.old) (P.faults keeper.old))
         (scene core.new.state out.new.items (P.records keeper.new) (P.faults keeper.new))) }
+    ensures never_fewer { P.number keeper.old ≤ P.number keeper.new }
+    ensures reads { P.reads keeper.new ≡ P.reads keeper.old }
 {
     match read_payload(core.alloc(), payload)? {
         Heard::Messages(messages) => {
@@ -85,6 +87,8 @@ fn take_all<D: Draw, P: Keeper>(
     ensures decoder { core.new.decoder ≡ core.old.decoder }
     ensures err { OnErr result (Stops (scene core.old.state out.old.items (P.records keeper.old) (P.faults keeper.old))
         (scene core.new.state out.new.items (P.records keeper.new) (P.faults keeper.new))) }
+    ensures never_fewer { P.number keeper.old ≤ P.number keeper.new }
+    ensures reads { P.reads keeper.new ≡ P.reads keeper.old }
 {
     messages_go_on();
     for message in messages {
@@ -110,6 +114,8 @@ fn take<D: Draw, P: Keeper>(
     ensures decoder { core.new.decoder ≡ core.old.decoder }
     ensures err { OnErr result (Stops (scene core.old.state out.old.items (P.records keeper.old) (P.faults keeper.old))
         (scene core.new.state out.new.items (P.records keeper.new) (P.faults keeper.new))) }
+    ensures never_fewer { P.number keeper.old ≤ P.number keeper.new }
+    ensures reads { P.reads keeper.new ≡ P.reads keeper.old }
 {
     match message {
         Told::Report {
@@ -175,6 +181,8 @@ fn take_sealed<D: Draw, P: Keeper>(
     ensures decoder { core.new.decoder ≡ core.old.decoder }
     ensures err { OnErr result (Stops (scene core.old.state out.old.items (P.records keeper.old) (P.faults keeper.old))
         (scene core.new.state out.new.items (P.records keeper.new) (P.faults keeper.new))) }
+    ensures never_fewer { P.number keeper.old ≤ P.number keeper.new }
+    ensures reads { P.reads keeper.new ≡ P.reads keeper.old }
 {
     let Some(nonce) = nonce_named(core, node, payload) else {
         core.unread(node, payload, out)?;

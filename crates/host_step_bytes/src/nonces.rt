@@ -1,6 +1,6 @@
 //! Nonces of nodes and for them (Security 0).
 
-ghost use Rattle.std.specs.Prelude.{◌≡◌, slice_index, OnOk, OnErr};
+ghost use Rattle.std.specs.Prelude.{◌≡◌, ◌≤◌, slice_index, OnOk, OnErr};
 ghost use Rattle.s0_session.specs.Nonces.{live_of};
 ghost use Rattle.host_keep.specs.Rows.{AreBytes};
 ghost use Rattle.host_node.specs.State.{count_at};
@@ -27,6 +27,8 @@ pub(crate) fn take_nonce_get<D: Draw, P: Keeper>(
     ensures decoder { core.new.decoder ≡ core.old.decoder }
     ensures err { OnErr result (Stops (scene core.old.state out.old.items (P.records keeper.old) (P.faults keeper.old))
         (scene core.new.state out.new.items (P.records keeper.new) (P.faults keeper.new))) }
+    ensures never_fewer { P.number keeper.old ≤ P.number keeper.new }
+    ensures reads { P.reads keeper.new ≡ P.reads keeper.old }
 {
     match core.live(node) {
         Some(_) => {
@@ -68,6 +70,8 @@ pub(crate) fn take_nonce<D: Draw, P: Keeper>(
     ensures decoder { core.new.decoder ≡ core.old.decoder }
     ensures err { OnErr result (Stops (scene core.old.state out.old.items (P.records keeper.old) (P.faults keeper.old))
         (scene core.new.state out.new.items (P.records keeper.new) (P.faults keeper.new))) }
+    ensures never_fewer { P.number keeper.old ≤ P.number keeper.new }
+    ensures reads { P.reads keeper.new ≡ P.reads keeper.old }
 {
     let Some(seen) = core.node(node).count_at(nonce[0])? else {
         return Ok(());

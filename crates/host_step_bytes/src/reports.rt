@@ -1,6 +1,6 @@
 //! Supervision Reports of nodes.
 
-ghost use Rattle.std.specs.Prelude.{◌≡◌, ◌<◌, Some, OnOk, OnErr};
+ghost use Rattle.std.specs.Prelude.{◌≡◌, ◌≤◌, ◌<◌, Some, OnOk, OnErr};
 ghost use Rattle.class_info.specs.Values.{status_byte};
 ghost use Rattle.supervision.specs.Host.{told_of, command_at as command_of_session};
 ghost use Rattle.host_keep.specs.Status.{status_of};
@@ -36,6 +36,8 @@ pub(crate) fn take_report<P: Keeper>(
     ensures decoder { core.new.decoder ≡ core.old.decoder }
     ensures err { OnErr result (Stops (scene core.old.state out.old.items (P.records keeper.old) (P.faults keeper.old))
         (scene core.new.state out.new.items (P.records keeper.new) (P.faults keeper.new))) }
+    ensures never_fewer { P.number keeper.old ≤ P.number keeper.new }
+    ensures reads { P.reads keeper.new ≡ P.reads keeper.old }
 {
     match told(core, node, id, status) {
         Told::Old => {
@@ -83,6 +85,8 @@ fn end_session<P: Keeper>(
     ensures decoder { core.new.decoder ≡ core.old.decoder }
     ensures err { OnErr result (Stops (scene core.old.state out.old.items (P.records keeper.old) (P.faults keeper.old))
         (scene core.new.state out.new.items (P.records keeper.new) (P.faults keeper.new))) }
+    ensures never_fewer { P.number keeper.old ≤ P.number keeper.new }
+    ensures reads { P.reads keeper.new ≡ P.reads keeper.old }
 {
     let Some(command) = core.node(node).command_of(session) else {
         return Ok(());

@@ -29,6 +29,8 @@ pub fn join<P: Keeper>(core: &mut HostCore, node: NodeId, keeper: &mut P) -> Res
     ensures err { OnErr result (core.new ≡ core.old) }
     ensures no_record { OnErr result (OptAdds (P.records keeper.old) (P.records keeper.new) []) }
     ensures never_falls { P.faults keeper.old ≤ P.faults keeper.new }
+    ensures never_fewer { P.number keeper.old ≤ P.number keeper.new }
+    ensures reads { P.reads keeper.new ≡ P.reads keeper.old }
 {
     facts_are_kept();
     core.invariant_holds();
@@ -55,6 +57,8 @@ pub fn cancel<P: Keeper>(
     ensures err { OnErr result (core.new ≡ core.old) }
     ensures no_record { OnErr result (OptAdds (P.records keeper.old) (P.records keeper.new) []) }
     ensures never_falls { P.faults keeper.old ≤ P.faults keeper.new }
+    ensures never_fewer { P.number keeper.old ≤ P.number keeper.new }
+    ensures reads { P.reads keeper.new ≡ P.reads keeper.old }
 {
     facts_are_kept();
     core.invariant_holds();
@@ -87,6 +91,8 @@ pub fn interviewed<P: Keeper>(
     ensures err { OnErr result ((core.new ≡ core.old) × (out.new.items ≡ out.old.items)) }
     ensures no_record { OnErr result (OptAdds (P.records keeper.old) (P.records keeper.new) []) }
     ensures never_falls { P.faults keeper.old ≤ P.faults keeper.new }
+    ensures never_fewer { P.number keeper.old ≤ P.number keeper.new }
+    ensures reads { P.reads keeper.new ≡ P.reads keeper.old }
 {
     let fact = classes_record(core.alloc(), node, listens, &classes, out)?;
     let is_kept = keep_record(core.alloc(), &fact, keeper)?;

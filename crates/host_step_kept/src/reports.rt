@@ -50,6 +50,8 @@ pub fn finish<P: Keeper>(
     ensures err { OnErr result ((core.new ≡ core.old) × (out.new.items ≡ out.old.items)) }
     ensures no_record { OnErr result (OptAdds (P.records keeper.old) (P.records keeper.new) []) }
     ensures never_falls { P.faults keeper.old ≤ P.faults keeper.new }
+    ensures never_fewer { P.number keeper.old ≤ P.number keeper.new }
+    ensures reads { P.reads keeper.new ≡ P.reads keeper.old }
 {
     let confirmed = confirmed_with_room(core, command, status, out)?;
     let fact = Record::Final {

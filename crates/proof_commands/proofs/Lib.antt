@@ -1,6 +1,7 @@
 mod Joining
 mod Solid
 pub mod Stories
+pub mod RestartReads
 pub mod SimKeeping
 pub mod Reading
 pub mod Speaking

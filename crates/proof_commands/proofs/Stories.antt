@@ -34,11 +34,11 @@ pub record Tale (lines : List (TextLine Line)) (m m' : Machine) (T : List Entry)
   pub entered : T ≡ transcript_from m story
 
 -- no line
-pub no_tale : (m m' : Machine) (T : List Entry) → m' ≡ m → T ≡ [] → Tale [] m m' T
+abbrev pub no_tale : (m m' : Machine) (T : List Entry) → m' ≡ m → T ≡ [] → Tale [] m m' T
 no_tale m m' T stays none = record { story = []; lines_are = refl; schedules = tt; may = tt; state = stays; entered = none }
 
 -- one line before others
-pub tale_on : (line : TextLine Line) (lines : List (TextLine Line)) (events : List Event) (m m' : Machine) (T : List Entry) → IsLine line.line m events
+abbrev pub tale_on : (line : TextLine Line) (lines : List (TextLine Line)) (events : List Event) (m m' : Machine) (T : List Entry) → IsLine line.line m events
     → MayAll m events
     → Tale lines (happens_all m events) m' T → Tale (line ∷ lines) m m' (said line ++ (entries_all m events ++ T))
 tale_on line lines events m m' T is may tale = record {
@@ -53,7 +53,7 @@ tale_on line lines events m m' T is may tale = record {
 tale_of_line : (line : TextLine Line) (lines : List (TextLine Line)) (old mid : Point) (m' : Machine) (some T : List Entry) → LineRan line old mid some
     → Tale lines mid.machine m' T → Tale (line ∷ lines) old.machine m' (some ++ T)
 tale_of_line line lines old mid m' some T ran tale =
-    let (events, is, did) = ran in
+    let (events, is, did) = ran.does in
     subst (λ (l : List Entry). Tale (line ∷ lines) old.machine m' l)
     (sym (append_assoc (said line) (entries_all old.machine events) T) ∙ ap (λ (l : List Entry). l ++ T) (sym did.entries))
     (tale_on line lines events old.machine m' T is did.may (subst (λ (m : Machine). Tale lines m m' T) did.state tale))
@@ -230,7 +230,7 @@ part_story lines line m mid new T some tale (inl none) =
     subst (λ (l : List Entry). Story NoMemory (lines ++ line ∷ []) m new.machine l) (sym (ap (λ (l : List Entry). T ++ l) none.1 ∙ append-nil T))
     (subst (λ (p : Point). Story NoMemory (lines ++ line ∷ []) m p.machine T) (sym none.0)
     (whole_story NoMemory lines (lines ++ line ∷ []) m mid.machine T (but_last line lines) (λ story whole. tt) tale))
-part_story lines line m mid new T some tale (inr stops) = cut_story lines line m mid new T some tale stops
+part_story lines line m mid new T some tale (inr (stops, goes)) = cut_story lines line m mid new T some tale stops
 
 stopped_story : (lines : List (TextLine Line)) (old new : Point) (T : List Entry) → StopsIn LineRan PartRan lines old new T → Story NoMemory lines old.machine new.machine T
 stopped_story lines old new T stops =
@@ -263,7 +263,7 @@ story_of NoMemory lines old new T ran = some_story lines old new T ran
 pub has_story : (ended : Status) (key : List ℕ) (old new : Around) (quiet : Bool) → RunsSim ended quiet key old new
     → (story : List Ran) × (unentered : List Event) × Tells ended quiet key old new story unentered
 has_story ended key old new quiet ran =
-    let s = story_of ran.told.end (lines_in line_at ran.told.texts) (point_of (first_world key) old.devices old.records old.keeper_faults) ran.point ran.told.transcript ran.told.ran in (
+    let s = story_of ran.told.end (lines_in line_at ran.told.texts) (point_of (first_world key) old.devices old.records old.keeper_faults old.kept old.keeper_reads) ran.point ran.told.transcript ran.told.ran in (
       s.story,
       s.unentered,
       record {

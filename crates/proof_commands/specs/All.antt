@@ -5,15 +5,17 @@ use Rattle.port_run.specs.Ending.{desk}
 use Rattle.proof_commands.specs.Around.{Around}
 use Rattle.proof_commands.specs.Laws.{StoriesKeepLaws}
 use Rattle.proof_commands.specs.Sim.{SimKeepsLaws}
+use Rattle.proof_commands.specs.RestartReads.{ReadsAtRestarts}
 use Rattle.proof_commands.specs.Generate.{GenerateKeepsLaws}
 use Rattle.proof_commands.specs.Replay.{ReplayKeepsLaws}
 use Rattle.proof_commands.specs.Include.{IncludeKeepsLaws}
 use Rattle.proof_commands.specs.Port.{PortKeepsLaws}
 
 -- Where the run was one of `sim` or of `generate`, it has a story, and each story keeps the laws of stories. Where it was one of `replay`, of `include` or of
--- `host`, it keeps the laws of that command. The lines of `host` are the words after the first.
+-- `host`, it keeps the laws of that command. The lines of `host` are the words after the first. In a run of `sim`, a restart reads the records.
 pub record KeepsLaws (ended : Status) (words : List (List ℕ)) (key : List ℕ) (old new : Around) : Type 0 where
   pub sim : SimKeepsLaws ended key old new
+  pub restarts : ReadsAtRestarts ended key old new
   pub generate : GenerateKeepsLaws ended key old new
   pub stories : StoriesKeepLaws key old new
   pub replay : ReplayKeepsLaws ended key old.left new.left old.records new.records old.keeper_faults new.keeper_faults old.written new.written

@@ -3,7 +3,7 @@ use Rattle.std.specs.Prelude.{ℕ, List, Option}
 use Rattle.device_sim.specs.State.{State}
 
 -- the bytes that the source has left and how often it failed, what the sink was given and how often it failed, the devices, and how many
--- records the keeper holds, which, and how often it failed: bytes and records where they are told
+-- records the keeper holds, which, how often it failed, and how many were read: bytes and records where they are told
 pub record Around : Type 0 where
   pub left : Option (List ℕ)
   pub read_faults : ℕ
@@ -13,9 +13,10 @@ pub record Around : Type 0 where
   pub kept : ℕ
   pub records : Option (List (List ℕ))
   pub keeper_faults : ℕ
+  pub keeper_reads : ℕ
 
-abbrev pub around : Option (List ℕ) → ℕ → Option (List ℕ) → ℕ → List State → ℕ → Option (List (List ℕ)) → ℕ → Around
-around left read_faults written write_faults devices kept records keeper_faults = record {
+abbrev pub around : Option (List ℕ) → ℕ → Option (List ℕ) → ℕ → List State → ℕ → Option (List (List ℕ)) → ℕ → ℕ → Around
+around left read_faults written write_faults devices kept records keeper_faults keeper_reads = record {
   left = left;
   read_faults = read_faults;
   written = written;
@@ -24,4 +25,5 @@ around left read_faults written write_faults devices kept records keeper_faults 
   kept = kept;
   records = records;
   keeper_faults = keeper_faults;
+  keeper_reads = keeper_reads;
 }

@@ -1,6 +1,7 @@
 pub mod Around
 pub mod Laws
 pub mod Sim
+pub mod RestartReads
 pub mod Generate
 pub mod Lives
 pub mod Port

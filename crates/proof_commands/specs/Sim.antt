@@ -23,7 +23,8 @@ use Rattle.proof_commands.specs.Laws.{AreSchedules, IsStory, Ran, TellsAtRestart
 -- `sim` ran so, with what it was given and what it leaves
 abbrev pub RunsSim : Status → Bool → List ℕ → Around → Around → Type 0
 RunsSim ended quiet key old new =
-    SimRan ended quiet key old.left new.left old.devices new.devices old.records new.records old.keeper_faults new.keeper_faults old.written new.written
+    SimRan ended quiet key old.left new.left old.devices new.devices old.records new.records old.keeper_faults new.keeper_faults old.kept new.kept old.keeper_reads new.keeper_reads
+    old.written new.written
 
 -- ---- the story of a run
 

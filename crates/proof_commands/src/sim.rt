@@ -4,6 +4,7 @@ ghost use Rattle.std.specs.Prelude.{ℕ, List};
 ghost use Rattle.run_lines.specs.declared.status.Status.{Status};
 ghost use Rattle.proof_commands.specs.Around.{Around};
 ghost use Rattle.proof_commands.specs.Sim.{EndsWithTable, HasStory, SimKeepsLaws};
+ghost use Rattle.proof_commands.specs.RestartReads.{ReadsAtRestarts};
 
 use crate::lines_are_read_as_said;
 use proof_transcript::tables_are_what_is_shown;
@@ -19,6 +20,11 @@ pub fn sim_keeps_laws()
 /// Each run of `sim` has a story: its lines, each with the events of the machine that it was.
 fn runs_have_stories()
     ensures { (ended : Status) (key : List ℕ) (old new : Around) → HasStory ended key old new }
+{}
+
+/// A restart reads the records, in each run of `sim`.
+pub fn restarts_read_records()
+    ensures { (ended : Status) (key : List ℕ) (old new : Around) → ReadsAtRestarts ended key old new }
 {}
 
 /// What is written of a run that ends well ends with the table that its transcript shows.

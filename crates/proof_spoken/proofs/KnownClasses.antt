@@ -37,7 +37,7 @@ use Rattle.world_model.specs.State.{Machine, begun_in, host_does, host_entries, 
 use Rattle.world_model.specs.Events.{Event, Outside_does, Host_does, Host_takes, Decoder_ticks, Refuses, Shows_values, Restarts, answers, entries, fed, happens, notes, shown_values, May}
 use Rattle.world_model.specs.Did.{happens_all, entries_all, MayAll}
 use Rattle.world_model.proofs.Hosting.{entries_cons}
-use Rattle.world_lines.specs.Spoken.{Spoken, after, entries_of}
+use Rattle.world_lines.specs.Spoken.{Spoken, after, after_all, entries_of, transcript_of}
 use Rattle.proof_spoken.specs.Spoken.{AreSpoken}
 use Rattle.proof_spoken.specs.Said.{AllKnow, AllTell, IsTrueInterview, KnowsAgain, KnowsListing, LinesTell, TellListing, TellsListing, Tells}
 use Rattle.proof_spoken.proofs.Classes.{IsNoInterview, LeavesRecords, classes_of, event_kept, joined_place, set_here, set_there}
@@ -210,14 +210,18 @@ module _ (law : LeavesRecords) (listing : ℕ → List ℕ) where
       subst (λ (l : List Entry). KnowsListing listing l (happens_all (happens m event) events).host.state) (append_assoc past (entries m event) (entries_all (happens m event) events))
       (events_know (past ++ entries m event) (happens m event) events may.1 tells.1 (machine_knows past m event may.0 tells.0 knows))
 
-  pub lines_know : (past : List Entry) (m : Machine) (lines : List Spoken) → AreSpoken m lines → LinesTell listing m lines → KnowsListing listing past m.host.state → AllKnow listing past m lines
-  lines_know past m [] are tells knows = tt
+  pub lines_know : (past : List Entry) (m : Machine) (lines : List Spoken) → AreSpoken m lines → LinesTell listing m lines → KnowsListing listing past m.host.state
+      → AllKnow listing past m lines × KnowsListing listing (past ++ transcript_of m lines) (after_all m lines).host.state
+  lines_know past m [] are tells knows = (tt, foreign_knows past [] m.host.state tt knows)
   lines_know past m (spoken ∷ more) are tells knows =
       let begun = foreign_knows past (Said spoken.words ∷ []) m.host.state (tt, tt) knows in
       let done : KnowsListing listing (past ++ entries_of m spoken) (after m spoken).host.state
       = subst (λ (l : List Entry). KnowsListing listing l (after m spoken).host.state) (append_assoc past (Said spoken.words ∷ []) (entries_all m spoken.events))
       (events_know (past ++ Said spoken.words ∷ []) m spoken.events are.0.may tells.0 begun) in
-      (knows, lines_know (past ++ entries_of m spoken) (after m spoken) more are.1 tells.1 done)
+      let later = lines_know (past ++ entries_of m spoken) (after m spoken) more are.1 tells.1 done in (
+        (knows, later.0),
+        subst (λ (l : List Entry). KnowsListing listing l (after_all (after m spoken) more).host.state) (append_assoc past (entries_of m spoken) (transcript_of (after m spoken) more)) later.1,
+      )
 
 -- ---- at first
 

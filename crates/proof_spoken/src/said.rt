@@ -58,6 +58,9 @@ pub fn interviews_give_what_is_known()
     ensures lines { (listing : ℕ → List ℕ) (past : List Entry) (m : Machine) (lines : List Spoken) → AreSpoken m lines →
         LinesTell listing m lines → KnowsListing listing past m.host.state →
         AllKnow listing past m lines }
+    ensures end { (listing : ℕ → List ℕ) (past : List Entry) (m : Machine) (lines : List Spoken) → AreSpoken m lines →
+        LinesTell listing m lines → KnowsListing listing past m.host.state →
+        KnowsListing listing (past ++ transcript_of m lines) (after_all m lines).host.state }
     ensures again { (old new : HostState) (texts : List (List ℕ)) → AreHeld old texts → AreHeld new texts → KnowsAgain old new }
 {
     a_restart_needs_the_records_alone();

@@ -36,21 +36,22 @@ texts_both [] b (x ∷ s) t first later = absurd first
 texts_both (one ∷ a) b [] t first later = absurd first
 texts_both (one ∷ a) b (x ∷ s) t first later = (first.0, texts_both a b s t first.1 later)
 
+-- a text is of one record only, so texts are of one list of records
+pub one_reading : ((one other : Record) (text : List ℕ) → IsTextOf one text → IsTextOf other text → one ≡ other) → (a b : List Record) (texts : List (List ℕ)) → AreTextsOf a texts → AreTextsOf b texts → a ≡ b
+one_reading of_one [] [] [] first later = refl
+one_reading of_one [] [] (t ∷ texts) first later = absurd first
+one_reading of_one [] (y ∷ b) [] first later = absurd later
+one_reading of_one [] (y ∷ b) (t ∷ texts) first later = absurd first
+one_reading of_one (x ∷ a) [] [] first later = absurd first
+one_reading of_one (x ∷ a) [] (t ∷ texts) first later = absurd later
+one_reading of_one (x ∷ a) (y ∷ b) [] first later = absurd first
+one_reading of_one (x ∷ a) (y ∷ b) (t ∷ texts) first later =
+    ap₂ (λ (z : Record) (zs : List Record). z ∷ zs) (of_one x y t first.0 later.0) (one_reading of_one a b texts first.1 later.1)
+
 -- ---- a host and its records
 
 module _ (of_one : (one other : Record) (text : List ℕ) → IsTextOf one text → IsTextOf other text → one ≡ other) (starts : KeptStarts) (goes_on : KeptGoesOn)
     (events_hold : EventsHold) (are_legal : EventsAreLegal) (opened_holds : OpenedHolds) (opened_facts : OpenedFacts) where
-  one_reading : (a b : List Record) (texts : List (List ℕ)) → AreTextsOf a texts → AreTextsOf b texts → a ≡ b
-  one_reading [] [] [] first later = refl
-  one_reading [] [] (t ∷ texts) first later = absurd first
-  one_reading [] (y ∷ b) [] first later = absurd later
-  one_reading [] (y ∷ b) (t ∷ texts) first later = absurd first
-  one_reading (x ∷ a) [] [] first later = absurd first
-  one_reading (x ∷ a) [] (t ∷ texts) first later = absurd later
-  one_reading (x ∷ a) (y ∷ b) [] first later = absurd first
-  one_reading (x ∷ a) (y ∷ b) (t ∷ texts) first later =
-      ap₂ (λ (z : Record) (zs : List Record). z ∷ zs) (of_one x y t first.0 later.0) (one_reading a b texts first.1 later.1)
-
   held_on : (h : HostState) (events : List HostEvent) (texts : List (List ℕ)) → HostFacts h → MayAllHost h events → AllOfJoined h events → AreHeld h texts
       → AreHeld (after_all h events) (texts ++ texts_of (records_all h events))
   held_on h events texts facts may well held = record {
@@ -70,7 +71,7 @@ module _ (of_one : (one other : Record) (text : List ℕ) → IsTextOf one text 
   opens_well : (keys : Keys) (old : HostState) (texts : List (List ℕ)) (records : List Record) → AreHeld old texts → AreTextsOf records texts → AreLegal records
       → StartsAs old (opened keys records) × AreHeld (opened keys records) texts
   opens_well keys old texts records held are legal =
-      let same : held.records ≡ records = one_reading held.records records texts held.are are in
+      let same : held.records ≡ records = one_reading of_one held.records records texts held.are are in
       let alone : HoldsAlone (opened keys records) (kept_of records) = opened_holds keys records legal in (
         starts old (opened keys records) (kept_of records) (subst (λ (l : List Record). Holds old (kept_of l)) same held.holds) alone (opened_facts keys records legal),
         record { records = records; are = are; legal = legal; holds = alone.holds },

@@ -57,11 +57,11 @@ include_is ended key left left' sink sink' h e =
     let c : IncludeRan status.Usage key left left' sink sink' = subst (λ (s : Status). IncludeRan s key left left' sink sink') e h in
     closes_not _ c.told.end _ c.told.mid sink' c.told.closes
 
-pub sim_is : (ended : Status) (quiet : Bool) (key : List ℕ) (left left' : Option (List ℕ)) (before after : List State) (records records' : Option (List (List ℕ))) (faults faults' : ℕ)
-    (sink sink' : Option (List ℕ)) → SimRan ended quiet key left left' before after records records' faults faults' sink sink' → ended ≢ status.Usage
-sim_is ended quiet key left left' before after records records' faults faults' sink sink' h e =
-    let c : SimRan status.Usage quiet key left left' before after records records' faults faults' sink sink' =
-    subst (λ (s : Status). SimRan s quiet key left left' before after records records' faults faults' sink sink') e h in
+pub sim_is : (ended : Status) (quiet : Bool) (key : List ℕ) (left left' : Option (List ℕ)) (before after : List State) (records records' : Option (List (List ℕ))) (faults faults' number number' reads reads' : ℕ)
+    (sink sink' : Option (List ℕ)) → SimRan ended quiet key left left' before after records records' faults faults' number number' reads reads' sink sink' → ended ≢ status.Usage
+sim_is ended quiet key left left' before after records records' faults faults' number number' reads reads' sink sink' h e =
+    let c : SimRan status.Usage quiet key left left' before after records records' faults faults' number number' reads reads' sink sink' =
+    subst (λ (s : Status). SimRan s quiet key left left' before after records records' faults faults' number number' reads reads' sink sink') e h in
     closes_not _ c.told.end _ c.told.mid sink' c.told.closes
 
 pub generate_is : (ended : Status) (hundreds : ℕ) (key : List ℕ) (before after : List State) (records records' : Option (List (List ℕ))) (faults faults' : ℕ)

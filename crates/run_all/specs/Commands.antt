@@ -29,6 +29,7 @@ pub record LeavesDevices (old new : Around) : Type 0 where
   pub kept : new.kept ≡ old.kept
   pub records : new.records ≡ old.records
   pub faults : new.keeper_faults ≡ old.keeper_faults
+  pub reads : new.keeper_reads ≡ old.keeper_reads
 
 -- nothing was read, done or written, and the status says why
 pub record Refuses (why ended : Status) (old new : Around) : Type 0 where

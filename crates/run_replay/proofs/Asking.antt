@@ -23,7 +23,8 @@ use Rattle.host_keep.specs.Keeping.{OptAdds}
 use Rattle.host_model.specs.State.{HostState, HostParts}
 use Rattle.host_model.specs.Events.{HostEvent, Accepts, Cancels}
 use Rattle.host_model.specs.Events.{Joins as joins_host}
-use Rattle.host_model.specs.Did.{Did, RoseIf, records_all, texts_of}
+use Rattle.host_model.specs.Did.{Did, RoseIf, RoseBy, is_unkept, one_if, unkept_in, records_all, texts_of}
+use Rattle.host_model.proofs.Doing.{rose_one, rose_none, unkept_alone}
 use Rattle.host_model.specs.Asking.{carriage_for, Waits}
 use Rattle.host_model.specs.declared.out.HostOut.{HostOut}
 use Rattle.host_step_bytes.specs.Calls.{DoesAlone, Are, scene}
@@ -123,6 +124,9 @@ none_more (Some kept) r' adds = adds ∙ ap (λ (l : List (List ℕ)). Some l) (
 
 -- ---- one event
 
+asked_rose : (e : HostEvent) (f g : ℕ) → RoseBy (unkept_in (e ∷ [])) f g → RoseBy (one_if (is_unkept e)) f g
+asked_rose e f g rose = subst (λ (n : ℕ). RoseBy n f g) (sym (unkept_alone e)) rose
+
 -- the host does what was asked, and answers
 asked_ran : (e : HostEvent) (host host' : HostParts) (clock : ℕ) (r r' : Option (List (List ℕ))) (before all : List Entry) (f g : ℕ)
     → Did (e ∷ []) host.state host'.state [] [] (held r f) (held r' g) → host'.decoder ≡ host.decoder → all ≡ before ++ answers host.state e
@@ -131,7 +135,7 @@ unfolding happens entries May
 asked_ran e host host' clock r r' before all f g did decoder entered =
     ran_one (Does_asked e) _ _ before all f g did.may
     (ap (λ (d : Rest). record { host = record { decoder = d; state = host'.state }; clock = clock; records = r' }) decoder ∙ hosted_is (e ∷ []) host host'.state [] r r' f g clock did host.decoder clock)
-    (entered ∙ ap (λ (l : List HostOut). before ++ (entries_of l ++ answers host.state e)) did.outs) did.rose.0 did.never_falls
+    (entered ∙ ap (λ (l : List HostOut). before ++ (entries_of l ++ answers host.state e)) did.outs) (asked_rose e f g did.rose) did.never_falls
 
 -- it did it, and nothing of that was entered
 pub event_stops : {T E : Type 0} (answer : Result T E) (e : HostEvent) (host host' : HostParts) (clock : ℕ) (r r' : Option (List (List ℕ))) (before all : List Entry) (f g : ℕ)
@@ -143,7 +147,7 @@ event_stops (Err fault) e host host' clock r r' before all f g does same =
     let did : Did (e ∷ []) host.state host'.state [] [] (held r f) (held r' g) =
     subst (λ (l : List HostEvent). Did l host.state host'.state [] [] (held r f) (held r' g)) does.are does.did in
     stopped_in (Does_asked e) _ _ before all f g did.may (adds_is r r' (texts_of (records_all host.state (e ∷ []))) did.records)
-    (none_entered before all (entries _ (Does_asked e)) same) did.never_falls
+    (none_entered before all (entries _ (Does_asked e)) same) (asked_rose e f g did.rose) did.never_falls
 
 -- a line is refused
 refuses_ran : (line : Line) (entered : Refusal) (host host' : HostParts) (clock : ℕ) (r r' : Option (List (List ℕ))) (before all : List Entry) (f g : ℕ)
@@ -153,7 +157,8 @@ refuses_ran : (line : Line) (entered : Refusal) (host host' : HostParts) (clock 
 unfolding happens entries May
 refuses_ran line entered host host' clock r r' before all f g same kept may is rose falls =
     ran_one (Refuses line entered) _ _ before all f g may
-    (ap (λ (h : HostParts). record { host = h; clock = clock; records = r' }) same ∙ ap (λ (x : Option (List (List ℕ))). record { host = host; clock = clock; records = x }) kept) is rose falls
+    (ap (λ (h : HostParts). record { host = h; clock = clock; records = r' }) same ∙ ap (λ (x : Option (List (List ℕ))). record { host = host; clock = clock; records = x }) kept) is
+    (rose_one (asks_keeper line && is_keeper_fault entered) f g falls rose) falls
 
 -- ---- what asks no keeper
 
@@ -262,7 +267,7 @@ joined node host host' clock r r' before f g does decoder = (
 shows_ran : (node : ℕ) (host : HostParts) (clock : ℕ) (r : Option (List (List ℕ))) (before all : List Entry) (f : ℕ) → all ≡ before ++ Json (values_text node (held_of host.state.store node)) ∷ []
     → Run (Shows_values node ∷ []) (at host clock r before f) (at host clock r all f)
 unfolding happens entries May
-shows_ran node host clock r before all f entered = ran_one (Shows_values node) _ _ before all f f tt refl entered tt (omega arith)
+shows_ran node host clock r before all f entered = ran_one (Shows_values node) _ _ before all f f tt refl entered (rose_none f f (omega arith)) (omega arith)
 
 pub shows_values : {T E : Type 0} (answer : Result T E) (node : ℕ) (text : List ℕ) (host : HostParts) (clock : ℕ) (before all : List Entry)
     → text ≡ values_text node (held_of host.state.store node) → OnOk answer (all ≡ before ++ Json text ∷ [])

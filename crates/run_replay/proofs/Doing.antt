@@ -1,13 +1,10 @@
 -- Events of a host alone, one after another.
-use Rattle.std.proofs.Common.{◌≡◌, ℕ, ◌≤◌, List, [], ◌∷◌, ◌++◌, refl, ap, sym, ◌∙◌, subst, append_assoc, arith}
-use Rattle.std.specs.Prelude.{Bool, true, false, ◌||◌}
-use Rattle.std.specs.List.{list_any}
+use Rattle.std.proofs.Common.{◌≡◌, ℕ, ◌+◌, ◌≤◌, List, [], ◌∷◌, ◌++◌, refl, ap, sym, ◌∙◌, subst, append_assoc, arith}
 use Rattle.std.proofs.lemmas.List.{append-nil}
 use Rattle.zw_text.specs.declared.entry.Entry.{Entry}
-use Rattle.host_model.specs.Did.{RoseIf}
-use Rattle.run_replay.specs.Machine.{Lone, Event, Scene, Schedule, Run, Does, Stops, Then, May, MayAll, happens, happens_all, entries, entries_all, is_unkept}
-use Rattle.world_model.proofs.Doing.{rose_either}
-use Rattle.world_model.proofs.Taking.{or_false}
+use Rattle.host_model.specs.Did.{RoseBy}
+use Rattle.host_model.proofs.Doing.{rose_both, rose_none}
+use Rattle.run_replay.specs.Machine.{Lone, Event, Scene, Schedule, Run, Does, Stops, Then, May, MayAll, happens, happens_all, entries, entries_all, unkept_of, unkept_in}
 
 pub happens_all-append : (m : Lone) (a b : List Event) → happens_all m (a ++ b) ≡ happens_all (happens_all m a) b
 happens_all-append m [] b = refl
@@ -25,28 +22,32 @@ may_all-append m (e ∷ a) b first later = (first.0, may_all-append (happens m e
 
 -- ---- faults of the keeper
 
-any-append : (a b : List Event) → list_any is_unkept (a ++ b) ≡ (list_any is_unkept a || list_any is_unkept b)
-any-append [] b = refl
-any-append (e ∷ a) b = or_of (is_unkept e) a b (any-append a b)
-  where
-    or_of : (x : Bool) (a b : List Event) → list_any is_unkept (a ++ b) ≡ (list_any is_unkept a || list_any is_unkept b)
-        → (x || list_any is_unkept (a ++ b)) ≡ ((x || list_any is_unkept a) || list_any is_unkept b)
-    or_of true a b ih = refl
-    or_of false a b ih = ih
+unkept-append : (a b : List Event) → unkept_in (a ++ b) ≡ unkept_in a + unkept_in b
+unkept-append [] b = omega arith
+unkept-append (e ∷ a) b = omega (arith, unkept-append a b)
+
+-- those of one event are its own
+alone_rose : (e : Event) (f g : ℕ) → RoseBy (unkept_of e) f g → RoseBy (unkept_in (e ∷ [])) f g
+alone_rose e f g rose = let same : unkept_of e ≡ unkept_of e + 0 = omega arith in subst (λ (n : ℕ). RoseBy n f g) same rose
+
+-- those of two lists are both
+both_rose : (a b : List Event) (f g k : ℕ) → RoseBy (unkept_in a) f g → RoseBy (unkept_in b) g k → RoseBy (unkept_in (a ++ b)) f k
+both_rose a b f g k first last =
+    subst (λ (n : ℕ). RoseBy n f k) (sym (unkept-append a b)) (rose_both (unkept_in a) (unkept_in b) f g k first last)
 
 -- ---- runs
 
 pub ran_nothing : (s : Scene) → Run [] s s
-ran_nothing s = record { may = tt; state = refl; entered = sym (append-nil s.entries); rose = tt; never_falls = omega arith }
+ran_nothing s = record { may = tt; state = refl; entered = sym (append-nil s.entries); rose = rose_none s.faults s.faults (omega arith); never_falls = omega arith }
 
 -- one event
-pub ran_one : (e : Event) (m new : Lone) (before all : List Entry) (f g : ℕ) → May m e → new ≡ happens m e → all ≡ before ++ entries m e → RoseIf (is_unkept e) f g → f ≤ g
+pub ran_one : (e : Event) (m new : Lone) (before all : List Entry) (f g : ℕ) → May m e → new ≡ happens m e → all ≡ before ++ entries m e → RoseBy (unkept_of e) f g → f ≤ g
     → Run (e ∷ []) (record { lone = m; entries = before; faults = f }) (record { lone = new; entries = all; faults = g })
 ran_one e m new before all f g may state entered rose falls = record {
   may = (may, tt);
   state = state;
   entered = entered ∙ ap (λ (l : List Entry). before ++ l) (sym (append-nil (entries m e)));
-  rose = subst (λ (b : Bool). RoseIf b f g) (sym (or_false (is_unkept e))) rose;
+  rose = alone_rose e f g rose;
   never_falls = falls;
 }
 
@@ -66,8 +67,7 @@ ran_both a b old mid new first later =
       may = may_all-append old.lone a b first.may (subst (λ (m : Lone). MayAll m b) there later.may);
       state = later.state ∙ (ap (λ (m : Lone). happens_all m b) there ∙ sym (happens_all-append old.lone a b));
       entered = entered_on a b old.lone mid.lone old.entries mid.entries new.entries there first.entered later.entered;
-      rose = subst (λ (x : Bool). RoseIf x old.faults new.faults) (sym (any-append a b))
-          (rose_either (list_any is_unkept a) (list_any is_unkept b) old.faults mid.faults new.faults first.never_falls later.never_falls first.rose later.rose);
+      rose = both_rose a b old.faults mid.faults new.faults first.rose later.rose;
       never_falls = omega (arith, first.never_falls, later.never_falls);
     }
 
@@ -75,14 +75,15 @@ ran_both a b old mid new first later =
 
 -- one event happened, and a prefix of its entries was made
 pub stopped_in : (e : Event) (m new : Lone) (before all : List Entry) (f g : ℕ) → May m e → new.records ≡ (happens m e).records
-    → ((more : List Entry) × (all ++ more ≡ before ++ entries m e)) → f ≤ g
+    → ((more : List Entry) × (all ++ more ≡ before ++ entries m e)) → RoseBy (unkept_of e) f g → f ≤ g
     → Stops (record { lone = m; entries = before; faults = f }) (record { lone = new; entries = all; faults = g })
-stopped_in e m new before all f g may records prefix falls = record {
+stopped_in e m new before all f g may records prefix rose falls = record {
   events = e ∷ [];
   may = (may, tt);
   records = records;
   more = prefix.0;
   prefix = prefix.1 ∙ ap (λ (l : List Entry). before ++ l) (sym (append-nil (entries m e)));
+  rose = alone_rose e f g rose;
   never_falls = falls;
 }
 
@@ -95,6 +96,7 @@ stopped_still m new before all f g records same falls = record {
   records = records;
   more = [];
   prefix = ap (λ (l : List Entry). l ++ []) same;
+  rose = rose_none f g falls;
   never_falls = falls;
 }
 
@@ -109,6 +111,7 @@ stopped_later a old mid new first later =
       records = later.records ∙ ap (λ (m : Lone). m.records) after;
       more = later.more;
       prefix = entered_on a later.events old.lone mid.lone old.entries mid.entries (new.entries ++ later.more) there first.entered later.prefix;
+      rose = both_rose a later.events old.faults mid.faults new.faults first.rose later.rose;
       never_falls = omega (arith, first.never_falls, later.never_falls);
     }
 

@@ -15,7 +15,7 @@ use Rattle.host_model.proofs.Doing.{did_both}
 use Rattle.host_step_bytes.specs.Calls.{Are, scene}
 use Rattle.host_step_bytes.specs.Calls as calls
 use Rattle.world_model.specs.State.{with_texts}
-use Rattle.world_model.proofs.Hosting.{adds_is, rose_any}
+use Rattle.world_model.proofs.Hosting.{adds_is}
 use Rattle.run_replay.specs.Machine.{Event, Does_itself, Takes, Ticks, Scene, Run, Does, Stops, May, happens, entries, entries_of, entry_of, timed, hosted}
 use Rattle.run_replay.specs.Lines.{IsPump, IsTaking, IsTick}
 use Rattle.run_replay.proofs.Doing.{ran_one, stopped_in, stopped_then}
@@ -59,14 +59,14 @@ module _ (es : List HostEvent) (host : HostParts) (state : HostState) (puts : Li
   unfolding happens entries May
   itself_ran before all entered =
       ran_one (Does_itself es) _ _ before all f g did.may (hosted_is host.decoder clock)
-      (entered ∙ ap (λ (l : List HostOut). before ++ entries_of l) outs_are) (rose_any es f g did.rose) did.never_falls
+      (entered ∙ ap (λ (l : List HostOut). before ++ entries_of l) outs_are) did.rose did.never_falls
 
   pub tick_ran : (before all : List Entry) → all ≡ before ++ timed (clock + 1) puts
       → Run (Ticks es ∷ []) (at host clock r before f) (at (record { decoder = after_tick host.decoder; state = state }) (clock + 1) r' all g)
   unfolding happens entries May
   tick_ran before all entered =
       ran_one (Ticks es) _ _ before all f g did.may (hosted_is (after_tick host.decoder) (clock + 1))
-      (entered ∙ ap (λ (l : List HostOut). before ++ timed (clock + 1) l) outs_are) (rose_any es f g did.rose) did.never_falls
+      (entered ∙ ap (λ (l : List HostOut). before ++ timed (clock + 1) l) outs_are) did.rose did.never_falls
 
   -- a prefix of what it put out was entered
   pub itself_stops : (new : HostParts) (later : ℕ) (before all : List Entry) → ((rest : List Entry) × (all ++ rest ≡ before ++ entries_of puts))
@@ -74,14 +74,14 @@ module _ (es : List HostEvent) (host : HostParts) (state : HostState) (puts : Li
   unfolding happens entries May
   itself_stops new later before all prefix =
       stopped_in (Does_itself es) _ _ before all f g did.may records_are
-      (prefix.0, prefix.1 ∙ ap (λ (l : List HostOut). before ++ entries_of l) outs_are) did.never_falls
+      (prefix.0, prefix.1 ∙ ap (λ (l : List HostOut). before ++ entries_of l) outs_are) did.rose did.never_falls
 
   pub tick_stops : (new : HostParts) (later : ℕ) (before all : List Entry) → ((rest : List Entry) × (all ++ rest ≡ before ++ timed (clock + 1) puts))
       → Stops (at host clock r before f) (at new later r' all g)
   unfolding happens entries May
   tick_stops new later before all prefix =
       stopped_in (Ticks es) _ _ before all f g did.may records_are
-      (prefix.0, prefix.1 ∙ ap (λ (l : List HostOut). before ++ timed (clock + 1) l) outs_are) did.never_falls
+      (prefix.0, prefix.1 ∙ ap (λ (l : List HostOut). before ++ timed (clock + 1) l) outs_are) did.rose did.never_falls
 
 -- nothing of it was entered
 pub none_entered : (before all more : List Entry) → all ≡ before → (rest : List Entry) × (all ++ rest ≡ before ++ more)
@@ -140,14 +140,14 @@ module _ (bytes : List ℕ) (host host' : HostParts) (clock : ℕ) (r r' : Optio
   unfolding happens entries
   take_ran before all entered =
       ran_one taken _ _ before all f g may_take (hosted_is fed.events host host'.state puts r r' f g clock fed.did host'.decoder clock)
-      (entered ∙ ap (λ (l : List HostOut). before ++ entries_of l) fed.did.outs) (rose_any fed.events f g fed.did.rose) fed.did.never_falls
+      (entered ∙ ap (λ (l : List HostOut). before ++ entries_of l) fed.did.outs) fed.did.rose fed.did.never_falls
 
   pub take_stops : (new : HostParts) (later : ℕ) (before all : List Entry) → ((rest : List Entry) × (all ++ rest ≡ before ++ entries_of puts))
       → Stops (at host clock r before f) (at new later r' all g)
   unfolding happens entries
   take_stops new later before all prefix =
       stopped_in taken _ _ before all f g may_take (adds_is r r' (texts_of (records_all host.state fed.events)) fed.did.records)
-      (prefix.0, prefix.1 ∙ ap (λ (l : List HostOut). before ++ entries_of l) fed.did.outs) fed.did.never_falls
+      (prefix.0, prefix.1 ∙ ap (λ (l : List HostOut). before ++ entries_of l) fed.did.outs) fed.did.rose fed.did.never_falls
 
 fed_from_none : (bytes : List ℕ) (host host' : HostParts) (put puts : List HostOut) (s t : Shelf) → put ≡ [] → Fed host bytes host' put puts s t → Fed host bytes host' [] puts s t
 fed_from_none bytes host host' put puts s t none fed = subst (λ (l : List HostOut). Fed host bytes host' l puts s t) none fed

@@ -1,7 +1,6 @@
 -- A host alone: what may happen to it, one event at a time, what it makes of it, and what is entered (this project's own rule, over the
 -- events of a host in `host_model`).
 use Rattle.std.specs.Prelude.{◌≡◌, ℕ, ◌+◌, ◌≤◌, ◌&&◌, Bool, true, false, List, [], ◌∷◌, ◌++◌, map, Option}
-use Rattle.std.specs.List.{list_any}
 use Rattle.serial_frame.specs.Items.{unit_text}
 use Rattle.serial_frame.specs.Stream.{Rest, Feeds, GoesOn, after_tick, no_rest, piece_of}
 use Rattle.serial_frame.specs.declared.item.Item.{Item}
@@ -14,7 +13,7 @@ use Rattle.zw_text.specs.declared.entry.Refusal.{Refusal}
 use Rattle.host_model.specs.State.{HostParts, first_host}
 use Rattle.host_model.specs.Events.{HostEvent}
 use Rattle.host_model.specs.Taking.{AreJudged}
-use Rattle.host_model.specs.Did.{MayAll as MayAllHost, after_all, outs_all, records_all, texts_of, is_unkept as is_unkept_by_host, RoseIf}
+use Rattle.host_model.specs.Did.{MayAll as MayAllHost, after_all, outs_all, records_all, texts_of, is_unkept, unkept_in as unkept_by_host, one_if, RoseBy}
 use Rattle.host_model.specs.declared.out.HostOut.{HostOut}
 use Rattle.host_model.specs.declared.out.HostOut.TheVariants.{Write, Note}
 use Rattle.host_core.specs.Network.{keys_of}
@@ -136,14 +135,19 @@ asks_keeper (Join node) = true
 asks_keeper (Cancel command) = true
 asks_keeper line = false
 
--- something was not done, since the keeper failed
-abbrev pub is_unkept : Event → Bool
-is_unkept (Does_itself events) = list_any is_unkept_by_host events
-is_unkept (Does_asked event) = is_unkept_by_host event
-is_unkept (Takes bytes rest items events) = list_any is_unkept_by_host events
-is_unkept (Ticks events) = list_any is_unkept_by_host events
-is_unkept (Refuses line refusal) = asks_keeper line && is_keeper_fault refusal
-is_unkept (Shows_values node) = false
+-- how many things were not done at an event, since the keeper failed
+abbrev pub unkept_of : Event → ℕ
+unkept_of (Does_itself events) = unkept_by_host events
+unkept_of (Does_asked event) = one_if (is_unkept event)
+unkept_of (Takes bytes rest items events) = unkept_by_host events
+unkept_of (Ticks events) = unkept_by_host events
+unkept_of (Refuses line refusal) = one_if (asks_keeper line && is_keeper_fault refusal)
+unkept_of (Shows_values node) = 0
+
+-- and at events one after another
+abbrev pub unkept_in : List Event → ℕ
+unkept_in [] = 0
+unkept_in (event ∷ events) = unkept_of event + unkept_in events
 
 -- ---- runs
 
@@ -156,12 +160,12 @@ pub record Scene : Type 0 where
 abbrev pub scene : ReplayState → Option (List (List ℕ)) → List Entry → ℕ → Scene
 scene r records entries faults = record { lone = lone_of r records; entries = entries; faults = faults }
 
--- These events were done, and entered. The keeper's count of faults never falls, and rose where something was not kept.
+-- These events were done, and entered. The keeper's count of faults never falls, and rose for each thing that was not done, since the keeper failed.
 pub record Run (events : List Event) (old new : Scene) : Type 0 where
   pub may : MayAll old.lone events
   pub state : new.lone ≡ happens_all old.lone events
   pub entered : new.entries ≡ old.entries ++ entries_all old.lone events
-  pub rose : RoseIf (list_any is_unkept events) old.faults new.faults
+  pub rose : RoseBy (unkept_in events) old.faults new.faults
   pub never_falls : old.faults ≤ new.faults
 
 -- a schedule says which events are to be done from a host on
@@ -185,4 +189,5 @@ pub record Stops (old new : Scene) : Type 0 where
   pub records : new.lone.records ≡ (happens_all old.lone events).records
   pub more : List Entry
   pub prefix : new.entries ++ more ≡ old.entries ++ entries_all old.lone events
+  pub rose : RoseBy (unkept_in events) old.faults new.faults
   pub never_falls : old.faults ≤ new.faults

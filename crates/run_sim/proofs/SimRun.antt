@@ -17,6 +17,7 @@ use Rattle.world_model.specs.Prefixes.{LinePrefix, LinePart}
 use Rattle.world_model.proofs.Doing.{stopped_now, stopped_as, stopped_later}
 use Rattle.world_model.specs.Table.{table_entries}
 use Rattle.zw_world.specs.World.{WorldState, first_world, machine_of}
+use Rattle.zw_world.specs.Keeping.{GoesOn, KeepsOrRefuses}
 use Rattle.run_lines.specs.Machine.{RefusesBy}
 use Rattle.run_lines.specs.Run.{ClosesWell, HasRun}
 use Rattle.run_lines.specs.Writing.{text_of, AppendsPrefix}
@@ -79,37 +80,42 @@ begun_by text line {none} {items} {entry} empty pushed is = pushed ∙ ap (λ (e
 -- a line was entered and run, and what was entered is added to the pieces
 module _ (quiet : Bool) (text : List ℕ) (line : Line) (old new : Point) (first entries shown : List Entry) (sink out : List (List ℕ))
     (begun : first ≡ said (record { text = text; line = line })) (same : shown ≡ entries) (none : sink ≡ []) where
-  pub answers_line : Does (IsLine line) (at old first) (at new entries) → out ≡ sink ++ pieces_of quiet shown → AnswersLine quiet text line old new out
-  answers_line d is = (
+  pub answers_line : Does (IsLine line) (at old first) (at new entries) → GoesOn old.number new.number old.reads new.reads → KeepsOrRefuses line first entries old.number new.number old.reads new.reads
+      → out ≡ sink ++ pieces_of quiet shown → AnswersLine quiet text line old new out
+  answers_line d goes keeps is = (
     entries,
-    subst (λ (es : List Entry). Does (IsLine line) (at old es) (at new entries)) begun d,
+    record {
+      does = subst (λ (es : List Entry). Does (IsLine line) (at old es) (at new entries)) begun d;
+      goes_on = goes;
+      keeps = subst (λ (es : List Entry). KeepsOrRefuses line es entries old.number new.number old.reads new.reads) begun keeps;
+    },
     is ∙ ap (λ (o : List (List ℕ)). o ++ pieces_of quiet shown) none ∙ ap (λ (es : List Entry). pieces_of quiet es) same,
   )
 
-  part_stops : Stops (LinePart line) (at old first) (at new entries) → ((rest : List (List ℕ)) × (sink ++ pieces_of quiet shown ≡ out ++ rest)) → StopsLine quiet text line old new out
-  part_stops s prefix = (
+  part_stops : Stops (LinePart line) (at old first) (at new entries) → GoesOn old.number new.number old.reads new.reads → ((rest : List (List ℕ)) × (sink ++ pieces_of quiet shown ≡ out ++ rest)) → StopsLine quiet text line old new out
+  part_stops s goes prefix = (
     entries,
     prefix.0,
-    inr (subst (λ (es : List Entry). Stops (LinePart line) (at old es) (at new entries)) begun s),
+    inr (subst (λ (es : List Entry). Stops (LinePart line) (at old es) (at new entries)) begun s, goes),
     ap (λ (es : List Entry). pieces_of quiet es) (sym same) ∙ ap (λ (o : List (List ℕ)). o ++ pieces_of quiet shown) (sym none) ∙ prefix.1,
   )
 
-  pub stops_line : Stops (LinePrefix line) (at old first) (at new entries) → ((rest : List (List ℕ)) × (sink ++ pieces_of quiet shown ≡ out ++ rest)) → StopsLine quiet text line old new out
-  stops_line s prefix = part_stops (stopped_as (LinePrefix line) (LinePart line) (at old first) (at new entries) (λ events is. inr is) s) prefix
+  pub stops_line : Stops (LinePrefix line) (at old first) (at new entries) → GoesOn old.number new.number old.reads new.reads → ((rest : List (List ℕ)) × (sink ++ pieces_of quiet shown ≡ out ++ rest)) → StopsLine quiet text line old new out
+  stops_line s goes prefix = part_stops (stopped_as (LinePrefix line) (LinePart line) (at old first) (at new entries) (λ events is. inr is) s) goes prefix
 
   -- the line was run, and there was no memory for its pieces
-  pub added_in_part : Does (IsLine line) (at old first) (at new entries) → ((rest : List (List ℕ)) × (sink ++ pieces_of quiet shown ≡ out ++ rest)) → StopsLine quiet text line old new out
-  added_in_part (events, is, ran) prefix = part_stops
+  pub added_in_part : Does (IsLine line) (at old first) (at new entries) → GoesOn old.number new.number old.reads new.reads → ((rest : List (List ℕ)) × (sink ++ pieces_of quiet shown ≡ out ++ rest)) → StopsLine quiet text line old new out
+  added_in_part (events, is, ran) goes prefix = part_stops
       (stopped_later (LinePart line) Nothing events (at old first) (at new entries) (at new entries)
       (λ more empty. inl (subst (λ (l : List Event). IsLine line old.machine l) (sym (ap (λ (l : List Event). events ++ l) empty ∙ append-nil events)) is)) ran
-      (stopped_now Nothing (at new entries) refl)) prefix
+      (stopped_now Nothing (at new entries) refl)) goes prefix
 
 -- the table was listed, and its pieces were added
 pub is_table : (world : WorldState) (devices : List State) (none table shown : List Entry) (sink out : List (List ℕ)) → none ≡ [] → sink ≡ []
     → ((records : Option (List (List ℕ))) → table ≡ none ++ table_entries (machine_of world devices records)) → shown ≡ table → out ≡ sink ++ pieces_of false shown
-    → (records : Option (List (List ℕ))) (faults : ℕ) → IsTable (point_of world devices records faults) out
+    → (records : Option (List (List ℕ))) (faults number reads : ℕ) → IsTable (point_of world devices records faults number reads) out
 unfolding IsTable
-is_table world devices none table shown sink out empty begun listed same is records faults =
+is_table world devices none table shown sink out empty begun listed same is records faults number reads =
     is ∙ ap (λ (o : List (List ℕ)). o ++ pieces_of false shown) begun ∙ ap (λ (es : List Entry). pieces_of false es) (same ∙ listed records)
     ∙ ap (λ (es : List Entry). pieces_of false (es ++ table_entries (machine_of world devices records))) empty
 
@@ -137,26 +143,30 @@ told quiet status left left' old new sink sink' h =
     refl (pieces-append quiet) (pieces_text quiet) (λ x words y out is r. (tt, r)) (λ x words y out is r. r) (λ x out e. e) status left left' old new sink sink' h tt
 
 module _ (quiet : Bool) (key : List ℕ) (status : Status) (left left' : Option (List ℕ)) (world world' : WorldState) (before after : List State)
-    (records records' : Option (List (List ℕ))) (faults faults' : ℕ) (sink sink' : Option (List ℕ)) where
-  pub sim_ran : HasRun status (fault_by line_at) (SimRuns quiet) (SimStops quiet) IsTable left left' (point_of world before records faults) (point_of world' after records' faults') sink sink'
-      → world ≡ first_world key → SimRan status quiet key left left' before after records records' faults faults' sink sink'
+    (records records' : Option (List (List ℕ))) (faults faults' number number' reads reads' : ℕ) (sink sink' : Option (List ℕ)) where
+  pub sim_ran : HasRun status (fault_by line_at) (SimRuns quiet) (SimStops quiet) IsTable left left' (point_of world before records faults number reads) (point_of world' after records' faults' number' reads') sink sink'
+      → world ≡ first_world key → SimRan status quiet key left left' before after records records' faults faults' number number' reads reads' sink sink'
   sim_ran h start = record {
-    point = point_of world' after records' faults';
+    point = point_of world' after records' faults' number' reads';
     told = subst (λ (w : WorldState). LinesTold status line_at LineRan PartRan (shown_text quiet) IsTable left left'
-        (point_of w before records faults) (point_of world' after records' faults') sink sink') start
-        (told quiet status left left' (point_of world before records faults) (point_of world' after records' faults') sink sink' h);
+        (point_of w before records faults number reads) (point_of world' after records' faults' number' reads') sink sink') start
+        (told quiet status left left' (point_of world before records faults number reads) (point_of world' after records' faults' number' reads') sink sink' h);
     devices = refl;
     records_are = refl;
     faults_are = refl;
+    number_is = refl;
+    reads_are = refl;
   }
 
 -- no memory for the world
-pub no_world : (quiet : Bool) (key : List ℕ) (left : Option (List ℕ)) (devices : List State) (records : Option (List (List ℕ))) (faults : ℕ) (sink : Option (List ℕ))
-    → SimRan no_memory quiet key left left devices devices records records faults faults sink sink
-no_world quiet key left devices records faults sink = record {
-  point = point_of (first_world key) devices records faults;
-  told = none_told line_at LineRan PartRan (shown_text quiet) IsTable left (point_of (first_world key) devices records faults) sink;
+pub no_world : (quiet : Bool) (key : List ℕ) (left : Option (List ℕ)) (devices : List State) (records : Option (List (List ℕ))) (faults number reads : ℕ) (sink : Option (List ℕ))
+    → SimRan no_memory quiet key left left devices devices records records faults faults number number reads reads sink sink
+no_world quiet key left devices records faults number reads sink = record {
+  point = point_of (first_world key) devices records faults number reads;
+  told = none_told line_at LineRan PartRan (shown_text quiet) IsTable left (point_of (first_world key) devices records faults number reads) sink;
   devices = refl;
   records_are = refl;
   faults_are = refl;
+  number_is = refl;
+  reads_are = refl;
 }

@@ -12,20 +12,23 @@ use Rattle.world_model.specs.Lines.{IsLine}
 use Rattle.world_model.specs.Prefixes.{LinePart}
 use Rattle.world_model.specs.Table.{table_entries}
 use Rattle.zw_world.specs.World.{WorldState, first_world, machine_of}
+use Rattle.zw_world.specs.Keeping.{GoesOn, KeepsOrRefuses}
 use Rattle.run_lines.specs.declared.status.Status.{Status}
 use Rattle.run_lines.specs.Pieces.{pieces_of, said_text, shown_of}
 use Rattle.run_lines.specs.Lines.{TextLine, DoesText, StopsText, LinesTold}
 
 -- ---- states
 
--- a machine, and how often its keeper failed
+-- a machine, how often its keeper failed, how many records that holds, and how many were read
 pub record Point : Type 0 where
   pub machine : Machine
   pub faults : ℕ
+  pub number : ℕ
+  pub reads : ℕ
 
 -- a world with devices, and what its keeper holds
-abbrev pub point_of : WorldState → List State → Option (List (List ℕ)) → ℕ → Point
-point_of world devices records faults = record { machine = machine_of world devices records; faults = faults }
+abbrev pub point_of : WorldState → List State → Option (List (List ℕ)) → ℕ → ℕ → ℕ → Point
+point_of world devices records faults number reads = record { machine = machine_of world devices records; faults = faults; number = number; reads = reads }
 
 -- with the entries so far
 abbrev pub at : Point → List Entry → Scene
@@ -37,13 +40,17 @@ at point entries = record { machine = point.machine; entries = entries; faults =
 abbrev pub said : TextLine Line → List Entry
 said line = Said (said_text line.text) ∷ []
 
--- a line was run: it is events that are its schedule, and these are all entries
-abbrev pub LineRan : TextLine Line → Point → Point → List Entry → Type 0
-LineRan line old new entries = Does (IsLine line.line) (at old (said line)) (at new entries)
+-- A line was run: it is events that are its schedule, and these are all entries. The keeper lost no record; an order added one, and a restart read each,
+-- unless the line was refused.
+pub record LineRan (line : TextLine Line) (old new : Point) (entries : List Entry) : Type 0 where
+  pub does : Does (IsLine line.line) (at old (said line)) (at new entries)
+  pub goes_on : GoesOn old.number new.number old.reads new.reads
+  pub keeps : KeepsOrRefuses line.line (said line) entries old.number new.number old.reads new.reads
 
 -- there was no memory for all of it: it was not even entered, or a prefix of it was done
 abbrev pub PartRan : TextLine Line → Point → Point → List Entry → Type 0
-PartRan line old new entries = ((new ≡ old) × (entries ≡ [])) ⊎ Stops (LinePart line.line) (at old (said line)) (at new entries)
+PartRan line old new entries =
+    ((new ≡ old) × (entries ≡ [])) ⊎ (Stops (LinePart line.line) (at old (said line)) (at new entries) × GoesOn old.number new.number old.reads new.reads)
 
 -- the last lines are those of the table
 unfoldable pub IsTable : Point → List (List ℕ) → Type 0
@@ -74,10 +81,12 @@ shown_text quiet transcript = transcript_text (shown_of quiet transcript)
 -- Lines of an input were run from a world at its beginning, with these devices and this keeper, up to what is left of both; what is
 -- written is the text of their transcript, and the last lines that the status adds, or a prefix of it.
 pub record SimRan (status : Status) (quiet : Bool) (key : List ℕ) (left left' : Option (List ℕ)) (before after : List State)
-    (records records' : Option (List (List ℕ))) (faults faults' : ℕ) (sink sink' : Option (List ℕ)) : Type 0 where
+    (records records' : Option (List (List ℕ))) (faults faults' number number' reads reads' : ℕ) (sink sink' : Option (List ℕ)) : Type 0 where
   pub point : Point
   pub told : LinesTold status line_at LineRan PartRan (shown_text quiet) IsTable left left'
-      (point_of (first_world key) before records faults) point sink sink'
+      (point_of (first_world key) before records faults number reads) point sink sink'
   pub devices : point.machine.outside.devices ≡ after
   pub records_are : point.machine.records ≡ records'
   pub faults_are : point.faults ≡ faults'
+  pub number_is : point.number ≡ number'
+  pub reads_are : point.reads ≡ reads'

@@ -32,7 +32,7 @@ pub fn run_sim<S: Source, K: Sink, D: Draw, P: Keeper>(
     requires { length devices.old.items < 2 ^ 64 }
     ensures ran { SimRan result quiet key (S.left source.old) (S.left source.new) (map (λ d. state d) devices.old.items)
         (map (λ d. state d) devices.new.items) (P.records keeper.old) (P.records keeper.new) (P.faults keeper.old) (P.faults keeper.new)
-        (K.written sink.old) (K.written sink.new) }
+        (P.number keeper.old) (P.number keeper.new) (P.reads keeper.old) (P.reads keeper.new) (K.written sink.old) (K.written sink.new) }
     ensures few { length devices.new.items < 2 ^ 64 }
     ensures source_never_falls { S.faults source.old ≤ S.faults source.new }
     ensures sink_never_falls { K.faults sink.old ≤ K.faults sink.new }
@@ -64,8 +64,10 @@ fn run_to_status<S: Source, K: Sink, D: Draw, P: Keeper>(
     requires few { length devices.old.items < 2 ^ 64 }
     ensures ran { HasRun result (fault_by line_at) (SimRuns simulation.old.quiet) (SimStops simulation.old.quiet) IsTable
         (S.left source.old) (S.left source.new)
-        (point_of simulation.old.world (map (λ d. state d) devices.old.items) (P.records keeper.old) (P.faults keeper.old))
-        (point_of simulation.new.world (map (λ d. state d) devices.new.items) (P.records keeper.new) (P.faults keeper.new))
+        (point_of simulation.old.world (map (λ d. state d) devices.old.items) (P.records keeper.old) (P.faults keeper.old)
+        (P.number keeper.old) (P.reads keeper.old))
+        (point_of simulation.new.world (map (λ d. state d) devices.new.items) (P.records keeper.new) (P.faults keeper.new)
+        (P.number keeper.new) (P.reads keeper.new))
         (K.written sink.old) (K.written sink.new) }
     ensures kept { length devices.new.items ≡ length devices.old.items }
     ensures source_never_falls { S.faults source.old ≤ S.faults source.new }
@@ -90,8 +92,8 @@ fn end_well<K: Sink>(
     devices: &Vec<Box<dyn Device>>,
 ) -> Status
     requires few { length devices.now.items < 2 ^ 64 }
-    ensures closes { (records : Option (Items (Items ℕ))) (faults : ℕ) → ClosesWell IsTable result
-        (point_of simulation.now.world (map (λ d. state d) devices.now.items) records faults) (K.written sink.old) (K.written sink.new) }
+    ensures closes { (records : Option (Items (Items ℕ))) (faults number reads : ℕ) → ClosesWell IsTable result
+        (point_of simulation.now.world (map (λ d. state d) devices.now.items) records faults number reads) (K.written sink.old) (K.written sink.new) }
     ensures never_falls { K.faults sink.old ≤ K.faults sink.new }
     ensures failed { result ≡ Status.WriteFault → Rose (K.faults sink.old) (K.faults sink.new) }
     ensures no_read { result ≡ Status.ReadFault → ⊥ }

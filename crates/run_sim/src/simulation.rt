@@ -37,11 +37,15 @@ impl Simulation {
         requires empty { out.old.items ≡ [] }
         ensures is_line { OnOk result (fault_by line_at text.now ≡ None) }
         ensures ok { OnOk result (SimRuns self.old.quiet
-            (point_of self.old.world (map (λ d. state d) devices.old.items) (P.records keeper.old) (P.faults keeper.old)) text.now
-            (point_of self.new.world (map (λ d. state d) devices.new.items) (P.records keeper.new) (P.faults keeper.new)) out.new.items) }
+            (point_of self.old.world (map (λ d. state d) devices.old.items) (P.records keeper.old) (P.faults keeper.old)
+            (P.number keeper.old) (P.reads keeper.old)) text.now
+            (point_of self.new.world (map (λ d. state d) devices.new.items) (P.records keeper.new) (P.faults keeper.new)
+            (P.number keeper.new) (P.reads keeper.new)) out.new.items) }
         ensures err { IfErr result (λ fault. RefusesBy fault (SimStops self.old.quiet) (fault_by line_at text.now)
-            (point_of self.old.world (map (λ d. state d) devices.old.items) (P.records keeper.old) (P.faults keeper.old)) text.now
-            (point_of self.new.world (map (λ d. state d) devices.new.items) (P.records keeper.new) (P.faults keeper.new)) out.new.items) }
+            (point_of self.old.world (map (λ d. state d) devices.old.items) (P.records keeper.old) (P.faults keeper.old)
+            (P.number keeper.old) (P.reads keeper.old)) text.now
+            (point_of self.new.world (map (λ d. state d) devices.new.items) (P.records keeper.new) (P.faults keeper.new)
+            (P.number keeper.new) (P.reads keeper.new)) out.new.items) }
         ensures quiet { self.new.quiet ≡ self.old.quiet }
         ensures kept { length devices.new.items ≡ length devices.old.items }
     {
@@ -68,11 +72,15 @@ impl Simulation {
         requires few { length devices.old.items < 2 ^ 64 }
         requires empty { out.old.items ≡ [] }
         ensures ok { OnOk result (AnswersLine self.old.quiet text.now line.now
-            (point_of self.old.world (map (λ d. state d) devices.old.items) (P.records keeper.old) (P.faults keeper.old))
-            (point_of self.new.world (map (λ d. state d) devices.new.items) (P.records keeper.new) (P.faults keeper.new)) out.new.items) }
+            (point_of self.old.world (map (λ d. state d) devices.old.items) (P.records keeper.old) (P.faults keeper.old)
+            (P.number keeper.old) (P.reads keeper.old))
+            (point_of self.new.world (map (λ d. state d) devices.new.items) (P.records keeper.new) (P.faults keeper.new)
+            (P.number keeper.new) (P.reads keeper.new)) out.new.items) }
         ensures err { OnErr result (StopsLine self.old.quiet text.now line.now
-            (point_of self.old.world (map (λ d. state d) devices.old.items) (P.records keeper.old) (P.faults keeper.old))
-            (point_of self.new.world (map (λ d. state d) devices.new.items) (P.records keeper.new) (P.faults keeper.new)) out.new.items) }
+            (point_of self.old.world (map (λ d. state d) devices.old.items) (P.records keeper.old) (P.faults keeper.old)
+            (P.number keeper.old) (P.reads keeper.old))
+            (point_of self.new.world (map (λ d. state d) devices.new.items) (P.records keeper.new) (P.faults keeper.new)
+            (P.number keeper.new) (P.reads keeper.new)) out.new.items) }
         ensures quiet { self.new.quiet ≡ self.old.quiet }
         ensures kept { length devices.new.items ≡ length devices.old.items }
     {
@@ -92,8 +100,8 @@ impl Simulation {
     ) -> Result<(), NoMemory>
         requires few { length devices.now.items < 2 ^ 64 }
         requires empty { out.old.items ≡ [] }
-        ensures { OnOk result ((records : Option (Items (Items ℕ))) (faults : ℕ) →
-            IsTable (point_of self.now.world (map (λ d. state d) devices.now.items) records faults) out.new.items) }
+        ensures { OnOk result ((records : Option (Items (Items ℕ))) (faults number reads : ℕ) →
+            IsTable (point_of self.now.world (map (λ d. state d) devices.now.items) records faults number reads) out.new.items) }
     {
         let mut entries = List::new(self.alloc);
         self.world.table(devices, &mut entries)?;

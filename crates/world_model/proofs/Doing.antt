@@ -1,14 +1,13 @@
 -- Lists of events that were done one after another.
-use Rattle.std.proofs.Common.{◌≡◌, ℕ, ◌≤◌, List, [], ◌∷◌, ◌++◌, refl, ap, sym, ◌∙◌, subst, append_assoc, arith}
-use Rattle.std.specs.Prelude.{Bool, true, false, ◌||◌, None}
-use Rattle.std.specs.List.{list_any}
+use Rattle.std.proofs.Common.{◌≡◌, ℕ, ◌+◌, ◌≤◌, List, [], ◌∷◌, ◌++◌, refl, ap, sym, ◌∙◌, subst, append_assoc, arith}
+use Rattle.std.specs.Prelude.{None}
 use Rattle.std.proofs.lemmas.List.{append-nil}
 use Rattle.zw_text.specs.declared.entry.Entry.{Entry}
-use Rattle.host_model.specs.Did.{RoseIf}
-use Rattle.host_model.proofs.Doing.{rose_by_later, rose_since}
+use Rattle.host_model.specs.Did.{RoseBy}
+use Rattle.host_model.proofs.Doing.{rose_both, rose_none}
 use Rattle.world_model.specs.State.{Machine}
 use Rattle.world_model.specs.Events.{Event, happens, entries}
-use Rattle.world_model.specs.Did.{happens_all, entries_all, MayAll, is_unkept, Counted, Scene, Run, Schedule, last_of, Stops}
+use Rattle.world_model.specs.Did.{happens_all, entries_all, MayAll, unkept_of, unkept_in, Counted, Scene, Run, Schedule, last_of, Stops}
 
 pub happens_all-append : (m : Machine) (a b : List Event) → happens_all m (a ++ b) ≡ happens_all (happens_all m a) b
 happens_all-append m [] b = refl
@@ -26,31 +25,35 @@ may_all-append m (e ∷ a) b first later = (first.0, may_all-append (happens m e
 
 -- ---- faults of the keeper
 
-any-append : (a b : List Event) → list_any is_unkept (a ++ b) ≡ (list_any is_unkept a || list_any is_unkept b)
-any-append [] b = refl
-any-append (e ∷ a) b = or_of (is_unkept e) a b (any-append a b)
-  where
-    or_of : (x : Bool) (a b : List Event) → list_any is_unkept (a ++ b) ≡ (list_any is_unkept a || list_any is_unkept b)
-        → (x || list_any is_unkept (a ++ b)) ≡ ((x || list_any is_unkept a) || list_any is_unkept b)
-    or_of true a b ih = refl
-    or_of false a b ih = ih
+unkept-append : (a b : List Event) → unkept_in (a ++ b) ≡ unkept_in a + unkept_in b
+unkept-append [] b = omega arith
+unkept-append (e ∷ a) b = omega (arith, unkept-append a b)
 
-pub rose_either : (x y : Bool) (f g k : ℕ) → f ≤ g → g ≤ k → RoseIf x f g → RoseIf y g k → RoseIf (x || y) f k
-rose_either true y f g k before later rose rose' = rose_by_later f g k before later rose
-rose_either false true f g k before later rose rose' = rose_since f g k before later rose'
-rose_either false false f g k before later rose rose' = tt
+pub counted_none : (f g : ℕ) → f ≤ g → Counted [] f g
+counted_none f g falls = record { rose = rose_none f g falls; never_falls = falls }
+
+-- one event has its own alone
+unkept_alone : (e : Event) → unkept_of e ≡ unkept_in (e ∷ [])
+unkept_alone e = let same : unkept_of e ≡ unkept_of e + 0 = omega arith in same
+
+pub counted_one : (e : Event) (f g : ℕ) → RoseBy (unkept_of e) f g → f ≤ g → Counted (e ∷ []) f g
+counted_one e f g rose falls = record { rose = subst (λ (n : ℕ). RoseBy n f g) (unkept_alone e) rose; never_falls = falls }
+
+-- an event at which all is done that asks the keeper
+pub counted_kept : (e : Event) (f g : ℕ) → unkept_of e ≡ 0 → f ≤ g → Counted (e ∷ []) f g
+counted_kept e f g kept falls = counted_one e f g (subst (λ (n : ℕ). RoseBy n f g) (sym kept) (rose_none f g falls)) falls
 
 pub counted_both : (a b : List Event) (f g k : ℕ) → Counted a f g → Counted b g k → Counted (a ++ b) f k
 counted_both a b f g k first later = record {
-  rose = subst (λ (x : Bool). RoseIf x f k) (sym (any-append a b))
-      (rose_either (list_any is_unkept a) (list_any is_unkept b) f g k first.never_falls later.never_falls first.rose later.rose);
+  rose = subst (λ (n : ℕ). RoseBy n f k) (sym (unkept-append a b))
+      (rose_both (unkept_in a) (unkept_in b) f g k first.rose later.rose);
   never_falls = omega (arith, first.never_falls, later.never_falls);
 }
 
 -- ---- runs
 
 pub ran_nothing : (s : Scene) → Run [] s s
-ran_nothing s = record { may = tt; state = refl; entries = sym (append-nil s.entries); counted = record { rose = tt; never_falls = omega arith } }
+ran_nothing s = record { may = tt; state = refl; entries = sym (append-nil s.entries); counted = counted_none s.faults s.faults (omega arith) }
 
 pub entries_on : (a b : List Event) (old : Machine) (mid : Machine) (before some all : List Entry) → mid ≡ happens_all old a
     → some ≡ before ++ entries_all old a → all ≡ some ++ entries_all mid b → all ≡ before ++ entries_all old (a ++ b)
@@ -85,7 +88,7 @@ stopped_now Prefix s none = record {
   devices = refl;
   records = refl;
   entered = sym (append-nil s.entries);
-  never_falls = omega arith;
+  counted = counted_none s.faults s.faults (omega arith);
 }
 
 -- a prefix of one thing is a prefix of another
@@ -101,7 +104,7 @@ stopped_as A B s t goes stops = record {
   devices = stops.devices;
   records = stops.records;
   entered = stops.entered;
-  never_falls = stops.never_falls;
+  counted = stops.counted;
 }
 
 -- events were done, and then it stopped
@@ -126,5 +129,5 @@ stopped_later A B a old mid new goes first later =
       devices = later.devices ∙ ap (λ (m : Machine). m.outside.devices) after;
       records = later.records ∙ ap (λ (m : Machine). m.records) after;
       entered = entries_on a later.whole old.machine mid.machine old.entries mid.entries new.entries there first.entries later.entered;
-      never_falls = omega (arith, first.counted.never_falls, later.never_falls);
+      counted = counted_both a later.whole old.faults mid.faults new.faults first.counted later.counted;
     }

@@ -1,7 +1,7 @@
 -- Events of the host, as the machine's: what it puts out is routed once they are all done.
-use Rattle.std.proofs.Common.{◌≡◌, ℕ, ◌≤◌, Bool, true, false, List, [], ◌∷◌, ◌++◌, map, refl, ap, sym, ◌∙◌, subst, append_assoc}
-use Rattle.std.specs.Prelude.{Option, Some, None, ◌||◌}
-use Rattle.std.specs.List.{list_any, AllByRecursion}
+use Rattle.std.proofs.Common.{◌≡◌, ℕ, ◌+◌, ◌≤◌, List, [], ◌∷◌, ◌++◌, map, refl, ap, sym, ◌∙◌, subst, append_assoc}
+use Rattle.std.specs.Prelude.{Option, Some, None}
+use Rattle.std.specs.List.{AllByRecursion}
 use Rattle.std.proofs.lemmas.List.{append-nil, map-append}
 use Rattle.zw_text.specs.declared.entry.Entry.{Entry}
 use Rattle.host_keep.specs.Keeping.{OptAdds}
@@ -12,7 +12,7 @@ use Rattle.host_model.specs.Events.{HostEvent}
 use Rattle.host_model.specs.After.{after}
 use Rattle.host_model.specs.Outs.{outs}
 use Rattle.host_model.specs.Records.{records_at}
-use Rattle.host_model.specs.Did.{after_all, outs_all, records_all, texts_of, MayAll as MayAllHost, is_unkept as is_unkept_by_host, RoseIf, RoseAll, Did}
+use Rattle.host_model.specs.Did.{after_all, outs_all, records_all, texts_of, MayAll as MayAllHost, is_unkept, unkept_in as unkept_by_host, one_if, RoseBy, Did}
 use Rattle.host_model.specs.declared.out.HostOut.{HostOut}
 use Rattle.host_model.specs.declared.out.HostOut.TheVariants.{Write, Note}
 use Rattle.outside_model.specs.State.{Outside, OuterState, outside}
@@ -21,7 +21,8 @@ use Rattle.outside_model.specs.Did.{happens_all as happens_all_outside, entries_
 use Rattle.outside_model.proofs.Doing.{happens_all-append as outside-append, entries_all-append as outside_entries-append}
 use Rattle.world_model.specs.State.{Machine, begun_in, noted_by, routed, routed_one, with_texts, host_does, host_entries}
 use Rattle.world_model.specs.Events.{Event, Host_does, answers, happens, entries, May}
-use Rattle.world_model.specs.Did.{happens_all, entries_all, MayAll, is_unkept, Counted, Run, Schedule, IsOfHost, Stops}
+use Rattle.world_model.specs.Did.{happens_all, entries_all, MayAll, unkept_in, Counted, Run, Schedule, IsOfHost, Stops}
+use Rattle.world_model.proofs.Doing.{counted_none}
 
 -- ---- records
 
@@ -129,20 +130,12 @@ unfolding happens May
 may_host-all m [] may = tt
 may_host-all m (e ∷ es) may = ((may.0, tt, may.2), may_host-all (happens m (Host_does e)) es may.1)
 
-unkept_is : (es : List HostEvent) → list_any is_unkept (map Host_does es) ≡ list_any is_unkept_by_host es
+unkept_is : (es : List HostEvent) → unkept_in (map Host_does es) ≡ unkept_by_host es
 unkept_is [] = refl
-unkept_is (e ∷ es) = ap (λ (b : Bool). is_unkept_by_host e || b) (unkept_is es)
+unkept_is (e ∷ es) = ap (λ (n : ℕ). one_if (is_unkept e) + n) (unkept_is es)
 
-pub rose_any : (es : List HostEvent) (f g : ℕ) → RoseAll es f g → RoseIf (list_any is_unkept_by_host es) f g
-rose_any [] f g rose = tt
-rose_any (e ∷ es) f g rose = either (is_unkept_by_host e) (list_any is_unkept_by_host es) rose.0 (rose_any es f g rose.1)
-  where
-    either : (x y : Bool) → RoseIf x f g → RoseIf y f g → RoseIf (x || y) f g
-    either true y first later = first
-    either false y first later = later
-
-counted_host : (es : List HostEvent) (f g : ℕ) → RoseAll es f g → f ≤ g → Counted (map Host_does es) f g
-counted_host es f g rose falls = record { rose = subst (λ (b : Bool). RoseIf b f g) (sym (unkept_is es)) (rose_any es f g rose); never_falls = falls }
+counted_host : (es : List HostEvent) (f g : ℕ) → RoseBy (unkept_by_host es) f g → f ≤ g → Counted (map Host_does es) f g
+counted_host es f g rose falls = record { rose = subst (λ (n : ℕ). RoseBy n f g) (sym (unkept_is es)) rose; never_falls = falls }
 
 -- ---- what is routed moves no device
 
@@ -238,7 +231,7 @@ stopped_by Prefix es m new before all f g none hosts may devices records same fa
   devices = devices;
   records = records;
   entered = same ∙ sym (append-nil before);
-  never_falls = falls;
+  counted = counted_none f g falls;
 }
 
 pub all_of_host : (es : List HostEvent) → AllByRecursion IsOfHost (map Host_does es)

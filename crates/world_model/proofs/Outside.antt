@@ -1,16 +1,16 @@
 -- Events outside the host, as the machine's.
-use Rattle.std.proofs.Common.{◌≡◌, ℕ, Bool, false, List, [], ◌∷◌, ◌++◌, map, refl, ap, sym, ◌∙◌, subst, arith}
+use Rattle.std.proofs.Common.{◌≡◌, ℕ, List, [], ◌∷◌, ◌++◌, map, refl, ap, sym, ◌∙◌, subst, arith}
 use Rattle.std.specs.Prelude.{Option, Some, None}
-use Rattle.std.specs.List.{list_any}
 use Rattle.std.proofs.lemmas.List.{append-nil}
 use Rattle.zw_text.specs.declared.entry.Entry.{Entry}
-use Rattle.host_model.specs.Did.{RoseIf}
+use Rattle.host_model.specs.Did.{RoseBy}
+use Rattle.host_model.proofs.Doing.{rose_none}
 use Rattle.outside_model.specs.State.{Outside}
 use Rattle.outside_model.specs.Events.{OuterEvent, AreOwn, happens as happens_outside, entries as entries_outside}
 use Rattle.outside_model.specs.Did.{happens_all as happens_all_outside, entries_all as entries_all_outside, MayAll as MayAllOutside, Run as RunOutside, last_of as outer_last, Stops as StopsOutside}
 use Rattle.world_model.specs.State.{Machine, with_outside}
 use Rattle.world_model.specs.Events.{Event, Outside_does, happens, entries, May}
-use Rattle.world_model.specs.Did.{happens_all, entries_all, MayAll, is_unkept, Counted, Run, Schedule, last_of, Stops}
+use Rattle.world_model.specs.Did.{happens_all, entries_all, MayAll, unkept_in, Counted, Run, Schedule, last_of, Stops}
 
 pub happens_outside-all : (m : Machine) (es : List OuterEvent) → happens_all m (map Outside_does es) ≡ with_outside m (happens_all_outside m.outside es)
 unfolding happens
@@ -27,12 +27,12 @@ unfolding happens May
 may_outside-all m [] own may = tt
 may_outside-all m (e ∷ es) own may = ((own.0, may.0), may_outside-all (with_outside m (happens_outside m.outside e)) es own.1 may.1)
 
-pub kept_outside : (es : List OuterEvent) → list_any is_unkept (map Outside_does es) ≡ false
+kept_outside : (es : List OuterEvent) → unkept_in (map Outside_does es) ≡ 0
 kept_outside [] = refl
-kept_outside (e ∷ es) = kept_outside es
+kept_outside (e ∷ es) = omega (arith, kept_outside es)
 
 pub counted_outside : (es : List OuterEvent) (faults : ℕ) → Counted (map Outside_does es) faults faults
-counted_outside es faults = record { rose = subst (λ (b : Bool). RoseIf b faults faults) (sym (kept_outside es)) tt; never_falls = omega arith }
+counted_outside es faults = record { rose = subst (λ (n : ℕ). RoseBy n faults faults) (sym (kept_outside es)) (rose_none faults faults (omega arith)); never_falls = omega arith }
 
 -- events outside were done
 pub ran_outside : (es : List OuterEvent) (m : Machine) (w : Outside) (before all : List Entry) (faults : ℕ) → AreOwn es → RunOutside es m.outside w before all
@@ -73,5 +73,5 @@ stopped_outside Prefix OuterPrefix m new before all faults prefixes goes records
       devices = stops.devices_are ∙ ap (λ (x : Machine). x.outside.devices) after;
       records = records ∙ ap (λ (x : Machine). x.records) after;
       entered = stops.entered ∙ ap (λ (l : List Entry). before ++ l) (sym (entries_outside-all m stops.whole));
-      never_falls = omega arith;
+      counted = counted_outside stops.whole faults;
     }

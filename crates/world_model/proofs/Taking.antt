@@ -1,7 +1,6 @@
 -- Bytes that the host takes, as an event of the machine.
-use Rattle.std.proofs.Common.{◌≡◌, ℕ, ◌≤◌, Bool, false, true, List, [], ◌∷◌, ◌++◌, map, take, drop, length, refl, ap, sym, ◌∙◌, subst, append_assoc, arith}
-use Rattle.std.specs.Prelude.{Option, ◌||◌}
-use Rattle.std.specs.List.{list_any}
+use Rattle.std.proofs.Common.{◌≡◌, ℕ, ◌≤◌, false, List, [], ◌∷◌, ◌++◌, map, take, drop, length, refl, ap, sym, ◌∙◌, subst, append_assoc, arith}
+use Rattle.std.specs.Prelude.{Option}
 use Rattle.std.proofs.lemmas.List.{append-nil}
 use Rattle.std.proofs.lemmas.List.{take-append-drop}
 use Rattle.std.proofs.Math.Seq.{take-append_seam}
@@ -10,7 +9,7 @@ use Rattle.serial_frame.specs.declared.item.Item.{Item}
 use Rattle.zw_text.specs.declared.entry.Entry.{Entry}
 use Rattle.host_model.specs.State.{HostState, HostParts}
 use Rattle.host_model.specs.Events.{HostEvent}
-use Rattle.host_model.specs.Did.{MayAll as MayAllHost, after_all, outs_all, records_all, texts_of, is_unkept as is_unkept_by_host, RoseIf}
+use Rattle.host_model.specs.Did.{MayAll as MayAllHost, after_all, outs_all, records_all, texts_of}
 use Rattle.host_model.specs.Taking.{Fed, FedPrefix}
 use Rattle.host_model.specs.declared.out.HostOut.{HostOut}
 use Rattle.outside_model.specs.State.{Outside, OuterState, outside, is_stalled}
@@ -18,16 +17,9 @@ use Rattle.outside_model.specs.Events.{Host_takes as host_takes, happens as happ
 use Rattle.outside_model.specs.Did.{happens_all as happens_all_outside, entries_all as entries_all_outside, Goes}
 use Rattle.world_model.specs.State.{Machine, routed, with_texts, host_entries}
 use Rattle.world_model.specs.Events.{Event, Host_does, Host_takes, fed, happens, entries, May}
-use Rattle.world_model.specs.Did.{Counted, Run, Schedule, Stops}
-use Rattle.world_model.proofs.Hosting.{adds_is, rose_any, routed_still, devices_host-all, records_host-all, may_host-all, all_of_host, stopped_by}
-
-pub or_false : (b : Bool) → (b || false) ≡ b
-or_false true = refl
-or_false false = refl
-
-taken_counted : (count : ℕ) (rest : Rest) (items : List Item) (es : List HostEvent) (f g : ℕ) → RoseIf (list_any is_unkept_by_host es) f g → f ≤ g → Counted (Host_takes count rest items es ∷ []) f g
-taken_counted count rest items es f g rose falls =
-    record { rose = subst (λ (b : Bool). RoseIf b f g) (sym (or_false (list_any is_unkept_by_host es))) rose; never_falls = falls }
+use Rattle.world_model.specs.Did.{Run, Schedule, Stops}
+use Rattle.world_model.proofs.Doing.{counted_one}
+use Rattle.world_model.proofs.Hosting.{adds_is, routed_still, devices_host-all, records_host-all, may_host-all, all_of_host, stopped_by}
 
 -- the host took bytes, and what it put out was routed
 module _ (m : Machine) (count : ℕ) (parts : HostParts) (puts : List HostOut) (records : Option (List (List ℕ))) (f g : ℕ) (before all : List Entry)
@@ -59,7 +51,7 @@ module _ (m : Machine) (count : ℕ) (parts : HostParts) (puts : List HostOut) (
             ∙ (ap (λ (l : List HostOut). before ++ entries_all_outside (outside mid m.outside.devices) (routed l)) puts_are
             ∙ (ap (λ (w : Outside). before ++ entries_all_outside w (routed (outs_all h es))) there
             ∙ ap (λ (l : List Entry). before ++ l) (sym (append-nil (host_entries (fed m count parts.decoder) es)))));
-        counted = taken_counted count parts.decoder fed_by.items es f g (rose_any es f g fed_by.did.rose) fed_by.did.never_falls;
+        counted = counted_one event f g fed_by.did.rose fed_by.did.never_falls;
       }
 
 -- the devices are as they were

@@ -1,10 +1,10 @@
 -- What was done, as lists of events (this project's own).
-use Rattle.std.specs.Prelude.{◌≡◌, ◌⊎◌, ℕ, ◌≤◌, Bool, true, false, List, [], ◌∷◌, ◌++◌, Option, Some, None}
-use Rattle.std.specs.List.{list_any, AllByRecursion}
+use Rattle.std.specs.Prelude.{◌≡◌, ◌⊎◌, ℕ, ◌+◌, ◌≤◌, Bool, true, false, List, [], ◌∷◌, ◌++◌, Option, Some, None}
+use Rattle.std.specs.List.{AllByRecursion}
 use Rattle.zw_text.specs.declared.entry.Entry.{Entry}
 use Rattle.zw_text.specs.declared.entry.Refusal.{Refusal}
 use Rattle.zw_text.specs.declared.entry.Refusal.TheVariants.{KeeperFault}
-use Rattle.host_model.specs.Did.{is_unkept as is_unkept_by_host, RoseIf}
+use Rattle.host_model.specs.Did.{is_unkept, unkept_in as unkept_by_host, one_if, RoseBy}
 use Rattle.outside_model.specs.Events.{OuterEvent}
 use Rattle.world_model.specs.State.{Machine}
 use Rattle.world_model.specs.Events.{Event, Outside_does, Host_does, Host_takes, Decoder_ticks, Refuses, Shows_values, Restarts, happens, entries, May}
@@ -35,19 +35,24 @@ abbrev pub is_keeper_fault : Refusal → Bool
 is_keeper_fault KeeperFault = true
 is_keeper_fault refusal = false
 
--- something was not done, since the keeper failed
-abbrev pub is_unkept : Event → Bool
-is_unkept (Outside_does event) = false
-is_unkept (Host_does event) = is_unkept_by_host event
-is_unkept (Host_takes count rest items events) = list_any is_unkept_by_host events
-is_unkept Decoder_ticks = false
-is_unkept (Refuses line refusal) = is_keeper_fault refusal
-is_unkept (Shows_values node) = false
-is_unkept (Restarts state) = false
+-- how many things were not done at an event, since the keeper failed
+abbrev pub unkept_of : Event → ℕ
+unkept_of (Outside_does event) = 0
+unkept_of (Host_does event) = one_if (is_unkept event)
+unkept_of (Host_takes count rest items events) = unkept_by_host events
+unkept_of Decoder_ticks = 0
+unkept_of (Refuses line refusal) = one_if (is_keeper_fault refusal)
+unkept_of (Shows_values node) = 0
+unkept_of (Restarts state) = 0
 
--- the keeper's count of faults, as it never falls, and rose where something was not kept
+-- and at events one after another
+abbrev pub unkept_in : List Event → ℕ
+unkept_in [] = 0
+unkept_in (event ∷ events) = unkept_of event + unkept_in events
+
+-- the keeper's count of faults never falls, and rose for each thing that was not done, since the keeper failed
 pub record Counted (events : List Event) (faults faults' : ℕ) : Type 0 where
-  pub rose : RoseIf (list_any is_unkept events) faults faults'
+  pub rose : RoseBy (unkept_in events) faults faults'
   pub never_falls : faults ≤ faults'
 
 -- ---- runs
@@ -119,4 +124,4 @@ pub record Stops (Prefix : Schedule) (old new : Scene) : Type 0 where
   pub devices : new.machine.outside.devices ≡ (happens_all old.machine ((whole ++ last_of last) ++ kept)).outside.devices
   pub records : new.machine.records ≡ (happens_all old.machine ((whole ++ last_of last) ++ kept)).records
   pub entered : new.entries ≡ old.entries ++ entries_all old.machine whole
-  pub never_falls : old.faults ≤ new.faults
+  pub counted : Counted whole old.faults new.faults

@@ -19,6 +19,7 @@ use Rattle.world_model.specs.Events.{Event, Outside_does, Host_does, Decoder_tic
 use Rattle.world_model.specs.Did.{Schedule, Run, Does, Nothing, PrefixOf, Stops, These}
 use Rattle.world_model.specs.Settling.{Outside as OutsideOf}
 use Rattle.world_model.proofs.Outside.{ran_outside, stopped_outside}
+use Rattle.world_model.proofs.Doing.{counted_kept}
 use Rattle.world_model.proofs.Hosting.{Silent, ran_host, stopped_host, stopped_by}
 use Rattle.world_model.proofs.Schedules.{did_outside}
 use Rattle.world_step.specs.Scene.{scene_of}
@@ -119,5 +120,5 @@ ran_decoder keys host o ds r before f = record {
   may = (tt, tt);
   state = refl;
   entries = sym (append-nil before);
-  counted = record { rose = tt; never_falls = omega arith };
+  counted = counted_kept Decoder_ticks f f refl (omega arith);
 }

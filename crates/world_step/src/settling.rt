@@ -1,6 +1,6 @@
 //! Settling: bytes move until none does.
 
-ghost use Rattle.std.specs.Prelude.{List as Items, IfOk, OnOk, OnErr};
+ghost use Rattle.std.specs.Prelude.{List as Items, ◌≤◌, ◌≡◌, IfOk, OnOk, OnErr};
 ghost use Rattle.s0_crypto.specs.declared.key_pair.Keys.{Keys};
 ghost use Rattle.device_sim.specs.State.{State};
 ghost use Rattle.world_model.specs.Did.{Does, Nothing, Stops};
@@ -32,6 +32,8 @@ impl Sides {
         ensures err { OnErr result ((keys : Keys) (ds : Items State) →
             Stops SettlesPrefix (scene_of keys self.old.host self.old.outer ds (P.records keeper.old) out.old.items (P.faults keeper.old))
             (scene_of keys self.new.host self.new.outer ds (P.records keeper.new) out.new.items (P.faults keeper.new))) }
+        ensures never_fewer { P.number keeper.old ≤ P.number keeper.new }
+        ensures reads { P.reads keeper.new ≡ P.reads keeper.old }
     {
         self.pump(draw, keeper, out)?;
         self.pass_all(draw, keeper, out)
@@ -50,6 +52,8 @@ impl Sides {
         ensures err { OnErr result ((keys : Keys) (ds : Items State) →
             Stops (PassesPrefix 64) (scene_of keys self.old.host self.old.outer ds (P.records keeper.old) out.old.items
             (P.faults keeper.old)) (scene_of keys self.new.host self.new.outer ds (P.records keeper.new) out.new.items (P.faults keeper.new))) }
+        ensures never_fewer { P.number keeper.old ≤ P.number keeper.new }
+        ensures reads { P.reads keeper.new ≡ P.reads keeper.old }
     {
         for _ in 0..PASSES {
             if !self.pass(draw, keeper, out)? {
@@ -72,6 +76,8 @@ impl Sides {
         ensures err { OnErr result ((keys : Keys) (ds : Items State) →
             Stops PassPrefix (scene_of keys self.old.host self.old.outer ds (P.records keeper.old) out.old.items (P.faults keeper.old))
             (scene_of keys self.new.host self.new.outer ds (P.records keeper.new) out.new.items (P.faults keeper.new))) }
+        ensures never_fewer { P.number keeper.old ≤ P.number keeper.new }
+        ensures reads { P.reads keeper.new ≡ P.reads keeper.old }
     {
         let moved = self.move_bytes(draw, keeper, out)?;
         self.pump(draw, keeper, out)?;
@@ -91,6 +97,8 @@ impl Sides {
         ensures err { OnErr result ((keys : Keys) (ds : Items State) →
             Stops Nothing (scene_of keys self.old.host self.old.outer ds (P.records keeper.old) out.old.items (P.faults keeper.old))
             (scene_of keys self.new.host self.new.outer ds (P.records keeper.new) out.new.items (P.faults keeper.new))) }
+        ensures never_fewer { P.number keeper.old ≤ P.number keeper.new }
+        ensures reads { P.reads keeper.new ≡ P.reads keeper.old }
     {
         let mut outs = List::new(self.alloc);
         self.host.pump(draw, &mut outs, keeper)?;

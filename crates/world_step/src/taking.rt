@@ -35,6 +35,8 @@ impl Sides {
         ensures err { OnErr result ((keys : Keys) (ds : Items State) →
             Stops MovePrefix (scene_of keys self.old.host self.old.outer ds (P.records keeper.old) out.old.items (P.faults keeper.old))
             (scene_of keys self.new.host self.new.outer ds (P.records keeper.new) out.new.items (P.faults keeper.new))) }
+        ensures never_fewer { P.number keeper.old ≤ P.number keeper.new }
+        ensures reads { P.reads keeper.new ≡ P.reads keeper.old }
     {
         let chip = self.chip_takes(out)?;
         let host = self.host_takes(draw, keeper, out)?;
@@ -64,6 +66,8 @@ impl Sides {
         ensures err { OnErr result ((keys : Keys) (ds : Items State) →
             Stops Nothing (scene_of keys self.old.host self.old.outer ds (P.records keeper.old) out.old.items (P.faults keeper.old))
             (scene_of keys self.new.host self.new.outer ds (P.records keeper.new) out.new.items (P.faults keeper.new))) }
+        ensures never_fewer { P.number keeper.old ≤ P.number keeper.new }
+        ensures reads { P.reads keeper.new ≡ P.reads keeper.old }
     {
         if !self.has_bytes() {
             return Ok(false);
@@ -97,6 +101,8 @@ impl Sides {
         ensures err { OnErr result (TakesPrefix self.old.host self.new.host self.old.outer outs.old.items outs.new.items
             (host_scene self.old.host.state [] (P.records keeper.old) (P.faults keeper.old)).shelf
             (host_scene self.new.host.state [] (P.records keeper.new) (P.faults keeper.new)).shelf) }
+        ensures never_fewer { P.number keeper.old ≤ P.number keeper.new }
+        ensures reads { P.reads keeper.new ≡ P.reads keeper.old }
     {
         self.take_piece(draw, keeper, outs)?;
         while self.outer.to_host() > 0 {
@@ -121,6 +127,8 @@ impl Sides {
         ensures err { OnErr result (TakesPrefix self.old.host self.new.host self.old.outer outs.old.items outs.new.items
             (host_scene self.old.host.state [] (P.records keeper.old) (P.faults keeper.old)).shelf
             (host_scene self.new.host.state [] (P.records keeper.new) (P.faults keeper.new)).shelf) }
+        ensures never_fewer { P.number keeper.old ≤ P.number keeper.new }
+        ensures reads { P.reads keeper.new ≡ P.reads keeper.old }
     {
         let mut buffer = [0; CAPACITY];
         let piece = take_into(&mut self.outer, &mut buffer);

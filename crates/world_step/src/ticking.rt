@@ -1,6 +1,6 @@
 //! Ticks of 100 ms.
 
-ghost use Rattle.std.specs.Prelude.{◌≡◌, ℕ, ◌<◌, ◌^◌, length, map, List as Items, Option, OnOk, OnErr};
+ghost use Rattle.std.specs.Prelude.{◌≡◌, ◌≤◌, ℕ, ◌<◌, ◌^◌, length, map, List as Items, Option, OnOk, OnErr};
 ghost use Rattle.s0_crypto.specs.declared.key_pair.Keys.{Keys};
 ghost use Rattle.device_sim.specs.State.{State};
 ghost use Rattle.world_model.specs.Did.{Does, Nothing, Stops};
@@ -35,6 +35,8 @@ impl Sides {
             (P.records keeper.old) out.old.items (P.faults keeper.old))
             (scene_of keys self.new.host self.new.outer (map (λ d. state d) devices.new.items) (P.records keeper.new) out.new.items (P.faults keeper.new))) }
         ensures kept { length devices.new.items ≡ length devices.old.items }
+        ensures never_fewer { P.number keeper.old ≤ P.number keeper.new }
+        ensures reads { P.reads keeper.new ≡ P.reads keeper.old }
     {
         for _ in 0..count {
             self.tick(devices, draw, keeper, out)?;
@@ -60,6 +62,8 @@ impl Sides {
             (P.records keeper.old) out.old.items (P.faults keeper.old))
             (scene_of keys self.new.host self.new.outer (map (λ d. state d) devices.new.items) (P.records keeper.new) out.new.items (P.faults keeper.new))) }
         ensures kept { length devices.new.items ≡ length devices.old.items }
+        ensures never_fewer { P.number keeper.old ≤ P.number keeper.new }
+        ensures reads { P.reads keeper.new ≡ P.reads keeper.old }
     {
         self.outer.begin_tick()?;
         self.tick_outside(devices, draw, out)?;
@@ -104,6 +108,8 @@ impl Sides {
         ensures err { OnErr result ((keys : Keys) (ds : Items State) →
             Stops Nothing (scene_of keys self.old.host self.old.outer ds (P.records keeper.old) out.old.items (P.faults keeper.old))
             (scene_of keys self.new.host self.new.outer ds (P.records keeper.new) out.new.items (P.faults keeper.new))) }
+        ensures never_fewer { P.number keeper.old ≤ P.number keeper.new }
+        ensures reads { P.reads keeper.new ≡ P.reads keeper.old }
     {
         let mut outs = List::new(self.alloc);
         self.host.tick(draw, &mut outs, keeper)?;

@@ -47,8 +47,8 @@ use Rattle.world_model.specs.Refusals.{shown, IsRefused, IsRefusedBy, IsRefusedO
 use Rattle.world_model.specs.Events.{Event, Host_does, Outside_does, Refuses as refuses, Shows_values, notes, answers, happens, entries, May}
 use Rattle.world_model.specs.Did.{Run, Does, Nothing, Stops, is_keeper_fault}
 use Rattle.world_model.specs.Lines.{Asks, IsDone, IsDiscovery, IsEffect}
-use Rattle.world_model.proofs.Doing.{ran_both}
-use Rattle.world_model.proofs.Hosting.{Silent, adds_is, rose_any}
+use Rattle.world_model.proofs.Doing.{counted_kept, ran_both}
+use Rattle.world_model.proofs.Hosting.{Silent, adds_is}
 use Rattle.world_model.proofs.Outside.{ran_outside}
 use Rattle.world_step.specs.Scene.{scene_of}
 use Rattle.world_step.proofs.Scenes.{ran_hosted, nothing_goes, quiet_goes, stopped_hosted, stopped_still}
@@ -256,7 +256,7 @@ ran_answered e keys host host' o o' ds r r' before all f g did decoder goes =
       entries = went.entries
           ∙ (ap (λ (l : List HostOut). before ++ (entries_all_outside w (routed l) ++ entries_all_outside (happens_all_outside w (routed l)) n)) did.outs
           ∙ ap (λ (l : List Entry). before ++ l) (sym (append-nil (entries m (Host_does e)))));
-      counted = record { rose = rose_any (e ∷ []) f g did.rose; never_falls = did.never_falls };
+      counted = record { rose = did.rose; never_falls = did.never_falls };
     }
 
 -- a line is refused, and nothing is kept
@@ -401,7 +401,7 @@ ran_shows node keys host o o' ds r before all f goes =
       may = (tt, tt);
       state = ap (λ (w : Outside). record { keys = keys; host = host; records = r; outside = w }) went.state;
       entries = went.entries;
-      counted = record { rose = tt; never_falls = omega arith };
+      counted = counted_kept (Shows_values node) f f refl (omega arith);
     }
 
 -- the stored values of a node are shown

@@ -29,7 +29,7 @@ use Rattle.world_model.specs.Events.{Event, Outside_does, Refuses, Restarts, Ope
 use Rattle.world_model.specs.Did.{Nothing, Run, Does, Stops, is_keeper_fault}
 use Rattle.world_model.specs.Prefixes.{RestartPrefix}
 use Rattle.world_model.specs.Lines.{IsRestart, restart_events}
-use Rattle.world_model.proofs.Doing.{ran_both, stopped_later}
+use Rattle.world_model.proofs.Doing.{counted_kept, ran_both, stopped_later}
 use Rattle.world_model.proofs.Outside.{ran_outside}
 use Rattle.world_step.specs.Scene.{scene_of}
 use Rattle.world_step.proofs.Scenes.{stopped_still}
@@ -51,7 +51,7 @@ starts keys number host host' o ds r before f g opens falls = record {
   may = (opens_from keys number r host' opens, tt);
   state = ap (λ (d : Rest). machine keys (record { decoder = d; state = host'.state }) o r ds) (ap (λ (h : HostParts). h.decoder) opens.state);
   entries = sym (append-nil before);
-  counted = record { rose = tt; never_falls = falls };
+  counted = counted_kept (Restarts host'.state) f g refl falls;
 }
 
 pub restarted : (keys : Keys) (number : ℕ) (host host' : HostParts) (o o' : OuterState) (ds : List State) (r r' : Option (List (List ℕ))) (before all : List Entry) (f g : ℕ)

@@ -1,6 +1,6 @@
 -- What calls of the parts of a world are as events of the machine, beside those of `world_step`.
-use Rattle.std.proofs.Common.{◌≡◌, ℕ, ◌≤◌, Bool, true, false, List, [], ◌∷◌, ◌++◌, refl, ap, sym, ◌∙◌, subst}
-use Rattle.std.specs.Prelude.{Option, Some, None, ◌||◌}
+use Rattle.std.proofs.Common.{◌≡◌, ℕ, ◌≤◌, true, List, [], ◌∷◌, ◌++◌, refl, ap, sym, ◌∙◌, subst}
+use Rattle.std.specs.Prelude.{Option, Some, None}
 use Rattle.std.proofs.lemmas.List.{append-nil}
 use Rattle.s0_crypto.specs.declared.key_pair.Keys.{Keys}
 use Rattle.device_sim.specs.State.{State}
@@ -11,6 +11,7 @@ use Rattle.zw_text.specs.declared.entry.Refusal.{Refusal}
 use Rattle.host_keep.specs.Keeping.{OptAdds}
 use Rattle.host_model.specs.State.{HostParts}
 use Rattle.host_model.specs.Did.{RoseIf}
+use Rattle.host_model.proofs.Doing.{rose_one}
 use Rattle.outside_model.specs.State.{OuterState, Outside, outside}
 use Rattle.outside_model.specs.Events.{OuterEvent, Host_notes, is_own}
 use Rattle.outside_model.specs.Did.{Run as RunOutside, Goes, GoesFor, PrefixOf as PrefixOfOutside, Stops as StopsOutside}
@@ -20,6 +21,7 @@ use Rattle.world_model.specs.Refusals.{IsRefused}
 use Rattle.world_model.specs.Events.{Event, Outside_does, Refuses, happens, entries, May}
 use Rattle.world_model.specs.Did.{Schedule, Scene, Run, Does, PrefixOf, Stops, These, is_keeper_fault}
 use Rattle.world_model.specs.Settling.{Outside as OutsideOf}
+use Rattle.world_model.proofs.Doing.{counted_one}
 use Rattle.world_model.proofs.Outside.{ran_outside}
 use Rattle.world_step.specs.Scene.{scene_of}
 use Rattle.world_step.proofs.Scenes.{stopped_out, prefixes_of, prefix_of}
@@ -52,10 +54,6 @@ stopped_of Kind keys keys' host host' o o' ds ds' r before all f stops =
 
 -- ---- a line is refused
 
-or_false : (b : Bool) → (b || false) ≡ b
-or_false true = refl
-or_false false = refl
-
 pub ran_refuses : (line : Line) (refusal : Refusal) (keys : Keys) (host : HostParts) (o o' : OuterState) (ds : List State) (r : Option (List (List ℕ))) (before all : List Entry) (f g : ℕ)
     → IsRefused (machine keys host o r ds) line refusal → Goes (Host_notes (refused_entry refusal) ∷ []) o o' before all → RoseIf (is_keeper_fault refusal) f g → f ≤ g
     → Run (Refuses line refusal ∷ []) (scene_of keys host o ds r before f) (scene_of keys host o' ds r all g)
@@ -66,7 +64,7 @@ ran_refuses line refusal keys host o o' ds r before all f g may goes rose falls 
       may = (may, tt);
       state = ap (λ (w : Outside). with_outside (machine keys host o r ds) w) went.state;
       entries = went.entries;
-      counted = record { rose = subst (λ (b : Bool). RoseIf b f g) (sym (or_false (is_keeper_fault refusal))) rose; never_falls = falls };
+      counted = counted_one (Refuses line refusal) f g (rose_one (is_keeper_fault refusal) f g falls rose) falls;
     }
 
 -- ---- a part that a call leaves alone

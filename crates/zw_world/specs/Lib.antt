@@ -1,3 +1,4 @@
 pub mod World
 pub mod Effects
+pub mod Keeping
 pub mod Listing

@@ -1,6 +1,6 @@
 //! What each line does of its own.
 
-ghost use Rattle.std.specs.Prelude.{◌≡◌, ◌<◌, ◌^◌, ℕ, length, map, List as Items, Option, OnOk, OnErr};
+ghost use Rattle.std.specs.Prelude.{◌≡◌, ◌≤◌, ◌<◌, ◌^◌, ℕ, length, map, List as Items, Option, OnOk, OnErr, false};
 ghost use Rattle.device_sim.specs.State.{State};
 ghost use Rattle.zw_text.specs.declared.line.Line.TheVariants as line;
 ghost use Rattle.zw_text.specs.declared.entry.Entry.{Entry as TheEntry};
@@ -9,6 +9,7 @@ ghost use Rattle.world_model.specs.Prefixes.{EffectPrefix};
 ghost use Rattle.world_model.specs.Lines.{IsEffect};
 ghost use Rattle.zw_world.specs.World.{scene};
 ghost use Rattle.zw_world.specs.Effects.{IsSetting, IsAsked, is_tick, asks_or_sets};
+ghost use Rattle.zw_world.specs.Keeping.{GoesOn, KeepsOrRefuses};
 
 use crate::World;
 use device_sim::Device;
@@ -37,6 +38,9 @@ impl World {
             (scene self.old (map (λ d. state d) devices.old.items) (P.records keeper.old) out.old.items (P.faults keeper.old))
             (scene self.new (map (λ d. state d) devices.new.items) (P.records keeper.new) out.new.items (P.faults keeper.new))) }
         ensures kept { length devices.new.items ≡ length devices.old.items }
+        ensures goes_on { GoesOn (P.number keeper.old) (P.number keeper.new) (P.reads keeper.old) (P.reads keeper.new) }
+        ensures keeps { OnOk result (self.old.outer.in_tick ≡ false → KeepsOrRefuses line.now out.old.items out.new.items (P.number keeper.old) (P.number keeper.new)
+            (P.reads keeper.old) (P.reads keeper.new)) }
     {
         match line {
             Line::Command { order } => self.command(order, keeper, out),
@@ -119,6 +123,10 @@ impl World {
         ensures err { OnErr result ((ds : Items State) →
             Stops Nothing (scene self.old ds (P.records keeper.old) out.old.items (P.faults keeper.old))
             (scene self.new ds (P.records keeper.new) out.new.items (P.faults keeper.new))) }
+        ensures never_fewer { P.number keeper.old ≤ P.number keeper.new }
+        ensures reads { P.reads keeper.new ≡ P.reads keeper.old }
+        ensures keeps { OnOk result (self.old.outer.in_tick ≡ false → KeepsOrRefuses (line.Command order.now) out.old.items out.new.items (P.number keeper.old) (P.number keeper.new)
+            (P.reads keeper.old) (P.reads keeper.new)) }
     {
         match self.sides.host.command(order, keeper) {
             Ok(command) => self.sides.outer.note(
@@ -197,6 +205,8 @@ impl World {
         ensures err { OnErr result (Stops Nothing
             (scene self.old (map (λ d. state d) devices.now.items) (P.records keeper.old) out.old.items (P.faults keeper.old))
             (scene self.new (map (λ d. state d) devices.now.items) (P.records keeper.new) out.new.items (P.faults keeper.new))) }
+        ensures never_fewer { P.number keeper.old ≤ P.number keeper.new }
+        ensures reads { P.reads keeper.new ≡ P.reads keeper.old }
     {
         match self.sides.host.join(node, keeper) {
             Ok(()) => self.sides.outer.join(node, devices),
@@ -217,6 +227,8 @@ impl World {
         ensures err { OnErr result ((ds : Items State) →
             Stops Nothing (scene self.old ds (P.records keeper.old) out.old.items (P.faults keeper.old))
             (scene self.new ds (P.records keeper.new) out.new.items (P.faults keeper.new))) }
+        ensures never_fewer { P.number keeper.old ≤ P.number keeper.new }
+        ensures reads { P.reads keeper.new ≡ P.reads keeper.old }
     {
         match self.sides.host.cancel(command, keeper) {
             Ok(()) => self.sides.outer.note(

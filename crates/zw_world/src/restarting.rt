@@ -1,6 +1,6 @@
 //! The host stops, and a new one starts from the records.
 
-ghost use Rattle.std.specs.Prelude.{◌≡◌, ◌∷◌, [], Some, List as Items, OnOk, OnErr, IfOk};
+ghost use Rattle.std.specs.Prelude.{◌≡◌, ◌∷◌, [], Some, List as Items, OnOk, OnErr, IfOk, false};
 ghost use Rattle.device_sim.specs.State.{State};
 ghost use Rattle.zw_words.specs.declared.side.Side.TheVariants as side;
 ghost use Rattle.zw_text.specs.declared.line.Line.TheVariants as line;
@@ -13,6 +13,7 @@ ghost use Rattle.world_model.specs.Prefixes.{RestartPrefix};
 ghost use Rattle.world_model.specs.Lines.{IsEffect};
 ghost use Rattle.zw_world.specs.World.{scene};
 ghost use Rattle.zw_world.specs.Effects.{ClearsInPart, shown_unopened};
+ghost use Rattle.zw_world.specs.Keeping.{GoesOn, KeepsOrRefuses};
 
 use crate::World;
 use host_core::{Host, OpenFault};
@@ -33,6 +34,9 @@ impl World {
         ensures err { OnErr result ((ds : Items State) →
             Stops RestartPrefix (scene self.old ds (P.records keeper.old) out.old.items (P.faults keeper.old))
             (scene self.new ds (P.records keeper.new) out.new.items (P.faults keeper.new))) }
+        ensures goes_on { GoesOn (P.number keeper.old) (P.number keeper.new) (P.reads keeper.old) (P.reads keeper.new) }
+        ensures keeps { OnOk result (self.old.outer.in_tick ≡ false → KeepsOrRefuses line.Restart out.old.items out.new.items (P.number keeper.old) (P.number keeper.new)
+            (P.reads keeper.old) (P.reads keeper.new)) }
     {
         match Host::open(self.sides.alloc, self.key, keeper) {
             Ok(host) => self.go_on_with(host, out),

@@ -1,9 +1,10 @@
 //! The world, and its lines.
 
-ghost use Rattle.std.specs.Prelude.{◌≡◌, ◌<◌, ◌^◌, length, map, IfOk, OnOk, OnErr};
+ghost use Rattle.std.specs.Prelude.{◌≡◌, ◌<◌, ◌^◌, length, map, IfOk, OnOk, OnErr, false};
 ghost use Rattle.world_model.specs.Did.{Does, Stops};
 ghost use Rattle.world_model.specs.Prefixes.{LineRestPrefix, LinePrefix};
 ghost use Rattle.world_model.specs.Lines.{IsLine, IsLineRest};
+ghost use Rattle.zw_world.specs.Keeping.{GoesOn, KeepsOrRefuses};
 ghost use Rattle.zw_world.specs.World.{first_world, scene};
 
 use device_sim::Device;
@@ -69,6 +70,9 @@ impl World {
             (scene self.old (map (λ d. state d) devices.old.items) (P.records keeper.old) out.old.items (P.faults keeper.old))
             (scene self.new (map (λ d. state d) devices.new.items) (P.records keeper.new) out.new.items (P.faults keeper.new))) }
         ensures kept { length devices.new.items ≡ length devices.old.items }
+        ensures goes_on { GoesOn (P.number keeper.old) (P.number keeper.new) (P.reads keeper.old) (P.reads keeper.new) }
+        ensures keeps { OnOk result (KeepsOrRefuses line.now out.old.items out.new.items (P.number keeper.old) (P.number keeper.new)
+            (P.reads keeper.old) (P.reads keeper.new)) }
     {
         self.sides.outer.begin_line();
         self.run_line(line, devices, draw, keeper, out)
@@ -91,6 +95,9 @@ impl World {
             (scene self.old (map (λ d. state d) devices.old.items) (P.records keeper.old) out.old.items (P.faults keeper.old))
             (scene self.new (map (λ d. state d) devices.new.items) (P.records keeper.new) out.new.items (P.faults keeper.new))) }
         ensures kept { length devices.new.items ≡ length devices.old.items }
+        ensures goes_on { GoesOn (P.number keeper.old) (P.number keeper.new) (P.reads keeper.old) (P.reads keeper.new) }
+        ensures keeps { OnOk result (self.old.outer.in_tick ≡ false → KeepsOrRefuses line.now out.old.items out.new.items (P.number keeper.old) (P.number keeper.new)
+            (P.reads keeper.old) (P.reads keeper.new)) }
     {
         if let Line::Tick { count } = line {
             return self.sides.ticks(*count, devices, draw, keeper, out);

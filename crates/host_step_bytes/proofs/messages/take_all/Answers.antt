@@ -14,6 +14,8 @@ loop-message-init g c =
     record {
       taken = does_nothing (AreTaken c.args.core.now.state c.args.node c.args.payload.now c.args.sealed []) a a refl refl refl (none_added a.shelf.records) (omega arith);
       decoder = refl;
+      never_fewer = omega arith;
+      reads = refl;
     }
 
 pub loop-message-preserved : goal.loop-message-preserved
@@ -24,6 +26,8 @@ loop-message-preserved g c =
     record {
       taken = message_taken (record { one = c.messages_go_on.ensures.one; both = c.messages_go_on.ensures.both }) c.args.node c.args.payload.now c.args.sealed c.args.messages.now c.loop-message.message-index c.message-item.result a b d c.message-item.is (omega arith) c.loop-message.invariant.taken c.in_ok-take.ensures.ok;
       decoder = c.in_ok-take.ensures.decoder ∙ c.loop-message.invariant.decoder;
+      never_fewer = omega (arith, c.loop-message.invariant.never_fewer, c.take.ensures.never_fewer);
+      reads = c.take.ensures.reads ∙ c.loop-message.invariant.reads;
     }
 
 pub returns-in_err-take-clause-err : goal.returns-in_err-take-clause-err

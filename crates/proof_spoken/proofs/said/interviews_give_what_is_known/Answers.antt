@@ -5,7 +5,10 @@ pub returns-clause-first : goal.returns-clause-first
 returns-clause-first c = first_known
 
 pub returns-clause-lines : goal.returns-clause-lines
-returns-clause-lines c = λ listing. lines_know c.a_restart_needs_the_records_alone.ensures.others listing
+returns-clause-lines c = λ listing past m lines are tells knows. (lines_know c.a_restart_needs_the_records_alone.ensures.others listing past m lines are tells knows).0
+
+pub returns-clause-end : goal.returns-clause-end
+returns-clause-end c = λ listing past m lines are tells knows. (lines_know c.a_restart_needs_the_records_alone.ensures.others listing past m lines are tells knows).1
 
 pub returns-clause-again : goal.returns-clause-again
 returns-clause-again c = same_records c.texts_give_one_thing.ensures.one

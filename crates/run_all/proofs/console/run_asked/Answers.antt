@@ -8,7 +8,7 @@ pub returns-in-Sim : goal.returns-in-Sim
 unfolding Does HasGoodInputFor ComesToItsEnd
 returns-in-Sim g c = as_asked c.in-Sim.is (record {
   does = c.run_sim.ensures.ran;
-  known = sim_is _ _ _ _ _ _ _ _ _ _ _ _ _ c.run_sim.ensures.ran;
+  known = sim_is _ _ _ _ _ _ _ _ _ _ _ _ _ _ _ _ _ c.run_sim.ensures.ran;
   read_fault = c.run_sim.ensures.read_fault;
   write_fault = c.run_sim.ensures.write_fault;
   complete = λ good free. c.run_sim.ensures.complete good free.read free.written;
@@ -19,7 +19,7 @@ returns-in-Sim g c = as_asked c.in-Sim.is (record {
 pub returns-in-Check : goal.returns-in-Check
 unfolding Does HasGoodInputFor ComesToItsEnd
 returns-in-Check g c = as_asked c.in-Check.is (record {
-  does = (c.run_check.ensures.checked, record { devices = refl; kept = refl; records = refl; faults = refl });
+  does = (c.run_check.ensures.checked, record { devices = refl; kept = refl; records = refl; faults = refl; reads = refl });
   known = checked_is _ _ _ _ _ _ c.run_check.ensures.checked;
   read_fault = c.run_check.ensures.read_fault;
   write_fault = c.run_check.ensures.write_fault;
@@ -55,7 +55,7 @@ returns-in-Replay g c = as_asked c.in-Replay.is (record {
 pub returns-in-Events : goal.returns-in-Events
 unfolding Does HasGoodInputFor ComesToItsEnd
 returns-in-Events g c = as_asked c.in-Events.is (record {
-  does = (c.run_events.ensures.ran, record { devices = refl; kept = refl; records = refl; faults = refl });
+  does = (c.run_events.ensures.ran, record { devices = refl; kept = refl; records = refl; faults = refl; reads = refl });
   known = events_is _ _ _ _ _ c.run_events.ensures.ran;
   read_fault = c.run_events.ensures.read_fault;
   write_fault = c.run_events.ensures.write_fault;
@@ -67,7 +67,7 @@ returns-in-Events g c = as_asked c.in-Events.is (record {
 pub returns-in-Include : goal.returns-in-Include
 unfolding Does HasGoodInputFor ComesToItsEnd
 returns-in-Include g c = as_asked c.in-Include.is (record {
-  does = (c.run_include.ensures.ran, record { devices = refl; kept = refl; records = refl; faults = refl });
+  does = (c.run_include.ensures.ran, record { devices = refl; kept = refl; records = refl; faults = refl; reads = refl });
   known = include_is _ _ _ _ _ _ c.run_include.ensures.ran;
   read_fault = c.run_include.ensures.read_fault;
   write_fault = c.run_include.ensures.write_fault;
@@ -85,7 +85,7 @@ returns-in-Host g c = as_asked c.in-Host.is
 pub returns-in-Audit : goal.returns-in-Audit
 unfolding Does HasGoodInputFor ComesToItsEnd
 returns-in-Audit g c = as_asked c.in-Audit.is (record {
-  does = (c.run_audit.ensures.audited, record { devices = refl; kept = refl; records = refl; faults = refl });
+  does = (c.run_audit.ensures.audited, record { devices = refl; kept = refl; records = refl; faults = refl; reads = refl });
   known = audited_is _ _ _ _ _ c.run_audit.ensures.audited;
   read_fault = c.run_audit.ensures.read_fault;
   write_fault = c.run_audit.ensures.write_fault;

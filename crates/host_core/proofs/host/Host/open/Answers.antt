@@ -7,7 +7,8 @@ use Rattle.host_core.specs.Network.{keys_of}
 use Rattle.host_core.specs.Opening.{Takes, MayTakeNone}
 use Rattle.host_core.specs.declared.opening.OpenFault.{OpenFault}
 use Rattle.host_core.specs.declared.opening.OpenFault.TheVariants.{BadRecord}
-use Rattle.host_core.proofs.Opened.{TookUp, fresh, same_keys, took_none, took_more, first_bad, opens, read_none, read_more}
+use Rattle.host_model.proofs.Doing.{rose_less}
+use Rattle.host_core.proofs.Opened.{TookUp, fresh, same_keys, took_none, took_more, first_bad, opens, read_none, read_more, read_on}
 use Rattle.host_core.proofs.host.Host.open.Goals as goal
 
 fault_is : {A : Type 0} (fault : OpenFault) (at : ℕ) → (let r : Result A OpenFault = Err fault in r) ≡ Err (BadRecord at) → fault ≡ BadRecord at
@@ -38,6 +39,16 @@ loop-at-preserved g c =
       reads = read_more at (g.P.Keeper.reads c.args.keeper.now) (g.P.Keeper.reads c.loop-at.keeper) (g.P.Keeper.reads c.take_up.new.keeper) so_far.reads c.in_default.ensures.reads;
       never_falls = omega (arith, so_far.never_falls, c.take_up.ensures.never_falls);
     }
+
+pub returns-in_err-core-clause-reads_never_fall : goal.returns-in_err-core-clause-reads_never_fall
+returns-in_err-core-clause-reads_never_fall g c = read_none (g.P.Keeper.reads c.args.keeper.now)
+
+pub returns-in-Err-clause-reads_never_fall : goal.returns-in-Err-clause-reads_never_fall
+returns-in-Err-clause-reads_never_fall g c =
+    read_on c.loop-at.at (g.P.Keeper.reads c.args.keeper.now) (g.P.Keeper.reads c.loop-at.keeper) (g.P.Keeper.reads c.take_up.new.keeper) c.loop-at.invariant.reads c.take_up.ensures.read
+
+pub returns-clause-reads_never_fall : goal.returns-clause-reads_never_fall
+returns-clause-reads_never_fall g c = rose_less 0 c.loop-at.at (g.P.Keeper.reads c.args.keeper.now) (g.P.Keeper.reads c.loop-at.keeper) (omega arith) c.loop-at.invariant.reads
 
 pub returns-in-Err-clause-bad : goal.returns-in-Err-clause-bad
 returns-in-Err-clause-bad g c = λ at texts e told.

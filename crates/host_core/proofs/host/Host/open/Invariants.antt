@@ -1,6 +1,6 @@
 use Rattle.std.proofs.Common.{◌≡◌, ◌≤◌}
+use Rattle.host_model.specs.Did.{RoseBy}
 use Rattle.host_core.specs.Network.{keys_of}
-use Rattle.host_core.specs.Opening.{ReadEach}
 use Rattle.host_core.proofs.Opened.{TookUp}
 use Rattle.host_core.proofs.host.Host.open.Given as goal
 
@@ -9,6 +9,6 @@ invariant-loop-at g l = record {
   took : TookUp (keys_of l.fn.key) (g.P.Keeper.records l.fn.keeper) l.at l.core;
   number : g.P.Keeper.number l.keeper ≡ g.P.Keeper.number l.fn.keeper;
   records : g.P.Keeper.records l.keeper ≡ g.P.Keeper.records l.fn.keeper;
-  reads : ReadEach l.at (g.P.Keeper.reads l.fn.keeper) (g.P.Keeper.reads l.keeper);
+  reads : RoseBy l.at (g.P.Keeper.reads l.fn.keeper) (g.P.Keeper.reads l.keeper);
   never_falls : g.P.Keeper.faults l.fn.keeper ≤ g.P.Keeper.faults l.keeper;
 }

@@ -1,5 +1,5 @@
 -- An order is accepted, or refused.
-use Rattle.std.proofs.Common.{[], ◌∷◌, refl, ap}
+use Rattle.std.proofs.Common.{[], ◌∷◌, refl, inl, inr, ap}
 use Rattle.std.specs.Prelude.{Err}
 use Rattle.zw_text.specs.declared.line.Line.TheVariants.{Command}
 use Rattle.host_orders.specs.declared.refused.Refused.{Refused}
@@ -7,7 +7,9 @@ use Rattle.host_model.specs.Events.{Accepts}
 use Rattle.host_model.specs.Asking.{carriage_for, refusal_for}
 use Rattle.world_model.specs.Refusals.{shown}
 use Rattle.world_model.specs.Events.{Host_does}
+use Rattle.world_step.proofs.Scenes.{ok_then}
 use Rattle.zw_world.specs.contracts.world.World.{the_view}
+use Rattle.zw_world.proofs.Keeping.{refuses_next}
 use Rattle.zw_world.proofs.Asking.{accepted, event_stops, refusal_done, refusal_stops, judged_as, rose_entered}
 use Rattle.zw_world.proofs.world.World.command.Goals as goal
 
@@ -38,3 +40,11 @@ returns-in-Err-clause-err g c =
     let w = the_view c.self.inside in
     rw (← c.self.view_is) (refusal_stops c.refused.result w.keys c.refused.new.self.keys w.host c.refused.new.self.host w.outer c.refused.new.self.outer (g.P.Keeper.records c.args.keeper.now) (g.P.Keeper.records c.command.new.keeper)
     c.args.out.now.items c.refused.new.out.items (g.P.Keeper.faults c.args.keeper.now) (g.P.Keeper.faults c.command.new.keeper) c.in-Err.ensures.no_record c.in-Err.ensures.never_falls c.refused.ensures.err)
+
+pub returns-in-Ok-clause-keeps : goal.returns-in-Ok-clause-keeps
+returns-in-Ok-clause-keeps g c = ok_then c.note.result c.note.ensures.ok (λ goes quiet. inl c.in-Ok.ensures.more)
+
+pub returns-in-Err-clause-keeps : goal.returns-in-Err-clause-keeps
+returns-in-Err-clause-keeps g c =
+    let w = the_view c.self.inside in
+    rw (← c.self.view_is) (ok_then c.refused.result c.refused.ensures.ok (λ done quiet. inr (refuses_next done.0 _ _ _ _ quiet done.2)))

@@ -1,11 +1,12 @@
 -- Each line by its arm.
-use Rattle.std.proofs.Common.{refl, arith}
+use Rattle.std.proofs.Common.{refl, inl, arith}
 use Rattle.outside_model.specs.Schedules.{IsRepeat, IsWake, IsSet}
 use Rattle.outside_model.specs.Events.{Shows}
 use Rattle.world_model.specs.Prefixes.{EffectPrefix}
 use Rattle.world_model.proofs.Schedules.{repeat_own, wake_own, set_own}
 use Rattle.world_step.proofs.Scenes.{ok_then, err_then, did_of, stopped_still}
 use Rattle.zw_world.specs.contracts.world.World.{the_view}
+use Rattle.zw_world.proofs.Keeping.{goes_unread, goes_still, keeps_as, keeps_or_as, keeps_any}
 use Rattle.zw_world.proofs.Scenes.{did_run, stopped_of}
 use Rattle.zw_world.proofs.Steps.{effect_as, prefix_as, none_in, nothing_in, left_of}
 use Rattle.zw_world.proofs.world.World.effect.Goals as goal
@@ -91,3 +92,54 @@ returns-in_default-clause-ok g c = ok_then c.ask_or_set.result c.ask_or_set.ensu
 pub returns-in_default-clause-err : goal.returns-in_default-clause-err
 returns-in_default-clause-err g c = err_then c.ask_or_set.result c.ask_or_set.ensures.err
     (λ same. stopped_still (EffectPrefix c.args.line.now) c.args.self.now.keys c.ask_or_set.new.self.keys c.args.self.now.host c.ask_or_set.new.self.host c.args.self.now.outer c.ask_or_set.new.self.outer _ (g.P.Keeper.records c.args.keeper.now) (g.P.Keeper.records c.args.keeper.now) c.args.out.now.items c.ask_or_set.new.out.items (g.P.Keeper.faults c.args.keeper.now) (g.P.Keeper.faults c.args.keeper.now) (none_in c.args.line.now _) refl same (omega arith))
+
+pub returns-in-Command-clause-goes_on : goal.returns-in-Command-clause-goes_on
+returns-in-Command-clause-goes_on g c = goes_unread _ _ _ _ c.command.ensures.never_fewer c.command.ensures.reads
+
+pub returns-in-Join-clause-goes_on : goal.returns-in-Join-clause-goes_on
+returns-in-Join-clause-goes_on g c = goes_unread _ _ _ _ c.join.ensures.never_fewer c.join.ensures.reads
+
+pub returns-in-Cancel-clause-goes_on : goal.returns-in-Cancel-clause-goes_on
+returns-in-Cancel-clause-goes_on g c = goes_unread _ _ _ _ c.cancel.ensures.never_fewer c.cancel.ensures.reads
+
+pub returns-in-Command-clause-keeps : goal.returns-in-Command-clause-keeps
+returns-in-Command-clause-keeps g c = ok_then c.command.result c.command.ensures.keeps (λ keeps quiet. keeps_or_as _ _ _ _ _ _ _ _ c.in-Command.is (keeps quiet))
+
+pub returns-in-Restart-clause-keeps : goal.returns-in-Restart-clause-keeps
+returns-in-Restart-clause-keeps g c = ok_then c.restart.result c.restart.ensures.keeps (λ keeps quiet. keeps_or_as _ _ _ _ _ _ _ _ c.in-Restart.is (keeps quiet))
+
+pub returns-in-Join-clause-keeps : goal.returns-in-Join-clause-keeps
+returns-in-Join-clause-keeps g c = ok_then c.join.result c.join.ensures.ok (λ done quiet. inl (keeps_as _ _ _ _ _ _ c.in-Join.is tt))
+
+pub returns-in-Cancel-clause-keeps : goal.returns-in-Cancel-clause-keeps
+returns-in-Cancel-clause-keeps g c = ok_then c.cancel.result c.cancel.ensures.ok (λ done quiet. inl (keeps_as _ _ _ _ _ _ c.in-Cancel.is tt))
+
+pub returns-in-Repeat-clause-keeps : goal.returns-in-Repeat-clause-keeps
+returns-in-Repeat-clause-keeps g c = ok_then c.repeat.result c.repeat.ensures.ok (λ done quiet. inl (keeps_as _ _ _ _ _ _ c.in-Repeat.is tt))
+
+pub returns-in-Wake-clause-keeps : goal.returns-in-Wake-clause-keeps
+returns-in-Wake-clause-keeps g c = ok_then c.wake.result c.wake.ensures.ok (λ done quiet. inl (keeps_as _ _ _ _ _ _ c.in-Wake.is tt))
+
+pub returns-in-Local-clause-keeps : goal.returns-in-Local-clause-keeps
+returns-in-Local-clause-keeps g c = ok_then c.local.result c.local.ensures.ok (λ done quiet. inl (keeps_as _ _ _ _ _ _ c.in-Local.is tt))
+
+pub returns-in-Show-clause-keeps : goal.returns-in-Show-clause-keeps
+returns-in-Show-clause-keeps g c = ok_then c.show.result c.show.ensures.ok (λ done quiet. inl (keeps_as _ _ _ _ _ _ c.in-Show.is tt))
+
+pub returns-in-Repeat-clause-goes_on : goal.returns-in-Repeat-clause-goes_on
+returns-in-Repeat-clause-goes_on g c = goes_still (g.P.Keeper.number c.args.keeper.now) (g.P.Keeper.reads c.args.keeper.now)
+
+pub returns-in-Wake-clause-goes_on : goal.returns-in-Wake-clause-goes_on
+returns-in-Wake-clause-goes_on g c = goes_still (g.P.Keeper.number c.args.keeper.now) (g.P.Keeper.reads c.args.keeper.now)
+
+pub returns-in-Local-clause-goes_on : goal.returns-in-Local-clause-goes_on
+returns-in-Local-clause-goes_on g c = goes_still (g.P.Keeper.number c.args.keeper.now) (g.P.Keeper.reads c.args.keeper.now)
+
+pub returns-in-Show-clause-goes_on : goal.returns-in-Show-clause-goes_on
+returns-in-Show-clause-goes_on g c = goes_still (g.P.Keeper.number c.args.keeper.now) (g.P.Keeper.reads c.args.keeper.now)
+
+pub returns-in_default-clause-goes_on : goal.returns-in_default-clause-goes_on
+returns-in_default-clause-goes_on g c = goes_still (g.P.Keeper.number c.args.keeper.now) (g.P.Keeper.reads c.args.keeper.now)
+
+pub returns-in_default-clause-keeps : goal.returns-in_default-clause-keeps
+returns-in_default-clause-keeps g c = ok_then c.ask_or_set.result c.ask_or_set.ensures.ok (λ done quiet. inl (keeps_any c.args.line.now _ _ _ _ c.in_default.not-Command c.in_default.not-Restart))

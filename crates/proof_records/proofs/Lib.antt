@@ -1,0 +1,5 @@
+mod Cancelled
+mod Walking
+mod Orders
+mod Ended
+pub mod Shown
