@@ -7,7 +7,7 @@ use Rattle.zw_words.specs.declared.side.Side.TheVariants.{Host}
 use Rattle.zw_text.specs.declared.line.Line.{Line}
 use Rattle.zw_text.specs.declared.line.Line.TheVariants as lines
 use Rattle.zw_text.specs.declared.entry.Entry.{Entry}
-use Rattle.zw_text.specs.declared.entry.Entry.TheVariants.{Said, Json, TableValue}
+use Rattle.zw_text.specs.declared.entry.Entry.TheVariants.{Json, TableValue}
 use Rattle.zw_text.specs.Transcript.{line_last}
 use Rattle.law_transcript.specs.Answers.{AnswersAfter, MayCancel, refusals_by_host}
 use Rattle.law_transcript.specs.Lists.{EachAfter}
@@ -19,10 +19,7 @@ use Rattle.law_transcript.specs.Stores.{StoresConfirmed}
 use Rattle.law_transcript.specs.Table.{value_lines}
 use Rattle.law_wire.specs.Links.{KeepsLink}
 use Rattle.law_wire.specs.Serial.{ended}
-use Rattle.law_time.specs.Moments.{KeepsAfter}
-use Rattle.law_time.specs.Choice.{may_follow, may_number, may_send}
-use Rattle.law_time.specs.Queue.{may_queue}
-use Rattle.law_time.specs.Rests.{may_rest, rests_well}
+use Rattle.law_time.specs.Prompt.{IsPromptAfter}
 use Rattle.law_host.specs.Notes.{NotesWhatHappens, Start}
 
 -- ---- values shown
@@ -47,8 +44,7 @@ ShowsValues listing past entry = IsShown listing past (line_last past) entry
 -- ---- the law
 
 -- the host answers lines, has one session of a node at a time and each command in one, keeps the rules of its link, sends and notes what it
--- should, and nothing else; stores what is confirmed and shows what it stored; owes nothing at a rest; and its records, where they are told,
--- say what it showed
+-- should, and nothing else; stores what is confirmed and shows what it stored; is prompt; and its records, where they are told, say what it showed
 pub record IsHostLegal (key : List ℕ) (listing : ℕ → List ℕ) (start : Start) (whole : Bool) (heard : List Entry)
     (records : Option (List (List ℕ))) : Type 0 where
   pub answers : AnswersAfter start.before whole listing (refusals_by_host listing) heard
@@ -61,10 +57,5 @@ pub record IsHostLegal (key : List ℕ) (listing : ℕ → List ℕ) (start : St
   pub values : EachAfter (ShowsValues listing) start.before heard
   pub sends : EachAfter (MayRequest listing key) start.before heard
   pub begins : EachAfter FollowsBegin start.before heard
-  pub fits : KeepsAfter start.before (may_queue listing) heard
-  pub turn : KeepsAfter start.before (may_send listing) heard
-  pub one_by_one : KeepsAfter start.before may_follow heard
-  pub numbers : KeepsAfter start.before may_number heard
-  pub prompt : KeepsAfter start.before (may_rest listing) heard
-  pub rested : whole ≡ true → rests_well listing (start.before ++ heard) (Said []) ≡ true
+  pub prompt : IsPromptAfter start.before whole listing heard
   pub records_kept : whole ≡ true → IfSome records (KeepsRecords (start.before ++ heard))

@@ -1,6 +1,6 @@
 //! What the laws of a legal host and of a legal run say of worked transcripts, and of others with one thing wrong.
 
-ghost use Rattle.std.specs.Prelude.{[], ◌∷◌, false, map, None, Some, true};
+ghost use Rattle.std.specs.Prelude.{[], ◌∷◌, false, List, map, None, Some, true};
 ghost use Rattle.device_stack.specs.State.{State};
 ghost use Rattle.host_keep.specs.RecordText.{record_text};
 ghost use Rattle.law_host.specs.Heard.{heard_by_host};

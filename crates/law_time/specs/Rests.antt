@@ -1,6 +1,6 @@
 -- Rests, and what the host owes at one (this project's own rule): nothing that was asked for is left, no command waits for a node
 -- that is awake, no part of an attempt, and no attempt, is left unsent, none is overdue, and a node that sleeps is kept awake for a reason alone.
-use Rattle.std.specs.Prelude.{◌≡◌, ℕ, ◌+◌, ◌==◌, ◌&&◌, ◌||◌, not, nat_lt, Bool, true, List, [], ◌∷◌, length}
+use Rattle.std.specs.Prelude.{◌≡◌, ℕ, ◌+◌, ◌==◌, ◌&&◌, ◌||◌, not, nat_lt, Bool, true, List, [], ◌∷◌, ◌++◌, length}
 use Rattle.std.specs.List.{flat_map, list_any, list_all}
 use Rattle.zw_text.specs.declared.line.Line.{Line}
 use Rattle.zw_text.specs.declared.line.Line.TheVariants as lines
@@ -9,7 +9,7 @@ use Rattle.zw_text.specs.declared.entry.Entry.TheVariants.{Said, Interviewed, In
 use Rattle.zw_text.specs.Transcript.{joined, shown, line_of, lines_run, lines_done, requests_done, where_same}
 use Rattle.law_transcript.specs.Restarts.{since_restart, ticks_asked}
 use Rattle.law_wire.specs.Links.{lasts}
-use Rattle.law_time.specs.Moments.{Keeps, now_at}
+use Rattle.law_time.specs.Moments.{KeepsAfter, now_at}
 use Rattle.law_time.specs.Judged.{acknowledged, frames_come}
 use Rattle.law_time.specs.Requests.{asked, are_none}
 use Rattle.law_time.specs.Ends.{is_over, owes_abort}
@@ -99,7 +99,11 @@ may_rest listing past (Said words) = rests_well listing past (Said words)
 may_rest listing past (Time tick) = rests_well listing past (Time tick)
 may_rest listing past entry = true
 
--- at each rest nothing is owed
-pub record RestsWell (whole : Bool) (listing : ℕ → List ℕ) (transcript : List Entry) : Type 0 where
-  pub between : Keeps (may_rest listing) transcript
-  pub in_the_end : whole ≡ true → rests_well listing transcript (Said []) ≡ true
+-- at each rest after what stood before nothing is owed
+pub record RestsAfter (before : List Entry) (whole : Bool) (listing : ℕ → List ℕ) (transcript : List Entry) : Type 0 where
+  pub between : KeepsAfter before (may_rest listing) transcript
+  pub in_the_end : whole ≡ true → rests_well listing (before ++ transcript) (Said []) ≡ true
+
+-- at each rest of a transcript
+abbrev pub RestsWell : Bool → (ℕ → List ℕ) → List Entry → Type 0
+RestsWell whole listing transcript = RestsAfter [] whole listing transcript

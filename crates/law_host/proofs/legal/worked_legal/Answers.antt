@@ -11,6 +11,7 @@ use Rattle.law_wire.specs.Serial.{ended}
 use Rattle.law_time.specs.Choice.{may_follow, may_number, may_send}
 use Rattle.law_time.specs.Queue.{may_queue}
 use Rattle.law_time.specs.Rests.{may_rest}
+use Rattle.law_time.specs.Unanswered.{may_give_up}
 use Rattle.law_host.specs.Heard.{heard_by_host}
 use Rattle.law_host.specs.Notes.{first_start}
 use Rattle.law_host.specs.Worked.{all_kept}
@@ -52,12 +53,14 @@ returns c = record {
     values = (tt, (tt, (tt, (tt, (tt, (tt, (tt, (tt, (tt, (tt, (tt, (tt, (tt, tt)))))))))))));
     sends = (tt, (tt, (tt, (tt, (tt, (tt, (tt, (tt, (tt, (tt, (tt, (tt, (tt, tt)))))))))))));
     begins = (tt, (tt, (tt, (tt, (tt, (tt, (tt, (tt, (tt, (tt, (tt, (tt, (tt, tt)))))))))))));
-    fits = kept (may_queue listing) lines refl;
-    turn = kept (may_send listing) lines refl;
-    one_by_one = kept may_follow lines refl;
-    numbers = kept may_number lines refl;
-    prompt = kept (may_rest listing) lines refl;
-    rested = λ whole. refl;
+    prompt = record {
+      fits = kept (may_queue listing) lines refl;
+      turn = kept (may_send listing) lines refl;
+      one_by_one = kept may_follow lines refl;
+      numbers = kept may_number lines refl;
+      gives_up = record { between = kept (may_give_up listing) lines refl; in_the_end = λ whole. refl };
+      rests = record { between = kept (may_rest listing) lines refl; in_the_end = λ whole. refl };
+    };
     records_kept = λ whole. tt;
   };
 }
