@@ -13,7 +13,7 @@ use Rattle.chip_sim.specs.declared.chip.Chip.TheInside.{Inside}
 use Rattle.chip_sim.specs.Events.{ChipEvent, Judged, after, outs, May}
 use Rattle.chip_sim.specs.Did.{Did, judged_all, Fed, FedPrefix}
 use Rattle.chip_sim.specs.declared.out.ChipOut.{ChipOut}
-use Rattle.chip_sim.proofs.Doing.{did_nothing, did_one, did_both}
+use Rattle.chip_sim.proofs.EventLists.{did_nothing, did_one, did_both}
 
 goes-append : (a : Rest) (s : List Signal) (b : Rest) (i : List Item) (t : List Signal) (c : Rest) (j : List Item) → GoesOn a s b i → GoesOn b t c j → GoesOn a (s ++ t) c (i ++ j)
 goes-append a s b i t c j first later stream items splits =

@@ -1,5 +1,5 @@
 pub mod Calls
-pub mod Doing
+pub mod EventLists
 pub mod Feeding
 pub mod Histories
 pub mod Links

@@ -18,7 +18,7 @@ use Rattle.serial_link.specs.declared.turn.Turn.TheVariants.{Idle, Copied, Pause
 use Rattle.serial_link.specs.declared.out.LinkOut.{LinkOut}
 use Rattle.serial_link.specs.declared.out.LinkOut.TheVariants.{Write as Writes, Failed}
 use Rattle.serial_link.proofs.Counting.{outs_of-append}
-use Rattle.serial_link.proofs.Keeping.{side_hears_all, side_ticks_after, side_submits, side_asks}
+use Rattle.serial_link.proofs.RulesKept.{side_hears_all, side_ticks_after, side_submits, side_asks}
 use Rattle.route_table.specs.declared.route.Route.{Route}
 use Rattle.chip_functions.specs.declared.request.Request.{Request}
 use Rattle.chip_functions.specs.declared.request.Request.TheVariants.{GetInitData, GetCapabilities, SendData, GetVersion, SendDataAbort, MemoryGetId, GetNodeProtocolInfo, AddNode, RequestNodeInfo, IsFailedNode, GetRoutingInfo}

@@ -14,7 +14,7 @@ use Rattle.host_model.specs.After.{after}
 use Rattle.host_core.specs.Orders.{question_event}
 use Rattle.host_core.specs.declared.orders.Question.{Question}
 use Rattle.host_step_bytes.specs.Calls.{beside, Does, DoesAlone, Are}
-use Rattle.host_step_bytes.proofs.Doing.{does_one, one_alone}
+use Rattle.host_step_bytes.proofs.CallLists.{does_one, one_alone}
 use Rattle.zw_base.specs.declared.order.Word.{Word}
 use Rattle.zw_base.specs.declared.order.Order.{Order}
 use Rattle.class_core.specs.Spelling.{form}

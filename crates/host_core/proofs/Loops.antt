@@ -17,9 +17,9 @@ use Rattle.host_model.specs.Did.{after_all, is_unkept, Shelf}
 use Rattle.host_model.specs.Pumping.{no_more_event, LetsSome, LetsSleep}
 use Rattle.host_model.specs.Ticking.{first_ticks, tick_events, ticking_nodes, TickedTo}
 use Rattle.host_model.specs.declared.out.HostOut.{HostOut}
-use Rattle.host_model.proofs.Doing.{after_all-append}
+use Rattle.host_model.proofs.EventLists.{after_all-append}
 use Rattle.host_step_bytes.specs.Calls.{beside, Does, Stops, DoesAlone, StopsAlone, Are}
-use Rattle.host_step_bytes.proofs.Doing.{nothing_alone, one_alone, alone_then, does_as}
+use Rattle.host_step_bytes.proofs.CallLists.{nothing_alone, one_alone, alone_then, does_as}
 
 -- ---- ticks of nodes
 

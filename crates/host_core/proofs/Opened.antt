@@ -13,7 +13,7 @@ use Rattle.host_keep.specs.Kept.{Kept, first_kept, after_all as kept_after_all, 
 use Rattle.host_keep.specs.Legal.{AreTextsOf, AreLegal, IsFirstBad, first_illegal, is_legal}
 use Rattle.host_model.specs.State.{HostState, HostParts, first_host}
 use Rattle.host_model.specs.Did.{RoseBy}
-use Rattle.host_model.proofs.Doing.{rose_less}
+use Rattle.host_model.proofs.EventLists.{rose_less}
 use Rattle.host_model.specs.Restoring.{may_restore, restored}
 use Rattle.host_model.specs.Opening.{restored_all, restarted}
 use Rattle.host_model.specs.Holding.{HoldsAlone}

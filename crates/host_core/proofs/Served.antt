@@ -20,7 +20,7 @@ use Rattle.host_model.specs.May.{May, IsFree, IsServed}
 use Rattle.host_model.specs.Pumping.{IsNext, IsServedBy, GivesNext}
 use Rattle.host_model.specs.declared.out.HostOut.{HostOut}
 use Rattle.host_step_bytes.specs.Calls.{Scene, Does, DoesAlone, One}
-use Rattle.host_step_bytes.proofs.Doing.{does_one, does_kept, one_alone}
+use Rattle.host_step_bytes.proofs.CallLists.{does_one, does_kept, one_alone}
 use Rattle.host_core.proofs.Submitted.{served_is_next, abort_is_next, prefix_is_next}
 
 pub some_unless_none : {X : Type 0} (o : Option X) → (o ≡ None → ⊥) → IsSome o

@@ -9,7 +9,7 @@ use Rattle.host_model.specs.Did.{after_all}
 use Rattle.host_model.specs.May.{IsFree, IsServed}
 use Rattle.host_model.specs.Pumping.{IsNext, IsNextOf, IsNextOfNodes, IsServedBy, IsPumped, SubmitsSome, Submits, LetsSleep, Pumps}
 use Rattle.host_step_bytes.specs.Calls.{Scene, Does, Are, One, Turns}
-use Rattle.host_step_bytes.proofs.Doing.{then_does}
+use Rattle.host_step_bytes.proofs.CallLists.{then_does}
 
 -- what a node that is served gives is next
 pub served_is_next : (h : HostState) (n : ℕ) (event : HostEvent) → IsServed h n → IsServedBy h n (node_of h n).series event → IsNext h event

@@ -2,4 +2,4 @@ mod RowTexts
 pub mod RowsBack
 mod BytesSoFar
 mod NumbersFound
-pub mod Going
+pub mod RecordLists

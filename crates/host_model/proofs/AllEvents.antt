@@ -32,7 +32,7 @@ use Rattle.host_model.specs.May.{May}
 use Rattle.host_model.specs.Did.{after_all, records_all, MayAll}
 use Rattle.host_model.specs.Facts.{HostFacts, IsCommandOf, OwnsCommands}
 use Rattle.host_model.specs.Holding.{Holds}
-use Rattle.host_model.proofs.Going.{going_of, final_session}
+use Rattle.host_model.proofs.OpenSessions.{going_of, final_session}
 use Rattle.host_model.proofs.Steps.{quiet, node_changes, joined, interview_said}
 use Rattle.host_model.proofs.Begun.{begun}
 use Rattle.host_model.proofs.Cancelled.{cancelled_is}

@@ -35,7 +35,7 @@ use Rattle.host_model.specs.After.{node_does, requests_do, is_full, queues_if_ro
 use Rattle.host_model.specs.Records.{seen_records}
 use Rattle.host_model.specs.Facts.{IsCommandOf, OwnsCommands}
 use Rattle.host_model.specs.Holding.{Holds, outcome_kept, as_kept, taken_as}
-use Rattle.host_model.proofs.Going.{going_of}
+use Rattle.host_model.proofs.OpenSessions.{going_of}
 use Rattle.host_model.proofs.NumberedRecords.{changed, with_same, with_other, taken_with}
 use Rattle.host_model.proofs.Outcomes.{Outcomes, cancels_stay}
 use Rattle.host_model.proofs.Values.{confirmed-hearing, get-one}

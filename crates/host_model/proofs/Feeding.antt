@@ -11,7 +11,7 @@ use Rattle.host_model.specs.Events.{HostEvent}
 use Rattle.host_model.specs.Did.{after_all, Shelf, Did}
 use Rattle.host_model.specs.Taking.{IsJudged, AreJudged, Fed, FedPrefix}
 use Rattle.host_model.specs.declared.out.HostOut.{HostOut}
-use Rattle.host_model.proofs.Doing.{after_all-append, did_nothing, did_both}
+use Rattle.host_model.proofs.EventLists.{after_all-append, did_nothing, did_both}
 
 -- items were judged after others
 pub judged-append : (h : HostState) (a b : List Item) (x y : List HostEvent) → AreJudged h a x → AreJudged (after_all h x) b y → AreJudged h (a ++ b) (x ++ y)

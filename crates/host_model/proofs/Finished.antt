@@ -29,7 +29,7 @@ use Rattle.host_model.specs.Facts.{IsCommandOf, IsSound}
 use Rattle.host_model.specs.Holding.{HoldsNode, Holds, Rise, last_ended, commands_of, ended_in, outcome_kept, as_kept, is_cancelled, taken_as}
 use Rattle.host_model.proofs.Rising.{not_later}
 use Rattle.host_model.proofs.Ended.{last_command, commands_of-ending, last_ended-ending, ended_in-ending, last_is_among}
-use Rattle.host_model.proofs.Going.{IsGoing, ended_in-last}
+use Rattle.host_model.proofs.OpenSessions.{IsGoing, ended_in-last}
 use Rattle.host_model.proofs.Places.{both_set, one_set}
 use Rattle.host_model.proofs.NumberedRecords.{taken_with, taken_at}
 use Rattle.host_model.proofs.Outcomes.{Outcomes, outcome_changes, cancels_stay, apart_is}

@@ -1,10 +1,10 @@
-pub mod Doing
+pub mod EventLists
 pub mod Feeding
 pub mod Numbered
 pub mod Owning
 mod Storing
 pub mod Accepted
-mod Keeping
+mod FactsKept
 pub mod Pumps
 mod Rounds
 mod Payloads
@@ -18,7 +18,7 @@ pub mod Values
 mod Once
 pub mod Confirmed
 mod Counts
-pub mod Going
+pub mod OpenSessions
 mod Removed
 mod Steps
 mod Begun

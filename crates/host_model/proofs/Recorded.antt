@@ -31,7 +31,7 @@ use Rattle.host_model.specs.Facts.{HostFacts}
 use Rattle.host_node.specs.Steps.{as_recorded}
 use Rattle.host_node.specs.Facts.{is_recorded}
 use Rattle.host_node.specs.Events.{NodeEvent, after as after_node}
-use Rattle.host_model.proofs.Going.{final_session}
+use Rattle.host_model.proofs.OpenSessions.{final_session}
 use Rattle.host_model.proofs.Outcomes.{apart_is}
 use Rattle.host_model.proofs.Legal.{same_known, same_count, fewer_kept, NoOrder, others_test}
 use Rattle.host_model.proofs.Events.{contained}

@@ -30,7 +30,7 @@ use Rattle.host_model.specs.Facts.{HostFacts, IsCommandOf, HasSegments, OwnsComm
 use Rattle.host_model.proofs.Numbered.{outcome_sound}
 use Rattle.host_model.proofs.Owning.{none_left}
 use Rattle.host_model.specs.Restoring.{restored, may_restore, carriage_for, properties_with, ending}
-use Rattle.host_model.proofs.Going.{told_session}
+use Rattle.host_model.proofs.OpenSessions.{told_session}
 use Rattle.host_model.proofs.Places.{one_set}
 use Rattle.host_model.proofs.NumberedRecords.{changed, with_same, with_other}
 use Rattle.host_model.proofs.Accepted.{not_so}

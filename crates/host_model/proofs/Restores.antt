@@ -29,7 +29,7 @@ use Rattle.host_model.specs.May.{known_of}
 use Rattle.host_model.specs.Facts.{HostFacts, IsCommandOf, OwnsCommands}
 use Rattle.host_model.specs.Restoring.{restored, may_restore, carriage_for, properties_with, ending}
 use Rattle.host_model.specs.Holding.{HoldsNode, Holds, HoldsAlone, outcome_kept, taken_as}
-use Rattle.host_model.proofs.Going.{going_of, told_session}
+use Rattle.host_model.proofs.OpenSessions.{going_of, told_session}
 use Rattle.host_model.proofs.Outcomes.{outcomes_stay}
 use Rattle.host_model.proofs.Values.{stored-reserving, heard-confirming}
 use Rattle.host_model.proofs.Steps.{node_changes, account_changes, joined, interview_said, saw, account_is}

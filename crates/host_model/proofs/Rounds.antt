@@ -24,7 +24,7 @@ use Rattle.host_model.specs.Events.{HostEvent, Node_ticks}
 use Rattle.host_model.specs.Pumping.{no_more_event, LetsSome, LetsSleep, IsNext, IsPumped, SubmitsSome, Submits}
 use Rattle.host_model.specs.Taking.{IsTaken, AreTaken, value_event, value_events}
 use Rattle.host_model.specs.Ticking.{ticking_to, ticking_nodes, TickedTo}
-use Rattle.host_model.proofs.Doing.{after_all-append}
+use Rattle.host_model.proofs.EventLists.{after_all-append}
 
 -- ---- a pump
 

@@ -20,7 +20,7 @@ use Rattle.host_requests.specs.declared.task.Purpose.{Purpose}
 use Rattle.host_requests.specs.declared.under_way.Progress.{Progress}
 use Rattle.host_requests.specs.declared.under_way.Progress.TheVariants.{Submitted, Sent, Answered}
 use Rattle.host_requests.specs.declared.under_way.UnderWay.{UnderWay}
-use Rattle.host_requests.proofs.Keeping.{kept}
+use Rattle.host_requests.proofs.FactsKept.{kept}
 
 -- the request ends, or waits on with so many ticks less
 abbrev pub GoesDown : ℕ → Progress → Next → Type 0

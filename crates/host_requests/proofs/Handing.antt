@@ -17,7 +17,7 @@ use Rattle.host_requests.specs.declared.task.Task.TheVariants.{First, Second, Ve
 use Rattle.host_requests.specs.declared.task.Purpose.{Purpose}
 use Rattle.host_requests.specs.declared.under_way.UnderWay.{UnderWay}
 use Rattle.host_requests.proofs.Purposes.{alone_paired, capable_first, due-append}
-use Rattle.host_requests.proofs.Keeping.{NextFits, idle_of, fits_sent, fits_response, fits_callback, fits_update, fits_tick, kept, at_first}
+use Rattle.host_requests.proofs.FactsKept.{NextFits, idle_of, fits_sent, fits_response, fits_callback, fits_update, fits_tick, kept, at_first}
 
 -- the node of what was brought
 abbrev pub node_of : Option Brought → Option ℕ

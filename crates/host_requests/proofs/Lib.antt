@@ -1,4 +1,4 @@
 pub mod Purposes
-pub mod Keeping
+pub mod FactsKept
 pub mod Ending
 pub mod Handing

@@ -12,7 +12,7 @@ use Rattle.chip_functions.specs.declared.fault.BodyFault.{BodyFault}
 use Rattle.chip_functions.specs.declared.fault.BodyFault.TheVariants.{UnknownFunction, Short, BadField, NoMemory}
 use Rattle.chip_functions.specs.Place.{Gives}
 use Rattle.serial_frame.specs.Frame.{FrameParts}
-use Rattle.host_model.proofs.Doing.{none_added}
+use Rattle.host_model.proofs.EventLists.{none_added}
 use Rattle.host_requests.specs.Events.{RequestsEvent, interviewed_by, May as request_may}
 use Rattle.std.proofs.lemmas.List.{length-append}
 use Rattle.chip_functions.specs.Notice.{IsNoticeBody}
@@ -35,7 +35,7 @@ use Rattle.host_model.specs.Outs.{outs}
 use Rattle.host_model.specs.Taking.{IsFollowed, FrameEvents, ResponseEvents, NoticeEvents, InterviewEvents, told_requests}
 use Rattle.host_model.specs.declared.out.HostOut.{HostOut}
 use Rattle.host_step_bytes.specs.Calls.{Scene, Does, DoesAlone, Are}
-use Rattle.host_step_bytes.proofs.Doing.{one_alone, nothing_alone, does_nothing, does_as, does_kept}
+use Rattle.host_step_bytes.proofs.CallLists.{one_alone, nothing_alone, does_nothing, does_as, does_kept}
 
 -- an item that is this one is followed so
 pub as_followed : (Kind : List HostEvent → Type 0) (h : HostState) (turn : Turn) (item one : Item) (a b : Scene) → item ≡ one → Does Kind a b

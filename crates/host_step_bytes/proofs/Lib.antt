@@ -1,4 +1,4 @@
-pub mod Doing
+pub mod CallLists
 mod Followed
 mod OneMessage
 mod OneNonce

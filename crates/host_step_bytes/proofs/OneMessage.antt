@@ -11,7 +11,7 @@ use Rattle.host_model.specs.Events.{HostEvent, Unreads}
 use Rattle.host_model.specs.Taking.{IsTaken, is_secure, IsKeptOr}
 use Rattle.host_step_kept.specs.Choices.{chosen}
 use Rattle.host_step_bytes.specs.Calls.{Scene, Does}
-use Rattle.host_step_bytes.proofs.Doing.{does_as}
+use Rattle.host_step_bytes.proofs.CallLists.{does_as}
 
 -- the event whose record was kept, or the other one
 pub kept_or : (is_kept : Bool) (kept unkept : HostEvent) → IsKeptOr kept unkept (chosen is_kept kept unkept ∷ [])

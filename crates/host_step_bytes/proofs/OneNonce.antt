@@ -19,8 +19,8 @@ use Rattle.host_model.specs.Taking.{NonceGetEvents, NonceReportEvents}
 use Rattle.host_step_kept.specs.Choices.{chosen}
 use Rattle.host_step_bytes.specs.Calls.{Scene, Does}
 use Rattle.host_node.specs.State.{NodeState}
-use Rattle.host_model.proofs.Doing.{none_added}
-use Rattle.host_step_bytes.proofs.Doing.{does_one, does_kept, does_nothing}
+use Rattle.host_model.proofs.EventLists.{none_added}
+use Rattle.host_step_bytes.proofs.CallLists.{does_one, does_kept, does_nothing}
 use Rattle.host_step_bytes.proofs.OneMessage.{kept_or}
 
 -- an event that may happen, or one that may always

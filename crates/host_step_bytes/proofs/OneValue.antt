@@ -17,7 +17,7 @@ use Rattle.host_model.specs.Did.{after_all, is_unkept}
 use Rattle.host_model.specs.Taking.{value_event, value_events, resent, wanted_segment}
 use Rattle.host_model.specs.declared.out.HostOut.{HostOut}
 use Rattle.host_step_bytes.specs.Calls.{DoesAlone, Are}
-use Rattle.host_step_bytes.proofs.Doing.{one_alone, alone_then}
+use Rattle.host_step_bytes.proofs.CallLists.{one_alone, alone_then}
 
 value_alone : (full : Bool) (h : HostState) (n : ℕ) (v : Setting) (new : HostState) (before all : List HostOut) → nat_lt 512 (count_with h.store n (v.property ∷ [])) ≡ full
     → new ≡ after h (value_event h n v) → all ≡ before ++ outs h (value_event h n v) → DoesAlone (Are (value_event h n v ∷ [])) h before new all

@@ -11,10 +11,10 @@ use Rattle.host_model.specs.Outs.{outs}
 use Rattle.host_model.specs.Did.{Shelf, Did}
 use Rattle.host_model.specs.Taking.{IsJudged, IsFollowed, Fed, FedPrefix}
 use Rattle.host_model.specs.declared.out.HostOut.{HostOut}
-use Rattle.host_model.proofs.Doing.{none_added}
+use Rattle.host_model.proofs.EventLists.{none_added}
 use Rattle.host_model.proofs.Feeding.{fed-append, fed_prefix-append, fed_item, fed_nothing}
 use Rattle.host_step_bytes.specs.Calls.{Scene, Does, Stops, TakesOne, Are}
-use Rattle.host_step_bytes.proofs.Doing.{does_one, then_does}
+use Rattle.host_step_bytes.proofs.CallLists.{does_one, then_does}
 
 -- what is taken from here on is taken from the beginning on
 pub record FedSoFar (old : HostParts) (before : List HostOut) (first : Shelf) (piece : List ℕ) (now : HostParts) (some : List HostOut) (mid : Shelf) (left : List ℕ) : Type 0 where

@@ -22,7 +22,7 @@ use Rattle.host_model.specs.May.{May}
 use Rattle.host_model.specs.Taking.{ReportEvents, FinalEvents}
 use Rattle.host_step_kept.specs.Choices.{chosen}
 use Rattle.host_step_bytes.specs.Calls.{Scene, Does}
-use Rattle.host_step_bytes.proofs.Doing.{does_one, does_kept}
+use Rattle.host_step_bytes.proofs.CallLists.{does_one, does_kept}
 use Rattle.host_step_bytes.proofs.OneMessage.{kept_or}
 use Rattle.host_step_bytes.proofs.OneNonce.{may_chosen}
 use Rattle.host_step_bytes.proofs.Told.{works_at_one}

@@ -8,7 +8,7 @@ use Rattle.host_model.specs.Events.{HostEvent}
 use Rattle.host_model.specs.Did.{after_all}
 use Rattle.host_model.specs.Taking.{IsTaken, AreTaken}
 use Rattle.host_step_bytes.specs.Calls.{Scene, Does}
-use Rattle.host_step_bytes.proofs.Doing.{then_does}
+use Rattle.host_step_bytes.proofs.CallLists.{then_does}
 
 -- messages are taken one after another
 pub record GoesOn : Type 0 where

@@ -21,7 +21,7 @@ use Rattle.host_step_kept.specs.declared.opening.Opened.{Opened}
 use Rattle.host_step_kept.specs.declared.opening.Opened.TheVariants.{Unkept, InVain, Opens}
 use Rattle.host_step_kept.specs.Opening.{opening, is_kept, OpensBy}
 use Rattle.host_step_bytes.specs.Calls.{Scene, Does, Are}
-use Rattle.host_step_bytes.proofs.Doing.{does_one, does_as, then_does}
+use Rattle.host_step_bytes.proofs.CallLists.{does_one, does_as, then_does}
 
 -- ---- payloads
 

@@ -24,7 +24,7 @@ use Rattle.include_world.specs.Air.{AirState, pair_of, flight, departing, forget
 use Rattle.include_world.specs.World.{WorldState, Doing, IncludeEvent, Says, Passes, Lands, Ends, does, says, adds, begins, refused, resets, repeats, joiner_of, first_world, first_joiner, after_all, entries_all, AllDrawn, AllSent, IsDrawn}
 use Rattle.include_world.specs.Added.{IsSecure, last_of, last_word, Reached}
 use Rattle.include_world.specs.Ending.{key_taken, TookNone, Accepts, AddsAndTicks}
-use Rattle.include_world.proofs.Doing.{says_sent}
+use Rattle.include_world.proofs.DoneEvents.{says_sent}
 use Rattle.include_world.proofs.AirFacts.{Frames, frames_departing, frames_forgotten, frames_remembered, repeated_comes, departing_forgotten}
 use Rattle.include_world.proofs.Sending.{departing_grows}
 use Rattle.include_world.proofs.Saying.{keys_in}
@@ -35,7 +35,7 @@ use Rattle.include_world.proofs.ShowFacts.{Shows, OutShows, Ready}
 use Rattle.include_world.proofs.HostShows.{seen_of}
 use Rattle.include_world.proofs.NearWorld.{Near, Says_of, both_frames, near_heard, near_lands, near_passes, near_ends}
 use Rattle.include_world.proofs.Stages.{SchemeAsked, scheme_asked}
-use Rattle.include_world.proofs.Going.{Going, spot_new, unmarked}
+use Rattle.include_world.proofs.ExchangeSteps.{Going, spot_new, unmarked}
 use Rattle.include_world.proofs.Ticking.{Calm, ticks_end}
 
 -- ---- lines

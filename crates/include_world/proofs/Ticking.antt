@@ -12,14 +12,14 @@ use Rattle.include_world.specs.declared.air.Coming.{Coming}
 use Rattle.include_world.specs.Air.{AirState, pair_of, departing, sending, no_flight, frame_at, flight_at, heard_if, is_forgotten, arriving, flying}
 use Rattle.include_world.specs.World.{WorldState, Doing, IncludeEvent, Passes, Lands, Ends, does, hears, hears_by, lands_by, landed, ends, joiner_of, after_all, AllDrawn}
 use Rattle.include_world.specs.Line.{IsTick, IsTicks}
-use Rattle.include_world.proofs.Doing.{lands_grows, after_all-append}
+use Rattle.include_world.proofs.DoneEvents.{lands_grows, after_all-append}
 use Rattle.include_world.proofs.AirFacts.{Comes, arriving_comes}
 use Rattle.include_world.proofs.HostFacts.{Hosts, host_takes}
 use Rattle.include_world.proofs.WorldFacts.{Fact, does_step}
 use Rattle.include_world.proofs.NearWorld.{Near, Says_of, both_frames, near_lands, near_passes, near_ends}
 use Rattle.include_world.proofs.Stages.{Stage, SchemeAsked, SchemeTold, NonceAsked, NonceTold, KeySet, KeyTaken, NonceGiven, VerifySent, rank, IsFor, HostAt}
 use Rattle.include_world.proofs.HostStages.{Under}
-use Rattle.include_world.proofs.Going.{Spot, Going, Later, Heard, lock_here, lock_elsewhere, host_here, host_elsewhere}
+use Rattle.include_world.proofs.ExchangeSteps.{Spot, Going, Later, Heard, lock_here, lock_elsewhere, host_here, host_elsewhere}
 
 heard_by : (key : List ℕ) (node left : ℕ) (s : Stage) (i : ℕ) (w : WorldState) (coming : Coming) (drawn : List ℕ) → length drawn ≡ 8 → Fact key node w → Near key node w → w.air.losing ≡ 0
     → is_secure w.includer node ≡ false → (h : Heading) → (coming.node ≡ node → Says_of key node w h coming.payload) → coming.heading ≡ h

@@ -8,7 +8,7 @@ use Rattle.serial_link.specs.Rules.{Event, heard, ticked, submitted, asked, Step
 use Rattle.serial_link.specs.Calls.{submit_step, tick_step}
 use Rattle.serial_link.specs.declared.turn.Turn.{Turn}
 use Rattle.serial_link.specs.declared.turn.Turn.TheVariants.{Idle, Copied, Paused}
-use Rattle.serial_link.proofs.Keeping.{side_hears_all, side_ticks_after, side_submits, side_asks}
+use Rattle.serial_link.proofs.RulesKept.{side_hears_all, side_ticks_after, side_submits, side_asks}
 use Rattle.zw_words.specs.declared.side.Side.{Side}
 use Rattle.zw_words.specs.declared.side.Side.TheVariants.{Host, Chip}
 use Rattle.law_transcript.specs.Restarts.{is_restart}

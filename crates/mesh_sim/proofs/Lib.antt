@@ -1,4 +1,4 @@
 pub mod Lists
 pub mod Replies
 pub mod Unique
-pub mod Doing
+pub mod StepLists

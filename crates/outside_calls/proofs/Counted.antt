@@ -7,7 +7,7 @@ use Rattle.outside_model.specs.State.{Outside}
 use Rattle.outside_model.specs.Events.{OuterEvent, Arrives, Gives, Device_ticks, AreOwn}
 use Rattle.outside_model.specs.Did.{RunOf, PrefixOf, Stops}
 use Rattle.outside_model.specs.Schedules.{Arrivals, Givings, DeviceTicks}
-use Rattle.outside_model.proofs.Doing.{ran_both}
+use Rattle.outside_model.proofs.EventLists.{ran_both}
 use Rattle.outside_calls.proofs.Single.{stops_after}
 
 -- there are such, those after others are as many together, and none is the host's

@@ -12,7 +12,7 @@ use Rattle.outside_model.specs.Events.{Host_writes, Chip_ticks, Clears_pipe, way
 use Rattle.outside_model.specs.Did.{Goes, Enters}
 use Rattle.outside_step.proofs.Answered.{map_ok}
 use Rattle.outside_calls.proofs.Single.{entered_ok}
-use Rattle.outside_calls.proofs.Going.{goes_writes, goes_clears, goes_chip_ticks}
+use Rattle.outside_calls.proofs.QuietEvents.{goes_writes, goes_clears, goes_chip_ticks}
 
 module _ {V E : Type 0} (r : Result V E) (o mid new : OuterState) (start told before all : List Entry) (none : start ≡ []) where
   -- the host wrote a unit

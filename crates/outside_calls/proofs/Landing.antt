@@ -17,7 +17,7 @@ use Rattle.mesh_sim.specs.declared.event.AirEvent.{AirEvent}
 use Rattle.mesh_sim.specs.declared.event.AirEvent.TheVariants as event
 use Rattle.mesh_sim.specs.Steps.{AirStep, mesh_after, mesh_outs, MayHappen}
 use Rattle.mesh_sim.specs.Steps as mesh
-use Rattle.mesh_sim.proofs.Doing.{Moves, moves_if}
+use Rattle.mesh_sim.proofs.StepLists.{Moves, moves_if}
 use Rattle.zw_text.specs.declared.entry.Entry.{Entry}
 use Rattle.zw_text.specs.declared.entry.Entry.TheVariants.{Forget}
 use Rattle.outside_model.specs.State.{OuterState, Outside, outside, Outcome, each, with_chip, silent, tells}

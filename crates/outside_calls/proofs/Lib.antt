@@ -1,7 +1,7 @@
 pub mod Single
 pub mod Counted
 pub mod Changes
-pub mod Going
+pub mod QuietEvents
 pub mod Entering
 pub mod Landing
 pub mod Airing

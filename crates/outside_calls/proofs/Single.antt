@@ -5,7 +5,7 @@ use Rattle.device_sim.specs.State.{State}
 use Rattle.zw_text.specs.declared.entry.Entry.{Entry}
 use Rattle.outside_model.specs.State.{OuterState, Outside, outside, Outcome, silent, Does}
 use Rattle.outside_model.specs.Events.{OuterEvent, outcome, devices_after, May, stamp, has_entered, entries, is_own, AreOwn}
-use Rattle.outside_model.proofs.Doing.{happens_all-append, entries_all-append, may_all-append}
+use Rattle.outside_model.proofs.EventLists.{happens_all-append, entries_all-append, may_all-append}
 use Rattle.outside_model.specs.Did.{happens_all, entries_all, MayAll, Run, Goes, Enters, last_of, Stops}
 
 -- what was told of an outcome was entered

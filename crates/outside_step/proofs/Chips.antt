@@ -12,7 +12,7 @@ use Rattle.chip_sim.specs.Events.{ChipEvent, Judged, after, outs}
 use Rattle.chip_sim.specs.Did.{after_all, outs_all, MayAll, judged_all}
 use Rattle.chip_sim.specs.declared.out.ChipOut.{ChipOut}
 use Rattle.chip_sim.specs.declared.out.ChipOut.TheVariants.{Write, OnAir, NoRoute, AskInfo, Full}
-use Rattle.chip_sim.proofs.Doing.{after_all-append, outs_all-append, may_all-append}
+use Rattle.chip_sim.proofs.EventLists.{after_all-append, outs_all-append, may_all-append}
 use Rattle.serial_pipes.specs.State.{WayState}
 use Rattle.serial_pipes.specs.Events.{Takes}
 use Rattle.serial_pipes.specs.Events as way

@@ -7,7 +7,7 @@ use Rattle.route_table.specs.Network.{linked}
 use Rattle.chip_sim.specs.State.{ChipState, ChipParts}
 use Rattle.chip_sim.specs.Events.{ChipEvent, Linked, after}
 use Rattle.chip_sim.specs.Did.{after_all}
-use Rattle.chip_sim.proofs.Doing.{after_all-append}
+use Rattle.chip_sim.proofs.EventLists.{after_all-append}
 use Rattle.outside_model.specs.State.{OuterState, with_chip}
 use Rattle.outside_model.specs.Nodes.{is_known, links_of, pairs_of, all_pairs, discovers}
 use Rattle.outside_step.proofs.Parts.{chip_is}

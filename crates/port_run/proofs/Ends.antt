@@ -4,7 +4,7 @@ use Rattle.std.specs.Prelude.{Option, OnOk, IfErr, MatchResult}
 use Rattle.run_lines.specs.declared.reader.TheConstants.{MAX_INPUT}
 use Rattle.s0_crypto.specs.declared.key_pair.Keys.{Keys}
 use Rattle.host_keep.specs.Keeping.{OptAdds}
-use Rattle.host_model.proofs.Doing.{none_added}
+use Rattle.host_model.proofs.EventLists.{none_added}
 use Rattle.host_model.specs.State.{HostParts}
 use Rattle.host_core.specs.Opening.{Opens}
 use Rattle.port_run.specs.declared.asking.Answer.{Answer}

@@ -6,7 +6,7 @@ use Rattle.port_run.specs.declared.stop.Stop.{Stop}
 use Rattle.port_run.specs.Steps.{Place, Step}
 use Rattle.port_run.specs.Schedule.{CutIn}
 use Rattle.port_run.specs.Serving.{Went, Broke}
-use Rattle.port_run.proofs.Doing.{went_both, broke_after, broke_as}
+use Rattle.port_run.proofs.StepLists.{went_both, broke_after, broke_as}
 
 -- steps that read nothing were done, whatever was read before; or they broke off
 abbrev pub WentStill : List Step → Place → Place → Option (List ℕ) → Option (List ℕ) → Type 0

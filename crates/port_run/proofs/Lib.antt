@@ -1,4 +1,4 @@
-pub mod Doing
+pub mod StepLists
 pub mod Asked
 pub mod Joining
 pub mod Stepping

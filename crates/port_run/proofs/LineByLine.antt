@@ -12,7 +12,7 @@ use Rattle.port_run.specs.declared.stop.Stop.{Stop}
 use Rattle.port_run.specs.Steps.{Place, Step, Asks, Pumps}
 use Rattle.port_run.specs.Schedule.{Telling, LineSteps, AllSteps, RunSteps, CutIn, CutPlain, CutLine, CutLines, CutRun}
 use Rattle.port_run.specs.Serving.{Went, Broke}
-use Rattle.port_run.proofs.Doing.{went_nothing, went_both, broke_after, broke_as}
+use Rattle.port_run.proofs.StepLists.{went_nothing, went_both, broke_after, broke_as}
 use Rattle.port_run.proofs.Joining.{WentStill, BrokeStill}
 use Rattle.port_run.proofs.Turning.{lines-more, cut_lines}
 

@@ -7,14 +7,14 @@ use Rattle.run_lines.specs.Writing.{AppendsPrefix}
 use Rattle.run_lines.specs.declared.reader.TheConstants.{PIECE, MAX_INPUT}
 use Rattle.host_model.specs.State.{HostParts}
 use Rattle.host_model.specs.declared.out.HostOut.{HostOut}
-use Rattle.host_model.proofs.Doing.{none_added, did_nothing}
+use Rattle.host_model.proofs.EventLists.{none_added, did_nothing}
 use Rattle.host_step_bytes.specs.Calls.{beside, Stops}
 use Rattle.port_run.specs.declared.stop.Stop.{Stop}
 use Rattle.port_run.specs.declared.stop.Stop.TheVariants.{ReadFault, WriteFault, InputTooLong, NoMemory}
 use Rattle.port_run.specs.Steps.{Place, Step, Asks, Takes, Ticks, Pumps, Ran}
 use Rattle.port_run.specs.Schedule.{IsLate}
 use Rattle.port_run.specs.Serving.{units_of, WritesPart, Halts, bytes_of, Reads, Went, EndsReading, Broke}
-use Rattle.port_run.proofs.Doing.{units-append, ran_one, went_one}
+use Rattle.port_run.proofs.StepLists.{units-append, ran_one, went_one}
 use Rattle.port_run.proofs.Joining.{WentStill, BrokeStill}
 use Rattle.run_lines.proofs.Pieces.{AppendsPrefix-append, AppendsPrefix-more}
 use Rattle.serial_frame.specs.Stream.{after_tick}

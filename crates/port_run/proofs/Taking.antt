@@ -8,7 +8,7 @@ use Rattle.port_run.specs.declared.stop.Stop.{Stop}
 use Rattle.port_run.specs.Steps.{Place, Step, Takes, Pumps}
 use Rattle.port_run.specs.Schedule.{CutIn, CutTaking, CutPiece, CutRead, piece_steps}
 use Rattle.port_run.specs.Serving.{Went, Broke}
-use Rattle.port_run.proofs.Doing.{went_both, broke_after, broke_as}
+use Rattle.port_run.proofs.StepLists.{went_both, broke_after, broke_as}
 use Rattle.port_run.proofs.Joining.{WentStill, BrokeStill, cut-following}
 
 -- bytes that were read at these steps

@@ -6,7 +6,7 @@ use Rattle.std.specs.Prelude.{Option}
 use Rattle.port_run.specs.Steps.{Place}
 use Rattle.port_run.specs.Schedule.{tick_steps, IsFirst, CutIn}
 use Rattle.port_run.specs.Serving.{Went}
-use Rattle.port_run.proofs.Doing.{went_both, broke_after}
+use Rattle.port_run.proofs.StepLists.{went_both, broke_after}
 use Rattle.port_run.proofs.Joining.{WentStill, BrokeStill}
 
 pub ticks-add : (i k n : ℕ) → i + k ≡ n → tick_steps n ≡ tick_steps i ++ tick_steps k

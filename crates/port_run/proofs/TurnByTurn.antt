@@ -9,7 +9,7 @@ use Rattle.port_run.specs.declared.stop.Stop.TheVariants.{ReadFault, WriteFault,
 use Rattle.port_run.specs.Steps.{Place, Step}
 use Rattle.port_run.specs.Schedule.{Telling, Turn, IsTurn, due, turn_steps, piece_steps, tick_steps, Waited, CutIn, CutRead, CutTurn, CutWait}
 use Rattle.port_run.specs.Serving.{Wrote, Went, Broke}
-use Rattle.port_run.proofs.Doing.{went_nothing, went_both, broke_after, broke_as}
+use Rattle.port_run.proofs.StepLists.{went_nothing, went_both, broke_after, broke_as}
 use Rattle.port_run.proofs.Joining.{WentStill, BrokeStill}
 use Rattle.port_run.proofs.Turning.{waited_nothing, waited_more, cut_wait}
 

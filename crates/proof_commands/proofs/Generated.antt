@@ -25,7 +25,7 @@ use Rattle.run_lines.specs.Lines.{TextLine}
 use Rattle.run_lines.specs.Pieces.{said_text}
 use Rattle.run_lines.specs.declared.status.Status.{Status}
 use Rattle.run_lines.specs.declared.status.Status.TheVariants as status
-use Rattle.run_sim.specs.Generate.{AllDone, SumsUp, command_lines, first_lines, generated_lines, is_accepted, is_success, joining_lines, loss_lines, node_at, summary_text, word_at}
+use Rattle.run_generate.specs.Generate.{AllDone, SumsUp, command_lines, first_lines, generated_lines, is_accepted, is_success, joining_lines, loss_lines, node_at, summary_text, word_at}
 use Rattle.run_sim.specs.Sim.{said}
 use Rattle.world_lines.specs.Done.{IsRead}
 use Rattle.proof_commands.specs.Around.{Around}

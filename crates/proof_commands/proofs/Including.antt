@@ -6,7 +6,7 @@ use Rattle.include_text.specs.declared.entry.IncludeEntry.{IncludeEntry}
 use Rattle.include_world.specs.World.{WorldState, IncludeEvent, AllDrawn, Did, entries_all, first_world}
 use Rattle.include_world.specs.Line.{IsLine}
 use Rattle.include_world.specs.Added.{IsSecure, last_word}
-use Rattle.include_world.proofs.Doing.{did_both, did_nothing}
+use Rattle.include_world.proofs.DoneEvents.{did_both, did_nothing}
 use Rattle.run_lines.specs.declared.running.LinesEnd.{LinesEnd}
 use Rattle.run_lines.specs.declared.running.LinesEnd.TheVariants.{All, Bad, ReadFailed, TooMuch, WriteFailed, NoMemory}
 use Rattle.run_lines.specs.declared.status.Status.{Status}

@@ -11,7 +11,7 @@ use Rattle.host_keep.specs.declared.record.Record.{Record}
 use Rattle.host_model.specs.State.{HostState, HostParts, first_host}
 use Rattle.host_model.specs.Events.{HostEvent}
 use Rattle.host_model.specs.Did.{MayAll, records_all, texts_of}
-use Rattle.host_model.proofs.Doing.{all_in_range}
+use Rattle.host_model.proofs.EventLists.{all_in_range}
 use Rattle.host_core.specs.Opening.{Opens, AreTold}
 use Rattle.host_model.specs.Holding.{Holds, HoldsAlone}
 use Rattle.host_model.specs.Opening.{opened}

@@ -7,14 +7,14 @@ use Rattle.host_keep.specs.declared.record.Record.{Record}
 use Rattle.host_model.specs.State.{HostState}
 use Rattle.host_model.specs.Events.{HostEvent}
 use Rattle.host_model.specs.Did.{after_all, records_all, texts_of}
-use Rattle.host_model.proofs.Doing.{records_all-append, texts-append}
+use Rattle.host_model.proofs.EventLists.{records_all-append, texts-append}
 use Rattle.world_model.specs.State.{with_texts}
 use Rattle.run_lines.specs.declared.running.LinesEnd.{LinesEnd}
 use Rattle.run_lines.specs.declared.running.LinesEnd.TheVariants.{All, Bad, ReadFailed, TooMuch, WriteFailed, NoMemory}
 use Rattle.run_lines.specs.Lines.{TextLine, AllRan, RanLines}
 use Rattle.run_replay.specs.Machine.{Lone, Event, Does_itself, Does_asked, Takes, Ticks, Refuses, Shows_values, MayAll, entries_all, happens, happens_all}
 use Rattle.run_replay.specs.Replay.{Point, LineRan, PartRan, said}
-use Rattle.run_replay.proofs.Doing.{happens_all-append, may_all-append}
+use Rattle.run_replay.proofs.EventLists.{happens_all-append, may_all-append}
 use Rattle.proof_commands.specs.Replay.{Ran, KeepsRecords, IsAllEntered, done_by_host, events_of, host_events, lines_of, transcript_from}
 
 -- ---- what events leave of the records

@@ -6,7 +6,7 @@ use Rattle.zw_text.specs.declared.line.Line.TheVariants.{Command, Restart}
 use Rattle.zw_text.specs.declared.entry.Entry.{Entry}
 use Rattle.zw_text.specs.declared.entry.Entry.TheVariants.{Accepted, Refused}
 use Rattle.host_model.specs.Did.{RoseBy}
-use Rattle.host_model.proofs.Doing.{rose_both, rose_less, rose_none}
+use Rattle.host_model.proofs.EventLists.{rose_both, rose_less, rose_none}
 use Rattle.world_model.specs.State.{Machine}
 use Rattle.world_model.specs.Events.{Event}
 use Rattle.world_model.specs.Did.{happens_all, entries_all, MayAll}

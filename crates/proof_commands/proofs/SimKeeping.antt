@@ -9,7 +9,7 @@ use Rattle.host_model.specs.State.{HostState}
 use Rattle.world_model.specs.State.{Machine}
 use Rattle.world_model.specs.Events.{Event, happens}
 use Rattle.world_model.specs.Did.{happens_all, entries_all, MayAll}
-use Rattle.world_model.proofs.Doing.{happens_all-append, entries_all-append}
+use Rattle.world_model.proofs.EventLists.{happens_all-append, entries_all-append}
 use Rattle.proof_host.specs.Entries.{IsAside}
 use Rattle.proof_host.specs.Facts.{Facts}
 use Rattle.proof_device.specs.Showing.{IsShown, NeverFalls}

@@ -5,7 +5,7 @@ use Rattle.host_model.specs.Events.{HostEvent}
 use Rattle.host_model.specs.State.{HostParts}
 use Rattle.host_model.specs.Did.{Did}
 use Rattle.host_model.specs.declared.out.HostOut.{HostOut}
-use Rattle.host_model.proofs.Doing.{did_both, did_nothing, none_added}
+use Rattle.host_model.proofs.EventLists.{did_both, did_nothing, none_added}
 use Rattle.host_core.specs.Network.{keys_of}
 use Rattle.run_lines.specs.declared.status.Status.{Status}
 use Rattle.s0_crypto.specs.declared.key_pair.Keys.{Keys}

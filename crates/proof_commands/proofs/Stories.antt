@@ -12,7 +12,7 @@ use Rattle.outside_model.specs.Events.{OuterEvent}
 use Rattle.world_model.specs.Did.{happens_all, entries_all, MayAll, last_of, IsOfHost, Stops}
 use Rattle.world_model.specs.Lines.{IsLine}
 use Rattle.world_model.specs.Prefixes.{LinePart, IsLineBefore}
-use Rattle.world_model.proofs.Doing.{happens_all-append, may_all-append}
+use Rattle.world_model.proofs.EventLists.{happens_all-append, may_all-append}
 use Rattle.zw_world.specs.World.{first_world}
 use Rattle.run_lines.specs.declared.running.LinesEnd.{LinesEnd}
 use Rattle.run_lines.specs.declared.running.LinesEnd.TheVariants.{All, Bad, ReadFailed, TooMuch, WriteFailed, NoMemory}

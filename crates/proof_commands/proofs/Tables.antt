@@ -32,7 +32,7 @@ use Rattle.proof_commands.proofs.Told.{ToldStory, fresh, story_told}
 
 -- ---- lines that were run whole
 
-whole_said : (m : Machine) (story : List Ran) → AreSchedules m story → AreWhole m (all_said story)
+pub whole_said : (m : Machine) (story : List Ran) → AreSchedules m story → AreWhole m (all_said story)
 whole_said m [] are = tt
 whole_said m (ran ∷ more) are = (are.0, whole_said (happens_all m ran.events) more are.1)
 

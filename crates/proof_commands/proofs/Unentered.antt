@@ -12,7 +12,7 @@ use Rattle.run_lines.specs.Lines.{TextLine}
 use Rattle.world_model.specs.State.{Machine}
 use Rattle.world_model.specs.Events.{Event, Outside_does, Host_does, Host_takes, Decoder_ticks, Refuses, Shows_values, Restarts, fed, happens}
 use Rattle.world_model.specs.Did.{happens_all, MayAll, last_of, IsOfHost}
-use Rattle.world_model.proofs.Doing.{happens_all-append}
+use Rattle.world_model.proofs.EventLists.{happens_all-append}
 use Rattle.world_model.proofs.Hosting.{devices_host-all, routed_still}
 use Rattle.proof_commands.specs.Laws.{Ran, events_of, lines_of, with_last, IsUnentered}
 use Rattle.proof_commands.proofs.SimKeeping.{may_prefix}

@@ -34,6 +34,7 @@ use Rattle.proof_world.specs.Devices.{GroupsSessions}
 use Rattle.proof_world.specs.Restarts.{AllKeepWell, BeginsEmpty}
 use Rattle.proof_headline.specs.Truly.{SucceedsAfterChangeOf}
 use Rattle.proof_headline.specs.Supervised.{IsSupervisedNode}
+use Rattle.proof_records.specs.Records.{HasRecords}
 use Rattle.proof_commands.specs.Around.{Around}
 
 -- ---- stories
@@ -170,6 +171,12 @@ StoresValues key old new = AlwaysOf key old new (λ story. TellsAtRestarts old s
 abbrev pub WritesSessions : List ℕ → Around → Around → Type 0
 WritesSessions key old new = AlwaysOf key old new (λ story. KeepsRecords key old story → BeginsWithUnit (transcript key old story))
 
+-- Where every line was run whole and all that was done is entered, over a keeper that tells its records and had none at first: the records at exit are legal, and
+-- give exactly what the transcript shows.
+abbrev pub KeepsWhatIsShown : List ℕ → Around → Around → Type 0
+KeepsWhatIsShown key old new = Always key old new
+    (λ story unentered. AreSchedules (first key old) story → unentered ≡ [] → old.records ≡ Some [] → HasRecords (transcript key old story) new.records)
+
 -- each device changes at most once by each session, in their order
 abbrev pub AppliesOnce : List ℕ → Around → Around → Type 0
 AppliesOnce key old new = AlwaysOf key old new (λ story. AreInOrder old.devices → TakeOnce new.devices)
@@ -257,6 +264,7 @@ pub record StoriesKeepLaws (key : List ℕ) (old new : Around) : Type 0 where
   pub taken_back : TakesBackWhenAsked key old new
   pub stores : StoresValues key old new
   pub written : WritesSessions key old new
+  pub records : KeepsWhatIsShown key old new
   pub once : AppliesOnce key old new
   pub same : KeepsDevices key old new
   pub shown : ShowsChanges key old new

@@ -13,6 +13,7 @@ ghost use Rattle.proof_commands.specs.Laws.{
   KeepsDevices,
   KeepsOrders,
   KeepsWell,
+  KeepsWhatIsShown,
   LosesFrames,
   MarksAsAsked,
   NumbersAir,
@@ -32,6 +33,7 @@ use proof_headline::{
 };
 use proof_host::{asides_keep_facts, laws_follow};
 use proof_line::{lines_collide_when_asked, lines_mark_units};
+use proof_records::records_are_what_is_shown;
 use proof_transcript::{
     commands_are_taken_back_when_asked, lines_lose_marked_frames, lines_number_frames,
     sessions_begin_with_their_unit, ticks_decide_each_frame, values_are_stored_as_asked,
@@ -47,6 +49,7 @@ pub fn every_story_keeps_laws()
     stories_keep_records();
     stories_keep_laws();
     stories_tell_of_commands();
+    stories_leave_records();
     stories_take_once();
     stories_have_the_headline();
     stories_keep_air_laws();
@@ -84,6 +87,14 @@ fn stories_tell_of_commands()
     commands_are_taken_back_when_asked();
     values_are_stored_as_asked();
     sessions_begin_with_their_unit();
+}
+
+/// The records at exit give what the transcript of a story shows.
+fn stories_leave_records()
+    ensures { (key : List ℕ) (old new : Around) → KeepsWhatIsShown key old new }
+{
+    lines_are_read_as_said();
+    records_are_what_is_shown();
 }
 
 /// The devices change at most once by each session, and the transcript of a story shows their changes.

@@ -44,7 +44,7 @@ use Rattle.host_model.specs.Outs.{outs, ended_of, stored_entries, held_entries}
 use Rattle.host_model.specs.May.{May}
 use Rattle.host_model.specs.Taking.{IsJudged, AreJudged}
 use Rattle.host_model.specs.Events.{HostEvent, Hears, Finishes, Begins}
-use Rattle.host_model.proofs.Doing.{after_all-append, outs_all-append}
+use Rattle.host_model.proofs.EventLists.{after_all-append, outs_all-append}
 use Rattle.proof_serial.specs.Way.{Carries}
 use Rattle.proof_serial.specs.Line.{host_units}
 use Rattle.proof_serial.specs.Chip.{HasFrames}
@@ -67,7 +67,7 @@ use Rattle.proof_course_plain.proofs.KeptHosts.{SameHost, holding_same, outcome_
 use Rattle.proof_course_plain.proofs.KeptSessions.{plain_course}
 use Rattle.proof_course_plain.proofs.HostActs.{AirLaws, SameAir, routed_air, writes_go, begin_goes, set_here}
 use Rattle.proof_course_plain.proofs.HostEvents.{event_wrote, noted_none, open_is, owned}
-use Rattle.host_model.proofs.Going.{final_session}
+use Rattle.host_model.proofs.OpenSessions.{final_session}
 use Rattle.proof_once.proofs.TieSteps.{told_more}
 use Rattle.proof_host.proofs.Commands.{outcome_same}
 use Rattle.proof_host.proofs.Effects.{held_commands}

@@ -46,10 +46,10 @@ use Rattle.proof_course_plain.proofs.KeptHosts.{get_set, holding_same, outcome_o
 use Rattle.proof_course_plain.proofs.HostActs.{set_here}
 use Rattle.proof_course_plain.proofs.HostEntries.{event_begins_none}
 use Rattle.proof_course_plain.proofs.HostEvents.{noted_none, open_is, owned}
-use Rattle.host_model.proofs.Doing.{after_all-append, outs_all-append}
+use Rattle.host_model.proofs.EventLists.{after_all-append, outs_all-append}
 use Rattle.proof_course_plain.proofs.HostItems.{routed_then, well_prefix, told_same, judged_final, final_node}
 use Rattle.proof_course_plain.proofs.HostJudgements.{Bytes}
-use Rattle.host_model.proofs.Going.{final_session}
+use Rattle.host_model.proofs.OpenSessions.{final_session}
 use Rattle.proof_once.proofs.TieSteps.{told_more}
 use Rattle.proof_host.proofs.Commands.{outcome_same}
 use Rattle.proof_host.proofs.Effects.{held_commands}

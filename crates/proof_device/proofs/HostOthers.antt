@@ -10,7 +10,7 @@ use Rattle.host_model.specs.declared.out.HostOut.TheVariants.{Write, Note}
 use Rattle.outside_model.specs.State.{Outside}
 use Rattle.outside_model.specs.Events.{Host_notes, Host_begins, Host_writes, happens, entries, outcome}
 use Rattle.outside_model.specs.Did.{happens_all, entries_all}
-use Rattle.outside_model.proofs.Doing.{entries_all-append}
+use Rattle.outside_model.proofs.EventLists.{entries_all-append}
 use Rattle.world_model.specs.State.{begun_in, noted_by, routed, routed_one}
 use Rattle.world_model.specs.Events.{answers, notes}
 use Rattle.proof_device.proofs.Others.{IsOther, Others, stamp_other, write_other}

@@ -12,7 +12,7 @@ use Rattle.include_world.specs.World.{WorldState, Doing, IncludeEvent, Says, All
 use Rattle.include_world.specs.Line.{IsLine, IsTicks}
 use Rattle.include_world.specs.Added.{IsSecure, last_word}
 use Rattle.include_world.specs.Ending.{Accepts, AddsAndTicks}
-use Rattle.include_world.proofs.Doing.{AllDrawn-append, after_all-append}
+use Rattle.include_world.proofs.DoneEvents.{AllDrawn-append, after_all-append}
 use Rattle.include_world.proofs.Events.{added, holds_all, secure_said}
 use Rattle.include_world.proofs.Ticking.{drawn_prefix, drawn_rest}
 use Rattle.proof_include.specs.Adding.{Adds, IsAccepted, IsTickLine, ticks_asked}

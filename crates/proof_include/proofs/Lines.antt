@@ -19,14 +19,14 @@ use Rattle.include_world.specs.World.{WorldState, Doing, IncludeEvent, Says, doe
 use Rattle.include_world.specs.Line.{IsLine, IsTicks}
 use Rattle.include_world.specs.Added.{IsSecure, last_word}
 use Rattle.include_world.specs.Ending.{Accepts, AddsAndTicks}
-use Rattle.include_world.proofs.Doing.{after_all-append, entries_all-append, AllDrawn-append, says_sent}
+use Rattle.include_world.proofs.DoneEvents.{after_all-append, entries_all-append, AllDrawn-append, says_sent}
 use Rattle.include_world.proofs.Sending.{departing_grows}
 use Rattle.include_world.proofs.Events.{Holds, holds_all, first_holds, secure_said}
 use Rattle.include_world.proofs.HostShows.{seen_of}
 use Rattle.include_world.proofs.NearFacts.{Way}
 use Rattle.include_world.proofs.ShowFacts.{Ready}
 use Rattle.include_world.proofs.Stages.{SchemeAsked}
-use Rattle.include_world.proofs.Going.{Going, unmarked}
+use Rattle.include_world.proofs.ExchangeSteps.{Going, unmarked}
 use Rattle.include_world.proofs.Ticking.{Ahead, Calm, drawn_prefix, drawn_rest, ticks_end}
 use Rattle.include_world.proofs.Starting.{begins_going}
 use Rattle.proof_include.specs.Lines.{AreLines, CameTo}

@@ -8,7 +8,7 @@ use Rattle.include_world.specs.declared.flight.Flight.{Flight}
 use Rattle.include_world.specs.Air.{AirState, departing, frame_at, heard_if, heard_of, sending}
 use Rattle.include_world.specs.World.{WorldState, IncludeEvent, Passes, Lands, Ends, does, hears, hears_by, lands_by, joiner_of, after_all}
 use Rattle.include_world.specs.Line.{IsTick, IsTicks}
-use Rattle.include_world.proofs.Doing.{after_all-append}
+use Rattle.include_world.proofs.DoneEvents.{after_all-append}
 
 -- ---- in parts
 

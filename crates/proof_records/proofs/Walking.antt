@@ -17,7 +17,7 @@ use Rattle.host_model.specs.Events.{HostEvent}
 use Rattle.host_model.specs.Outs.{outs}
 use Rattle.host_model.specs.declared.out.HostOut.{HostOut}
 use Rattle.host_model.specs.Did.{MayAll as MayAllHost, records_all, texts_of}
-use Rattle.host_model.proofs.Doing.{all_in_range}
+use Rattle.host_model.proofs.EventLists.{all_in_range}
 use Rattle.outside_model.specs.State.{Outside}
 use Rattle.outside_model.specs.Events.{Host_notes, entries as entries_outside, outcome}
 use Rattle.outside_model.specs.Did.{entries_all as entries_all_outside}

@@ -22,7 +22,7 @@ use Rattle.chip_sim.specs.Link.{chip_units}
 use Rattle.chip_sim.specs.declared.out.Sending.{Sending}
 use Rattle.chip_sim.specs.declared.out.ChipOut.{ChipOut}
 use Rattle.chip_sim.specs.declared.out.ChipOut.TheVariants as chip_out
-use Rattle.chip_sim.proofs.Doing.{after_all-append, outs_all-append, may_all-append}
+use Rattle.chip_sim.proofs.EventLists.{after_all-append, outs_all-append, may_all-append}
 use Rattle.device_kinds.specs.declared.kind.Kind.{Kind}
 use Rattle.device_kinds.specs.declared.kind.Kind.TheVariants.{Relay, Switch, Dimmer, Lock, Sensor, Thermostat, Strip, Configurable}
 use Rattle.device_sim.specs.Kind.{classes_of}

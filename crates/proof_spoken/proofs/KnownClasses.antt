@@ -32,7 +32,7 @@ use Rattle.proof_host.specs.Entries.{answers_at, entries_at, notes_of}
 use Rattle.outside_model.specs.State.{Outside}
 use Rattle.outside_model.specs.Events.{Host_writes, Host_notes, Host_begins, entries as entries_outside, outcome, ticked_entry, happens as happens_outside}
 use Rattle.outside_model.specs.Did.{entries_all as entries_all_outside, happens_all as happens_all_outside}
-use Rattle.outside_model.proofs.Doing.{entries_all-append}
+use Rattle.outside_model.proofs.EventLists.{entries_all-append}
 use Rattle.world_model.specs.State.{Machine, begun_in, host_does, host_entries, noted_by, routed}
 use Rattle.world_model.specs.Events.{Event, Outside_does, Host_does, Host_takes, Decoder_ticks, Refuses, Shows_values, Restarts, answers, entries, fed, happens, notes, shown_values, May}
 use Rattle.world_model.specs.Did.{happens_all, entries_all, MayAll}

@@ -10,7 +10,7 @@ use Rattle.world_model.specs.State.{Machine}
 use Rattle.world_model.specs.Events.{Event, happens}
 use Rattle.world_model.specs.Did.{happens_all, MayAll}
 use Rattle.world_model.specs.Prefixes.{IsLineBefore}
-use Rattle.world_model.proofs.Doing.{happens_all-append, may_all-append}
+use Rattle.world_model.proofs.EventLists.{happens_all-append, may_all-append}
 use Rattle.proof_serial.specs.Line.{AreLines}
 use Rattle.proof_world.specs.Restarts.{AllStartWell}
 use Rattle.world_lines.specs.Spoken.{Spoken, after, after_all}

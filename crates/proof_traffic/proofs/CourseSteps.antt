@@ -12,7 +12,7 @@ use Rattle.proof_device.proofs.DevicePlaces.{run_goes, go_same}
 use Rattle.world_model.specs.State.{Machine}
 use Rattle.world_model.specs.Events.{Event, May, happens}
 use Rattle.world_model.specs.Did.{happens_all, MayAll, Schedule, Then, Nothing, PrefixOf, ThenPrefix}
-use Rattle.world_model.proofs.Doing.{happens_all-append}
+use Rattle.world_model.proofs.EventLists.{happens_all-append}
 use Rattle.proof_serial.specs.Host.{AsksWell, AllAskWell}
 use Rattle.proof_serial.specs.Line.{IsWhole, WritesWell, AllWriteWell}
 use Rattle.proof_traffic.specs.OnAir.{IsFew, AlwaysFew}

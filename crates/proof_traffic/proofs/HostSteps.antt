@@ -5,7 +5,7 @@ use Rattle.host_model.specs.declared.out.HostOut.{HostOut}
 use Rattle.host_model.specs.State.{HostState}
 use Rattle.host_model.specs.Events.{HostEvent}
 use Rattle.host_model.specs.Did.{after_all, outs_all}
-use Rattle.host_model.proofs.Doing.{after_all-append, outs_all-append}
+use Rattle.host_model.proofs.EventLists.{after_all-append, outs_all-append}
 use Rattle.proof_traffic.specs.Requests.{Word, Traffic, Step}
 use Rattle.proof_traffic.specs.Requests as course
 use Rattle.proof_traffic.specs.HostTraffic.{words_put, words_out, Knows, Writes, Goes}

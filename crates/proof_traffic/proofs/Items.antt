@@ -53,7 +53,7 @@ use Rattle.host_model.specs.Taking.{told_requests, told_if, InterviewEvents, Res
 use Rattle.proof_traffic.specs.Requests.{Word, Send, Abort, Other, Pending, Traffic, Step, IsAbort, answered_now}
 use Rattle.proof_traffic.specs.Requests as course
 use Rattle.proof_traffic.specs.HostTraffic.{word_of, words_out, word_on, pending_of, IsPlain, InOrder, Knows, Writes, Goes}
-use Rattle.host_model.proofs.Doing.{outs_all-append}
+use Rattle.host_model.proofs.EventLists.{outs_all-append}
 use Rattle.proof_traffic.proofs.HostSteps.{goes_nowhere, goes_on, writes-none, words-append}
 use Rattle.proof_traffic.proofs.Quiet.{Same, knows_same, same_end_if, no_words, AreQuiet, quiet_goes, quiet_mutes, payload_quiet}
 use Rattle.proof_traffic.proofs.Submissions.{task_is_other}

@@ -25,7 +25,7 @@ use Rattle.proof_traffic.specs.OutsideTraffic.{flags, outward, no_routes_due, wi
 use Rattle.world_model.specs.State.{Machine}
 use Rattle.world_model.specs.Events.{Event, Outside_does, Host_does, Decoder_ticks, happens}
 use Rattle.world_model.specs.Did.{happens_all, Schedule, Then, Nothing, PrefixOf, ThenPrefix}
-use Rattle.world_model.proofs.Doing.{happens_all-append}
+use Rattle.world_model.proofs.EventLists.{happens_all-append}
 use Rattle.world_model.specs.Settling.{Settles}
 use Rattle.world_model.specs.Ticking.{IsClockTick, IsDelivery, IsGiving, IsDeviceTick, IsOutsideTick, IsHostTick, IsTick, Ticks}
 use Rattle.world_model.specs.Prefixes.{SettlesPrefix, OutsideTickPrefix, TickPrefix, TicksPrefix}

@@ -19,7 +19,7 @@ use Rattle.world_model.specs.Settling.{Settles}
 use Rattle.world_model.specs.Ticking.{Ticks}
 use Rattle.world_model.specs.Lines.{IsEffect, IsLineBegin, IsLineRest, IsLine}
 use Rattle.world_model.specs.Prefixes.{SettlesPrefix, TicksPrefix, EffectPrefix, LineRestPrefix, LinePrefix, LinePart}
-use Rattle.world_model.proofs.Doing.{happens_all-append, entries_all-append}
+use Rattle.world_model.proofs.EventLists.{happens_all-append, entries_all-append}
 use Rattle.world_lines.specs.Spoken.{Spoken, after, entries_of, transcript_of}
 use Rattle.world_lines.specs.Done.{AreDone}
 use Rattle.proof_transcript.proofs.KeptOverLists.{Keeps, keeps_none, keeps_both}

@@ -15,7 +15,7 @@ use Rattle.host_model.specs.declared.out.HostOut.TheVariants.{Write, Note}
 use Rattle.outside_model.specs.State.{Outside, OuterState}
 use Rattle.outside_model.specs.Events.{Host_begins, Host_notes, Host_writes, entries as entries_outside, happens as happens_outside, outcome, stamp, ticked_entry}
 use Rattle.outside_model.specs.Did.{entries_all as entries_all_outside, happens_all as happens_all_outside}
-use Rattle.outside_model.proofs.Doing.{entries_all-append}
+use Rattle.outside_model.proofs.EventLists.{entries_all-append}
 use Rattle.world_model.specs.State.{Machine, begun_in, host_does, host_entries, noted_by, routed}
 use Rattle.world_model.specs.Events.{Event, Outside_does, Host_does, Host_takes, Decoder_ticks, Refuses, Shows_values, Restarts, answers, entries, fed, happens, notes, shown_values, May}
 use Rattle.world_model.specs.Did.{entries_all, MayAll}

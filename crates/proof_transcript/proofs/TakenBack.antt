@@ -25,7 +25,7 @@ use Rattle.world_model.specs.Did.{happens_all, entries_all, AllAlong, PrefixOf, 
 use Rattle.world_model.specs.Settling.{Settles}
 use Rattle.world_model.specs.Lines.{IsEffect, IsLineBegin}
 use Rattle.world_model.specs.Prefixes.{IsLineBefore, SettlesPrefix, LinePart}
-use Rattle.world_model.proofs.Doing.{entries_all-append}
+use Rattle.world_model.proofs.EventLists.{entries_all-append}
 use Rattle.world_model.proofs.Hosting.{Silent}
 use Rattle.world_model.proofs.Own.{IsOwn}
 use Rattle.world_model.proofs.Pieces.{Law, Pieces, of_settling, of_settling_prefix, of_line_part}

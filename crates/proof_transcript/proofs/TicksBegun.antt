@@ -31,7 +31,7 @@ use Rattle.outside_model.specs.Did.{entries_all as entries_all_outside}
 use Rattle.world_model.specs.State.{Machine, host_does, host_entries, routed}
 use Rattle.world_model.specs.Events.{Event, Outside_does, Host_does, Host_takes, Decoder_ticks, Refuses, Shows_values, Restarts, answers, entries, fed, happens, notes, shown_values, May}
 use Rattle.world_model.specs.Did.{happens_all, entries_all, MayAll}
-use Rattle.world_model.proofs.Doing.{happens_all-append, entries_all-append}
+use Rattle.world_model.proofs.EventLists.{happens_all-append, entries_all-append}
 use Rattle.proof_transcript.proofs.Outer.{IsPlain, ArePlain, IsMildOuter, own_clock, own_plain}
 use Rattle.proof_transcript.proofs.Noted.{HearsOnly, event_plain}
 use Rattle.proof_transcript.proofs.Hosts.{IsNoJoin, LeavesRecords, SameJoined, heard_in, joined_in, event_kept}

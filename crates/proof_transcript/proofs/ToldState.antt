@@ -27,7 +27,7 @@ use Rattle.outside_model.specs.Events.{Begins_line, Clears_pipe, Joins as joins_
 use Rattle.world_model.specs.State.{Machine}
 use Rattle.world_model.specs.Events.{Event, Outside_does, Host_does, Refuses, Restarts, happens, entries}
 use Rattle.world_model.specs.Did.{happens_all, entries_all, AllAlong, MayAll, Then}
-use Rattle.world_model.proofs.Doing.{happens_all-append, entries_all-append}
+use Rattle.world_model.proofs.EventLists.{happens_all-append, entries_all-append}
 use Rattle.world_model.specs.Settling.{Settles}
 use Rattle.world_model.specs.Lines.{IsLine, IsLineRest, IsEffect}
 use Rattle.world_lines.specs.Done.{IsRead}

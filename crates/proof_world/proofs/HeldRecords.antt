@@ -13,7 +13,7 @@ use Rattle.host_model.specs.State.{HostState, first_host}
 use Rattle.host_model.specs.Events.{HostEvent}
 use Rattle.host_model.specs.Did.{MayAll as MayAllHost, after_all, records_all, texts_of}
 use Rattle.host_model.specs.Facts.{HostFacts}
-use Rattle.host_model.proofs.Doing.{all_in_range}
+use Rattle.host_model.proofs.EventLists.{all_in_range}
 use Rattle.host_model.specs.Holding.{Holds, HoldsAlone}
 use Rattle.host_model.specs.Opening.{opened}
 use Rattle.host_model.specs.Recording.{AllOfJoined}

@@ -17,7 +17,7 @@ use Rattle.run_tools.specs.Events.{EventsRan}
 use Rattle.run_include.specs.Run.{IncludeRan}
 use Rattle.run_replay.specs.Replay.{ReplayRan}
 use Rattle.run_sim.specs.Sim.{SimRan}
-use Rattle.run_sim.specs.Generate.{GenerateRan}
+use Rattle.run_generate.specs.Generate.{GenerateRan}
 use Rattle.zw_base.specs.Faults.{Rose}
 use Rattle.run_words.specs.Parsing.{texts_of}
 use Rattle.host_core.specs.declared.opening.OpenFault.TheVariants as opening

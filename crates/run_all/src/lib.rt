@@ -2,7 +2,7 @@
 //! does.
 //!
 //! `run` is the whole of it. `specs/Commands` says what each command reads, runs and writes at each status, and
-//! `proof_commands` what the runs of the commands keep true. The commands are in `run_sim`, `run_replay`,
+//! `proof_commands` what the runs of the commands keep true. The commands are in `run_sim`, `run_generate`, `run_replay`,
 //! `run_include`, `run_tools`, `port_run` and `run_audit`.
 #![tactic(auto)]
 

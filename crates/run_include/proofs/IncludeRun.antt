@@ -21,7 +21,7 @@ use Rattle.run_lines.specs.declared.status.Status.{Status}
 use Rattle.run_lines.specs.declared.status.Status.TheVariants.{NoMemory as no_memory}
 use Rattle.run_lines.specs.Writing.{text_of}
 use Rattle.run_lines.specs.Lines.{TextLine, AllRan, StopsIn, RanLines, DoesText, StopsText, LinesTold, fault_in, fault_by, lines_in}
-use Rattle.run_lines.proofs.Telling.{lines_told, none_told}
+use Rattle.run_lines.proofs.ToldLines.{lines_told, none_told}
 use Rattle.run_include.specs.Run.{entry_line, pieces_of, transcript_text, LineRan, PartRan, IsTable, IncludeRuns, IncludeStops, IncludeEnds, IncludeRan}
 
 -- the text of the pieces of entries is that of the entries

@@ -1,6 +1,6 @@
 pub mod Feeds
 pub mod Cutting
-pub mod Going
+pub mod ReadSoFar
 pub mod Pieces
 pub mod InputLines
 pub mod LinesSoFar
@@ -8,5 +8,5 @@ pub mod Completing
 pub mod Closing
 pub mod Growing
 pub mod Joining
-pub mod Telling
+pub mod ToldLines
 pub mod Shown

@@ -24,7 +24,7 @@ use Rattle.host_model.specs.State.{HostState, HostParts}
 use Rattle.host_model.specs.Events.{HostEvent, Accepts, Cancels}
 use Rattle.host_model.specs.Events.{Joins as joins_host}
 use Rattle.host_model.specs.Did.{Did, RoseIf, RoseBy, is_unkept, one_if, unkept_in, records_all, texts_of}
-use Rattle.host_model.proofs.Doing.{rose_one, rose_none, unkept_alone}
+use Rattle.host_model.proofs.EventLists.{rose_one, rose_none, unkept_alone}
 use Rattle.host_model.specs.Asking.{carriage_for, Waits}
 use Rattle.host_model.specs.declared.out.HostOut.{HostOut}
 use Rattle.host_step_bytes.specs.Calls.{DoesAlone, Are, scene}
@@ -43,7 +43,7 @@ use Rattle.world_model.proofs.Hosting.{adds_is}
 use Rattle.run_replay.specs.Machine.{Lone, Event, Does_asked, Refuses, Shows_values, Run, Does, Stops, May, happens, entries, entries_of, alone, asks_keeper}
 use Rattle.run_replay.specs.Lines.{IsEffect, by_host}
 use Rattle.run_replay.specs.Asking.{Answers, Enters, shown_uncancelled}
-use Rattle.run_replay.proofs.Doing.{ran_one, stopped_in, stopped_still}
+use Rattle.run_replay.proofs.EventLists.{ran_one, stopped_in, stopped_still}
 use Rattle.run_replay.proofs.Hosting.{at, held, hosted_is, none_entered}
 
 -- ---- what is entered of a refusal

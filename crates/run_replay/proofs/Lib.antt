@@ -1,4 +1,4 @@
-pub mod Doing
+pub mod EventLists
 pub mod Hosting
 pub mod Asking
 pub mod Steps

@@ -16,7 +16,7 @@ use Rattle.run_lines.specs.declared.status.Status.TheVariants.{NoMemory as no_me
 use Rattle.run_lines.specs.Pieces.{pieces_of, said_text}
 use Rattle.run_lines.specs.Lines.{TextLine, StopsText, LinesTold, fault_in, fault_by}
 use Rattle.run_lines.proofs.Shown.{pieces-append, pieces_text}
-use Rattle.run_lines.proofs.Telling.{lines_told, none_told}
+use Rattle.run_lines.proofs.ToldLines.{lines_told, none_told}
 use Rattle.run_replay.specs.Machine.{ReplayState, Scene, Does, Stops, first_replay, lone_of}
 use Rattle.run_replay.specs.Lines.{IsLine}
 use Rattle.run_replay.specs.Replay.{Point, ReplayRan, ReplayRuns, ReplayStops, AnswersLine, StopsLine, LineRan, PartRan, IsTable, table_entries, at, point_of, said}

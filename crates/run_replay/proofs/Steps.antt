@@ -10,7 +10,7 @@ use Rattle.zw_text.specs.declared.line.ReplayLine.{ReplayLine}
 use Rattle.zw_text.specs.declared.line.ReplayLine.TheVariants.{Plain, Chip}
 use Rattle.run_replay.specs.Machine.{Lone, Event, Scene, Run, Does, Stops, Then}
 use Rattle.run_replay.specs.Lines.{IsReplayed, IsEffect, IsPump, IsTaking, IsTick, AreTicks, IsPlain, IsLine}
-use Rattle.run_replay.proofs.Doing.{ran_nothing, ran_both, did_then, stopped_then, stopped_later}
+use Rattle.run_replay.proofs.EventLists.{ran_nothing, ran_both, did_then, stopped_then, stopped_later}
 
 -- ---- ticks
 

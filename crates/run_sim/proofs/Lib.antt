@@ -1,4 +1,2 @@
-pub mod Made
 pub mod SimLines
 pub mod SimRun
-pub mod Summing

@@ -14,7 +14,7 @@ use Rattle.world_model.specs.Events.{Event}
 use Rattle.world_model.specs.Did.{Does, Nothing, Stops}
 use Rattle.world_model.specs.Lines.{IsLine}
 use Rattle.world_model.specs.Prefixes.{LinePrefix, LinePart}
-use Rattle.world_model.proofs.Doing.{stopped_now, stopped_as, stopped_later}
+use Rattle.world_model.proofs.EventLists.{stopped_now, stopped_as, stopped_later}
 use Rattle.world_model.specs.Table.{table_entries}
 use Rattle.zw_world.specs.World.{WorldState, first_world, machine_of}
 use Rattle.zw_world.specs.Keeping.{GoesOn, KeepsOrRefuses}
@@ -26,7 +26,7 @@ use Rattle.run_lines.specs.declared.status.Status.TheVariants.{Ok as all_well, W
 use Rattle.run_lines.specs.Pieces.{pieces_of, said_text}
 use Rattle.run_lines.specs.Lines.{TextLine, DoesText, StopsText, LinesTold, fault_in, fault_by}
 use Rattle.run_lines.proofs.Shown.{pieces-append, pieces_text}
-use Rattle.run_lines.proofs.Telling.{lines_told, none_told}
+use Rattle.run_lines.proofs.ToldLines.{lines_told, none_told}
 use Rattle.run_sim.specs.Sim.{Point, SimRan, SimRuns, SimStops, LineRan, PartRan, IsTable, AnswersLine, StopsLine, at, point_of, said, shown_text}
 
 -- ---- one text

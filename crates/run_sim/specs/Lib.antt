@@ -1,2 +1,1 @@
 pub mod Sim
-pub mod Generate

@@ -1,4 +1,4 @@
 pub mod Counting
-pub mod Keeping
+pub mod RulesKept
 pub mod Lives
 pub mod Taking

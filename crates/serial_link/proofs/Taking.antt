@@ -11,7 +11,7 @@ use Rattle.serial_link.specs.Calls.{heard_steps, Takes, OnlyTakes}
 use Rattle.serial_link.specs.declared.out.LinkOut.{LinkOut}
 use Rattle.serial_link.specs.declared.turn.Turn.{Turn}
 use Rattle.serial_link.proofs.Counting.{marks_of-piece, piece_of-append, hear_all-append, heard_steps-append, outs_of-append}
-use Rattle.serial_link.proofs.Keeping.{keeps, side_hears_all}
+use Rattle.serial_link.proofs.RulesKept.{keeps, side_hears_all}
 
 -- bytes read on from where others ended
 reads-append : (bytes : List ℕ) (items : List Item) (mid more : List ℕ) (others : List Item) (rest : List ℕ) → Reads bytes items mid → Reads (mid ++ more) others rest → Reads (bytes ++ more) (items ++ others) rest

@@ -18,11 +18,11 @@ use Rattle.host_model.specs.declared.out.HostOut.TheVariants.{Write, Note}
 use Rattle.outside_model.specs.State.{Outside, OuterState, outside}
 use Rattle.outside_model.specs.Events.{OuterEvent, Host_notes, happens as happens_outside, devices_after}
 use Rattle.outside_model.specs.Did.{happens_all as happens_all_outside, entries_all as entries_all_outside, Goes}
-use Rattle.outside_model.proofs.Doing.{happens_all-append as outside-append, entries_all-append as outside_entries-append}
+use Rattle.outside_model.proofs.EventLists.{happens_all-append as outside-append, entries_all-append as outside_entries-append}
 use Rattle.world_model.specs.State.{Machine, begun_in, noted_by, routed, routed_one, with_texts, host_does, host_entries}
 use Rattle.world_model.specs.Events.{Event, Host_does, answers, happens, entries, May}
 use Rattle.world_model.specs.Did.{happens_all, entries_all, MayAll, unkept_in, Counted, Run, Schedule, IsOfHost, Stops}
-use Rattle.world_model.proofs.Doing.{counted_none}
+use Rattle.world_model.proofs.EventLists.{counted_none}
 
 -- ---- records
 

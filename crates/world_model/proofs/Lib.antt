@@ -1,4 +1,4 @@
-pub mod Doing
+pub mod EventLists
 pub mod Outside
 pub mod Hosting
 pub mod Silence

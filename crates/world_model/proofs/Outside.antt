@@ -4,7 +4,7 @@ use Rattle.std.specs.Prelude.{Option, Some, None}
 use Rattle.std.proofs.lemmas.List.{append-nil}
 use Rattle.zw_text.specs.declared.entry.Entry.{Entry}
 use Rattle.host_model.specs.Did.{RoseBy}
-use Rattle.host_model.proofs.Doing.{rose_none}
+use Rattle.host_model.proofs.EventLists.{rose_none}
 use Rattle.outside_model.specs.State.{Outside}
 use Rattle.outside_model.specs.Events.{OuterEvent, AreOwn, happens as happens_outside, entries as entries_outside}
 use Rattle.outside_model.specs.Did.{happens_all as happens_all_outside, entries_all as entries_all_outside, MayAll as MayAllOutside, Run as RunOutside, last_of as outer_last, Stops as StopsOutside}

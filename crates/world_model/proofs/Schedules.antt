@@ -9,7 +9,7 @@ use Rattle.world_model.specs.State.{Machine, with_outside}
 use Rattle.world_model.specs.Events.{Event, Outside_does}
 use Rattle.world_model.specs.Did.{Schedule, Scene, Stops, Does, Then, ThenPrefix}
 use Rattle.world_model.specs.Settling.{Outside as OutsideOf}
-use Rattle.world_model.proofs.Doing.{ran_both, stopped_as, stopped_later}
+use Rattle.world_model.proofs.EventLists.{ran_both, stopped_as, stopped_later}
 use Rattle.world_model.proofs.Outside.{ran_outside}
 
 -- one after another

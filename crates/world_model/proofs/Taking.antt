@@ -18,7 +18,7 @@ use Rattle.outside_model.specs.Did.{happens_all as happens_all_outside, entries_
 use Rattle.world_model.specs.State.{Machine, routed, with_texts, host_entries}
 use Rattle.world_model.specs.Events.{Event, Host_does, Host_takes, fed, happens, entries, May}
 use Rattle.world_model.specs.Did.{Run, Schedule, Stops}
-use Rattle.world_model.proofs.Doing.{counted_one}
+use Rattle.world_model.proofs.EventLists.{counted_one}
 use Rattle.world_model.proofs.Hosting.{adds_is, routed_still, devices_host-all, records_host-all, may_host-all, all_of_host, stopped_by}
 
 -- the host took bytes, and what it put out was routed

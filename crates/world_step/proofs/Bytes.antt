@@ -20,12 +20,12 @@ use Rattle.outside_model.specs.Events.{OuterEvent, Host_takes, outcome, devices_
 use Rattle.outside_model.specs.Did.{Goes, GoesOf}
 use Rattle.outside_model.specs.Schedules.{ChipTakes, any_moves}
 use Rattle.outside_model.specs.Schedules as chip
-use Rattle.outside_calls.proofs.Going.{goes_takes}
+use Rattle.outside_calls.proofs.QuietEvents.{goes_takes}
 use Rattle.world_model.specs.State.{Machine, machine, routed}
 use Rattle.world_model.specs.Events.{Event, Outside_does, Host_takes as takes}
 use Rattle.world_model.specs.Did.{Scene, Does, Nothing, Stops, happens_all}
 use Rattle.world_model.specs.Settling.{IsChipPart, IsHostPart, IsMove, TakesAll, TakesBy}
-use Rattle.world_model.proofs.Doing.{ran_nothing, ran_both}
+use Rattle.world_model.proofs.EventLists.{ran_nothing, ran_both}
 use Rattle.world_model.proofs.Schedules.{takes_own}
 use Rattle.world_model.proofs.Taking.{ran_takes, stopped_takes, stopped_prefix}
 use Rattle.world_step.specs.Scene.{scene_of}

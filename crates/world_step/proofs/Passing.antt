@@ -7,7 +7,7 @@ use Rattle.world_model.specs.Did.{Scene, Schedule, Run, Does, Stops, happens_all
 use Rattle.world_model.specs.Settling.{IsMove, IsPump, Passes}
 use Rattle.world_model.specs.Ticking.{IsTick, Ticks}
 use Rattle.world_model.specs.Prefixes.{PassesPrefix, TickPrefix, TicksPrefix}
-use Rattle.world_model.proofs.Doing.{ran_nothing, ran_both, stopped_as, stopped_later, happens_all-append}
+use Rattle.world_model.proofs.EventLists.{ran_nothing, ran_both, stopped_as, stopped_later, happens_all-append}
 use Rattle.world_step.specs.Moving.{are_some, Pass, PassPrefix}
 
 abbrev So : Bool → Type 0

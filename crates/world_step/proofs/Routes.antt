@@ -8,7 +8,7 @@ use Rattle.host_model.specs.declared.out.HostOut.{HostOut}
 use Rattle.outside_model.specs.State.{OuterState, outside}
 use Rattle.outside_model.specs.Events.{OuterEvent, Host_notes}
 use Rattle.outside_model.specs.Did.{entries_all, Goes}
-use Rattle.outside_model.proofs.Doing.{ran_both}
+use Rattle.outside_model.proofs.EventLists.{ran_both}
 use Rattle.world_model.specs.State.{begun_in, noted_by, routed, routed_one}
 use Rattle.world_step.specs.Routing.{begins_by}
 use Rattle.world_step.proofs.Scenes.{quiet_goes}

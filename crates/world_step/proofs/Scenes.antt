@@ -13,13 +13,13 @@ use Rattle.host_model.specs.declared.out.HostOut.{HostOut}
 use Rattle.outside_model.specs.State.{OuterState, outside}
 use Rattle.outside_model.specs.Events.{OuterEvent, is_own, AreOwn}
 use Rattle.outside_model.specs.Did.{RunOf, Goes, GoesOf, PrefixOf as PrefixOfOutside, Stops as StopsOutside}
-use Rattle.outside_model.proofs.Doing.{ran_nothing as ran_nothing_outside}
+use Rattle.outside_model.proofs.EventLists.{ran_nothing as ran_nothing_outside}
 use Rattle.world_model.specs.State.{Machine, machine, routed}
 use Rattle.world_model.specs.Events.{Event, Outside_does, Host_does, Decoder_ticks, happens, entries, May}
 use Rattle.world_model.specs.Did.{Schedule, Run, Does, Nothing, PrefixOf, Stops, These}
 use Rattle.world_model.specs.Settling.{Outside as OutsideOf}
 use Rattle.world_model.proofs.Outside.{ran_outside, stopped_outside}
-use Rattle.world_model.proofs.Doing.{counted_kept}
+use Rattle.world_model.proofs.EventLists.{counted_kept}
 use Rattle.world_model.proofs.Hosting.{Silent, ran_host, stopped_host, stopped_by}
 use Rattle.world_model.proofs.Schedules.{did_outside}
 use Rattle.world_step.specs.Scene.{scene_of}

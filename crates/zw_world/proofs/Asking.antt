@@ -47,7 +47,7 @@ use Rattle.world_model.specs.Refusals.{shown, IsRefused, IsRefusedBy, IsRefusedO
 use Rattle.world_model.specs.Events.{Event, Host_does, Outside_does, Refuses as refuses, Shows_values, notes, answers, happens, entries, May}
 use Rattle.world_model.specs.Did.{Run, Does, Nothing, Stops, is_keeper_fault}
 use Rattle.world_model.specs.Lines.{Asks, IsDone, IsDiscovery, IsEffect}
-use Rattle.world_model.proofs.Doing.{counted_kept, ran_both}
+use Rattle.world_model.proofs.EventLists.{counted_kept, ran_both}
 use Rattle.world_model.proofs.Hosting.{Silent, adds_is}
 use Rattle.world_model.proofs.Outside.{ran_outside}
 use Rattle.world_step.specs.Scene.{scene_of}

@@ -1,6 +1,6 @@
 pub mod Scenes
 pub mod Asking
-pub mod Keeping
+pub mod KeeperLines
 pub mod Listing
 pub mod Restarts
 pub mod Steps

@@ -22,14 +22,14 @@ use Rattle.host_core.specs.declared.opening.OpenFault.TheVariants as opening
 use Rattle.outside_model.specs.State.{OuterState, outside}
 use Rattle.outside_model.specs.Events.{OuterEvent, Clears_pipe, Host_notes}
 use Rattle.outside_model.specs.Did.{Goes}
-use Rattle.outside_model.proofs.Doing.{ran_both as ran_both_outside}
+use Rattle.outside_model.proofs.EventLists.{ran_both as ran_both_outside}
 use Rattle.world_model.specs.State.{Machine, machine}
 use Rattle.world_model.specs.Refusals.{IsUnopened, HasBad}
 use Rattle.world_model.specs.Events.{Event, Outside_does, Refuses, Restarts, OpensFrom, happens, entries, May}
 use Rattle.world_model.specs.Did.{Nothing, Run, Does, Stops, is_keeper_fault}
 use Rattle.world_model.specs.Prefixes.{RestartPrefix}
 use Rattle.world_model.specs.Lines.{IsRestart, restart_events}
-use Rattle.world_model.proofs.Doing.{counted_kept, ran_both, stopped_later}
+use Rattle.world_model.proofs.EventLists.{counted_kept, ran_both, stopped_later}
 use Rattle.world_model.proofs.Outside.{ran_outside}
 use Rattle.world_step.specs.Scene.{scene_of}
 use Rattle.world_step.proofs.Scenes.{stopped_still}

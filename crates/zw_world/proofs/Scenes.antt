@@ -11,7 +11,7 @@ use Rattle.zw_text.specs.declared.entry.Refusal.{Refusal}
 use Rattle.host_keep.specs.Keeping.{OptAdds}
 use Rattle.host_model.specs.State.{HostParts}
 use Rattle.host_model.specs.Did.{RoseIf}
-use Rattle.host_model.proofs.Doing.{rose_one}
+use Rattle.host_model.proofs.EventLists.{rose_one}
 use Rattle.outside_model.specs.State.{OuterState, Outside, outside}
 use Rattle.outside_model.specs.Events.{OuterEvent, Host_notes, is_own}
 use Rattle.outside_model.specs.Did.{Run as RunOutside, Goes, GoesFor, PrefixOf as PrefixOfOutside, Stops as StopsOutside}
@@ -21,7 +21,7 @@ use Rattle.world_model.specs.Refusals.{IsRefused}
 use Rattle.world_model.specs.Events.{Event, Outside_does, Refuses, happens, entries, May}
 use Rattle.world_model.specs.Did.{Schedule, Scene, Run, Does, PrefixOf, Stops, These, is_keeper_fault}
 use Rattle.world_model.specs.Settling.{Outside as OutsideOf}
-use Rattle.world_model.proofs.Doing.{counted_one}
+use Rattle.world_model.proofs.EventLists.{counted_one}
 use Rattle.world_model.proofs.Outside.{ran_outside}
 use Rattle.world_step.specs.Scene.{scene_of}
 use Rattle.world_step.proofs.Scenes.{stopped_out, prefixes_of, prefix_of}

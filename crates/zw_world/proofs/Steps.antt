@@ -14,7 +14,7 @@ use Rattle.world_model.specs.Prefixes.{SettlesPrefix, TicksPrefix, EffectPrefix,
 use Rattle.world_model.specs.Settling.{Settles}
 use Rattle.world_model.specs.Ticking.{Ticks}
 use Rattle.world_model.specs.Lines.{IsEffect, IsLineBegin, IsLineRest, IsLine}
-use Rattle.world_model.proofs.Doing.{stopped_as}
+use Rattle.world_model.proofs.EventLists.{stopped_as}
 use Rattle.world_model.proofs.Schedules.{did_then, stopped_first, stopped_then}
 use Rattle.zw_world.specs.Effects.{is_tick, asks_or_sets, IsSetting}
 

@@ -2,7 +2,7 @@
 use Rattle.serial_link.proofs.Taking.{on_err}
 use Rattle.host_model.specs.Pumping.{LetsSleep}
 use Rattle.host_step_bytes.specs.Calls.{Scene, scene}
-use Rattle.host_step_bytes.proofs.Doing.{then_stops}
+use Rattle.host_step_bytes.proofs.CallLists.{then_stops}
 use Rattle.host_core.proofs.Submitted.{whole_pump}
 use Rattle.host_core.proofs.pumping.pump.Goals as goal
 

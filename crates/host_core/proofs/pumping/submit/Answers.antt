@@ -1,10 +1,10 @@
 -- One request after another is submitted.
 use Rattle.std.proofs.Common.{refl, ◌∙◌, arith}
 use Rattle.serial_link.proofs.Taking.{on_err}
-use Rattle.host_model.proofs.Doing.{none_added}
+use Rattle.host_model.proofs.EventLists.{none_added}
 use Rattle.host_step_bytes.specs.Calls.{Scene, scene}
 use Rattle.host_model.specs.Pumping.{SubmitsSome}
-use Rattle.host_step_bytes.proofs.Doing.{does_nothing, then_stops}
+use Rattle.host_step_bytes.proofs.CallLists.{does_nothing, then_stops}
 use Rattle.host_core.proofs.Submitted.{one_more_turn, last_turn}
 use Rattle.host_core.proofs.pumping.submit.Goals as goal
 

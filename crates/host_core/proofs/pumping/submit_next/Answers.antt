@@ -1,7 +1,7 @@
 -- An abort, a task, or what a node gives.
 use Rattle.std.proofs.Common.{rules, ap, arith}
 use Rattle.host_model.specs.State.{HostParts}
-use Rattle.host_model.proofs.Doing.{none_added}
+use Rattle.host_model.proofs.EventLists.{none_added}
 use Rattle.host_step_bytes.specs.Calls.{Scene, scene}
 use Rattle.host_core.proofs.Served.{abort_submitted, prefix_submitted}
 use Rattle.host_core.proofs.pumping.submit_next.Goals as goal

@@ -7,7 +7,7 @@ use Rattle.host_node.specs.Search.{first_wanting}
 use Rattle.host_model.specs.Pumping.{sleepers_left}
 use Rattle.host_step_bytes.specs.Calls.{Are}
 use Rattle.host_core.proofs.Loops.{none_sleeps, one_more_sleeps, all_sleep}
-use Rattle.host_step_bytes.proofs.Doing.{stops_alone, alone_then_stops}
+use Rattle.host_step_bytes.proofs.CallLists.{stops_alone, alone_then_stops}
 use Rattle.host_core.proofs.sleeping.let_sleep.Goals as goal
 
 pub loop-node-init : goal.loop-node-init

@@ -6,7 +6,7 @@ use Rattle.host_model.specs.Events.{Line_ticks}
 use Rattle.host_model.specs.Ticking.{first_ticks}
 use Rattle.host_step_bytes.specs.Calls.{Are}
 use Rattle.host_core.proofs.Loops.{line_alone, first_two, whole_tick}
-use Rattle.host_step_bytes.proofs.Doing.{stops_alone, alone_then_stops}
+use Rattle.host_step_bytes.proofs.CallLists.{stops_alone, alone_then_stops}
 use Rattle.host_core.proofs.ticking.tick.Goals as goal
 
 pub returns-in_err-tick_line-clause-err : goal.returns-in_err-tick_line-clause-err

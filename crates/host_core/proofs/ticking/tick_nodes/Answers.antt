@@ -4,7 +4,7 @@ use Rattle.serial_link.proofs.Taking.{on_err}
 use Rattle.host_model.specs.State.{HostParts}
 use Rattle.host_step_bytes.specs.Calls.{Are}
 use Rattle.host_core.proofs.Loops.{TicksSoFar, none_so_far, one_more_so_far, all_so_far, ticked_next}
-use Rattle.host_step_bytes.proofs.Doing.{stops_alone, alone_then_stops}
+use Rattle.host_step_bytes.proofs.CallLists.{stops_alone, alone_then_stops}
 use Rattle.host_core.proofs.ticking.tick_nodes.Goals as goal
 
 pub loop-node-init : goal.loop-node-init

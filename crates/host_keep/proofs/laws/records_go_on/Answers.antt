@@ -1,4 +1,4 @@
-use Rattle.host_keep.proofs.Going.{after_all-append, legal_one_more}
+use Rattle.host_keep.proofs.RecordLists.{after_all-append, legal_one_more}
 use Rattle.host_keep.proofs.laws.records_go_on.Goals as goal
 
 pub returns : goal.returns

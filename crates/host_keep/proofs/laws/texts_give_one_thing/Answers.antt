@@ -1,4 +1,4 @@
-use Rattle.host_keep.proofs.Going.{give_one, good_not_bad, bad_once}
+use Rattle.host_keep.proofs.RecordLists.{give_one, good_not_bad, bad_once}
 use Rattle.host_keep.proofs.laws.texts_give_one_thing.Goals as goal
 
 pub returns : goal.returns

@@ -1,5 +1,5 @@
 -- What the nodes keep, the host keeps.
-use Rattle.host_model.proofs.Keeping.{kept, first_kept}
+use Rattle.host_model.proofs.FactsKept.{kept, first_kept}
 use Rattle.host_model.proofs.event_laws.facts_are_kept.Goals as goal
 
 pub returns-clause-first : goal.returns-clause-first

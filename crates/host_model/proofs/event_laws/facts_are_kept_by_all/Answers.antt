@@ -1,5 +1,5 @@
 -- What the nodes keep, the host keeps.
-use Rattle.host_model.proofs.Keeping.{all_kept}
+use Rattle.host_model.proofs.FactsKept.{all_kept}
 use Rattle.host_model.proofs.event_laws.facts_are_kept_by_all.Goals as goal
 
 pub returns : goal.returns

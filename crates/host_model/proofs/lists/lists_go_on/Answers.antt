@@ -1,5 +1,5 @@
 -- Lists of events that happened one after another.
-use Rattle.host_model.proofs.Doing.{after_all-append, outs_all-append, records_all-append, may_all-append, all_in_range, did_nothing, did_one, did_both}
+use Rattle.host_model.proofs.EventLists.{after_all-append, outs_all-append, records_all-append, may_all-append, all_in_range, did_nothing, did_one, did_both}
 use Rattle.host_model.proofs.lists.lists_go_on.Goals as goal
 
 pub returns-clause-state : goal.returns-clause-state

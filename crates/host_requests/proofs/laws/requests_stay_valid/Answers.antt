@@ -1,4 +1,4 @@
-use Rattle.host_requests.proofs.Keeping.{kept, kept_all}
+use Rattle.host_requests.proofs.FactsKept.{kept, kept_all}
 use Rattle.host_requests.proofs.laws.requests_stay_valid.Goals as goal
 
 pub returns-clause-step : goal.returns-clause-step

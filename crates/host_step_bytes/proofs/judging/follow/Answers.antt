@@ -1,8 +1,8 @@
 -- A good unit, or what is no unit.
 use Rattle.std.proofs.Common.{[], refl, arith}
-use Rattle.host_model.proofs.Doing.{none_added}
+use Rattle.host_model.proofs.EventLists.{none_added}
 use Rattle.host_step_bytes.specs.Calls.{Scene, scene, Are}
-use Rattle.host_step_bytes.proofs.Doing.{does_nothing}
+use Rattle.host_step_bytes.proofs.CallLists.{does_nothing}
 use Rattle.host_step_bytes.proofs.Followed.{as_followed}
 use Rattle.serial_frame.specs.declared.item.Item.TheVariants.{Good}
 use Rattle.host_step_bytes.proofs.judging.follow.Goals as goal

@@ -4,7 +4,7 @@ use Rattle.std.specs.Prelude.{Bool}
 use Rattle.serial_link.proofs.Taking.{on_err}
 use Rattle.host_model.specs.State.{HostParts}
 use Rattle.host_model.specs.Events.{HostEvent}
-use Rattle.host_model.proofs.Doing.{none_added}
+use Rattle.host_model.proofs.EventLists.{none_added}
 use Rattle.host_step_bytes.specs.Calls.{Scene, scene, Are}
 use Rattle.serial_frame.specs.declared.item.Item.TheVariants.{Good}
 use Rattle.serial_frame.specs.declared.unit.Unit.{Unit as LineUnit}
@@ -12,7 +12,7 @@ use Rattle.serial_frame.specs.declared.unit.Unit.TheVariants.{Ack, Nak, Can}
 use Rattle.host_requests.specs.Events.RequestsEvent.{IsSent, Fails}
 use Rattle.host_model.specs.After.{gives_up}
 use Rattle.host_model.specs.Taking.{told_if}
-use Rattle.host_step_bytes.proofs.Doing.{stops_at_once}
+use Rattle.host_step_bytes.proofs.CallLists.{stops_at_once}
 use Rattle.host_step_bytes.proofs.Followed.{as_followed}
 use Rattle.host_step_bytes.proofs.judging.follow_unit.Goals as goal
 

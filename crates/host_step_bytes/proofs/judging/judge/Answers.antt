@@ -2,11 +2,11 @@
 use Rattle.std.proofs.Common.{refl, ap}
 use Rattle.serial_link.proofs.Taking.{on_err}
 use Rattle.host_model.specs.State.{HostParts}
-use Rattle.host_model.proofs.Doing.{none_added}
+use Rattle.host_model.proofs.EventLists.{none_added}
 use Rattle.std.proofs.Common.{arith, [], ◌∷◌}
 use Rattle.host_model.specs.Events.{Hears}
 use Rattle.host_step_bytes.specs.Calls.{Scene, scene, Are}
-use Rattle.host_step_bytes.proofs.Doing.{stops_at_once, then_stops}
+use Rattle.host_step_bytes.proofs.CallLists.{stops_at_once, then_stops}
 use Rattle.host_step_bytes.proofs.Pieces.{judges, hears}
 use Rattle.host_step_bytes.proofs.judging.judge.Goals as goal
 

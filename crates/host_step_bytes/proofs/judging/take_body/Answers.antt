@@ -2,9 +2,9 @@
 use Rattle.std.proofs.Common.{ap, arith}
 use Rattle.serial_link.proofs.Taking.{on_err}
 use Rattle.host_model.specs.State.{HostParts}
-use Rattle.host_model.proofs.Doing.{none_added}
+use Rattle.host_model.proofs.EventLists.{none_added}
 use Rattle.host_step_bytes.specs.Calls.{Scene, scene}
-use Rattle.host_step_bytes.proofs.Doing.{stops_at_once}
+use Rattle.host_step_bytes.proofs.CallLists.{stops_at_once}
 use Rattle.host_step_bytes.proofs.Followed.{frame_as}
 use Rattle.serial_frame.specs.declared.frame.Kind.TheVariants as kind
 use Rattle.host_step_bytes.proofs.judging.take_body.Goals as goal

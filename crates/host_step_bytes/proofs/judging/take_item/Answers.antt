@@ -4,10 +4,10 @@ use Rattle.serial_link.proofs.Taking.{on_err}
 use Rattle.serial_frame.specs.Stream.{Rest, IsRest}
 use Rattle.host_model.specs.State.{HostState, HostParts}
 use Rattle.host_model.specs.Taking.{IsJudged}
-use Rattle.host_model.proofs.Doing.{none_added}
+use Rattle.host_model.proofs.EventLists.{none_added}
 use Rattle.host_model.proofs.Feeding.{fed_none}
 use Rattle.host_step_bytes.specs.Calls.{Scene, scene, Does}
-use Rattle.host_step_bytes.proofs.Doing.{stops_at_once}
+use Rattle.host_step_bytes.proofs.CallLists.{stops_at_once}
 use Rattle.host_step_bytes.proofs.Pieces.{takes_item, stops_in_item}
 use Rattle.host_step_bytes.proofs.judging.take_item.Goals as goal
 

@@ -2,9 +2,9 @@
 use Rattle.std.proofs.Common.{refl, arith}
 use Rattle.std.specs.Prelude.{Ok}
 use Rattle.serial_link.proofs.Taking.{on_err}
-use Rattle.host_model.proofs.Doing.{none_added}
+use Rattle.host_model.proofs.EventLists.{none_added}
 use Rattle.host_step_bytes.specs.Calls.{Scene, scene}
-use Rattle.host_step_bytes.proofs.Doing.{stops_at_once}
+use Rattle.host_step_bytes.proofs.CallLists.{stops_at_once}
 use Rattle.host_step_bytes.proofs.Followed.{payload_is_short, read_as, unread_notice}
 use Rattle.host_step_bytes.proofs.judging.take_notice.Goals as goal
 

@@ -3,12 +3,12 @@ use Rattle.std.proofs.Common.{List, [], refl, ap, arith}
 use Rattle.serial_link.proofs.Taking.{on_err}
 use Rattle.host_model.specs.State.{HostParts}
 use Rattle.host_model.specs.Events.{HostEvent}
-use Rattle.host_model.proofs.Doing.{none_added}
+use Rattle.host_model.proofs.EventLists.{none_added}
 use Rattle.host_step_bytes.specs.Calls.{Scene, scene, Are}
 use Rattle.chip_functions.specs.declared.notice.Notice.TheVariants.{SendData, AddNode}
 use Rattle.host_requests.specs.Events.RequestsEvent.{CallsBack}
 use Rattle.host_model.specs.Taking.{told_requests}
-use Rattle.host_step_bytes.proofs.Doing.{stops_at_once, does_nothing}
+use Rattle.host_step_bytes.proofs.CallLists.{stops_at_once, does_nothing}
 use Rattle.host_step_bytes.proofs.Followed.{notice_as, requests_alone}
 use Rattle.host_step_bytes.proofs.judging.take_read.Goals as goal
 

@@ -8,7 +8,7 @@ use Rattle.host_requests.specs.State.{RequestsState}
 use Rattle.host_requests.specs.Events.RequestsEvent.{Updates}
 use Rattle.host_requests.specs.Events.{interviewed_by}
 use Rattle.host_model.specs.Taking.{InterviewEvents, told_requests}
-use Rattle.host_step_bytes.proofs.Doing.{does_as}
+use Rattle.host_step_bytes.proofs.CallLists.{does_as}
 use Rattle.host_step_bytes.proofs.Followed.{no_interview, interviewed_as, requests_alone}
 use Rattle.host_step_bytes.proofs.judging.take_update.Goals as goal
 

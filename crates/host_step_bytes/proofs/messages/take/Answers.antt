@@ -7,9 +7,9 @@ use Rattle.host_heard.specs.declared.told.Told.{Told}
 use Rattle.host_model.specs.State.{HostParts, node_of}
 use Rattle.host_model.specs.Events.{Unreads, Notifies}
 use Rattle.host_model.specs.Taking.{IsTaken, is_secure, value_events}
-use Rattle.host_model.proofs.Doing.{none_added}
+use Rattle.host_model.proofs.EventLists.{none_added}
 use Rattle.host_step_bytes.specs.Calls.{Scene, scene}
-use Rattle.host_step_bytes.proofs.Doing.{stops_at_once, does_one}
+use Rattle.host_step_bytes.proofs.CallLists.{stops_at_once, does_one}
 use Rattle.host_step_bytes.proofs.OneMessage.{report_unread, as_taken}
 use Rattle.host_step_bytes.proofs.Unsealed.{unread_does}
 use Rattle.host_step_bytes.proofs.messages.take.Goals as goal

@@ -2,9 +2,9 @@
 use Rattle.std.proofs.Common.{refl, ◌∙◌, arith, []}
 use Rattle.serial_link.proofs.Taking.{on_err}
 use Rattle.host_model.specs.Taking.{AreTaken}
-use Rattle.host_model.proofs.Doing.{none_added}
+use Rattle.host_model.proofs.EventLists.{none_added}
 use Rattle.host_step_bytes.specs.Calls.{Scene, scene}
-use Rattle.host_step_bytes.proofs.Doing.{does_nothing, then_stops}
+use Rattle.host_step_bytes.proofs.CallLists.{does_nothing, then_stops}
 use Rattle.host_step_bytes.proofs.Taken.{message_taken}
 use Rattle.host_step_bytes.proofs.messages.take_all.Goals as goal
 

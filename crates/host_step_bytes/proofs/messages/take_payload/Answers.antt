@@ -1,9 +1,9 @@
 -- Sealed, or unread.
 use Rattle.std.proofs.Common.{refl, sym, ◌∙◌, arith}
 use Rattle.serial_link.proofs.Taking.{on_err}
-use Rattle.host_model.proofs.Doing.{none_added}
+use Rattle.host_model.proofs.EventLists.{none_added}
 use Rattle.host_step_bytes.specs.Calls.{Scene, scene}
-use Rattle.host_step_bytes.proofs.Doing.{stops_at_once}
+use Rattle.host_step_bytes.proofs.CallLists.{stops_at_once}
 use Rattle.host_step_bytes.proofs.Unsealed.{sealed_begins, payload_unread}
 use Rattle.host_step_bytes.proofs.messages.take_payload.Goals as goal
 

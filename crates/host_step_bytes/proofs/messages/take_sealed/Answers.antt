@@ -3,9 +3,9 @@ use Rattle.std.proofs.Common.{List, [], ◌∷◌, refl, ap, sym, ◌∙◌, sub
 use Rattle.std.specs.Prelude.{true}
 use Rattle.serial_link.proofs.Taking.{on_err}
 use Rattle.host_model.specs.State.{HostParts}
-use Rattle.host_model.proofs.Doing.{none_added}
+use Rattle.host_model.proofs.EventLists.{none_added}
 use Rattle.host_step_bytes.specs.Calls.{Scene, scene, Does, Are}
-use Rattle.host_step_bytes.proofs.Doing.{stops_at_once, then_stops}
+use Rattle.host_step_bytes.proofs.CallLists.{stops_at_once, then_stops}
 use Rattle.host_heard.specs.declared.told.Told.{Told}
 use Rattle.host_model.specs.Taking.{AreTaken}
 use Rattle.host_step_kept.specs.Opening.{opening}

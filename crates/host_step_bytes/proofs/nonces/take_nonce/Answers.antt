@@ -2,9 +2,9 @@
 use Rattle.std.proofs.Common.{rules, refl, ap, sym, ◌∙◌, arith}
 use Rattle.serial_link.proofs.Taking.{on_err}
 use Rattle.host_model.specs.State.{HostParts}
-use Rattle.host_model.proofs.Doing.{none_added}
+use Rattle.host_model.proofs.EventLists.{none_added}
 use Rattle.host_step_bytes.specs.Calls.{Scene, scene}
-use Rattle.host_step_bytes.proofs.Doing.{stops_at_once}
+use Rattle.host_step_bytes.proofs.CallLists.{stops_at_once}
 use Rattle.std.specs.Prelude.{slice_index}
 use Rattle.host_node.specs.State.{NodeState, count_at}
 use Rattle.host_step_bytes.proofs.OneNonce.{nonce_taken, no_nonce}

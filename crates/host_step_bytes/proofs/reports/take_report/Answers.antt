@@ -1,7 +1,7 @@
 -- A report of no open session, or of work.
 use Rattle.std.proofs.Common.{refl, ap, sym, ◌∙◌, arith}
 use Rattle.host_model.specs.State.{HostParts}
-use Rattle.host_model.proofs.Doing.{none_added}
+use Rattle.host_model.proofs.EventLists.{none_added}
 use Rattle.host_step_bytes.specs.Calls.{Scene, scene}
 use Rattle.std.proofs.lemmas.List.{append-nil}
 use Rattle.host_step_bytes.proofs.Reported.{old_reported, work_reported}

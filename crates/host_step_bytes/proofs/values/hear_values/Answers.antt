@@ -3,7 +3,7 @@ use Rattle.std.proofs.Common.{◌≡◌, List, [], refl, ap, ◌∙◌, subst, a
 use Rattle.serial_link.proofs.Taking.{on_err}
 use Rattle.host_model.specs.State.{HostParts}
 use Rattle.host_step_bytes.specs.Calls.{DoesAlone, Are}
-use Rattle.host_step_bytes.proofs.Doing.{nothing_alone, stops_alone, alone_then_stops}
+use Rattle.host_step_bytes.proofs.CallLists.{nothing_alone, stops_alone, alone_then_stops}
 use Rattle.std.proofs.Common.{take}
 use Rattle.std.proofs.lemmas.Grind.{common_steps}
 use Rattle.zw_base.specs.declared.property.Setting.{Setting}

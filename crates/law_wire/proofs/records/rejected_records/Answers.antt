@@ -11,12 +11,12 @@ use Rattle.host_keep.specs.declared.record.Record.{Record}
 use Rattle.host_keep.specs.declared.record.Record.TheVariants as records
 use Rattle.host_keep.specs.declared.final_status.FinalStatus.{FinalStatus}
 use Rattle.host_keep.specs.declared.final_status.FinalStatus.TheVariants.{Success}
-use Rattle.host_keep.proofs.Going.{give_one}
+use Rattle.host_keep.proofs.RecordLists.{give_one}
 use Rattle.host_keep.proofs.RowsBack.{one_record}
 use Rattle.law_transcript.specs.WorkedDevices.{plain_records}
 use Rattle.law_wire.specs.WorkedRecords.{spent_ungiven}
 use Rattle.law_wire.proofs.Computing.{reckoning}
-use Rattle.law_wire.proofs.Keeping.{spent_well, gives_begun, gives_cancelling, gives_otherwise}
+use Rattle.law_wire.proofs.ShownRecords.{spent_well, gives_begun, gives_cancelling, gives_otherwise}
 use Rattle.law_wire.proofs.records.rejected_records.Goals as goal
 
 -- whether the first order turns something on

@@ -5,7 +5,7 @@ use Rattle.law_transcript.specs.Worked.{plain_exchange, repeated_exchange, lossy
 use Rattle.law_transcript.specs.WorkedDevices.{plain_records}
 use Rattle.law_wire.specs.WorkedRecords.{still_begun, begun_records, taken_back, cancelling_records, lossy_records, cancelled_records, sleeping_records, sealed_records, cut_records}
 use Rattle.law_wire.proofs.Computing.{reckoning}
-use Rattle.law_wire.proofs.Keeping.{blank_at, shows_nodes, gives_plain, gives_begun, gives_cancelling, gives_lossy, gives_cancelled, gives_sleeping, gives_sealed, gives_cut}
+use Rattle.law_wire.proofs.ShownRecords.{blank_at, shows_nodes, gives_plain, gives_begun, gives_cancelling, gives_lossy, gives_cancelled, gives_sleeping, gives_sealed, gives_cut}
 use Rattle.law_wire.proofs.records.worked_records.Goals as goal
 
 plain_nodes : (node : ℕ) → ShowsNode plain_exchange node (node_of (kept_of plain_records) node)

@@ -1,5 +1,5 @@
 -- Lists of events that happened one after another.
-use Rattle.outside_model.proofs.Doing.{happens_all-append, entries_all-append, may_all-append, ran_nothing, ran_both}
+use Rattle.outside_model.proofs.EventLists.{happens_all-append, entries_all-append, may_all-append, ran_nothing, ran_both}
 use Rattle.outside_model.proofs.laws.outer_lists_go_on.Goals as goal
 
 pub returns-clause-state : goal.returns-clause-state

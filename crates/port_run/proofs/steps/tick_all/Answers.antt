@@ -1,6 +1,6 @@
 use Rattle.std.proofs.Common.{arith}
 use Rattle.port_run.specs.Steps.{place}
-use Rattle.port_run.proofs.Doing.{went_nothing}
+use Rattle.port_run.proofs.StepLists.{went_nothing}
 use Rattle.port_run.proofs.Ticking.{ticks_went, ticks_broke, ticks_all}
 use Rattle.port_run.proofs.steps.tick_all.Goals as goal
 

@@ -10,6 +10,7 @@ returns c = λ key old new. record {
   taken_back = c.stories_tell_of_commands.ensures.taken_back key old new;
   stores = c.stories_tell_of_commands.ensures.stores key old new;
   written = c.stories_tell_of_commands.ensures.written key old new;
+  records = c.stories_leave_records.ensures key old new;
   once = c.stories_take_once.ensures.once key old new;
   same = c.stories_take_once.ensures.same key old new;
   shown = c.stories_take_once.ensures.shown key old new;

@@ -1,5 +1,5 @@
 -- Lists of events that were done one after another.
-use Rattle.world_model.proofs.Doing.{happens_all-append, entries_all-append, may_all-append, ran_nothing, ran_both}
+use Rattle.world_model.proofs.EventLists.{happens_all-append, entries_all-append, may_all-append, ran_nothing, ran_both}
 use Rattle.world_model.proofs.laws.lists_go_on.Goals as goal
 
 pub returns-clause-state : goal.returns-clause-state

@@ -7,7 +7,7 @@ use Rattle.host_core.specs.Network.{keys_of}
 use Rattle.host_core.specs.Opening.{Takes, MayTakeNone}
 use Rattle.host_core.specs.declared.opening.OpenFault.{OpenFault}
 use Rattle.host_core.specs.declared.opening.OpenFault.TheVariants.{BadRecord}
-use Rattle.host_model.proofs.Doing.{rose_less}
+use Rattle.host_model.proofs.EventLists.{rose_less}
 use Rattle.host_core.proofs.Opened.{TookUp, fresh, same_keys, took_none, took_more, first_bad, opens, read_none, read_more, read_on}
 use Rattle.host_core.proofs.host.Host.open.Goals as goal
 

@@ -1,7 +1,7 @@
 use Rattle.std.proofs.Common.{◌≡◌, ◌-◌, length, ap, arith}
 use Rattle.include_world.specs.Air.{flying}
 use Rattle.include_world.specs.World.{WorldState}
-use Rattle.include_world.proofs.Doing.{none_arrived, one_arrived, delivered}
+use Rattle.include_world.proofs.DoneEvents.{none_arrived, one_arrived, delivered}
 use Rattle.include_world.proofs.world.IncludeWorld.deliver.Goals as goal
 
 pub loop-init : goal.loop-init

@@ -1,6 +1,6 @@
 use Rattle.std.proofs.Common.{◌≤◌}
 use Rattle.include_world.specs.Air.{flying}
-use Rattle.include_world.proofs.Doing.{Arrived}
+use Rattle.include_world.proofs.DoneEvents.{Arrived}
 use Rattle.include_world.proofs.world.IncludeWorld.deliver.Given as goal
 
 abbrev pub invariant-loop : goal.invariant-loop

@@ -1,5 +1,5 @@
 use Rattle.std.proofs.Common.{◌∙◌}
-use Rattle.include_world.proofs.Doing.{still_flying}
+use Rattle.include_world.proofs.DoneEvents.{still_flying}
 use Rattle.include_world.proofs.world.IncludeWorld.land.Goals as goal
 
 pub land-requires : goal.land-requires

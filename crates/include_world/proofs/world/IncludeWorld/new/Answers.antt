@@ -1,4 +1,4 @@
-use Rattle.include_world.proofs.Telling.{first_if}
+use Rattle.include_world.proofs.KnownAfterCalls.{first_if}
 use Rattle.include_world.proofs.world.IncludeWorld.new.Goals as goal
 
 pub returns-clause-reached : goal.returns-clause-reached

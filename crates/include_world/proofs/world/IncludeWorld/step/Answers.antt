@@ -1,4 +1,4 @@
-use Rattle.include_world.proofs.Telling.{tells_on}
+use Rattle.include_world.proofs.KnownAfterCalls.{tells_on}
 use Rattle.include_world.proofs.world.IncludeWorld.step.Goals as goal
 
 pub returns-clause-added : goal.returns-clause-added

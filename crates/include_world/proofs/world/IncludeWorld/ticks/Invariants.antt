@@ -1,4 +1,4 @@
-use Rattle.include_world.proofs.Doing.{Ticked}
+use Rattle.include_world.proofs.DoneEvents.{Ticked}
 use Rattle.include_world.proofs.world.IncludeWorld.ticks.Given as goal
 
 abbrev pub invariant-loop : goal.invariant-loop

@@ -1,6 +1,6 @@
 use Rattle.std.proofs.Common.{◌<◌, length, inl, refl, rules}
 use Rattle.mesh_sim.proofs.Lists.{seen_at, seen_set}
-use Rattle.mesh_sim.proofs.Doing.{lost_did, dead_did, missed_did, chip_did, device_did, device_stops, device_is_cut, heard_within, on_err}
+use Rattle.mesh_sim.proofs.StepLists.{lost_did, dead_did, missed_did, chip_did, device_did, device_stops, device_is_cut, heard_within, on_err}
 use Rattle.mesh_sim.proofs.air.Air.arrive.Goals as goal
 
 pub returns-in-Lost-clause-ok : goal.returns-in-Lost-clause-ok

@@ -1,5 +1,5 @@
 use Rattle.std.proofs.Common.{refl, ◌∙◌}
-use Rattle.mesh_sim.proofs.Doing.{none_arrived, one_arrived, stop_then, on_err}
+use Rattle.mesh_sim.proofs.StepLists.{none_arrived, one_arrived, stop_then, on_err}
 use Rattle.mesh_sim.proofs.air.Air.deliver.Goals as goal
 
 pub loop-init : goal.loop-init

@@ -1,5 +1,5 @@
 use Rattle.std.proofs.Common.{◌≡◌, length, map}
-use Rattle.mesh_sim.proofs.Doing.{Arrived}
+use Rattle.mesh_sim.proofs.StepLists.{Arrived}
 use Rattle.mesh_sim.proofs.air.Air.deliver.Given as goal
 
 abbrev pub invariant-loop : goal.invariant-loop

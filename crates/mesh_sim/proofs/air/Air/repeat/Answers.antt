@@ -1,5 +1,5 @@
 use Rattle.std.proofs.Common.{[], None, refl}
-use Rattle.mesh_sim.proofs.Doing.{blank, chip_again, device_again, device_again_cut, on_err, not_refused}
+use Rattle.mesh_sim.proofs.StepLists.{blank, chip_again, device_again, device_again_cut, on_err, not_refused}
 use Rattle.mesh_sim.proofs.air.Air.repeat.Goals as goal
 
 pub returns-in_ok-enter_at_chip-in-Homeward-clause-ok : goal.returns-in_ok-enter_at_chip-in-Homeward-clause-ok

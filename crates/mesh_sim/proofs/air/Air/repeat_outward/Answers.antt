@@ -1,6 +1,6 @@
 use Rattle.std.proofs.Common.{None, rules}
 use Rattle.mesh_sim.proofs.Lists.{seen_at, seen_set}
-use Rattle.mesh_sim.proofs.Doing.{blank, none_again, one_again, perhaps_again}
+use Rattle.mesh_sim.proofs.StepLists.{blank, none_again, one_again, perhaps_again}
 use Rattle.mesh_sim.proofs.air.Air.repeat_outward.Goals as goal
 
 pub returns-in-Some-clause-ok : goal.returns-in-Some-clause-ok

@@ -1,4 +1,4 @@
-use Rattle.outside_calls.proofs.Going.{goes_line}
+use Rattle.outside_calls.proofs.QuietEvents.{goes_line}
 use Rattle.outside_calls.proofs.outside.Outside.begin_line.Goals as goal
 
 pub returns : goal.returns

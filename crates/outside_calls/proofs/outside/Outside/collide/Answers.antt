@@ -1,5 +1,5 @@
 use Rattle.outside_step.proofs.Answered.{map_ok}
-use Rattle.outside_calls.proofs.Going.{goes_collides}
+use Rattle.outside_calls.proofs.QuietEvents.{goes_collides}
 use Rattle.outside_calls.proofs.outside.Outside.collide.Goals as goal
 
 pub returns-clause-ok : goal.returns-clause-ok

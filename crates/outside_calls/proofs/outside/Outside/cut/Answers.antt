@@ -1,4 +1,4 @@
-use Rattle.outside_calls.proofs.Going.{goes_cuts}
+use Rattle.outside_calls.proofs.QuietEvents.{goes_cuts}
 use Rattle.outside_calls.proofs.outside.Outside.cut.Goals as goal
 
 pub returns : goal.returns

@@ -2,9 +2,9 @@ use Rattle.std.proofs.Common.{[], ◌-◌, refl, ap, arith, ◌∙◌}
 use Rattle.outside_model.specs.State.{OuterState}
 use Rattle.outside_step.proofs.Answered.{on_err}
 use Rattle.outside_calls.proofs.Counted.{arrivals, ran_more, ran_all, ran_stops}
-use Rattle.outside_model.proofs.Doing.{ran_nothing}
+use Rattle.outside_model.proofs.EventLists.{ran_nothing}
 use Rattle.outside_calls.proofs.Landing.{arrive_moves}
-use Rattle.mesh_sim.proofs.Doing.{Moves}
+use Rattle.mesh_sim.proofs.StepLists.{Moves}
 use Rattle.outside_calls.proofs.outside.Outside.deliver.Goals as goal
 
 pub loop-init : goal.loop-init

@@ -1,4 +1,4 @@
-use Rattle.outside_calls.proofs.Going.{goes_discovers}
+use Rattle.outside_calls.proofs.QuietEvents.{goes_discovers}
 use Rattle.outside_calls.proofs.outside.Outside.discover.Goals as goal
 
 pub returns : goal.returns

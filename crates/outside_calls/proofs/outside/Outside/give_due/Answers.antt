@@ -5,7 +5,7 @@ use Rattle.outside_model.specs.Schedules.{Givings}
 use Rattle.outside_step.proofs.Answered.{on_err}
 use Rattle.outside_calls.proofs.Single.{stops_now}
 use Rattle.outside_calls.proofs.Counted.{givings, ran_more, ran_all, ran_stops}
-use Rattle.outside_model.proofs.Doing.{ran_nothing}
+use Rattle.outside_model.proofs.EventLists.{ran_nothing}
 use Rattle.outside_calls.proofs.outside.Outside.give_due.Goals as goal
 
 pub loop-init : goal.loop-init

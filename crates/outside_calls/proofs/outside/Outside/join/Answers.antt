@@ -1,4 +1,4 @@
-use Rattle.outside_calls.proofs.Going.{goes_joins}
+use Rattle.outside_calls.proofs.QuietEvents.{goes_joins}
 use Rattle.outside_calls.proofs.outside.Outside.join.Goals as goal
 
 pub returns-clause-ok : goal.returns-clause-ok

@@ -1,4 +1,4 @@
-use Rattle.outside_calls.proofs.Going.{goes_begins}
+use Rattle.outside_calls.proofs.QuietEvents.{goes_begins}
 use Rattle.outside_calls.proofs.outside.Outside.set_begun.Goals as goal
 
 pub returns : goal.returns

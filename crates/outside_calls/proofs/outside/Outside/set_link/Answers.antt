@@ -1,4 +1,4 @@
-use Rattle.outside_calls.proofs.Going.{goes_links}
+use Rattle.outside_calls.proofs.QuietEvents.{goes_links}
 use Rattle.outside_calls.proofs.outside.Outside.set_link.Goals as goal
 
 pub returns : goal.returns

@@ -1,6 +1,6 @@
 use Rattle.std.proofs.Common.{◌≡◌, false, sym, subst}
 use Rattle.outside_model.specs.State.{OuterState, is_stalled}
-use Rattle.outside_calls.proofs.Going.{goes_took}
+use Rattle.outside_calls.proofs.QuietEvents.{goes_took}
 use Rattle.outside_calls.proofs.outside.Outside.take_host.Goals as goal
 
 pub returns-clause-goes : goal.returns-clause-goes

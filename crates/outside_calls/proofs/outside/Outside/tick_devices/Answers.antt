@@ -1,6 +1,6 @@
 use Rattle.std.proofs.Common.{[], refl, arith, ◌∙◌}
 use Rattle.outside_step.proofs.Answered.{on_err}
-use Rattle.outside_model.proofs.Doing.{ran_nothing}
+use Rattle.outside_model.proofs.EventLists.{ran_nothing}
 use Rattle.outside_calls.proofs.Counted.{device_ticks, ran_more, ran_all, ran_stops}
 use Rattle.outside_calls.proofs.Moves.{tick_runs, tick_stops}
 use Rattle.outside_calls.proofs.outside.Outside.tick_devices.Goals as goal

@@ -1,7 +1,7 @@
 use Rattle.std.proofs.Common.{◌<◌, ◌≤◌, refl, inl, inr, subst, arith, rules}
 use Rattle.run_lines.specs.SourceLines.{Reading}
 use Rattle.run_lines.specs.declared.reader.TheConstants.{MAX_INPUT}
-use Rattle.run_lines.proofs.Going.{has_read-start, goes-too_much, goes-fault-after, goes-more-after, wanted-after}
+use Rattle.run_lines.proofs.ReadSoFar.{has_read-start, goes-too_much, goes-fault-after, goes-more-after, wanted-after}
 use Rattle.run_lines.proofs.reader.LineReader.next.Goals as goal
 
 pub returns-then-self-gt-MAX_INPUT-clause-goes : goal.returns-then-self-gt-MAX_INPUT-clause-goes

@@ -2,7 +2,7 @@ use Rattle.std.proofs.Common.{◌≡◌, ◌≤◌, ◌+◌, ◌-◌, ◌⊎◌,
 use Rattle.std.specs.Io.KnownBytes.{IsAtEnd}
 use Rattle.run_lines.specs.SourceLines.{WantsMore}
 use Rattle.run_lines.specs.declared.reader.TheConstants.{MAX_INPUT}
-use Rattle.run_lines.proofs.Going.{HasRead}
+use Rattle.run_lines.proofs.ReadSoFar.{HasRead}
 use Rattle.run_lines.proofs.reader.LineReader.next.Given as goal
 
 abbrev pub invariant-loop-found : goal.invariant-loop-found

@@ -1,6 +1,6 @@
 -- Each line by its arm.
 use Rattle.std.proofs.Common.{refl, arith}
-use Rattle.run_replay.proofs.Doing.{stopped_still}
+use Rattle.run_replay.proofs.EventLists.{stopped_still}
 use Rattle.run_replay.proofs.Steps.{ok_then, err_then, effect_as, no_other}
 use Rattle.run_replay.proofs.replay.Replay.effect.Goals as goal
 

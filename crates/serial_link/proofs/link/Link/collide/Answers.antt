@@ -2,7 +2,7 @@ use Rattle.std.proofs.Common.{◌≡◌, ◌+◌, [], ◌∷◌, refl, ap, sym, 
 use Rattle.serial_frame.specs.Stream.{Rest, GoesOn}
 use Rattle.serial_link.specs.State.{LinkState}
 use Rattle.serial_link.specs.Rules.{asked, KeepsRules}
-use Rattle.serial_link.proofs.Keeping.{keeps, side_asks, quiet_line}
+use Rattle.serial_link.proofs.RulesKept.{keeps, side_asks, quiet_line}
 use Rattle.serial_link.proofs.link.Link.collide.Goals as goal
 
 -- from the fields as they were

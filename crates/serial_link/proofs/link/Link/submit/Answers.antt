@@ -1,6 +1,6 @@
 use Rattle.std.proofs.Common.{ap, sym, ◌∙◌}
 use Rattle.serial_link.specs.State.{LinkState, submitted_link}
-use Rattle.serial_link.proofs.Keeping.{keeps_submitted, idle_if}
+use Rattle.serial_link.proofs.RulesKept.{keeps_submitted, idle_if}
 use Rattle.serial_link.proofs.link.Link.submit.Goals as goal
 
 pub returns-clause-rules : goal.returns-clause-rules

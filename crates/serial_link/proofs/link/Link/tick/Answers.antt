@@ -4,7 +4,7 @@ use Rattle.serial_frame.specs.declared.item.Item.{Item}
 use Rattle.serial_link.specs.State.{LinkState}
 use Rattle.serial_link.specs.Rules.{KeepsRules}
 use Rattle.serial_link.specs.Calls.{tick_steps, aborted_at}
-use Rattle.serial_link.proofs.Keeping.{keeps_ticked, aborted_same}
+use Rattle.serial_link.proofs.RulesKept.{keeps_ticked, aborted_same}
 use Rattle.serial_link.proofs.link.Link.tick.Goals as goal
 
 pub returns-clause-rules : goal.returns-clause-rules

@@ -6,7 +6,7 @@ use Rattle.world_model.specs.Prefixes.{EffectPrefix}
 use Rattle.world_model.proofs.Schedules.{repeat_own, wake_own, set_own}
 use Rattle.world_step.proofs.Scenes.{ok_then, err_then, did_of, stopped_still}
 use Rattle.zw_world.specs.contracts.world.World.{the_view}
-use Rattle.zw_world.proofs.Keeping.{goes_unread, goes_still, keeps_as, keeps_or_as, keeps_any}
+use Rattle.zw_world.proofs.KeeperLines.{goes_unread, goes_still, keeps_as, keeps_or_as, keeps_any}
 use Rattle.zw_world.proofs.Scenes.{did_run, stopped_of}
 use Rattle.zw_world.proofs.Steps.{effect_as, prefix_as, none_in, nothing_in, left_of}
 use Rattle.zw_world.proofs.world.World.effect.Goals as goal

@@ -5,11 +5,11 @@ use Rattle.host_core.specs.Opening.{Opens}
 use Rattle.host_core.specs.declared.opening.OpenFault.{OpenFault}
 use Rattle.world_model.specs.Did.{Nothing}
 use Rattle.world_model.specs.Prefixes.{RestartPrefix}
-use Rattle.world_model.proofs.Doing.{stopped_as}
+use Rattle.world_model.proofs.EventLists.{stopped_as}
 use Rattle.world_step.proofs.Scenes.{ok_then, err_then}
 use Rattle.zw_world.specs.World.{WorldState}
 use Rattle.zw_world.proofs.Asking.{refusal_stops}
-use Rattle.zw_world.proofs.Keeping.{refuses_next}
+use Rattle.zw_world.proofs.KeeperLines.{refuses_next}
 use Rattle.zw_world.proofs.Restarts.{restarted_all, restart_stops, unopened_all}
 use Rattle.zw_world.proofs.world.World.restart.Goals as goal
 

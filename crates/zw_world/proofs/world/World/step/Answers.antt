@@ -3,7 +3,7 @@ use Rattle.std.proofs.Common.{refl}
 use Rattle.outside_model.specs.Events.{Begins_line}
 use Rattle.world_step.proofs.Scenes.{ok_then, did_quiet}
 use Rattle.zw_world.specs.contracts.world.World.{the_view}
-use Rattle.zw_world.proofs.Keeping.{line_quiet}
+use Rattle.zw_world.proofs.KeeperLines.{line_quiet}
 use Rattle.zw_world.proofs.Steps.{line_done, line_stops}
 use Rattle.zw_world.proofs.world.World.step.Goals as goal
 

@@ -1,0 +1,42 @@
+-- Lines that are run one after another from a world at its beginning, and their summary.
+use Rattle.std.proofs.Common.{◌≡◌, ℕ, ◌+◌, ◌<◌, List, [], ◌∷◌, ◌++◌, Option, length, take, get_or, refl, sym, ap, ◌∙◌, subst}
+use Rattle.std.proofs.lemmas.List.{take_more}
+use Rattle.zw_text.specs.declared.line.Line.{Line}
+use Rattle.zw_text.specs.declared.entry.Entry.{Entry}
+use Rattle.device_sim.specs.State.{State}
+use Rattle.world_model.specs.Did.{Scene, Does}
+use Rattle.world_model.specs.Lines.{IsLine}
+use Rattle.world_model.specs.Table.{table_entries}
+use Rattle.zw_world.specs.World.{WorldState, first_world, machine_of, scene}
+use Rattle.run_generate.specs.Generate.{AllDone, SumsUp, generated_lines, summary_text}
+
+done-more : (lines : List Line) (line : Line) (old mid new : Scene) → AllDone lines old mid → Does (IsLine line) mid new → AllDone (lines ++ line ∷ []) old new
+done-more [] line old mid new done does = (new, subst (λ (s : Scene). Does (IsLine line) s new) done does, refl)
+done-more (first ∷ lines) line old mid new done does = (done.0, done.1, done-more lines line done.0 mid new done.2 does)
+
+-- one more line of a list was run
+pub done_next : (lines : List Line) (i : ℕ) (line : Line) (old mid new : Scene) → i < length lines → line ≡ get_or lines i line → AllDone (take i lines) old mid
+    → Does (IsLine line) mid new → AllDone (take (i + 1) lines) old new
+done_next lines i line old mid new within is done does =
+    subst (λ (ls : List Line). AllDone ls old new) (ap (λ (l : Line). take i lines ++ l ∷ []) is ∙ sym (take_more lines i line within))
+    (done-more (take i lines) line old mid new done does)
+
+-- the scenario was run from a world at its beginning, and summed up
+module _ (hundreds : ℕ) (key : List ℕ) (before after : List State) (records records' : Option (List (List ℕ))) (faults faults' : ℕ)
+    (world world' : WorldState) (lines run : List Line) (none entries seen no_table table shown : List Entry) where
+  pub sums_up : lines ≡ generated_lines hundreds → run ≡ lines → world ≡ first_world key → none ≡ []
+      → AllDone run (scene world before records none faults) (scene world' after records' entries faults')
+      → no_table ≡ [] → ((kept : Option (List (List ℕ))) → table ≡ no_table ++ table_entries (machine_of world' after kept))
+      → seen ≡ entries → shown ≡ table → (text : List ℕ) → text ≡ summary_text seen shown
+      → SumsUp hundreds key before after records records' faults faults' text
+  sums_up are of_them first empty done begun listed all whole text is = record {
+    last = scene world' after records' entries faults';
+    done = subst (λ (ls : List Line). AllDone ls (scene (first_world key) before records [] faults) (scene world' after records' entries faults')) (of_them ∙ are)
+        (subst (λ (w : WorldState). AllDone run (scene w before records [] faults) (scene world' after records' entries faults')) first
+        (subst (λ (es : List Entry). AllDone run (scene world before records es faults) (scene world' after records' entries faults')) empty done));
+    devices = refl;
+    records_are = refl;
+    faults_are = refl;
+    text_is = is ∙ ap (λ (es : List Entry). summary_text es shown) all
+        ∙ ap (λ (es : List Entry). summary_text entries es) (whole ∙ listed records' ∙ ap (λ (es : List Entry). es ++ table_entries (machine_of world' after records')) begun);
+  }

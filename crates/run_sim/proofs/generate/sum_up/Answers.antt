@@ -1,6 +1,0 @@
--- In a world at its beginning.
-use Rattle.std.proofs.lemmas.Result.{IfOk-weaker}
-use Rattle.run_sim.proofs.generate.sum_up.Goals as goal
-
-pub returns-clause-ok : goal.returns-clause-ok
-returns-clause-ok g c = IfOk-weaker c.run_made.result _ _ (λ text s. s c.args.key c.in_ok-world.ensures) c.run_made.ensures.ok
