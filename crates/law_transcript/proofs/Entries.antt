@@ -14,6 +14,7 @@ use Rattle.law_transcript.specs.Lists.{EachAfter, Has}
 use Rattle.law_transcript.specs.Answers.{MayAnswer, Follows, MayCancel, CancelsWhenAsked, before_last, refusals_to}
 use Rattle.law_transcript.specs.Carrying.{MaySend, CarriesUnits, MayBring, BringsWhatWasHeard, WereHeard}
 use Rattle.law_transcript.specs.Fates.{MayAir, NumbersFrames, MayFare, FaresInTurn, MayBeMarked, LosesMarked}
+use Rattle.law_transcript.specs.Nodes.{listing_of}
 use Rattle.law_transcript.specs.Once.{MayEnd, SucceedsAfterChange}
 use Rattle.law_transcript.specs.Payloads.{MayRequest, SendsWhatIsDue, FollowsBegin, BeginsWithUnit}
 use Rattle.law_transcript.specs.Sessions.{MayBegin, KeepsSessions}

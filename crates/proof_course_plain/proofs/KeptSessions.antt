@@ -9,7 +9,7 @@ use Rattle.proof_course_plain.specs.Host.{IsOtherTask, IsTaskFor}
 use Rattle.proof_course_plain.proofs.KeptHosts.{Course}
 
 -- what is asked for is no segment
-other_task : (node : ℕ) (asked : List Asked) (commands : List ℕ) (task : Task) → IsOtherTask node task → IsTaskFor node asked commands task
+pub other_task : (node : ℕ) (asked : List Asked) (commands : List ℕ) (task : Task) → IsOtherTask node task → IsTaskFor node asked commands task
 other_task node asked commands (Segment n payload) apart = λ own. absurd (apart own)
 other_task node asked commands _ is = is
 

@@ -56,14 +56,14 @@ module _ (past : Past) (node : ℕ) where
   none_beside (asked ∷ added) all = (unmarked asked all.0, none_beside added all.1)
 
   -- these wait after the others
-  following : (marks : List (Option ℕ)) (queue added : List Task) → Beside (TaskIs past node) queue marks → AllByRecursion (IsOtherTask node) added → TasksLeft past node marks (queue ++ added)
+  pub following : (marks : List (Option ℕ)) (queue added : List Task) → Beside (TaskIs past node) queue marks → AllByRecursion (IsOtherTask node) added → TasksLeft past node marks (queue ++ added)
   following marks queue added all others = record {
     now = marks ++ no_marks added;
     beside = beside-both (TaskIs past node) queue added marks (no_marks added) all (none_beside added others);
     thin = subst (λ (l : List ℕ). Thinned (labels marks) l) (sym (labels-append marks (no_marks added) ∙ (ap (λ l. labels marks ++ l) (nothing_marked added) ∙ append-nil (labels marks)))) (thinned_same (labels marks));
   }
 
-  first_left : (marks : List (Option ℕ)) (asked : Task) (rest : List Task) → Beside (TaskIs past node) (asked ∷ rest) marks → TasksLeft past node marks rest
+  pub first_left : (marks : List (Option ℕ)) (asked : Task) (rest : List Task) → Beside (TaskIs past node) (asked ∷ rest) marks → TasksLeft past node marks rest
   first_left [] asked rest all = absurd all
   first_left (mark ∷ marks) asked rest all = record { now = marks; beside = all.1; thin = thinned_after (option_to_list mark) (labels marks) (labels marks) (thinned_same (labels marks)) }
 
