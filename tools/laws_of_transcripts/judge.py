@@ -12,14 +12,16 @@ HOST_LAWS = (
 )
 WORLD_LAWS = (
     "CollidesWhenAsked", "MarksUnits", "OverrunsWhenFull", "ClearsLine", "AnswersInOrder", "DropsWhenFull", "AirsWhatIsTaken", "NumbersFrames",
-    "GoesByRoute", "FaresInTurn", "MeetsWhatIsDue", "RepeatsWhatIsAsked", "ForgetsDeadHops", "RanAsShown", "ChangesOnce", "ChangesWhole",
-    "SucceedsAfterChange", "EndsTruly", "ConfirmsLast",
+    "GoesByRoute", "FaresInTurn", "MeetsWhatIsDue", "RepeatsWhatIsAsked", "ForgetsDeadHops", "RanAsShown",
 )
 PROMPT_LAWS = ("RestsWell", "SendsInTurn", "FitsQueue", "GivesUpAfterThree")
+HEADLINE_LAWS = ("KeepsSessions", "CarriesOnce", "ChangesOnce", "ChangesWhole", "SucceedsAfterChange", "EndsTruly", "ConfirmsLast")
+BESIDE = ("CountsFaults", "ShowsValues", "EndsWithTable")
 WHOLES = {
     "IsHostLegal": HOST_LAWS,
-    "IsLegal": tuple(law for law in HOST_LAWS if law not in PROMPT_LAWS) + WORLD_LAWS,
+    "IsLegal": tuple(law for law in HOST_LAWS if law not in PROMPT_LAWS + HEADLINE_LAWS + BESIDE) + WORLD_LAWS,
     "IsPrompt": PROMPT_LAWS,
+    "Headline": HEADLINE_LAWS,
     "AnswersInTime": ("AnswersInTime",),
 }
 

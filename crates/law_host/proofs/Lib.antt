@@ -1,2 +1,1 @@
-mod Computing
 mod Noting

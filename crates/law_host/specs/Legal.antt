@@ -1,106 +1,71 @@
--- What a legal host does, over what it heard, from whatever its keeper kept (this project's own rule): the laws of the host alone, as one.
-use Rattle.std.specs.Prelude.{◌≡◌, ℕ, ◌==◌, ◌||◌, ◌&&◌, not, Bool, true, List, [], ◌∷◌, ◌++◌, Option, ⊤, IfSome}
-use Rattle.std.specs.List.{flat_map, list_any}
-use Rattle.value_store.specs.ValueText.{values_text}
-use Rattle.value_store.specs.declared.stored.Held.{Held}
-use Rattle.host_orders.specs.Errands.{send_refusal, get_refusal}
-use Rattle.zw_words.specs.declared.side.Side.TheVariants.{Host}
-use Rattle.zw_text.specs.declared.line.Line.{Line}
-use Rattle.zw_text.specs.declared.line.Line.TheVariants as lines
-use Rattle.zw_text.specs.declared.entry.Refusal.TheVariants as refusals
+-- Whether a run of `sim` is legal (this project's own rule): the laws of lines, devices, air, serial line, chip and host that every run keeps,
+-- as one.
+use Rattle.std.specs.Prelude.{◌≡◌, ℕ, Bool, true, false, List, Option, Some, IfSome}
+use Rattle.device_stack.specs.State.{State}
 use Rattle.zw_text.specs.declared.entry.Entry.{Entry}
-use Rattle.zw_text.specs.declared.entry.Entry.TheVariants.{Said, Json, TableValue}
-use Rattle.zw_text.specs.Transcript.{accepted_numbers, line_last, outcome}
-use Rattle.law_transcript.specs.Answers.{IsAnswer, IsNoAnswer, IsRefusal, MayCancel, answer_to, before_last, known_of, refusal_entry, refused_unless}
-use Rattle.law_transcript.specs.Commands.{is_waiting}
-use Rattle.law_transcript.specs.Lists.{EachAfter, listed}
-use Rattle.law_transcript.specs.Nodes.{controller, is_joined}
-use Rattle.law_transcript.specs.Once.{CarriesOnce}
-use Rattle.law_transcript.specs.Payloads.{FollowsBegin, MayRequest}
+use Rattle.law_transcript.specs.Answers.{AnswersLines, CancelsWhenAsked}
+use Rattle.law_transcript.specs.Carrying.{BringsWhatWasHeard, CarriesUnits}
+use Rattle.law_transcript.specs.Devices.{RanAsShown}
+use Rattle.law_transcript.specs.Fates.{FaresInTurn, LosesMarked, NumbersFrames}
+use Rattle.law_transcript.specs.Nodes.{device_of, listing_of}
+use Rattle.law_transcript.specs.Payloads.{SendsWhatIsDue}
 use Rattle.law_transcript.specs.Records.{KeepsRecords}
-use Rattle.law_transcript.specs.Sessions.{MayBegin}
 use Rattle.law_transcript.specs.Stores.{StoresConfirmed}
-use Rattle.law_transcript.specs.Table.{value_lines}
-use Rattle.law_wire.specs.Links.{KeepsLink}
-use Rattle.law_wire.specs.Serial.{ended}
-use Rattle.law_time.specs.Moments.{Allows}
-use Rattle.law_time.specs.Choice.{may_follow, may_number, may_send}
-use Rattle.law_time.specs.Queue.{may_queue}
-use Rattle.law_time.specs.Rests.{may_rest, rests_well}
-use Rattle.law_host.specs.Notes.{NotesWhatHappens, Start}
+use Rattle.law_wire.specs.Answering.{ServesHost}
+use Rattle.law_wire.specs.Arriving.{ForgetsDeadHops, MeetsWhatIsDue, RepeatsWhatIsAsked}
+use Rattle.law_wire.specs.Clearing.{ClearsLine}
+use Rattle.law_wire.specs.Halted.{RanAsFar}
+use Rattle.law_wire.specs.Links.{KeepsLinks}
+use Rattle.law_wire.specs.Marks.{CollidesWhenAsked, MarksUnits}
+use Rattle.law_wire.specs.Pipes.{OverrunsWhenFull}
+use Rattle.law_wire.specs.Routes.{GoesByRoute}
+use Rattle.law_wire.specs.Times.{TellsTime}
+use Rattle.law_host.specs.Heard.{heard_by_host}
+use Rattle.law_host.specs.Notes.{NotesWhatHappens, first_start}
 
--- ---- answers to lines
+-- the device of a node did what came to it, as far as the run went
+abbrev pub DidAsShown : Bool → ℕ → List Entry → State → State → Type 0
+DidAsShown true node transcript old new = RanAsShown node transcript old new
+DidAsShown false node transcript old new = RanAsFar node transcript old new
 
--- what refuses a line that is no order
-abbrev pub refusals_of : (ℕ → List ℕ) → List Entry → Line → List Entry
-refusals_of listing past (lines.Cancel command) =
-    refused_unless (list_any (λ number. number == command) (accepted_numbers past) && is_waiting (outcome command past)) (refusals.NotWaiting command)
-refusals_of listing past (lines.Join node) = refused_unless (not (is_joined past node || node == controller)) refusals.AlreadyJoined
-refusals_of listing past (lines.Send node word) = flat_map refusal_entry (listed (send_refusal (known_of listing past node) 0 word))
-refusals_of listing past (lines.Get node end) = flat_map refusal_entry (listed (get_refusal (known_of listing past node) 0 end))
-refusals_of listing past (lines.Interview node) = refused_unless (is_joined past node) refusals.NotJoined
-refusals_of listing past line = []
+-- the first device of each node did
+abbrev pub DevicesDid : Bool → List State → List State → List Entry → Type 0
+DevicesDid whole before after transcript =
+    (node : ℕ) (old new : State) → device_of node before ≡ Some old → device_of node after ≡ Some new → DidAsShown whole node transcript old new
 
--- what stands directly after a line, or after none
-abbrev pub FollowsLine : (ℕ → List ℕ) → List Entry → List Line → Entry → Type 0
-FollowsLine listing past [] entry = IsNoAnswer entry
-FollowsLine listing past (lines.Command order ∷ more) entry = IsAnswer (answer_to listing past order) entry
-FollowsLine listing past (line ∷ more) entry = IsRefusal line (refusals_of listing past line) entry
+-- frames are numbered and go by their routes; each meets its fate when it is due, or is heard again as a line asks; dead hops are forgotten
+pub record IsLegalOnAir (devices : List State) (transcript : List Entry) : Type 0 where
+  pub numbers : NumbersFrames transcript
+  pub routes : GoesByRoute devices transcript
+  pub fares : FaresInTurn transcript
+  pub meets : MeetsWhatIsDue devices transcript
+  pub loses : LosesMarked transcript
+  pub repeats : RepeatsWhatIsAsked devices transcript
+  pub forgets : ForgetsDeadHops transcript
 
-abbrev pub AnswersLine : (ℕ → List ℕ) → List Entry → Entry → Type 0
-AnswersLine listing past entry = FollowsLine listing (before_last past) (line_last past) entry
+-- both sides keep the rules of the serial link; units are lost, changed, refused and cleared as lines ask, and overrun where there is no room; the
+-- chip puts on the air what it was sent, and serves the host with what it heard; the number of each tick is told
+pub record IsLegalOnLine (whole : Bool) (devices : List State) (transcript : List Entry) : Type 0 where
+  pub links : KeepsLinks whole transcript
+  pub marks : MarksUnits transcript
+  pub collides : CollidesWhenAsked transcript
+  pub overruns : OverrunsWhenFull transcript
+  pub clears : ClearsLine whole transcript
+  pub carries : CarriesUnits transcript
+  pub brings : BringsWhatWasHeard transcript
+  pub serves : ServesHost whole devices transcript
+  pub times : TellsTime transcript
 
--- a line that need not have an answer
-abbrev pub NeedsNone : (ℕ → List ℕ) → List Entry → List Line → Type 0
-NeedsNone listing past [] = ⊤
-NeedsNone listing past (lines.Command order ∷ more) = ⊥
-NeedsNone listing past (line ∷ more) = refusals_of listing past line ≡ []
-
--- ---- values shown
-
--- the values of a node, in the order of their properties
-abbrev pub held_in : Entry → List Held
-held_in (TableValue node property confirmed heard) = record { property = property; stored = record { confirmed = confirmed; heard = heard } } ∷ []
-held_in entry = []
-
-abbrev pub values_now : (ℕ → List ℕ) → List Entry → ℕ → Entry
-values_now listing past node = Json (values_text node (flat_map held_in (value_lines listing past node)))
-
--- a line asks for them, and they stand directly after it and nowhere else
-abbrev pub IsShown : (ℕ → List ℕ) → List Entry → List Line → Entry → Type 0
-IsShown listing past (lines.Store node ∷ more) entry = entry ≡ values_now listing past node
-IsShown listing past line (Json text) = ⊥
-IsShown listing past line entry = ⊤
-
-abbrev pub ShowsValues : (ℕ → List ℕ) → List Entry → Entry → Type 0
-ShowsValues listing past entry = IsShown listing past (line_last past) entry
-
--- ---- the law
-
--- a test holds of each entry that is heard
-abbrev pub EachKeeps : (List Entry → Entry → Bool) → Start → List Entry → Type 0
-EachKeeps may start heard = EachAfter (Allows may) start.before heard
-
--- the host answers lines, has one session of a node at a time and each command in one, keeps the rules of its link, sends and notes what it
--- should, and nothing else; stores what is confirmed and shows what it stored; owes nothing at a rest; and its records, where they are told,
--- say what it showed
-pub record IsHostLegal (key : List ℕ) (listing : ℕ → List ℕ) (start : Start) (whole : Bool) (heard : List Entry)
+-- lines are answered, devices do what comes to them, air and serial line keep their laws; the host sends what is due and notes what happens, takes
+-- back what it is asked to and stores what is confirmed; and its records, where they are told, say what it showed
+pub record IsLegal (key : List ℕ) (before after : List State) (whole : Bool) (transcript : List Entry)
     (records : Option (List (List ℕ))) : Type 0 where
-  pub answers : EachAfter (AnswersLine listing) start.before heard
-  pub answered : whole ≡ true → NeedsNone listing (before_last (start.before ++ heard)) (line_last (start.before ++ heard))
-  pub cancels : EachAfter MayCancel start.before heard
-  pub sessions : EachAfter MayBegin start.before heard
-  pub carries : (node : ℕ) → CarriesOnce node (start.before ++ heard)
-  pub link : KeepsLink Host (ended whole heard)
-  pub notes : NotesWhatHappens key listing start whole heard
-  pub stores : StoresConfirmed whole listing (start.before ++ heard)
-  pub values : EachAfter (ShowsValues listing) start.before heard
-  pub sends : EachAfter (MayRequest listing key) start.before heard
-  pub begins : EachAfter FollowsBegin start.before heard
-  pub fits : EachKeeps (may_queue listing) start heard
-  pub turn : EachKeeps (may_send listing) start heard
-  pub one_by_one : EachKeeps may_follow start heard
-  pub numbers : EachKeeps may_number start heard
-  pub prompt : EachKeeps (may_rest listing) start heard
-  pub rested : whole ≡ true → rests_well listing (start.before ++ heard) (Said []) ≡ true
-  pub records_kept : IfSome records (KeepsRecords (start.before ++ heard))
+  pub answers : AnswersLines whole before transcript
+  pub devices : DevicesDid whole before after transcript
+  pub air : IsLegalOnAir before transcript
+  pub line : IsLegalOnLine whole before transcript
+  pub sends : SendsWhatIsDue (listing_of before) key transcript
+  pub notes : NotesWhatHappens key (listing_of before) first_start whole (heard_by_host transcript)
+  pub cancels : CancelsWhenAsked transcript
+  pub stores : StoresConfirmed whole (listing_of before) transcript
+  pub records : whole ≡ true → IfSome records (KeepsRecords transcript)

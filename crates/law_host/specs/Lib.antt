@@ -7,5 +7,6 @@ pub mod Ticks
 pub mod Following
 pub mod Notes
 pub mod Heard
+pub mod HostLegal
 pub mod Legal
 pub mod Worked

@@ -25,6 +25,7 @@ use Rattle.law_time.specs.Sessions.{is_open, last_command}
 use Rattle.law_time.specs.Interviews.{listens}
 use Rattle.law_time.specs.Queue.{queue_before, queue_places}
 use Rattle.law_time.specs.Wants.{segments_wanted}
+use Rattle.law_time.specs.Attempts.{is_last_nonce, is_next_nonce}
 use Rattle.law_host.specs.Nonces.{is_late}
 use Rattle.law_host.specs.Course.{Course, Giver, Ready, Sealer, each_in_turn, giver_of, if_kept, sealer_of, with_giver, with_note, with_notes, with_sealer, without_texts}
 
@@ -132,9 +133,8 @@ sealed_for node nonce seen course =
 -- a Nonce Report with the count of the last one, or with the next count, where that is kept
 abbrev pub takes_nonce : Hearing → List ℕ → Sealer → Course → Course
 takes_nonce hearing nonce sealer course =
-    if not (sealer.seen == 0) && (slice_index nonce 0 == sealer.seen % 256) then sealed_for hearing.node nonce sealer.seen course
-    else (if slice_index nonce 0 == (sealer.seen + 1) % 256 then if_kept hearing.node (sealed_for hearing.node nonce (sealer.seen + 1)) course
-    else course)
+    if is_last_nonce sealer.seen nonce then sealed_for hearing.node nonce sealer.seen course
+    else (if is_next_nonce sealer.seen nonce then if_kept hearing.node (sealed_for hearing.node nonce (sealer.seen + 1)) course else course)
 
 -- counts only while a text waits for it
 abbrev pub hears_nonce : Hearing → List ℕ → Course → Course

@@ -1,13 +1,64 @@
-//! What the law of a legal host says of lines that are refused.
+//! What the laws of a legal host and of a legal run say of worked transcripts, and of others with one thing wrong.
 
-ghost use Rattle.std.specs.Prelude.{◌∷◌, [], None, true};
+ghost use Rattle.std.specs.Prelude.{[], ◌∷◌, false, List, map, None, Some, true};
+ghost use Rattle.device_stack.specs.State.{State};
+ghost use Rattle.host_keep.specs.RecordText.{record_text};
 ghost use Rattle.law_host.specs.Heard.{heard_by_host};
-ghost use Rattle.law_host.specs.Legal.{IsHostLegal};
+ghost use Rattle.law_host.specs.HostLegal.{IsHostLegal};
+ghost use Rattle.law_host.specs.Legal.{IsLegal};
 ghost use Rattle.law_host.specs.Notes.{first_start};
+ghost use Rattle.law_transcript.specs.Devices.{after_events};
 ghost use Rattle.law_transcript.specs.Nodes.{listing_of};
-ghost use Rattle.law_transcript.specs.Worked.{refused_lines, the_switch};
+ghost use Rattle.law_transcript.specs.Worked.{plain_exchange, refused_lines, the_switch};
+ghost use Rattle.law_transcript.specs.WorkedDevices.{plain_records, switch_events};
+ghost use Rattle.law_wire.specs.WorkedRecords.{ordered_otherwise};
+ghost use Rattle.law_wire.specs.WorkedWrong.{answered_nothing};
+use law_transcript::{
+    worked_answers, worked_bringing, worked_cancels, worked_devices, worked_fates, worked_frames,
+    worked_losses, worked_payloads, worked_stores, worked_units,
+};
+use law_wire::{
+    rejected_links, rejected_records, worked_arrivals, worked_collisions, worked_forgetting,
+    worked_links, worked_marks, worked_pipes, worked_records, worked_repeats, worked_routes,
+    worked_service,
+};
 
 /// A host that refuses lines, each by its rule, is legal over what it hears of them.
 pub fn worked_legal()
     ensures refused { IsHostLegal [] (listing_of (the_switch ∷ [])) first_start true (heard_by_host refused_lines) None }
 {}
+
+/// The plain exchange is legal, with its device as the message leaves it and with its records.
+pub fn worked_run()
+    ensures { IsLegal [] (the_switch ∷ []) (after_events the_switch switch_events ∷ []) true plain_exchange (Some (map record_text plain_records)) }
+{
+    worked_answers();
+    worked_devices();
+    worked_frames();
+    worked_fates();
+    worked_losses();
+    worked_units();
+    worked_bringing();
+    worked_payloads();
+    worked_cancels();
+    worked_stores();
+    worked_arrivals();
+    worked_repeats();
+    worked_forgetting();
+    worked_routes();
+    worked_links();
+    worked_service();
+    worked_marks();
+    worked_collisions();
+    worked_pipes();
+    worked_records();
+}
+
+/// With the records of another order it is not, and no transcript is in which the chip answers a frame that never came.
+pub fn rejected_run()
+    ensures records { (after : List State) → IsLegal [] (the_switch ∷ []) after true plain_exchange (Some (map record_text ordered_otherwise)) → ⊥ }
+    ensures line { (after : List State) → IsLegal [] (the_switch ∷ []) after false answered_nothing None → ⊥ }
+{
+    rejected_records();
+    rejected_links();
+}

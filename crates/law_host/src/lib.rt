@@ -2,12 +2,13 @@
 //!
 //! The laws of this crate speak of the host alone, over what it heard: no device, chip or air. After each event stand
 //! exactly the notes that it makes, in order, over whatever records the keeper kept; and a host is legal where these
-//! and the laws of the crates below hold of what it heard. The crate promises nothing of a program.
+//! and the laws of the crates below hold of what it heard. A run is legal where all laws of every run hold of it. The
+//! crate promises nothing of a program.
 //!
 //! The definitions are in `specs/`: `Course` (what stands next, and what no entry shows), `Nonces`, `Messages`, `Ends`,
 //! `Frames` and `Ticks` (what each event makes), `Following` and `Notes` (the law of notes and nonces); `Heard` (what a
-//! host heard of a run) and `Legal` (the laws of the host, as one). `Worked` has the transcripts that the functions here
-//! speak of.
+//! host heard of a run); `HostLegal` (the laws of the host, as one) and `Legal` (those of a run, as one). `Worked` has the
+//! transcripts that the functions here speak of.
 #![tactic(auto)]
 
 mod heard;
@@ -16,6 +17,6 @@ mod nonces;
 mod notes;
 
 pub use heard::worked_heard;
-pub use legal::worked_legal;
+pub use legal::{rejected_run, worked_legal, worked_run};
 pub use nonces::{rejected_nonces, worked_nonces};
 pub use notes::{rejected_notes, worked_notes};

@@ -1,1 +1,1 @@
-mod Computing
+pub mod Computing

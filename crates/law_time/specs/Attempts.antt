@@ -140,12 +140,19 @@ nonces_told _ = []
 abbrev pub nonces_here : ℕ → List Entry → List (List ℕ)
 nonces_here node past = flat_map (λ payload. nonces_told (heard_at payload)) (payloads_here node past)
 
--- a nonce is taken that is the last one counted again, or the next one, which is counted then, if that is kept
+-- by its first byte a nonce is the last of those that were counted, or the next one
+abbrev pub is_last_nonce : ℕ → List ℕ → Bool
+is_last_nonce seen nonce = not (seen == 0) && (slice_index nonce 0 == seen % 256)
+
+abbrev pub is_next_nonce : ℕ → List ℕ → Bool
+is_next_nonce seen nonce = slice_index nonce 0 == (seen + 1) % 256
+
+-- the last one is taken again, or the next one, which is counted then, if that is kept
 abbrev pub with_nonce : Bool → Attempts → List ℕ → Attempts
 with_nonce kept attempts nonce =
-    let first : ℕ = slice_index nonce 0 in
-    if not (attempts.seen == 0) && (first == attempts.seen % 256) then record attempts { ready = first ∷ [] }
-    else (if kept && (first == (attempts.seen + 1) % 256) then record attempts { ready = first ∷ []; seen = attempts.seen + 1 } else attempts)
+    if is_last_nonce attempts.seen nonce then record attempts { ready = slice_index nonce 0 ∷ [] }
+    else (if kept && is_next_nonce attempts.seen nonce
+    then record attempts { ready = slice_index nonce 0 ∷ []; seen = attempts.seen + 1 } else attempts)
 
 -- the first of several that is taken
 abbrev pub with_nonces : Bool → Attempts → List (List ℕ) → Attempts

@@ -11,9 +11,13 @@ use Rattle.law_transcript.specs.Restarts.{ticks_asked}
 abbrev pub Allows : (List Entry → Entry → Bool) → List Entry → Entry → Type 0
 Allows may past entry = may past entry ≡ true
 
--- every entry may stand after those before it
+-- after what stood before, every entry may stand after those before it
+abbrev pub KeepsAfter : List Entry → (List Entry → Entry → Bool) → List Entry → Type 0
+KeepsAfter before may transcript = EachAfter (Allows may) before transcript
+
+-- every entry of a transcript may
 abbrev pub Keeps : (List Entry → Entry → Bool) → List Entry → Type 0
-Keeps may transcript = EachAfter (Allows may) [] transcript
+Keeps may transcript = KeepsAfter [] may transcript
 
 -- the ticks of the lines before the last one, and those that the last one asks for
 pub record Passing : Type 0 where

@@ -13,7 +13,7 @@ use Rattle.law_transcript.specs.Nodes.{known_classes}
 use Rattle.law_transcript.specs.Restarts.{begins_refused}
 use Rattle.law_transcript.specs.Units.{Carried, request_in}
 use Rattle.law_time.specs.Moments.{Keeps, clock, later_of, now_at}
-use Rattle.law_time.specs.Judged.{is_data, is_acknowledgement, is_mark, is_of_air, is_of_chip, brought_here}
+use Rattle.law_time.specs.Judged.{is_data, is_acknowledgement, is_mark, is_no_note, is_of_air, is_of_chip, brought_here}
 use Rattle.law_time.specs.Requests.{Asked, are_none, asked, asked_after, asked_nothing, is_new, starts_anew}
 use Rattle.law_time.specs.Ends.{has_ended, is_abort_frame}
 use Rattle.law_time.specs.Sessions.{runs}
@@ -234,9 +234,15 @@ abbrev pub lacks_places : (ℕ → List ℕ) → List Entry → Bool
 lacks_places listing past =
     not (places listing past == 0) && nat_lt queue_places (waits_before_line listing past + places listing past)
 
--- what is to be said is said: that a message was dropped, and that the last line was refused
+-- whether an entry may note what the host has judged: it is of no line or unit, nor of the air or the chip, and no session begins
+abbrev pub is_judged : Entry → Bool
+is_judged (Written side unit) = false
+is_judged entry = not (is_no_note entry)
+
+-- what is to be said is said: that the last line was refused, and that a message was dropped, among what is noted with it
 abbrev pub owes_no_refusal : (ℕ → List ℕ) → List Entry → Entry → Bool
-owes_no_refusal listing past entry = are_none (queue_before listing past entry).owed && not (lacks_places listing past)
+owes_no_refusal listing past entry =
+    not (lacks_places listing past) && (is_judged entry || are_none (queue_before listing past entry).owed)
 
 -- a line is refused for the queue exactly where it asks for more places than are free, and a message is dropped exactly where 64 wait
 abbrev pub may_queue : (ℕ → List ℕ) → List Entry → Entry → Bool

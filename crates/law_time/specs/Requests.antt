@@ -1,6 +1,7 @@
 -- The last request of the host and its copies: when the chip took it, when the line gives it up, and what was judged since (Serial API: a
 -- request, its acknowledgement and its response; the four copies and their waits are this project's own rule).
-use Rattle.std.specs.Prelude.{ℕ, ◌+◌, ◌==◌, ◌&&◌, not, bytes_eq, nat_lt, Bool, true, false, if◌then◌else◌, List, [], ◌∷◌, ◌++◌, map, filter, take, length}
+use Rattle.std.specs.Prelude.{ℕ, ◌+◌, ◌==◌, ◌&&◌, ◌||◌, not, bytes_eq, nat_lt, Bool, true, false, if◌then◌else◌, List, [], ◌∷◌, ◌++◌, map, filter, take, length}
+use Rattle.serial_frame.specs.declared.unit.TheConstants.{NAK, CAN}
 use Rattle.chip_functions.specs.declared.request.Request.{Request}
 use Rattle.zw_words.specs.declared.side.Side.TheVariants.{Host, Chip}
 use Rattle.zw_text.specs.declared.entry.Entry.{Entry}
@@ -8,9 +9,9 @@ use Rattle.zw_text.specs.declared.entry.Entry.TheVariants.{Said, Written, Droppe
 use Rattle.zw_text.specs.Transcript.{line_of, written}
 use Rattle.law_transcript.specs.Lists.{shown_after}
 use Rattle.law_transcript.specs.Restarts.{is_restart, begins_refused}
-use Rattle.law_transcript.specs.Units.{is_frame, function_in, request_in}
+use Rattle.law_transcript.specs.Units.{function_in, request_in}
 use Rattle.law_time.specs.Moments.{clock}
-use Rattle.law_time.specs.Judged.{is_data, is_acknowledgement, last_of, acknowledged, frames_come, judged}
+use Rattle.law_time.specs.Judged.{is_data, is_acknowledgement, last_of, acknowledged, frames_come, judged, response_in}
 
 -- whether nothing is among these
 abbrev pub are_none : {A : Type 0} → List A → Bool
@@ -60,7 +61,11 @@ last_copy asked = since_last asked.frame (record { past = up_to_first asked; fol
 
 -- ---- whether the chip took it
 
--- an answer of the chip to a frame, a unit of one byte: when it came, and how many frames of the chip had come before it
+-- whether a unit answers a frame
+abbrev pub is_answer : List ℕ → Bool
+is_answer unit = is_acknowledgement unit || bytes_eq unit (NAK ∷ []) || bytes_eq unit (CAN ∷ [])
+
+-- an answer of the chip: when it came, and how many frames of the chip had come before it
 pub record Answer : Type 0 where
   pub unit : List ℕ
   pub tick : ℕ
@@ -75,7 +80,7 @@ is_missed _ = false
 -- the answer that an entry is, where it is one that came
 abbrev pub answer_at : List Entry → Entry → List Entry → List Answer
 answer_at past (Written Chip unit) rest =
-    if (length unit == 1) && not (is_missed rest) then record { unit = unit; tick = clock past; frames = length (frames_come past) } ∷ [] else []
+    if is_answer unit && not (is_missed rest) then record { unit = unit; tick = clock past; frames = length (frames_come past) } ∷ [] else []
 answer_at past _ rest = []
 
 -- the answers that came after this past
@@ -163,9 +168,9 @@ judging_at past _ = []
 abbrev pub judged_since : Asked → List Judging
 judged_since asked = shown_after judging_at (up_to_first asked) asked.following
 
--- whether a frame of the chip is a response to a frame of the host
+-- whether a frame of the chip is a response to a frame of the host; one that cannot be read tells nothing
 abbrev pub is_response_to : List ℕ → List ℕ → Bool
-is_response_to frame unit = is_frame unit 1 && (function_in unit == function_in frame)
+is_response_to frame unit = (function_in unit == function_in frame) && not (are_none (response_in unit))
 
 -- the responses to it that were judged
 abbrev pub responses : Asked → List Judging

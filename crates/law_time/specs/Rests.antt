@@ -1,15 +1,15 @@
 -- Rests, and what the host owes at one (this project's own rule): nothing that was asked for is left, no command waits for a node
 -- that is awake, no part of an attempt, and no attempt, is left unsent, none is overdue, and a node that sleeps is kept awake for a reason alone.
-use Rattle.std.specs.Prelude.{◌≡◌, ℕ, ◌+◌, ◌==◌, ◌&&◌, ◌||◌, not, nat_lt, Bool, true, List, [], ◌∷◌, length}
+use Rattle.std.specs.Prelude.{◌≡◌, ℕ, ◌+◌, ◌==◌, ◌&&◌, ◌||◌, not, nat_lt, Bool, true, List, [], ◌∷◌, ◌++◌, length}
 use Rattle.std.specs.List.{flat_map, list_any, list_all}
 use Rattle.zw_text.specs.declared.line.Line.{Line}
 use Rattle.zw_text.specs.declared.line.Line.TheVariants as lines
 use Rattle.zw_text.specs.declared.entry.Entry.{Entry}
 use Rattle.zw_text.specs.declared.entry.Entry.TheVariants.{Said, Interviewed, InterviewFailed, Unkept, Time}
 use Rattle.zw_text.specs.Transcript.{joined, shown, line_of, lines_run, lines_done, requests_done, where_same}
-use Rattle.law_transcript.specs.Lists.{shown_after}
 use Rattle.law_transcript.specs.Restarts.{since_restart, ticks_asked}
-use Rattle.law_time.specs.Moments.{Keeps, now_at}
+use Rattle.law_wire.specs.Links.{lasts}
+use Rattle.law_time.specs.Moments.{KeepsAfter, now_at}
 use Rattle.law_time.specs.Judged.{acknowledged, frames_come}
 use Rattle.law_time.specs.Requests.{asked, are_none}
 use Rattle.law_time.specs.Ends.{is_over, owes_abort}
@@ -20,16 +20,9 @@ use Rattle.law_time.specs.Choice.{is_in_tick, is_to_begin, parts_of, unkept_when
 
 -- ---- when it rests
 
--- until when a line stalls the serial bytes
-abbrev pub stall_by : ℕ → Line → List ℕ
-stall_by now (lines.Stall count) = (now + count) ∷ []
-stall_by now _ = []
-
-abbrev pub stall_at : List Entry → Entry → List ℕ
-stall_at past entry = flat_map (stall_by (ticks_asked (lines_run past))) (line_of entry)
-
+-- a line stalls the serial bytes from all ticks on that lines before it asked for
 abbrev pub is_stalled : List Entry → ℕ → Bool
-is_stalled past now = list_any (nat_lt now) (shown_after stall_at [] past)
+is_stalled past now = lasts (λ before. ticks_asked (lines_run before)) line_of past now
 
 -- the host rests: no stall lasts, every frame of the chip is judged, and no request is under way
 abbrev pub is_rest : List Entry → ℕ → Bool
@@ -106,7 +99,11 @@ may_rest listing past (Said words) = rests_well listing past (Said words)
 may_rest listing past (Time tick) = rests_well listing past (Time tick)
 may_rest listing past entry = true
 
--- at each rest nothing is owed
-pub record RestsWell (whole : Bool) (listing : ℕ → List ℕ) (transcript : List Entry) : Type 0 where
-  pub between : Keeps (may_rest listing) transcript
-  pub in_the_end : whole ≡ true → rests_well listing transcript (Said []) ≡ true
+-- at each rest after what stood before nothing is owed
+pub record RestsAfter (before : List Entry) (whole : Bool) (listing : ℕ → List ℕ) (transcript : List Entry) : Type 0 where
+  pub between : KeepsAfter before (may_rest listing) transcript
+  pub in_the_end : whole ≡ true → rests_well listing (before ++ transcript) (Said []) ≡ true
+
+-- at each rest of a transcript
+abbrev pub RestsWell : Bool → (ℕ → List ℕ) → List Entry → Type 0
+RestsWell whole listing transcript = RestsAfter [] whole listing transcript

@@ -1,5 +1,5 @@
 -- When a command counts as unanswered (Supervision Command Class; that a series has three attempts is this project's own rule).
-use Rattle.std.specs.Prelude.{◌≡◌, ℕ, ◌==◌, ◌&&◌, ◌||◌, not, Bool, true, if◌then◌else◌, List, [], ◌∷◌}
+use Rattle.std.specs.Prelude.{◌≡◌, ℕ, ◌==◌, ◌&&◌, ◌||◌, not, Bool, true, if◌then◌else◌, List, [], ◌∷◌, ◌++◌}
 use Rattle.std.specs.List.{flat_map, list_any}
 use Rattle.zw_text.specs.declared.entry.Ended.TheVariants.{Unanswered}
 use Rattle.zw_text.specs.declared.entry.Entry.{Entry}
@@ -8,7 +8,7 @@ use Rattle.zw_text.specs.Transcript.{joined, lines_run, shown}
 use Rattle.law_transcript.specs.Restarts.{ticks_asked}
 use Rattle.law_transcript.specs.Stores.{node_at}
 use Rattle.law_transcript.specs.Units.{sending_in}
-use Rattle.law_time.specs.Moments.{Keeps, clock, now_at}
+use Rattle.law_time.specs.Moments.{KeepsAfter, clock, now_at}
 use Rattle.law_time.specs.Judged.{is_directly_after, is_mark}
 use Rattle.law_time.specs.Requests.{asked, are_none}
 use Rattle.law_time.specs.Sessions.{is_open, last_command}
@@ -46,6 +46,10 @@ may_give_up listing past (Said words) = none_to_give_up listing past (now_at pas
 may_give_up listing past (Time tick) = none_to_give_up listing past (now_at past (Time tick))
 may_give_up listing past entry = is_mark entry || not (owes_giving_up listing past)
 
-pub record GivesUpAfterThree (whole : Bool) (listing : ℕ → List ℕ) (transcript : List Entry) : Type 0 where
-  pub between : Keeps (may_give_up listing) transcript
-  pub in_the_end : whole ≡ true → none_to_give_up listing transcript (ticks_asked (lines_run transcript)) ≡ true
+-- so it is after what stood before
+pub record GivesUp (before : List Entry) (whole : Bool) (listing : ℕ → List ℕ) (transcript : List Entry) : Type 0 where
+  pub between : KeepsAfter before (may_give_up listing) transcript
+  pub in_the_end : whole ≡ true → none_to_give_up listing (before ++ transcript) (ticks_asked (lines_run (before ++ transcript))) ≡ true
+
+abbrev pub GivesUpAfterThree : Bool → (ℕ → List ℕ) → List Entry → Type 0
+GivesUpAfterThree whole listing transcript = GivesUp [] whole listing transcript

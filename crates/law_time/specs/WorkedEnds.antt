@@ -34,6 +34,12 @@ refused_after_others =
     Said (codes "send 2 on") ∷ set_sent ∷ chip_acknowledges ∷ notified ∷ host_acknowledges ∷ Awake 5 ∷ asking_refused ∷ host_acknowledges ∷
     by_chip (codes "010500130900E0") ∷ host_acknowledges ∷ refused ∷ host_acknowledges ∷ Done 2 done.Refused ∷ []
 
+-- a response to a Set that has no body is acknowledged and tells nothing; the one after it counts
+abbrev pub delivered_after_unread : List Entry
+delivered_after_unread =
+    Said (codes "send 2 on") ∷ set_sent ∷ chip_acknowledges ∷ by_chip (codes "01030113EE") ∷ host_acknowledges ∷ taken ∷ host_acknowledges ∷
+    Said (codes "tick 1") ∷ Time 1 ∷ delivered ∷ host_acknowledges ∷ Done 2 done.Delivered ∷ []
+
 -- a line asks for a Set of a dimmer that is taken for a switch, and it is sent as one for a switch when the dimmer is known
 abbrev pub said_by_old_list : List Entry
 said_by_old_list =
@@ -87,6 +93,11 @@ given_up_at_answer = four_copies ++ chip_denies ∷ Done 2 done.LinkFailed ∷ [
 -- or acknowledges it in the last tick in which it may
 abbrev pub acknowledged_last : List Entry
 acknowledged_last = four_copies ++ Time 92 ∷ chip_acknowledges ∷ Time 95 ∷ delivered ∷ host_acknowledges ∷ Done 2 done.Delivered ∷ []
+
+-- so too where a byte that is no answer came before
+abbrev pub acknowledged_after_stray : List Entry
+acknowledged_after_stray =
+    four_copies ++ by_chip (codes "55") ∷ Time 92 ∷ chip_acknowledges ∷ Time 95 ∷ delivered ∷ host_acknowledges ∷ Done 2 done.Delivered ∷ []
 
 -- the callback comes in time though no answer did, or before the answer that would end the Set
 abbrev pub delivered_unanswered : List Entry

@@ -1,11 +1,13 @@
 -- Worked transcripts of what waits, and of when a series runs anew, made by hand in the form in which the program prints them.
 use Rattle.std.specs.Prelude.{List, [], ◌∷◌, ◌++◌, codes, take}
+use Rattle.zw_base.specs.declared.property.Name.TheVariants as names
+use Rattle.host_orders.specs.Settings.{setting}
 use Rattle.zw_words.specs.declared.side.Side.TheVariants.{Host, Chip}
 use Rattle.zw_text.specs.declared.entry.Done.TheVariants as done
 use Rattle.zw_text.specs.declared.entry.Ended.TheVariants as endings
 use Rattle.zw_text.specs.declared.entry.Refusal.TheVariants as refusals
 use Rattle.zw_text.specs.declared.entry.Entry.{Entry}
-use Rattle.zw_text.specs.declared.entry.Entry.TheVariants.{Said, Accepted, Refused, Begin, Dropped, Out, Awake, Asleep, Held, Interviewed, Done, QueueFull, Unkept, Time, Overrun, InterviewFailed}
+use Rattle.zw_text.specs.declared.entry.Entry.TheVariants.{Said, Accepted, Refused, Begin, Dropped, Out, Awake, Asleep, Held, Interviewed, Done, QueueFull, Report, Unkept, Time, Overrun, InterviewFailed}
 use Rattle.law_time.specs.WorkedEnds.{set_under_way, interview_under_way}
 use Rattle.law_time.specs.WorkedUnits.{abort_sent, by_chip, by_host, chip_acknowledges, failed_asked, host_acknowledges, message_sent, no_more_sent, nonce_asked, nonce_given, notified, set_sent, sleeper_sent, delivered, taken}
 use Rattle.law_time.specs.WorkedWaits.{full_queue}
@@ -172,6 +174,11 @@ dropped_at_once = filled ++ nonce_asked ∷ host_acknowledges ∷ QueueFull 4 �
 
 abbrev pub dropped_after_lost : List Entry
 dropped_after_lost = filled ++ nonce_asked ∷ host_acknowledges ∷ Dropped Host ∷ QueueFull 4 ∷ []
+
+-- a payload tells a value and asks for a nonce: the value is noted first
+abbrev pub dropped_after_report : List Entry
+dropped_after_report =
+    filled ++ by_chip (codes "0110000400020A8F01020325030002984090") ∷ host_acknowledges ∷ Report 2 (setting 0 names.Switch 0) ∷ QueueFull 2 ∷ []
 
 abbrev pub unkept_though_full : List Entry
 unkept_though_full = filled ++ nonce_asked ∷ host_acknowledges ∷ Unkept 4 ∷ Said (codes "tick 1") ∷ []

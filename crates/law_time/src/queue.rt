@@ -60,6 +60,7 @@ ghost use Rattle.law_time.specs.WorkedTurns.{
   told_held,
   dropped_at_once,
   dropped_after_lost,
+  dropped_after_report,
   refused_otherwise,
   unkept_though_full,
   told_once,
@@ -109,7 +110,7 @@ ghost use Rattle.law_time.specs.WrongTurns.{
 ghost use Rattle.zw_text.specs.Transcript.{endings};
 
 /// In worked transcripts lines are refused, and messages dropped, where 64 requests wait: a line that asks for a place too many, No More
-/// Information to a node that wakes, and a Nonce Report, after a lost acknowledgement too. It is not dropped where the keeper fails, and a
+/// Information to a node that wakes, and a Nonce Report, after a lost acknowledgement too, and after a value that the same payload told. It is not dropped where the keeper fails, and a
 /// line may be refused for something else.
 pub fn worked_queue()
     ensures full { FitsQueue (listing_of (the_switch ∷ [])) full_queue }
@@ -126,6 +127,7 @@ pub fn worked_queue()
     ensures cut { FitsQueue (listing_of (the_plug ∷ [])) long_message }
     ensures at_once { FitsQueue (listing_of (the_switch ∷ [])) dropped_at_once }
     ensures after_lost { FitsQueue (listing_of (the_switch ∷ [])) dropped_after_lost }
+    ensures after_report { FitsQueue (listing_of (the_switch ∷ [])) dropped_after_report }
     ensures unkept { FitsQueue (listing_of (the_switch ∷ [])) unkept_though_full }
     ensures otherwise { FitsQueue (listing_of (the_switch ∷ [])) refused_otherwise }
     ensures dropped_once { FitsQueue (listing_of (the_switch ∷ [])) dropped_once }

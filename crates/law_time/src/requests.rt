@@ -51,7 +51,9 @@ ghost use Rattle.law_transcript.specs.Worked.{
 };
 ghost use Rattle.law_transcript.specs.WorkedCases.{the_dimmer};
 ghost use Rattle.law_time.specs.WorkedEnds.{
+  acknowledged_after_stray,
   acknowledged_last,
+  delivered_after_unread,
   delivered_before_denied,
   delivered_last,
   delivered_unanswered,
@@ -119,8 +121,8 @@ ghost use Rattle.law_time.specs.WorkedUnits.{failed, not_acknowledged, not_idle,
 /// In worked transcripts it is said how each Set and Get ended that a line asked for: in each way that there is, and after an
 /// acknowledgement that is lost, overrun or changed. Other frames end nothing. A Set is silent 65 ticks after its response, where that
 /// comes within 15; and it may be delivered in the tick before. Four copies without an answer give it up, or the answer that denies the
-/// fourth, but where a callback comes before, the fourth is acknowledged in time, or a wait ends first. What a line asked for is read by the classes that
-/// its node had listed when it was said.
+/// fourth, but where a callback comes before, the fourth is acknowledged in time, or a wait ends first. A byte that is no answer, and a response that
+/// cannot be read, tell nothing. What a line asked for is read by the classes that its node had listed when it was said.
 pub fn worked_errands()
     ensures answered { SaysHowDone (listing_of (the_switch ∷ [])) answered_errands }
     ensures silent { SaysHowDone (listing_of (the_switch ∷ [])) silent_request }
@@ -146,6 +148,8 @@ pub fn worked_errands()
     ensures given_up { SaysHowDone (listing_of (the_switch ∷ [])) given_up_errand }
     ensures denied { SaysHowDone (listing_of (the_switch ∷ [])) given_up_at_answer }
     ensures acknowledged_last { SaysHowDone (listing_of (the_switch ∷ [])) acknowledged_last }
+    ensures after_stray { SaysHowDone (listing_of (the_switch ∷ [])) acknowledged_after_stray }
+    ensures after_unread { SaysHowDone (listing_of (the_switch ∷ [])) delivered_after_unread }
     ensures unanswered { SaysHowDone (listing_of (the_switch ∷ [])) delivered_unanswered }
     ensures before_denied { SaysHowDone (listing_of (the_switch ∷ [])) delivered_before_denied }
     ensures silent_before { SaysHowDone (listing_of (the_switch ∷ [])) silent_before_given_up }

@@ -11,9 +11,10 @@ use Rattle.zw_text.specs.declared.entry.Entry.{Entry}
 use Rattle.zw_text.specs.declared.entry.Entry.TheVariants.{Said, Accepted, Refused, Begin, Out, Air, Heard, Lost, Unheard, Time, Written, Store}
 use Rattle.zw_text.specs.Transcript.{line_last}
 use Rattle.law_transcript.specs.Lists.{EachAfter, Has}
-use Rattle.law_transcript.specs.Answers.{MayAnswer, Follows, MayCancel, CancelsWhenAsked, before_last}
+use Rattle.law_transcript.specs.Answers.{MayAnswer, Follows, MayCancel, CancelsWhenAsked, before_last, refusals_to}
 use Rattle.law_transcript.specs.Carrying.{MaySend, CarriesUnits, MayBring, BringsWhatWasHeard, WereHeard}
 use Rattle.law_transcript.specs.Fates.{MayAir, NumbersFrames, MayFare, FaresInTurn, MayBeMarked, LosesMarked}
+use Rattle.law_transcript.specs.Nodes.{listing_of}
 use Rattle.law_transcript.specs.Once.{MayEnd, SucceedsAfterChange}
 use Rattle.law_transcript.specs.Payloads.{MayRequest, SendsWhatIsDue, FollowsBegin, BeginsWithUnit}
 use Rattle.law_transcript.specs.Sessions.{MayBegin, KeepsSessions}
@@ -82,14 +83,21 @@ is_answer _ = false
 abbrev pub is_after_line : List Entry → Entry → Bool
 is_after_line past entry = has_some (line_last past) || is_answer entry
 
-quiet_follows : (devices : List State) (past : List Entry) (said : List Line) (entry : Entry) → (has_some said || is_answer entry) ≡ false → Follows devices past said entry
-quiet_follows devices past (line ∷ more) entry is = cc
-quiet_follows devices past [] (Accepted command node) is = cc
-quiet_follows devices past [] (Refused refusal) is = cc
-quiet_follows devices past [] _ is = tt
+quiet_follows : (listing : ℕ → List ℕ) (refusals : List Entry → Line → List Entry) (past : List Entry) (said : List Line) (entry : Entry)
+    → (has_some said || is_answer entry) ≡ false → Follows listing refusals past said entry
+quiet_follows listing refusals past (line ∷ more) entry is = cc
+quiet_follows listing refusals past [] (Accepted command node) is = cc
+quiet_follows listing refusals past [] (Refused refusal) is = cc
+quiet_follows listing refusals past [] _ is = tt
 
-pub answers : (devices : List State) (transcript : List Entry) → AllAsked is_after_line (MayAnswer devices) [] transcript → EachAfter (MayAnswer devices) [] transcript
-answers devices = each is_after_line (MayAnswer devices) (λ past entry is. quiet_follows devices (before_last past) (line_last past) entry is) []
+-- a line of a run is answered so
+abbrev pub MayAnswerOf : List State → List Entry → Entry → Type 0
+MayAnswerOf devices = MayAnswer (listing_of devices) (refusals_to devices)
+
+pub answers : (devices : List State) (transcript : List Entry) → AllAsked is_after_line (MayAnswerOf devices) [] transcript → EachAfter (MayAnswerOf devices) [] transcript
+answers devices =
+    each is_after_line (MayAnswerOf devices)
+    (λ past entry is. quiet_follows (listing_of devices) (refusals_to devices) (before_last past) (line_last past) entry is) []
 
 abbrev pub is_cancelled : List Entry → Entry → Bool
 is_cancelled past (Out number endings.Cancelled) = true

@@ -1,5 +1,5 @@
 pub mod Comings
-mod Computing
+pub mod Computing
 pub mod Deciding
 pub mod Entries
 pub mod Having

@@ -101,14 +101,14 @@ abbrev pub refused_unless : Bool → Refusal → List Entry
 refused_unless holds refusal = if holds then [] else Refused refusal ∷ []
 
 -- what refuses a line about a node or a command of the host
-abbrev pub refusals_by_host : List State → List Entry → Line → List Entry
-refusals_by_host devices past (lines.Cancel command) =
+abbrev pub refusals_by_host : (ℕ → List ℕ) → List Entry → Line → List Entry
+refusals_by_host listing past (lines.Cancel command) =
     refused_unless (list_any (λ number. number == command) (accepted_numbers past) && is_waiting (outcome command past)) (refusals.NotWaiting command)
-refusals_by_host devices past (lines.Join node) = refused_unless (not (is_joined past node || node == controller)) refusals.AlreadyJoined
-refusals_by_host devices past (lines.Send node word) = flat_map refusal_entry (listed (send_refusal (known_of (listing_of devices) past node) 0 word))
-refusals_by_host devices past (lines.Get node end) = flat_map refusal_entry (listed (get_refusal (known_of (listing_of devices) past node) 0 end))
-refusals_by_host devices past (lines.Interview node) = refused_unless (is_joined past node) refusals.NotJoined
-refusals_by_host devices past _ = []
+refusals_by_host listing past (lines.Join node) = refused_unless (not (is_joined past node || node == controller)) refusals.AlreadyJoined
+refusals_by_host listing past (lines.Send node word) = flat_map refusal_entry (listed (send_refusal (known_of listing past node) 0 word))
+refusals_by_host listing past (lines.Get node end) = flat_map refusal_entry (listed (get_refusal (known_of listing past node) 0 end))
+refusals_by_host listing past (lines.Interview node) = refused_unless (is_joined past node) refusals.NotJoined
+refusals_by_host listing past _ = []
 
 -- what refuses a line about a frame or a device
 abbrev pub refusals_around : List State → List Entry → Line → List Entry
@@ -120,7 +120,7 @@ refusals_around devices past _ = []
 
 -- what refuses a line that is no order
 abbrev pub refusals_to : List State → List Entry → Line → List Entry
-refusals_to devices past line = refusals_by_host devices past line ++ refusals_around devices past line
+refusals_to devices past line = refusals_by_host (listing_of devices) past line ++ refusals_around devices past line
 
 -- whether a line asks for a place in the queue of requests
 abbrev pub is_queued : Line → Bool
@@ -173,30 +173,35 @@ IsNoAnswer (Accepted command node) = ⊥
 IsNoAnswer (Refused refusal) = ⊥
 IsNoAnswer _ = ⊤
 
--- what stands directly after a line, or after none
-abbrev pub Follows : List State → List Entry → List Line → Entry → Type 0
-Follows devices past [] entry = IsNoAnswer entry
-Follows devices past (lines.Command order ∷ more) entry = IsAnswer (answer_to (listing_of devices) past order) entry
-Follows devices past (line ∷ more) entry = IsRefusal line (refusals_to devices past line) entry
+-- what stands directly after a line, or after none, where these refusals are those of lines that are no orders
+abbrev pub Follows : (ℕ → List ℕ) → (List Entry → Line → List Entry) → List Entry → List Line → Entry → Type 0
+Follows listing refusals past [] entry = IsNoAnswer entry
+Follows listing refusals past (lines.Command order ∷ more) entry = IsAnswer (answer_to listing past order) entry
+Follows listing refusals past (line ∷ more) entry = IsRefusal line (refusals past line) entry
 
 -- the entries before the last one
 abbrev pub before_last : List Entry → List Entry
 before_last past = take (length past - 1) past
 
 -- an entry after this past is an answer exactly where it must be one; a line is judged by what stands before it
-abbrev pub MayAnswer : List State → List Entry → Entry → Type 0
-MayAnswer devices past entry = Follows devices (before_last past) (line_last past) entry
+abbrev pub MayAnswer : (ℕ → List ℕ) → (List Entry → Line → List Entry) → List Entry → Entry → Type 0
+MayAnswer listing refusals past entry = Follows listing refusals (before_last past) (line_last past) entry
 
 -- a line that need not have an answer
-abbrev pub AsksNothing : List State → List Entry → List Line → Type 0
-AsksNothing devices past [] = ⊤
-AsksNothing devices past (lines.Command order ∷ more) = ⊥
-AsksNothing devices past (line ∷ more) = refusals_to devices past line ≡ []
+abbrev pub AsksNothing : (List Entry → Line → List Entry) → List Entry → List Line → Type 0
+AsksNothing refusals past [] = ⊤
+AsksNothing refusals past (lines.Command order ∷ more) = ⊥
+AsksNothing refusals past (line ∷ more) = refusals past line ≡ []
 
--- every line has the one answer that the transcript so far demands, where the run did not end in it
-pub record AnswersLines (whole : Bool) (devices : List State) (transcript : List Entry) : Type 0 where
-  pub between : EachAfter (MayAnswer devices) [] transcript
-  pub in_the_end : whole ≡ true → AsksNothing devices (before_last transcript) (line_last transcript)
+-- every line after these entries has the one answer that what stands before it demands, where the run did not end in it
+pub record AnswersAfter (before : List Entry) (whole : Bool) (listing : ℕ → List ℕ) (refusals : List Entry → Line → List Entry)
+    (transcript : List Entry) : Type 0 where
+  pub between : EachAfter (MayAnswer listing refusals) before transcript
+  pub in_the_end : whole ≡ true → AsksNothing refusals (before_last (before ++ transcript)) (line_last (before ++ transcript))
+
+-- every line of a run has it
+abbrev pub AnswersLines : Bool → List State → List Entry → Type 0
+AnswersLines whole devices transcript = AnswersAfter [] whole (listing_of devices) (refusals_to devices) transcript
 
 -- a command is taken back only where a line asks for it and it waits
 abbrev pub MayCancel : List Entry → Entry → Type 0

@@ -90,16 +90,17 @@ tick_of _ = []
 abbrev pub clock_in : List Moment → ℕ
 clock_in past = length (flat_map (λ one. tick_of one.event) past)
 
--- until when lines stall the bytes
+-- until when a line that begins now stalls the bytes
 abbrev pub stall_by : ℕ → Line → List ℕ
 stall_by now (lines.Stall count) = (now + count) ∷ []
 stall_by now _ = []
 
-abbrev pub stall_at : List Moment → Moment → List ℕ
-stall_at past one = flat_map (stall_by (clock_in past)) (line_in one.event)
+-- whether a stall lasts at a time: the lines among these stall the bytes, each from the clock at which it begins
+abbrev pub lasts : {A : Type 0} → (List A → ℕ) → (A → List Line) → List A → ℕ → Bool
+lasts clock line past now = list_any (nat_lt now) (shown_after (λ before one. flat_map (stall_by (clock before)) (line one)) [] past)
 
 abbrev pub is_stalled : List Moment → Bool
-is_stalled past = list_any (nat_lt (clock_in past)) (shown_after stall_at [] past)
+is_stalled past = lasts clock_in (λ one. line_in one.event) past (clock_in past)
 
 -- ---- what a side writes
 

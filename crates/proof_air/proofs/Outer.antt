@@ -45,7 +45,7 @@ use Rattle.outside_model.specs.Devices.{acts, changes_entries, new_changes}
 use Rattle.outside_model.specs.Nodes.{joins, listens_at, links_of, discovers, all_pairs}
 use Rattle.outside_model.specs.Events.{OuterEvent, Begins_line, Begins_tick, Host_writes, Host_takes, Host_notes, Host_begins, Chip_takes, Arrives, Gives as gives_due, Device_ticks, Chip_ticks, Repeats, Wakes_device, Sets_device, Shows, Joins, Discovers, Links, Loses, Loses_acks, Marks_loss, Marks_change, Clears_pipe, Collides_next, Stalls, Cuts, mesh_of, outcome}
 use Rattle.proof_walk.specs.Outside.{Pending, Judging, Dealing, nothing, Knowing, Moves, Comes, Outer, IsSimple, IsHearing, session_begins}
-use Rattle.proof_walk.proofs.Results.{IsGiven, Gives, ends_go, gives_go, to_chip_goes}
+use Rattle.proof_device.proofs.Results.{IsGiven, Gives, ends_go, gives_go, to_chip_goes}
 use Rattle.proof_air.specs.Logs.{departure_of, mark_step, log_of, plain, plain_log, sent_marks, pending_marks, IsApart, Tie}
 use Rattle.proof_air.specs.Hearing.{MayHear, FreshHere, Knows, JoinsNode}
 use Rattle.proof_air.proofs.Logs.{log_grows, plain-append}
@@ -408,17 +408,6 @@ joins_goes w node listening apart = record {
 
 simple_goes : (w : Outside) (event : OuterEvent) → IsSimple event → JoinsNode event → Goes_on nothing w (outcome w event).entries nothing (outside (outcome w event).outer w.devices)
 unfolding outcome
-simple_goes w Begins_line simple joins = absurd simple
-simple_goes w Begins_tick simple joins = absurd simple
-simple_goes w (Host_begins node sessions) simple joins = absurd simple
-simple_goes w (Chip_takes count rest ways) simple joins = absurd simple
-simple_goes w (Arrives drawn route) simple joins = absurd simple
-simple_goes w (gives_due route) simple joins = absurd simple
-simple_goes w (Device_ticks place drawn route) simple joins = absurd simple
-simple_goes w Chip_ticks simple joins = absurd simple
-simple_goes w (Repeats number drawn route) simple joins = absurd simple
-simple_goes w (Wakes_device node route) simple joins = absurd simple
-simple_goes w (Sets_device node value route) simple joins = absurd simple
 simple_goes w (Host_writes unit) simple joins = silent nothing w _ (told by_host w.outer.to_chip unit) (told_silent by_host w.outer.to_chip unit) (same w.outer (outcome w (Host_writes unit)).outer refl refl refl)
 simple_goes w (Host_takes count) simple joins = silent nothing w _ [] tt (same w.outer (outcome w (Host_takes count)).outer refl refl refl)
 simple_goes w (Host_notes note) simple joins = silent nothing w w (note ∷ []) (note_silent note simple.0 simple.1, tt) (same w.outer w.outer refl refl refl)
@@ -440,6 +429,7 @@ simple_goes w (Clears_pipe by_chip) simple joins =
 simple_goes w Collides_next simple joins = silent nothing w _ [] tt (same w.outer (outcome w Collides_next).outer refl refl refl)
 simple_goes w (Stalls ticks) simple joins = silent nothing w _ [] tt (same w.outer (outcome w (Stalls ticks)).outer refl refl refl)
 simple_goes w (Cuts size) simple joins = silent nothing w _ [] tt (same w.outer (outcome w (Cuts size)).outer refl refl refl)
+simple_goes w event simple joins = absurd simple
 
 -- ---- all of it
 

@@ -24,7 +24,7 @@ use Rattle.outside_model.specs.Events.{cleared_entries, ticked_entry}
 use Rattle.outside_model.specs.State.{OuterState}
 use Rattle.world_model.specs.State.{begun_in}
 use Rattle.proof_walk.specs.Outside.{IsNote}
-use Rattle.proof_walk.proofs.Entered.{IsMark, told_by_marks, IsCleared, all_cleared, IsShown, all_shown, IsChange, change_entered, changes_entered}
+use Rattle.proof_device.proofs.Entered.{IsMark, told_by_marks, IsCleared, all_cleared, IsShown, all_shown, IsChange, change_entered, changes_entered}
 use Rattle.proof_air.specs.Logs.{mark_step, log_of}
 use Rattle.proof_air.specs.Hearing.{IsFresh, MayHear, FreshHere}
 use Rattle.proof_air.proofs.Logs.{log_grows}

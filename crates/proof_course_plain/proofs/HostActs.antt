@@ -67,7 +67,8 @@ use Rattle.proof_course_plain.proofs.Outer.{SameDevice, has_same}
 use Rattle.proof_once.specs.Tied.{AreOutcomes}
 use Rattle.proof_course_plain.specs.Told.{KeepsOutcomes}
 use Rattle.proof_course_plain.proofs.Told.{outcomes_stay, outcomes_begin}
-use Rattle.proof_course_plain.proofs.KeptSessions.{SameHost, same_host, same_then, other_same, outcome_orders}
+use Rattle.proof_course_plain.proofs.KeptHosts.{SameHost, same_host, same_then, other_same, outcome_orders}
+use Rattle.proof_course_plain.proofs.KeptSessions.{plain_course}
 
 -- ---- more orders
 
@@ -187,7 +188,7 @@ none_own (Paused f copies ticks) e = absurd (grind (arith, e))
 
 -- ---- the same to the course
 
-same_at : (node : ℕ) (orders : List Asked) (book : HostBook) (h g : HostState) → SameHost node h g → AtHost node orders book h → AtHost node (orders ++ []) book g
+same_at : (node : ℕ) (orders : List Asked) (book : HostBook) (h g : HostState) → SameHost (plain_course node) h g → AtHost node orders book h → AtHost node (orders ++ []) book g
 same_at node orders book h g same at = subst (λ (os : List Asked). AtHost node os book g) (sym (append-nil orders)) (record {
   node_as = same.node_as book.commands book.outcome at.node_as;
   orders_are = at.orders_are ∙ sym same.orders;
@@ -200,7 +201,7 @@ module _ (node : ℕ) (orders : List Asked) (c : Course) (h : HostState) (at : A
   nothing_written = subst (λ (us : List Message). Goes c (record c { up = us })) (sym (append-nil c.up)) (goes_nowhere c)
 
   -- nothing is written
-  pub quietly : (g : HostState) → SameHost node h g → Wrote node orders c h g []
+  pub quietly : (g : HostState) → SameHost (plain_course node) h g → Wrote node orders c h g []
   quietly g same = record {
     added = [];
     written = [];
@@ -230,7 +231,7 @@ module _ (node : ℕ) (orders : List Asked) (c : Course) (h : HostState) (at : A
   }
 
   -- a frame is submitted, which holds no message
-  pub submits_other : (g : HostState) (f : FrameParts) → SameHost node h (record g { side = h.side }) → g.side.turn ≡ Copied f 1 0 → is_busy h.side.turn ≡ false → Asks node orders c.host.commands f None → Wrote node orders c h g (Framed f ∷ [])
+  pub submits_other : (g : HostState) (f : FrameParts) → SameHost (plain_course node) h (record g { side = h.side }) → g.side.turn ≡ Copied f 1 0 → is_busy h.side.turn ≡ false → Asks node orders c.host.commands f None → Wrote node orders c h g (Framed f ∷ [])
   submits_other g f same turn free is = record {
     added = [];
     written = [];
@@ -241,7 +242,7 @@ module _ (node : ℕ) (orders : List Asked) (c : Course) (h : HostState) (at : A
   }
 
   -- a message of the last session is submitted, whole or one segment
-  pub submits_message : (g : HostState) (f : FrameParts) (is_segment : Bool) → SameHost node h (record g { side = h.side }) → g.side.turn ≡ Copied f 1 0 → is_busy h.side.turn ≡ false → 0 < begun_of c.host
+  pub submits_message : (g : HostState) (f : FrameParts) (is_segment : Bool) → SameHost (plain_course node) h (record g { side = h.side }) → g.side.turn ≡ Copied f 1 0 → is_busy h.side.turn ≡ false → 0 < begun_of c.host
       → Asks node orders c.host.commands f (Some (record { session = begun_of c.host; is_segment = is_segment })) → Wrote node orders c h g (Framed f ∷ [])
   submits_message g f is_segment same turn free some is =
       let message : Message = record { session = begun_of c.host; is_segment = is_segment } in
@@ -373,7 +374,7 @@ module _ (laws : AirLaws) (node : ℕ) (orders : List Asked) (c : Course) (rest 
       by false apart =
           let air = other_begins laws node orders c.host c.air c.old f.mesh.log f.mesh.flights w.outer.air f.mesh.on_air n session (waits_somewhere h n facts may.1.0) apart in
           let done : HostState = node_does h n node_begins in
-          let same : SameHost node h g = same_then node h done g (other_same node h n (after_node (node_of h n) node_begins) (λ e. absurd (grind (arith, apart, e)))) (same_host node done g refl (outcome_orders h.commands command _) refl refl) in
+          let same : SameHost (plain_course node) h g = same_then (plain_course node) h done g (other_same (plain_course node) h n (after_node (node_of h n) node_begins) (λ e. absurd (grind (arith, apart, e)))) (same_host (plain_course node) done g refl refl (outcome_orders h.commands command _) refl refl) in
           let there : AtHost node orders c.host g = subst (λ (os : List Asked). AtHost node os c.host g) (append-nil orders) (same_at node orders c.host h g same f.host) in
           begun_with c air.0 (goes_nowhere c) refl refl (record { device = refl; kept = refl; ends = refl }) air.1 there still_told f.mesh.made (λ fr mark is. is)
       by true mine =

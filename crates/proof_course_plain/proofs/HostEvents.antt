@@ -53,7 +53,8 @@ use Rattle.proof_course_plain.specs.Lines.{Asks, Moves}
 use Rattle.proof_course_plain.specs.HostGoing.{IsAside}
 use Rattle.proof_course_plain.specs.Host.{NodeAs, asked_of, IsPlainFor, IsTaskFor, AtHost, AsksPlainly}
 use Rattle.proof_course_plain.proofs.WayLabels.{move_sign, move_heard, move_ticked, copies_of}
-use Rattle.proof_course_plain.proofs.KeptSessions.{IsQuiet, SameHost, same_host, same_then, does_same, other_same, requests_same, request_same, room_same, holding_same, failing_same, ended_same, works_keeps, outcome_orders, set_as}
+use Rattle.proof_course_plain.proofs.KeptHosts.{IsQuiet, StartsQuietly, SameHost, same_host, same_then, does_same, works_same, other_same, requests_same, request_same, room_same, holding_same, failing_same, ended_same, unchanged, outcome_orders}
+use Rattle.proof_course_plain.proofs.KeptSessions.{plain_course}
 use Rattle.proof_course_plain.proofs.Flights.{segment_stays}
 use Rattle.proof_course_plain.proofs.HostFrames.{attempt_asks, abort_asks, segment_asks, task_asks}
 use Rattle.proof_course_plain.proofs.HostActs.{Wrote, quietly, accepts, turns, submits_other, submits_message}
@@ -230,20 +231,20 @@ module _ (nonces : (nonce : List ℕ) → IsOther (nonce_report nonce)) (no_more
       open_is_last (open_session (node_of h node).book) k payload refl (subst (λ (m : ℕ). open_segment h (node_of h m) (open_session (node_of h m).book) k ≡ Some payload) own found)
 
   -- nothing but entries
-  quiet : (g : HostState) (event : HostEvent) → SameHost node h g → host_units (outs h event) ≡ [] → Wrote node orders c h g (host_units (outs h event))
+  quiet : (g : HostState) (event : HostEvent) → SameHost (plain_course node) h g → host_units (outs h event) ≡ [] → Wrote node orders c h g (host_units (outs h event))
   quiet g event same none = subst (λ (us : List LineUnit). Wrote node orders c h g us) (sym none) (quietly node orders c h at g same)
 
-  offering_same : (g : HostState) (n : ℕ) (live : Option (List ℕ)) → SameHost node g (offering g n live)
-  offering_same g n None = same_host node g g refl refl refl refl
-  offering_same g n (Some nonce) = room_same node g (task.Offer n nonce) tt
+  offering_same : (g : HostState) (n : ℕ) (live : Option (List ℕ)) → SameHost (plain_course node) g (offering g n live)
+  offering_same g n None = unchanged (plain_course node) g
+  offering_same g n (Some nonce) = room_same (plain_course node) g (task.Offer n nonce) tt
 
   accepted : (order : Order) (carriage : Carriage) → IsPlainFor node (record { order = order; carriage = carriage }) → Wrote node orders c h (after_host h (Accepts order carriage)) []
   accepted order carriage plain =
       let taken : Command = record { order = order; carriage = carriage; outcome = Waiting } in
       let base : HostState = record h { commands = h.commands ++ taken ∷ []; store = (after_host h (Accepts order carriage)).store } in
       let put : HostState = node_does base order.node (node_puts (length h.commands + 1)) in
-      let first : SameHost node base put = does_same node base order.node (node_puts (length h.commands + 1)) tt in
-      let later : SameHost node put (node_does put order.node node_accepts) = does_same node put order.node node_accepts tt in
+      let first : SameHost (plain_course node) base put = does_same (plain_course node) base order.node (node_puts (length h.commands + 1)) tt in
+      let later : SameHost (plain_course node) put (node_does put order.node node_accepts) = does_same (plain_course node) put order.node node_accepts tt in
       accepts node orders c h at (after_host h (Accepts order carriage)) (record { order = order; carriage = carriage } ∷ []) (record {
         node_as = later.node_as c.host.commands c.host.outcome (first.node_as c.host.commands c.host.outcome at.node_as);
         orders_are = ap (λ l. l ++ record { order = order; carriage = carriage } ∷ []) at.orders_are ∙ sym (map_more h.commands taken);
@@ -252,18 +253,18 @@ module _ (nonces : (nonce : List ℕ) → IsOther (nonce_report nonce)) (no_more
       }) refl
 
   -- a part of an attempt of another node
-  part_same : (n : ℕ) (more : Bool) (payload : List ℕ) (gives : NodeEvent) → (n ≡ node → IsQuiet gives) → SameHost node h (record (submits_part h n more payload gives) { side = h.side })
+  part_same : (n : ℕ) (more : Bool) (payload : List ℕ) (gives : NodeEvent) → (n ≡ node → IsQuiet false gives) → SameHost (plain_course node) h (record (submits_part h n more payload gives) { side = h.side })
   part_same n more payload gives quiet = by (n == node) refl
     where
-      by : (b : Bool) → (n == node) ≡ b → SameHost node h (record (submits_part h n more payload gives) { side = h.side })
+      by : (b : Bool) → (n == node) ≡ b → SameHost (plain_course node) h (record (submits_part h n more payload gives) { side = h.side })
       by true own =
-          same_then node h (record (requests_do h (BeginsAttempt n more payload)) { served = n }) (record (submits_part h n more payload gives) { side = h.side })
-          (record { node_as = λ cs o was. was; orders = refl; queue = λ asked commands all. all; side = refl })
-          (does_same node (record (requests_do h (BeginsAttempt n more payload)) { served = n }) n gives (quiet (eqb-true n node own)))
+          same_then (plain_course node) h (record (requests_do h (BeginsAttempt n more payload)) { served = n }) (record (submits_part h n more payload gives) { side = h.side })
+          (record { keys = refl; node_as = λ cs o was. was; orders = refl; queue = λ asked commands all. all; side = refl })
+          (does_same (plain_course node) (record (requests_do h (BeginsAttempt n more payload)) { served = n }) n gives (quiet (eqb-true n node own)))
       by false other =
-          same_then node h (record (requests_do h (BeginsAttempt n more payload)) { served = n }) (record (submits_part h n more payload gives) { side = h.side })
-          (record { node_as = λ cs o was. was; orders = refl; queue = λ asked commands all. all; side = refl })
-          (other_same node (record (requests_do h (BeginsAttempt n more payload)) { served = n }) n (after_node (node_of h n) gives) (λ e. absurd (grind (arith, other, e))))
+          same_then (plain_course node) h (record (requests_do h (BeginsAttempt n more payload)) { served = n }) (record (submits_part h n more payload gives) { side = h.side })
+          (record { keys = refl; node_as = λ cs o was. was; orders = refl; queue = λ asked commands all. all; side = refl })
+          (other_same (plain_course node) (record (requests_do h (BeginsAttempt n more payload)) { served = n }) n (after_node (node_of h n) gives) (λ e. absurd (grind (arith, other, e))))
 
   -- an attempt begins
   started : (n : ℕ) (plan : Plan) (more : Bool) (payload : List ℕ) → is_busy h.side.turn ≡ false → IsStart h n plan more payload → Wrote node orders c h (after_host h (Starts n plan more payload)) (host_units (outs h (Starts n plan more payload)))
@@ -297,7 +298,7 @@ module _ (nonces : (nonce : List ℕ) → IsOther (nonce_report nonce)) (no_more
           start : (f : Form) → form_of is.command.carriage.outer ≡ f → start_of is.command is.session ≡ start_by f is.session (message_for is.command is.session)
           start f e = ap (λ (x : Form). start_by x is.session (message_for is.command is.session)) e
 
-          submitted : (is_segment : Bool) → IsQuiet (node_starts plan) → IsMessage is_segment orders c.host.commands (begun_of c.host) payload → Wrote node orders c h (after_host h (Starts n plan more payload)) (host_units (outs h (Starts n plan more payload)))
+          submitted : (is_segment : Bool) → StartsQuietly false plan → IsMessage is_segment orders c.host.commands (begun_of c.host) payload → Wrote node orders c h (after_host h (Starts n plan more payload)) (host_units (outs h (Starts n plan more payload)))
           submitted is_segment quiet message =
               submits_message node orders c h at (after_host h (Starts n plan more payload)) (frame_of (Attempt n more payload) (next_id h.requests.last_id)) is_segment
               (part_same n more payload (node_starts plan) (λ e. quiet)) refl free some
@@ -308,7 +309,7 @@ module _ (nonces : (nonce : List ℕ) → IsOther (nonce_report nonce)) (no_more
           by_form Plain e =
               let whole : plan ≡ Whole = is.plan_is ∙ ap (λ (s : Start). s.plan) (start Plain e) in
               let text : payload ≡ message_for is.command is.session = is.payload_is ∙ ap (λ (s : Start). s.payload) (start Plain e) in
-              submitted false (subst (λ (q : Plan). IsQuiet (node_starts q)) (sym whole) tt)
+              submitted false (subst (λ (q : Plan). StartsQuietly false q) (sym whole) tt)
               (subst (λ (p : List ℕ). IsMessageOf orders c.host.commands (begun_of c.host) p) (sym text)
               (subst (λ (s : ℕ). IsMessageOf orders c.host.commands s (message_for is.command is.session)) session_is (message_of_session is.session is.carried.0 is.command carried is.carried.2)))
           by_form Cut e =
@@ -317,7 +318,7 @@ module _ (nonces : (nonce : List ℕ) → IsOther (nonce_report nonce)) (no_more
               let fits : FitsForm Cut (message_for is.command is.session) =
               subst (λ (f : Form). FitsForm f (message_for is.command is.session)) e ((carried_by is.session is.carried.0 is.command carried is.carried.2).sound.form is.session) in
               let long = fits.0 in
-              submitted true (subst (λ (q : Plan). IsQuiet (node_starts q)) (sym parts) tt)
+              submitted true (subst (λ (q : Plan). StartsQuietly false q) (sym parts) tt)
               (subst (λ (s : ℕ). IsSegmentOf orders c.host.commands s payload) session_is
               (cut_segment is.session is.carried.0 is.command 0 payload carried is.carried.2 e (omega (arith, long)) text))
 
@@ -356,9 +357,9 @@ module _ (nonces : (nonce : List ℕ) → IsOther (nonce_report nonce)) (no_more
 
   prefix_wrote : is_busy h.side.turn ≡ false → Brings (frame_of (task_purpose h.requests.queue) (next_id h.requests.last_id)) → Wrote node orders c h (after_host h Submits_front) (host_units (outs h Submits_front))
   prefix_wrote free (inl none) =
-      submits_other node orders c h at (after_host h Submits_front) (frame_of (task_purpose h.requests.queue) (next_id h.requests.last_id)) (requests_same node h BeginsPrefix tt) refl free none
+      submits_other node orders c h at (after_host h Submits_front) (frame_of (task_purpose h.requests.queue) (next_id h.requests.last_id)) (requests_same (plain_course node) h BeginsPrefix tt) refl free none
   prefix_wrote free (inr (some, segment)) =
-      submits_message node orders c h at (after_host h Submits_front) (frame_of (task_purpose h.requests.queue) (next_id h.requests.last_id)) true (requests_same node h BeginsPrefix tt) refl free some segment
+      submits_message node orders c h at (after_host h Submits_front) (frame_of (task_purpose h.requests.queue) (next_id h.requests.last_id)) true (requests_same (plain_course node) h BeginsPrefix tt) refl free some segment
 
   -- a segment that is given, or waits to be sent again
   segment_given : (n : ℕ) (more : Bool) (payload : List ℕ) → is_busy h.side.turn ≡ false → open_segment h (node_of h n) (open_session (node_of h n).book) (node_of h n).next_segment ≡ Some payload
@@ -389,34 +390,34 @@ module _ (nonces : (nonce : List ℕ) → IsOther (nonce_report nonce)) (no_more
       }
 
       by : (b : Bool) → Wrote node orders c h (if b then h else queued) []
-      by true = quietly node orders c h at h (same_host node h h refl refl refl refl)
+      by true = quietly node orders c h at h (unchanged (plain_course node) h)
       by false = accepts node orders c h at queued [] (subst (λ (os : List Asked). AtHost node os c.host queued) (sym (append-nil orders)) there) refl
 
   text_given : (n : ℕ) (payload : List ℕ) → (node_of h n).text ≡ Some payload → n ≡ node → ⊥
   text_given n payload is own = let bad : None ≡ Some payload = sym at.node_as.1.1.0 ∙ (ap (λ (k : ℕ). (node_of h k).text) (sym own) ∙ is) in absurd cc
 
-  nonce_taken : (n seen : ℕ) (text : List ℕ) → May h (Takes_nonce n seen text) → SameHost node h (node_does h n (node_takes_nonce seen text))
+  nonce_taken : (n seen : ℕ) (text : List ℕ) → May h (Takes_nonce n seen text) → SameHost (plain_course node) h (node_does h n (node_takes_nonce seen text))
   nonce_taken n seen text (nonce, own, count, sealed, eight) = by (n == node) refl
     where
-      by : (b : Bool) → (n == node) ≡ b → SameHost node h (node_does h n (node_takes_nonce seen text))
+      by : (b : Bool) → (n == node) ≡ b → SameHost (plain_course node) h (node_does h n (node_takes_nonce seen text))
       by true mine =
           let same : n ≡ node = eqb-true n node mine in
           let bad : None ≡ Some sealed.plain = sym at.node_as.1.1.1 ∙ (ap (λ (k : ℕ). (node_of h k).pending) (sym same) ∙ sealed.is_pending) in absurd cc
-      by false other = other_same node h n (after_node (node_of h n) (node_takes_nonce seen text)) (λ e. absurd (grind (arith, other, e)))
+      by false other = other_same (plain_course node) h n (after_node (node_of h n) (node_takes_nonce seen text)) (λ e. absurd (grind (arith, other, e)))
 
-  finished_same : (n session id command : ℕ) (status : FinalStatus) (wake_request : Bool) → n ≢ node → SameHost node h (after_host h (Finishes n session id command status wake_request))
+  finished_same : (n session id command : ℕ) (status : FinalStatus) (wake_request : Bool) → n ≢ node → SameHost (plain_course node) h (after_host h (Finishes n session id command status wake_request))
   finished_same n session id command status wake_request apart =
       let done : HostState = with_node h n (after_node (node_of h n) (node_reports id (status_byte status))) in
-      same_then node h done (after_host h (Finishes n session id command status wake_request)) (other_same node h n (after_node (node_of h n) (node_reports id (status_byte status))) apart)
-      (same_then node done (finishing h n id command status) (after_host h (Finishes n session id command status wake_request))
-      (same_host node done (finishing h n id command status) refl (outcome_orders h.commands command (outcome_of status)) refl refl)
-      (holding_same node (finishing h n id command status) n (is_held h n wake_request)))
+      same_then (plain_course node) h done (after_host h (Finishes n session id command status wake_request)) (other_same (plain_course node) h n (after_node (node_of h n) (node_reports id (status_byte status))) apart)
+      (same_then (plain_course node) done (finishing h n id command status) (after_host h (Finishes n session id command status wake_request))
+      (same_host (plain_course node) done (finishing h n id command status) refl refl (outcome_orders h.commands command (outcome_of status)) refl refl)
+      (holding_same (plain_course node) (finishing h n id command status) n (is_held h n wake_request)))
 
   line_ticks : Wrote node orders c h (after_host h Line_ticks) (host_units (outs h Line_ticks))
   line_ticks =
       let ticked : HostState = line_ticked h in
       let b : Bool = gives_up h.side.turn (tick_side h.side).turn in
-      let same : SameHost node ticked (after_host h Line_ticks) = failing_same node b ticked in
+      let same : SameHost (plain_course node) ticked (after_host h Line_ticks) = failing_same (plain_course node) b ticked in
       let there : AtHost node orders c.host (after_host h Line_ticks) = record {
         node_as = same.node_as c.host.commands c.host.outcome at.node_as;
         orders_are = at.orders_are ∙ sym same.orders;
@@ -431,53 +432,47 @@ module _ (nonces : (nonce : List ℕ) → IsOther (nonce_report nonce)) (no_more
   event_wrote (Accepts order carriage) may asks aside = accepted order carriage asks
   event_wrote (Cancels command) may asks aside =
       quiet (after_host h (Cancels command)) (Cancels command)
-      (same_then node h (node_does h (node_for h command) (node_cancels command)) (after_host h (Cancels command)) (does_same node h (node_for h command) (node_cancels command) tt)
-      (same_host node (node_does h (node_for h command) (node_cancels command)) (after_host h (Cancels command)) refl (outcome_orders h.commands command _) refl refl)) refl
-  event_wrote (Joins n) may asks aside = quiet (after_host h (Joins n)) (Joins n) (does_same node h n node_joins tt) refl
-  event_wrote (Queues queued) may asks aside = quiet (after_host h (Queues queued)) (Queues queued) (requests_same node h (Pushes queued) asks) refl
-  event_wrote (Queues_interview n) may asks aside = quiet (after_host h (Queues_interview n)) (Queues_interview n) (requests_same node h (PushesInterview n) tt) refl
-  event_wrote Queues_probe may asks aside = quiet (after_host h Queues_probe) Queues_probe (requests_same node h PushesProbe tt) refl
+      (same_then (plain_course node) h (node_does h (node_for h command) (node_cancels command)) (after_host h (Cancels command)) (does_same (plain_course node) h (node_for h command) (node_cancels command) tt)
+      (same_host (plain_course node) (node_does h (node_for h command) (node_cancels command)) (after_host h (Cancels command)) refl refl (outcome_orders h.commands command _) refl refl)) refl
+  event_wrote (Joins n) may asks aside = quiet (after_host h (Joins n)) (Joins n) (does_same (plain_course node) h n node_joins tt) refl
+  event_wrote (Queues queued) may asks aside = quiet (after_host h (Queues queued)) (Queues queued) (requests_same (plain_course node) h (Pushes queued) asks) refl
+  event_wrote (Queues_interview n) may asks aside = quiet (after_host h (Queues_interview n)) (Queues_interview n) (requests_same (plain_course node) h (PushesInterview n) tt) refl
+  event_wrote Queues_probe may asks aside = quiet (after_host h Queues_probe) Queues_probe (requests_same (plain_course node) h PushesProbe tt) refl
   event_wrote (Hears item) may asks aside =
       turns node orders c h at (after_host h (Hears item)) (host_units (answer_to item)) (record { node_as = at.node_as; orders_are = at.orders_are; plain = at.plain; queue = at.queue }) (λ Is. answered Is h.side.turn item)
-  event_wrote (Requests_do event moment) may asks aside = quiet (after_host h (Requests_do event moment)) (Requests_do event moment) (request_same node h event moment asks) (noted_none (request_entries h event))
+  event_wrote (Requests_do event moment) may asks aside = quiet (after_host h (Requests_do event moment)) (Requests_do event moment) (request_same (plain_course node) h event moment asks) (noted_none (request_entries h event))
   event_wrote (Interviews n listens classes update) may asks aside =
       quiet (after_host h (Interviews n listens classes update)) (Interviews n listens classes update)
-      (same_then node h (requests_do h (Updates update)) (after_host h (Interviews n listens classes update)) (requests_same node h (Updates update) tt) (does_same node (requests_do h (Updates update)) n (node_interviews listens classes) tt)) refl
-  event_wrote (Interview_unkept n update) may asks aside = quiet (after_host h (Interview_unkept n update)) (Interview_unkept n update) (requests_same node h (Updates update) tt) refl
-  event_wrote (Unreads n payload) may asks aside = quiet h (Unreads n payload) (same_host node h h refl refl refl refl) refl
-  event_wrote (Is_unkept n) may asks aside = quiet h (Is_unkept n) (same_host node h h refl refl refl refl) refl
-  event_wrote (Reports_old n id) may asks aside = quiet h (Reports_old n id) (same_host node h h refl refl refl refl) refl
-  event_wrote (Works n id) may asks aside =
-      quiet (after_host h (Works n id)) (Works n id) (record {
-        node_as = λ cs o was. set_as cs o h node n (after_node (node_of h n) (node_reports id 1)) was (λ e. works_keeps cs o (node_of h n) id may (subst (λ (k : ℕ). NodeAs cs o (node_of h k)) (sym e) was));
-        orders = refl;
-        queue = λ asked commands all. all;
-        side = refl;
-      }) refl
+      (same_then (plain_course node) h (requests_do h (Updates update)) (after_host h (Interviews n listens classes update)) (requests_same (plain_course node) h (Updates update) tt) (does_same (plain_course node) (requests_do h (Updates update)) n (node_interviews listens classes) tt)) refl
+  event_wrote (Interview_unkept n update) may asks aside = quiet (after_host h (Interview_unkept n update)) (Interview_unkept n update) (requests_same (plain_course node) h (Updates update) tt) refl
+  event_wrote (Unreads n payload) may asks aside = quiet h (Unreads n payload) (unchanged (plain_course node) h) refl
+  event_wrote (Is_unkept n) may asks aside = quiet h (Is_unkept n) (unchanged (plain_course node) h) refl
+  event_wrote (Reports_old n id) may asks aside = quiet h (Reports_old n id) (unchanged (plain_course node) h) refl
+  event_wrote (Works n id) may asks aside = quiet (after_host h (Works n id)) (Works n id) (works_same (plain_course node) h n id may) refl
   event_wrote (Finishes n session id command status wake_request) may asks apart =
       quiet (after_host h (Finishes n session id command status wake_request)) (Finishes n session id command status wake_request) (finished_same n session id command status wake_request apart) (noted_none (Out command (ended_of status) ∷ (stored_entries n (settings_with status (command_at h.commands command)) ++ held_entries n (is_held h n wake_request))))
   event_wrote (Offers n) may asks aside = quiet (after_host h (Offers n)) (Offers n) (offering_same h n (live_of h.nonces n)) (noted_none (dropped_if (is_full h) n))
   event_wrote (Gives n drawn) may asks aside =
       quiet (after_host h (Gives n drawn)) (Gives n drawn)
-      (same_then node h (giving h n drawn) (after_host h (Gives n drawn)) (same_host node h (giving h n drawn) refl refl refl refl) (offering_same (giving h n drawn) n (live_of (giving h n drawn).nonces n))) (noted_none (dropped_if (is_full h) n))
-  event_wrote (Spends n) may asks aside = quiet (after_host h (Spends n)) (Spends n) (same_host node h (after_host h (Spends n)) refl refl refl refl) refl
-  event_wrote (Spends_unread n payload) may asks aside = quiet (after_host h (Spends_unread n payload)) (Spends_unread n payload) (same_host node h (after_host h (Spends_unread n payload)) refl refl refl refl) refl
+      (same_then (plain_course node) h (giving h n drawn) (after_host h (Gives n drawn)) (same_host (plain_course node) h (giving h n drawn) refl refl refl refl refl) (offering_same (giving h n drawn) n (live_of (giving h n drawn).nonces n))) (noted_none (dropped_if (is_full h) n))
+  event_wrote (Spends n) may asks aside = quiet (after_host h (Spends n)) (Spends n) (same_host (plain_course node) h (after_host h (Spends n)) refl refl refl refl refl) refl
+  event_wrote (Spends_unread n payload) may asks aside = quiet (after_host h (Spends_unread n payload)) (Spends_unread n payload) (same_host (plain_course node) h (after_host h (Spends_unread n payload)) refl refl refl refl refl) refl
   event_wrote (Takes_nonce n seen text) may asks aside = quiet (after_host h (Takes_nonce n seen text)) (Takes_nonce n seen text) (nonce_taken n seen text may) refl
-  event_wrote (Notifies n) may asks aside = quiet (after_host h (Notifies n)) (Notifies n) (does_same node h n node_notifies tt) refl
+  event_wrote (Notifies n) may asks aside = quiet (after_host h (Notifies n)) (Notifies n) (does_same (plain_course node) h n node_notifies tt) refl
   event_wrote (Resends n payload) (k, found) asks aside =
       subst (λ (us : List LineUnit). Wrote node orders c h (after_host h (Resends n payload)) us) (sym (noted_none (dropped_if (is_full h) n))) (resent n k payload found)
-  event_wrote (Hears_value n setting) may asks aside = quiet (after_host h (Hears_value n setting)) (Hears_value n setting) (same_host node h (after_host h (Hears_value n setting)) refl refl refl refl) refl
-  event_wrote (Has_no_room n property) may asks aside = quiet h (Has_no_room n property) (same_host node h h refl refl refl refl) refl
+  event_wrote (Hears_value n setting) may asks aside = quiet (after_host h (Hears_value n setting)) (Hears_value n setting) (same_host (plain_course node) h (after_host h (Hears_value n setting)) refl refl refl refl refl) refl
+  event_wrote (Has_no_room n property) may asks aside = quiet h (Has_no_room n property) (unchanged (plain_course node) h) refl
   event_wrote Line_ticks may asks aside = line_ticks
   event_wrote (Node_ticks n) may asks aside =
       quiet (after_host h (Node_ticks n)) (Node_ticks n)
-      (same_then node h (node_does h n node_ticks) (after_host h (Node_ticks n)) (does_same node h n node_ticks tt) (ended_same node (node_does h n node_ticks) (tick_end (node_of h n)) (open_command (node_of h n)))) (noted_none (attempt_entries n (tick_end (node_of h n)) (open_command (node_of h n))))
+      (same_then (plain_course node) h (node_does h n node_ticks) (after_host h (Node_ticks n)) (does_same (plain_course node) h n node_ticks tt) (ended_same (plain_course node) (node_does h n node_ticks) (tick_end (node_of h n)) (open_command (node_of h n)))) (noted_none (attempt_entries n (tick_end (node_of h n)) (open_command (node_of h n))))
   event_wrote (Queues_no_more n) may asks aside =
       quiet (after_host h (Queues_no_more n)) (Queues_no_more n)
-      (same_then node h (node_does h n node_queues_no_more) (after_host h (Queues_no_more n)) (does_same node h n node_queues_no_more tt) (requests_same node (node_does h n node_queues_no_more) (Pushes (task.NoMore n)) tt)) refl
-  event_wrote (Drops_no_more n) may asks aside = quiet (after_host h (Drops_no_more n)) (Drops_no_more n) (does_same node h n node_drops_no_more tt) refl
+      (same_then (plain_course node) h (node_does h n node_queues_no_more) (after_host h (Queues_no_more n)) (does_same (plain_course node) h n node_queues_no_more tt) (requests_same (plain_course node) (node_does h n node_queues_no_more) (Pushes (task.NoMore n)) tt)) refl
+  event_wrote (Drops_no_more n) may asks aside = quiet (after_host h (Drops_no_more n)) (Drops_no_more n) (does_same (plain_course node) h n node_drops_no_more tt) refl
   event_wrote Submits_abort may asks aside =
-      submits_other node orders c h at (after_host h Submits_abort) (frame_of Abort (next_id h.requests.last_id)) (requests_same node h BeginsAbort tt) refl (free_turn may.0)
+      submits_other node orders c h at (after_host h Submits_abort) (frame_of Abort (next_id h.requests.last_id)) (requests_same (plain_course node) h BeginsAbort tt) refl (free_turn may.0)
       (abort_asks nonces no_more node orders c.host.commands (next_id h.requests.last_id))
   event_wrote Submits_front may asks aside = prefix_wrote (free_turn may.0) (prefix_brings h.requests.queue (next_id h.requests.last_id) at.queue)
   event_wrote (Starts n plan more payload) may asks aside = started n plan more payload (free_turn may.0.free) may.1
@@ -486,4 +481,4 @@ module _ (nonces : (nonce : List ℕ) → IsOther (nonce_report nonce)) (no_more
       (attempt_asks nonces no_more node orders c.host.commands n false payload (next_id h.requests.last_id) None (λ own. absurd (text_given n payload may.1 own)))
   event_wrote (Gives_segment n more payload) may asks aside = segment_given n more payload (free_turn may.0.free) may.2
   event_wrote (Begins n session command) may asks aside = absurd aside
-  event_wrote (Begin_unkept n) may asks aside = quiet (after_host h (Begin_unkept n)) (Begin_unkept n) (does_same node h n node_blocks tt) refl
+  event_wrote (Begin_unkept n) may asks aside = quiet (after_host h (Begin_unkept n)) (Begin_unkept n) (does_same (plain_course node) h n node_blocks tt) refl

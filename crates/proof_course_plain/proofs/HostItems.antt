@@ -63,7 +63,8 @@ use Rattle.proof_course_plain.specs.HostGoing.{HostFollows, HostGoes, IsAside, I
 use Rattle.proof_course_plain.proofs.ThinnedWays.{goes_nowhere, goes_on, goes_once, down_thins}
 use Rattle.proof_course_plain.proofs.WayLabels.{thinned_same, thinned_after, first_label}
 use Rattle.proof_course_plain.proofs.Outer.{has_same, mesh_down}
-use Rattle.proof_course_plain.proofs.KeptSessions.{SameHost, holding_same, outcome_orders}
+use Rattle.proof_course_plain.proofs.KeptHosts.{SameHost, holding_same, outcome_orders}
+use Rattle.proof_course_plain.proofs.KeptSessions.{plain_course}
 use Rattle.proof_course_plain.proofs.HostActs.{AirLaws, SameAir, routed_air, writes_go, begin_goes, set_here}
 use Rattle.proof_course_plain.proofs.HostEvents.{event_wrote, noted_none, open_is, owned}
 use Rattle.host_model.proofs.OpenSessions.{final_session}
@@ -187,8 +188,8 @@ module _ (laws : Laws) (node : ℕ) (rest : Rest) (down : List Item) where
     kept : NodeAs c.host.commands (Some report.status) (node_of done node)
     kept = subst (λ (s : NodeState). NodeAs c.host.commands (Some report.status) s) (sym node_is) (old.0, (ap (λ (s : ℕ). Some s) (sym status_is), (refl, refl)))
 
-    held : SameHost node (finishing h node (wire_id report.session) command status) g
-    held = holding_same node (finishing h node (wire_id report.session) command status) node (is_held h node wake_request)
+    held : SameHost (plain_course node) (finishing h node (wire_id report.session) command status) g
+    held = holding_same (plain_course node) (finishing h node (wire_id report.session) command status) node (is_held h node wake_request)
 
     units_none : host_units (outs h event) ≡ []
     units_none = noted_none (Out command (ended_of status) ∷ (stored_entries node (settings_with status (command_at h.commands command)) ++ held_entries node (is_held h node wake_request)))

@@ -48,7 +48,7 @@ use Rattle.proof_messages.specs.Reporting.{IsNoReport, TellsNone}
 use Rattle.proof_course_plain.specs.Meaning.{NodeMeans}
 use Rattle.proof_course_plain.specs.Mesh.{told_as}
 use Rattle.proof_course_plain.specs.Lines.{Tells, ItemIs}
-use Rattle.proof_course_plain.specs.Host.{PushesOther}
+use Rattle.proof_course_plain.specs.Host.{IsOtherTask, PushesOther}
 use Rattle.proof_course_plain.specs.HostGoing.{IsAside, IsAnswer}
 
 -- events that leave the node's sessions
@@ -257,7 +257,7 @@ module _ (node : ℕ) where
     frame_by h f mark kind.Response events e tells is = inl (response_aside (response_of f.func f.body) events is)
     frame_by h f mark kind.Request events e tells is = notice_by h f mark (notice_of f.func f.body) events refl e tells is
 
-    told_aside : (b : Bool) (event : RequestsEvent) (events : List HostEvent) → events ≡ told_if b event → PushesOther node event → AllAside node events
+    told_aside : (b : Bool) (event : RequestsEvent) (events : List HostEvent) → events ≡ told_if b event → PushesOther (IsOtherTask node) event → AllAside node events
     told_aside true event events is none = these_aside _ events tt none is
     told_aside false event events is none = none_aside events is
 

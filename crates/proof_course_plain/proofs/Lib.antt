@@ -12,6 +12,7 @@ pub mod ChipSide
 pub mod ChipNotices
 pub mod Outer
 pub mod OuterEvents
+pub mod KeptHosts
 pub mod KeptSessions
 pub mod HostFrames
 pub mod Told

@@ -50,7 +50,7 @@ other_task node (task.Plain n payload) is = is
 other_task node (task.Segment n payload) is = is
 other_task node asked is = tt
 
-pushes_other : (node : ℕ) (event : RequestsEvent) → PushesNone event → PushesOther node event
+pushes_other : (node : ℕ) (event : RequestsEvent) → PushesNone event → PushesOther (IsOtherTask node) event
 pushes_other node (Pushes pushed) none = absurd none
 pushes_other node event none = tt
 

@@ -48,7 +48,8 @@ use Rattle.proof_course_plain.specs.World.{WorldFollows, WorldGoes}
 use Rattle.proof_course_plain.proofs.ThinnedWays.{CourseLaw, course_goes, up_thins}
 use Rattle.proof_course_plain.proofs.WayLabels.{move_done}
 use Rattle.proof_course_plain.proofs.Outer.{mesh_up}
-use Rattle.proof_course_plain.proofs.KeptSessions.{SameHost, get_set, node_keeps, does_same}
+use Rattle.proof_course_plain.proofs.KeptHosts.{SameHost, get_set, node_keeps, does_same}
+use Rattle.proof_course_plain.proofs.KeptSessions.{plain_course}
 use Rattle.proof_once.proofs.TieSteps.{over_recorded}
 use Rattle.proof_course_plain.proofs.Told.{outcomes_stay}
 
@@ -69,8 +70,8 @@ unfolding first_nodes
 first_as keys node =
     let base : HostState = record (first_host keys) { nodes = unknown_nodes } in
     let joined : HostState = node_does base 2 Joins in
-    let one : SameHost node base joined = does_same node base 2 Joins tt in
-    let two : SameHost node joined (node_does joined 2 (Interviews true first_classes)) = does_same node joined 2 (Interviews true first_classes) tt in
+    let one : SameHost (plain_course node) base joined = does_same (plain_course node) base 2 Joins tt in
+    let two : SameHost (plain_course node) joined (node_does joined 2 (Interviews true first_classes)) = does_same (plain_course node) joined 2 (Interviews true first_classes) tt in
     two.node_as [] None (one.node_as [] None (unknown_as node))
 
 -- ---- nothing of an attempt
@@ -95,14 +96,14 @@ bare_of n bare = (refl, (refl, bare))
 
 told_bare : (n : NodeState) (status : ℕ) (told : Told) → IsBare n → IsBare (after_told n status told)
 told_bare n status (Final session) bare = (refl, refl)
-told_bare n status Working bare = (node_keeps n.book.commands n.book.outcome n Succeeds (bare_of n bare) tt).1.1
+told_bare n status Working bare = (node_keeps (plain_course 0) n.book.commands n.book.outcome n Succeeds (bare_of n bare) tt).1.1
 told_bare n status Old bare = bare
 
 record_bare : (n : NodeState) (event : NodeEvent) → IsOfRecord event → IsBare n → IsBare (after_node n event)
 record_bare n Joins is bare = bare
 record_bare n (Interviews listens classes) is bare = bare
 record_bare n (Puts command) is bare = bare
-record_bare n Accepts is bare = (node_keeps n.book.commands n.book.outcome n Accepts (bare_of n bare) tt).1.1
+record_bare n Accepts is bare = (node_keeps (plain_course 0) n.book.commands n.book.outcome n Accepts (bare_of n bare) tt).1.1
 record_bare n Begins is bare = bare
 record_bare n (Cancels command) is bare = bare
 record_bare n (Reports id status) is bare = told_bare n status (told_of n.book id status) bare
@@ -165,7 +166,7 @@ first_fresh keys node = record { turn = refl; queue = refl; bare = (first_as key
 
 -- each node restarts but the one at place 0
 restart_bare : (n : NodeState) → IsBare n → IsBare (after_restart n)
-restart_bare n bare = (node_keeps n.book.commands n.book.outcome n node_restarts (bare_of n bare) tt).1.1
+restart_bare n bare = (node_keeps (plain_course 0) n.book.commands n.book.outcome n node_restarts (bare_of n bare) tt).1.1
 
 restarts_bare : (nodes : List NodeState) → ((n : ℕ) → IsBare (node_among nodes n)) → (n : ℕ) → IsBare (node_among (map after_restart nodes) n)
 restarts_bare [] bare n = (refl, refl)

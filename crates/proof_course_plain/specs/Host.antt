@@ -44,14 +44,14 @@ pub record AtHost (node : ℕ) (orders : List Asked) (book : HostBook) (h : Host
   pub plain : AllByRecursion (IsPlainFor node) orders
   pub queue : AllByRecursion (IsTaskFor node orders book.commands) h.requests.queue
 
--- what is pushed is none
-abbrev pub PushesOther : ℕ → RequestsEvent → Type 0
-PushesOther node (Pushes pushed) = IsOtherTask node pushed
-PushesOther node event = Unit {0}
+-- what is pushed is such a task
+abbrev pub PushesOther : (Task → Type 0) → RequestsEvent → Type 0
+PushesOther IsOther (Pushes pushed) = IsOther pushed
+PushesOther IsOther event = Unit {0}
 
 -- what is asked of the host: orders for the node go unsealed, and what else is sent to it is no message of a session
 abbrev pub AsksPlainly : ℕ → HostEvent → Type 0
 AsksPlainly node (Accepts order carriage) = IsPlainFor node (record { order = order; carriage = carriage })
 AsksPlainly node (Queues queued) = IsOtherTask node queued
-AsksPlainly node (Requests_do event moment) = PushesOther node event
+AsksPlainly node (Requests_do event moment) = PushesOther (IsOtherTask node) event
 AsksPlainly node event = Unit {0}

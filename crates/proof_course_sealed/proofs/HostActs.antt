@@ -45,7 +45,8 @@ use Rattle.proof_course_sealed.specs.Host.{TextIs, AtHost}
 use Rattle.proof_course_sealed.specs.HostGoing.{HostFollows, HostGoes}
 use Rattle.proof_course_sealed.proofs.CourseSteps.{goes_on, grows_none}
 use Rattle.proof_course_sealed.proofs.Elsewhere.{asks_stays, tells_stays, AirStays, mesh_up}
-use Rattle.proof_course_sealed.proofs.KeptBooks.{SameHost}
+use Rattle.proof_course_plain.proofs.KeptHosts.{SameHost}
+use Rattle.proof_course_sealed.proofs.KeptBooks.{lock_course}
 
 -- ---- what an event writes
 
@@ -139,7 +140,7 @@ none_is : (p : Option (List ℕ)) → p ≡ None → is_some p ≡ true → ⊥
 none_is None e some = grind (arith, some)
 none_is (Some x) e some = cc
 
-pub leaves : (past : Past) (node : ℕ) (c : Courses) (text : Option ℕ) (tasks : List ℕ) (h g : HostState) → AtHost past node c text tasks h → SameHost node h g → LeavesNonces node h g → Leaves past node c text tasks g
+pub leaves : (past : Past) (node : ℕ) (c : Courses) (text : Option ℕ) (tasks : List ℕ) (h g : HostState) → AtHost past node c text tasks h → SameHost (lock_course node) h g → LeavesNonces node h g → Leaves past node c text tasks g
 leaves past node c text tasks h g at same nonces = by nonces.sealing.left
   where
     with_left : (left : Option ℕ) → Thinned (option_to_list text) (option_to_list left) → TextIs past node (node_of g node).text left
@@ -151,7 +152,7 @@ leaves past node c text tasks h g at same nonces = by nonces.sealing.left
           later = labels q.now;
           at = record {
             keys = same.keys ∙ at.keys;
-            book = same.book c.sessions.host.commands c.sessions.host.outcome at.book;
+            book = same.node_as c.sessions.host.commands c.sessions.host.outcome at.book;
             commands = at.commands;
             orders = at.orders ∙ sym same.orders;
             ends = at.ends;
@@ -192,7 +193,7 @@ at_side past node c text tasks g side at = record {
   numbers = at.numbers;
 }
 
-pub leaves_line : (past : Past) (node : ℕ) (c : Courses) (text : Option ℕ) (tasks : List ℕ) (h g : HostState) → AtHost past node c text tasks h → SameHost node h (record g { side = h.side }) → LeavesNonces node h g → Leaves past node c text tasks g
+pub leaves_line : (past : Past) (node : ℕ) (c : Courses) (text : Option ℕ) (tasks : List ℕ) (h g : HostState) → AtHost past node c text tasks h → SameHost (lock_course node) h (record g { side = h.side }) → LeavesNonces node h g → Leaves past node c text tasks g
 leaves_line past node c text tasks h g at same nonces =
     let l : Leaves past node c text tasks (record g { side = h.side }) = leaves past node c text tasks h (record g { side = h.side }) at same (record { account = nonces.account; sealing = nonces.sealing }) in
     record { left = l.left; later = l.later; at = at_side past node c l.left l.later (record g { side = h.side }) g.side l.at; of_text = l.of_text; of_tasks = l.of_tasks }

@@ -36,7 +36,7 @@ use Rattle.proof_course_plain.specs.Ways.{Beside}
 use Rattle.proof_course_plain.specs.Told.{KeepsOutcomes}
 use Rattle.proof_course_plain.proofs.ThinnedWays.{goes_once}
 use Rattle.proof_course_plain.proofs.WayLabels.{thinned_same, move_same}
-use Rattle.proof_course_plain.proofs.KeptSessions.{outcome_orders}
+use Rattle.proof_course_plain.proofs.KeptHosts.{SameHost, same_host, same_then, other_same, outcome_orders}
 use Rattle.proof_course_plain.proofs.HostActs.{AirLaws, open_same, set_here, waits_somewhere}
 use Rattle.proof_course_plain.proofs.Told.{outcomes_stay, outcomes_begin}
 use Rattle.proof_course_sealed.specs.Labels.{Sent}
@@ -48,7 +48,7 @@ use Rattle.proof_course_sealed.specs.Host.{TextIs, TaskIs, AtHost}
 use Rattle.proof_course_sealed.specs.HostGoing.{HostFollows, HostGoes}
 use Rattle.proof_course_sealed.proofs.ThinnedWays.{node_nowhere, host_nowhere}
 use Rattle.proof_course_sealed.proofs.CourseSteps.{goes_nowhere, list_same}
-use Rattle.proof_course_sealed.proofs.KeptBooks.{SameHost, same_host, same_then, other_same}
+use Rattle.proof_course_sealed.proofs.KeptBooks.{lock_course}
 use Rattle.proof_course_sealed.proofs.Elsewhere.{AirStays, lock_itself, air_itself, mesh_with}
 use Rattle.proof_course_sealed.proofs.HostActs.{Wrote, leaves, writes_go, quietly}
 use Rattle.proof_course_sealed.proofs.HostEvents.{Writing}
@@ -178,7 +178,7 @@ module _ (air : Beginning) (laws : Writing) (past : Past) (node : ℕ) (c : Cour
   other_goes apart =
       let on = other_begins air past node c f.mesh.log f.mesh.flights w.outer.air f.mesh.on_air n session (waits_somewhere h n facts may.1.0) apart in
       let done : HostState = node_does h n node_begins in
-      let same : SameHost node h g = same_then node h done g (other_same node h n (after_node (node_of h n) node_begins) apart) (same_host node done g refl refl (outcome_orders h.commands command _) refl refl) in
+      let same : SameHost (lock_course node) h g = same_then (lock_course node) h done g (other_same (lock_course node) h n (after_node (node_of h n) node_begins) apart) (same_host (lock_course node) done g refl refl (outcome_orders h.commands command _) refl refl) in
       let wrote : Wrote past node c f.carried h g [] = quietly laws.thins past node c f.carried f.text f.tasks h f.go_up g (leaves past node c f.text f.tasks h g f.host same (laws.aside node h (Begins n session command) tt)) refl in
       writes_go air.stays laws.thins past node c c rest up yet down h g w (Note (entry.Begin n session command) ∷ []) f (goes_nowhere c) f.go_down wrote
       (mesh_with past wrote.later_past node c c (mesh_of w) (mesh_of w') on.0 f.mesh.flights f.mesh wrote.grows wrote.given (lock_itself c)

@@ -55,7 +55,6 @@ use Rattle.proof_course_plain.specs.Lines.{Moves}
 use Rattle.proof_course_plain.specs.Host.{asked_of}
 use Rattle.proof_course_plain.specs.HostGoing.{IsNoBegin}
 use Rattle.proof_course_plain.proofs.WayLabels.{thinned_same, move_ticked, copies_of}
-use Rattle.proof_course_plain.proofs.KeptSessions.{outcome_orders}
 use Rattle.proof_course_plain.proofs.HostEvents.{session_numbered, command_numbered, get_map, owned, open_is, map_more, noted_none, copy_units, answered}
 use Rattle.proof_course_sealed.specs.Labels.{Sent, Sealed, Offer, Up}
 use Rattle.proof_course_sealed.specs.Courses.{Courses, CoursesGo, GoUp, with_up}
@@ -65,7 +64,8 @@ use Rattle.proof_course_sealed.specs.Host.{TextIs, TaskIs, NamesEndFor, AtHost, 
 use Rattle.proof_course_sealed.specs.HostGoing.{IsUnheard}
 use Rattle.proof_course_sealed.proofs.CourseSteps.{list_same}
 use Rattle.proof_course_sealed.proofs.Meanings.{host_means_stays, sealed_message_stays}
-use Rattle.proof_course_sealed.proofs.KeptBooks.{IsQuiet, SameHost, tasks_stay, same_host, same_then, does_same, works_same, other_same, requests_same, request_same, room_same, holding_same, failing_same, ended_same}
+use Rattle.proof_course_plain.proofs.KeptHosts.{IsQuiet, SameHost, same_host, same_then, does_same, works_same, other_same, requests_same, request_same, room_same, holding_same, failing_same, ended_same, unchanged as unchanged_host, outcome_orders}
+use Rattle.proof_course_sealed.proofs.KeptBooks.{lock_course, tasks_stay}
 use Rattle.proof_course_sealed.proofs.UnsealedMessages.{HasSegment}
 use Rattle.proof_course_sealed.proofs.HostFrames.{attempt_asks, abort_asks, task_asks}
 use Rattle.proof_course_sealed.proofs.HostActs.{Wrote, UpThins, Leaves, leaves, leaves_line, at_side, turns, quietly, accepts, submits_other, submits_text, submits_nonce}
@@ -192,12 +192,12 @@ module _ (laws : Writing) (past : Past) (node : ℕ) (c : Courses) (carried : Li
       by (Some number) is e = found_by number (command_at h.commands number) refl is e
 
   -- nothing but entries
-  quiet : (g : HostState) (event : HostEvent) → SameHost node h g → LeavesNonces node h g → host_units (outs h event) ≡ [] → Wrote past node c carried h g (host_units (outs h event))
+  quiet : (g : HostState) (event : HostEvent) → SameHost (lock_course node) h g → LeavesNonces node h g → host_units (outs h event) ≡ [] → Wrote past node c carried h g (host_units (outs h event))
   quiet g event same nonces none = subst (λ (us : List LineUnit). Wrote past node c carried h g us) (sym none) (quietly laws.thins past node c carried text tasks h go_up g (leaves past node c text tasks h g at same nonces) same.side)
 
-  offering_same : (g : HostState) (n : ℕ) (live : Option (List ℕ)) → n ≢ node → SameHost node g (offering g n live)
-  offering_same g n None apart = same_host node g g refl refl refl refl refl
-  offering_same g n (Some nonce) apart = room_same node g (task.Offer n nonce) apart
+  offering_same : (g : HostState) (n : ℕ) (live : Option (List ℕ)) → n ≢ node → SameHost (lock_course node) g (offering g n live)
+  offering_same g n None apart = unchanged_host (lock_course node) g
+  offering_same g n (Some nonce) apart = room_same (lock_course node) g (task.Offer n nonce) apart
 
   accepted : (order : Order) (carriage : Carriage) → NamesEndFor node (record { order = order; carriage = carriage }) → Wrote past node c carried h (after_host h (Accepts order carriage)) []
   accepted order carriage end =
@@ -205,7 +205,7 @@ module _ (laws : Writing) (past : Past) (node : ℕ) (c : Courses) (carried : Li
       let g : HostState = after_host h (Accepts order carriage) in
       let base : HostState = record h { commands = h.commands ++ taken ∷ []; store = g.store } in
       let put : HostState = node_does base order.node (node_puts (length h.commands + 1)) in
-      let same : SameHost node base g = same_then node base put g (does_same node base order.node (node_puts (length h.commands + 1)) tt) (does_same node put order.node node_accepts tt) in
+      let same : SameHost (lock_course node) base g = same_then (lock_course node) base put g (does_same (lock_course node) base order.node (node_puts (length h.commands + 1)) tt) (does_same (lock_course node) put order.node node_accepts tt) in
       let later : Past = with_order past order carriage in
       let grows : Grows past later = record {
         keys = refl;
@@ -232,15 +232,15 @@ module _ (laws : Writing) (past : Past) (node : ℕ) (c : Courses) (carried : Li
       accepts laws.thins past node c carried text tasks h go_up g later grows refl (leaves later node c text tasks base g there same (record { account = nonces.account; sealing = nonces.sealing })) refl
 
   -- a part of an attempt
-  part_same : (n : ℕ) (more : Bool) (payload : List ℕ) (gives : NodeEvent) → IsQuiet gives → SameHost node h (record (submits_part h n more payload gives) { side = h.side })
+  part_same : (n : ℕ) (more : Bool) (payload : List ℕ) (gives : NodeEvent) → IsQuiet true gives → SameHost (lock_course node) h (record (submits_part h n more payload gives) { side = h.side })
   part_same n more payload gives quiet =
       let begun : HostState = record (requests_do h (BeginsAttempt n more payload)) { served = n } in
-      same_then node h begun (record (submits_part h n more payload gives) { side = h.side })
-      (same_then node h (requests_do h (BeginsAttempt n more payload)) begun (requests_same node h (BeginsAttempt n more payload) tt) (same_host node (requests_do h (BeginsAttempt n more payload)) begun refl refl refl refl refl))
-      (does_same node begun n gives quiet)
+      same_then (lock_course node) h begun (record (submits_part h n more payload gives) { side = h.side })
+      (same_then (lock_course node) h (requests_do h (BeginsAttempt n more payload)) begun (requests_same (lock_course node) h (BeginsAttempt n more payload) tt) (same_host (lock_course node) (requests_do h (BeginsAttempt n more payload)) begun refl refl refl refl refl))
+      (does_same (lock_course node) begun n gives quiet)
 
   -- which brings the node neither a message that it takes nor a nonce
-  part_wrote : (n : ℕ) (more : Bool) (payload : List ℕ) (gives : NodeEvent) → IsQuiet gives → (n ≡ node → IsNeither payload) → is_busy h.side.turn ≡ false → LeavesNonces node h (submits_part h n more payload gives)
+  part_wrote : (n : ℕ) (more : Bool) (payload : List ℕ) (gives : NodeEvent) → IsQuiet true gives → (n ≡ node → IsNeither payload) → is_busy h.side.turn ≡ false → LeavesNonces node h (submits_part h n more payload gives)
       → Wrote past node c carried h (submits_part h n more payload gives) (host_units (outs h (Starts n (seals []) more payload)))
   part_wrote n more payload gives quiet aside free nonces =
       submits_other laws.thins past node c carried text tasks h go_up (submits_part h n more payload gives) (frame_of (Attempt n more payload) (next_id h.requests.last_id))
@@ -273,7 +273,7 @@ module _ (laws : Writing) (past : Past) (node : ℕ) (c : Courses) (carried : Li
     begun_there : AtHost past node c text tasks begun
     begun_there = record {
       keys = at.keys;
-      book = (part_same node more payload (node_starts plan) tt).book c.sessions.host.commands c.sessions.host.outcome at.book;
+      book = (part_same node more payload (node_starts plan) tt).node_as c.sessions.host.commands c.sessions.host.outcome at.book;
       commands = at.commands;
       orders = at.orders;
       ends = at.ends;
@@ -357,7 +357,7 @@ module _ (laws : Writing) (past : Past) (node : ℕ) (c : Courses) (carried : Li
     sent_there : AtHost past node c None tasks sent
     sent_there = record {
       keys = at.keys;
-      book = (part_same node false payload node_gives_text tt).book c.sessions.host.commands c.sessions.host.outcome at.book;
+      book = (part_same node false payload node_gives_text tt).node_as c.sessions.host.commands c.sessions.host.outcome at.book;
       commands = at.commands;
       orders = at.orders;
       ends = at.ends;
@@ -401,7 +401,7 @@ module _ (laws : Writing) (past : Past) (node : ℕ) (c : Courses) (carried : Li
   prefix_wrote (asked ∷ rest) [] beside queue numbers free some = absurd beside
   prefix_wrote (asked ∷ rest) (None ∷ marks) (first, more) queue numbers free some =
       submits_other laws.thins past node c carried text tasks h go_up (after_host h Submits_front) (frame_of (task_purpose h.requests.queue) (next_id h.requests.last_id))
-      (leaves_line past node c text tasks h (after_host h Submits_front) at (requests_same node h BeginsPrefix tt) (laws.aside node h Submits_front tt)) refl free
+      (leaves_line past node c text tasks h (after_host h Submits_front) at (requests_same (lock_course node) h BeginsPrefix tt) (laws.aside node h Submits_front tt)) refl free
       (subst (λ (q : List Task). Asks past node (frame_of (task_purpose q) (next_id h.requests.last_id)) None) queue (task_asks past node laws.no_more asked None (next_id h.requests.last_id) first))
   prefix_wrote (asked ∷ rest) (Some number ∷ marks) (first, more) queue numbers free some =
       submits_nonce laws.thins past node c carried text tasks h go_up (after_host h Submits_front) (frame_of (task_purpose h.requests.queue) (next_id h.requests.last_id)) number (labels marks)
@@ -425,7 +425,7 @@ module _ (laws : Writing) (past : Past) (node : ℕ) (c : Courses) (carried : Li
   line_ticks =
       let g : HostState = after_host h Line_ticks in
       let ticked : HostState = line_ticked h in
-      let same : SameHost node ticked g = failing_same node (gives_up h.side.turn (tick_side h.side).turn) ticked in
+      let same : SameHost (lock_course node) ticked g = failing_same (lock_course node) (gives_up h.side.turn (tick_side h.side).turn) ticked in
       let nonces : LeavesNonces node h g = laws.aside node h Line_ticks tt in
       let l : Leaves past node c text tasks g = leaves past node c text tasks ticked g (at_side past node c text tasks h (tick_side h.side) at) same (record { account = nonces.account; sealing = nonces.sealing }) in
       subst (λ (us : List LineUnit). Wrote past node c carried h g us) (sym (copy_units (copy_due h.side.turn) (failing_entries (gives_up h.side.turn (tick_side h.side).turn) (line_ticked h))))
@@ -438,71 +438,71 @@ module _ (laws : Writing) (past : Past) (node : ℕ) (c : Courses) (carried : Li
       (record { left = text; later = tasks; at = at_side past node c text tasks h _ at; of_text = thinned_same (option_to_list text); of_tasks = thinned_same tasks })
       (answered (Asks past node) h.side.turn item)
 
-  finished_same : (n session id command : ℕ) (status : FinalStatus) (wake_request : Bool) → n ≢ node → SameHost node h (after_host h (Finishes n session id command status wake_request))
+  finished_same : (n session id command : ℕ) (status : FinalStatus) (wake_request : Bool) → n ≢ node → SameHost (lock_course node) h (after_host h (Finishes n session id command status wake_request))
   finished_same n session id command status wake_request apart =
       let done : HostState = with_node h n (after_node (node_of h n) (node_reports id (status_byte status))) in
-      same_then node h done (after_host h (Finishes n session id command status wake_request)) (other_same node h n (after_node (node_of h n) (node_reports id (status_byte status))) apart)
-      (same_then node done (finishing h n id command status) (after_host h (Finishes n session id command status wake_request))
-      (same_host node done (finishing h n id command status) refl refl (outcome_orders h.commands command (outcome_of status)) refl refl)
-      (holding_same node (finishing h n id command status) n (is_held h n wake_request)))
+      same_then (lock_course node) h done (after_host h (Finishes n session id command status wake_request)) (other_same (lock_course node) h n (after_node (node_of h n) (node_reports id (status_byte status))) apart)
+      (same_then (lock_course node) done (finishing h n id command status) (after_host h (Finishes n session id command status wake_request))
+      (same_host (lock_course node) done (finishing h n id command status) refl refl (outcome_orders h.commands command (outcome_of status)) refl refl)
+      (holding_same (lock_course node) (finishing h n id command status) n (is_held h n wake_request)))
 
   -- the same to the node, with the law of its nonces
-  silent : (event : HostEvent) → IsAside node event → SameHost node h (after_host h event) → host_units (outs h event) ≡ [] → Wrote past node c carried h (after_host h event) (host_units (outs h event))
+  silent : (event : HostEvent) → IsAside node event → SameHost (lock_course node) h (after_host h event) → host_units (outs h event) ≡ [] → Wrote past node c carried h (after_host h event) (host_units (outs h event))
   silent event aside same none = quiet (after_host h event) event same (laws.aside node h event aside) none
 
-  unchanged : SameHost node h h
-  unchanged = same_host node h h refl refl refl refl refl
+  unchanged : SameHost (lock_course node) h h
+  unchanged = unchanged_host (lock_course node) h
 
   pub event_wrote : (event : HostEvent) → May h event → AsksFitly node event → IsUnheard node event → IsNoBegin event → IsReady c event → Wrote past node c carried h (after_host h event) (host_units (outs h event))
   event_wrote (Accepts order carriage) may asks aside begins ready = accepted order carriage asks
   event_wrote (Cancels command) may asks aside begins ready =
       silent (Cancels command) tt
-      (same_then node h (node_does h (node_for h command) (node_cancels command)) (after_host h (Cancels command)) (does_same node h (node_for h command) (node_cancels command) tt)
-      (same_host node (node_does h (node_for h command) (node_cancels command)) (after_host h (Cancels command)) refl refl (outcome_orders h.commands command _) refl refl)) refl
-  event_wrote (Joins n) may asks aside begins ready = silent (Joins n) tt (does_same node h n node_joins tt) refl
-  event_wrote (Queues queued) may asks aside begins ready = silent (Queues queued) tt (requests_same node h (Pushes queued) asks) refl
-  event_wrote (Queues_interview n) may asks aside begins ready = silent (Queues_interview n) tt (requests_same node h (PushesInterview n) tt) refl
-  event_wrote Queues_probe may asks aside begins ready = silent Queues_probe tt (requests_same node h PushesProbe tt) refl
+      (same_then (lock_course node) h (node_does h (node_for h command) (node_cancels command)) (after_host h (Cancels command)) (does_same (lock_course node) h (node_for h command) (node_cancels command) tt)
+      (same_host (lock_course node) (node_does h (node_for h command) (node_cancels command)) (after_host h (Cancels command)) refl refl (outcome_orders h.commands command _) refl refl)) refl
+  event_wrote (Joins n) may asks aside begins ready = silent (Joins n) tt (does_same (lock_course node) h n node_joins tt) refl
+  event_wrote (Queues queued) may asks aside begins ready = silent (Queues queued) tt (requests_same (lock_course node) h (Pushes queued) asks) refl
+  event_wrote (Queues_interview n) may asks aside begins ready = silent (Queues_interview n) tt (requests_same (lock_course node) h (PushesInterview n) tt) refl
+  event_wrote Queues_probe may asks aside begins ready = silent Queues_probe tt (requests_same (lock_course node) h PushesProbe tt) refl
   event_wrote (Hears item) may asks aside begins ready = heard item
-  event_wrote (Requests_do event moment) may asks aside begins ready = silent (Requests_do event moment) tt (request_same node h event moment asks) (noted_none (request_entries h event))
+  event_wrote (Requests_do event moment) may asks aside begins ready = silent (Requests_do event moment) tt (request_same (lock_course node) h event moment asks) (noted_none (request_entries h event))
   event_wrote (Interviews n listens classes update) may asks aside begins ready =
       silent (Interviews n listens classes update) tt
-      (same_then node h (requests_do h (Updates update)) (after_host h (Interviews n listens classes update)) (requests_same node h (Updates update) tt) (does_same node (requests_do h (Updates update)) n (node_interviews listens classes) tt)) refl
-  event_wrote (Interview_unkept n update) may asks aside begins ready = silent (Interview_unkept n update) tt (requests_same node h (Updates update) tt) refl
+      (same_then (lock_course node) h (requests_do h (Updates update)) (after_host h (Interviews n listens classes update)) (requests_same (lock_course node) h (Updates update) tt) (does_same (lock_course node) (requests_do h (Updates update)) n (node_interviews listens classes) tt)) refl
+  event_wrote (Interview_unkept n update) may asks aside begins ready = silent (Interview_unkept n update) tt (requests_same (lock_course node) h (Updates update) tt) refl
   event_wrote (Unreads n payload) may asks aside begins ready = silent (Unreads n payload) tt unchanged refl
   event_wrote (Is_unkept n) may asks aside begins ready = silent (Is_unkept n) tt unchanged refl
   event_wrote (Reports_old n id) may asks aside begins ready = silent (Reports_old n id) tt unchanged refl
-  event_wrote (Works n id) may asks aside begins ready = silent (Works n id) tt (works_same node h n id may) refl
+  event_wrote (Works n id) may asks aside begins ready = silent (Works n id) tt (works_same (lock_course node) h n id may) refl
   event_wrote (Finishes n session id command status wake_request) may asks apart begins ready =
       silent (Finishes n session id command status wake_request) tt (finished_same n session id command status wake_request apart)
       (noted_none (Out command (ended_of status) ∷ (stored_entries n (settings_with status (command_at h.commands command)) ++ held_entries n (is_held h n wake_request))))
   event_wrote (Offers n) may asks apart begins ready = silent (Offers n) tt (offering_same h n (live_of h.nonces n) apart) (noted_none (dropped_if (is_full h) n))
   event_wrote (Gives n drawn) may asks apart begins ready =
       silent (Gives n drawn) apart
-      (same_then node h (giving h n drawn) (after_host h (Gives n drawn)) (same_host node h (giving h n drawn) refl refl refl refl refl) (offering_same (giving h n drawn) n (live_of (giving h n drawn).nonces n) apart)) (noted_none (dropped_if (is_full h) n))
-  event_wrote (Spends n) may asks apart begins ready = silent (Spends n) apart (same_host node h (after_host h (Spends n)) refl refl refl refl refl) refl
-  event_wrote (Spends_unread n payload) may asks apart begins ready = silent (Spends_unread n payload) apart (same_host node h (after_host h (Spends_unread n payload)) refl refl refl refl refl) refl
-  event_wrote (Takes_nonce n seen sealed) may asks apart begins ready = silent (Takes_nonce n seen sealed) apart (does_same node h n (node_takes_nonce seen sealed) tt) refl
-  event_wrote (Notifies n) may asks aside begins ready = silent (Notifies n) tt (does_same node h n node_notifies tt) refl
-  event_wrote (Resends n payload) may asks apart begins ready = silent (Resends n payload) tt (room_same node h (task.Segment n payload) apart) (noted_none (dropped_if (is_full h) n))
-  event_wrote (Hears_value n setting) may asks aside begins ready = silent (Hears_value n setting) tt (same_host node h (after_host h (Hears_value n setting)) refl refl refl refl refl) refl
+      (same_then (lock_course node) h (giving h n drawn) (after_host h (Gives n drawn)) (same_host (lock_course node) h (giving h n drawn) refl refl refl refl refl) (offering_same (giving h n drawn) n (live_of (giving h n drawn).nonces n) apart)) (noted_none (dropped_if (is_full h) n))
+  event_wrote (Spends n) may asks apart begins ready = silent (Spends n) apart (same_host (lock_course node) h (after_host h (Spends n)) refl refl refl refl refl) refl
+  event_wrote (Spends_unread n payload) may asks apart begins ready = silent (Spends_unread n payload) apart (same_host (lock_course node) h (after_host h (Spends_unread n payload)) refl refl refl refl refl) refl
+  event_wrote (Takes_nonce n seen sealed) may asks apart begins ready = silent (Takes_nonce n seen sealed) apart (does_same (lock_course node) h n (node_takes_nonce seen sealed) tt) refl
+  event_wrote (Notifies n) may asks aside begins ready = silent (Notifies n) tt (does_same (lock_course node) h n node_notifies tt) refl
+  event_wrote (Resends n payload) may asks apart begins ready = silent (Resends n payload) tt (room_same (lock_course node) h (task.Segment n payload) apart) (noted_none (dropped_if (is_full h) n))
+  event_wrote (Hears_value n setting) may asks aside begins ready = silent (Hears_value n setting) tt (same_host (lock_course node) h (after_host h (Hears_value n setting)) refl refl refl refl refl) refl
   event_wrote (Has_no_room n property) may asks aside begins ready = silent (Has_no_room n property) tt unchanged refl
   event_wrote Line_ticks may asks aside begins ready = line_ticks
   event_wrote (Node_ticks n) may asks aside begins ready =
       silent (Node_ticks n) tt
-      (same_then node h (node_does h n node_ticks) (after_host h (Node_ticks n)) (does_same node h n node_ticks tt) (ended_same node (node_does h n node_ticks) (tick_end (node_of h n)) (open_command (node_of h n))))
+      (same_then (lock_course node) h (node_does h n node_ticks) (after_host h (Node_ticks n)) (does_same (lock_course node) h n node_ticks tt) (ended_same (lock_course node) (node_does h n node_ticks) (tick_end (node_of h n)) (open_command (node_of h n))))
       (noted_none (attempt_entries n (tick_end (node_of h n)) (open_command (node_of h n))))
   event_wrote (Queues_no_more n) may asks aside begins ready =
       silent (Queues_no_more n) tt
-      (same_then node h (node_does h n node_queues_no_more) (after_host h (Queues_no_more n)) (does_same node h n node_queues_no_more tt) (requests_same node (node_does h n node_queues_no_more) (Pushes (task.NoMore n)) tt)) refl
-  event_wrote (Drops_no_more n) may asks aside begins ready = silent (Drops_no_more n) tt (does_same node h n node_drops_no_more tt) refl
+      (same_then (lock_course node) h (node_does h n node_queues_no_more) (after_host h (Queues_no_more n)) (does_same (lock_course node) h n node_queues_no_more tt) (requests_same (lock_course node) (node_does h n node_queues_no_more) (Pushes (task.NoMore n)) tt)) refl
+  event_wrote (Drops_no_more n) may asks aside begins ready = silent (Drops_no_more n) tt (does_same (lock_course node) h n node_drops_no_more tt) refl
   event_wrote Submits_abort may asks aside begins ready =
       submits_other laws.thins past node c carried text tasks h go_up (after_host h Submits_abort) (frame_of Abort (next_id h.requests.last_id))
-      (leaves_line past node c text tasks h (after_host h Submits_abort) at (requests_same node h BeginsAbort tt) (laws.aside node h Submits_abort tt)) refl may.0.free_line
+      (leaves_line past node c text tasks h (after_host h Submits_abort) at (requests_same (lock_course node) h BeginsAbort tt) (laws.aside node h Submits_abort tt)) refl may.0.free_line
       (abort_asks past node (next_id h.requests.last_id))
   event_wrote Submits_front may asks aside begins ready = prefix_wrote h.requests.queue at.marks at.queue refl at.numbers may.0.free_line may.2
   event_wrote (Starts n plan more payload) may asks aside begins ready = started n plan more payload may.0.free.free_line ready may.1
   event_wrote (Gives_text n payload) may asks aside begins ready = text_given n payload may.0.free.free_line may.1
   event_wrote (Gives_segment n more payload) may asks aside begins ready = segment_given n more payload may.0.free.free_line may.2
   event_wrote (Begins n session command) may asks aside begins ready = absurd begins
-  event_wrote (Begin_unkept n) may asks aside begins ready = silent (Begin_unkept n) tt (does_same node h n node_blocks tt) refl
+  event_wrote (Begin_unkept n) may asks aside begins ready = silent (Begin_unkept n) tt (does_same (lock_course node) h n node_blocks tt) refl

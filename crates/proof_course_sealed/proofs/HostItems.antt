@@ -42,7 +42,7 @@ use Rattle.proof_course_plain.specs.Told.{HasPast}
 use Rattle.proof_course_plain.specs.HostGoing.{AllWell}
 use Rattle.proof_course_plain.proofs.ThinnedWays.{goes_on as sessions_on, goes_once, down_thins}
 use Rattle.proof_course_plain.proofs.WayLabels.{first_label, thinned_same, thinned_after, thinned_both}
-use Rattle.proof_course_plain.proofs.KeptSessions.{get_set, outcome_orders}
+use Rattle.proof_course_plain.proofs.KeptHosts.{get_set, holding_same, outcome_orders}
 use Rattle.proof_course_plain.proofs.HostActs.{set_here}
 use Rattle.proof_course_plain.proofs.HostEntries.{event_begins_none}
 use Rattle.proof_course_plain.proofs.HostEvents.{noted_none, open_is, owned}
@@ -62,7 +62,7 @@ use Rattle.proof_course_sealed.specs.Host.{AtHost}
 use Rattle.proof_course_sealed.specs.HostGoing.{HostFollows, HostGoes}
 use Rattle.proof_course_sealed.proofs.ThinnedWays.{node_on, node_up, host_on}
 use Rattle.proof_course_sealed.proofs.CourseSteps.{FactLaws, facts_go, goes_nowhere, grows_none, list_same}
-use Rattle.proof_course_sealed.proofs.KeptBooks.{holding_same}
+use Rattle.proof_course_sealed.proofs.KeptBooks.{lock_course}
 use Rattle.proof_course_sealed.proofs.HostActs.{none_some}
 use Rattle.proof_course_sealed.proofs.HostSteps.{OneGoes, AreAside, goes_then, asides_go}
 use Rattle.proof_course_sealed.proofs.HostJudgements.{Opens, JudgesNext, MarkJudges, SaidDoes, MarkDoes, IsGiving, IsEnding, item_does}
@@ -169,7 +169,7 @@ module _ (laws : Laws) (past : Past) (node : ℕ) (c : Courses) (rest : Rest) (u
   }
 
   side : g.side ≡ h.side
-  side = (holding_same node done node (is_held h node wake_request)).side
+  side = (holding_same (lock_course node) done node (is_held h node wake_request)).side
 
   -- its command has the outcome of that status
   ended_commands : g.commands ≡ with_outcome h.commands command (outcome_of status)

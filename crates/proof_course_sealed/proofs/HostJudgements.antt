@@ -64,7 +64,8 @@ use Rattle.proof_course_sealed.specs.Labels.{Said, Reports, Shows, Late}
 use Rattle.proof_course_sealed.specs.Meaning.{Past, NodeMeans}
 use Rattle.proof_course_sealed.specs.Mesh.{told_as}
 use Rattle.proof_course_sealed.specs.Lines.{Tells}
-use Rattle.proof_course_sealed.specs.Host.{AsksFitly, PushesOther}
+use Rattle.proof_course_plain.specs.Host.{PushesOther}
+use Rattle.proof_course_sealed.specs.Host.{AsksFitly, IsOtherTask}
 use Rattle.proof_course_sealed.specs.HostGoing.{IsUnheard}
 use Rattle.proof_course_sealed.proofs.HostSteps.{AreAside}
 use Rattle.proof_course_sealed.proofs.Notices.{notice_names}
@@ -291,7 +292,7 @@ module _ (law : Opens) (bytes : Bytes 0) (past : Past) (node : ℕ) (c : host.No
   frame_does f mark kind.Response events e next tells is = inl (response_aside (response_of f.func f.body) events is)
   frame_does f mark kind.Request events e next tells is = notice_does f mark (notice_of f.func f.body) events refl e next tells is
 
-  told_aside : (b : Bool) (event : RequestsEvent) (events : List HostEvent) → events ≡ told_if b event → PushesOther node event → AreAside node events
+  told_aside : (b : Bool) (event : RequestsEvent) (events : List HostEvent) → events ≡ told_if b event → PushesOther (IsOtherTask node) event → AreAside node events
   told_aside true event events is other = one (IsAside node) _ events (other, tt) is
   told_aside false event events is other = none (IsAside node) events is
 

@@ -15,7 +15,8 @@ use Rattle.proof_serial.specs.Line.{AreLines}
 use Rattle.proof_course_plain.specs.World.{NamesEnd, IsAskedTask, PushesNone, IsOfLine, ComesOfLine}
 use Rattle.proof_course_plain.proofs.HeardPayloads.{lines_end}
 use Rattle.proof_course_sealed.specs.Meaning.{IsNeither}
-use Rattle.proof_course_sealed.specs.Host.{IsOtherTask, PushesOther, AsksFitly}
+use Rattle.proof_course_plain.specs.Host.{PushesOther}
+use Rattle.proof_course_sealed.specs.Host.{IsOtherTask, AsksFitly}
 use Rattle.proof_course_sealed.specs.HostGoing.{IsUnheard}
 use Rattle.proof_course_sealed.specs.World.{IsFitly, HearsInPipe}
 
@@ -37,7 +38,7 @@ other_task node (task.Offer n nonce) is = is
 other_task node (task.Segment n payload) is = is
 other_task node asked is = tt
 
-pushes_other : (node : ℕ) (event : RequestsEvent) → PushesNone event → PushesOther node event
+pushes_other : (node : ℕ) (event : RequestsEvent) → PushesNone event → PushesOther (IsOtherTask node) event
 pushes_other node (Pushes pushed) none = absurd none
 pushes_other node event none = tt
 

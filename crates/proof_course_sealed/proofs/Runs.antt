@@ -30,7 +30,7 @@ use Rattle.proof_traffic.specs.OnAir.{AlwaysFew}
 use Rattle.proof_once.specs.Truly.{AreTrue}
 use Rattle.proof_course_plain.specs.Meaning.{Asked}
 use Rattle.proof_course_plain.specs.Making.{MakesAsked}
-use Rattle.proof_course_plain.proofs.KeptSessions.{get_set}
+use Rattle.proof_course_plain.proofs.KeptHosts.{get_set}
 use Rattle.proof_course_plain.proofs.Restarts.{first_as}
 use Rattle.proof_course_plain.proofs.Runs.{nodes_of, none_told}
 use Rattle.proof_course_plain.proofs.Taken.{changes_taken}

@@ -4,13 +4,11 @@ use Rattle.std.specs.List.{AllByRecursion}
 use Rattle.s0_session.specs.Nonces.{account_of}
 use Rattle.host_requests.specs.declared.task.Task.{Task}
 use Rattle.host_requests.specs.declared.task.Task.TheVariants as task
-use Rattle.host_requests.specs.Events.{RequestsEvent}
-use Rattle.host_requests.specs.Events.RequestsEvent.{Pushes}
 use Rattle.host_model.specs.State.{HostState, node_of}
 use Rattle.host_model.specs.Events.{HostEvent, Accepts, Queues, Requests_do}
 use Rattle.proof_course_plain.specs.Meaning.{Asked}
 use Rattle.proof_course_plain.specs.Ways.{Beside}
-use Rattle.proof_course_plain.specs.Host.{asked_of}
+use Rattle.proof_course_plain.specs.Host.{asked_of, PushesOther}
 use Rattle.proof_course_plain.specs.Mesh.{labels}
 use Rattle.proof_messages.specs.Numbers.{IsNonce, HasGiven}
 use Rattle.proof_course_sealed.specs.Labels.{Sealed, Up}
@@ -61,14 +59,9 @@ pub record AtHost (past : Past) (node : ℕ) (c : Courses) (text : Option ℕ) (
 
 -- ---- what is asked of the host
 
--- what is pushed is neither a message of a session nor a nonce
-abbrev pub PushesOther : ℕ → RequestsEvent → Type 0
-PushesOther node (Pushes pushed) = IsOtherTask node pushed
-PushesOther node event = Unit {0}
-
 -- orders for the node are to end points of at most 127, and what else is sent to it is no message of a session and no nonce
 abbrev pub AsksFitly : ℕ → HostEvent → Type 0
 AsksFitly node (Accepts order carriage) = NamesEndFor node (record { order = order; carriage = carriage })
 AsksFitly node (Queues queued) = IsOtherTask node queued
-AsksFitly node (Requests_do event moment) = PushesOther node event
+AsksFitly node (Requests_do event moment) = PushesOther (IsOtherTask node) event
 AsksFitly node event = Unit {0}

@@ -2,6 +2,8 @@ pub mod KeptKinds
 pub mod MovedDevices
 pub mod DevicePlaces
 pub mod Once
+pub mod Entered
+pub mod Results
 pub mod Others
 pub mod HostOuts
 mod HostOthers

@@ -1,10 +1,8 @@
 -- What is entered of the line, the chip and the air speaks of no change of a device.
-use Rattle.std.proofs.Common.{◌≡◌, ℕ, zero, suc, ◌&&◌, not, Bool, true, false, if◌then◌else◌, Option, Some, None, List, [], ◌∷◌, ◌++◌, map, nat_le, nat_lt, length, drop, refl, ap, ◌∙◌}
+use Rattle.std.proofs.Common.{◌≡◌, ℕ, ◌&&◌, not, Bool, true, false, if◌then◌else◌, Option, List, [], ◌∷◌, ◌++◌, refl, ap, ◌∙◌}
 use Rattle.std.specs.List.{AllByRecursion, flat_map}
-use Rattle.std.specs.Option.{unwrap_or}
 use Rattle.std.proofs.lemmas.Grind.{flat_map-append}
-use Rattle.zw_base.proofs.Each.{all-append}
-use Rattle.zw_base.specs.declared.property.Setting.{Setting}
+use Rattle.zw_base.proofs.Each.{all-append, all-weaker}
 use Rattle.zw_words.specs.declared.side.Side.{Side}
 use Rattle.zw_words.specs.declared.side.Side.TheVariants.{Host as by_host}
 use Rattle.zw_text.specs.declared.entry.Entry.{Entry}
@@ -12,15 +10,9 @@ use Rattle.zw_text.specs.declared.entry.Entry.TheVariants as entry
 use Rattle.zw_text.specs.Transcript.{Made, made, made_at}
 use Rattle.serial_frame.specs.declared.unit.Unit.{Unit as LineUnit}
 use Rattle.serial_frame.specs.Items.{unit_text}
-use Rattle.serial_pipes.specs.State.{WayState, fits, mark_for, garbled}
+use Rattle.serial_pipes.specs.State.{WayState, mark_for}
 use Rattle.serial_pipes.specs.Events.{told, told_by}
-use Rattle.serial_pipes.specs.declared.marks.Mark.{Mark}
-use Rattle.serial_pipes.specs.declared.marks.Mark.TheVariants.{Free, Lost, Changed}
-use Rattle.route_table.specs.Network.{linked}
-use Rattle.chip_functions.specs.declared.notice.TransmitStatus.{TransmitStatus}
-use Rattle.chip_functions.specs.declared.notice.TransmitStatus.TheVariants.{Fail, NoRoute as no_route_status}
-use Rattle.chip_functions.specs.Notice.{status_of}
-use Rattle.chip_sim.specs.Events.{ChipEvent, Done, Heard as chip_hears, Forgets, after, outs}
+use Rattle.chip_sim.specs.Events.{ChipEvent, after, outs}
 use Rattle.chip_sim.specs.declared.out.ChipOut.{ChipOut}
 use Rattle.chip_sim.specs.declared.out.ChipOut.TheVariants as chip_out
 use Rattle.device_sim.specs.State.{State}
@@ -28,13 +20,14 @@ use Rattle.route_table.specs.declared.route.Route.{Route}
 use Rattle.mesh_sim.specs.declared.event.AirEvent.{AirEvent}
 use Rattle.mesh_sim.specs.declared.event.AirEvent.TheVariants as air_event
 use Rattle.outside_model.specs.declared.waits.Due.{Due}
-use Rattle.outside_model.specs.declared.waits.Due.TheVariants.{Info, NoRoute as no_route_due}
-use Rattle.outside_model.specs.State.{OuterState, Outside, Outcome, silent, tells, and_then, each, with_chip}
+use Rattle.outside_model.specs.State.{OuterState, Outside, Outcome, each, with_chip}
 use Rattle.outside_model.specs.Chip.{put_out, chip_does}
-use Rattle.outside_model.specs.Results.{owes_call, call_back, no_route, no_routes, leading, forgets, frame_ends, gives, without_no_route}
+use Rattle.outside_model.specs.Results.{frame_ends, gives}
 use Rattle.outside_model.specs.Air.{to_chip, sent_entries}
 use Rattle.outside_model.specs.Devices.{shown_entries}
 use Rattle.outside_model.specs.Events.{Host_writes, cleared_entries, outcome, stamp, ticked_entry, entries}
+use Rattle.proof_device.proofs.Entered.{IsMark, told_by_marks, IsCleared, all_cleared, IsShown, all_shown}
+use Rattle.proof_device.proofs.Results.{Gives, ends_go, gives_go, to_chip_goes}
 
 -- an entry that is no `dev`
 abbrev pub IsOther : Entry → Type 0
@@ -46,9 +39,6 @@ Others entries = AllByRecursion IsOther entries
 
 -- ---- lists
 
-pub then_other : (first : Outcome) (next : OuterState → Outcome) → Others first.entries → ((o : OuterState) → Others (next o).entries) → Others (and_then first next).entries
-then_other first next before later = all-append IsOther first.entries (next first.outer).entries before (later first.outer)
-
 pub each_other : {X : Type 0} (step : OuterState → X → Outcome) → ((o : OuterState) (x : X) → Others (step o x).entries) → (o : OuterState) (xs : List X) → Others (each step o xs).entries
 each_other step other o [] = tt
 each_other step other o (x ∷ xs) = all-append IsOther (step o x).entries (each step (step o x).outer xs).entries (other o x) (each_other step other (step o x).outer xs)
@@ -59,17 +49,13 @@ flat_other f other (x ∷ xs) = all-append IsOther (f x) (flat_map f xs) (other 
 
 -- ---- the line
 
-overrun_other : (side : Side) (b : Bool) → Others (if b then [] else entry.Overrun side ∷ [])
-overrun_other side true = tt
-overrun_other side false = (tt, tt)
-
-told_by_other : (side : Side) (bytes : List ℕ) (mark : Mark) (text : List ℕ) → Others (told_by side bytes mark text)
-told_by_other side bytes Free text = overrun_other side (fits bytes text)
-told_by_other side bytes Lost text = (tt, tt)
-told_by_other side bytes (Changed garble) text = (tt, overrun_other side (fits bytes (garbled garble text)))
+mark_other : (e : Entry) → IsMark e → IsOther e
+mark_other (entry.Dev node by setting) mark = absurd mark
+mark_other _ mark = tt
 
 pub told_other : (side : Side) (way : WayState) (unit : LineUnit) → Others (told side way unit)
-told_other side way unit = (tt, told_by_other side way.bytes (mark_for way.marks unit) (unit_text unit))
+told_other side way unit =
+    (tt, all-weaker IsMark IsOther mark_other (told_by side way.bytes (mark_for way.marks unit) (unit_text unit)) (told_by_marks side way.bytes (mark_for way.marks unit) (unit_text unit)))
 
 -- ---- the chip
 
@@ -86,38 +72,20 @@ does_other o event = each_other put_out put_other (with_chip o (after o.chip.sta
 
 -- ---- results
 
-call_other : (o : OuterState) (status : TransmitStatus) → Others (call_back o status).entries
-call_other o status = by (owes_call o.chip.state)
-  where
-    by : (b : Bool) → Others (if b then chip_does (record o { calls = drop 1 o.calls }) (Done status) else silent (record o { calls = drop 1 o.calls })).entries
-    by true = does_other (record o { calls = drop 1 o.calls }) (Done status)
-    by false = tt
-
-no_route_other : (o : OuterState) → Others (no_route o).entries
-no_route_other o = call_other (record o { due = without_no_route o.due }) no_route_status
-
-no_routes_other : (count : ℕ) (o : OuterState) → Others (no_routes count o).entries
-no_routes_other zero o = tt
-no_routes_other (suc count) o = then_other (no_route o) (λ later. no_routes count later) (no_route_other o) (λ later. no_routes_other count later)
-
-forgets_other : (o : OuterState) (dead : Option (ℕ × ℕ)) → Others (forgets o dead).entries
-forgets_other o None = tt
-forgets_other o (Some hop) = by (linked o.chip.state.table hop.0 hop.1)
-  where
-    by : (b : Bool) → Others (if b then tells (with_chip o (after o.chip.state (Forgets hop.0 hop.1))) (entry.Forget hop.0 hop.1 ∷ []) else silent o).entries
-    by true = (tt, tt)
-    by false = tt
+results : Gives (λ o x. Others x.entries)
+results = record {
+  still = λ o p is. tt;
+  both = λ o first next before later. all-append IsOther first.entries (next first.outer).entries before (later first.outer);
+  later = λ o p x is others. others;
+  does = λ o event given. does_other o event;
+  forgotten = λ o a b. (tt, tt);
+}
 
 pub ends_other : (o : OuterState) (status : ℕ) (dead : Option (ℕ × ℕ)) → Others (frame_ends o status dead).entries
-ends_other o status dead =
-    then_other (forgets o dead) (λ forgot. and_then (no_routes (leading forgot.calls) forgot) (λ later. call_back later (unwrap_or (status_of status) Fail))) (forgets_other o dead)
-    (λ forgot. then_other (no_routes (leading forgot.calls) forgot) (λ later. call_back later (unwrap_or (status_of status) Fail)) (no_routes_other (leading forgot.calls) forgot)
-    (λ later. call_other later (unwrap_or (status_of status) Fail)))
+ends_other = ends_go (λ o x. Others x.entries) results
 
 pub gives_other : (o : OuterState) (devices : List State) (due : List Due) (route : Option Route) → Others (gives o devices due route).entries
-gives_other o devices [] route = tt
-gives_other o devices (no_route_due ∷ due) route = no_route_other o
-gives_other o devices (Info node ∷ due) route = does_other (record o { due = due }) _
+gives_other = gives_go (λ o x. Others x.entries) results
 
 -- ---- the air
 
@@ -131,26 +99,21 @@ sent_other (air_event.ToChip frame from payload) = tt
 sent_other (air_event.Done frame status dead) = tt
 
 pub to_chip_other : (o : OuterState) (from : ℕ) (payload : List ℕ) → Others (to_chip o from payload).entries
-to_chip_other o from payload = by (nat_le 1 (length payload) && nat_le (length payload) 46)
-  where
-    by : (b : Bool) → Others (if b then chip_does o (chip_hears from payload) else silent o).entries
-    by true = does_other o (chip_hears from payload)
-    by false = tt
+to_chip_other = to_chip_goes (λ o x. Others x.entries) results
 
 pub shown_other : (node : ℕ) (device : Option State) → Others (shown_entries node device)
-shown_other node None = (tt, tt)
-shown_other node (Some device) = settings _
+shown_other node device = all-weaker IsShown IsOther one (shown_entries node device) (all_shown node device)
   where
-    settings : (l : List Setting) → Others (map (λ (setting : Setting). entry.Device node setting) l)
-    settings [] = tt
-    settings (s ∷ l) = (tt, settings l)
+    one : (e : Entry) → IsShown e → IsOther e
+    one (entry.Dev node by setting) shown = absurd shown
+    one _ shown = tt
 
 pub cleared_other : (side : Side) (count : ℕ) → Others (cleared_entries side count)
-cleared_other side count = by (nat_lt 0 count)
+cleared_other side count = all-weaker IsCleared IsOther one (cleared_entries side count) (all_cleared side count)
   where
-    by : (b : Bool) → Others (if b then entry.Cleared side count ∷ [] else [])
-    by true = (tt, tt)
-    by false = tt
+    one : (e : Entry) → IsCleared e → IsOther e
+    one (entry.Dev node by setting) cleared = absurd cleared
+    one _ cleared = tt
 
 pub ticked_other : (o : OuterState) → Others (ticked_entry o)
 ticked_other o = by (o.in_tick && not o.stamped)

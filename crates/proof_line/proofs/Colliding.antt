@@ -192,21 +192,10 @@ discovers_left o = linked_left (all_pairs o.air) o.chip.state (pairs_linked o.ai
 
 simple_comes : (w : Outside) (event : OuterEvent) → IsSimple event → IsNoCollision event → Comes MayCollide (Tie 0) w (outcome w event) w.devices (Tie 0)
 unfolding outcome
-simple_comes w Begins_line simple none = absurd simple
-simple_comes w Begins_tick simple none = absurd simple
-simple_comes w (Chip_takes count rest ways) simple none = absurd simple
-simple_comes w (Arrives drawn route) simple none = absurd simple
-simple_comes w (Gives route) simple none = absurd simple
-simple_comes w (Device_ticks place drawn route) simple none = absurd simple
-simple_comes w Chip_ticks simple none = absurd simple
-simple_comes w (Repeats number drawn route) simple none = absurd simple
-simple_comes w (Wakes_device node route) simple none = absurd simple
-simple_comes w (Sets_device node value route) simple none = absurd simple
 simple_comes w Collides_next simple none = absurd none
 simple_comes w (Host_writes unit) simple none = unchanged 0 w (outside (outcome w (Host_writes unit)).outer w.devices) (told by_host w.outer.to_chip unit) (host_uncounted w.outer.to_chip unit) refl
 simple_comes w (Host_takes count) simple none = unchanged 0 w (outside (outcome w (Host_takes count)).outer w.devices) [] tt refl
 simple_comes w (Host_notes note) simple none = unchanged 0 w w (note ∷ []) (note_uncounted note simple.0, tt) refl
-simple_comes w (Host_begins node sessions) simple none = absurd simple
 simple_comes w (Shows node) simple none =
     unchanged 0 w w (outcome w (Shows node)).entries (shown_uncounted node (device_at w.devices (place_of node w.devices))) refl
 simple_comes w (Joins node) simple none =
@@ -225,6 +214,7 @@ simple_comes w (Clears_pipe by_chip) simple none =
     unchanged 0 w (outside (outcome w (Clears_pipe by_chip)).outer w.devices) (outcome w (Clears_pipe by_chip)).entries (cleared_uncounted by_chip _) refl
 simple_comes w (Stalls ticks) simple none = unchanged 0 w (outside (outcome w (Stalls ticks)).outer w.devices) [] tt refl
 simple_comes w (Cuts size) simple none = unchanged 0 w (outside (outcome w (Cuts size)).outer w.devices) [] tt refl
+simple_comes w event simple none = absurd simple
 
 -- ---- all of it
 

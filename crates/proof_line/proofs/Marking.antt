@@ -46,10 +46,10 @@ use Rattle.proof_walk.specs.Phases.{Between}
 use Rattle.proof_walk.specs.Walk.{Walk}
 use Rattle.proof_walk.specs.ByLine.{IsOfTick, CoversLine, ByLine}
 use Rattle.proof_walk.proofs.ByLine.{effect_covered, common_covered, walk_of}
-use Rattle.proof_walk.proofs.Entered.{IsCleared, all_cleared, IsShown, all_shown, IsChange, change_entered, changes_entered}
+use Rattle.proof_device.proofs.Entered.{IsCleared, all_cleared, IsShown, all_shown, IsChange, change_entered, changes_entered}
 use Rattle.proof_walk.proofs.Linking.{acts_of_air}
 use Rattle.proof_walk.proofs.Machines.{machine_keeps}
-use Rattle.proof_walk.proofs.Results.{IsGiven, Gives, ends_go, gives_go, to_chip_goes}
+use Rattle.proof_device.proofs.Results.{IsGiven, Gives, ends_go, gives_go, to_chip_goes}
 use Rattle.proof_line.specs.Marks.{changing_of, marks_at, MayMark, TieMarks, IsQuiet, KnowsMarks, SetsNoMark, Marked, Setting, Sets, LeftMarks, KnowMarks}
 use Rattle.proof_line.proofs.Standing.{marks_grow, IsApart, AreApart, apart_marks, all_apart, said_stands, Stands, unit_stands}
 
@@ -223,17 +223,6 @@ bytes_leave o p to_chip to_host by_chip = ap (λ m. record { drops = m.drops; ch
 
 simple_goes : (w : Outside) (event : OuterEvent) → IsSimple event → SetsNoMark event → GoesOn w (outcome w event).entries (outside (outcome w event).outer w.devices)
 unfolding outcome
-simple_goes w Begins_line simple none = absurd simple
-simple_goes w Begins_tick simple none = absurd simple
-simple_goes w (Host_begins node sessions) simple none = absurd simple
-simple_goes w (Chip_takes count rest ways) simple none = absurd simple
-simple_goes w (Arrives drawn route) simple none = absurd simple
-simple_goes w (gives_due route) simple none = absurd simple
-simple_goes w (Device_ticks place drawn route) simple none = absurd simple
-simple_goes w Chip_ticks simple none = absurd simple
-simple_goes w (Repeats number drawn route) simple none = absurd simple
-simple_goes w (Wakes_device node route) simple none = absurd simple
-simple_goes w (Sets_device node value route) simple none = absurd simple
 simple_goes w (Marks_loss side) simple none = absurd none
 simple_goes w (Marks_change side garble) simple none = absurd none
 simple_goes w (Host_writes unit) simple none = host_unit w unit
@@ -256,6 +245,7 @@ simple_goes w (Clears_pipe by_chip) simple none =
 simple_goes w Collides_next simple none = apart w _ [] tt (same_by w.outer (outcome w Collides_next).outer refl refl)
 simple_goes w (Stalls ticks) simple none = apart w _ [] tt (same_by w.outer (outcome w (Stalls ticks)).outer refl refl)
 simple_goes w (Cuts size) simple none = apart w _ [] tt (same_by w.outer (outcome w (Cuts size)).outer refl refl)
+simple_goes w event simple none = absurd simple
 
 -- ---- all of it
 

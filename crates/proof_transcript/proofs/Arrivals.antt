@@ -30,7 +30,7 @@ use Rattle.outside_model.specs.Events.{mesh_of, steps, repeats}
 use Rattle.proof_device.proofs.ChangesOutside.{fate_listens}
 use Rattle.proof_transcript.proofs.Plain.{change_plain}
 use Rattle.proof_transcript.proofs.KeptOverLists.{Keeps, Airs, Goes, IsSameTime, same_then, keeps_none, keeps_both, keeps_plain}
-use Rattle.proof_transcript.proofs.Outcomes.{goes_still, then_goes, ends_goes, to_chip_goes}
+use Rattle.proof_transcript.proofs.Outcomes.{goes_still, then_goes, ends_goes, hears_goes}
 
 -- what becomes of a frame of that number, as it is entered: only one that is not lost is heard, or not heard
 abbrev pub IsFate : Flown → ℕ → Entry → Type 0
@@ -139,7 +139,7 @@ module _ (Asks : List Entry → Entry → Type 0) (Knows : List Entry → AirSta
   deals_time devices o (air_event.Unheard frame) = record { in_tick = refl; stamped = refl }
   deals_time devices o (air_event.Sent frame from to route payload) = record { in_tick = refl; stamped = refl }
   deals_time devices o (air_event.Changed node at) = record { in_tick = refl; stamped = refl }
-  deals_time devices o (air_event.ToChip frame from payload) = (to_chip_goes Asks Knows airs o from payload).time
+  deals_time devices o (air_event.ToChip frame from payload) = (hears_goes Asks Knows airs o from payload).time
   deals_time devices o (air_event.Done frame status dead) = (ends_goes Asks Knows airs o status dead).time
 
   each_time : (devices : List State) (o : OuterState) (events : List AirEvent) → IsSameTime o (each (deals devices) o events).outer
@@ -161,7 +161,7 @@ module _ (Asks : List Entry → Entry → Type 0) (Knows : List Entry → AirSta
 
   to_chip_keep : (devices : List State) (p : OuterState) (number from : ℕ) (payload : List ℕ)
       → Keeps Asks Knows p.air (each (deals devices) p (air_event.ToChip number from payload ∷ [])).entries (each (deals devices) p (air_event.ToChip number from payload ∷ [])).outer.air
-  to_chip_keep devices p number from payload = (only_goes devices p (air_event.ToChip number from payload) (to_chip_goes Asks Knows airs p from payload)).keeps
+  to_chip_keep devices p number from payload = (only_goes devices p (air_event.ToChip number from payload) (hears_goes Asks Knows airs p from payload)).keeps
 
   -- ---- the next frame arrives
 

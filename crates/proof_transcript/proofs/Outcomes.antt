@@ -1,19 +1,15 @@
 -- What the chip, the results of its calls and the devices make of the air.
-use Rattle.std.proofs.Common.{◌≡◌, ℕ, zero, suc, ◌&&◌, Bool, true, false, if◌then◌else◌, Option, Some, None, List, [], ◌∷◌, nat_le, length, drop, refl, sym, subst}
+use Rattle.std.proofs.Common.{◌≡◌, ℕ, Bool, true, false, Option, Some, None, List, [], ◌∷◌, refl, sym, subst}
 use Rattle.std.specs.List.{flat_map}
-use Rattle.std.specs.Option.{unwrap_or, option_map}
+use Rattle.std.specs.Option.{option_map}
 use Rattle.std.specs.Prelude.{slice_get}
 use Rattle.route_table.specs.declared.route.Route.{Route}
-use Rattle.route_table.specs.Network.{linked}
 use Rattle.zw_words.specs.declared.side.Side.TheVariants.{Chip as by_chip}
 use Rattle.zw_text.specs.declared.entry.Entry.{Entry}
 use Rattle.zw_text.specs.declared.entry.Entry.TheVariants as entry
 use Rattle.zw_text.specs.declared.entry.Refusal.TheVariants.{NoDevice}
 use Rattle.serial_pipes.specs.Events.{told}
-use Rattle.chip_functions.specs.declared.notice.TransmitStatus.{TransmitStatus}
-use Rattle.chip_functions.specs.declared.notice.TransmitStatus.TheVariants.{Fail, NoRoute as no_route_status}
-use Rattle.chip_functions.specs.Notice.{status_of}
-use Rattle.chip_sim.specs.Events.{ChipEvent, Done, Heard as chip_hears, Informed, Forgets, after, outs}
+use Rattle.chip_sim.specs.Events.{ChipEvent, Forgets, after, outs}
 use Rattle.chip_sim.specs.declared.out.ChipOut.{ChipOut}
 use Rattle.chip_sim.specs.declared.out.ChipOut.TheVariants as chip_out
 use Rattle.device_sim.specs.State.{State}
@@ -23,12 +19,12 @@ use Rattle.mesh_sim.specs.Air.{AirState, departing, is_joined}
 use Rattle.mesh_sim.specs.Routes.{backwards}
 use Rattle.mesh_sim.specs.Steps.{sent_event, answered, answers, answered_if, answers_if}
 use Rattle.outside_model.specs.declared.waits.Due.{Due}
-use Rattle.outside_model.specs.declared.waits.Due.TheVariants.{Info, NoRoute as no_route_due}
-use Rattle.outside_model.specs.State.{OuterState, Outcome, silent, tells, and_then, each, with_chip}
+use Rattle.outside_model.specs.State.{OuterState, Outcome, tells, and_then, each, with_chip}
 use Rattle.outside_model.specs.Chip.{put_out, chip_does}
-use Rattle.outside_model.specs.Results.{owes_call, call_back, no_route, no_routes, leading, forgets, frame_ends, gives, without_no_route, profile_for}
+use Rattle.outside_model.specs.Results.{frame_ends, gives}
 use Rattle.outside_model.specs.Air.{to_chip, sent_entries}
 use Rattle.outside_model.specs.Devices.{changes_entries, new_changes, sends, acts, acts_at, acts_by_hand}
+use Rattle.proof_device.proofs.Results.{Gives, IsSameChip, ends_go, gives_go, to_chip_goes}
 use Rattle.proof_transcript.proofs.Plain.{Plains, told_plain, changes_plain}
 use Rattle.proof_transcript.proofs.KeptOverLists.{Keeps, Airs, Goes, IsSameTime, same_then, keeps_none, keeps_both, keeps_plain}
 
@@ -67,49 +63,32 @@ module _ (Asks : List Entry → Entry → Type 0) (Knows : List Entry → AirSta
       each_goes put_out put_goes (with_chip o (after o.chip.state event)) (outs o.chip.state event) in
       record { keeps = goes.keeps; time = record { in_tick = goes.time.in_tick; stamped = goes.time.stamped } }
 
-  -- the chip does it, or nothing is done
-  does_if : (b : Bool) (o p : OuterState) (event : ChipEvent) → p.air ≡ o.air → IsSameTime o p → Goes Asks Knows o (if b then chip_does p event else silent p)
-  does_if true o p event air time =
-      let goes : Goes Asks Knows p (chip_does p event) = does_goes p event in
-      record { keeps = subst (λ (a : AirState). Keeps Asks Knows a (chip_does p event).entries (chip_does p event).outer.air) air goes.keeps; time = same_then o p (chip_does p event).outer time goes.time }
-  does_if false o p event air time = goes_still o p [] tt air time
-
   -- ---- results
 
-  call_goes : (o : OuterState) (status : TransmitStatus) → Goes Asks Knows o (call_back o status)
-  call_goes o status = does_if (owes_call o.chip.state) o (record o { calls = drop 1 o.calls }) (Done status) refl (record { in_tick = refl; stamped = refl })
+  -- something else changes first
+  after_still : (o p : OuterState) (x : Outcome) → IsSameChip o p → Goes Asks Knows p x → Goes Asks Knows o x
+  after_still o p x is goes = record {
+    keeps = subst (λ (a : AirState). Keeps Asks Knows a x.entries x.outer.air) is.air goes.keeps;
+    time = same_then o p x.outer (record { in_tick = is.in_tick; stamped = is.stamped }) goes.time;
+  }
 
-  no_route_goes : (o : OuterState) → Goes Asks Knows o (no_route o)
-  no_route_goes o =
-      let goes : Goes Asks Knows (record o { due = without_no_route o.due }) (no_route o) = call_goes (record o { due = without_no_route o.due }) no_route_status in
-      record { keeps = goes.keeps; time = record { in_tick = goes.time.in_tick; stamped = goes.time.stamped } }
-
-  no_routes_goes : (count : ℕ) (o : OuterState) → Goes Asks Knows o (no_routes count o)
-  no_routes_goes zero o = record { keeps = keeps_none Asks Knows o.air; time = record { in_tick = refl; stamped = refl } }
-  no_routes_goes (suc count) o = then_goes o (no_route o) (λ later. no_routes count later) (no_route_goes o) (λ later. no_routes_goes count later)
-
-  forgets_if : (b : Bool) (o p : OuterState) (told : List Entry) → Plains told → p.air ≡ o.air → IsSameTime o p → Goes Asks Knows o (if b then tells p told else silent o)
-  forgets_if true o p told plain air time = goes_still o p told plain air time
-  forgets_if false o p told plain air time = record { keeps = keeps_none Asks Knows o.air; time = record { in_tick = refl; stamped = refl } }
-
-  forgets_goes : (o : OuterState) (dead : Option (ℕ × ℕ)) → Goes Asks Knows o (forgets o dead)
-  forgets_goes o None = record { keeps = keeps_none Asks Knows o.air; time = record { in_tick = refl; stamped = refl } }
-  forgets_goes o (Some hop) =
-      forgets_if (linked o.chip.state.table hop.0 hop.1) o (with_chip o (after o.chip.state (Forgets hop.0 hop.1))) (entry.Forget hop.0 hop.1 ∷ []) (tt, tt) refl (record { in_tick = refl; stamped = refl })
+  results : Gives (Goes Asks Knows)
+  results = record {
+    still = λ o p is. goes_still o p [] tt is.air (record { in_tick = is.in_tick; stamped = is.stamped });
+    both = then_goes;
+    later = after_still;
+    does = λ o event given. does_goes o event;
+    forgotten = λ o a b. goes_still o (with_chip o (after o.chip.state (Forgets a b))) (entry.Forget a b ∷ []) (tt, tt) refl (record { in_tick = refl; stamped = refl });
+  }
 
   pub ends_goes : (o : OuterState) (status : ℕ) (dead : Option (ℕ × ℕ)) → Goes Asks Knows o (frame_ends o status dead)
-  ends_goes o status dead =
-      then_goes o (forgets o dead) (λ forgot. and_then (no_routes (leading forgot.calls) forgot) (λ later. call_back later (unwrap_or (status_of status) Fail))) (forgets_goes o dead)
-      (λ forgot. then_goes forgot (no_routes (leading forgot.calls) forgot) (λ later. call_back later (unwrap_or (status_of status) Fail)) (no_routes_goes (leading forgot.calls) forgot)
-      (λ later. call_goes later (unwrap_or (status_of status) Fail)))
+  ends_goes = ends_go (Goes Asks Knows) results
 
   pub gives_goes : (o : OuterState) (devices : List State) (due : List Due) (route : Option Route) → Goes Asks Knows o (gives o devices due route)
-  gives_goes o devices [] route = record { keeps = keeps_none Asks Knows o.air; time = record { in_tick = refl; stamped = refl } }
-  gives_goes o devices (no_route_due ∷ due) route = no_route_goes o
-  gives_goes o devices (Info node ∷ due) route =
-      let p : OuterState = record o { due = due } in
-      let goes : Goes Asks Knows p (chip_does p (Informed node (profile_for p.air devices node route))) = does_goes p (Informed node (profile_for p.air devices node route)) in
-      record { keeps = goes.keeps; time = record { in_tick = goes.time.in_tick; stamped = goes.time.stamped } }
+  gives_goes = gives_go (Goes Asks Knows) results
+
+  pub hears_goes : (o : OuterState) (from : ℕ) (payload : List ℕ) → Goes Asks Knows o (to_chip o from payload)
+  hears_goes = to_chip_goes (Goes Asks Knows) results
 
   -- ---- devices
 
@@ -141,8 +120,3 @@ module _ (Asks : List Entry → Entry → Type 0) (Knows : List Entry → AirSta
   pub hand_goes : (o : OuterState) (devices : List State) (place : Option ℕ) (event : DeviceEvent) (route : Option Route) → Goes Asks Knows o (acts_by_hand o devices place event route)
   hand_goes o devices None event route = goes_still o o (entry.Refused NoDevice ∷ []) (tt, tt) refl (record { in_tick = refl; stamped = refl })
   hand_goes o devices (Some place) event route = at_goes o (slice_get devices place) event route
-
-  -- ---- what comes to the chip
-
-  pub to_chip_goes : (o : OuterState) (from : ℕ) (payload : List ℕ) → Goes Asks Knows o (to_chip o from payload)
-  to_chip_goes o from payload = does_if (nat_le 1 (length payload) && nat_le (length payload) 46) o o (chip_hears from payload) refl (record { in_tick = refl; stamped = refl })

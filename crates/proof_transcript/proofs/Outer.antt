@@ -1,26 +1,18 @@
 -- What happens outside the host begins no tick but where one begins, says no line and reports no value; and which events may refuse a line.
-use Rattle.std.proofs.Common.{◌≡◌, ℕ, zero, suc, ◌&&◌, not, Bool, true, false, if◌then◌else◌, Option, Some, None, List, [], ◌∷◌, map, nat_le, nat_lt, length, drop, refl, ◌∙◌}
+use Rattle.std.proofs.Common.{◌≡◌, ℕ, ◌&&◌, not, Bool, true, false, if◌then◌else◌, Option, Some, None, List, [], ◌∷◌, refl, ap, ◌∙◌}
 use Rattle.std.specs.Prelude.{slice_get}
 use Rattle.std.specs.List.{AllByRecursion, flat_map}
-use Rattle.std.specs.Option.{unwrap_or, option_map}
-use Rattle.zw_base.proofs.Each.{all-append}
-use Rattle.zw_base.specs.declared.property.Setting.{Setting}
+use Rattle.std.specs.Option.{option_map}
+use Rattle.zw_base.proofs.Each.{all-append, all-weaker}
 use Rattle.zw_words.specs.declared.side.Side.{Side}
-use Rattle.zw_words.specs.declared.side.Side.TheVariants.{Host as by_host, Chip as by_chip}
 use Rattle.zw_text.specs.declared.entry.Entry.{Entry}
 use Rattle.zw_text.specs.declared.entry.Entry.TheVariants as entry
 use Rattle.serial_frame.specs.declared.unit.Unit.{Unit as LineUnit}
 use Rattle.serial_frame.specs.Items.{unit_text}
-use Rattle.serial_pipes.specs.State.{WayState, fits, mark_for, garbled}
+use Rattle.serial_pipes.specs.State.{WayState, mark_for}
 use Rattle.serial_pipes.specs.Events.{told, told_by}
-use Rattle.serial_pipes.specs.declared.marks.Mark.{Mark}
-use Rattle.serial_pipes.specs.declared.marks.Mark.TheVariants.{Free, Lost, Changed}
 use Rattle.route_table.specs.declared.route.Route.{Route}
-use Rattle.route_table.specs.Network.{linked}
-use Rattle.chip_functions.specs.declared.notice.TransmitStatus.{TransmitStatus}
-use Rattle.chip_functions.specs.declared.notice.TransmitStatus.TheVariants.{Fail, NoRoute as no_route_status}
-use Rattle.chip_functions.specs.Notice.{status_of}
-use Rattle.chip_sim.specs.Events.{ChipEvent, Done, Heard as chip_hears, Forgets, after, outs}
+use Rattle.chip_sim.specs.Events.{ChipEvent, after, outs}
 use Rattle.chip_sim.specs.Did.{judged_all}
 use Rattle.chip_sim.specs.declared.out.ChipOut.{ChipOut}
 use Rattle.chip_sim.specs.declared.out.ChipOut.TheVariants as chip_out
@@ -34,14 +26,14 @@ use Rattle.mesh_sim.specs.Steps.{AirStep, answers_if, mesh_after, mesh_outs}
 use Rattle.mesh_sim.specs.Routes.{backwards}
 use Rattle.mesh_sim.specs.declared.event.AirEvent.{AirEvent}
 use Rattle.mesh_sim.specs.declared.event.AirEvent.TheVariants as air_event
-use Rattle.outside_model.specs.declared.waits.Due.{Due}
-use Rattle.outside_model.specs.declared.waits.Due.TheVariants.{Info, NoRoute as no_route_due}
-use Rattle.outside_model.specs.State.{OuterState, Outside, Outcome, silent, tells, and_then, each, with_chip}
+use Rattle.outside_model.specs.State.{OuterState, Outside, Outcome, each, with_chip}
 use Rattle.outside_model.specs.Chip.{put_out, chip_does}
-use Rattle.outside_model.specs.Results.{owes_call, call_back, no_route, no_routes, leading, forgets, frame_ends, gives, without_no_route}
-use Rattle.outside_model.specs.Air.{change_entries, to_chip, sent_entries, deals}
-use Rattle.outside_model.specs.Devices.{changes_entries, new_changes, sends, acts, acts_at, acts_by_hand, shown_entries}
-use Rattle.outside_model.specs.Events.{OuterEvent, Begins_line, Begins_tick, Host_writes, Host_takes, Host_notes, Host_begins, Chip_takes, Arrives, Gives, Device_ticks, Chip_ticks, Repeats, Wakes_device, Sets_device, Shows, Joins, Discovers, Links, Loses, Loses_acks, Marks_loss, Marks_change, Clears_pipe, Collides_next, Stalls, Cuts, is_own, cleared_entries, with_way, mesh_of, steps, repeats, outcome, stamp, has_entered, ticked_entry, happens, entries}
+use Rattle.outside_model.specs.Air.{change_entries, sent_entries, deals}
+use Rattle.outside_model.specs.Devices.{changes_entries, new_changes, sends, acts_at, acts_by_hand, shown_entries}
+use Rattle.outside_model.specs.Events.{OuterEvent, Begins_line, Begins_tick, Host_writes, Host_takes, Host_notes, Host_begins, Chip_takes, Arrives, Gives as gives_due, Device_ticks, Chip_ticks, Repeats, Wakes_device, Sets_device, Shows, Clears_pipe, is_own, cleared_entries, mesh_of, steps, repeats, outcome, stamp, has_entered, ticked_entry, happens, entries}
+use Rattle.proof_device.proofs.Entered.{IsMark, told_by_marks, IsCleared, all_cleared, IsShown, all_shown, IsChange, change_entered, changes_entered}
+use Rattle.proof_device.proofs.Results.{Gives, ends_go, gives_go, to_chip_goes}
+use Rattle.proof_walk.proofs.Times.{outcome_time}
 
 -- an entry that says no line, and refuses one or reports a value only where that may be
 abbrev pub IsPlain : Bool → Bool → Entry → Type 0
@@ -62,104 +54,73 @@ IsMildOuter refusals (Sets_device node value route) = refusals ≡ true
 IsMildOuter refusals (Shows node) = refusals ≡ true
 IsMildOuter refusals event = Unit {0}
 
+-- ---- what these stand for in other words
+
+mark_plain : (refusals reports : Bool) (e : Entry) → IsMark e → IsPlain refusals reports e
+mark_plain refusals reports (entry.Dropped side) mark = tt
+mark_plain refusals reports (entry.Garbled side unit) mark = tt
+mark_plain refusals reports (entry.Overrun side) mark = tt
+mark_plain refusals reports e mark = absurd mark
+
+cleared_is_plain : (refusals reports : Bool) (e : Entry) → IsCleared e → IsPlain refusals reports e
+cleared_is_plain refusals reports (entry.Cleared side count) cleared = tt
+cleared_is_plain refusals reports e cleared = absurd cleared
+
+change_is_plain : (refusals reports : Bool) (e : Entry) → IsChange e → IsPlain refusals reports e
+change_is_plain refusals reports (entry.Dev node by setting) change = tt
+change_is_plain refusals reports e change = absurd change
+
+shown_is_plain : (refusals reports : Bool) → refusals ≡ true → (e : Entry) → IsShown e → IsPlain refusals reports e
+shown_is_plain refusals reports may (entry.Device node setting) shown = tt
+shown_is_plain refusals reports may (entry.Refused refusal) shown = may
+shown_is_plain refusals reports may e shown = absurd shown
+
 module _ (refusals reports : Bool) where
-  -- the clock stays, and such entries are told
-  abbrev pub Leaves : OuterState → Outcome → Type 0
-  Leaves o done = (done.outer.clock ≡ o.clock) × ArePlain refusals reports done.entries
+  -- such entries are told
+  abbrev pub Tells : OuterState → Outcome → Type 0
+  Tells o done = ArePlain refusals reports done.entries
 
   -- ---- lists
 
-  then_leaves : (o : OuterState) (first : Outcome) (next : OuterState → Outcome) → Leaves o first → ((later : OuterState) → Leaves later (next later)) → Leaves o (and_then first next)
-  then_leaves o first next before after_it =
-      let later = after_it first.outer in
-      (later.0 ∙ before.0, all-append (IsPlain refusals reports) first.entries (next first.outer).entries before.1 later.1)
-
-  each_leaves : {X : Type 0} (step : OuterState → X → Outcome) → ((o : OuterState) (x : X) → Leaves o (step o x)) → (o : OuterState) (xs : List X) → Leaves o (each step o xs)
-  each_leaves step leaves o [] = (refl, tt)
-  each_leaves step leaves o (x ∷ xs) =
-      let first = leaves o x in
-      let rest = each_leaves step leaves (step o x).outer xs in
-      (rest.0 ∙ first.0, all-append (IsPlain refusals reports) (step o x).entries (each step (step o x).outer xs).entries first.1 rest.1)
+  each_tells : {X : Type 0} (step : OuterState → X → Outcome) → ((o : OuterState) (x : X) → Tells o (step o x)) → (o : OuterState) (xs : List X) → Tells o (each step o xs)
+  each_tells step tells o [] = tt
+  each_tells step tells o (x ∷ xs) =
+      all-append (IsPlain refusals reports) (step o x).entries (each step (step o x).outer xs).entries (tells o x) (each_tells step tells (step o x).outer xs)
 
   flat_plain : {X : Type 0} (f : X → List Entry) → ((x : X) → ArePlain refusals reports (f x)) → (xs : List X) → ArePlain refusals reports (flat_map f xs)
   flat_plain f plain [] = tt
   flat_plain f plain (x ∷ xs) = all-append (IsPlain refusals reports) (f x) (flat_map f xs) (plain x) (flat_plain f plain xs)
 
-  -- ---- the line
-
-  overrun_plain : (side : Side) (b : Bool) → ArePlain refusals reports (if b then [] else entry.Overrun side ∷ [])
-  overrun_plain side true = tt
-  overrun_plain side false = (tt, tt)
-
-  told_by_plain : (side : Side) (bytes : List ℕ) (mark : Mark) (text : List ℕ) → ArePlain refusals reports (told_by side bytes mark text)
-  told_by_plain side bytes Free text = overrun_plain side (fits bytes text)
-  told_by_plain side bytes Lost text = (tt, tt)
-  told_by_plain side bytes (Changed garble) text = (tt, overrun_plain side (fits bytes (garbled garble text)))
+  -- ---- the line and the chip
 
   pub told_plain : (side : Side) (way : WayState) (unit : LineUnit) → ArePlain refusals reports (told side way unit)
-  told_plain side way unit = (tt, told_by_plain side way.bytes (mark_for way.marks unit) (unit_text unit))
+  told_plain side way unit =
+      (tt, all-weaker IsMark (IsPlain refusals reports) (mark_plain refusals reports) (told_by side way.bytes (mark_for way.marks unit) (unit_text unit)) (told_by_marks side way.bytes (mark_for way.marks unit) (unit_text unit)))
 
-  way_clock : (o : OuterState) (side : Side) (way : WayState) → (with_way o side way).clock ≡ o.clock
-  way_clock o by_host way = refl
-  way_clock o by_chip way = refl
+  put_tells : (o : OuterState) (out : ChipOut) → Tells o (put_out o out)
+  put_tells o (chip_out.Write unit) = told_plain _ o.to_host unit
+  put_tells o (chip_out.OnAir to route payload) = (tt, tt)
+  put_tells o chip_out.NoRoute = tt
+  put_tells o (chip_out.AskInfo node) = tt
+  put_tells o chip_out.Full = (tt, tt)
 
-  -- ---- the chip
-
-  put_leaves : (o : OuterState) (out : ChipOut) → Leaves o (put_out o out)
-  put_leaves o (chip_out.Write unit) = (refl, told_plain _ o.to_host unit)
-  put_leaves o (chip_out.OnAir to route payload) = (refl, (tt, tt))
-  put_leaves o chip_out.NoRoute = (refl, tt)
-  put_leaves o (chip_out.AskInfo node) = (refl, tt)
-  put_leaves o chip_out.Full = (refl, (tt, tt))
-
-  does_leaves : (o : OuterState) (event : ChipEvent) → Leaves o (chip_does o event)
+  does_tells : (o : OuterState) (event : ChipEvent) → Tells o (chip_does o event)
   unfolding chip_does
-  does_leaves o event = each_leaves put_out put_leaves (with_chip o (after o.chip.state event)) (outs o.chip.state event)
+  does_tells o event = each_tells put_out put_tells (with_chip o (after o.chip.state event)) (outs o.chip.state event)
 
-  -- ---- results
-
-  call_leaves : (o : OuterState) (status : TransmitStatus) → Leaves o (call_back o status)
-  call_leaves o status = by (owes_call o.chip.state)
-    where
-      by : (b : Bool) → Leaves o (if b then chip_does (record o { calls = drop 1 o.calls }) (Done status) else silent (record o { calls = drop 1 o.calls }))
-      by true = does_leaves (record o { calls = drop 1 o.calls }) (Done status)
-      by false = (refl, tt)
-
-  no_route_leaves : (o : OuterState) → Leaves o (no_route o)
-  no_route_leaves o = call_leaves (record o { due = without_no_route o.due }) no_route_status
-
-  no_routes_leave : (count : ℕ) (o : OuterState) → Leaves o (no_routes count o)
-  no_routes_leave zero o = (refl, tt)
-  no_routes_leave (suc count) o = then_leaves o (no_route o) (λ later. no_routes count later) (no_route_leaves o) (λ later. no_routes_leave count later)
-
-  forgets_leaves : (o : OuterState) (dead : Option (ℕ × ℕ)) → Leaves o (forgets o dead)
-  forgets_leaves o None = (refl, tt)
-  forgets_leaves o (Some hop) = by (linked o.chip.state.table hop.0 hop.1)
-    where
-      by : (b : Bool) → Leaves o (if b then tells (with_chip o (after o.chip.state (Forgets hop.0 hop.1))) (entry.Forget hop.0 hop.1 ∷ []) else silent o)
-      by true = (refl, (tt, tt))
-      by false = (refl, tt)
-
-  ends_leave : (o : OuterState) (status : ℕ) (dead : Option (ℕ × ℕ)) → Leaves o (frame_ends o status dead)
-  ends_leave o status dead =
-      then_leaves o (forgets o dead) (λ forgot. and_then (no_routes (leading forgot.calls) forgot) (λ later. call_back later (unwrap_or (status_of status) Fail))) (forgets_leaves o dead)
-      (λ forgot. then_leaves forgot (no_routes (leading forgot.calls) forgot) (λ later. call_back later (unwrap_or (status_of status) Fail)) (no_routes_leave (leading forgot.calls) forgot)
-      (λ later. call_leaves later (unwrap_or (status_of status) Fail)))
-
-  gives_leaves : (o : OuterState) (devices : List State) (due : List Due) (route : Option Route) → Leaves o (gives o devices due route)
-  gives_leaves o devices [] route = (refl, tt)
-  gives_leaves o devices (no_route_due ∷ due) route = no_route_leaves o
-  gives_leaves o devices (Info node ∷ due) route = does_leaves (record o { due = due }) _
+  results : Gives Tells
+  results = record {
+    still = λ o p is. tt;
+    both = λ o first next before later. all-append (IsPlain refusals reports) first.entries (next first.outer).entries before (later first.outer);
+    later = λ o p x is tells. tells;
+    does = λ o event given. does_tells o event;
+    forgotten = λ o a b. (tt, tt);
+  }
 
   -- ---- the air
 
-  change_plain : (node : ℕ) (change : Option Change) → ArePlain refusals reports (change_entries node change)
-  change_plain node None = tt
-  change_plain node (Some change) = settings change.settings
-    where
-      settings : (l : List Setting) → ArePlain refusals reports (map (λ (setting : Setting). entry.Dev node change.by setting) l)
-      settings [] = tt
-      settings (s ∷ l) = (tt, settings l)
+  changes_plain : (node : ℕ) (changes : List Change) → ArePlain refusals reports (changes_entries node changes)
+  changes_plain node changes = all-weaker IsChange (IsPlain refusals reports) (change_is_plain refusals reports) (changes_entries node changes) (changes_entered node changes)
 
   sent_plain : (event : AirEvent) → ArePlain refusals reports (sent_entries event)
   sent_plain (air_event.Heard frame) = tt
@@ -170,104 +131,65 @@ module _ (refusals reports : Bool) where
   sent_plain (air_event.ToChip frame from payload) = tt
   sent_plain (air_event.Done frame status dead) = tt
 
-  to_chip_leaves : (o : OuterState) (from : ℕ) (payload : List ℕ) → Leaves o (to_chip o from payload)
-  to_chip_leaves o from payload = by (nat_le 1 (length payload) && nat_le (length payload) 46)
-    where
-      by : (b : Bool) → Leaves o (if b then chip_does o (chip_hears from payload) else silent o)
-      by true = does_leaves o (chip_hears from payload)
-      by false = (refl, tt)
+  deals_tell : (devices : List State) (o : OuterState) (event : AirEvent) → Tells o (deals devices o event)
+  deals_tell devices o (air_event.Heard frame) = (tt, tt)
+  deals_tell devices o (air_event.Lost frame) = (tt, tt)
+  deals_tell devices o (air_event.Unheard frame) = (tt, tt)
+  deals_tell devices o (air_event.Sent frame from to route payload) = (tt, tt)
+  deals_tell devices o (air_event.Changed node at) = all-weaker IsChange (IsPlain refusals reports) (change_is_plain refusals reports) (change_entries node _) (change_entered node _)
+  deals_tell devices o (air_event.ToChip frame from payload) = to_chip_goes Tells results o from payload
+  deals_tell devices o (air_event.Done frame status dead) = ends_go Tells results o status dead
 
-  deals_leave : (devices : List State) (o : OuterState) (event : AirEvent) → Leaves o (deals devices o event)
-  deals_leave devices o (air_event.Heard frame) = (refl, (tt, tt))
-  deals_leave devices o (air_event.Lost frame) = (refl, (tt, tt))
-  deals_leave devices o (air_event.Unheard frame) = (refl, (tt, tt))
-  deals_leave devices o (air_event.Sent frame from to route payload) = (refl, (tt, tt))
-  deals_leave devices o (air_event.Changed node at) = (refl, change_plain node _)
-  deals_leave devices o (air_event.ToChip frame from payload) = to_chip_leaves o from payload
-  deals_leave devices o (air_event.Done frame status dead) = ends_leave o status dead
-
-  steps_leave : (w : Outside) (step : AirStep) → Leaves w.outer (steps w step)
-  steps_leave w step =
-      each_leaves (deals (mesh_after (mesh_of w) step).devices) (deals_leave (mesh_after (mesh_of w) step).devices) (record w.outer { air = (mesh_after (mesh_of w) step).air }) (mesh_outs (mesh_of w) step)
+  steps_tell : (w : Outside) (step : AirStep) → Tells w.outer (steps w step)
+  steps_tell w step =
+      each_tells (deals (mesh_after (mesh_of w) step).devices) (deals_tell (mesh_after (mesh_of w) step).devices) (record w.outer { air = (mesh_after (mesh_of w) step).air }) (mesh_outs (mesh_of w) step)
 
   -- ---- devices
 
-  acts_leave : (o : OuterState) (device : State) (event : DeviceEvent) (route : Option Route) → Leaves o (acts o device event route)
-  acts_leave o device event route =
-      then_leaves o (tells o (changes_entries device.node (new_changes device event))) (λ later. sends later device.node route (device_replies device event))
-      (refl, flat_plain (λ (change : Change). change_entries device.node (Some change)) (λ change. change_plain device.node (Some change)) (new_changes device event))
-      (λ later. (refl, flat_plain sent_entries sent_plain (answers_if (is_joined later.air device.node) later.air device.node (option_map backwards route) (device_replies device event))))
-
-  at_leaves : (o : OuterState) (device : Option State) (event : DeviceEvent) (route : Option Route) → Leaves o (acts_at o device event route)
-  at_leaves o None event route = (refl, tt)
-  at_leaves o (Some device) event route = acts_leave o device event route
-
-  cleared_plain : (side : Side) (count : ℕ) → ArePlain refusals reports (cleared_entries side count)
-  cleared_plain side count = by (nat_lt 0 count)
-    where
-      by : (b : Bool) → ArePlain refusals reports (if b then entry.Cleared side count ∷ [] else [])
-      by true = (tt, tt)
-      by false = tt
+  at_tells : (o : OuterState) (device : Option State) (event : DeviceEvent) (route : Option Route) → Tells o (acts_at o device event route)
+  at_tells o None event route = tt
+  at_tells o (Some device) event route =
+      all-append (IsPlain refusals reports) (changes_entries device.node (new_changes device event)) (sends o device.node route (device_replies device event)).entries
+      (changes_plain device.node (new_changes device event))
+      (flat_plain sent_entries sent_plain (answers_if (is_joined o.air device.node) o.air device.node (option_map backwards route) (device_replies device event)))
 
   -- ---- what may be refused
 
-  repeats_leave : (w : Outside) (refused : Option RepeatRefusal) (step : AirStep) → refusals ≡ true → Leaves w.outer (repeats w refused step)
-  repeats_leave w None step may = steps_leave w step
-  repeats_leave w (Some repeat.NeverSent) step may = (refl, (may, tt))
-  repeats_leave w (Some repeat.Forgotten) step may = (refl, (may, tt))
-  repeats_leave w (Some (repeat.Stale later)) step may = (refl, (may, tt))
+  repeats_tell : (w : Outside) (refused : Option RepeatRefusal) (step : AirStep) → refusals ≡ true → Tells w.outer (repeats w refused step)
+  repeats_tell w None step may = steps_tell w step
+  repeats_tell w (Some repeat.NeverSent) step may = (may, tt)
+  repeats_tell w (Some repeat.Forgotten) step may = (may, tt)
+  repeats_tell w (Some (repeat.Stale later)) step may = (may, tt)
 
-  hand_leaves : (o : OuterState) (devices : List State) (place : Option ℕ) (event : DeviceEvent) (route : Option Route) → refusals ≡ true → Leaves o (acts_by_hand o devices place event route)
-  hand_leaves o devices None event route may = (refl, (may, tt))
-  hand_leaves o devices (Some place) event route may = at_leaves o (slice_get devices place) event route
-
-  shown_plain : (node : ℕ) (device : Option State) → refusals ≡ true → ArePlain refusals reports (shown_entries node device)
-  shown_plain node None may = (may, tt)
-  shown_plain node (Some device) may = settings _
-    where
-      settings : (l : List Setting) → ArePlain refusals reports (map (λ (setting : Setting). entry.Device node setting) l)
-      settings [] = tt
-      settings (s ∷ l) = (tt, settings l)
+  hand_tells : (o : OuterState) (devices : List State) (place : Option ℕ) (event : DeviceEvent) (route : Option Route) → refusals ≡ true → Tells o (acts_by_hand o devices place event route)
+  hand_tells o devices None event route may = (may, tt)
+  hand_tells o devices (Some place) event route may = at_tells o (slice_get devices place) event route
 
   -- ---- events
 
   not_own : false ≡ true → ⊥
   not_own e = cc
 
-  outcome_leaves : (w : Outside) (event : OuterEvent) → is_own event ≡ true → IsMildOuter refusals event → Leaves w.outer (outcome w event)
+  outcome_tells : (w : Outside) (event : OuterEvent) → is_own event ≡ true → IsMildOuter refusals event → Tells w.outer (outcome w event)
   unfolding outcome
-  outcome_leaves w Begins_line own mild = (refl, tt)
-  outcome_leaves w Begins_tick own mild = absurd mild
-  outcome_leaves w (Host_writes unit) own mild = absurd (not_own own)
-  outcome_leaves w (Host_takes count) own mild = absurd (not_own own)
-  outcome_leaves w (Host_notes entry) own mild = absurd (not_own own)
-  outcome_leaves w (Host_begins node sessions) own mild = absurd (not_own own)
-  outcome_leaves w (Chip_takes count rest ways) own mild = each_leaves chip_does does_leaves _ (judged_all ways)
-  outcome_leaves w (Arrives drawn route) own mild = steps_leave w _
-  outcome_leaves w (Gives route) own mild = gives_leaves w.outer w.devices w.outer.due route
-  outcome_leaves w (Device_ticks place drawn route) own mild = at_leaves w.outer (slice_get w.devices place) _ route
-  outcome_leaves w Chip_ticks own mild = does_leaves _ _
-  outcome_leaves w (Repeats number drawn route) own mild = repeats_leave w _ _ mild
-  outcome_leaves w (Wakes_device node route) own mild = hand_leaves w.outer w.devices _ _ route mild
-  outcome_leaves w (Sets_device node value route) own mild = hand_leaves w.outer w.devices _ _ route mild
-  outcome_leaves w (Shows node) own mild = (refl, shown_plain node _ mild)
-  outcome_leaves w (Joins node) own mild = (refl, tt)
-  outcome_leaves w Discovers own mild = (refl, tt)
-  outcome_leaves w (Links a b live) own mild = (refl, tt)
-  outcome_leaves w (Loses count) own mild = (refl, tt)
-  outcome_leaves w (Loses_acks count) own mild = (refl, tt)
-  outcome_leaves w (Marks_loss side) own mild = (way_clock w.outer side _, tt)
-  outcome_leaves w (Marks_change side garble) own mild = (way_clock w.outer side _, tt)
-  outcome_leaves w (Clears_pipe side) own mild = (way_clock w.outer side _, cleared_plain side _)
-  outcome_leaves w Collides_next own mild = (refl, tt)
-  outcome_leaves w (Stalls ticks) own mild = (refl, tt)
-  outcome_leaves w (Cuts size) own mild = (refl, tt)
+  outcome_tells w Begins_tick own mild = absurd mild
+  outcome_tells w (Host_writes unit) own mild = absurd (not_own own)
+  outcome_tells w (Host_takes count) own mild = absurd (not_own own)
+  outcome_tells w (Host_notes entry) own mild = absurd (not_own own)
+  outcome_tells w (Host_begins node sessions) own mild = absurd (not_own own)
+  outcome_tells w (Chip_takes count rest ways) own mild = each_tells chip_does does_tells _ (judged_all ways)
+  outcome_tells w (Arrives drawn route) own mild = steps_tell w _
+  outcome_tells w (gives_due route) own mild = gives_go Tells results w.outer w.devices w.outer.due route
+  outcome_tells w (Device_ticks place drawn route) own mild = at_tells w.outer (slice_get w.devices place) _ route
+  outcome_tells w Chip_ticks own mild = does_tells _ _
+  outcome_tells w (Repeats number drawn route) own mild = repeats_tell w _ _ mild
+  outcome_tells w (Wakes_device node route) own mild = hand_tells w.outer w.devices _ _ route mild
+  outcome_tells w (Sets_device node value route) own mild = hand_tells w.outer w.devices _ _ route mild
+  outcome_tells w (Shows node) own mild = all-weaker IsShown (IsPlain refusals reports) (shown_is_plain refusals reports mild) (shown_entries node _) (all_shown node _)
+  outcome_tells w (Clears_pipe side) own mild = all-weaker IsCleared (IsPlain refusals reports) (cleared_is_plain refusals reports) (cleared_entries side _) (all_cleared side _)
+  outcome_tells w event own mild = tt
 
   -- ---- with the number of the tick
-
-  pub entered_clock : (o : OuterState) (told : List Entry) → (has_entered o told).clock ≡ o.clock
-  entered_clock o [] = refl
-  entered_clock o (e ∷ told) = refl
 
   pub ticked_plain : (o : OuterState) → ArePlain refusals reports (ticked_entry o)
   ticked_plain o = by (o.in_tick && not o.stamped)
@@ -280,9 +202,18 @@ module _ (refusals reports : Bool) where
   stamp_plain o [] plain = tt
   stamp_plain o (e ∷ told) plain = all-append (IsPlain refusals reports) (ticked_entry o) (e ∷ told) (ticked_plain o) plain
 
-  -- an event that is not the host's
-  pub own_clock : (w : Outside) (event : OuterEvent) → is_own event ≡ true → IsMildOuter refusals event → (happens w event).outer.clock ≡ w.outer.clock
-  own_clock w event own mild = entered_clock (outcome w event).outer (outcome w event).entries ∙ (outcome_leaves w event own mild).0
-
   pub own_plain : (w : Outside) (event : OuterEvent) → is_own event ≡ true → IsMildOuter refusals event → ArePlain refusals reports (entries w event)
-  own_plain w event own mild = stamp_plain (outcome w event).outer (outcome w event).entries (outcome_leaves w event own mild).1
+  own_plain w event own mild = stamp_plain (outcome w event).outer (outcome w event).entries (outcome_tells w event own mild)
+
+-- ---- the clock
+
+pub entered_clock : (o : OuterState) (told : List Entry) → (has_entered o told).clock ≡ o.clock
+entered_clock o [] = refl
+entered_clock o (e ∷ told) = refl
+
+-- an event that begins no tick leaves it
+pub own_clock : (refusals : Bool) (w : Outside) (event : OuterEvent) → IsMildOuter refusals event → (happens w event).outer.clock ≡ w.outer.clock
+unfolding outcome
+own_clock refusals w Begins_line mild = refl
+own_clock refusals w Begins_tick mild = absurd mild
+own_clock refusals w event mild = entered_clock (outcome w event).outer (outcome w event).entries ∙ ap (λ (t : Bool × Bool × ℕ). t.2) (outcome_time w event tt)

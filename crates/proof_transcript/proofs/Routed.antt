@@ -78,7 +78,7 @@ write_plain refusals reports w unit =
 
 write_clock : (w : Outside) (unit : LineUnit) → (happens_outside w (Host_writes unit)).outer.clock ≡ w.outer.clock
 unfolding outcome
-write_clock w unit = entered_clock false false (outcome w (Host_writes unit)).outer (outcome w (Host_writes unit)).entries
+write_clock w unit = entered_clock (outcome w (Host_writes unit)).outer (outcome w (Host_writes unit)).entries
 
 -- ---- all of it
 

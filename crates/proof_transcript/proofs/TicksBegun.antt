@@ -269,7 +269,7 @@ module _ (law : LeavesRecords) where
   mild_step : (refusals : Bool) (m : Machine) (event : Event) → IsMild refusals event → May m event → Step refusals m event
   unfolding happens entries May
   mild_step refusals m (Outside_does event) mild may =
-      still_step refusals m (Outside_does event) (own_clock refusals false m.outside event may.0 mild) refl (own_plain refusals false m.outside event may.0 mild)
+      still_step refusals m (Outside_does event) (own_clock refusals m.outside event mild) refl (own_plain refusals false m.outside event may.0 mild)
   mild_step refusals m (Host_does event) mild may = host_step refusals m event mild
   mild_step refusals m (Host_takes count rest items events) mild may = takes_step refusals m count rest items events (all_judged_join_none m.host.state items events may.judged)
   mild_step refusals m Decoder_ticks mild may = still_step refusals m Decoder_ticks refl refl tt

@@ -37,7 +37,7 @@ use Rattle.proof_walk.specs.Walk.{Walk}
 use Rattle.proof_walk.specs.Outside.{Moves, Comes, Link, IsNote, IsSimple, IsDone, IsOfAir, IsSameLink, Known, CoversOuter}
 use Rattle.proof_walk.specs.ByLine.{CoversLine}
 use Rattle.proof_walk.specs.Time.{MayCount, TieTime, BeginsNoTick, KnownTime, ticks_left, KnowTime}
-use Rattle.proof_walk.proofs.Entered.{IsMark, told_by_marks, IsCleared, all_cleared, IsShown, all_shown}
+use Rattle.proof_device.proofs.Entered.{IsMark, told_by_marks, IsCleared, all_cleared, IsShown, all_shown}
 use Rattle.proof_walk.proofs.Linking.{of_link}
 use Rattle.proof_walk.proofs.Machines.{machine_keeps}
 use Rattle.proof_walk.proofs.ByLine.{effect_covered}
@@ -157,17 +157,6 @@ module _ (extra : ℕ) where
 
   simple_comes : (w : Outside) (event : OuterEvent) → IsSimple event → BeginsNoTick event → Comes MayCount (TieTime extra) w (outcome w event) w.devices (TieTime extra)
   unfolding outcome
-  simple_comes w Begins_line simple none = absurd simple
-  simple_comes w Begins_tick simple none = absurd simple
-  simple_comes w (Host_begins node sessions) simple none = absurd simple
-  simple_comes w (Chip_takes count rest ways) simple none = absurd simple
-  simple_comes w (Arrives drawn route) simple none = absurd simple
-  simple_comes w (Gives route) simple none = absurd simple
-  simple_comes w (Device_ticks place drawn route) simple none = absurd simple
-  simple_comes w Chip_ticks simple none = absurd simple
-  simple_comes w (Repeats number drawn route) simple none = absurd simple
-  simple_comes w (Wakes_device node route) simple none = absurd simple
-  simple_comes w (Sets_device node value route) simple none = absurd simple
   simple_comes w (Host_writes unit) simple none = untimed w (outside (outcome w (Host_writes unit)).outer w.devices) (told by_host w.outer.to_chip unit) (told_untimed by_host w.outer.to_chip unit) refl
   simple_comes w (Host_takes count) simple none = untimed w (outside (outcome w (Host_takes count)).outer w.devices) [] tt refl
   simple_comes w (Host_notes note) simple none = untimed w w (note ∷ []) (note_untimed note simple.0, tt) refl
@@ -188,6 +177,7 @@ module _ (extra : ℕ) where
   simple_comes w Collides_next simple none = untimed w (outside (outcome w Collides_next).outer w.devices) [] tt refl
   simple_comes w (Stalls ticks) simple none = untimed w (outside (outcome w (Stalls ticks)).outer w.devices) [] tt refl
   simple_comes w (Cuts size) simple none = untimed w (outside (outcome w (Cuts size)).outer w.devices) [] tt refl
+  simple_comes w event simple none = absurd simple
 
   -- its number is the last
   number_last : (past : List Entry) (w : Outside) → TieTime extra true past w → TieTime extra false (past ++ entry.Time w.outer.clock ∷ []) w

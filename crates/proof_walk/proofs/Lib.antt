@@ -4,8 +4,6 @@ mod Ticking
 pub mod Lines
 pub mod Moving
 pub mod Times
-pub mod Entered
-pub mod Results
 pub mod Linking
 pub mod HostNotes
 pub mod Stamping

@@ -34,8 +34,8 @@ use Rattle.outside_model.specs.Devices.{changes_entries, new_changes, acts}
 use Rattle.outside_model.specs.Events.{OuterEvent}
 use Rattle.proof_walk.specs.Outside.{Knowing, Moves, Comes, Outer, Link, IsOfAir, IsSameLink, IsDone, session_begins}
 use Rattle.proof_walk.proofs.Moving.{moves_silent, moves_none, moves_both, moves_then}
-use Rattle.proof_walk.proofs.Entered.{IsChange, change_entered, changes_entered}
-use Rattle.proof_walk.proofs.Results.{IsGiven, Gives, ends_go, gives_go, to_chip_goes}
+use Rattle.proof_device.proofs.Entered.{IsChange, change_entered, changes_entered}
+use Rattle.proof_device.proofs.Results.{IsGiven, Gives, ends_go, gives_go, to_chip_goes}
 
 -- ---- entries of the air and of devices
 

@@ -1,16 +1,11 @@
 -- No event but those that begin a line or a tick changes the line or the tick; and what the chip puts out leaves the chip alone.
-use Rattle.std.proofs.Common.{◌≡◌, ℕ, zero, suc, ◌&&◌, Bool, true, false, if◌then◌else◌, List, [], ◌∷◌, nat_le, length, drop, refl, sym, ◌∙◌, ap}
+use Rattle.std.proofs.Common.{◌≡◌, ℕ, ◌&&◌, Bool, true, false, List, [], ◌∷◌, refl, sym, ◌∙◌, ap}
 use Rattle.std.specs.Prelude.{Option, Some, None, slice_get}
-use Rattle.std.specs.Option.{unwrap_or}
 use Rattle.route_table.specs.declared.route.Route.{Route}
-use Rattle.route_table.specs.Network.{linked}
 use Rattle.air_frames.specs.Ages.{refusal_of}
 use Rattle.air_frames.specs.declared.ages.Refusal.{Refusal}
-use Rattle.chip_functions.specs.Notice.{status_of}
-use Rattle.chip_functions.specs.declared.notice.TransmitStatus.{TransmitStatus}
-use Rattle.chip_functions.specs.declared.notice.TransmitStatus.TheVariants.{Fail, NoRoute as no_route_status}
 use Rattle.chip_sim.specs.State.{ChipState, ChipParts}
-use Rattle.chip_sim.specs.Events.{ChipEvent, Done, Heard as chip_hears, Ticked, Forgets, after, outs}
+use Rattle.chip_sim.specs.Events.{ChipEvent, Ticked, after, outs}
 use Rattle.chip_sim.specs.Did.{judged_all}
 use Rattle.chip_sim.specs.declared.out.ChipOut.{ChipOut}
 use Rattle.chip_sim.specs.declared.out.ChipOut.TheVariants as chip_out
@@ -24,16 +19,13 @@ use Rattle.mesh_sim.specs.Steps as mesh
 use Rattle.serial_frame.specs.Stream.{after_tick}
 use Rattle.serial_pipes.specs.Events.{Takes}
 use Rattle.serial_pipes.specs.Events as way
-use Rattle.zw_text.specs.declared.entry.Entry.TheVariants.{Forget}
 use Rattle.zw_words.specs.declared.side.Side.TheVariants.{Host as by_host, Chip as by_chip}
-use Rattle.outside_model.specs.declared.waits.Due.{Due}
-use Rattle.outside_model.specs.declared.waits.Due.TheVariants.{Info, NoRoute as no_route_due}
-use Rattle.outside_model.specs.State.{OuterState, Outside, Outcome, each, silent, tells, with_chip}
+use Rattle.outside_model.specs.State.{OuterState, Outside, Outcome, each, with_chip}
 use Rattle.outside_model.specs.Chip.{put_out, chip_does}
-use Rattle.outside_model.specs.Results.{owes_call, call_back, no_route, no_routes, leading, forgets, frame_ends, gives, without_no_route}
-use Rattle.outside_model.specs.Air.{deals, to_chip}
+use Rattle.outside_model.specs.Air.{deals}
 use Rattle.outside_model.specs.Devices.{acts_at, acts_by_hand}
 use Rattle.outside_model.specs.Events.{OuterEvent, Begins_line, Begins_tick, Host_writes, Host_takes, Host_notes, Host_begins, Chip_takes, Arrives, Gives, Device_ticks, Chip_ticks, Repeats, Wakes_device, Sets_device, Shows, Joins, Discovers, Links, Loses, Loses_acks, Marks_loss, Marks_change, Clears_pipe, Collides_next, Stalls, Cuts, mesh_of, outcome, repeats, steps}
+use Rattle.proof_device.proofs.Results.{Gives, IsSameChip, ends_go, gives_go, to_chip_goes}
 
 -- whether a tick runs, whether its number was entered, and the number
 abbrev pub time_of : OuterState → Bool × Bool × ℕ
@@ -74,43 +66,24 @@ pub does_time : (o : OuterState) (event : ChipEvent) → IsSameTime o (chip_does
 unfolding chip_does
 does_time o event = each_keeps time_of put_out put_time (with_chip o (after o.chip.state event)) (outs o.chip.state event)
 
--- an outcome, or another
-if_time : (b : Bool) (o : OuterState) (x y : Outcome) → IsSameTime o x.outer → IsSameTime o y.outer → IsSameTime o (if b then x else y).outer
-if_time true o x y one two = one
-if_time false o x y one two = two
-
 -- ---- results
 
-call_time : (o : OuterState) (status : TransmitStatus) → IsSameTime o (call_back o status).outer
-call_time o status = if_time (owes_call o.chip.state) o (chip_does (record o { calls = drop 1 o.calls }) (Done status)) (silent (record o { calls = drop 1 o.calls })) (does_time (record o { calls = drop 1 o.calls }) (Done status)) refl
+abbrev LeavesTime : OuterState → Outcome → Type 0
+LeavesTime o x = IsSameTime o x.outer
 
-no_route_time : (o : OuterState) → IsSameTime o (no_route o).outer
-no_route_time o = call_time (record o { due = without_no_route o.due }) no_route_status
-
-no_routes_time : (count : ℕ) (o : OuterState) → IsSameTime o (no_routes count o).outer
-no_routes_time zero o = refl
-no_routes_time (suc count) o = no_routes_time count (no_route o).outer ∙ no_route_time o
-
-forgets_time : (o : OuterState) (dead : Option (ℕ × ℕ)) → IsSameTime o (forgets o dead).outer
-forgets_time o None = refl
-forgets_time o (Some hop) =
-    if_time (linked o.chip.state.table hop.0 hop.1) o (tells (with_chip o (after o.chip.state (Forgets hop.0 hop.1))) (Forget hop.0 hop.1 ∷ [])) (silent o) refl refl
-
-ends_time : (o : OuterState) (status : ℕ) (dead : Option (ℕ × ℕ)) → IsSameTime o (frame_ends o status dead).outer
-ends_time o status dead =
-    let forgot : OuterState = (forgets o dead).outer in
-    let later : OuterState = (no_routes (leading forgot.calls) forgot).outer in
-    call_time later (unwrap_or (status_of status) Fail) ∙ (no_routes_time (leading forgot.calls) forgot ∙ forgets_time o dead)
-
-gives_time : (o : OuterState) (devices : List State) (due : List Due) (route : Option Route) → IsSameTime o (gives o devices due route).outer
-gives_time o devices [] route = refl
-gives_time o devices (no_route_due ∷ due) route = no_route_time o
-gives_time o devices (Info node ∷ due) route = does_time (record o { due = due }) _
+results : Gives LeavesTime
+results = record {
+  still = same_time;
+  both = λ o first next one later. later first.outer ∙ one;
+  later = λ o p x is goes. goes ∙ same_time o p is;
+  does = λ o event given. does_time o event;
+  forgotten = λ o a b. refl;
+}
+  where
+    same_time : (o p : OuterState) → IsSameChip o p → IsSameTime o p
+    same_time o p is = rw is.in_tick (rw is.stamped (rw is.clock refl))
 
 -- ---- the air and the devices
-
-to_chip_time : (o : OuterState) (from : ℕ) (payload : List ℕ) → IsSameTime o (to_chip o from payload).outer
-to_chip_time o from payload = if_time (nat_le 1 (length payload) && nat_le (length payload) 46) o (chip_does o (chip_hears from payload)) (silent o) (does_time o (chip_hears from payload)) refl
 
 deals_time : (devices : List State) (o : OuterState) (event : AirEvent) → IsSameTime o (deals devices o event).outer
 deals_time devices o (air_event.Heard frame) = refl
@@ -118,8 +91,8 @@ deals_time devices o (air_event.Lost frame) = refl
 deals_time devices o (air_event.Unheard frame) = refl
 deals_time devices o (air_event.Sent frame from to route payload) = refl
 deals_time devices o (air_event.Changed node at) = refl
-deals_time devices o (air_event.ToChip frame from payload) = to_chip_time o from payload
-deals_time devices o (air_event.Done frame status dead) = ends_time o status dead
+deals_time devices o (air_event.ToChip frame from payload) = to_chip_goes LeavesTime results o from payload
+deals_time devices o (air_event.Done frame status dead) = ends_go LeavesTime results o status dead
 
 steps_time : (w : Outside) (step : AirStep) → IsSameTime w.outer (steps w step).outer
 steps_time w step =
@@ -157,7 +130,7 @@ outcome_time w (Host_begins node sessions) within = refl
 outcome_time w (Chip_takes count rest ways) within =
     each_keeps time_of chip_does does_time (record w.outer { to_chip = way.after w.outer.to_chip (Takes count); chip = record { decoder = rest; state = w.outer.chip.state } }) (judged_all ways)
 outcome_time w (Arrives drawn route) within = steps_time w (mesh.Arrives drawn route)
-outcome_time w (Gives route) within = gives_time w.outer w.devices w.outer.due route
+outcome_time w (Gives route) within = gives_go LeavesTime results w.outer w.devices w.outer.due route
 outcome_time w (Device_ticks place drawn route) within = at_time w.outer (slice_get w.devices place) (Ticks drawn) route
 outcome_time w Chip_ticks within = does_time (record w.outer { chip = record { decoder = after_tick w.outer.chip.decoder; state = w.outer.chip.state } }) Ticked
 outcome_time w (Repeats number drawn route) within = repeats_time w (refusal_of w.outer.air.frames number) (mesh.Repeats number drawn route)

@@ -1,5 +1,5 @@
 use Rattle.std.proofs.Common.{refl}
-use Rattle.law_host.proofs.Computing.{computing}
+use Rattle.law_time.proofs.Computing.{computing}
 use Rattle.law_host.proofs.heard.worked_heard.Goals as goal
 
 pub returns-clause-plain : goal.returns-clause-plain

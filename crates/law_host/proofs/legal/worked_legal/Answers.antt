@@ -2,6 +2,7 @@ use Rattle.std.proofs.Common.{ℕ, List, [], ◌∷◌, inl, refl}
 use Rattle.std.specs.Prelude.{true}
 use Rattle.zw_words.specs.declared.side.Side.TheVariants.{Host}
 use Rattle.zw_text.specs.declared.entry.Entry.{Entry}
+use Rattle.law_transcript.specs.Answers.{MayAnswer, refusals_by_host}
 use Rattle.law_transcript.specs.Lists.{EachAfter}
 use Rattle.law_transcript.specs.Nodes.{listing_of}
 use Rattle.law_transcript.specs.Worked.{refused_lines, the_switch}
@@ -10,14 +11,14 @@ use Rattle.law_wire.specs.Serial.{ended}
 use Rattle.law_time.specs.Choice.{may_follow, may_number, may_send}
 use Rattle.law_time.specs.Queue.{may_queue}
 use Rattle.law_time.specs.Rests.{may_rest}
+use Rattle.law_time.specs.Unanswered.{may_give_up}
 use Rattle.law_host.specs.Heard.{heard_by_host}
-use Rattle.law_host.specs.Legal.{AnswersLine}
 use Rattle.law_host.specs.Notes.{first_start}
 use Rattle.law_host.specs.Worked.{all_kept}
 use Rattle.law_transcript.proofs.Deciding.{kept}
 use Rattle.law_wire.proofs.Judging.{keeps_link}
 use Rattle.law_wire.proofs.Moves.{acts_of}
-use Rattle.law_host.proofs.Computing.{computing}
+use Rattle.law_time.proofs.Computing.{computing}
 use Rattle.law_host.proofs.Noting.{noted}
 use Rattle.law_host.proofs.legal.worked_legal.Goals as goal
 
@@ -29,7 +30,7 @@ abbrev listing : ℕ → List ℕ
 listing = listing_of (the_switch ∷ [])
 
 -- each line has the answer that is due
-answered : EachAfter (AnswersLine listing) [] lines
+answered : EachAfter (MayAnswer listing (refusals_by_host listing)) [] lines
 unfolding computing
 answered = (tt, (inl refl, (tt, (tt, (inl refl, (tt, (inl refl, (tt, (refl, (tt, (refl, (tt, (refl, tt)))))))))))))
 
@@ -42,8 +43,7 @@ pub returns : goal.returns
 unfolding computing
 returns c = record {
   refused = record {
-    answers = answered;
-    answered = λ whole. tt;
+    answers = record { between = answered; in_the_end = λ whole. tt };
     cancels = (tt, (tt, (tt, (tt, (tt, (tt, (tt, (tt, (tt, (tt, (tt, (tt, (tt, tt)))))))))))));
     sessions = (tt, (tt, (tt, (tt, (tt, (tt, (tt, (tt, (tt, (tt, (tt, (tt, (tt, tt)))))))))))));
     carries = λ node. record { commands_rise = tt; commands_accepted = tt };
@@ -53,12 +53,14 @@ returns c = record {
     values = (tt, (tt, (tt, (tt, (tt, (tt, (tt, (tt, (tt, (tt, (tt, (tt, (tt, tt)))))))))))));
     sends = (tt, (tt, (tt, (tt, (tt, (tt, (tt, (tt, (tt, (tt, (tt, (tt, (tt, tt)))))))))))));
     begins = (tt, (tt, (tt, (tt, (tt, (tt, (tt, (tt, (tt, (tt, (tt, (tt, (tt, tt)))))))))))));
-    fits = kept (may_queue listing) lines refl;
-    turn = kept (may_send listing) lines refl;
-    one_by_one = kept may_follow lines refl;
-    numbers = kept may_number lines refl;
-    prompt = kept (may_rest listing) lines refl;
-    rested = λ whole. refl;
-    records_kept = tt;
+    prompt = record {
+      fits = kept (may_queue listing) lines refl;
+      turn = kept (may_send listing) lines refl;
+      one_by_one = kept may_follow lines refl;
+      numbers = kept may_number lines refl;
+      gives_up = record { between = kept (may_give_up listing) lines refl; in_the_end = λ whole. refl };
+      rests = record { between = kept (may_rest listing) lines refl; in_the_end = λ whole. refl };
+    };
+    records_kept = λ whole. tt;
   };
 }

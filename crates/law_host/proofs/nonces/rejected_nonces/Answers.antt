@@ -6,7 +6,7 @@ use Rattle.law_host.specs.Worked.{given_new, nonce_again}
 use Rattle.law_transcript.specs.Nodes.{listing_of}
 use Rattle.law_transcript.specs.Worked.{network_key, the_lock}
 use Rattle.law_transcript.proofs.Deciding.{not_true}
-use Rattle.law_host.proofs.Computing.{computing}
+use Rattle.law_time.proofs.Computing.{computing}
 use Rattle.law_host.proofs.Noting.{unfit}
 use Rattle.law_host.proofs.nonces.rejected_nonces.Goals as goal
 

@@ -4,7 +4,7 @@ use Rattle.law_host.specs.Nonces.{IsSeal}
 use Rattle.law_host.specs.Worked.{all_kept, report_kept, spent, unspent}
 use Rattle.law_transcript.specs.Worked.{network_key}
 use Rattle.law_transcript.proofs.Sealing.{opened_report, sealed_set, set_code, set_nonce, set_own, set_plain, set_with}
-use Rattle.law_host.proofs.Computing.{computing}
+use Rattle.law_time.proofs.Computing.{computing}
 use Rattle.law_host.proofs.nonces.worked_nonces.Goals as goal
 
 -- the bytes that the host drew for its first nonce, and for all others

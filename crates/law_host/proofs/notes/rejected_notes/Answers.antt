@@ -6,7 +6,7 @@ use Rattle.law_host.specs.Worked.{after_begun, after_lock_begun, after_sessions,
 use Rattle.law_time.specs.WrongEnds.{awake_after_link, awake_in_next_line}
 use Rattle.law_transcript.specs.Nodes.{listing_of}
 use Rattle.law_transcript.specs.Worked.{the_lock, the_sensor, the_switch}
-use Rattle.law_host.proofs.Computing.{computing}
+use Rattle.law_time.proofs.Computing.{computing}
 use Rattle.law_host.proofs.Noting.{unended, unfit}
 use Rattle.law_host.proofs.notes.rejected_notes.Goals as goal
 

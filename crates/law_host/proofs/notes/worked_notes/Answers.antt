@@ -6,7 +6,7 @@ use Rattle.law_time.specs.WorkedEnds.{asleep_given_up, asleep_in_silence, given_
 use Rattle.law_time.specs.WorkedWaits.{answered_errands, waited_attempts}
 use Rattle.law_transcript.specs.Nodes.{listing_of}
 use Rattle.law_transcript.specs.Worked.{cancelled_order, lossy_exchange, plain_exchange, repeated_exchange, restarted_host, sleeping_node, the_lock, the_sensor, the_switch}
-use Rattle.law_host.proofs.Computing.{computing}
+use Rattle.law_time.proofs.Computing.{computing}
 use Rattle.law_host.proofs.Noting.{noted}
 use Rattle.law_host.proofs.notes.worked_notes.Goals as goal
 

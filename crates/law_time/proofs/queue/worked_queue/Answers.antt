@@ -7,7 +7,7 @@ use Rattle.law_transcript.specs.Worked.{cancelled_order, long_message, lossy_exc
 use Rattle.law_time.proofs.Computing.{computing}
 use Rattle.law_transcript.proofs.Deciding.{kept}
 use Rattle.law_time.proofs.queue.worked_queue.Goals as goal
-use Rattle.law_time.specs.WorkedTurns.{dropped_at_once, dropped_after_lost, refused_otherwise, unkept_though_full, dropped_again, dropped_once, dropped_woken}
+use Rattle.law_time.specs.WorkedTurns.{dropped_at_once, dropped_after_lost, dropped_after_report, refused_otherwise, unkept_though_full, dropped_again, dropped_once, dropped_woken}
 
 pub returns-clause-full : goal.returns-clause-full
 unfolding computing
@@ -64,6 +64,10 @@ returns-clause-at_once c = kept (may_queue (listing_of (the_switch ∷ []))) dro
 pub returns-clause-after_lost : goal.returns-clause-after_lost
 unfolding computing
 returns-clause-after_lost c = kept (may_queue (listing_of (the_switch ∷ []))) dropped_after_lost refl
+
+pub returns-clause-after_report : goal.returns-clause-after_report
+unfolding computing
+returns-clause-after_report c = kept (may_queue (listing_of (the_switch ∷ []))) dropped_after_report refl
 
 pub returns-clause-unkept : goal.returns-clause-unkept
 unfolding computing

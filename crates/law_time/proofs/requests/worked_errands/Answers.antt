@@ -7,7 +7,7 @@ use Rattle.law_transcript.specs.WorkedCases.{the_dimmer}
 use Rattle.law_time.proofs.Computing.{computing}
 use Rattle.law_transcript.proofs.Deciding.{kept}
 use Rattle.law_time.proofs.requests.worked_errands.Goals as goal
-use Rattle.law_time.specs.WorkedEnds.{acknowledged_last, delivered_before_denied, delivered_last, delivered_unanswered, failed_errand, given_up_at_answer, given_up_errand, given_up_in_time, refused_after_others, said_after_changed, said_after_lost, said_after_overrun, said_by_old_list, silent_before_given_up, silent_before_response, silent_after_response, denied_with_response, silent_later, silent_after_late, delivered_after_refused, silent_beside_other}
+use Rattle.law_time.specs.WorkedEnds.{acknowledged_after_stray, acknowledged_last, delivered_after_unread, delivered_before_denied, delivered_last, delivered_unanswered, failed_errand, given_up_at_answer, given_up_errand, given_up_in_time, refused_after_others, said_after_changed, said_after_lost, said_after_overrun, said_by_old_list, silent_before_given_up, silent_before_response, silent_after_response, denied_with_response, silent_later, silent_after_late, delivered_after_refused, silent_beside_other}
 
 pub returns-clause-answered : goal.returns-clause-answered
 unfolding computing
@@ -104,6 +104,14 @@ returns-clause-denied c = kept (may_say_done (listing_of (the_switch ∷ []))) g
 pub returns-clause-acknowledged_last : goal.returns-clause-acknowledged_last
 unfolding computing
 returns-clause-acknowledged_last c = kept (may_say_done (listing_of (the_switch ∷ []))) acknowledged_last refl
+
+pub returns-clause-after_stray : goal.returns-clause-after_stray
+unfolding computing
+returns-clause-after_stray c = kept (may_say_done (listing_of (the_switch ∷ []))) acknowledged_after_stray refl
+
+pub returns-clause-after_unread : goal.returns-clause-after_unread
+unfolding computing
+returns-clause-after_unread c = kept (may_say_done (listing_of (the_switch ∷ []))) delivered_after_unread refl
 
 pub returns-clause-unanswered : goal.returns-clause-unanswered
 unfolding computing

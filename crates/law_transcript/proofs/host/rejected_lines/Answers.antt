@@ -5,12 +5,12 @@ use Rattle.zw_text.specs.declared.entry.Refusal.{Refusal}
 use Rattle.zw_text.specs.declared.entry.Refusal.TheVariants as refusals
 use Rattle.zw_text.specs.declared.entry.Entry.{Entry}
 use Rattle.zw_text.specs.declared.entry.Entry.TheVariants.{Said, Accepted, Refused}
-use Rattle.law_transcript.specs.Answers.{MayAnswer}
 use Rattle.law_transcript.specs.Lists.{EachAfter}
 use Rattle.law_transcript.specs.Worked.{the_switch}
 use Rattle.law_transcript.specs.WorkedWrongLines.{many_reported}
 use Rattle.law_transcript.proofs.Computing.{computing}
 use Rattle.law_transcript.proofs.Dues.{differ}
+use Rattle.law_transcript.proofs.Entries.{MayAnswerOf}
 use Rattle.law_transcript.proofs.host.rejected_lines.Goals as goal
 
 -- whether an entry refuses
@@ -86,7 +86,7 @@ returns-clause-full c = λ law. elim (law.between.1.1.1.1.1.1.1.1.1.1.1.1.1.1.1.
 
 pub returns-clause-store : goal.returns-clause-store
 unfolding computing
-returns-clause-store c = λ law. elim (following (MayAnswer (the_switch ∷ [])) [] (many_reported 512) (Said (codes "set 2 on")) (Accepted 1 2) law.between)
+returns-clause-store c = λ law. elim (following (MayAnswerOf (the_switch ∷ [])) [] (many_reported 512) (Said (codes "set 2 on")) (Accepted 1 2) law.between)
     [ inl same ↦ differ 1 0 refl (ap first_refuses same) | inr kept ↦ kept.0 ]
 
 pub returns-clause-cancel : goal.returns-clause-cancel

@@ -24,6 +24,8 @@ pub record IsSameChip (old new : OuterState) : Type 0 where
   pub to_chip : new.to_chip ≡ old.to_chip
   pub to_host : new.to_host ≡ old.to_host
   pub air : new.air ≡ old.air
+  pub in_tick : new.in_tick ≡ old.in_tick
+  pub stamped : new.stamped ≡ old.stamped
   pub clock : new.clock ≡ old.clock
 
 -- what the chip is given
@@ -47,19 +49,19 @@ module _ (Goes : OuterState → Outcome → Type 0) (law : Gives Goes) where
   if_goes false o x y one two = two
 
   same : (o : OuterState) → Goes o (silent o)
-  same o = law.still o o (record { chip = refl; to_chip = refl; to_host = refl; air = refl; clock = refl })
+  same o = law.still o o (record { chip = refl; to_chip = refl; to_host = refl; air = refl; in_tick = refl; stamped = refl; clock = refl })
 
   call_goes : (o : OuterState) (status : TransmitStatus) → Goes o (call_back o status)
   call_goes o status =
       let p : OuterState = record o { calls = drop 1 o.calls } in
       if_goes (owes_call o.chip.state) o (chip_does p (Done status)) (silent p)
-      (law.later o p (chip_does p (Done status)) (record { chip = refl; to_chip = refl; to_host = refl; air = refl; clock = refl }) (law.does p (Done status) tt))
-      (law.still o p (record { chip = refl; to_chip = refl; to_host = refl; air = refl; clock = refl }))
+      (law.later o p (chip_does p (Done status)) (record { chip = refl; to_chip = refl; to_host = refl; air = refl; in_tick = refl; stamped = refl; clock = refl }) (law.does p (Done status) tt))
+      (law.still o p (record { chip = refl; to_chip = refl; to_host = refl; air = refl; in_tick = refl; stamped = refl; clock = refl }))
 
   no_route_goes : (o : OuterState) → Goes o (no_route o)
   no_route_goes o =
       let p : OuterState = record o { due = without_no_route o.due } in
-      law.later o p (no_route o) (record { chip = refl; to_chip = refl; to_host = refl; air = refl; clock = refl }) (call_goes p no_route_status)
+      law.later o p (no_route o) (record { chip = refl; to_chip = refl; to_host = refl; air = refl; in_tick = refl; stamped = refl; clock = refl }) (call_goes p no_route_status)
 
   no_routes_go : (count : ℕ) (o : OuterState) → Goes o (no_routes count o)
   no_routes_go zero o = same o
@@ -84,7 +86,7 @@ module _ (Goes : OuterState → Outcome → Type 0) (law : Gives Goes) where
   gives_go o devices (no_route_due ∷ due) route = no_route_goes o
   gives_go o devices (Info node ∷ due) route =
       let p : OuterState = record o { due = due } in
-      law.later o p (gives o devices (Info node ∷ due) route) (record { chip = refl; to_chip = refl; to_host = refl; air = refl; clock = refl }) (law.does p (Informed node (profile_for o.air devices node route)) tt)
+      law.later o p (gives o devices (Info node ∷ due) route) (record { chip = refl; to_chip = refl; to_host = refl; air = refl; in_tick = refl; stamped = refl; clock = refl }) (law.does p (Informed node (profile_for o.air devices node route)) tt)
 
   -- it hears a payload
   pub to_chip_goes : (o : OuterState) (from : ℕ) (payload : List ℕ) → Goes o (to_chip o from payload)

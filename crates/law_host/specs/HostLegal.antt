@@ -1,0 +1,61 @@
+-- What a legal host does, over what it heard, from whatever its keeper kept (this project's own rule): the laws of the host alone, as one.
+use Rattle.std.specs.Prelude.{◌≡◌, ℕ, Bool, true, List, [], ◌∷◌, ◌++◌, Option, ⊤, IfSome}
+use Rattle.std.specs.List.{flat_map}
+use Rattle.value_store.specs.ValueText.{values_text}
+use Rattle.value_store.specs.declared.stored.Held.{Held}
+use Rattle.zw_words.specs.declared.side.Side.TheVariants.{Host}
+use Rattle.zw_text.specs.declared.line.Line.{Line}
+use Rattle.zw_text.specs.declared.line.Line.TheVariants as lines
+use Rattle.zw_text.specs.declared.entry.Entry.{Entry}
+use Rattle.zw_text.specs.declared.entry.Entry.TheVariants.{Json, TableValue}
+use Rattle.zw_text.specs.Transcript.{line_last}
+use Rattle.law_transcript.specs.Answers.{AnswersAfter, MayCancel, refusals_by_host}
+use Rattle.law_transcript.specs.Lists.{EachAfter}
+use Rattle.law_transcript.specs.Once.{CarriesOnce}
+use Rattle.law_transcript.specs.Payloads.{FollowsBegin, MayRequest}
+use Rattle.law_transcript.specs.Records.{KeepsRecords}
+use Rattle.law_transcript.specs.Sessions.{MayBegin}
+use Rattle.law_transcript.specs.Stores.{StoresConfirmed}
+use Rattle.law_transcript.specs.Table.{value_lines}
+use Rattle.law_wire.specs.Links.{KeepsLink}
+use Rattle.law_wire.specs.Serial.{ended}
+use Rattle.law_time.specs.Prompt.{IsPromptAfter}
+use Rattle.law_host.specs.Notes.{NotesWhatHappens, Start}
+
+-- ---- values shown
+
+-- the values of a node, in the order of their properties
+abbrev pub held_in : Entry → List Held
+held_in (TableValue node property confirmed heard) = record { property = property; stored = record { confirmed = confirmed; heard = heard } } ∷ []
+held_in entry = []
+
+abbrev pub values_now : (ℕ → List ℕ) → List Entry → ℕ → Entry
+values_now listing past node = Json (values_text node (flat_map held_in (value_lines listing past node)))
+
+-- a line asks for them, and they stand directly after it and nowhere else
+abbrev pub IsShown : (ℕ → List ℕ) → List Entry → List Line → Entry → Type 0
+IsShown listing past (lines.Store node ∷ more) entry = entry ≡ values_now listing past node
+IsShown listing past line (Json text) = ⊥
+IsShown listing past line entry = ⊤
+
+abbrev pub ShowsValues : (ℕ → List ℕ) → List Entry → Entry → Type 0
+ShowsValues listing past entry = IsShown listing past (line_last past) entry
+
+-- ---- the law
+
+-- the host answers lines, has one session of a node at a time and each command in one, keeps the rules of its link, sends and notes what it
+-- should, and nothing else; stores what is confirmed and shows what it stored; is prompt; and its records, where they are told, say what it showed
+pub record IsHostLegal (key : List ℕ) (listing : ℕ → List ℕ) (start : Start) (whole : Bool) (heard : List Entry)
+    (records : Option (List (List ℕ))) : Type 0 where
+  pub answers : AnswersAfter start.before whole listing (refusals_by_host listing) heard
+  pub cancels : EachAfter MayCancel start.before heard
+  pub sessions : EachAfter MayBegin start.before heard
+  pub carries : (node : ℕ) → CarriesOnce node (start.before ++ heard)
+  pub link : KeepsLink Host (ended whole heard)
+  pub notes : NotesWhatHappens key listing start whole heard
+  pub stores : StoresConfirmed whole listing (start.before ++ heard)
+  pub values : EachAfter (ShowsValues listing) start.before heard
+  pub sends : EachAfter (MayRequest listing key) start.before heard
+  pub begins : EachAfter FollowsBegin start.before heard
+  pub prompt : IsPromptAfter start.before whole listing heard
+  pub records_kept : whole ≡ true → IfSome records (KeepsRecords (start.before ++ heard))
