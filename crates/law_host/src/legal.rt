@@ -13,6 +13,7 @@ ghost use Rattle.law_transcript.specs.Worked.{plain_exchange, refused_lines, the
 ghost use Rattle.law_transcript.specs.WorkedDevices.{plain_records, switch_events};
 ghost use Rattle.law_wire.specs.WorkedRecords.{ordered_otherwise};
 ghost use Rattle.law_wire.specs.WorkedWrong.{answered_nothing};
+
 use law_transcript::{
     worked_answers, worked_bringing, worked_cancels, worked_devices, worked_fates, worked_frames,
     worked_losses, worked_payloads, worked_stores, worked_units,
