@@ -3,3 +3,5 @@ mod Loops
 mod Opened
 mod Served
 mod Submitted
+mod Tables
+mod TablesKept

@@ -1,3 +1,4 @@
 pub mod Orders
 pub mod Network
 pub mod Opening
+pub mod Recorded

@@ -1,6 +1,6 @@
 //! The host.
 
-ghost use Rattle.std.specs.Prelude.{◌≡◌, ◌≤◌, IfOk, OnOk, OnErr};
+ghost use Rattle.std.specs.Prelude.{◌≡◌, ◌≤◌, ℕ, List as Items, Option, IfOk, OnOk, OnErr};
 ghost use Rattle.serial_frame.specs.Stream.{after_tick, no_rest};
 ghost use Rattle.host_core.specs.Network.{keys_of};
 ghost use Rattle.supervision.specs.Host.{begun_of, command_at as command_of_session};
@@ -12,7 +12,9 @@ ghost use Rattle.host_model.specs.Taking.{Fed, FedPrefix};
 ghost use Rattle.host_model.specs.Ticking.{tick_events};
 ghost use Rattle.host_step_bytes.specs.Calls.{scene, Are, Does, Stops};
 ghost use Rattle.host_core.specs.Orders.{outcome_at};
+ghost use Rattle.host_core.specs.Recorded.{TablesAreTold};
 
+use crate::laws::tables_stand_in_the_records;
 use crate::pumping::pump;
 use crate::ticking::tick;
 use host_keep::Keeper;
@@ -47,8 +49,10 @@ impl Model for Host {
 impl Host {
     /// A host at the beginning: node 2 is joined, was interviewed and listens. The keys are made of the network's key.
     pub fn new(alloc: Global, key: [u8; 16]) -> Result<Host, NoMemory>
-        ensures { IfOk result (λ host. host ≡ record { decoder = no_rest; state = first_host (keys_of key) }) }
+        ensures first { IfOk result (λ host. host ≡ record { decoder = no_rest; state = first_host (keys_of key) }) }
+        ensures tables { IfOk result (λ host. (told : Option (Items (Items ℕ))) → TablesAreTold told host.state) }
     {
+        tables_stand_in_the_records();
         Ok(Host {
             core: HostCore::new(alloc, keys(key))?,
         })
@@ -69,7 +73,9 @@ impl Host {
             (scene self.new.state out.new.items (P.records keeper.new) (P.faults keeper.new))) }
         ensures never_fewer { P.number keeper.old ≤ P.number keeper.new }
         ensures reads { P.reads keeper.new ≡ P.reads keeper.old }
+        ensures tables { TablesAreTold (P.records keeper.old) self.old.state → TablesAreTold (P.records keeper.new) self.new.state }
     {
+        tables_stand_in_the_records();
         pump(&mut self.core, out, keeper)
     }
 
@@ -89,7 +95,9 @@ impl Host {
             (scene self.new.state out.new.items (P.records keeper.new) (P.faults keeper.new)).shelf) }
         ensures never_fewer { P.number keeper.old ≤ P.number keeper.new }
         ensures reads { P.reads keeper.new ≡ P.reads keeper.old }
+        ensures tables { TablesAreTold (P.records keeper.old) self.old.state → TablesAreTold (P.records keeper.new) self.new.state }
     {
+        tables_stand_in_the_records();
         host_step_bytes::feed(&mut self.core, piece, draw, out, keeper)
     }
 
@@ -108,7 +116,9 @@ impl Host {
             (scene self.new.state out.new.items (P.records _keeper.new) (P.faults _keeper.new))) }
         ensures never_fewer { P.number _keeper.old ≤ P.number _keeper.new }
         ensures reads { P.reads _keeper.new ≡ P.reads _keeper.old }
+        ensures tables { TablesAreTold (P.records _keeper.old) self.old.state → TablesAreTold (P.records _keeper.new) self.new.state }
     {
+        tables_stand_in_the_records();
         tick(&mut self.core, out)?;
         Ok(())
     }

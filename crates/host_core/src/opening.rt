@@ -7,8 +7,10 @@ ghost use Rattle.host_keep.specs.Legal.{IsFirstBad};
 ghost use Rattle.host_model.specs.Did.{RoseBy};
 ghost use Rattle.host_core.specs.Network.{keys_of};
 ghost use Rattle.host_core.specs.Opening.{Opens, IsRecordAt, IsNoneAt, Takes, MayTakeNone};
+ghost use Rattle.host_core.specs.Recorded.{TablesAreTold};
 
 use crate::Host;
+use crate::laws::tables_stand_in_the_records;
 use host_keep::{
     KeepFault, Keeper, Record, RecordFault, a_text_is_of_one_record, read_record, records_go_on,
 };
@@ -45,6 +47,7 @@ impl Host {
     /// network's key.
     pub fn open<P: Keeper>(alloc: Global, key: [u8; 16], keeper: &mut P) -> Result<Host, OpenFault>
         ensures opens { IfOk result (Opens (keys_of key) (P.number keeper.old) (P.records keeper.old)) }
+        ensures tables { IfOk result (λ host. TablesAreTold (P.records keeper.new) host.state) }
         ensures bad { (at : ℕ) (texts : Items (Items ℕ)) → result ≡ Err (OpenFault.BadRecord at) → P.records keeper.old ≡ Some texts → IsFirstBad texts at }
         ensures place { (at : ℕ) → result ≡ Err (OpenFault.BadRecord at) → at < P.number keeper.old }
         ensures failed { result ≡ Err OpenFault.KeeperFault → Rose (P.faults keeper.old) (P.faults keeper.new) }
@@ -57,6 +60,7 @@ impl Host {
         legal_records_restore_the_host();
         a_record_restores_what_it_says();
         records_go_on();
+        tables_stand_in_the_records();
         let mut core = HostCore::new(alloc, keys(key))?;
         for at in 0..keeper.count() {
             if let Err(fault) = take_up(&mut core, alloc, keeper, at) {

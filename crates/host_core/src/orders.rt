@@ -14,8 +14,10 @@ ghost use Rattle.host_model.specs.May.{known_of};
 ghost use Rattle.host_model.specs.Events.{Accepts, Cancels, Joins, Queues, Queues_interview};
 ghost use Rattle.host_step_bytes.specs.Calls.{scene, Are, Does, DoesAlone};
 ghost use Rattle.host_core.specs.Orders.{places_of, question_event, KeptOrRefused, CancelsOrNot};
+ghost use Rattle.host_core.specs.Recorded.{TablesAreTold, SameTables};
 
 use crate::Host;
+use crate::laws::tables_stand_in_the_records;
 use host_keep::Keeper;
 use host_orders::{Refused, get_payload, send_payload};
 use host_requests::{QUEUE_CAPACITY, Task};
@@ -77,6 +79,7 @@ impl Host {
         ensures never_falls { P.faults keeper.old ≤ P.faults keeper.new }
         ensures never_fewer { P.number keeper.old ≤ P.number keeper.new }
         ensures reads { P.reads keeper.new ≡ P.reads keeper.old }
+        ensures tables { TablesAreTold (P.records keeper.old) self.old.state → TablesAreTold (P.records keeper.new) self.new.state }
     {
         if self.core.node(node).is_joined() || node.number() == CONTROLLER {
             return Err(Refused::AlreadyJoined);
@@ -103,7 +106,9 @@ impl Host {
         ensures more { OnOk result (P.number keeper.old < P.number keeper.new) }
         ensures never_fewer { P.number keeper.old ≤ P.number keeper.new }
         ensures reads { P.reads keeper.new ≡ P.reads keeper.old }
+        ensures tables { TablesAreTold (P.records keeper.old) self.old.state → TablesAreTold (P.records keeper.new) self.new.state }
     {
+        tables_stand_in_the_records();
         self.core.accept(order, keeper)
     }
 
@@ -119,6 +124,7 @@ impl Host {
         ensures never_falls { P.faults keeper.old ≤ P.faults keeper.new }
         ensures never_fewer { P.number keeper.old ≤ P.number keeper.new }
         ensures reads { P.reads keeper.new ≡ P.reads keeper.old }
+        ensures tables { TablesAreTold (P.records keeper.old) self.old.state → TablesAreTold (P.records keeper.new) self.new.state }
     {
         let node = match self.core.command_at(command) {
             Some(found) => found.order().node,
@@ -141,6 +147,7 @@ impl Host {
             (Are (Queues (Plain node (send_text (classes_of (known_of (node_of self.old.state node))) word)) ∷ [])) self.old.state [] self.new.state []) }
         ensures decoder { self.new.decoder ≡ self.old.decoder }
         ensures err { OnErr result (self.new ≡ self.old) }
+        ensures tables { SameTables self.old.state self.new.state }
     {
         let payload = self.set_text(node, word)?;
         self.core.queue(Task::Plain { node, payload });
@@ -154,6 +161,7 @@ impl Host {
             (Are (Queues (Plain node (get_text (classes_of (known_of (node_of self.old.state node))) end)) ∷ [])) self.old.state [] self.new.state []) }
         ensures decoder { self.new.decoder ≡ self.old.decoder }
         ensures err { OnErr result (self.new ≡ self.old) }
+        ensures tables { SameTables self.old.state self.new.state }
     {
         let payload = self.get_text(node, end)?;
         self.core.queue(Task::Plain { node, payload });
@@ -166,6 +174,7 @@ impl Host {
         ensures ok { OnOk result (DoesAlone (Are (Queues_interview node ∷ [])) self.old.state [] self.new.state []) }
         ensures decoder { self.new.decoder ≡ self.old.decoder }
         ensures err { OnErr result (self.new ≡ self.old) }
+        ensures tables { SameTables self.old.state self.new.state }
     {
         if !self.core.node(node).is_joined() {
             return Err(Refused::NotJoined);
@@ -181,6 +190,7 @@ impl Host {
         ensures ok { OnOk result (DoesAlone (Are (question_event question ∷ [])) self.old.state [] self.new.state []) }
         ensures decoder { self.new.decoder ≡ self.old.decoder }
         ensures err { OnErr result (self.new ≡ self.old) }
+        ensures tables { SameTables self.old.state self.new.state }
     {
         match question {
             Question::Members => self.queue_one(Task::Members),
@@ -237,6 +247,7 @@ impl Host {
         ensures ok { OnOk result (DoesAlone (Are (Queues task ∷ [])) self.old.state [] self.new.state []) }
         ensures decoder { self.new.decoder ≡ self.old.decoder }
         ensures err { OnErr result (self.new ≡ self.old) }
+        ensures tables { SameTables self.old.state self.new.state }
     {
         self.need_places(1)?;
         self.core.queue(task);

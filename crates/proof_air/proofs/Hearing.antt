@@ -27,15 +27,14 @@ use Rattle.outside_model.specs.Events.{OuterEvent, Begins_line, Joins, Repeats, 
 use Rattle.world_model.specs.State.{Machine}
 use Rattle.world_model.specs.Events.{Event, Outside_does, Host_does, happens, entries, May}
 use Rattle.world_model.specs.Lines.{IsEffect}
-use Rattle.world_lines.specs.Spoken.{Spoken, transcript_of}
-use Rattle.world_lines.specs.Done.{AreDone}
 use Rattle.proof_walk.specs.Outside.{nothing, Known, CoversOuter}
-use Rattle.proof_walk.specs.ByLine.{by_line, IsOfTick, CoversLine, ByLine}
+use Rattle.proof_walk.specs.Phases.{Between}
+use Rattle.proof_walk.specs.Walk.{Walk}
+use Rattle.proof_walk.specs.ByLine.{IsOfTick, CoversLine, ByLine}
 use Rattle.proof_walk.proofs.ByLine.{effect_covered, common_covered, walk_of}
 use Rattle.proof_walk.proofs.Machines.{machine_keeps}
-use Rattle.proof_walk.proofs.Lines.{lines_stand}
 use Rattle.proof_air.specs.Logs.{mark_step, log_of, plain_log, IsApart, Tie}
-use Rattle.proof_air.specs.Hearing.{IsFresh, MayHear, FreshHere, Knows, JoinsNode, Settled, Said_so, AwaitsRepeat, AwaitsJoin, Left}
+use Rattle.proof_air.specs.Hearing.{IsFresh, MayHear, FreshHere, Knows, JoinsNode, Settled, Said_so, AwaitsRepeat, AwaitsJoin, Left, KnowAir}
 use Rattle.proof_air.proofs.Logs.{plain_refusal}
 use Rattle.proof_air.proofs.Silent.{IsSilent, AreSilent, fresh_one, fresh_said, words_last, number_stands}
 use Rattle.proof_air.proofs.Airing.{silent}
@@ -252,7 +251,8 @@ module _ (rules : StartsSo) where
     common = λ past m event common may known. kept past m event (common_covered JoinsNode of_tick event common) may known;
   }
 
-  pub lines_hear : (m : Machine) (spoken : List Spoken) → AreDone m spoken → Tie nothing [] m.outside → EachAfter MayHear [] (transcript_of m spoken)
-  lines_hear m spoken are tie =
-      lines_stand MayHear (by_line Said_so Said_so Left Settled) (walk_of MayHear Said_so Said_so Left Settled by_lines) [] m spoken are
-      ((tie, λ number is. cc), number_stands [] m.outside.outer)
+  pub air_walk : Walk MayHear KnowAir
+  air_walk = walk_of MayHear Said_so Said_so Left Settled by_lines
+
+pub nothing_said : (m : Machine) → Tie nothing [] m.outside → KnowAir Between [] m
+nothing_said m tie = ((tie, λ number is. cc), number_stands [] m.outside.outer)

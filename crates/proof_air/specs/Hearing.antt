@@ -17,7 +17,8 @@ use Rattle.outside_model.specs.Events.{OuterEvent, Joins, Repeats}
 use Rattle.world_model.specs.State.{Machine}
 use Rattle.world_model.specs.Events.{Event, Outside_does, Host_does}
 use Rattle.proof_walk.specs.Outside.{Pending, nothing, Knowing, Known, CoversOuter}
-use Rattle.proof_walk.specs.ByLine.{KnownOf}
+use Rattle.proof_walk.specs.Phases.{Phase}
+use Rattle.proof_walk.specs.ByLine.{KnownOf, by_line}
 use Rattle.proof_air.specs.Logs.{log_of, IsApart, Tie}
 
 -- ---- the law
@@ -76,3 +77,7 @@ AwaitsJoin left = (node : ℕ) × (left ≡ Host_does (joins_host node) ∷ Outs
 
 abbrev pub Left : Line → List Event → KnownOf
 Left line left past m = AwaitsRepeat left past m ⊎ ((AwaitsJoin left ⊎ AllByRecursion (CoversOuter JoinsNode) left) × Settled past m)
+
+-- at each phase of a line
+abbrev pub KnowAir : Phase → List Entry → Machine → Type 0
+KnowAir here past m = by_line Said_so Said_so Left Settled here past m

@@ -1,11 +1,14 @@
 //! The laws of the air that every run keeps, whatever is lost, delayed or repeated, and wherever an allocation failure cuts it short.
 //!
 //! Each is the contract of a function with an empty body, over lines that are said one after another (`world_lines`) and the events of the machine that each
-//! line is, and is proved on the walk of `proof_walk`. Of repeats: `lines_repeat_what_is_fresh`.
+//! line is, and is proved on the walk of `proof_walk`. `history_goes_on` ties the history of
+//! the air to the transcript, at each phase of a line. Of repeats: `lines_repeat_what_is_fresh`.
 //! The definitions are in `specs/`: `Logs` (the history of the air that a transcript shows, and its tie to the history that the air keeps) and `Hearing` (what
 //! is known of it at each phase of a line).
 #![tactic(auto)]
 
+mod history;
 mod repeats;
 
+pub use history::history_goes_on;
 pub use repeats::lines_repeat_what_is_fresh;

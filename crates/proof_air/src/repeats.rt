@@ -10,6 +10,8 @@ ghost use Rattle.world_lines.specs.Spoken.{Spoken, transcript_of};
 ghost use Rattle.world_lines.specs.Done.{AreDone};
 ghost use Rattle.proof_air.specs.Hearing.{RepeatsFresh};
 
+use crate::history_goes_on;
+
 /// Over any lines from the first on, the last of which an allocation failure may have cut short, what is heard directly after a `repeat` is heard while the
 /// frame that the line names is fresh by the transcript, where frames and sessions are numbered in order.
 pub fn lines_repeat_what_is_fresh()
@@ -19,5 +21,5 @@ pub fn lines_repeat_what_is_fresh()
         KeepsSessions (transcript_of (first_machine keys records devices) lines) →
         RepeatsFresh (transcript_of (first_machine keys records devices) lines) }
 {
-    chip_sim::rules_of_events();
+    history_goes_on();
 }

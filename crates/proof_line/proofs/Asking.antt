@@ -14,15 +14,14 @@ use Rattle.outside_model.specs.Events.{OuterEvent, Begins_line, Collides_next, o
 use Rattle.world_model.specs.State.{Machine}
 use Rattle.world_model.specs.Events.{Event, Outside_does, happens, entries, May}
 use Rattle.world_model.specs.Lines.{IsEffect}
-use Rattle.world_lines.specs.Spoken.{Spoken, transcript_of}
-use Rattle.world_lines.specs.Done.{AreDone}
-use Rattle.proof_walk.specs.ByLine.{by_line, IsOfTick, CoversLine, ByLine}
+use Rattle.proof_walk.specs.Phases.{Between}
+use Rattle.proof_walk.specs.Walk.{Walk}
+use Rattle.proof_walk.specs.ByLine.{IsOfTick, CoversLine, ByLine}
 use Rattle.proof_walk.specs.Outside.{CoversOuter}
 use Rattle.proof_walk.proofs.Linking.{of_link}
 use Rattle.proof_walk.proofs.Machines.{machine_keeps}
 use Rattle.proof_walk.proofs.ByLine.{effect_covered, common_covered, walk_of}
-use Rattle.proof_walk.proofs.Lines.{lines_stand}
-use Rattle.proof_line.specs.Collisions.{link_collisions, Tie, KnownTie, asked_by, IsNoCollision, Asked, Left, Counted}
+use Rattle.proof_line.specs.Collisions.{link_collisions, Tie, KnownTie, asked_by, IsNoCollision, Asked, Left, Counted, KnowCollisions}
 use Rattle.proof_line.proofs.Counting.{cans_grow, collisions_grow}
 use Rattle.proof_line.proofs.Colliding.{counts}
 
@@ -149,6 +148,8 @@ by_lines = record {
 none_yet : (n : ℕ) → n ≡ 0 → 0 + (n + 0) ≡ 0
 none_yet n none = omega arith
 
-pub lines_collide : (m : Machine) (spoken : List Spoken) → AreDone m spoken → link_collisions m.outside.outer ≡ 0 → EachAfter MayCollide [] (transcript_of m spoken)
-lines_collide m spoken are none =
-    lines_stand MayCollide (by_line Asked Asked Left Counted) (walk_of MayCollide Asked Asked Left Counted by_lines) [] m spoken are (none_yet (link_collisions m.outside.outer) none, number_stands [] m.outside.outer)
+pub collision_walk : Walk MayCollide KnowCollisions
+collision_walk = walk_of MayCollide Asked Asked Left Counted by_lines
+
+pub collisions_first : (m : Machine) → link_collisions m.outside.outer ≡ 0 → KnowCollisions Between [] m
+collisions_first m none = (none_yet (link_collisions m.outside.outer) none, number_stands [] m.outside.outer)

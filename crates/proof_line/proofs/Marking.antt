@@ -41,17 +41,16 @@ use Rattle.outside_model.specs.Events.{OuterEvent, Begins_line, Begins_tick, Hos
 use Rattle.world_model.specs.State.{Machine}
 use Rattle.world_model.specs.Events.{Event, Outside_does, happens, entries, May}
 use Rattle.world_model.specs.Lines.{IsEffect}
-use Rattle.world_lines.specs.Spoken.{Spoken, transcript_of}
-use Rattle.world_lines.specs.Done.{AreDone}
 use Rattle.proof_walk.specs.Outside.{Pending, nothing, Moves, Comes, Outer, IsNote, IsSimple, IsOfAir, session_begins, Known, CoversOuter}
-use Rattle.proof_walk.specs.ByLine.{by_line, IsOfTick, CoversLine, ByLine}
+use Rattle.proof_walk.specs.Phases.{Between}
+use Rattle.proof_walk.specs.Walk.{Walk}
+use Rattle.proof_walk.specs.ByLine.{IsOfTick, CoversLine, ByLine}
 use Rattle.proof_walk.proofs.ByLine.{effect_covered, common_covered, walk_of}
 use Rattle.proof_walk.proofs.Entered.{IsCleared, all_cleared, IsShown, all_shown, IsChange, change_entered, changes_entered}
 use Rattle.proof_walk.proofs.Linking.{acts_of_air}
-use Rattle.proof_walk.proofs.Lines.{lines_stand}
 use Rattle.proof_walk.proofs.Machines.{machine_keeps}
 use Rattle.proof_walk.proofs.Results.{IsGiven, Gives, ends_go, gives_go, to_chip_goes}
-use Rattle.proof_line.specs.Marks.{changing_of, marks_at, MayMark, TieMarks, IsQuiet, KnowsMarks, SetsNoMark, Marked, Setting, Sets, LeftMarks}
+use Rattle.proof_line.specs.Marks.{changing_of, marks_at, MayMark, TieMarks, IsQuiet, KnowsMarks, SetsNoMark, Marked, Setting, Sets, LeftMarks, KnowMarks}
 use Rattle.proof_line.proofs.Standing.{marks_grow, IsApart, AreApart, apart_marks, all_apart, said_stands, Stands, unit_stands}
 
 -- ---- what goes on
@@ -475,9 +474,8 @@ by_lines = record {
   common = λ past m event common may known. kept past m event (common_covered SetsNoMark of_tick event common) may known;
 }
 
-pub lines_mark : (m : Machine) (spoken : List Spoken) → AreDone m spoken → TieMarks [] m.outside → EachAfter MayMark [] (transcript_of m spoken)
-lines_mark m spoken are tie =
-    lines_stand MayMark (by_line Setting Setting LeftMarks Marked) (walk_of MayMark Setting Setting LeftMarks Marked by_lines) [] m spoken are (marked [] m tie refl)
+pub mark_walk : Walk MayMark KnowMarks
+mark_walk = walk_of MayMark Setting Setting LeftMarks Marked by_lines
 
 -- ---- at first
 
@@ -485,3 +483,6 @@ pub none_wait : (side : Side) → marks_of side [] ≡ marks_at (way_of first_ou
 unfolding first_outer
 none_wait by_host = refl
 none_wait by_chip = refl
+
+pub marks_first : (m : Machine) → TieMarks [] m.outside → KnowMarks Between [] m
+marks_first m tie = marked [] m tie refl

@@ -6,8 +6,10 @@ use Rattle.zw_text.specs.declared.entry.Entry.{Entry}
 use Rattle.law_wire.specs.Marks.{collision_of, collisions, cans, MayCollide}
 use Rattle.outside_model.specs.State.{OuterState, Outside}
 use Rattle.outside_model.specs.Events.{OuterEvent, Collides_next}
+use Rattle.world_model.specs.State.{Machine}
 use Rattle.world_model.specs.Events.{Event, Outside_does}
-use Rattle.proof_walk.specs.ByLine.{KnownOf}
+use Rattle.proof_walk.specs.Phases.{Phase}
+use Rattle.proof_walk.specs.ByLine.{KnownOf, by_line}
 use Rattle.proof_walk.specs.Outside.{Knowing, Known, CoversOuter}
 
 -- the collisions that the chip's link is still to make
@@ -40,3 +42,7 @@ Left line left past m =
 
 abbrev pub Counted : KnownOf
 Counted past m = KnownTie 0 past m.outside
+
+-- at each phase of a line
+abbrev pub KnowCollisions : Phase → List Entry → Machine → Type 0
+KnowCollisions here past m = by_line Asked Asked Left Counted here past m

@@ -13,7 +13,8 @@ use Rattle.outside_model.specs.Events.{OuterEvent, Marks_loss, Marks_change, way
 use Rattle.world_model.specs.State.{Machine}
 use Rattle.world_model.specs.Events.{Event, Outside_does}
 use Rattle.proof_walk.specs.Outside.{Pending, Knowing, Known, CoversOuter}
-use Rattle.proof_walk.specs.ByLine.{KnownOf}
+use Rattle.proof_walk.specs.Phases.{Phase}
+use Rattle.proof_walk.specs.ByLine.{KnownOf, by_line}
 
 -- the marks of a pipe, in the words of the law
 abbrev pub changing_of : Garble → Changing
@@ -57,3 +58,7 @@ abbrev pub LeftMarks : Line → List Event → KnownOf
 LeftMarks (lines.Drop by) left past m = Sets (Marks_loss by) (lines.Drop by) left past m
 LeftMarks (lines.Garble by place xor) left past m = Sets (Marks_change by (record { place = place; xor = xor })) (lines.Garble by place xor) left past m
 LeftMarks line left past m = AllByRecursion (CoversOuter SetsNoMark) left × Marked past m
+
+-- at each phase of a line
+abbrev pub KnowMarks : Phase → List Entry → Machine → Type 0
+KnowMarks here past m = by_line Setting Setting LeftMarks Marked here past m

@@ -8,13 +8,17 @@ ghost use Rattle.world_model.specs.State.{first_machine};
 ghost use Rattle.world_lines.specs.Spoken.{Spoken, transcript_of};
 ghost use Rattle.world_lines.specs.Done.{AreDone};
 
+use crate::{collisions_go_on, marks_go_on};
+
 /// Over any lines from the first on, the last of which an allocation failure may have cut short, the chip answers a good frame CAN where a line has asked for a
 /// collision that has not come, and ACK only where there is none.
 pub fn lines_collide_when_asked()
     ensures { (keys : Keys) (records : Option (List (List ℕ))) (devices : List State) (lines : List Spoken) →
         AreDone (first_machine keys records devices) lines →
         CollidesWhenAsked (transcript_of (first_machine keys records devices) lines) }
-{}
+{
+    collisions_go_on();
+}
 
 /// Over any such lines, directly after a unit stands that it was lost, where a `drop` of its side waits, and else, of a data frame, that it was changed, as the
 /// oldest `garble` of its side that waits says; and no other unit is told so.
@@ -22,4 +26,6 @@ pub fn lines_mark_units()
     ensures { (keys : Keys) (records : Option (List (List ℕ))) (devices : List State) (lines : List Spoken) →
         AreDone (first_machine keys records devices) lines →
         MarksUnits (transcript_of (first_machine keys records devices) lines) }
-{}
+{
+    marks_go_on();
+}

@@ -1,10 +1,11 @@
--- The chip's link has no collision to make at first, and so the count holds over all lines.
-use Rattle.std.proofs.Common.{refl}
-use Rattle.outside_model.specs.State.{first_outer}
+-- The count of collisions holds over all lines.
+use Rattle.std.proofs.Common.{[]}
+use Rattle.law_wire.specs.Marks.{MayCollide}
 use Rattle.world_model.specs.State.{first_machine}
-use Rattle.proof_line.proofs.Asking.{lines_collide}
+use Rattle.proof_walk.proofs.Lines.{lines_stand}
+use Rattle.proof_line.specs.Collisions.{KnowCollisions}
 use Rattle.proof_line.proofs.marks.lines_collide_when_asked.Goals as goal
 
 pub returns : goal.returns
-unfolding first_outer
-returns c = λ keys records devices lines are. lines_collide (first_machine keys records devices) lines are refl
+returns c = λ keys records devices lines are.
+    lines_stand MayCollide KnowCollisions c.collisions_go_on.ensures.walk [] (first_machine keys records devices) lines are (c.collisions_go_on.ensures.first keys records devices)

@@ -5,6 +5,7 @@ use Rattle.host_keep.specs.Legal.{IsFirstBad}
 use Rattle.host_model.specs.State.{first_host}
 use Rattle.host_core.specs.Network.{keys_of}
 use Rattle.host_core.specs.Opening.{Takes, MayTakeNone}
+use Rattle.host_core.specs.Recorded.{TablesAreTold}
 use Rattle.host_core.specs.declared.opening.OpenFault.{OpenFault}
 use Rattle.host_core.specs.declared.opening.OpenFault.TheVariants.{BadRecord}
 use Rattle.host_model.proofs.EventLists.{rose_less}
@@ -67,3 +68,8 @@ returns-clause-opens g c =
     opens (keys_of c.args.key) (g.P.Keeper.records c.args.keeper.now) number c.loop-at.core c.restart.new.self
     (subst (λ (k : ℕ). TookUp (keys_of c.args.key) (g.P.Keeper.records c.args.keeper.now) k c.loop-at.core) (end ∙ c.count-at-end.ensures) c.loop-at.invariant.took)
     (g.met.P.Keeper.tells_all c.args.keeper.now) c.restart.ensures
+
+pub returns-clause-tables : goal.returns-clause-tables
+returns-clause-tables g c =
+    subst (λ (o : Option (List (List ℕ))). TablesAreTold o c.restart.new.self.state) (sym c.loop-at.invariant.records)
+    (c.tables_stand_in_the_records.ensures.open (keys_of c.args.key) (g.P.Keeper.number c.args.keeper.now) (g.P.Keeper.records c.args.keeper.now) c.restart.new.self (returns-clause-opens g c))

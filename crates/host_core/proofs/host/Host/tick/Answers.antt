@@ -16,3 +16,17 @@ returns-clause-ok g c =
     let same : c.self.inside.core ≡ c.args.self.now = c.self.view_is in
     let shelf : Shelf = record { records = g.P.Keeper.records c.args._keeper.now; faults = g.P.Keeper.faults c.args._keeper.now } in
     tick_seen c.self.inside.core c.args.self.now c.tick.new.core c.args.out.now.items c.tick.new.out.items shelf same c.in_ok-tick.ensures.ok
+
+pub returns-in_err-tick-clause-tables : goal.returns-in_err-tick-clause-tables
+returns-in_err-tick-clause-tables g c =
+    let same : c.self.inside.core ≡ c.args.self.now = c.self.view_is in
+    let shelf : Shelf = record { records = g.P.Keeper.records c.args._keeper.now; faults = g.P.Keeper.faults c.args._keeper.now } in
+    let stopped = tick_stops_seen c.self.inside.core c.args.self.now c.tick.new.core c.args.out.now.items c.tick.new.out.items shelf same c.in_err-tick.ensures.err in
+    c.tables_stand_in_the_records.ensures.events stopped.events c.args.self.now.state c.tick.new.core.state c.args.out.now.items c.tick.new.out.items shelf shelf stopped.did
+
+pub returns-clause-tables : goal.returns-clause-tables
+returns-clause-tables g c =
+    let same : c.self.inside.core ≡ c.args.self.now = c.self.view_is in
+    let shelf : Shelf = record { records = g.P.Keeper.records c.args._keeper.now; faults = g.P.Keeper.faults c.args._keeper.now } in
+    let did = tick_seen c.self.inside.core c.args.self.now c.tick.new.core c.args.out.now.items c.tick.new.out.items shelf same c.in_ok-tick.ensures.ok in
+    c.tables_stand_in_the_records.ensures.events did.events c.args.self.now.state c.tick.new.core.state c.args.out.now.items c.tick.new.out.items shelf shelf did.did

@@ -1,0 +1,23 @@
+//! What is known of marks and collisions, at each phase of a line.
+
+ghost use Rattle.std.specs.Prelude.{Option, List, [], ℕ};
+ghost use Rattle.s0_crypto.specs.declared.key_pair.Keys.{Keys};
+ghost use Rattle.device_sim.specs.State.{State};
+ghost use Rattle.law_wire.specs.Marks.{MayCollide};
+ghost use Rattle.world_model.specs.State.{first_machine};
+ghost use Rattle.proof_walk.specs.Phases.{Between};
+ghost use Rattle.proof_walk.specs.Walk.{Walk};
+ghost use Rattle.proof_line.specs.Collisions.{KnowCollisions};
+ghost use Rattle.proof_line.specs.Marks.{KnowMarks, MayMark};
+
+/// At each phase of a line, the collisions that lines have asked for are the CAN that the chip wrote, and those that its link is still to make.
+pub fn collisions_go_on()
+    ensures walk { Walk MayCollide KnowCollisions }
+    ensures first { (keys : Keys) (records : Option (List (List ℕ))) (devices : List State) → KnowCollisions Between [] (first_machine keys records devices) }
+{}
+
+/// At each phase of a line, the marks that the transcript says wait for a side are those that its pipe has.
+pub fn marks_go_on()
+    ensures walk { Walk MayMark KnowMarks }
+    ensures first { (keys : Keys) (records : Option (List (List ℕ))) (devices : List State) → KnowMarks Between [] (first_machine keys records devices) }
+{}
