@@ -59,7 +59,7 @@ told = (
                   refl,
                   (
                     record { later = omega arith; asked = omega arith; filled = refl },
-                    (refl, (refl, (refl, (refl, (refl, (record { later = omega arith; asked = omega arith; filled = refl }, (refl, (refl, (refl, (refl, (refl, tt)))))))))),
+                    (refl, (refl, (refl, (refl, (refl, (record { later = omega arith; asked = omega arith; filled = refl }, (refl, (refl, (refl, (refl, (refl, tt))))))))))),
                   ),
                 ),
               ),
