@@ -3,9 +3,10 @@
 //! It accepts orders or refuses them, carries each as a session of at most three attempts a series, and reports what
 //! became of it. It interviews nodes, sends Sets and Gets, gives and takes nonces, and lets nodes wake and sleep.
 //! Everything that it must not forget is kept as a record before it takes effect.
-//! It promises which events each call is. The events, and the calls that they make up, are defined in `host_model`.
-//! What bytes of the chip do to a host is in `host_step_bytes`, whose `specs/Calls` has the words of this crate's
-//! clauses.
+//! It promises which events each call is, and that what a host counts as begun or accepted stands in the records of its
+//! keeper (`tables_stand_in_the_records`, defined in `specs/Recorded`). The events, and the calls that they make up, are
+//! defined in `host_model`. What bytes of the chip do to a host is in `host_step_bytes`, whose `specs/Calls` has the
+//! words of this crate's clauses.
 #![tactic(auto)]
 
 mod host;

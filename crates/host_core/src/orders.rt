@@ -81,7 +81,6 @@ impl Host {
         ensures reads { P.reads keeper.new ≡ P.reads keeper.old }
         ensures tables { TablesAreTold (P.records keeper.old) self.old.state → TablesAreTold (P.records keeper.new) self.new.state }
     {
-        tables_stand_in_the_records();
         if self.core.node(node).is_joined() || node.number() == CONTROLLER {
             return Err(Refused::AlreadyJoined);
         }
@@ -127,7 +126,6 @@ impl Host {
         ensures reads { P.reads keeper.new ≡ P.reads keeper.old }
         ensures tables { TablesAreTold (P.records keeper.old) self.old.state → TablesAreTold (P.records keeper.new) self.new.state }
     {
-        tables_stand_in_the_records();
         let node = match self.core.command_at(command) {
             Some(found) => found.order().node,
             None => return Err(CancelFault::NotWaiting),
