@@ -59,7 +59,7 @@ pub record IsLegalOnLine (whole : Bool) (devices : List State) (transcript : Lis
 -- lines are answered, devices do what comes to them, air and serial line keep their laws; the host sends what is due and notes what happens, takes
 -- back what it is asked to and stores what is confirmed; and its records, where they are told, say what it showed
 pub record IsLegal (key : List ℕ) (before after : List State) (whole : Bool) (transcript : List Entry)
-    (records : Option (List (List ℕ))) : Type 0 where
+    (told : Option (List (List ℕ))) : Type 0 where
   pub answers : AnswersLines whole before transcript
   pub devices : DevicesDid whole before after transcript
   pub air : IsLegalOnAir before transcript
@@ -68,4 +68,4 @@ pub record IsLegal (key : List ℕ) (before after : List State) (whole : Bool) (
   pub notes : NotesWhatHappens key (listing_of before) first_start whole (heard_by_host transcript)
   pub cancels : CancelsWhenAsked transcript
   pub stores : StoresConfirmed whole (listing_of before) transcript
-  pub records : whole ≡ true → IfSome records (KeepsRecords transcript)
+  pub records : whole ≡ true → IfSome told (KeepsRecords transcript)

@@ -25,7 +25,7 @@ module _ (past : Past) (node : ℕ) where
   pub all_left : (marks : List (Option ℕ)) (queue : List Task) → Beside (TaskIs past node) queue marks → TasksLeft past node marks queue
   all_left marks queue all = record { now = marks; beside = all; thin = thinned_same (labels marks) }
 
-  left_then : (marks : List (Option ℕ)) (a b : List Task) (first : TasksLeft past node marks a) → TasksLeft past node first.now b → TasksLeft past node marks b
+  pub left_then : (marks : List (Option ℕ)) (a b : List Task) (first : TasksLeft past node marks a) → TasksLeft past node first.now b → TasksLeft past node marks b
   left_then marks a b first later = record { now = later.now; beside = later.beside; thin = thinned_then (labels marks) (labels first.now) (labels later.now) first.thin later.thin }
 
   unmarked : (asked : Task) → IsOtherTask node asked → TaskIs past node asked None

@@ -25,7 +25,7 @@ use Rattle.outside_model.specs.Chip.{put_out, chip_does}
 use Rattle.outside_model.specs.Air.{deals}
 use Rattle.outside_model.specs.Devices.{acts_at, acts_by_hand}
 use Rattle.outside_model.specs.Events.{OuterEvent, Begins_line, Begins_tick, Host_writes, Host_takes, Host_notes, Host_begins, Chip_takes, Arrives, Gives, Device_ticks, Chip_ticks, Repeats, Wakes_device, Sets_device, Shows, Joins, Discovers, Links, Loses, Loses_acks, Marks_loss, Marks_change, Clears_pipe, Collides_next, Stalls, Cuts, mesh_of, outcome, repeats, steps}
-use Rattle.proof_device.proofs.Results.{Gives, IsSameChip, ends_go, gives_go, to_chip_goes}
+use Rattle.proof_device.proofs.Results.{Gives as GivesSo, IsSameChip, ends_go, gives_go, to_chip_goes}
 
 -- whether a tick runs, whether its number was entered, and the number
 abbrev pub time_of : OuterState → Bool × Bool × ℕ
@@ -71,7 +71,7 @@ does_time o event = each_keeps time_of put_out put_time (with_chip o (after o.ch
 abbrev LeavesTime : OuterState → Outcome → Type 0
 LeavesTime o x = IsSameTime o x.outer
 
-results : Gives LeavesTime
+results : GivesSo LeavesTime
 results = record {
   still = same_time;
   both = λ o first next one later. later first.outer ∙ one;

@@ -1,5 +1,6 @@
-use Rattle.std.proofs.Common.{◌≡◌, ℕ, ◌==◌, Bool, true, false, if◌then◌else◌, List, [], ◌∷◌, arith, refl}
+use Rattle.std.proofs.Common.{◌≡◌, ℕ, ◌==◌, Bool, true, false, if◌then◌else◌, List, [], ◌∷◌, arith, refl, sym, ap, subst, ◌∙◌}
 use Rattle.std.specs.Prelude.{Option, Some, None}
+use Rattle.std.proofs.lemmas.Bool.{eqb-true}
 use Rattle.device_stack.specs.State.{State}
 use Rattle.zw_words.specs.declared.side.Side.TheVariants.{Host, Chip}
 use Rattle.zw_text.specs.declared.entry.Entry.{Entry}
@@ -17,6 +18,7 @@ use Rattle.law_host.specs.Notes.{NotesWhatHappens, first_start}
 use Rattle.law_host.specs.Worked.{all_kept}
 use Rattle.law_wire.proofs.Judging.{keeps_link}
 use Rattle.law_wire.proofs.Moves.{acts_of}
+use Rattle.law_transcript.proofs.Computing.{computing_devices}
 use Rattle.law_time.proofs.Computing.{computing}
 use Rattle.law_host.proofs.Noting.{noted}
 use Rattle.law_host.proofs.legal.worked_run.Goals as goal
@@ -79,13 +81,26 @@ noted_so = noted [] (listing_of (the_switch ∷ [])) first_start (heard_by_host 
 abbrev after : State
 after = after_events the_switch switch_events
 
+some_is : {A : Type 0} (x y : A) → Some x ≡ Some y → x ≡ y
+some_is x y e = cc
+
+none_is : {A : Type 0} (x : A) → None ≡ Some x → ⊥
+none_is x e = cc
+
+after_node : after.node ≡ 2
+unfolding computing_devices
+after_node = refl
+
 devices : RanAsShown 2 plain_exchange the_switch after → DevicesDid true (the_switch ∷ []) (after ∷ []) plain_exchange
-devices ran node old new before now = by (2 == node) refl before now
+devices ran node old new before now = by (2 == node) refl before (ap (λ (k : ℕ). if k == node then Some after else None) (sym after_node) ∙ now)
   where
     by : (is : Bool) → (2 == node) ≡ is → (if is then Some the_switch else None) ≡ Some old → (if is then Some after else None) ≡ Some new
         → RanAsShown node plain_exchange old new
-    by true same before now = cc
-    by false same before now = cc
+    by true same before now =
+        subst (λ (n : ℕ). RanAsShown n plain_exchange old new) (eqb-true 2 node same)
+        (subst (λ (d : State). RanAsShown 2 plain_exchange d new) (some_is the_switch old before)
+        (subst (λ (d : State). RanAsShown 2 plain_exchange the_switch d) (some_is after new now) ran))
+    by false same before now = absurd (none_is old before)
 
 pub returns : goal.returns
 returns c = record {
