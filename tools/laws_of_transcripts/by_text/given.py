@@ -165,7 +165,7 @@ def if_some(one, claim):
     return one.name == "None" or apply(claim, one.fields[0])
 
 
-# ---- over rows of entries, the same as the text says, without a walk from the front
+# ---- over rows of entries, the same as the text says, without a walk through the list
 
 def by_outcomes(first):
     """Keeps what a definition gives for a number and entries with the sessions that began and the commands that ended, and with what else it goes by."""
