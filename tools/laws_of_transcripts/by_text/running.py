@@ -135,6 +135,7 @@ class Maker:
         if count == 0:
             self.resolve(scope)
             self.names.made[self.key] = code()
+            WORLD.constant(self.names.made[self.key])
             return
         kept = KEPT[self.key] if self.key in KEPT else kept_place(self.module.types.get(self.name, []))
         wrap = COARSE.get(self.key)
