@@ -18,8 +18,6 @@ import scenarios  # noqa: E402
 from laws_of_transcripts.by_text.laws import deep, violations as violations_by_text  # noqa: E402
 from laws_of_transcripts.judge import KEY, judged  # noqa: E402
 
-OPTIONS = argparse.Namespace(seconds=30, seed=1, most_lines=60, by_text=False)
-
 
 def around(kind, name, change):
     """Puts a function in the place of one of a class: it is given the old one first."""
@@ -27,7 +25,7 @@ def around(kind, name, change):
     setattr(kind, name, lambda self, *arguments: change(old, self, *arguments))
 
 
-def breaks(model):
+def breaks():
     """Each break: its name, what makes it, and the profiles in which it may be seen."""
     from oracle import base, host, world
     of_host, of_world, of_link = host.Host, world.World, base.Link
@@ -65,7 +63,7 @@ def breaks(model):
         return old(self, node) and not (node.state == "run" and node.segs is not None and node.sealed is None)
 
     def seals_twice(old, self, node):
-        nonce, sealed = getattr(node, "last_nonce", None), self._message(node)[0] == "sealed" if node.sess else False
+        nonce, sealed = self.__dict__.get("last_nonces", {}).get(node.n), self._message(node)[0] == "sealed" if node.sess else False
         if nonce and sealed and node.attempts:
             node.attempts, node.state, node.pending = node.attempts + 1, "run", None
             text = host.seal(self.getkeys(), self.draw.next().value(), nonce, 1, node.n, self._message(node)[1])
@@ -77,7 +75,7 @@ def breaks(model):
         waits = node.pending is not None
         old(self, node, nonce)
         if waits and node.sealed is not None:
-            node.last_nonce = nonce
+            self.__dict__.setdefault("last_nonces", {})[node.n] = nonce
 
     def gives_new(old, self, node):
         node.live = None
@@ -131,7 +129,6 @@ def breaks(model):
         old(self, node)
         if node.blocked:
             node.blocked = False
-            self.note_again = True
 
     def sixty_five(old, self, places=1):
         if len(self.queue) + places > 65:
@@ -156,17 +153,11 @@ def breaks(model):
             self._tick_request()
             self._tick_nodes()
 
-    def keeps_hold(old, self, *arguments):
-        holds = {number: node.hold - self.now for number, node in getattr(OPTIONS, "last_host", self).nodes.items() if node.hold}
-        old(self, *arguments)
-        OPTIONS.last_host, OPTIONS.holds = self, holds
-
     def hears_late(old, self):
         if self.clock % 7 == 3 and self.pipes["c"] and self.host.link.cur is None:
             return
         old(self)
 
-    del model, keeps_hold
     return {
         "never acknowledges": (lambda: around(of_host, "_link", unacknowledged), "lossy,serial"),
         "no second copy": (host_link(NoSecondCopy), "serial"),
@@ -241,7 +232,7 @@ def main():
     parser.add_argument("breaks", nargs="*")
     options = parser.parse_intermixed_args()
     model = scenarios.Model(options.model, options.most_lines)
-    known = {**of_model(), **breaks(model)}
+    known = {**of_model(), **breaks()}
     if options.by_text:  # once for all of them
         deep(lambda: violations_by_text(model.scenario("security", 2).finish(), KEY))
     for name in options.breaks or known:

@@ -165,7 +165,7 @@ def if_some(one, claim):
     return one.name == "None" or apply(claim, one.fields[0])
 
 
-# ---- over rows of entries, the same as the text says, without a walk from the front
+# ---- over rows of entries, the same as the text says, without a walk through the list
 
 def by_outcomes(first):
     """Keeps what a definition gives for a number and entries with the sessions that began and the commands that ended, and with what else it goes by."""
@@ -511,14 +511,15 @@ def settings(classes, order):
 
 given(1, "properties_of")(lambda all_settings: tuple(one.property for one in tuple_of(all_settings)))
 given(2, "same_property")(lambda first, second: first == second)
-given(2, "carriage_of")(lambda classes, order: WORLD.record(("classes", "outer"), (classes, asked_by(order_by(order), classes).form)))
+given(2, "carriage_of")(lambda classes, order: WORLD.record(("classes", "outer"), (classes, getattr(asked_by(order_by(order), classes), "form", "plain"))))
 given(1, "form_of")(lambda outer: WORLD.variant("Form." + {"plain": "Plain", "checked": "Plain", "cut": "Cut", "sealed": "Sealed"}[outer]))
 
 
 @lru_cache(maxsize=1 << 14)
 def message_text(order, classes, session):
-    """The message of a session."""
-    return tuple(orders.message_of(order, asked_by(order, classes), session))
+    """The message of a session; none of an order that should have been refused."""
+    asked = asked_by(order, classes)
+    return () if isinstance(asked, str) else tuple(orders.message_of(order, asked, session))
 
 
 given(3, "message_of")(lambda carriage, order, session: message_text(order_by(order), carriage.classes, session))

@@ -1,5 +1,6 @@
 """Reads .antt files: their imports, types, signatures and equations, as trees of tuples."""
 import re
+from functools import lru_cache
 
 TOKEN = re.compile(
     r'(?P<skip>\s+|--[^\n]*)|(?P<text>"[^"]*")|(?P<word>\d\w*|[A-Za-z_]\w*|◌[^\s(){}]*◌)'
@@ -252,6 +253,7 @@ def parts_of(text):
         yield "\n".join(part)
 
 
+@lru_cache(maxsize=None)
 def equation_of(text):
     """The name, the patterns, the expression and the local definitions of an equation."""
     body, _, local = text.partition("\n  where\n")

@@ -1,6 +1,6 @@
 """Makes Python functions of definitions.
 
-Each equation is tried in order, as it stands. Where a definition goes through a list from the front and hands on what it has worked out, it is a loop
+Each equation is tried in order, as it stands. Where a definition goes through a list from its first item on and hands on what it has worked out, it is a loop
 (`Chain`), so that a list of thousands of entries needs no deep stack; over a row, what it has worked out is kept for each row on the way, as long as
 it has not looked at the end of the list. What else a definition gives for a row of entries, or for a record, is kept with that.
 """
@@ -135,6 +135,7 @@ class Maker:
         if count == 0:
             self.resolve(scope)
             self.names.made[self.key] = code()
+            WORLD.constant(self.names.made[self.key])
             return
         kept = KEPT[self.key] if self.key in KEPT else kept_place(self.module.types.get(self.name, []))
         wrap = COARSE.get(self.key)
@@ -533,7 +534,7 @@ def chain_of(name, parts):
 
 
 class Chain:
-    """A definition that goes through a list from the front."""
+    """A definition that goes through a list from its first item on."""
 
     def __init__(self, step, nil, chain, count):
         self.step, self.nil, self.count = step, nil, count

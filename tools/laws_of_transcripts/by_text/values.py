@@ -127,12 +127,15 @@ class World:
     """What is made once for equal values; emptied between two transcripts."""
 
     def __init__(self):
-        self.classes, self.lasting, self.made = {}, {}, {}
+        self.classes, self.lasting, self.made, self.constants = {}, {}, {}, []
         self.empty = Row(None, None, 0)
 
     def clear(self):
-        """Forgets all but what has no fields."""
+        """Forgets all but constants, and what is kept with these."""
         self.made.clear()
+        for record in self.constants:
+            record.memo.clear()
+            self.made[(record.names,) + tuple(getattr(record, name) for name in record.names)] = record
         self.empty.memo.clear()
         self.empty.next.clear()
         self.empty.rests = None
@@ -145,6 +148,13 @@ class World:
         if found is None:
             found = table[key] = Variant(name, fields)
         return found
+
+    def constant(self, value):
+        """Says that a value lasts."""
+        if isinstance(value, Record):
+            self.constants.append(value)
+            for name in value.names:
+                self.constant(getattr(value, name))
 
     def class_of(self, names):
         """The class of records with these fields."""
