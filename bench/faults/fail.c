@@ -6,7 +6,7 @@
      FAULT_AT     the number of the call of that kind that fails, from 1; 0 for none
      FAULT_ON     1: all later calls of that kind fail too
      FAULT_SHORT  1: reads and writes of that kind move one byte in place of failing
-     FAULT_KILL   1: the program is killed in place of that call; with FAULT_SHORT once a read or write has moved its one byte
+     FAULT_KILL   1: the program is killed in place of that call; with FAULT_SHORT a read or write moves one byte before that
      FAULT_COPIES a file: no call fails, and at each call of that kind a copy of the program is made in which it does. For each copy the file has a line
                   of numbers (the call, how the copy ended as `waitpid` tells it, the bytes that were written before, those that the copy wrote to
                   standard output, and to standard error), and then these bytes. The input has to be a file
@@ -155,6 +155,13 @@ static ssize_t moved(long call, int file, void *bytes, size_t size) {
     return done;
 }
 
+/* The same for a call that moves no bytes one by one: with FAULT_SHORT it is done as ever, or the program is killed. */
+static int fails_whole(int which) {
+    if (!fails(which)) return 0;
+    if (kills) raise(SIGKILL);
+    return !is_short;
+}
+
 ssize_t read(int file, void *bytes, size_t size) {
     if (file == 0 && piece && size > (size_t)piece) size = piece;
     if (fails(file == 0 ? READ : KEEP)) return moved(SYS_read, file, bytes, size);
@@ -180,10 +187,10 @@ ssize_t writev(int file, const struct iovec *parts, int count) {
     return done;
 }
 
-int fsync(int file) { return fails(KEEP) && !is_short ? (int)failed() : (int)syscall(SYS_fsync, file); }
+int fsync(int file) { return fails_whole(KEEP) ? (int)failed() : (int)syscall(SYS_fsync, file); }
 
-int fdatasync(int file) { return fails(KEEP) && !is_short ? (int)failed() : (int)syscall(SYS_fdatasync, file); }
+int fdatasync(int file) { return fails_whole(KEEP) ? (int)failed() : (int)syscall(SYS_fdatasync, file); }
 
-int ftruncate(int file, off_t size) { return fails(KEEP) && !is_short ? (int)failed() : (int)syscall(SYS_ftruncate, file, size); }
+int ftruncate(int file, off_t size) { return fails_whole(KEEP) ? (int)failed() : (int)syscall(SYS_ftruncate, file, size); }
 
-off_t lseek(int file, off_t to, int from) { return fails(KEEP) && !is_short ? failed() : syscall(SYS_lseek, file, to, from); }
+off_t lseek(int file, off_t to, int from) { return fails_whole(KEEP) ? failed() : syscall(SYS_lseek, file, to, from); }

@@ -3,6 +3,8 @@
 A script is given the program, or takes bin/zwave_console. Each ends with 0 where all that it checks is so, and else says what is not.
 """
 import collections
+import contextlib
+import fcntl
 import os
 import random
 import subprocess
@@ -15,6 +17,8 @@ sys.path.insert(0, os.path.join(TOP, "bench", "port"))
 import chip  # noqa: E402
 
 SUCCESS = 255
+# TIOCVHANGUP
+HANG_UP = 0x5437
 
 
 def program_of(words):
@@ -91,7 +95,10 @@ class Served:
         self.serving.join()
 
     def pull_out(self):
+        """The line is hung up, as by the system where a device is pulled out; without the right to that its other end is closed."""
         self.stop()
+        with contextlib.suppress(PermissionError):
+            fcntl.ioctl(self.port.theirs, HANG_UP)
         os.close(self.port.theirs)
         os.close(self.port.ours)
 

@@ -65,9 +65,9 @@ class Trials:
         return ended.status == KILLED, accepted
 
     def rest(self, desk):
-        """Goes on until each order has its end; a reading of the records then."""
-        desk.port.chip.forget()
+        """Goes on until each order has its end; a reading of the records then. A chip waits for no acknowledgement of a program that is gone."""
         for _ in range(20):
+            desk.port.chip.forget()
             desk.run(["wait 6"], self.records)
             told = Records(self.records)
             if len(told.status) == len(told.asked):

@@ -69,8 +69,9 @@ def main(words):
 
 
 def rest(desk, records):
-    """Runs until each command has its end, and holds them against the devices."""
+    """Runs until each command has its end, and holds them against the devices. The chip waits for no acknowledgement of a program that is gone."""
     for _ in range(200):
+        desk.port.chip.forget()
         desk.run(["wait 10"], records)
         told = Records(records)
         if len(told.status) == len(told.asked):

@@ -19,6 +19,8 @@ import chip
 HOST = os.path.join(TOP, "bin", "zwave_host")
 PROGRAM = os.path.join(TOP, "bin", "zwave_console")
 DONE, NO_WORDS, NO_LINE, NO_PORT, NOT_WRITTEN, HUNG_UP = 0, 2, 3, 4, 5, 129
+# where a line cannot be hung up its other end is closed, and then a read that waits fails
+CLOSED = () if os.getuid() == 0 else (NO_PORT,)
 # a frame of the chip that asks for nothing but its acknowledgement, how often it comes, and for how long
 FRAME, EACH, BUSY = bytes.fromhex("010B00040002056C0202FF0064"), 0.06, 4.0
 
@@ -80,7 +82,7 @@ def pulled_out():
             time.sleep(1.0)
             there.pull_out()
             said = ran.communicate(timeout=60)[0]
-        check(ran.returncode == status and time.monotonic() - began < 20, f"pulled out {what}: {ran.returncode}, at once")
+        check(ran.returncode in (status, *CLOSED) and time.monotonic() - began < 20, f"pulled out {what}: {ran.returncode}, at once")
         check(f"{there.name} is gone" in said, f"pulled out {what}: it is told")
 
 
@@ -106,7 +108,7 @@ def does_not_block():
 
 
 def hangs_up(folder):
-    for before, statuses in (([], (-1, HUNG_UP)), (["nohup"], (DONE, NOT_WRITTEN))):
+    for before, statuses in (([], (-1, HUNG_UP)), (["nohup"], (DONE, *CLOSED))):
         records, name = os.path.join(folder, f"records{len(before)}"), " under ".join(["a terminal that hangs up", *before])
         with Served() as there:
             # the first of a new session, which gets the port as its terminal by opening it
