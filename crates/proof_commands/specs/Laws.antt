@@ -203,7 +203,7 @@ GroupsChanges key old new = Always key old new
 abbrev pub NumbersAir : List ℕ → Around → Around → Type 0
 NumbersAir key old new = AlwaysOf key old new (λ story. NumbersFrames (transcript key old story))
 
--- a frame that uses up a mark of `lose` is neither heard as it arrives nor unheard
+-- a frame consumed by a pending `lose` is never recorded as `heard` on arrival or as `unheard`
 abbrev pub LosesFrames : List ℕ → Around → Around → Type 0
 LosesFrames key old new = AlwaysOf key old new (λ story. LosesMarked (transcript key old story))
 

@@ -19,7 +19,7 @@ pub fn lines_number_frames()
         NumbersFrames (transcript_of (first_machine keys records devices) lines) }
 {}
 
-/// Over any such lines a frame that uses up a mark of `lose` is neither heard as it arrives nor unheard.
+/// Over any such lines a frame consumed by a pending `lose` is never recorded as `heard` on arrival or as `unheard`.
 pub fn lines_lose_marked_frames()
     ensures { (keys : Keys) (records : Option (List (List ℕ))) (devices : List State) (lines : List Spoken) →
         AreDone (first_machine keys records devices) lines →
