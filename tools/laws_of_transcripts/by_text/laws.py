@@ -51,8 +51,8 @@ TESTS = (
     ("RestsWell", "law_time.specs.Rests.may_rest", "listing"),
 )
 HOST_TESTS = TESTS + (
-    ("AnswersLines", "law_host.specs.Legal.AnswersLine", "listing"), ("CancelsWhenAsked", "law_transcript.specs.Answers.MayCancel", ""),
-    ("KeepsSessions", "law_transcript.specs.Sessions.MayBegin", ""), ("ShowsValues", "law_host.specs.Legal.ShowsValues", "listing"),
+    ("AnswersLines", "law_transcript.specs.Answers.MayAnswer", "listing refusals"), ("CancelsWhenAsked", "law_transcript.specs.Answers.MayCancel", ""),
+    ("KeepsSessions", "law_transcript.specs.Sessions.MayBegin", ""), ("ShowsValues", "law_host.specs.HostLegal.ShowsValues", "listing"),
     ("SendsWhatIsDue", "law_transcript.specs.Payloads.MayRequest", "listing key"), ("BeginsWithUnit", "law_transcript.specs.Payloads.FollowsBegin", ""),
     ("StoresConfirmed", "law_transcript.specs.Stores.MayStore", ""),
 )
@@ -74,10 +74,16 @@ def marks_unit(past, entry):
 OWN = {"by_text.MarksUnits": marks_unit}
 
 
+def refusals(listing):
+    """What refuses a line by what the host knows."""
+    return Function(NAMES.get("law_transcript.specs.Answers.refusals_by_host").code, 2, (listing,))
+
+
 def test_of(path, wants, listing, key):
     """A test of an entry behind those before it."""
     code = OWN[path] if path in OWN else NAMES.get(path).code
-    first = tuple({"listing": listing, "key": tuple(key)}[one] for one in wants.split())
+    given = {"listing": lambda: listing, "key": lambda: tuple(key), "refusals": lambda: refusals(listing)}
+    first = tuple(given[one]() for one in wants.split())
     return lambda past, entry: code(*first, past, entry)
 
 
@@ -210,7 +216,7 @@ class Reading:
         carries = code("law_transcript.specs.Once.CarriesOnce")
         before, last_line = code("law_transcript.specs.Answers.before_last")(entries), code("zw_text.specs.Transcript.line_last")(entries)
         self.claims("IsHostLegal", (
-            ("AnswersLines", "answered", not self.whole or code("law_host.specs.Legal.NeedsNone")(listing, before, last_line)),
+            ("AnswersLines", "answered", not self.whole or code("law_transcript.specs.Answers.AsksNothing")(refusals(listing), before, last_line)),
             ("RestsWell", "rested", not self.whole or code("law_time.specs.Rests.rests_well")(listing, entries, WORLD.variant("Entry.Said", ()))),
             ("StoresConfirmed", "asked", tuple_of(asked)[:len(shown)] == tuple_of(shown)),
             ("StoresConfirmed", "all", not self.whole or len(shown) == len(asked)),
