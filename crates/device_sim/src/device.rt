@@ -1,6 +1,6 @@
 //! The trait of the simulated devices.
 
-ghost use Rattle.std.specs.Prelude.{◌≡◌, ◌<◌, [], List, All, length, slice_get, IfOk, OnOk, OnErr};
+ghost use Rattle.std.specs.Prelude.{◌≡◌, ◌+◌, ◌<◌, [], List, All, length, slice_get, IfOk, OnOk, OnErr};
 ghost use Rattle.device_sim.specs.Kind.{listens, classes_of};
 ghost use Rattle.device_sim.specs.State.{State};
 ghost use Rattle.device_stack.specs.Showing.{shown_of};
@@ -11,7 +11,7 @@ use crate::{Change, Profile};
 use std::alloc::Global;
 use zw_base::{List, NoMemory, NodeId, Replies, Setting};
 
-/// A simulated device. `drawn` are eight drawn bytes for a nonce that the call may need. What a call puts out are
+/// A simulated device. `drawn` are eight drawn bytes for a nonce that a call may need. What a call puts out are
 /// payloads of 1 to 46 bytes, to be sent in their order. Ticks are of 100 ms.
 pub trait Device: Drop {
     /// All that the device is: its node and kind, its sessions, and the changes that it made.
@@ -38,11 +38,12 @@ pub trait Device: Drop {
         ensures err { OnErr result (state self.new ≡ state self.old) }
         ensures err_replies { OnErr result (out.new ≡ []) };
 
-    /// A tick passes.
-    fn tick(&mut self, drawn: [u8; 8], out: &mut Replies) -> Result<(), NoMemory>
+    /// A tick passes, for which nothing is drawn. The answer is how many changes it made.
+    fn tick(&mut self, out: &mut Replies) -> Result<u64, NoMemory>
         requires { out.old ≡ [] }
-        ensures ok { OnOk result (state self.new ≡ device_after (state self.old) (Ticks drawn)) }
-        ensures replies { OnOk result (out.new ≡ device_replies (state self.old) (Ticks drawn)) }
+        ensures ok { OnOk result (state self.new ≡ device_after (state self.old) (Ticks [])) }
+        ensures replies { OnOk result (out.new ≡ device_replies (state self.old) (Ticks [])) }
+        ensures made { IfOk result (λ made. length (state self.new).journal ≡ length (state self.old).journal + made) }
         ensures sizes { OnOk result (All IsPayload out.new) }
         ensures err { OnErr result (state self.new ≡ state self.old) }
         ensures err_replies { OnErr result (out.new ≡ []) };

@@ -37,7 +37,7 @@ impl<K: Drop> Device for Simulated<K> {
     }
 
     #[tactic(auto, unfolding(crate::specs::Event::device_after, crate::specs::Event::device_replies, crate::specs::Event::outcome_of))]
-    fn tick(&mut self, _drawn: [u8; 8], out: &mut Replies) -> Result<(), NoMemory> {
+    fn tick(&mut self, out: &mut Replies) -> Result<u64, NoMemory> {
         self.stack.tick(out)
     }
 

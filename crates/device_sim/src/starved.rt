@@ -67,8 +67,8 @@ impl<D: Device> Device for Starved<D> {
         self.inner.hear(payload, drawn, out)
     }
 
-    fn tick(&mut self, drawn: [u8; 8], out: &mut Replies) -> Result<(), NoMemory> {
-        self.inner.tick(drawn, out)
+    fn tick(&mut self, out: &mut Replies) -> Result<u64, NoMemory> {
+        self.inner.tick(out)
     }
 
     fn wake(&mut self, out: &mut Replies) -> Result<(), NoMemory> {

@@ -1,6 +1,6 @@
 //! Ticks, wake-ups, values set by hand, and what is shown.
 
-ghost use Rattle.std.specs.Prelude.{◌≡◌, ◌+◌, ◌<◌, ◌^◌, ◌&&◌, [], ◌∷◌, IfOk, IfSome, OnOk, OnErr, All};
+ghost use Rattle.std.specs.Prelude.{◌≡◌, ◌+◌, ◌<◌, ◌^◌, ◌&&◌, [], ◌∷◌, length, IfOk, IfSome, OnOk, OnErr, All};
 ghost use Rattle.std.specs.Option.{option_map};
 ghost use Rattle.class_info.specs.InfoSpelling.{form};
 ghost use Rattle.device_kinds.specs.Kind.{main_name_of, tells};
@@ -90,12 +90,13 @@ impl Stack {
         self.clock += 1;
     }
 
-    /// A tick of 100 ms passes.
+    /// A tick of 100 ms passes. The answer is how many changes it made.
     #[tactic(auto, unfolding(crate::specs::Ticking::ticked))]
-    pub fn tick(&mut self, out: &mut Replies) -> Result<(), NoMemory>
+    pub fn tick(&mut self, out: &mut Replies) -> Result<u64, NoMemory>
         requires { out.old ≡ [] }
         ensures ok { OnOk result (self.new ≡ (ticked self.old).device) }
         ensures replies { OnOk result (out.new ≡ (ticked self.old).replies) }
+        ensures made { IfOk result (λ made. length self.new.journal ≡ length self.old.journal + made) }
         ensures sizes { OnOk result (All IsPayload out.new) }
         ensures err { OnErr result (self.new ≡ self.old) }
         ensures err_replies { OnErr result (out.new ≡ []) }
@@ -103,13 +104,15 @@ impl Stack {
         if self.clock == u64::MAX {
             return Err(NoMemory);
         }
+        let mut made = 0;
         if self.work_left == 1 {
             self.finish_work(out)?;
+            made = 1;
         } else if self.work_left > 1 {
             self.work_left -= 1;
         }
         self.age();
-        Ok(())
+        Ok(made)
     }
 
     /// The text that tells the end of the work, where that was asked for.

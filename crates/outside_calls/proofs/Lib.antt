@@ -6,5 +6,6 @@ pub mod Entering
 pub mod Landing
 pub mod Airing
 pub mod Moves
+pub mod Ticking
 pub mod Taking
 pub mod Giving

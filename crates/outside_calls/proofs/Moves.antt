@@ -55,6 +55,13 @@ module _ (o : OuterState) (ds later : States) (place : ℕ) (d d' : State) (even
       (λ entered. (route, may_act o ds later place d d' event at set_is route way, enters_at o ds later place d d' event at set_is route new before all entered))
       (entered_ok r (acts o d event route) mid new start told before all none done outer put)
 
+module _ (o new : OuterState) (ds later : States) (place : ℕ) (d d' : State) (event : DeviceEvent) (at : slice_get ds place ≡ Some d) (set_is : later ≡ set ds place d') where
+  -- what the device at the place did was entered
+  pub acted_enters : (before all : List Entry) → (route : Option Route) × HasWay o.air.network d.node (device_replies d event) route × Enters (acts o d event route) new before all
+      → (route : Option Route) × MayActByHand o ds (Some place) event route × Enters (acts_by_hand o ds (Some place) event route) new before all
+  acted_enters before all (route, way, done) =
+      (route, may_act o ds later place d d' event at set_is route way, enters_at o ds later place d d' event at set_is route new before all done)
+
 -- the first device of a node is that at a place, or there is none
 module _ (o new : OuterState) (ds later : States) (place : Option ℕ) (event : DeviceEvent) (before all : List Entry) where
   pub found_devices : (at : Option ℕ) → place ≡ at → later ≡ set_by_hand ds at event → later ≡ set_by_hand ds place event

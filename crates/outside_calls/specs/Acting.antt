@@ -1,16 +1,15 @@
--- What a device does of itself or by hand, as an event of it (this project's own rule, docs/MACHINE.md).
+-- What a device does by hand, as an event of it, and what it has done (this project's own rule, docs/MACHINE.md).
 use Rattle.std.specs.Prelude.{◌≡◌, ◌⊎◌, ℕ, List, Option}
 use Rattle.route_table.specs.declared.route.Route.{Route}
 use Rattle.device_sim.specs.State.{State}
-use Rattle.device_sim.specs.Event.{DeviceEvent, Ticks, Wakes, Sets, device_after, device_replies}
+use Rattle.device_sim.specs.Event.{DeviceEvent, Wakes, Sets, device_after, device_replies}
 use Rattle.outside_model.specs.State.{OuterState}
 use Rattle.outside_model.specs.Devices.{HasWay, MayActByHand, set_by_hand}
 use Rattle.outside_calls.specs.declared.acting.Act.{Act}
-use Rattle.outside_calls.specs.declared.acting.Act.TheVariants.{Tick, Wake, Local}
+use Rattle.outside_calls.specs.declared.acting.Act.TheVariants.{Wake, Local}
 
--- what a device does of itself or by hand
+-- what a device does by hand
 abbrev pub act_event : Act → DeviceEvent
-act_event (Tick drawn) = Ticks drawn
 act_event Wake = Wakes
 act_event (Local value) = Sets value
 

@@ -1,19 +1,19 @@
 //! What devices do of themselves or by hand.
 
-ghost use Rattle.std.specs.Prelude.{◌≡◌, ◌+◌, ◌<◌, ◌^◌, ◌++◌, length, map, drop, Option, Some, None, OnOk, OnErr};
+ghost use Rattle.std.specs.Prelude.{◌≡◌, ◌+◌, ◌<◌, ◌^◌, ◌++◌, [], length, map, drop, Option, Some, None, OnOk, OnErr};
 ghost use Rattle.route_table.specs.declared.route.Route.{Route as TheRoute};
-ghost use Rattle.device_sim.specs.Event.{device_after, device_replies};
+ghost use Rattle.device_sim.specs.Event.{Ticks, device_after, device_replies};
 ghost use Rattle.mesh_sim.specs.Fates.{place_of};
-ghost use Rattle.outside_model.specs.State.{outside, Does};
+ghost use Rattle.outside_model.specs.State.{outside, Does, and_then, tells};
 ghost use Rattle.outside_calls.specs.Acting.{act_event, HasActed, HasActedByHand};
-ghost use Rattle.outside_model.specs.Devices.{acts, changes_entries, HasWay, acts_by_hand, set_by_hand, MayActByHand};
+ghost use Rattle.outside_model.specs.Devices.{acts, changes_entries, HasWay, sends, acts_by_hand, set_by_hand, MayActByHand};
 ghost use Rattle.outside_model.specs.Events.{Shows};
 ghost use Rattle.outside_model.specs.Did.{RunOf, PrefixOf, Stops, GoesFor, Enters};
 ghost use Rattle.outside_model.specs.Schedules.{DeviceTicks, IsWake, IsSet, IsOne};
 
 use crate::Outside;
 use crate::dealing::tell_change;
-use crate::devices::{act_one, changes_of, node_of, tell_device};
+use crate::devices::{act_one, changes_of, node_of, tell_device, tick_device};
 use device_sim::Device;
 use mesh_sim::place_in;
 use outside_step::OutsideCore;
@@ -21,11 +21,9 @@ use std::alloc::Global;
 use zw_base::{Draw, List, NoMemory, NodeId, Replies};
 use zw_text::{Entry, Refusal};
 
-/// What a device does of itself or by hand.
+/// What a device does by hand.
 #[derive(Clone, Copy)]
 pub enum Act {
-    /// It ticks. The drawn bytes serve a nonce.
-    Tick([u8; 8]),
     /// Somebody wakes it.
     Wake,
     /// Somebody sets its main property.
@@ -33,11 +31,11 @@ pub enum Act {
 }
 
 impl Outside {
-    /// The devices tick, in the order of the list.
+    /// The devices tick, in the order of the list. Nothing is drawn for that: no device draws at a tick.
     pub fn tick_devices<D: Draw>(
         &mut self,
         devices: &mut Vec<Box<dyn Device>>,
-        draw: &mut D,
+        _draw: &mut D,
         out: &mut List<Entry>,
     ) -> Result<(), NoMemory>
         requires few { length devices.old.items < 2 ^ 64 }
@@ -47,10 +45,34 @@ impl Outside {
             (outside self.old (map (λ d. state d) devices.old.items)) (map (λ d. state d) devices.new.items) out.old.items out.new.items) }
         ensures kept { length devices.new.items ≡ length devices.old.items }
     {
+        let mut replies = Replies::new(self.core.alloc())?;
         for place in 0..devices.len() {
-            let drawn = draw.next();
-            self.act_at(place, Act::Tick(drawn), devices, out)?;
+            self.tick_at(place, &mut replies, devices, out)?;
         }
+        Ok(())
+    }
+
+    /// The device at a place ticks.
+    fn tick_at(
+        &mut self,
+        place: usize,
+        replies: &mut Replies,
+        devices: &mut Vec<Box<dyn Device>>,
+        out: &mut List<Entry>,
+    ) -> Result<(), NoMemory>
+        requires few { length devices.old.items < 2 ^ 64 }
+        requires within { place < length devices.old.items }
+        requires free { replies.old ≡ [] }
+        ensures devices { OnOk result (map (λ d. state d) devices.new.items ≡ set_by_hand (map (λ d. state d) devices.old.items) (Some place) (Ticks [])) }
+        ensures ok { OnOk result ((route : Option TheRoute) × MayActByHand self.old (map (λ d. state d) devices.old.items) (Some place) (Ticks []) route
+            × Enters (acts_by_hand self.old (map (λ d. state d) devices.old.items) (Some place) (Ticks []) route) self.new out.old.items out.new.items) }
+        ensures free { OnOk result (replies.new ≡ []) }
+        ensures no_entries { OnErr result (out.new.items ≡ out.old.items) }
+        ensures err { OnErr result (HasActedByHand self.old (map (λ d. state d) devices.old.items) (map (λ d. state d) devices.new.items)
+            (Some place) (Ticks [])) }
+        ensures kept { length devices.new.items ≡ length devices.old.items }
+    {
+        tick_one(&mut self.core, &mut devices[place], replies, out)?;
         Ok(())
     }
 
@@ -176,9 +198,54 @@ fn perform(
     let first = changes_of(device);
     let mut replies = Replies::new(core.alloc())?;
     act_one(device, act, &mut replies)?;
-    let way = core.way_for(node, &replies);
+    tell_act(core, node, first, device, &replies, told)
+}
+
+/// A device ticks. One that changes and sends nothing costs no more than that; else both are told and entered. The same
+/// replies, of which there are none before and after, serve each device.
+fn tick_one(
+    core: &mut OutsideCore,
+    device: &mut Box<dyn Device>,
+    replies: &mut Replies,
+    out: &mut List<Entry>,
+) -> Result<(), NoMemory>
+    requires { replies.old ≡ [] }
+    ensures device { OnOk result (state device.new ≡ device_after (state device.old) (Ticks [])) }
+    ensures ok { OnOk result ((route : Option TheRoute) ×
+        HasWay core.old.air.network (state device.old).node (device_replies (state device.old) (Ticks [])) route
+        × Enters (acts core.old (state device.old) (Ticks []) route) core.new out.old.items out.new.items) }
+    ensures free { OnOk result (replies.new ≡ []) }
+    ensures no_entries { OnErr result (out.new.items ≡ out.old.items) }
+    ensures err { OnErr result (HasActed core.old (state device.old) (state device.new) (Ticks [])) }
+{
+    let made = tick_device(device, replies)?;
+    if made == 0 && replies.len() == 0 {
+        return Ok(());
+    }
+    let first = changes_of(device) - made;
+    let mut told = List::new(core.alloc());
+    tell_act(core, node_of(device), first, device, replies, &mut told)?;
+    core.enter(told, out)?;
+    replies.clear();
+    Ok(())
+}
+
+/// What a device changed from a place of its journal on is told, and what it sends goes on the air.
+fn tell_act(
+    core: &mut OutsideCore,
+    node: NodeId,
+    first: u64,
+    device: &Box<dyn Device>,
+    replies: &Replies,
+    told: &mut List<Entry>,
+) -> Result<(), NoMemory>
+    ensures { (route : Option TheRoute) × HasWay core.old.air.network node replies.now route × OnOk result (Does
+        (and_then (tells core.old (changes_entries node (drop first (state device.now).journal))) (λ later. sends later node route replies.now))
+        core.new told.old.items told.new.items) }
+{
+    let way = core.way_for(node, replies);
     tell_changes(core.alloc(), node, first, device, told)?;
-    core.send(node, way, &replies, told)
+    core.send(node, way, replies, told)
 }
 
 /// The changes that a device made from a place of its journal on are told.

@@ -2,7 +2,7 @@
 
 ghost use Rattle.std.specs.Prelude.{◌≡◌, ◌+◌, ◌<◌, ◌^◌, ◌++◌, [], length, map, Some, IfOk, OnOk, OnErr};
 ghost use Rattle.chip_sim.specs.Events.{FitsProfile};
-ghost use Rattle.device_sim.specs.Event.{device_after, device_replies};
+ghost use Rattle.device_sim.specs.Event.{Ticks, device_after, device_replies};
 ghost use Rattle.mesh_sim.specs.Fates.{place_of};
 ghost use Rattle.outside_model.specs.Results.{told_profile, device_at};
 ghost use Rattle.outside_calls.specs.Acting.{act_event};
@@ -130,6 +130,20 @@ pub(crate) fn changes_of(device: &Box<dyn Device>) -> u64
     device.changes()
 }
 
+/// A device ticks. The answer is how many changes it made.
+pub(crate) fn tick_device(
+    device: &mut Box<dyn Device>,
+    replies: &mut Replies,
+) -> Result<u64, NoMemory>
+    requires { replies.old ≡ [] }
+    ensures ok { OnOk result (state device.new ≡ device_after (state device.old) (Ticks [])) }
+    ensures replies { OnOk result (replies.new ≡ device_replies (state device.old) (Ticks [])) }
+    ensures made { IfOk result (λ made. length (state device.new).journal ≡ length (state device.old).journal + made) }
+    ensures err { OnErr result (state device.new ≡ state device.old) }
+{
+    device.tick(replies)
+}
+
 /// A device does something.
 pub(crate) fn act_one(
     device: &mut Box<dyn Device>,
@@ -142,7 +156,6 @@ pub(crate) fn act_one(
     ensures err { OnErr result (state device.new ≡ state device.old) }
 {
     match act {
-        Act::Tick(drawn) => device.tick(drawn, replies),
         Act::Wake => device.wake(replies),
         Act::Local(value) => device.local(value, replies),
     }

@@ -28,7 +28,7 @@ fn number(word: &str) -> Result<u8, Fail> {
 fn ticks<D: Device>(device: &mut D, count: u8, out: &mut Replies) -> Result<(), Fail> {
     for _ in 0..count {
         out.clear();
-        device.tick(DRAWN, out)?;
+        device.tick(out)?;
     }
     Ok(())
 }
