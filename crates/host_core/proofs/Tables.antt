@@ -1,5 +1,5 @@
 -- The tables of a host stand in the records of its keeper, whatever happens to the host.
-use Rattle.std.proofs.Common.{◌≡◌, ℕ, zero, suc, ◌+◌, ◌≤◌, ◌==◌, ◌&&◌, Bool, true, false, if◌then◌else◌, is_none, List, [], ◌∷◌, ◌++◌, length, get_or, set, Option, Some, None, option_map, inl, inr, refl, sym, ap, ◌∙◌, subst, append_assoc, arith}
+use Rattle.std.proofs.Common.{◌≡◌, ℕ, zero, suc, ◌+◌, ◌≤◌, Bool, true, false, List, [], ◌∷◌, ◌++◌, length, get_or, set, Option, Some, None, option_map, inl, inr, refl, sym, ap, ◌∙◌, subst, append_assoc, arith}
 use Rattle.std.specs.Prelude.{IfSome, slice_get, Result, Ok, Err, OnOk, OnErr}
 use Rattle.std.specs.List.{AllByRecursion}
 use Rattle.std.proofs.lemmas.Bool.{cases_eq, cases_lt}
@@ -8,13 +8,11 @@ use Rattle.std.proofs.lemmas.Grind.{length_at_push}
 use Rattle.zw_base.specs.declared.order.Order.{Order}
 use Rattle.zw_text.specs.declared.entry.Outcome.{Outcome}
 use Rattle.supervision.specs.Host.{command_at as command_of_session}
-use Rattle.host_orders.specs.declared.carriage.Carriage.{Carriage}
 use Rattle.host_node.specs.State.{NodeState, unknown}
 use Rattle.host_node.specs.Steps.{after_begin, oldest}
 use Rattle.host_node.specs.TableState.{node_of as node_among}
 use Rattle.host_keep.specs.Keeping.{OptAdds, Kept}
 use Rattle.host_keep.specs.Legal.{AreTextsOf}
-use Rattle.host_keep.specs.RecordText.{record_text}
 use Rattle.host_keep.specs.Rows.{IsRecord}
 use Rattle.host_keep.specs.declared.record.Record.{Record}
 use Rattle.host_keep.specs.declared.record.Record.TheVariants.{Accepted, Begun}
@@ -28,7 +26,7 @@ use Rattle.host_model.proofs.Numbered.{pushed_at}
 use Rattle.host_step_kept.specs.Choices.{after_if}
 use Rattle.host_step_bytes.specs.Calls.{Scene, beside, Does, Stops}
 use Rattle.host_core.specs.Opening.{AreTold}
-use Rattle.host_core.specs.Recorded.{HasText, IsTold, TablesAreTold}
+use Rattle.host_core.specs.Recorded.{IsTold, TablesAreTold}
 
 -- ---- places of lists
 

@@ -1,5 +1,5 @@
 -- Each event of a host, each record that it takes up and a restart leave its tables in the records.
-use Rattle.std.proofs.Common.{◌≡◌, ℕ, zero, suc, ◌+◌, ◌≤◌, ◌==◌, ◌&&◌, Bool, true, false, if◌then◌else◌, is_none, List, [], ◌∷◌, ◌++◌, length, map, get_or, set, Option, Some, None, option_map, refl, sym, ap, ◌∙◌, subst, arith}
+use Rattle.std.proofs.Common.{◌≡◌, ℕ, zero, suc, ◌+◌, ◌==◌, Bool, true, false, if◌then◌else◌, is_none, List, [], ◌∷◌, ◌++◌, length, get_or, set, Option, Some, None, refl, sym, ap, ◌∙◌, subst, arith}
 use Rattle.std.specs.Prelude.{IfSome}
 use Rattle.std.specs.List.{AllByRecursion}
 use Rattle.std.proofs.lemmas.Bool.{eqb-true}
@@ -19,14 +19,14 @@ use Rattle.host_requests.specs.declared.task.Purpose.{Purpose}
 use Rattle.host_requests.specs.declared.task.Purpose.TheVariants.{Housekeeping, Attempt, Abort}
 use Rattle.host_requests.specs.declared.task.Task.{Task}
 use Rattle.host_requests.specs.declared.task.Task.TheVariants.{NoMore, Offer, Segment}
-use Rattle.host_requests.specs.Events.{RequestsEvent, end_at, after as after_request}
+use Rattle.host_requests.specs.Events.{RequestsEvent, end_at}
 use Rattle.host_requests.specs.Events.RequestsEvent.{BeginsAttempt as request_begins_attempt, Fails as request_fails, Pushes as request_pushes, Updates as request_updates}
 use Rattle.host_node.specs.declared.attempt.AttemptEnd.{AttemptEnd}
 use Rattle.host_node.specs.declared.attempt.AttemptEnd.TheVariants.{NoneRan, Again, Unanswered}
 use Rattle.host_node.specs.declared.attempt.Moment.{Moment}
 use Rattle.host_node.specs.declared.attempt.Moment.TheVariants.{BeforeItsTick}
 use Rattle.host_node.specs.State.{NodeState, is_running, unknown}
-use Rattle.host_node.specs.Steps.{as_recorded, after_told, after_sign, attempt_end, tick_end, with_wait, oldest}
+use Rattle.host_node.specs.Steps.{as_recorded, after_told, attempt_end, tick_end, with_wait, oldest}
 use Rattle.host_node.specs.Facts.{is_recorded, is_final}
 use Rattle.host_node.specs.Events.{NodeEvent, after as after_node}
 use Rattle.host_node.specs.Events.NodeEvent.{Accepts as node_accepts, Blocks as node_blocks, Cancels as node_cancels, Drops_no_more as node_drops_no_more, Ends_attempt as node_ends_attempt, Ends_no_more as node_ends_no_more, Gives_segment as node_gives_segment, Gives_text as node_gives_text, Holds as node_holds, Interviews as node_interviews, Joins as node_joins, Notifies as node_notifies, Puts as node_puts, Queues_no_more as node_queues_no_more, Reports as node_reports, Restores_seen as node_restores_seen, Starts as node_starts, Succeeds as node_succeeds, Takes_nonce as node_takes_nonce, Ticks as node_ticks}
