@@ -1,9 +1,11 @@
--- The story of a run of `generate`: each line of the scenario is read from a text, and what is counted of the transcript are entries of its events.
-use Rattle.std.proofs.Common.{◌≡◌, ℕ, zero, suc, ◌+◌, ◌*◌, ◌<◌, Bool, true, false, cond, if◌then◌else◌, ◌||◌, List, [], ◌∷◌, ◌++◌, map, codes, Ok, Some, refl, sym, ap, subst, ◌∙◌, arith, append_assoc, append-nil}
+-- The story of a run of `generate`: each line of the scenario is read from a text, and what is counted of the transcript are entries of its events. Where there was
+-- no memory for all of it, the story of its first lines.
+use Rattle.std.proofs.Common.{◌≡◌, ℕ, zero, suc, ◌+◌, ◌*◌, ◌<◌, Bool, true, false, cond, if◌then◌else◌, ◌||◌, ◌⊎◌, inl, inr, List, [], ◌∷◌, ◌++◌, map, codes, Ok, Some, refl, sym, ap, subst, ◌∙◌, arith, append_assoc, append-nil}
 use Rattle.std.specs.Prelude.{⊤, ◌%◌, ◌==◌, nat_lt, filter}
 use Rattle.std.specs.List.{AllByRecursion, flat_map, list_any, range_with_len}
+use Rattle.std.proofs.lemmas.List.{map-append}
 use Rattle.std.proofs.lemmas.List.Elements.{filter-append}
-use Rattle.zw_base.proofs.Each.{all-append}
+use Rattle.zw_base.proofs.Each.{all-append, all-left}
 use Rattle.zw_base.specs.declared.order.What.TheVariants.{Value}
 use Rattle.zw_base.specs.declared.order.Word.{Word}
 use Rattle.zw_base.specs.declared.order.Word.TheVariants.{On, Off}
@@ -18,21 +20,25 @@ use Rattle.zw_text.specs.declared.entry.Entry.TheVariants.{Said}
 use Rattle.law_transcript.specs.Restarts.{is_restart}
 use Rattle.world_model.specs.State.{Machine}
 use Rattle.world_model.specs.Events.{Event}
-use Rattle.world_model.specs.Did.{Scene, happens_all, entries_all, MayAll}
+use Rattle.world_model.specs.Did.{Scene, Stops, happens_all, entries_all, MayAll}
+use Rattle.world_model.specs.Lines.{IsLine}
+use Rattle.world_model.specs.Prefixes.{LinePart, LinePrefix}
 use Rattle.world_model.specs.Table.{table_entries}
 use Rattle.zw_world.specs.World.{first_world, scene}
 use Rattle.run_lines.specs.Lines.{TextLine}
 use Rattle.run_lines.specs.Pieces.{said_text}
+use Rattle.run_lines.specs.declared.running.LinesEnd.TheVariants.{NoMemory}
 use Rattle.run_lines.specs.declared.status.Status.{Status}
 use Rattle.run_lines.specs.declared.status.Status.TheVariants as status
-use Rattle.run_generate.specs.Generate.{AllDone, SumsUp, command_lines, first_lines, generated_lines, is_accepted, is_success, joining_lines, loss_lines, node_at, summary_text, word_at}
-use Rattle.run_sim.specs.Sim.{said}
+use Rattle.run_generate.specs.Generate.{AllDone, IsCutShort, SomeDone, SumsUp, command_lines, first_lines, generated_lines, is_accepted, is_success, joining_lines, loss_lines, node_at, summary_text, word_at}
+use Rattle.run_sim.specs.Sim.{Point, at, said}
 use Rattle.world_lines.specs.Done.{IsRead}
 use Rattle.proof_commands.specs.Around.{Around}
-use Rattle.proof_commands.specs.Laws.{AreBegun, IsReadAs, IsStory, Ran, TellsAtRestarts, events_of, first, has_restart, transcript}
-use Rattle.proof_commands.specs.Generate.{RunsGenerate, Tells, Writes, plain_lines}
+use Rattle.proof_commands.specs.Laws.{AreBegun, IsReadAs, IsStory, Ran, TellsAtRestarts, events_of, first, has_restart, lines_of, transcript}
+use Rattle.proof_commands.specs.Generate.{HasStory, RunsGenerate, Tells, TellsInPart, Writes, plain_lines}
+use Rattle.proof_commands.proofs.Reading.{are_prefix}
 use Rattle.proof_commands.proofs.Speaking.{ReadAgain}
-use Rattle.proof_commands.proofs.Stories.{Tale, no_tale, none_unentered, schedules_begun, tale_on}
+use Rattle.proof_commands.proofs.Stories.{Story, Tale, cut_story, no_tale, none_unentered, schedules_begun, tale_on, whole_story}
 use Rattle.proof_commands.proofs.Tables.{TablesShown, shown_table, table_shown}
 
 -- ---- each line is read from a text
@@ -131,6 +137,10 @@ with_texts (line ∷ lines) (one, more) =
       others = ap (λ (first : Bool). first || restarts_in later.texts) one.other ∙ later.others;
     }
 
+-- those of the scenario
+scenario : (hundreds : ℕ) → Texts (generated_lines hundreds)
+scenario hundreds = with_texts (generated_lines hundreds) (all_made hundreds)
+
 -- ---- what is counted
 
 -- entries that no line is
@@ -196,7 +206,7 @@ same_summary a b table same =
 module _ (again : ReadAgain) (tables : TablesShown) (hundreds : ℕ) (key : List ℕ) (old new : Around) (text : List ℕ)
     (sums : SumsUp hundreds key old.devices new.devices old.records new.records old.keeper_faults new.keeper_faults text) where
   texts : Texts (generated_lines hundreds)
-  texts = with_texts (generated_lines hundreds) (all_made hundreds)
+  texts = scenario hundreds
 
   told : Told texts.texts (scene (first_world key) old.devices old.records [] old.keeper_faults) sums.last
   told = told_of texts.texts (scene (first_world key) old.devices old.records [] old.keeper_faults) sums.last
@@ -245,10 +255,137 @@ module _ (again : ReadAgain) (tables : TablesShown) (hundreds : ℕ) (key : List
     written = subst (λ (bytes : List ℕ). Writes ended bytes old.written new.written) text_is writes;
   }
 
+-- ---- a run without memory for all of it
+
+-- lines of which one was cut short, after those before it were run whole
+record Cut (lines : List (TextLine Line)) (m : Machine) (new : Scene) : Type 0 where
+  pub whole : List (TextLine Line)
+  pub line : TextLine Line
+  pub rest : List (TextLine Line)
+  pub are : lines ≡ whole ++ line ∷ rest
+  pub mid : Scene
+  pub transcript : List Entry
+  pub tale : Tale whole m mid.machine transcript
+  pub stops : Stops (LinePrefix line.line) mid new
+
+-- all of them were run whole, or one was cut short
+abbrev SomeTold : List (TextLine Line) → Machine → Scene → Type 0
+SomeTold lines m new = ((T : List Entry) × Tale lines m new.machine T) ⊎ Cut lines m new
+
+one_before : (line : TextLine Line) (lines : List (TextLine Line)) (events : List Event) (m : Machine) (new : Scene) → IsLine line.line m events → MayAll m events
+    → SomeTold lines (happens_all m events) new → SomeTold (line ∷ lines) m new
+one_before line lines events m new is may (inl (T, tale)) = inl (said line ++ (entries_all m events ++ T), tale_on line lines events m new.machine T is may tale)
+one_before line lines events m new is may (inr cut) = inr (record {
+  whole = line ∷ cut.whole;
+  line = cut.line;
+  rest = cut.rest;
+  are = ap (λ (l : List (TextLine Line)). line ∷ l) cut.are;
+  mid = cut.mid;
+  transcript = said line ++ (entries_all m events ++ cut.transcript);
+  tale = tale_on line cut.whole events m cut.mid.machine cut.transcript is may cut.tale;
+  stops = cut.stops;
+})
+
+some_told : (lines : List (TextLine Line)) (old new : Scene) → SomeDone (lines_alone lines) old new → SomeTold lines old.machine new
+some_told [] old new is = inl ([], no_tale old.machine new.machine [] (ap (λ (s : Scene). s.machine) is) refl)
+some_told (line ∷ lines) old new (inl stops) = inr (record {
+  whole = [];
+  line = line;
+  rest = lines;
+  are = refl;
+  mid = old;
+  transcript = [];
+  tale = no_tale old.machine old.machine [] refl refl;
+  stops = stops;
+})
+some_told (line ∷ lines) old new (inr (mid, (events, is, run), some)) =
+    one_before line lines events old.machine new is run.may (subst (λ (m : Machine). SomeTold lines m new) run.state (some_told lines mid new some))
+
+-- the same events, entered after the words of the line
+abbrev standing : Scene → Point
+standing s = record { machine = s.machine; faults = s.faults; number = 0; reads = 0 }
+
+entered_so : (line : TextLine Line) (mid new : Scene) (stops : Stops (LinePrefix line.line) mid new)
+    → Stops (LinePart line.line) (at (standing mid) (said line)) (at (standing new) (said line ++ entries_all mid.machine stops.whole))
+entered_so line mid new stops = record {
+  whole = stops.whole;
+  last = stops.last;
+  prefix = inr stops.prefix;
+  moved = inr stops.moved;
+  kept = stops.kept;
+  of_host = stops.of_host;
+  may = stops.may;
+  devices = stops.devices;
+  records = stops.records;
+  entered = refl;
+  counted = stops.counted;
+}
+
+-- the story of first lines
+record PartStory (lines : List (TextLine Line)) (m last : Machine) : Type 0 where
+  pub run : List (TextLine Line)
+  pub rest : List (TextLine Line)
+  pub are : lines ≡ run ++ rest
+  pub transcript : List Entry
+  pub story : Story NoMemory run m last transcript
+
+part_story : (lines : List (TextLine Line)) (m : Machine) (new : Scene) → SomeTold lines m new → PartStory lines m new.machine
+part_story lines m new (inl (T, tale)) = record {
+  run = lines;
+  rest = [];
+  are = sym (append-nil lines);
+  transcript = T;
+  story = whole_story NoMemory lines lines m new.machine T (λ story are. inl are) (λ story whole. tt) tale;
+}
+part_story lines m new (inr cut) =
+    let some = said cut.line ++ entries_all cut.mid.machine cut.stops.whole in
+    record {
+      run = cut.whole ++ cut.line ∷ [];
+      rest = cut.rest;
+      are = cut.are ∙ sym (append_assoc cut.whole (cut.line ∷ []) cut.rest);
+      transcript = cut.transcript ++ some;
+      story =
+          cut_story cut.whole cut.line m (standing cut.mid) (standing new) cut.transcript some cut.tale
+          (entered_so cut.line cut.mid new cut.stops);
+    }
+
+module _ (hundreds : ℕ) (key : List ℕ) (old new : Around)
+    (cut : IsCutShort hundreds key old.devices new.devices old.records new.records old.keeper_faults new.keeper_faults) where
+  part : PartStory (scenario hundreds).texts (first key old) cut.last.machine
+  part = part_story (scenario hundreds).texts (first key old) cut.last
+      (some_told (scenario hundreds).texts (scene (first_world key) old.devices old.records [] old.keeper_faults) cut.last
+      (subst (λ (l : List Line). SomeDone l (scene (first_world key) old.devices old.records [] old.keeper_faults) cut.last) (sym (scenario hundreds).lines_are) cut.done))
+
+  -- the lines that were run, and those that were not
+  abbrev run : List (TextLine Line)
+  run = lines_of part.story.story
+
+  not_run : (rest : List (TextLine Line)) × (run ++ rest ≡ part.run)
+  not_run = are_prefix NoMemory part.story.story part.run part.story.lines_are
+
+  split : (scenario hundreds).texts ≡ run ++ (not_run.0 ++ part.rest)
+  split = part.are ∙ (ap (λ (l : List (TextLine Line)). l ++ part.rest) (sym not_run.1) ∙ append_assoc run not_run.0 part.rest)
+
+  tells_in_part : new.written ≡ old.written → TellsInPart hundreds key old new part.story.story part.story.unentered
+  tells_in_part still = record {
+    rest = lines_alone (not_run.0 ++ part.rest);
+    lines = sym (scenario hundreds).lines_are ∙ (ap lines_alone split ∙ map-append (λ (one : TextLine Line). one.line) run (not_run.0 ++ part.rest));
+    is = record {
+      read = all-left IsReadAs run (not_run.0 ++ part.rest) (subst (λ (l : List (TextLine Line)). AllByRecursion IsReadAs l) split (scenario hundreds).read);
+      begun = part.story.begun;
+      may = part.story.may;
+      rest = part.story.rest;
+      devices = sym cut.devices ∙ part.story.devices;
+      records = sym cut.records_are ∙ part.story.records;
+    };
+    written = still;
+  }
+
+-- ---- each end
+
 module _ (again : ReadAgain) (tables : TablesShown) (key : List ℕ) (old new : Around) (hundreds : ℕ) where
-  pub generate_told : (ended : Status) → RunsGenerate ended hundreds key old new → (ended ≡ status.NoMemory → ⊥)
-      → (story : List Ran) × Tells ended hundreds key old new story
-  generate_told status.Ok (text, sums, writes) memory = (_, tells again tables hundreds key old new text sums status.Ok writes)
-  generate_told status.WriteFault (text, sums, writes) memory = (_, tells again tables hundreds key old new text sums status.WriteFault writes)
-  generate_told status.NoMemory ran memory = absurd (memory refl)
-  generate_told ended ran memory = absurd ran
+  pub generate_told : (ended : Status) → RunsGenerate ended hundreds key old new → HasStory ended hundreds key old new
+  generate_told status.Ok (text, sums, writes) = (_, tells again tables hundreds key old new text sums status.Ok writes)
+  generate_told status.WriteFault (text, sums, writes) = (_, tells again tables hundreds key old new text sums status.WriteFault writes)
+  generate_told status.NoMemory (cut, still) = (_, _, tells_in_part hundreds key old new cut still)
+  generate_told ended ran = absurd ran

@@ -1,5 +1,6 @@
 mod Joining
 mod Solid
+mod SaidWords
 pub mod Stories
 pub mod RestartReads
 pub mod SimKeeping

@@ -32,7 +32,7 @@ abbrev pub AreRead : List Ran → Type 0
 AreRead story = AllByRecursion IsReadAs (lines_of story)
 
 -- its lines are a prefix of those that were read
-are_prefix : (end : LinesEnd) (story : List Ran) (lines : List (TextLine Line)) → AreRun end story lines
+pub are_prefix : (end : LinesEnd) (story : List Ran) (lines : List (TextLine Line)) → AreRun end story lines
     → (rest : List (TextLine Line)) × (lines_of story ++ rest ≡ lines)
 are_prefix All story lines are = ([], append-nil (lines_of story) ∙ are)
 are_prefix (Bad number fault) story lines are = ([], append-nil (lines_of story) ∙ are)

@@ -68,7 +68,7 @@ tale_of (line ∷ lines) old new T ran =
 -- ---- the whole run
 
 -- what a story says of a run that came to this end
-record Story (end : LinesEnd) (lines : List (TextLine Line)) (m last : Machine) (T : List Entry) : Type 0 where
+pub record Story (end : LinesEnd) (lines : List (TextLine Line)) (m last : Machine) (T : List Entry) : Type 0 where
   pub story : List Ran
   pub unentered : List Event
   pub lines_are : AreRun end story lines
@@ -112,7 +112,7 @@ none_unentered m story begun = record {
 module _ (end : LinesEnd) (lines all : List (TextLine Line)) (m m' : Machine) (T : List Entry)
     (run : (story : List Ran) → lines_of story ≡ lines → AreRun end story all)
     (ends : (story : List Ran) → EndsWhole m story [] m' → EndsAs end m story [] m') where
-  whole_story : Tale lines m m' T → Story end all m m' T
+  pub whole_story : Tale lines m m' T → Story end all m m' T
   whole_story tale =
       let all_of : events_of tale.story ++ [] ≡ events_of tale.story = append-nil (events_of tale.story) in
       let state : m' ≡ happens_all m (events_of tale.story ++ []) = tale.state ∙ ap (λ (l : List Event). happens_all m l) (sym all_of) in
@@ -193,7 +193,7 @@ module _ (m : Machine) (story : List Ran) (line : TextLine Line) (whole : List E
       ap₂ (λ (a b : List Entry). a ++ b) entered (is ∙ (ap (λ (x : Machine). said line ++ entries_all x whole) there ∙ ap (λ (l : List Entry). said line ++ l) (sym (append-nil (entries_all (happens_all m (events_of story)) whole)))))
       ∙ sym (transcript-append m story (one_of line whole))
 
-cut_story : (lines : List (TextLine Line)) (line : TextLine Line) (m : Machine) (mid new : Point) (T some : List Entry) → Tale lines m mid.machine T → Stops (LinePart line.line) (at mid (said line)) (at new some)
+pub cut_story : (lines : List (TextLine Line)) (line : TextLine Line) (m : Machine) (mid new : Point) (T some : List Entry) → Tale lines m mid.machine T → Stops (LinePart line.line) (at mid (said line)) (at new some)
     → Story NoMemory (lines ++ line ∷ []) m new.machine (T ++ some)
 cut_story lines line m mid new T some tale stops =
     let prefix = tale.story in

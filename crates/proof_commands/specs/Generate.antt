@@ -1,9 +1,10 @@
 -- What a run of `generate` keeps true (this project's own rule): it has a story, whose lines are those of the scenario, and it writes the summary of the
--- transcript of this story, and not that transcript.
-use Rattle.std.specs.Prelude.{◌≡◌, ℕ, List, [], map, Option}
+-- transcript of this story, and not that transcript. Where there was no memory, the lines are the first of the scenario, and nothing is written.
+use Rattle.std.specs.Prelude.{◌≡◌, ℕ, List, [], ◌++◌, map, Option}
 use Rattle.std.specs.Io.KnownBytes.{Appends}
 use Rattle.zw_text.specs.Transcript.{lines_run}
 use Rattle.zw_text.specs.declared.line.Line.{Line}
+use Rattle.world_model.specs.Events.{Event}
 use Rattle.run_lines.specs.Lines.{TextLine}
 use Rattle.run_lines.specs.Writing.{AppendsPrefix}
 use Rattle.run_lines.specs.declared.status.Status.{Status}
@@ -40,7 +41,18 @@ pub record Tells (ended : Status) (hundreds : ℕ) (key : List ℕ) (old new : A
       (summary_text (transcript key old story)
       (table_of (listing_of old.devices) (ticks_asked (lines_run (transcript key old story))) (transcript key old story) new.devices)) old.written new.written
 
--- so every run that did not run out of memory
+-- A run of `generate` without memory for all of it has this story, and then did what was not entered: the first lines of the scenario, each run whole, the
+-- last one perhaps in part. Nothing was written.
+pub record TellsInPart (hundreds : ℕ) (key : List ℕ) (old new : Around) (story : List Ran) (unentered : List Event) : Type 0 where
+  pub rest : List Line
+  pub lines : generated_lines hundreds ≡ plain_lines story ++ rest
+  pub is : IsStory key old new story unentered
+  pub written : new.written ≡ old.written
+
+-- the story of each run
+abbrev pub HasStory : Status → ℕ → List ℕ → Around → Around → Type 0
+HasStory NoMemory hundreds key old new = (story : List Ran) × (unentered : List Event) × TellsInPart hundreds key old new story unentered
+HasStory ended hundreds key old new = (story : List Ran) × Tells ended hundreds key old new story
+
 abbrev pub GenerateKeepsLaws : Status → List ℕ → Around → Around → Type 0
-GenerateKeepsLaws ended key old new =
-    (hundreds : ℕ) → RunsGenerate ended hundreds key old new → (ended ≡ NoMemory → ⊥) → (story : List Ran) × Tells ended hundreds key old new story
+GenerateKeepsLaws ended key old new = (hundreds : ℕ) → RunsGenerate ended hundreds key old new → HasStory ended hundreds key old new

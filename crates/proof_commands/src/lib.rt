@@ -21,4 +21,4 @@ mod sim;
 mod words;
 
 pub use all::commands_keep_laws;
-pub use words::lines_are_read_as_said;
+pub use words::{lines_are_read_as_said, said_lines_are_entries};

@@ -1,14 +1,16 @@
--- Lines that are run one after another from a world at its beginning, and their summary.
-use Rattle.std.proofs.Common.{◌≡◌, ℕ, ◌+◌, ◌<◌, List, [], ◌∷◌, ◌++◌, Option, length, take, get_or, refl, sym, ap, ◌∙◌, subst}
+-- Lines that are run one after another from a world at its beginning, some of them where there is no memory, and their summary.
+use Rattle.std.proofs.Common.{◌≡◌, ℕ, zero, suc, ◌+◌, ◌<◌, inl, inr, List, [], ◌∷◌, ◌++◌, Option, length, take, get_or, arith, refl, sym, ap, ◌∙◌, subst}
 use Rattle.std.proofs.lemmas.List.{take_more}
 use Rattle.zw_text.specs.declared.line.Line.{Line}
 use Rattle.zw_text.specs.declared.entry.Entry.{Entry}
 use Rattle.device_sim.specs.State.{State}
-use Rattle.world_model.specs.Did.{Scene, Does}
+use Rattle.world_model.specs.Did.{Scene, Does, Stops}
 use Rattle.world_model.specs.Lines.{IsLine}
+use Rattle.world_model.specs.Prefixes.{LinePrefix}
 use Rattle.world_model.specs.Table.{table_entries}
+use Rattle.world_model.proofs.EventLists.{stopped_now}
 use Rattle.zw_world.specs.World.{WorldState, first_world, machine_of, scene}
-use Rattle.run_generate.specs.Generate.{AllDone, SumsUp, generated_lines, summary_text}
+use Rattle.run_generate.specs.Generate.{AllDone, IsCutShort, SomeDone, SumsUp, generated_lines, summary_text}
 
 done-more : (lines : List Line) (line : Line) (old mid new : Scene) → AllDone lines old mid → Does (IsLine line) mid new → AllDone (lines ++ line ∷ []) old new
 done-more [] line old mid new done does = (new, subst (λ (s : Scene). Does (IsLine line) s new) done does, refl)
@@ -21,7 +23,56 @@ done_next lines i line old mid new within is done does =
     subst (λ (ls : List Line). AllDone ls old new) (ap (λ (l : Line). take i lines ++ l ∷ []) is ∙ sym (take_more lines i line within))
     (done-more (take i lines) line old mid new done does)
 
--- the scenario was run from a world at its beginning, and summed up
+-- ---- where there is no memory
+
+-- no line was run
+pub none_done : (lines : List Line) (s : Scene) → SomeDone lines s s
+none_done [] s = refl
+none_done (line ∷ lines) s = inl (stopped_now (LinePrefix line) s (inl refl))
+
+-- all of them were
+pub all_done : (lines : List Line) (old new : Scene) → AllDone lines old new → SomeDone lines old new
+all_done [] old new done = done
+all_done (line ∷ lines) old new done = inr (done.0, done.1, all_done lines done.0 new done.2)
+
+-- the line of a place was cut short
+pub stopped_at : (lines : List Line) (i : ℕ) (line : Line) (old mid new : Scene) → i < length lines → line ≡ get_or lines i line → AllDone (take i lines) old mid
+    → Stops (LinePrefix line) mid new → SomeDone lines old new
+stopped_at [] i line old mid new within is done stops = absurd (omega (arith, within))
+stopped_at (first ∷ lines) zero line old mid new within is done stops =
+    inl (subst (λ (s : Scene). Stops (LinePrefix first) s new) done (subst (λ (l : Line). Stops (LinePrefix l) mid new) is stops))
+stopped_at (first ∷ lines) (suc i) line old mid new within is done stops =
+    inr (done.0, done.1, stopped_at lines i line done.0 mid new (omega (arith, within)) is done.2 stops)
+
+-- ---- the scenario, from a world at its beginning
+
+-- it was cut short
+pub cut_short : (hundreds : ℕ) (key : List ℕ) (before after : List State) (records records' : Option (List (List ℕ))) (faults faults' : ℕ)
+    (world world' : WorldState) (lines : List Line) (none entries : List Entry) → lines ≡ generated_lines hundreds → world ≡ first_world key → none ≡ []
+    → SomeDone lines (scene world before records none faults) (scene world' after records' entries faults')
+    → IsCutShort hundreds key before after records records' faults faults'
+cut_short hundreds key before after records records' faults faults' world world' lines none entries are first empty done = record {
+  last = scene world' after records' entries faults';
+  done = subst (λ (ls : List Line). SomeDone ls (scene (first_world key) before records [] faults) (scene world' after records' entries faults')) are
+      (subst (λ (w : WorldState). SomeDone lines (scene w before records [] faults) (scene world' after records' entries faults')) first
+      (subst (λ (es : List Entry). SomeDone lines (scene world before records es faults) (scene world' after records' entries faults')) empty done));
+  devices = refl;
+  records_are = refl;
+  faults_are = refl;
+}
+
+-- nothing was done
+pub not_begun : (hundreds : ℕ) (key : List ℕ) (devices : List State) (records : Option (List (List ℕ))) (faults : ℕ)
+    → IsCutShort hundreds key devices devices records records faults faults
+not_begun hundreds key devices records faults = record {
+  last = scene (first_world key) devices records [] faults;
+  done = none_done (generated_lines hundreds) (scene (first_world key) devices records [] faults);
+  devices = refl;
+  records_are = refl;
+  faults_are = refl;
+}
+
+-- it was run whole, and summed up
 module _ (hundreds : ℕ) (key : List ℕ) (before after : List State) (records records' : Option (List (List ℕ))) (faults faults' : ℕ)
     (world world' : WorldState) (lines run : List Line) (none entries seen no_table table shown : List Entry) where
   pub sums_up : lines ≡ generated_lines hundreds → run ≡ lines → world ≡ first_world key → none ≡ []

@@ -1,5 +1,5 @@
 -- What `generate` runs and writes (this project's own rule).
-use Rattle.std.specs.Prelude.{◌≡◌, ℕ, ◌+◌, ◌*◌, ◌%◌, ◌==◌, nat_lt, if◌then◌else◌, List, [], ◌∷◌, ◌++◌, length, filter, codes, decimal, Bool, true, false, Option}
+use Rattle.std.specs.Prelude.{◌≡◌, ℕ, ◌⊎◌, ◌+◌, ◌*◌, ◌%◌, ◌==◌, nat_lt, if◌then◌else◌, List, [], ◌∷◌, ◌++◌, length, filter, codes, decimal, Bool, true, false, Option}
 use Rattle.std.specs.List.{flat_map, range_with_len}
 use Rattle.std.specs.Io.KnownBytes.{Appends}
 use Rattle.zw_base.specs.declared.order.What.TheVariants.{Value}
@@ -10,8 +10,9 @@ use Rattle.zw_text.specs.declared.line.Line.TheVariants.{Command, Tick, Link, Jo
 use Rattle.zw_text.specs.declared.entry.Entry.{Entry}
 use Rattle.zw_text.specs.declared.entry.Entry.TheVariants.{Accepted, Out, TableEnd, TableNode, Device}
 use Rattle.zw_text.specs.declared.entry.Ended.TheVariants.{Success}
-use Rattle.world_model.specs.Did.{Scene, Does}
+use Rattle.world_model.specs.Did.{Scene, Does, Stops}
 use Rattle.world_model.specs.Lines.{IsLine}
+use Rattle.world_model.specs.Prefixes.{LinePrefix}
 use Rattle.world_model.specs.Table.{table_entries}
 use Rattle.device_sim.specs.State.{State}
 use Rattle.zw_world.specs.World.{first_world, scene}
@@ -57,6 +58,11 @@ abbrev pub AllDone : List Line → Scene → Scene → Type 0
 AllDone [] old new = new ≡ old
 AllDone (line ∷ lines) old new = (mid : Scene) × Does (IsLine line) old mid × AllDone lines mid new
 
+-- the same until there is no memory: the first of them whole, and of the next one nothing, or a prefix
+abbrev pub SomeDone : List Line → Scene → Scene → Type 0
+SomeDone [] old new = new ≡ old
+SomeDone (line ∷ lines) old new = Stops (LinePrefix line) old new ⊎ ((mid : Scene) × Does (IsLine line) old mid × SomeDone lines mid new)
+
 -- ---- the summary
 
 -- how many commands were accepted, and how many reported successful
@@ -96,11 +102,20 @@ pub record SumsUp (hundreds : ℕ) (key : List ℕ) (before after : List State) 
   pub faults_are : last.faults ≡ faults'
   pub text_is : text ≡ summary_text last.entries (table_entries last.machine)
 
+-- there was no memory for all of the scenario, or for its summary
+pub record IsCutShort (hundreds : ℕ) (key : List ℕ) (before after : List State) (records records' : Option (List (List ℕ))) (faults faults' : ℕ) : Type 0 where
+  pub last : Scene
+  pub done : SomeDone (generated_lines hundreds) (scene (first_world key) before records [] faults) last
+  pub devices : last.machine.outside.devices ≡ after
+  pub records_are : last.machine.records ≡ records'
+  pub faults_are : last.faults ≡ faults'
+
 -- what is written at each status
 abbrev pub GenerateRan : Status → ℕ → List ℕ → List State → List State → Option (List (List ℕ)) → Option (List (List ℕ)) → ℕ → ℕ → Option (List ℕ) → Option (List ℕ) → Type 0
 GenerateRan Ok hundreds key before after records records' faults faults' sink sink' =
     (text : List ℕ) × SumsUp hundreds key before after records records' faults faults' text × Appends sink sink' text
 GenerateRan WriteFault hundreds key before after records records' faults faults' sink sink' =
     (text : List ℕ) × SumsUp hundreds key before after records records' faults faults' text × AppendsPrefix sink sink' text
-GenerateRan NoMemory hundreds key before after records records' faults faults' sink sink' = sink' ≡ sink
+GenerateRan NoMemory hundreds key before after records records' faults faults' sink sink' =
+    IsCutShort hundreds key before after records records' faults faults' × (sink' ≡ sink)
 GenerateRan status hundreds key before after records records' faults faults' sink sink' = ⊥

@@ -1,10 +1,10 @@
 //! `generate`: a scenario that is made from a number is run, and summed up.
 
-ghost use Rattle.std.specs.Prelude.{◌≡◌, ◌<◌, ◌≤◌, ◌^◌, length, map, List as Items, IfOk, OnOk, ℕ};
+ghost use Rattle.std.specs.Prelude.{◌≡◌, ◌<◌, ◌≤◌, ◌^◌, length, map, List as Items, IfOk, OnOk, OnErr, ℕ};
 ghost use Rattle.zw_base.specs.Faults.{Rose};
 ghost use Rattle.run_lines.specs.Complete.{IsDone};
 ghost use Rattle.zw_world.specs.World.{first_world, scene};
-ghost use Rattle.run_generate.specs.Generate.{AllDone, GenerateRan, SumsUp};
+ghost use Rattle.run_generate.specs.Generate.{AllDone, GenerateRan, IsCutShort, SomeDone, SumsUp};
 
 use crate::generated::generated;
 use crate::summary::summary;
@@ -55,6 +55,8 @@ fn sum_up<D: Draw, P: Keeper>(
     requires { length devices.old.items < 2 ^ 64 }
     ensures ok { IfOk result (λ text. SumsUp hundreds key (map (λ d. state d) devices.old.items) (map (λ d. state d) devices.new.items)
         (P.records keeper.old) (P.records keeper.new) (P.faults keeper.old) (P.faults keeper.new) text) }
+    ensures err { OnErr result (IsCutShort hundreds key (map (λ d. state d) devices.old.items) (map (λ d. state d) devices.new.items)
+        (P.records keeper.old) (P.records keeper.new) (P.faults keeper.old) (P.faults keeper.new)) }
     ensures kept { length devices.new.items ≡ length devices.old.items }
 {
     let mut world = World::new(alloc, key)?;
@@ -74,6 +76,9 @@ fn run_made<D: Draw, P: Keeper>(
     ensures ok { IfOk result (λ text. (key : Items ℕ) → world.old ≡ first_world key →
         SumsUp hundreds key (map (λ d. state d) devices.old.items) (map (λ d. state d) devices.new.items)
         (P.records keeper.old) (P.records keeper.new) (P.faults keeper.old) (P.faults keeper.new) text) }
+    ensures err { OnErr result ((key : Items ℕ) → world.old ≡ first_world key →
+        IsCutShort hundreds key (map (λ d. state d) devices.old.items) (map (λ d. state d) devices.new.items)
+        (P.records keeper.old) (P.records keeper.new) (P.faults keeper.old) (P.faults keeper.new)) }
     ensures kept { length devices.new.items ≡ length devices.old.items }
 {
     let lines = generated(alloc, hundreds)?;
@@ -95,6 +100,9 @@ fn run_all<D: Draw, P: Keeper>(
 ) -> Result<(), NoMemory>
     requires { length devices.old.items < 2 ^ 64 }
     ensures ok { OnOk result (AllDone lines.now
+        (scene world.old (map (λ d. state d) devices.old.items) (P.records keeper.old) entries.old.items (P.faults keeper.old))
+        (scene world.new (map (λ d. state d) devices.new.items) (P.records keeper.new) entries.new.items (P.faults keeper.new))) }
+    ensures err { OnErr result (SomeDone lines.now
         (scene world.old (map (λ d. state d) devices.old.items) (P.records keeper.old) entries.old.items (P.faults keeper.old))
         (scene world.new (map (λ d. state d) devices.new.items) (P.records keeper.new) entries.new.items (P.faults keeper.new))) }
     ensures kept { length devices.new.items ≡ length devices.old.items }

@@ -3,5 +3,5 @@ use Rattle.proof_commands.proofs.Generated.{generate_told}
 use Rattle.proof_commands.proofs.generate.generate_keeps_laws.Goals as goal
 
 pub returns : goal.returns
-returns c = λ ended key old new hundreds ran memory.
-    generate_told c.lines_are_read_as_said.ensures c.tables_are_what_is_shown.ensures key old new hundreds ended ran memory
+returns c = λ ended key old new hundreds ran.
+    generate_told c.lines_are_read_as_said.ensures c.tables_are_what_is_shown.ensures key old new hundreds ended ran

@@ -1,0 +1,53 @@
+-- The words of the line are those of its text, and nothing else of the text counts. So what is entered of a line is read as it, and entered so again.
+use Rattle.std.proofs.Common.{◌≡◌, ℕ, List, ◌∷◌, length, Ok, Some, arith, ap, refl, sym, subst, ◌∙◌}
+use Rattle.std.specs.List.{AllByRecursion, join_with_byte}
+use Rattle.std.proofs.lemmas.Bool.{le-ltb}
+use Rattle.zw_words.specs.Words.{line_words, without_return, words}
+use Rattle.zw_text.specs.Line.{LineText, first_word, line_at, word_text}
+use Rattle.zw_text.specs.declared.line.Line.{Line}
+use Rattle.zw_text.proofs.TextLaws.{line_again, line_takes}
+use Rattle.zw_parse.specs.Said.{SaysLine}
+use Rattle.run_lines.specs.Pieces.{joined_in, said_text}
+use Rattle.proof_commands.proofs.Joining.{IsSolidWord, joined_are_short, joined_begins, joined_has_no_return, without_return_is_short, words-joined}
+use Rattle.proof_commands.proofs.Solid.{all_solid, first_word_is, line_solid}
+
+-- the words of the text of a line
+words_are : (text : List ℕ) (line : Line) (t : LineText text line) → line_words text ≡ Ok (word_text (first_word line) ∷ t.rest)
+unfolding line_words
+words_are text line t = rw (le-ltb 1024 (length text) t.may_be.short, t.may_be.no_remark, t.words_are) refl
+
+said : (text : List ℕ) (line : Line) (t : LineText text line) → LineText (join_with_byte 32 (word_text (first_word line) ∷ t.rest)) line
+said text line t =
+    let word = word_text (first_word line) in
+    let joined = join_with_byte 32 (word ∷ t.rest) in
+    let first = first_word_is (first_word line) in
+    let all : AllByRecursion IsSolidWord (word ∷ t.rest) = all_solid (without_return text) (word ∷ t.rest) t.words_are (first.solid, line_solid line t.rest t.stands) in
+    let short = joined_are_short (without_return text) word t.rest t.words_are in
+    let cut = without_return_is_short text in
+    let most = t.may_be.short in
+    record {
+      may_be = record { short = omega (arith, short, cut, most); no_remark = joined_begins word t.rest all.0.some ∙ first.no_remark };
+      rest = t.rest;
+      stands = t.stands;
+      words_are = ap words (joined_has_no_return word t.rest all) ∙ words-joined word t.rest all;
+    }
+
+module _ (text : List ℕ) (line : Line) (is : line_at text ≡ Ok (Some line)) where
+  t : LineText text line
+  t = line_takes text (Some line) is
+
+  joined : List ℕ
+  joined = join_with_byte 32 (word_text (first_word line) ∷ t.rest)
+
+  said_is : said_text text ≡ joined
+  said_is = ap joined_in (words_are text line t)
+
+  pub read_again : line_at (said_text text) ≡ Ok (Some line)
+  read_again = subst (λ (s : List ℕ). line_at s ≡ Ok (Some line)) (sym said_is) (line_again joined line (said text line t))
+
+  pub says_line : SaysLine (said_text text)
+  says_line = record {
+    line = line;
+    read = subst (λ (s : List ℕ). LineText s line) (sym said_is) (said text line t);
+    joined = ap said_text said_is ∙ (ap joined_in (words_are joined line (said text line t)) ∙ sym said_is);
+  }
