@@ -8,12 +8,3 @@ pub mod Saying
 pub mod WorldFacts
 pub mod Events
 pub mod KnownAfterCalls
-pub mod NearFacts
-pub mod ShowFacts
-pub mod HostShows
-pub mod NearWorld
-pub mod Stages
-pub mod HostStages
-pub mod ExchangeSteps
-pub mod Ticking
-pub mod Starting

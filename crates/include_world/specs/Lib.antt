@@ -3,4 +3,3 @@ pub mod Air
 pub mod World
 pub mod Line
 pub mod Added
-pub mod Ending

@@ -57,11 +57,11 @@ impl Model for Air {
 
 /// A frame that is heard.
 #[derive(Drop)]
-pub(crate) struct Coming {
-    pub(crate) number: u64,
-    pub(crate) node: NodeId,
-    pub(crate) heading: Heading,
-    pub(crate) payload: Payload,
+pub struct Coming {
+    pub number: u64,
+    pub node: NodeId,
+    pub heading: Heading,
+    pub payload: Payload,
 }
 
 /// A payload of its own with these bytes.

@@ -1,10 +1,10 @@
 //! What is entered of a line, and of an adding.
 
 ghost use Rattle.std.specs.Prelude.{◌≡◌, ◌+◌, ◌<◌, ◌≤◌, ◌∷◌, [], ◌++◌};
-ghost use Rattle.include_world.specs.Units.{in_order};
+ghost use Rattle.include_world.specs.Units.{both, in_order};
 ghost use Rattle.include_world.specs.World.{said_entries};
 
-use crate::units::AddUnits;
+use crate::units::{AddUnits, TwoUnits};
 use include_text::{IncludeEntry, IncludeLine, IncludeRefusal};
 use zw_base::List;
 
@@ -35,17 +35,22 @@ pub(crate) fn put_units(units: AddUnits, out: &mut List<IncludeEntry>)
     ensures room { out.new.room + 6 ≡ out.old.room }
 {
     let AddUnits {
-        add,
-        ready,
-        device,
-        radio,
-        stop,
-        done,
+        opening,
+        found,
+        closing,
     } = units;
-    out.put(add);
-    out.put(ready);
-    out.put(device);
-    out.put(radio);
-    out.put(stop);
-    out.put(done);
+    put_both(opening, out);
+    put_both(found, out);
+    put_both(closing, out);
+}
+
+/// Enters two units.
+fn put_both(units: TwoUnits, out: &mut List<IncludeEntry>)
+    requires { 2 ≤ out.old.room }
+    ensures outs { out.new.items ≡ out.old.items ++ both units }
+    ensures room { out.new.room + 2 ≡ out.old.room }
+{
+    let TwoUnits { first, second } = units;
+    out.put(first);
+    out.put(second);
 }

@@ -15,7 +15,7 @@ const NONCE_REPORT: u8 = 0x80;
 const NONCE_REPORT_LEN: usize = 10;
 
 /// Which way a frame goes.
-#[derive(Clone, Copy, Debug, PartialEq, Eq)]
+#[derive(Clone, Copy)]
 pub enum Heading {
     /// From node 1 to the other node.
     Outward,
@@ -24,7 +24,7 @@ pub enum Heading {
 }
 
 /// A frame that went on the air.
-#[derive(Debug, Drop)]
+#[derive(Drop)]
 pub struct Flight {
     /// The end that is not node 1.
     pub node: NodeId,
@@ -37,7 +37,7 @@ pub struct Flight {
 }
 
 /// What is counted between node 1 and another node.
-#[derive(Clone, Copy, Debug)]
+#[derive(Clone, Copy)]
 pub struct Pair {
     /// How many new nonces were shown.
     pub shown: u64,

@@ -13,6 +13,7 @@ mod laws;
 mod units;
 mod world;
 
+pub use air::Coming;
 pub use flight::{Flight, Heading, Pair};
-pub use laws::{exchange_ends, what_is_said_is_so};
+pub use laws::what_is_said_is_so;
 pub use world::IncludeWorld;

@@ -2,7 +2,7 @@
 
 ghost use Rattle.std.specs.Prelude.{◌≡◌, ◌≤◌, IfOk, length};
 ghost use Rattle.chip_functions.specs.AddNode.{added_spelling as added_text};
-ghost use Rattle.include_world.specs.Units.{chip_unit, host_unit, lock, units_of};
+ghost use Rattle.include_world.specs.Units.{chip_unit, closing_units, found_units, host_unit, lock, opening_units, units_of};
 
 use chip_functions::{AddMode, AddStatus, AddedNode, Notice, Request, write_notice, write_request};
 use include_text::{IncludeEntry, Side};
@@ -19,15 +19,19 @@ const BASIC: u8 = 0x04;
 /// The command classes of a lock: Door Lock, Security 0, Supervision.
 const CLASSES: [u8; 3] = [0x62, 0x98, 0x6C];
 
-/// The units of an adding, in their order.
+/// Two units, in their order.
+#[derive(Drop)]
+pub(crate) struct TwoUnits {
+    pub(crate) first: IncludeEntry,
+    pub(crate) second: IncludeEntry,
+}
+
+/// The units of an adding, in their order. No function that makes them owns more than two values that may be dropped.
 #[derive(Drop)]
 pub(crate) struct AddUnits {
-    pub(crate) add: IncludeEntry,
-    pub(crate) ready: IncludeEntry,
-    pub(crate) device: IncludeEntry,
-    pub(crate) radio: IncludeEntry,
-    pub(crate) stop: IncludeEntry,
-    pub(crate) done: IncludeEntry,
+    pub(crate) opening: TwoUnits,
+    pub(crate) found: TwoUnits,
+    pub(crate) closing: TwoUnits,
 }
 
 /// What the host writes to begin or to end the adding.
@@ -75,16 +79,43 @@ fn lock(alloc: Global, node: NodeId) -> Result<AddedNode, NoMemory>
     })
 }
 
+/// The host asks for a node, and the chip is ready.
+fn opening_units(alloc: Global) -> Result<TwoUnits, NoMemory>
+    ensures { IfOk result (λ units. units ≡ opening_units) }
+{
+    Ok(TwoUnits {
+        first: host_unit(alloc, AddMode::Any)?,
+        second: chip_unit(alloc, AddStatus::LearnReady, AddedNode::Unnamed)?,
+    })
+}
+
+/// The chip tells of the device, and that it is done with the radio.
+fn found_units(alloc: Global, node: NodeId) -> Result<TwoUnits, NoMemory>
+    ensures { IfOk result (λ units. units ≡ found_units node) }
+{
+    Ok(TwoUnits {
+        first: chip_unit(alloc, AddStatus::AddingSlave, lock(alloc, node)?)?,
+        second: chip_unit(alloc, AddStatus::ProtocolDone, AddedNode::Named { node })?,
+    })
+}
+
+/// The host ends the adding, and the chip is done.
+fn closing_units(alloc: Global, node: NodeId) -> Result<TwoUnits, NoMemory>
+    ensures { IfOk result (λ units. units ≡ closing_units node) }
+{
+    Ok(TwoUnits {
+        first: host_unit(alloc, AddMode::Stop)?,
+        second: chip_unit(alloc, AddStatus::Done, AddedNode::Named { node })?,
+    })
+}
+
 /// The units of the adding of a node.
 pub(crate) fn units_of(alloc: Global, node: NodeId) -> Result<AddUnits, NoMemory>
     ensures { IfOk result (λ units. units ≡ units_of node) }
 {
     Ok(AddUnits {
-        add: host_unit(alloc, AddMode::Any)?,
-        ready: chip_unit(alloc, AddStatus::LearnReady, AddedNode::Unnamed)?,
-        device: chip_unit(alloc, AddStatus::AddingSlave, lock(alloc, node)?)?,
-        radio: chip_unit(alloc, AddStatus::ProtocolDone, AddedNode::Named { node })?,
-        stop: host_unit(alloc, AddMode::Stop)?,
-        done: chip_unit(alloc, AddStatus::Done, AddedNode::Named { node })?,
+        opening: opening_units(alloc)?,
+        found: found_units(alloc, node)?,
+        closing: closing_units(alloc, node)?,
     })
 }

@@ -11,10 +11,10 @@ use Rattle.include_text.specs.declared.entry.IncludeRefusal.TheVariants.{Secure 
 use Rattle.include_world.specs.World.{WorldState, Doing, IncludeEvent, Says, AllDrawn, adds, after_all, begins, does, entries_all, joiner_of, refused}
 use Rattle.include_world.specs.Line.{IsLine, IsTicks}
 use Rattle.include_world.specs.Added.{IsSecure, last_word}
-use Rattle.include_world.specs.Ending.{Accepts, AddsAndTicks}
+use Rattle.proof_include.specs.Ending.{Accepts, AddsAndTicks}
 use Rattle.include_world.proofs.DoneEvents.{AllDrawn-append, after_all-append}
 use Rattle.include_world.proofs.Events.{added, holds_all, secure_said}
-use Rattle.include_world.proofs.Ticking.{drawn_prefix, drawn_rest}
+use Rattle.proof_include.proofs.Ticking.{drawn_prefix, drawn_rest}
 use Rattle.proof_include.specs.Adding.{Adds, IsAccepted, IsTickLine, ticks_asked}
 use Rattle.proof_include.specs.Lines.{AreLines, CameTo}
 use Rattle.proof_include.proofs.Lines.{came_holds, came_stands, ends_in}

@@ -18,10 +18,10 @@ use Rattle.include_world.specs.declared.flight.Heading.TheVariants.{Outward, Hom
 use Rattle.include_world.proofs.AirFacts.{Each}
 use Rattle.include_world.proofs.KeyFacts.{report_is, no_some, named_in_sealed}
 use Rattle.include_world.proofs.HostFacts.{Setting}
-use Rattle.include_world.proofs.HostShows.{seen_of, Counting}
-use Rattle.include_world.proofs.NearFacts.{Way, Alive}
-use Rattle.include_world.proofs.ShowFacts.{message_of_sealed}
-use Rattle.include_world.proofs.Stages.{nonce_asked}
+use Rattle.proof_include.proofs.HostShows.{seen_of, Counting}
+use Rattle.proof_include.proofs.NearFacts.{Way, Alive}
+use Rattle.proof_include.proofs.ShowFacts.{message_of_sealed}
+use Rattle.proof_include.proofs.Stages.{nonce_asked}
 use Rattle.proof_include.proofs.Numbers.{byte_in, OfByte, Near_number, Sends}
 
 -- how many it may still take in an exchange: one that waits, or that was not asked yet

@@ -1,3 +1,12 @@
+pub mod NearFacts
+pub mod ShowFacts
+pub mod HostShows
+pub mod NearWorld
+pub mod Stages
+pub mod HostStages
+pub mod ExchangeSteps
+pub mod Ticking
+pub mod Starting
 pub mod Flights
 pub mod Numbers
 pub mod HostNumbers

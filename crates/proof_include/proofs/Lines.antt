@@ -18,17 +18,17 @@ use Rattle.include_world.specs.Air.{AirState, pair_of, departing, first_air, no_
 use Rattle.include_world.specs.World.{WorldState, Doing, IncludeEvent, Says, does, adds, begins, refused, joiner_of, first_world, first_joiner, after_all, entries_all, AllDrawn, Did}
 use Rattle.include_world.specs.Line.{IsLine, IsTicks}
 use Rattle.include_world.specs.Added.{IsSecure, last_word}
-use Rattle.include_world.specs.Ending.{Accepts, AddsAndTicks}
+use Rattle.proof_include.specs.Ending.{Accepts, AddsAndTicks}
 use Rattle.include_world.proofs.DoneEvents.{after_all-append, entries_all-append, AllDrawn-append, says_sent}
 use Rattle.include_world.proofs.Sending.{departing_grows}
 use Rattle.include_world.proofs.Events.{Holds, holds_all, first_holds, secure_said}
-use Rattle.include_world.proofs.HostShows.{seen_of}
-use Rattle.include_world.proofs.NearFacts.{Way}
-use Rattle.include_world.proofs.ShowFacts.{Ready}
-use Rattle.include_world.proofs.Stages.{SchemeAsked}
-use Rattle.include_world.proofs.ExchangeSteps.{Going, unmarked}
-use Rattle.include_world.proofs.Ticking.{Ahead, Calm, drawn_prefix, drawn_rest, ticks_end}
-use Rattle.include_world.proofs.Starting.{begins_going}
+use Rattle.proof_include.proofs.HostShows.{seen_of}
+use Rattle.proof_include.proofs.NearFacts.{Way}
+use Rattle.proof_include.proofs.ShowFacts.{Ready}
+use Rattle.proof_include.proofs.Stages.{SchemeAsked}
+use Rattle.proof_include.proofs.ExchangeSteps.{Going, unmarked}
+use Rattle.proof_include.proofs.Ticking.{Ahead, Calm, drawn_prefix, drawn_rest, ticks_end}
+use Rattle.proof_include.proofs.Starting.{begins_going}
 use Rattle.proof_include.specs.Lines.{AreLines, CameTo}
 use Rattle.proof_include.proofs.Numbers.{LastIs}
 use Rattle.proof_include.proofs.TickParts.{split_ticks, ticks_less}

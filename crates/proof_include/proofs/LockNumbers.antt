@@ -16,9 +16,9 @@ use Rattle.inclusion.specs.Joining.{Joining, Joined, joiner_takes, takes_message
 use Rattle.include_world.specs.declared.flight.Heading.TheVariants.{Outward, Homeward}
 use Rattle.include_world.specs.Air.{nonce_in}
 use Rattle.include_world.proofs.AirFacts.{Each}
-use Rattle.include_world.proofs.NearFacts.{Way, Alive, way_give}
-use Rattle.include_world.proofs.ShowFacts.{message_of_sealed}
-use Rattle.include_world.proofs.Stages.{scheme_told, nonce_asked}
+use Rattle.proof_include.proofs.NearFacts.{Way, Alive, way_give}
+use Rattle.proof_include.proofs.ShowFacts.{message_of_sealed}
+use Rattle.proof_include.proofs.Stages.{scheme_told, nonce_asked}
 use Rattle.proof_include.proofs.Numbers.{byte_in, OfByte, Near_number, Sends}
 
 -- what a lock did: it gave a nonce, or gave none

@@ -13,7 +13,7 @@ use Rattle.include_world.specs.declared.flight.Flight.{Flight}
 use Rattle.include_world.specs.declared.flight.Pair.{Pair}
 use Rattle.include_world.specs.Air.{AirState, pair_of, flight, departing, sending, showing, showing_nonce, nonce_in, is_news, no_counts}
 use Rattle.include_world.proofs.AirFacts.{Each, began_pairs}
-use Rattle.include_world.proofs.Stages.{nonce_told}
+use Rattle.proof_include.proofs.Stages.{nonce_told}
 use Rattle.proof_include.proofs.Flights.{Flights, flights_departing, flights_map}
 
 -- the first byte of a nonce of the lock that a message carries: one that it gave, or one that the host sealed for

@@ -22,12 +22,12 @@ use Rattle.include_world.proofs.AirFacts.{frames_forgotten}
 use Rattle.include_world.proofs.HostFacts.{Hosts, host_takes as host_fact}
 use Rattle.include_world.proofs.KeyFacts.{Tells}
 use Rattle.include_world.proofs.WorldFacts.{Fact, does_step}
-use Rattle.include_world.proofs.HostShows.{seen_of, host_away}
-use Rattle.include_world.proofs.NearFacts.{Way}
-use Rattle.include_world.proofs.ShowFacts.{Shows, Ready}
-use Rattle.include_world.proofs.NearWorld.{Near, near_lands, near_passes, near_ends}
-use Rattle.include_world.proofs.Stages.{scheme_asked}
-use Rattle.include_world.proofs.Starting.{near_reset_elsewhere, near_repeats, near_adds}
+use Rattle.proof_include.proofs.HostShows.{seen_of, host_away}
+use Rattle.proof_include.proofs.NearFacts.{Way}
+use Rattle.proof_include.proofs.ShowFacts.{Shows, Ready}
+use Rattle.proof_include.proofs.NearWorld.{Near, near_lands, near_passes, near_ends}
+use Rattle.proof_include.proofs.Stages.{scheme_asked}
+use Rattle.proof_include.proofs.Starting.{near_reset_elsewhere, near_repeats, near_adds}
 use Rattle.proof_include.proofs.Flights.{flights_map, flights_forgotten, flights_remembered, pair_elsewhere, arriving_flight, repeated_flight}
 use Rattle.proof_include.proofs.Numbers.{OfByte, byte_in, Tally, Carries, Close, close_landing, close_fresh, carries_on, carries_ends, carries_most, tally, AirCounts, air_on, air_away, air_sends, air_reports, sending_away, sending_sends, LastIs}
 use Rattle.proof_include.proofs.HostNumbers.{may_of, may_in, more_one, in_one, cond_less, may_away, may_ends, host_takes}

@@ -5,7 +5,7 @@ use Rattle.include_world.specs.Air.{AirState, arriving, flying}
 use Rattle.include_world.specs.World.{WorldState, IncludeEvent, Says, Passes, Lands, Ends, does, after_all, lands_by, AllSent, AllDrawn}
 use Rattle.include_world.specs.Line.{IsTick, IsTicks, IsLine, ticks_of}
 use Rattle.include_world.proofs.DoneEvents.{after_all-append, lands_grows, says_sent}
-use Rattle.include_world.proofs.Ticking.{drawn_prefix, drawn_rest}
+use Rattle.proof_include.proofs.Ticking.{drawn_prefix, drawn_rest}
 use Rattle.proof_include.specs.Lines.{AreLines}
 use Rattle.proof_include.proofs.Sound.{Sound, sound_most, sound_says, sound_lands, sound_passes, sound_ends}
 

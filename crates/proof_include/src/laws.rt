@@ -1,15 +1,24 @@
-//! What holds in worlds that lines lead to. Each law is the contract of a function without a body.
+//! When an exchange ends well, in worlds that events or lines lead to. Each law is the contract of a function without a body.
 
 ghost use Rattle.std.specs.Prelude.{◌≡◌, ◌≤◌, ℕ, List, [], ◌∷◌, ◌++◌, length, Some, None};
 ghost use Rattle.include_text.specs.declared.entry.IncludeEntry.{IncludeEntry as AnyEntry};
 ghost use Rattle.include_text.specs.declared.line.IncludeLine.{IncludeLine as AnyLine};
 ghost use Rattle.include_text.specs.declared.line.IncludeLine.TheVariants.{Add};
-ghost use Rattle.include_world.specs.World.{WorldState, IncludeEvent, AllDrawn, Did, entries_all, first_world, joiner_of};
+ghost use Rattle.include_world.specs.World.{WorldState, IncludeEvent, AllDrawn, AllSent, Did, entries_all, first_world, joiner_of};
 ghost use Rattle.include_world.specs.Line.{IsLine};
-ghost use Rattle.include_world.specs.Added.{IsSecure, last_word};
-ghost use Rattle.include_world.specs.Ending.{Accepts, AddsAndTicks};
+ghost use Rattle.include_world.specs.Added.{IsSecure, Reached, last_word};
+ghost use Rattle.proof_include.specs.Ending.{Accepts, AddsAndTicks, TookNone};
 ghost use Rattle.proof_include.specs.Adding.{Adds};
 ghost use Rattle.proof_include.specs.Lines.{AreLines, CameTo};
+
+/// An exchange with a lock that took no key before ends well: after an `add` that is accepted with no mark of `lose` left, and
+/// eight ticks with no line between, `secure` is the last word on the node. That no more frames arrived than were sent is so of a
+/// new world, and each line keeps it.
+pub fn exchange_ends()
+    ensures { (key : List ℕ) (T : List AnyEntry) (world : WorldState) → Reached key T world → AllSent world → (node : ℕ) → 1 ≤ node →
+        node ≤ 232 → TookNone node T → Accepts node world →
+        (events : List IncludeEvent) → AddsAndTicks node 8 world events → last_word node (T ++ entries_all world events) ≡ Some IsSecure }
+{}
 
 /// Lines lead to the first world, and one line more leads on.
 pub fn lines_lead_on()

@@ -23,20 +23,20 @@ use Rattle.include_world.specs.declared.flight.Heading.TheVariants.{Outward}
 use Rattle.include_world.specs.Air.{AirState, pair_of, flight, departing, forgetting, refusal_of, flight_at, first_air, no_counts}
 use Rattle.include_world.specs.World.{WorldState, Doing, IncludeEvent, Says, Passes, Lands, Ends, does, says, adds, begins, refused, resets, repeats, joiner_of, first_world, first_joiner, after_all, entries_all, AllDrawn, AllSent, IsDrawn}
 use Rattle.include_world.specs.Added.{IsSecure, last_of, last_word, Reached}
-use Rattle.include_world.specs.Ending.{key_taken, TookNone, Accepts, AddsAndTicks}
+use Rattle.proof_include.specs.Ending.{key_taken, TookNone, Accepts, AddsAndTicks}
 use Rattle.include_world.proofs.DoneEvents.{says_sent}
 use Rattle.include_world.proofs.AirFacts.{Frames, frames_departing, frames_forgotten, frames_remembered, repeated_comes, departing_forgotten}
 use Rattle.include_world.proofs.Sending.{departing_grows}
 use Rattle.include_world.proofs.Saying.{keys_in}
 use Rattle.include_world.proofs.WorldFacts.{Fact, does_step}
 use Rattle.include_world.proofs.Events.{Holds, holds_all, holds_more, first_holds, secure_said}
-use Rattle.include_world.proofs.NearFacts.{Way}
-use Rattle.include_world.proofs.ShowFacts.{Shows, OutShows, Ready}
-use Rattle.include_world.proofs.HostShows.{seen_of}
-use Rattle.include_world.proofs.NearWorld.{Near, Says_of, both_frames, near_heard, near_lands, near_passes, near_ends}
-use Rattle.include_world.proofs.Stages.{SchemeAsked, scheme_asked}
-use Rattle.include_world.proofs.ExchangeSteps.{Going, spot_new, unmarked}
-use Rattle.include_world.proofs.Ticking.{Calm, ticks_end}
+use Rattle.proof_include.proofs.NearFacts.{Way}
+use Rattle.proof_include.proofs.ShowFacts.{Shows, OutShows, Ready}
+use Rattle.proof_include.proofs.HostShows.{seen_of}
+use Rattle.proof_include.proofs.NearWorld.{Near, Says_of, both_frames, near_heard, near_lands, near_passes, near_ends}
+use Rattle.proof_include.proofs.Stages.{SchemeAsked, scheme_asked}
+use Rattle.proof_include.proofs.ExchangeSteps.{Going, spot_new, unmarked}
+use Rattle.proof_include.proofs.Ticking.{Calm, ticks_end}
 
 -- ---- lines
 

@@ -17,8 +17,8 @@ use Rattle.include_world.proofs.Sending.{departing_grows}
 use Rattle.include_world.proofs.KeyFacts.{Tells}
 use Rattle.include_world.proofs.HostFacts.{Hosts, host_takes}
 use Rattle.include_world.proofs.WorldFacts.{Fact}
-use Rattle.include_world.proofs.ShowFacts.{Shows, Ready, lock_turns}
-use Rattle.include_world.proofs.HostShows.{Counting, seen_of, host_keeps, host_away}
+use Rattle.proof_include.proofs.ShowFacts.{Shows, Ready, lock_turns}
+use Rattle.proof_include.proofs.HostShows.{Counting, seen_of, host_keeps, host_away}
 
 pub record Near (key : List ℕ) (node : ℕ) (w : WorldState) : Type 0 where
   pub books : node < length w.includer.book

@@ -20,7 +20,7 @@ use Rattle.include_world.specs.declared.flight.Heading.{Heading}
 use Rattle.include_world.specs.declared.flight.Heading.TheVariants.{Outward, Homeward}
 use Rattle.include_world.proofs.AirFacts.{Each}
 use Rattle.include_world.proofs.KeyFacts.{OutIs, OneKey, Sets, report_is, seals_text, the_key, no_some, takes_it, holds_on}
-use Rattle.include_world.proofs.NearFacts.{Way, way_give, way_taken, way_all}
+use Rattle.proof_include.proofs.NearFacts.{Way, way_give, way_taken, way_all}
 
 -- a payload is the Verify of a lock that has the key, sealed for a nonce of the host that is live while the lock is not secure
 pub record Verifies (key : List ℕ) (node : ℕ) (secure : Bool) (lock : Joining) (account : Account) (payload : List ℕ) : Type 0 where

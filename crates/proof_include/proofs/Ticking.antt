@@ -16,10 +16,10 @@ use Rattle.include_world.proofs.DoneEvents.{lands_grows, after_all-append}
 use Rattle.include_world.proofs.AirFacts.{Comes, arriving_comes}
 use Rattle.include_world.proofs.HostFacts.{Hosts, host_takes}
 use Rattle.include_world.proofs.WorldFacts.{Fact, does_step}
-use Rattle.include_world.proofs.NearWorld.{Near, Says_of, both_frames, near_lands, near_passes, near_ends}
-use Rattle.include_world.proofs.Stages.{Stage, SchemeAsked, SchemeTold, NonceAsked, NonceTold, KeySet, KeyTaken, NonceGiven, VerifySent, rank, IsFor, HostAt}
-use Rattle.include_world.proofs.HostStages.{Under}
-use Rattle.include_world.proofs.ExchangeSteps.{Spot, Going, Later, Heard, lock_here, lock_elsewhere, host_here, host_elsewhere}
+use Rattle.proof_include.proofs.NearWorld.{Near, Says_of, both_frames, near_lands, near_passes, near_ends}
+use Rattle.proof_include.proofs.Stages.{Stage, SchemeAsked, SchemeTold, NonceAsked, NonceTold, KeySet, KeyTaken, NonceGiven, VerifySent, rank, IsFor, HostAt}
+use Rattle.proof_include.proofs.HostStages.{Under}
+use Rattle.proof_include.proofs.ExchangeSteps.{Spot, Going, Later, Heard, lock_here, lock_elsewhere, host_here, host_elsewhere}
 
 heard_by : (key : List ℕ) (node left : ℕ) (s : Stage) (i : ℕ) (w : WorldState) (coming : Coming) (drawn : List ℕ) → length drawn ≡ 8 → Fact key node w → Near key node w → w.air.losing ≡ 0
     → is_secure w.includer node ≡ false → (h : Heading) → (coming.node ≡ node → Says_of key node w h coming.payload) → coming.heading ≡ h

@@ -15,10 +15,10 @@ use Rattle.include_world.specs.Air.{AirState, pair_of, flight, departing, sendin
 use Rattle.include_world.specs.World.{WorldState, lock_hears, host_hears, joiner_of}
 use Rattle.include_world.proofs.AirFacts.{departing_forgotten}
 use Rattle.include_world.proofs.WorldFacts.{Fact}
-use Rattle.include_world.proofs.HostShows.{seen_of, Counting}
-use Rattle.include_world.proofs.NearWorld.{Near, Says_of}
-use Rattle.include_world.proofs.Stages.{Stage, rank, heading_of, IsFor, LockAt, lock_goes}
-use Rattle.include_world.proofs.HostStages.{Under, host_goes}
+use Rattle.proof_include.proofs.HostShows.{seen_of, Counting}
+use Rattle.proof_include.proofs.NearWorld.{Near, Says_of}
+use Rattle.proof_include.proofs.Stages.{Stage, rank, heading_of, IsFor, LockAt, lock_goes}
+use Rattle.proof_include.proofs.HostStages.{Under, host_goes}
 
 -- a frame of a node that will be heard
 pub record Spot (node i : ℕ) (f : Flight) (air : AirState) : Type 0 where

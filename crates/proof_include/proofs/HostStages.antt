@@ -15,10 +15,10 @@ use Rattle.inclusion.specs.Joining.{Joining}
 use Rattle.inclusion.specs.Including.{Including, Included, quiet, is_secure, asking, asks, has_asked, takes_scheme, gives_nonce, takes_nonce, takes_sealed, takes_message, includer_takes, is_with, verified, spending, sealing}
 use Rattle.include_world.specs.declared.flight.Heading.TheVariants.{Outward, Homeward}
 use Rattle.include_world.proofs.KeyFacts.{HomeIs, no_some}
-use Rattle.include_world.proofs.NearFacts.{way_taken, given_eight}
-use Rattle.include_world.proofs.ShowFacts.{HomeShows, Ready, message_of_sealed}
-use Rattle.include_world.proofs.HostShows.{seen_of, verify_opens}
-use Rattle.include_world.proofs.Stages.{Stage, SchemeAsked, SchemeTold, NonceAsked, NonceTold, KeySet, KeyTaken, NonceGiven, VerifySent, rank, heading_of, IsFor, LockAt, HostAt, nonce_asked, nonce_told}
+use Rattle.proof_include.proofs.NearFacts.{way_taken, given_eight}
+use Rattle.proof_include.proofs.ShowFacts.{HomeShows, Ready, message_of_sealed}
+use Rattle.proof_include.proofs.HostShows.{seen_of, verify_opens}
+use Rattle.proof_include.proofs.Stages.{Stage, SchemeAsked, SchemeTold, NonceAsked, NonceTold, KeySet, KeyTaken, NonceGiven, VerifySent, rank, heading_of, IsFor, LockAt, HostAt, nonce_asked, nonce_told}
 
 -- the exchange under way with a node, with so many ticks left at least
 pub record Under (node left : ℕ) (s : Stage) (host : Including) : Type 0 where

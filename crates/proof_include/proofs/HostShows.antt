@@ -21,8 +21,8 @@ use Rattle.include_world.specs.declared.flight.Heading.TheVariants.{Outward, Hom
 use Rattle.include_world.proofs.AirFacts.{Each}
 use Rattle.include_world.proofs.KeyFacts.{HomeIs, report_is, no_some, spends, named_in_sealed, sealed_opens}
 use Rattle.include_world.proofs.HostFacts.{Setting}
-use Rattle.include_world.proofs.NearFacts.{Way, way_give, way_taken, way_all, way_spend}
-use Rattle.include_world.proofs.ShowFacts.{Verifies, HomeShows, OutShows, Shows, Ready, message_of_sealed}
+use Rattle.proof_include.proofs.NearFacts.{Way, way_give, way_taken, way_all, way_spend}
+use Rattle.proof_include.proofs.ShowFacts.{Verifies, HomeShows, OutShows, Shows, Ready, message_of_sealed}
 
 -- how many nonces of a node the host has taken
 abbrev pub seen_of : Including → ℕ → ℕ

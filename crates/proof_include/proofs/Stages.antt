@@ -15,8 +15,8 @@ use Rattle.inclusion.specs.Joining.{Joining, Joined, joiner_takes, takes_message
 use Rattle.include_world.specs.declared.flight.Heading.{Heading}
 use Rattle.include_world.specs.declared.flight.Heading.TheVariants.{Outward, Homeward}
 use Rattle.include_world.proofs.KeyFacts.{OutIs, OneKey, Sets, no_some, takes_it}
-use Rattle.include_world.proofs.NearFacts.{way_taken, given_eight}
-use Rattle.include_world.proofs.ShowFacts.{OutShows, Ready, Waiting, message_of_sealed}
+use Rattle.proof_include.proofs.NearFacts.{way_taken, given_eight}
+use Rattle.proof_include.proofs.ShowFacts.{OutShows, Ready, Waiting, message_of_sealed}
 
 -- what was done last: the host asked for the scheme, the lock told it, and so on
 pub data Stage : Type 0 where
