@@ -8,7 +8,7 @@ mod FactsKept
 pub mod Pumps
 mod Rounds
 mod Payloads
-mod Rising
+pub mod Rising
 mod Ended
 mod Opened
 mod Places
@@ -21,7 +21,7 @@ mod Counts
 pub mod OpenSessions
 mod Removed
 mod Steps
-mod Begun
+pub mod Begun
 mod Cancelled
 mod Finished
 mod Taken
@@ -35,3 +35,5 @@ mod Restores
 mod Legal
 pub mod Fold
 pub mod Recorded
+pub mod Own
+pub mod Silence

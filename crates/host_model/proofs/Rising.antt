@@ -21,6 +21,10 @@ rise-push (first ∷ rest) last all r = (
   rise-push rest last (All-tail (λ other. other < last) first rest all) r.1,
 )
 
+pub rise-left : (a b : List ℕ) → Rise (a ++ b) → Rise a
+rise-left [] b r = tt
+rise-left (first ∷ rest) b r = (all-left (λ other. first < other) rest b r.0, rise-left rest b r.1)
+
 pub rise-right : (a b : List ℕ) → Rise (a ++ b) → Rise b
 rise-right [] b r = r
 rise-right (first ∷ rest) b r = rise-right rest b r.1

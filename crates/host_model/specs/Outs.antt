@@ -1,5 +1,5 @@
 -- What a host puts out at each event: units for the chip and entries of the transcript (this project's own rules).
-use Rattle.std.specs.Prelude.{ℕ, Bool, true, false, List, [], ◌∷◌, ◌++◌, map, Option, Some, None}
+use Rattle.std.specs.Prelude.{ℕ, ◌+◌, Bool, true, false, List, [], ◌∷◌, ◌++◌, length, map, Option, Some, None}
 use Rattle.zw_base.specs.declared.property.Setting.{Setting}
 use Rattle.zw_text.specs.declared.entry.Entry.{Entry}
 use Rattle.zw_text.specs.declared.entry.Entry.TheVariants as entry
@@ -118,3 +118,10 @@ outs h (Gives_text n payload) = frame_out h (Attempt n false payload)
 outs h (Gives_segment n more payload) = frame_out h (Attempt n more payload)
 outs h (Begins n session command) = Note (entry.Begin n session command) ∷ []
 outs h (Begin_unkept n) = Note (entry.Unkept n) ∷ []
+
+-- what is answered to the line that asked for the event, by whoever drives the host: the number of a command that was taken, and that one was
+-- cancelled
+abbrev pub answers : HostState → HostEvent → List Entry
+answers h (Accepts order carriage) = entry.Accepted (length h.commands + 1) order.node ∷ []
+answers h (Cancels command) = entry.Out command ended.Cancelled ∷ []
+answers h event = []

@@ -6,7 +6,7 @@ ghost use Rattle.device_sim.specs.Event.{Ticks, device_after, device_replies};
 ghost use Rattle.mesh_sim.specs.Fates.{place_of};
 ghost use Rattle.outside_model.specs.Results.{told_profile, device_at};
 ghost use Rattle.outside_calls.specs.Acting.{act_event};
-ghost use Rattle.outside_model.specs.Devices.{device_entries};
+ghost use Rattle.outside_model.specs.Devices.{device_entries, kept_entries};
 ghost use Rattle.outside_model.specs.Nodes.{listens_at};
 
 use crate::acting::Act;
@@ -75,8 +75,7 @@ fn tell_first(
     told: &mut List<Entry>,
 ) -> Result<(), NoMemory>
     requires few { length devices.now.items < 2 ^ 64 }
-    ensures { OnOk result (told.new.items ≡ told.old.items ++
-        device_entries node (device_at (map (λ d. state d) devices.now.items) (place_of node (map (λ d. state d) devices.now.items)))) }
+    ensures { OnOk result (told.new.items ≡ told.old.items ++ kept_entries node (map (λ d. state d) devices.now.items)) }
 {
     match place_in(devices, node) {
         Some(place) => tell_device(&devices[place], node, alloc, told),
@@ -92,8 +91,7 @@ pub fn list_device(
     out: &mut List<Entry>,
 ) -> Result<(), NoMemory>
     requires few { length devices.now.items < 2 ^ 64 }
-    ensures ok { OnOk result (out.new.items ≡ out.old.items ++
-        device_entries node (device_at (map (λ d. state d) devices.now.items) (place_of node (map (λ d. state d) devices.now.items)))) }
+    ensures ok { OnOk result (out.new.items ≡ out.old.items ++ kept_entries node (map (λ d. state d) devices.now.items)) }
     ensures no_entries { OnErr result (out.new.items ≡ out.old.items) }
 {
     let mut told = List::new(alloc);

@@ -9,6 +9,7 @@ use Rattle.device_stack.specs.Showing.{shown_of}
 use Rattle.device_sim.specs.State.{State}
 use Rattle.device_sim.specs.Event.{DeviceEvent, device_after, device_replies}
 use Rattle.mesh_sim.specs.Air.{is_joined}
+use Rattle.mesh_sim.specs.Fates.{place_of}
 use Rattle.mesh_sim.specs.Routes.{IsRoute, backwards}
 use Rattle.mesh_sim.specs.Steps.{answered_if, answers_if}
 use Rattle.zw_text.specs.declared.entry.Entry.{Entry}
@@ -16,6 +17,7 @@ use Rattle.zw_text.specs.declared.entry.Entry.TheVariants.{Refused, Device}
 use Rattle.zw_text.specs.declared.entry.Refusal.TheVariants.{NoDevice}
 use Rattle.outside_model.specs.State.{OuterState, Outcome, silent, tells, and_then}
 use Rattle.outside_model.specs.Air.{change_entries, sent_entries}
+use Rattle.outside_model.specs.Results.{device_at}
 
 -- changes of a device, one after another
 abbrev pub changes_entries : ℕ → List Change → List Entry
@@ -76,6 +78,10 @@ MayActByHand o devices (Some place) event route = MayAct o (slice_get devices pl
 abbrev pub device_entries : ℕ → Option State → List Entry
 device_entries node None = []
 device_entries node (Some device) = map (λ (setting : Setting). Device node setting) (shown_of device)
+
+-- what the first device of a node keeps
+abbrev pub kept_entries : ℕ → List State → List Entry
+kept_entries node devices = device_entries node (device_at devices (place_of node devices))
 
 -- what is shown of a device; refused where there is none
 abbrev pub shown_entries : ℕ → Option State → List Entry

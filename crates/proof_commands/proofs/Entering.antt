@@ -7,15 +7,14 @@ use Rattle.zw_text.specs.declared.entry.Entry.TheVariants.{Time}
 use Rattle.host_model.specs.State.{HostState}
 use Rattle.host_model.specs.Events.{HostEvent, Accepts, Cancels}
 use Rattle.host_model.specs.After.{after}
-use Rattle.host_model.specs.Outs.{outs}
+use Rattle.host_model.specs.Outs.{outs, answers}
 use Rattle.host_model.specs.May.{May as MayHost}
 use Rattle.host_model.specs.Did.{MayAll as MayAllHost, after_all, outs_all}
 use Rattle.host_model.specs.declared.out.HostOut.{HostOut}
 use Rattle.host_model.specs.declared.out.HostOut.TheVariants.{Write, Note}
-use Rattle.proof_host.specs.Entries.{IsAside, notes_of, answers_at, entries_at}
+use Rattle.host_model.proofs.Silence.{Silent}
+use Rattle.proof_host.specs.Entries.{IsAside, notes_of, entries_at}
 use Rattle.proof_host.specs.Facts.{Facts}
-use Rattle.world_model.specs.Events.{answers}
-use Rattle.world_model.proofs.Hosting.{Silent}
 use Rattle.proof_world.proofs.Aside.{Asides}
 use Rattle.proof_world.proofs.Notes.{Puts, puts_at, Trailing, after_nothing}
 use Rattle.run_replay.specs.Machine.{entry_of, entries_of, timed}
@@ -44,11 +43,6 @@ puts_first puts is =
 
 -- ---- answers
 
-same_answers : (h : HostState) (event : HostEvent) → answers_at h event ≡ answers h event
-same_answers h (Accepts order carriage) = refl
-same_answers h (Cancels command) = refl
-same_answers h _ = refl
-
 -- an event answers nothing, or puts out nothing
 one_of_both : (h : HostState) (event : HostEvent) → (answers h event ≡ []) ⊎ (outs h event ≡ [])
 one_of_both h (Accepts order carriage) = inr refl
@@ -57,15 +51,15 @@ one_of_both h _ = inl refl
 
 silent_after : (h : HostState) (event : HostEvent) → answers h event ≡ [] → Trailing (entries_at h event) (entries_of (outs h event))
 silent_after h event none =
-    subst (λ (l : List Entry). Trailing (l ++ notes_of (outs h event)) (entries_of (outs h event))) (sym (same_answers h event ∙ none)) (puts_first (outs h event) (puts_at h event))
+    subst (λ (l : List Entry). Trailing (l ++ notes_of (outs h event)) (entries_of (outs h event))) (sym none) (puts_first (outs h event) (puts_at h event))
 
 answered : (h : HostState) (event : HostEvent) → (answers h event ≡ []) ⊎ (outs h event ≡ []) → Trailing (entries_at h event) (entries_of (outs h event) ++ answers h event)
 answered h event (inl none) =
     subst (λ (l : List Entry). Trailing (entries_at h event) (entries_of (outs h event) ++ l)) (sym none)
     (subst (λ (l : List Entry). Trailing (entries_at h event) l) (sym (append-nil (entries_of (outs h event)))) (silent_after h event none))
 answered h event (inr none) =
-    subst (λ (l : List HostOut). Trailing (answers_at h event ++ notes_of l) (entries_of l ++ answers h event)) (sym none)
-    (subst (λ (l : List Entry). Trailing l (answers h event)) (sym (append-nil (answers_at h event) ∙ same_answers h event)) (after_nothing (answers h event)))
+    subst (λ (l : List HostOut). Trailing (answers h event ++ notes_of l) (entries_of l ++ answers h event)) (sym none)
+    (subst (λ (l : List Entry). Trailing l (answers h event)) (sym (append-nil (answers h event))) (after_nothing (answers h event)))
 
 pub asked_following : (h : HostState) (event : HostEvent) → Trailing (entries_at h event) (entries_of (outs_all h (event ∷ [])) ++ answers h event)
 asked_following h event =

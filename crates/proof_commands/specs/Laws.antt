@@ -34,7 +34,7 @@ use Rattle.proof_world.specs.Devices.{GroupsSessions}
 use Rattle.proof_world.specs.Restarts.{AllKeepWell, BeginsEmpty}
 use Rattle.proof_headline.specs.Truly.{SucceedsAfterChangeOf}
 use Rattle.proof_headline.specs.Supervised.{IsSupervisedNode}
-use Rattle.proof_records.specs.Records.{HasRecords}
+use Rattle.proof_transcript.specs.Records.{HasRecords}
 use Rattle.proof_commands.specs.Around.{Around}
 
 -- ---- stories

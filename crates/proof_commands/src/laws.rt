@@ -33,10 +33,10 @@ use proof_headline::{
 };
 use proof_host::{asides_keep_facts, laws_follow};
 use proof_line::{lines_collide_when_asked, lines_mark_units};
-use proof_records::records_are_what_is_shown;
 use proof_transcript::{
     commands_are_taken_back_when_asked, lines_lose_marked_frames, lines_number_frames,
-    sessions_begin_with_their_unit, ticks_decide_each_frame, values_are_stored_as_asked,
+    records_are_what_is_shown, sessions_begin_with_their_unit, ticks_decide_each_frame,
+    values_are_stored_as_asked,
 };
 use proof_world::{
     lines_keep_and_ask_well, restarts_go_on, runs_take_once, the_machine_keeps_facts,

@@ -14,7 +14,7 @@ use Rattle.world_model.specs.Events.{Event, Host_does}
 use Rattle.world_model.specs.Did.{AllAlong}
 use Rattle.world_model.specs.Lines.{IsEffect}
 use Rattle.world_model.specs.Prefixes.{IsLineBefore}
-use Rattle.world_model.proofs.Own.{IsOwn}
+use Rattle.host_model.proofs.Own.{IsOwn}
 use Rattle.world_model.proofs.Pieces.{Of, Law, Pieces, of_none, of_then, of_line_before}
 use Rattle.world_model.proofs.Along.{IsAskedBy, IsOfPart, IsOfEffect, along, pieces_along, effect_along, anywhere}
 use Rattle.proof_serial.specs.Line.{AreLines}

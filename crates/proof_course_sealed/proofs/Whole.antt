@@ -19,14 +19,14 @@ use Rattle.outside_model.specs.Did.{happens_all as happens_all_outside}
 use Rattle.host_model.specs.State.{HostState}
 use Rattle.host_model.specs.Events.{HostEvent}
 use Rattle.host_model.specs.After.{after as after_host}
-use Rattle.host_model.specs.Outs.{outs}
+use Rattle.host_model.specs.Outs.{outs, answers}
 use Rattle.host_model.specs.Did.{after_all, outs_all, MayAll as MayAllHost}
 use Rattle.host_model.specs.May.{May as MayHost}
 use Rattle.host_model.specs.Facts.{HostFacts}
 use Rattle.host_model.specs.Taking.{AreJudged}
 use Rattle.host_model.specs.declared.out.HostOut.{HostOut}
 use Rattle.world_model.specs.State.{Machine, with_outside, routed}
-use Rattle.world_model.specs.Events.{Event, Outside_does, Host_does, Host_takes, Decoder_ticks, Refuses, Shows_values, Restarts, answers, notes, shown_values, MayTake, May, happens}
+use Rattle.world_model.specs.Events.{Event, Outside_does, Host_does, Host_takes, Decoder_ticks, Refuses, Shows_values, Restarts, notes, shown_values, MayTake, May, happens}
 use Rattle.world_model.specs.Did.{happens_all, MayAll}
 use Rattle.proof_serial.specs.Way.{Carries}
 use Rattle.proof_serial.specs.Line.{host_units, WritesWell, AllWriteWell, OuterAtRest, IsAtRest, AllAtRest}

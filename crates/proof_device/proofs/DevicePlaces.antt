@@ -8,10 +8,11 @@ use Rattle.law_transcript.specs.Devices.{after_events}
 use Rattle.outside_model.specs.State.{Outside}
 use Rattle.zw_text.specs.declared.entry.Entry.TheVariants.{Refused}
 use Rattle.host_model.specs.Did.{outs_all}
+use Rattle.host_model.specs.Outs.{answers}
 use Rattle.outside_model.specs.Events.{OuterEvent, Host_takes as host_takes, Host_notes, happens as happens_outside}
 use Rattle.outside_model.specs.Did.{happens_all as happens_all_outside}
 use Rattle.world_model.specs.State.{Machine, routed}
-use Rattle.world_model.specs.Events.{Event, Outside_does, Host_does, Host_takes, Decoder_ticks, Refuses, Shows_values, Restarts, notes, answers, shown_values, happens}
+use Rattle.world_model.specs.Events.{Event, Outside_does, Host_does, Host_takes, Decoder_ticks, Refuses, Shows_values, Restarts, notes, shown_values, happens}
 use Rattle.world_model.specs.Did.{happens_all}
 use Rattle.proof_device.specs.GoingOn.{MovesOne, GoesOn, GoOn, IsSame, AreSame, AreInOrder}
 use Rattle.proof_device.proofs.KeptKinds.{same, same_then, event_same}

@@ -7,12 +7,13 @@ use Rattle.host_model.specs.Events.{HostEvent, Accepts}
 use Rattle.host_model.specs.Did.{outs_all}
 use Rattle.host_model.specs.declared.out.HostOut.{HostOut}
 use Rattle.host_model.specs.declared.out.HostOut.TheVariants.{Write, Note}
+use Rattle.host_model.specs.Outs.{answers}
 use Rattle.outside_model.specs.State.{Outside}
 use Rattle.outside_model.specs.Events.{Host_notes, Host_begins, Host_writes, happens, entries, outcome}
 use Rattle.outside_model.specs.Did.{happens_all, entries_all}
 use Rattle.outside_model.proofs.EventLists.{entries_all-append}
 use Rattle.world_model.specs.State.{begun_in, noted_by, routed, routed_one}
-use Rattle.world_model.specs.Events.{answers, notes}
+use Rattle.world_model.specs.Events.{notes}
 use Rattle.proof_device.proofs.Others.{IsOther, Others, stamp_other, write_other}
 use Rattle.proof_device.proofs.HostOuts.{OutIs, OutsAre, OwnIs, SharedAre, all_outs_are, answers_are}
 

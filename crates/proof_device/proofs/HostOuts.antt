@@ -30,12 +30,11 @@ use Rattle.host_model.specs.State.{HostState, node_of, command_at}
 use Rattle.host_model.specs.Sessions.{open_command, settings_with}
 use Rattle.host_model.specs.Ends.{PartEnd, Good as part_good, Passed_over, Bad, part_end, done_of, asleep_entry, out_entry, attempt_entries, part_entries, neighbours_entry, failed_entry, task_entries, end_entries, end_entries_if}
 use Rattle.host_model.specs.After.{after, requests_do, is_full, is_held, gives_up, line_ticked}
-use Rattle.host_model.specs.Outs.{answer_to, copy_out, noted, request_entries, failing_entries, dropped_if, stored_entries, held_entries, ended_of, outs}
+use Rattle.host_model.specs.Outs.{answer_to, copy_out, noted, request_entries, failing_entries, dropped_if, stored_entries, held_entries, ended_of, outs, answers}
 use Rattle.host_model.specs.Events.{HostEvent, Accepts, Cancels, Hears, Requests_do, Interviews, Interview_unkept, Unreads, Is_unkept, Reports_old, Finishes, Offers, Gives, Spends_unread, Notifies, Resends, Hears_value, Has_no_room, Line_ticks, Node_ticks, Drops_no_more, Submits_abort, Submits_front, Starts, Gives_text, Gives_segment, Begins, Begin_unkept}
 use Rattle.host_model.specs.Did.{outs_all}
 use Rattle.host_model.specs.declared.out.HostOut.{HostOut}
 use Rattle.host_model.specs.declared.out.HostOut.TheVariants.{Write, Note}
-use Rattle.world_model.specs.Events.{answers}
 
 -- its entry, where it is one, is so
 abbrev pub OutIs : (Entry → Type 0) → HostOut → Type 0

@@ -35,7 +35,7 @@ use Rattle.world_model.specs.State.{Machine}
 use Rattle.world_model.specs.Events.{Event, Outside_does, Host_does, Host_takes, happens, entries, May}
 use Rattle.world_model.specs.Did.{happens_all, entries_all, MayAll}
 use Rattle.world_model.specs.Prefixes.{LinePart}
-use Rattle.world_model.proofs.Silence.{judged_silent}
+use Rattle.host_model.proofs.Silence.{judged_silent}
 use Rattle.proof_world.specs.Restarts.{AllStartWell, StartsWell}
 use Rattle.proof_once.specs.Truly.{AreTrue, IsTrue, TellTruly, TellsTruly}
 use Rattle.proof_spoken.specs.Said.{AllKnow, KnowsListing}

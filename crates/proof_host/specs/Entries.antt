@@ -1,16 +1,15 @@
 -- The entries of a transcript at each event of a host (this project's own): the answer to an order that is accepted or to a command
 -- that is taken back, which whoever drives the host enters, and what the host notes.
-use Rattle.std.specs.Prelude.{◌+◌, List, [], ◌∷◌, ◌++◌, length}
+use Rattle.std.specs.Prelude.{List, [], ◌∷◌, ◌++◌}
 use Rattle.std.specs.List.{flat_map}
-use Rattle.zw_text.specs.declared.entry.Ended.TheVariants.{Cancelled}
 use Rattle.zw_text.specs.declared.entry.Entry.{Entry}
 use Rattle.zw_text.specs.declared.entry.Entry.TheVariants.{Accepted, Begin, Out, Store}
 use Rattle.host_model.specs.declared.out.HostOut.{HostOut}
 use Rattle.host_model.specs.declared.out.HostOut.TheVariants.{Write, Note}
 use Rattle.host_model.specs.State.{HostState}
-use Rattle.host_model.specs.Events.{HostEvent, Accepts, Cancels}
+use Rattle.host_model.specs.Events.{HostEvent}
 use Rattle.host_model.specs.After.{after}
-use Rattle.host_model.specs.Outs.{outs}
+use Rattle.host_model.specs.Outs.{outs, answers}
 
 -- what a host notes among what it puts out
 abbrev pub note_of : HostOut → List Entry
@@ -20,15 +19,9 @@ note_of (Note entry) = entry ∷ []
 abbrev pub notes_of : List HostOut → List Entry
 notes_of puts = flat_map note_of puts
 
--- the answer to a line that an event is: that an order is accepted, or a command taken back
-abbrev pub answers_at : HostState → HostEvent → List Entry
-answers_at h (Accepts order carriage) = Accepted (length h.commands + 1) order.node ∷ []
-answers_at h (Cancels command) = Out command Cancelled ∷ []
-answers_at h event = []
-
 -- the entries of an event
 abbrev pub entries_at : HostState → HostEvent → List Entry
-entries_at h event = answers_at h event ++ notes_of (outs h event)
+entries_at h event = answers h event ++ notes_of (outs h event)
 
 -- the entries of events, one after another
 abbrev pub entries_all : HostState → List HostEvent → List Entry

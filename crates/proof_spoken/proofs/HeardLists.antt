@@ -46,6 +46,7 @@ use Rattle.host_model.specs.May.{says_listens}
 use Rattle.host_model.specs.Did.{after_all as host_after_all, outs_all as host_outs_all}
 use Rattle.host_model.specs.Events.{HostEvent, Hears, Interviews, Interview_unkept}
 use Rattle.host_model.specs.Taking.{InterviewEvents, ResponseEvents, NoticeEvents, FrameEvents, told_if, IsFollowed, AreJudged}
+use Rattle.host_model.specs.Outs.{answers}
 use Rattle.device_sim.specs.Event.{Ticks, Wakes, Sets}
 use Rattle.air_frames.specs.Ages.{refusal_of}
 use Rattle.mesh_sim.specs.Fates.{place_of}
@@ -55,7 +56,7 @@ use Rattle.outside_model.specs.Nodes.{listens_at}
 use Rattle.outside_model.specs.State.{OuterState, Outside, first_outer}
 use Rattle.outside_model.specs.Events.{OuterEvent, Begins_line, Begins_tick, Host_writes, Host_takes as host_takes, Host_notes, Host_begins, Chip_takes, Arrives, Gives, Device_ticks, Chip_ticks, Repeats, Wakes_device, Sets_device, Shows, Joins, Discovers, Links, Loses, Loses_acks, Marks_loss, Marks_change, Clears_pipe, Collides_next, Stalls, Cuts, is_own, outcome, happens as happens_outside, May as MayOutside}
 use Rattle.world_model.specs.State.{Machine, host_does, first_machine}
-use Rattle.world_model.specs.Events.{Event, Outside_does, Host_does, Host_takes, Decoder_ticks, Refuses, Shows_values, Restarts, happens, May, fed, answers, shown_values}
+use Rattle.world_model.specs.Events.{Event, Outside_does, Host_does, Host_takes, Decoder_ticks, Refuses, Shows_values, Restarts, happens, May, fed, shown_values}
 use Rattle.world_model.specs.Did.{MayAll}
 use Rattle.proof_serial.specs.Way.{Carries, wanted_sum, found_sum, items_of, unit_item, changed_item, marked_items, items_all}
 use Rattle.proof_serial.specs.Chip.{HasFrames}

@@ -25,16 +25,16 @@ use Rattle.device_kinds.specs.declared.kind.Kind.TheVariants.{Switch}
 use Rattle.host_model.specs.Events.{HostEvent, Accepts, Cancels, Finishes, Interviews}
 use Rattle.host_model.specs.After.{after as host_after, is_held}
 use Rattle.host_model.specs.Did.{after_all as host_after_all}
-use Rattle.host_model.specs.Outs.{outs}
+use Rattle.host_model.specs.Outs.{outs, answers}
 use Rattle.host_model.specs.declared.out.HostOut.{HostOut}
 use Rattle.host_model.specs.declared.out.HostOut.TheVariants.{Write, Note}
-use Rattle.proof_host.specs.Entries.{answers_at, entries_at, notes_of}
+use Rattle.proof_host.specs.Entries.{entries_at, notes_of}
 use Rattle.outside_model.specs.State.{Outside}
 use Rattle.outside_model.specs.Events.{Host_writes, Host_notes, Host_begins, entries as entries_outside, outcome, ticked_entry, happens as happens_outside}
 use Rattle.outside_model.specs.Did.{entries_all as entries_all_outside, happens_all as happens_all_outside}
 use Rattle.outside_model.proofs.EventLists.{entries_all-append}
 use Rattle.world_model.specs.State.{Machine, begun_in, host_does, host_entries, noted_by, routed}
-use Rattle.world_model.specs.Events.{Event, Outside_does, Host_does, Host_takes, Decoder_ticks, Refuses, Shows_values, Restarts, answers, entries, fed, happens, notes, shown_values, May}
+use Rattle.world_model.specs.Events.{Event, Outside_does, Host_does, Host_takes, Decoder_ticks, Refuses, Shows_values, Restarts, entries, fed, happens, notes, shown_values, May}
 use Rattle.world_model.specs.Did.{happens_all, entries_all, MayAll}
 use Rattle.world_model.proofs.Hosting.{entries_cons}
 use Rattle.world_lines.specs.Spoken.{Spoken, after, after_all, entries_of, transcript_of}
@@ -131,7 +131,7 @@ notes_foreign : (h : HostState) (event : HostEvent) → IsNoInterview event → 
 notes_foreign h (Interviews n listens classes update) none = absurd none
 notes_foreign h (Finishes n session id command final.Success wake_request) none =
     (tt, routines_foreign _ (after_routine n (settings_with final.Success (command_at h.commands command)) (is_held h n wake_request)))
-notes_foreign h event none = all-right IsForeign (answers_at h event) (notes_of (outs h event)) (routines_foreign (entries_at h event) (event_routine h event tt))
+notes_foreign h event none = all-right IsForeign (answers h event) (notes_of (outs h event)) (routines_foreign (entries_at h event) (event_routine h event tt))
 
 answers_foreign : (w : Outside) (h : HostState) (event : HostEvent) → AreForeign (entries_all_outside w (notes (answers h event)))
 answers_foreign w h (Accepts order carriage) = noted_foreign w None (Accepted (length h.commands + 1) order.node) tt

@@ -8,11 +8,11 @@ use Rattle.zw_text.specs.declared.entry.Entry.{Entry}
 use Rattle.zw_text.specs.declared.entry.Entry.TheVariants.{Interviewed, Out}
 use Rattle.host_keep.specs.declared.final_status.FinalStatus.TheVariants as final
 use Rattle.host_model.specs.State.{HostState}
-use Rattle.host_model.specs.Outs.{held_entries, noted, outs, stored_entries}
+use Rattle.host_model.specs.Outs.{held_entries, noted, outs, stored_entries, answers}
 use Rattle.host_model.specs.Events.{HostEvent, Accepts, Cancels, Interviews, Finishes}
 use Rattle.host_model.specs.declared.out.HostOut.{HostOut}
 use Rattle.host_model.specs.declared.out.HostOut.TheVariants.{Write, Note}
-use Rattle.proof_host.specs.Entries.{answers_at, entries_at, notes_of}
+use Rattle.proof_host.specs.Entries.{entries_at, notes_of}
 use Rattle.proof_device.proofs.HostOuts.{OutsAre, OwnIs, SharedAre, outs_are, session_are}
 
 -- ---- the entries of an event
@@ -23,14 +23,14 @@ notes_are Is [] are = tt
 notes_are Is (Write unit ∷ puts) are = notes_are Is puts are.1
 notes_are Is (Note entry ∷ puts) are = (are.0, notes_are Is puts are.1)
 
-answers_are : (Is : Entry → Type 0) (h : HostState) (event : HostEvent) → OwnIs Is event → AllByRecursion Is (answers_at h event)
+answers_are : (Is : Entry → Type 0) (h : HostState) (event : HostEvent) → OwnIs Is event → AllByRecursion Is (answers h event)
 answers_are Is h (Accepts order carriage) own = (own (length h.commands + 1), tt)
 answers_are Is h (Cancels command) own = (own, tt)
 answers_are Is h event own = tt
 
 pub entries_are : (Is : Entry → Type 0) → SharedAre Is → (h : HostState) (event : HostEvent) → OwnIs Is event → AllByRecursion Is (entries_at h event)
 entries_are Is shared h event own =
-    all-append Is (answers_at h event) (notes_of (outs h event)) (answers_are Is h event own) (notes_are Is (outs h event) (outs_are Is shared h event own))
+    all-append Is (answers h event) (notes_of (outs h event)) (answers_are Is h event own) (notes_are Is (outs h event) (outs_are Is shared h event own))
 
 -- ---- neither of the two
 

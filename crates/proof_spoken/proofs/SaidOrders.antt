@@ -28,7 +28,7 @@ use Rattle.world_model.specs.State.{Machine}
 use Rattle.world_model.specs.Events.{Event, Outside_does, Host_does, Host_takes, Decoder_ticks, Refuses, Shows_values, Restarts, happens, entries, May}
 use Rattle.world_model.specs.Did.{happens_all, entries_all, MayAll}
 use Rattle.world_model.specs.Prefixes.{LinePart}
-use Rattle.world_model.proofs.Silence.{judged_silent}
+use Rattle.host_model.proofs.Silence.{judged_silent}
 use Rattle.world_model.proofs.EventLists.{entries_all-append}
 use Rattle.proof_world.specs.Restarts.{StartsWell, AllStartWell}
 use Rattle.world_lines.specs.Spoken.{Spoken, after, after_all, entries_of, transcript_of}

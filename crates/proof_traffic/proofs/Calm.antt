@@ -17,11 +17,12 @@ use Rattle.host_model.specs.Did.{outs_all}
 use Rattle.host_model.specs.Events.{HostEvent}
 use Rattle.host_model.specs.declared.out.HostOut.{HostOut}
 use Rattle.host_model.specs.declared.out.HostOut.TheVariants.{Write, Note}
+use Rattle.host_model.specs.Outs.{answers}
 use Rattle.outside_model.specs.State.{OuterState, Outside}
 use Rattle.outside_model.specs.Events.{Host_writes, Host_notes, Host_begins, begins, outcome, has_entered, happens as happens_outside}
 use Rattle.outside_model.specs.Did.{happens_all as happens_all_outside}
 use Rattle.world_model.specs.State.{Machine, routed, noted_by, begun_in, host_does}
-use Rattle.world_model.specs.Events.{Host_does, Host_takes, answers, notes, fed, enters, happens}
+use Rattle.world_model.specs.Events.{Host_does, Host_takes, notes, fed, enters, happens}
 use Rattle.proof_traffic.specs.OnAir.{on_air}
 use Rattle.proof_traffic.proofs.Parts.{Airs}
 

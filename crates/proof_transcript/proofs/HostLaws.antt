@@ -9,7 +9,7 @@ use Rattle.host_model.specs.State.{HostState}
 use Rattle.host_model.specs.Events.{HostEvent, Accepts, Cancels}
 use Rattle.host_model.specs.After.{after}
 use Rattle.host_model.specs.Did.{outs_all}
-use Rattle.host_model.specs.Outs.{outs}
+use Rattle.host_model.specs.Outs.{outs, answers}
 use Rattle.host_model.specs.declared.out.HostOut.{HostOut}
 use Rattle.host_model.specs.declared.out.HostOut.TheVariants.{Write, Note}
 use Rattle.outside_model.specs.State.{Outside, OuterState}
@@ -17,9 +17,9 @@ use Rattle.outside_model.specs.Events.{Host_begins, Host_notes, Host_writes, ent
 use Rattle.outside_model.specs.Did.{entries_all as entries_all_outside, happens_all as happens_all_outside}
 use Rattle.outside_model.proofs.EventLists.{entries_all-append}
 use Rattle.world_model.specs.State.{Machine, begun_in, host_does, host_entries, noted_by, routed}
-use Rattle.world_model.specs.Events.{Event, Outside_does, Host_does, Host_takes, Decoder_ticks, Refuses, Shows_values, Restarts, answers, entries, fed, happens, notes, shown_values, May}
+use Rattle.world_model.specs.Events.{Event, Outside_does, Host_does, Host_takes, Decoder_ticks, Refuses, Shows_values, Restarts, entries, fed, happens, notes, shown_values, May}
 use Rattle.world_model.specs.Did.{entries_all, MayAll}
-use Rattle.proof_host.specs.Entries.{IsAside, answers_at, entries_at, notes_of}
+use Rattle.proof_host.specs.Entries.{IsAside, entries_at, notes_of}
 use Rattle.proof_world.proofs.Aside.{Asides, own_aside, ticked_aside, write_aside}
 
 module _ (Free : Entry → Type 0) (Of : HostEvent → Type 0) (aside : (entry : Entry) → IsAside entry → Free entry)
@@ -62,7 +62,7 @@ module _ (Free : Entry → Type 0) (Of : HostEvent → Type 0) (aside : (entry :
   outs_free : (h : HostState) (events : List HostEvent) → AllByRecursion Of events → AreFree (notes_of (outs_all h events))
   outs_free h [] of = tt
   outs_free h (event ∷ events) of =
-      notes_free (outs h event) (outs_all (after h event) events) (all-right Free (answers_at h event) (notes_of (outs h event)) (each h event of.0)) (outs_free (after h event) events of.1)
+      notes_free (outs h event) (outs_all (after h event) events) (all-right Free (answers h event) (notes_of (outs h event)) (each h event of.0)) (outs_free (after h event) events of.1)
 
   answered_free : (w : Outside) (h : HostState) (event : HostEvent) → Of event → AreFree (entries_all_outside w (notes (answers h event)))
   answered_free w h (Accepts order carriage) of = noted_free w None (Accepted _ order.node) (each h (Accepts order carriage) of).0

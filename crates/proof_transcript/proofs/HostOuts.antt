@@ -4,7 +4,7 @@ use Rattle.host_model.specs.State.{HostState}
 use Rattle.host_model.specs.Events.{HostEvent, Accepts}
 use Rattle.host_model.specs.Did.{outs_all}
 use Rattle.host_model.specs.declared.out.HostOut.{HostOut}
-use Rattle.world_model.specs.Events.{answers}
+use Rattle.host_model.specs.Outs.{answers}
 use Rattle.proof_device.proofs.HostOuts.{OutsAre, OwnIs, SharedAre, all_outs_are, answers_are}
 use Rattle.proof_transcript.proofs.Plain.{IsPlain, Plains}
 

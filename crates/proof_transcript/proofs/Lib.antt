@@ -37,3 +37,8 @@ mod FramesWalking
 mod Repeating
 mod LostFrames
 mod Turning
+mod CancelledRecords
+mod RecordsWalking
+mod OrderRecords
+mod EndedRecords
+pub mod RecordsShown

@@ -23,7 +23,7 @@ use Rattle.world_model.specs.Did.{happens_all, MayAll, Schedule, Then}
 use Rattle.world_model.specs.Settling.{Outside, IsPump, IsChipPart, IsHostPart, IsMove, IfMoved, Passes, Settles, TakesBy}
 use Rattle.world_model.specs.Ticking.{IsDelivery, IsGiving, IsDeviceTick, IsChipTick, IsOutsideTick, IsHostTick, IsTick, Ticks}
 use Rattle.world_model.specs.Lines.{IsRefusal, IsDone, Asks, IsDiscovery, IsEffect}
-use Rattle.world_model.proofs.Own.{IsOwn, pump_own, tick_own}
+use Rattle.host_model.proofs.Own.{IsOwn, pump_own, tick_own}
 use Rattle.world_model.proofs.Pieces.{Of, Law, of_then}
 use Rattle.proof_transcript.proofs.Outer.{IsMildOuter}
 use Rattle.proof_transcript.proofs.Hosts.{IsNoJoin, LeavesRecords}

@@ -1,4 +1,4 @@
-//! What every run's transcript shows of the frames on the air, of commands, and of the table at the end.
+//! What every run's transcript shows of the frames on the air, of commands, of the table at the end, and of the records.
 //!
 //! This holds whatever is lost, delayed or repeated, whatever the host does, and whatever becomes of the devices. Each
 //! law is the contract of a function with an empty body, over lines that are said one after another (`proof_spoken`)
@@ -6,15 +6,18 @@
 //! `lines_number_frames`, `ticks_decide_each_frame`, `lines_lose_marked_frames`. Of commands:
 //! `commands_are_taken_back_when_asked`, `values_are_stored_as_asked`, `sessions_begin_with_their_unit`. Of the table:
 //! `what_is_told` covers the clock, the joined nodes and the heard values (`specs/Told`), line by line, and
-//! `tables_are_what_is_shown` the whole table if all lines were run whole (`AreWhole` of `proof_spoken`).
+//! `tables_are_what_is_shown` the whole table if all lines were run whole (`AreWhole` of `proof_spoken`). Of the
+//! records at exit: `records_are_what_is_shown`, over `specs/Records`, where all lines were run whole too.
 #![tactic(auto)]
 
 mod commands;
 mod frames;
+mod records;
 mod table;
 
 pub use commands::{
     commands_are_taken_back_when_asked, sessions_begin_with_their_unit, values_are_stored_as_asked,
 };
 pub use frames::{lines_lose_marked_frames, lines_number_frames, ticks_decide_each_frame};
+pub use records::records_are_what_is_shown;
 pub use table::{tables_are_what_is_shown, what_is_told};

@@ -12,13 +12,14 @@ use Rattle.host_model.specs.Events.{HostEvent, Accepts, Cancels}
 use Rattle.host_model.specs.Did.{outs_all}
 use Rattle.host_model.specs.declared.out.HostOut.{HostOut}
 use Rattle.host_model.specs.declared.out.HostOut.TheVariants.{Write, Note}
+use Rattle.host_model.specs.Outs.{answers}
 use Rattle.outside_model.specs.State.{Outside, is_stalled}
 use Rattle.outside_model.specs.Events.{OuterEvent, Begins_line, Begins_tick, Host_writes, Host_takes as host_takes, Host_notes, Host_begins, Chip_takes, Arrives, Gives, Device_ticks, Chip_ticks, Repeats, Wakes_device, Sets_device, outcome, May as MayOutside, happens as happens_outside, entries as entries_outside, is_own}
 use Rattle.zw_text.specs.declared.entry.Ended.TheVariants.{Cancelled}
 use Rattle.outside_model.specs.Did.{happens_all as happens_all_outside, entries_all as entries_all_outside, MayAll as MayAllOutside}
 use Rattle.outside_model.proofs.EventLists.{happens_all-append, entries_all-append}
 use Rattle.world_model.specs.State.{Machine, begun_in, noted_by, routed, host_does}
-use Rattle.world_model.specs.Events.{Event, Outside_does, Host_does, Host_takes, Decoder_ticks, Refuses, Shows_values, Restarts, answers, notes, shown_values, happens, entries, May}
+use Rattle.world_model.specs.Events.{Event, Outside_does, Host_does, Host_takes, Decoder_ticks, Refuses, Shows_values, Restarts, notes, shown_values, happens, entries, May}
 use Rattle.proof_walk.specs.Outside.{Pending, Knowing, Outer, Known, CoversOuter, IsSimple, IsNote}
 use Rattle.proof_walk.proofs.HostNotes.{NoteOuts, all_outs_note}
 use Rattle.proof_walk.proofs.Stamping.{Fits, outer_keeps, session_keeps}

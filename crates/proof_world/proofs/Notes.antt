@@ -12,14 +12,13 @@ use Rattle.serial_frame.specs.declared.item.Refusal.TheVariants.{Stray, BadLengt
 use Rattle.serial_link.specs.State.{copy_due}
 use Rattle.host_model.specs.State.{HostState}
 use Rattle.host_model.specs.Events.{HostEvent, Accepts, Cancels, Joins, Queues, Queues_interview, Queues_probe, Hears, Requests_do, Interviews, Interview_unkept, Unreads, Is_unkept, Reports_old, Works, Finishes, Offers, Gives, Spends, Spends_unread, Takes_nonce, Notifies, Resends, Hears_value, Has_no_room, Line_ticks, Node_ticks, Queues_no_more, Drops_no_more, Submits_abort, Submits_front, Starts, Gives_text, Gives_segment, Begins, Begin_unkept}
-use Rattle.host_model.specs.Outs.{outs, answer_to, copy_out, noted}
+use Rattle.host_model.specs.Outs.{outs, answer_to, copy_out, noted, answers}
 use Rattle.host_model.specs.declared.out.HostOut.{HostOut}
 use Rattle.host_model.specs.declared.out.HostOut.TheVariants.{Write, Note}
 use Rattle.outside_model.specs.State.{Outside, OuterState}
 use Rattle.outside_model.specs.Events.{Host_writes, Host_notes, Host_begins, happens, entries, outcome, devices_after, ticked_entry}
 use Rattle.outside_model.specs.Did.{entries_all}
 use Rattle.world_model.specs.State.{begun_in, noted_by, routed}
-use Rattle.world_model.specs.Events.{answers}
 use Rattle.proof_host.specs.Entries.{IsAside, note_of, notes_of, entries_at}
 use Rattle.proof_world.proofs.Aside.{Asides, ticked_aside, write_aside}
 

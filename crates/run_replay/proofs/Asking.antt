@@ -27,6 +27,7 @@ use Rattle.host_model.specs.Did.{Did, RoseIf, RoseBy, is_unkept, one_if, unkept_
 use Rattle.host_model.proofs.EventLists.{rose_one, rose_none, unkept_alone}
 use Rattle.host_model.specs.Asking.{carriage_for, Waits}
 use Rattle.host_model.specs.declared.out.HostOut.{HostOut}
+use Rattle.host_model.specs.Outs.{answers}
 use Rattle.host_step_bytes.specs.Calls.{DoesAlone, Are, scene}
 use Rattle.host_step_bytes.specs.Calls as calls
 use Rattle.host_parts.specs.Choices.{Judges}
@@ -34,7 +35,7 @@ use Rattle.host_core.specs.Orders.{KeptOrRefused, CancelsOrNot}
 use Rattle.host_core.specs.declared.orders.CancelFault.{CancelFault}
 use Rattle.host_core.specs.declared.orders.CancelFault.TheVariants as cancel
 use Rattle.world_model.specs.Refusals.{shown, IsRefused, IsRefusedBy, IsRefusedOrUnkept, IsUncancelled}
-use Rattle.world_model.specs.Events.{answers, Host_does, Refuses as refuses_there, Shows_values as shows_there}
+use Rattle.world_model.specs.Events.{Host_does, Refuses as refuses_there, Shows_values as shows_there}
 use Rattle.world_model.specs.Events.{Event as MachineEvent}
 use Rattle.world_model.specs.Did.{is_keeper_fault}
 use Rattle.world_model.specs.Lines.{IsDone}

@@ -22,7 +22,7 @@ use Rattle.world_model.specs.Did.{happens_all, AllAlong}
 use Rattle.world_model.specs.Settling.{Outside, IsPump, IsChipPart, IsHostPart, TakesBy, OuterTakesAll}
 use Rattle.world_model.specs.Ticking.{IsHostTick}
 use Rattle.world_model.specs.Lines.{IsRefusal, IsDone, Asks, IsRestart, IsDiscovery, IsEffect}
-use Rattle.world_model.proofs.Own.{IsOwn, pump_own, tick_own}
+use Rattle.host_model.proofs.Own.{IsOwn, pump_own, tick_own}
 use Rattle.world_model.proofs.Pieces.{Of, Law, Pieces}
 
 -- ---- what an event may be

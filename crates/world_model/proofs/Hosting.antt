@@ -10,17 +10,18 @@ use Rattle.host_keep.specs.RecordText.{record_text}
 use Rattle.host_model.specs.State.{HostState}
 use Rattle.host_model.specs.Events.{HostEvent}
 use Rattle.host_model.specs.After.{after}
-use Rattle.host_model.specs.Outs.{outs}
+use Rattle.host_model.specs.Outs.{outs, answers}
 use Rattle.host_model.specs.Records.{records_at}
 use Rattle.host_model.specs.Did.{after_all, outs_all, records_all, texts_of, MayAll as MayAllHost, is_unkept, unkept_in as unkept_by_host, one_if, RoseBy, Did}
 use Rattle.host_model.specs.declared.out.HostOut.{HostOut}
 use Rattle.host_model.specs.declared.out.HostOut.TheVariants.{Write, Note}
+use Rattle.host_model.proofs.Silence.{Silent}
 use Rattle.outside_model.specs.State.{Outside, OuterState, outside}
 use Rattle.outside_model.specs.Events.{OuterEvent, Host_notes, happens as happens_outside, devices_after}
 use Rattle.outside_model.specs.Did.{happens_all as happens_all_outside, entries_all as entries_all_outside, Goes}
 use Rattle.outside_model.proofs.EventLists.{happens_all-append as outside-append, entries_all-append as outside_entries-append}
 use Rattle.world_model.specs.State.{Machine, begun_in, noted_by, routed, routed_one, with_texts, host_does, host_entries}
-use Rattle.world_model.specs.Events.{Event, Host_does, answers, happens, entries, May}
+use Rattle.world_model.specs.Events.{Event, Host_does, happens, entries, May}
 use Rattle.world_model.specs.Did.{happens_all, entries_all, MayAll, unkept_in, Counted, Run, Schedule, IsOfHost, Stops}
 use Rattle.world_model.proofs.EventLists.{counted_none}
 
@@ -90,14 +91,6 @@ entries_cons m e es =
     ∙ ap (λ (l : List OuterEvent). entries_all_outside m.outside l) (sym (routed-append (outs h e) rest)))
 
 -- ---- events that answer no line
-
-abbrev pub Silent : List HostEvent → Type 0
-Silent [] = Unit {0}
-Silent (e ∷ es) = ((h : HostState) → answers h e ≡ []) × Silent es
-
-pub silent-append : (a b : List HostEvent) → Silent a → Silent b → Silent (a ++ b)
-silent-append [] b first later = later
-silent-append (e ∷ a) b first later = (first.0, silent-append a b first.1 later)
 
 silent_happens : (m : Machine) (e : HostEvent) → answers m.host.state e ≡ [] → happens m (Host_does e) ≡ host_does m (e ∷ [])
 unfolding happens

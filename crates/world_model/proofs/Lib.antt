@@ -1,9 +1,7 @@
 pub mod EventLists
 pub mod Outside
 pub mod Hosting
-pub mod Silence
 pub mod Taking
 pub mod Schedules
 pub mod Pieces
-pub mod Own
 pub mod Along

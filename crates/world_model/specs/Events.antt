@@ -1,6 +1,6 @@
 -- What may happen to the machine, one event at a time, what it makes of it, and its entries (this project's own rule). An event carries
 -- what is chosen in it.
-use Rattle.std.specs.Prelude.{◌≡◌, ℕ, ◌+◌, true, false, Option, Some, None, List, [], ◌∷◌, ◌++◌, length, map, take}
+use Rattle.std.specs.Prelude.{◌≡◌, ℕ, true, false, Option, Some, None, List, [], ◌∷◌, ◌++◌, map, take}
 use Rattle.serial_frame.specs.Stream.{Rest, Feeds, after_tick, no_rest}
 use Rattle.serial_frame.specs.declared.item.Item.{Item}
 use Rattle.s0_crypto.specs.declared.key_pair.Keys.{Keys}
@@ -9,15 +9,15 @@ use Rattle.value_store.specs.ValueText.{values_text}
 use Rattle.zw_text.specs.declared.line.Line.{Line}
 use Rattle.zw_text.specs.declared.entry.Refusal.{Refusal}
 use Rattle.zw_text.specs.declared.entry.Entry.{Entry}
-use Rattle.zw_text.specs.declared.entry.Entry.TheVariants.{Accepted, Refused, Out, Json}
-use Rattle.zw_text.specs.declared.entry.Ended.TheVariants.{Cancelled}
+use Rattle.zw_text.specs.declared.entry.Entry.TheVariants.{Refused, Json}
 use Rattle.host_keep.specs.declared.record.Record.{Record}
 use Rattle.host_keep.specs.Legal.{AreTextsOf, AreLegal}
 use Rattle.host_model.specs.Opening.{opened}
 use Rattle.host_model.specs.State.{HostState}
-use Rattle.host_model.specs.Events.{HostEvent, Accepts, Cancels}
+use Rattle.host_model.specs.Events.{HostEvent}
 use Rattle.host_model.specs.Did.{MayAll as MayAllHost}
 use Rattle.host_model.specs.Taking.{AreJudged}
+use Rattle.host_model.specs.Outs.{answers}
 use Rattle.outside_model.specs.State.{is_stalled}
 use Rattle.outside_model.specs.Events.{OuterEvent, Host_takes as host_takes, Host_notes, is_own, May as MayOutside, happens as happens_outside, entries as outside_entries}
 use Rattle.outside_model.specs.Did.{happens_all as happens_all_outside, entries_all as outside_entries_all}
@@ -37,12 +37,6 @@ pub data Event : Type 0 where
   Restarts : (state : HostState) → Event
 
 -- ---- words
-
--- what is answered to the line that asked: the number of a command that was taken, and that one was cancelled
-abbrev pub answers : HostState → HostEvent → List Entry
-answers h (Accepts order carriage) = Accepted (length h.commands + 1) order.node ∷ []
-answers h (Cancels command) = Out command Cancelled ∷ []
-answers h event = []
 
 -- entries that stand for themselves
 abbrev pub notes : List Entry → List OuterEvent

@@ -3,12 +3,10 @@ use Rattle.std.specs.Prelude.{ℕ, List, ◌∷◌, ◌++◌, map, filter}
 use Rattle.std.specs.List.{flat_map, range_with_len}
 use Rattle.value_store.specs.Values.{held_of}
 use Rattle.value_store.specs.declared.stored.Held.{Held}
-use Rattle.mesh_sim.specs.Fates.{place_of}
 use Rattle.zw_text.specs.declared.entry.Entry.{Entry}
 use Rattle.zw_text.specs.declared.entry.Entry.TheVariants.{TableEnd, TableNode, TableValue}
 use Rattle.host_model.specs.State.{HostState, node_of}
-use Rattle.outside_model.specs.Results.{device_at}
-use Rattle.outside_model.specs.Devices.{device_entries}
+use Rattle.outside_model.specs.Devices.{kept_entries}
 use Rattle.world_model.specs.State.{Machine}
 
 -- a value of a node
@@ -20,7 +18,7 @@ abbrev pub node_entries : Machine → ℕ → List Entry
 node_entries m node =
     TableNode node (node_of m.host.state node).book.commands
     ∷ (map (value_entry node) (held_of m.host.state.store node)
-    ++ device_entries node (device_at m.outside.devices (place_of node m.outside.devices)))
+    ++ kept_entries node m.outside.devices)
 
 -- the joined nodes
 abbrev pub joined_nodes : HostState → List ℕ

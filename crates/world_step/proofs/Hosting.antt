@@ -21,7 +21,7 @@ use Rattle.world_model.specs.Did.{Does, Nothing, Stops}
 use Rattle.world_model.specs.Settling.{IsPump}
 use Rattle.world_model.specs.Ticking.{IsHostTick}
 use Rattle.world_model.proofs.EventLists.{ran_both}
-use Rattle.world_model.proofs.Silence.{pump_silent, tick_silent}
+use Rattle.host_model.proofs.Silence.{pump_silent, tick_silent}
 use Rattle.world_step.specs.Scene.{scene_of}
 use Rattle.world_step.proofs.Scenes.{ran_hosted, ran_decoder, stopped_hosted}
 

@@ -10,6 +10,7 @@ use Rattle.host_model.specs.State.{HostState, HostParts}
 use Rattle.host_model.specs.Events.{HostEvent}
 use Rattle.host_model.specs.Did.{Did}
 use Rattle.host_model.specs.declared.out.HostOut.{HostOut}
+use Rattle.host_model.proofs.Silence.{Silent}
 use Rattle.outside_model.specs.State.{OuterState, outside}
 use Rattle.outside_model.specs.Events.{OuterEvent, is_own, AreOwn}
 use Rattle.outside_model.specs.Did.{RunOf, Goes, GoesOf, PrefixOf as PrefixOfOutside, Stops as StopsOutside}
@@ -20,7 +21,7 @@ use Rattle.world_model.specs.Did.{Schedule, Run, Does, Nothing, PrefixOf, Stops,
 use Rattle.world_model.specs.Settling.{Outside as OutsideOf}
 use Rattle.world_model.proofs.Outside.{ran_outside, stopped_outside}
 use Rattle.world_model.proofs.EventLists.{counted_kept}
-use Rattle.world_model.proofs.Hosting.{Silent, ran_host, stopped_host, stopped_by}
+use Rattle.world_model.proofs.Hosting.{ran_host, stopped_host, stopped_by}
 use Rattle.world_model.proofs.Schedules.{did_outside}
 use Rattle.world_step.specs.Scene.{scene_of}
 

@@ -30,6 +30,8 @@ use Rattle.host_model.specs.Events.{Joins as joins_host}
 use Rattle.host_model.specs.Did.{Did, RoseIf, after_all, outs_all, records_all, texts_of}
 use Rattle.host_model.specs.Asking.{places_refusal, carriage_for, Waits}
 use Rattle.host_model.specs.declared.out.HostOut.{HostOut}
+use Rattle.host_model.specs.Outs.{answers}
+use Rattle.host_model.proofs.Silence.{Silent}
 use Rattle.host_step_bytes.specs.Calls.{DoesAlone, Are, scene}
 use Rattle.host_step_bytes.specs.Calls as calls
 use Rattle.host_parts.specs.Choices.{Judges}
@@ -44,11 +46,11 @@ use Rattle.outside_model.specs.Did.{Goes, GoesFor, happens_all as happens_all_ou
 use Rattle.outside_model.specs.Schedules.{IsOne}
 use Rattle.world_model.specs.State.{Machine, machine, routed, with_texts}
 use Rattle.world_model.specs.Refusals.{shown, IsRefused, IsRefusedBy, IsRefusedOrUnkept, IsUncancelled}
-use Rattle.world_model.specs.Events.{Event, Host_does, Outside_does, Refuses as refuses, Shows_values, notes, answers, happens, entries, May}
+use Rattle.world_model.specs.Events.{Event, Host_does, Outside_does, Refuses as refuses, Shows_values, notes, happens, entries, May}
 use Rattle.world_model.specs.Did.{Run, Does, Nothing, Stops, is_keeper_fault}
 use Rattle.world_model.specs.Lines.{Asks, IsDone, IsDiscovery, IsEffect}
 use Rattle.world_model.proofs.EventLists.{counted_kept, ran_both}
-use Rattle.world_model.proofs.Hosting.{Silent, adds_is}
+use Rattle.world_model.proofs.Hosting.{adds_is}
 use Rattle.world_model.proofs.Outside.{ran_outside}
 use Rattle.world_step.specs.Scene.{scene_of}
 use Rattle.world_step.proofs.Scenes.{ran_hosted, nothing_goes, quiet_goes, stopped_hosted, stopped_still}

@@ -7,15 +7,15 @@ ghost use Rattle.world_model.specs.State.{first_machine};
 ghost use Rattle.world_lines.specs.Spoken.{Spoken, after_all, transcript_of};
 ghost use Rattle.world_lines.specs.Done.{AreDone};
 ghost use Rattle.world_lines.specs.Whole.{AreWhole};
-ghost use Rattle.proof_records.specs.Records.{HasRecords};
+ghost use Rattle.proof_transcript.specs.Records.{HasRecords};
 
+use crate::what_is_told;
 use host_keep::a_text_is_of_one_record;
 use proof_host::laws_follow;
 use proof_spoken::{
     answers_stand_after_their_lines, interviews_give_what_is_known, lines_tell_what_nodes_list,
     tables_are_what_was_said,
 };
-use proof_transcript::what_is_told;
 use proof_world::{lines_keep_and_ask_well, restarts_go_on, the_machine_keeps_facts};
 
 /// Over lines that were run whole, over a keeper that tells its records and has none at first: its records are legal, and give exactly the orders that were

@@ -1,5 +1,5 @@
 -- Events of a pump, of a tick and of bytes of the chip answer no line.
-use Rattle.std.proofs.Common.{◌≡◌, ℕ, inl, inr, Bool, true, false, List, [], ◌∷◌, refl, sym, subst}
+use Rattle.std.proofs.Common.{◌≡◌, ℕ, inl, inr, Bool, true, false, List, [], ◌∷◌, ◌++◌, refl, sym, subst}
 use Rattle.std.specs.Prelude.{Option, Some, None, if◌then◌else◌}
 use Rattle.std.specs.Prelude.{Result, Ok, Err, nat_lt}
 use Rattle.std.specs.List.{AllByRecursion}
@@ -36,9 +36,16 @@ use Rattle.host_model.specs.After.{after}
 use Rattle.host_model.specs.Did.{after_all}
 use Rattle.host_model.specs.Pumping.{Pumps}
 use Rattle.host_model.specs.Ticking.{tick_events}
-use Rattle.world_model.specs.Events.{answers}
-use Rattle.world_model.proofs.Own.{IsOwn, pump_own, tick_own}
-use Rattle.world_model.proofs.Hosting.{Silent, silent-append}
+use Rattle.host_model.specs.Outs.{answers}
+use Rattle.host_model.proofs.Own.{IsOwn, pump_own, tick_own}
+
+abbrev pub Silent : List HostEvent → Type 0
+Silent [] = Unit {0}
+Silent (e ∷ es) = ((h : HostState) → answers h e ≡ []) × Silent es
+
+pub silent-append : (a b : List HostEvent) → Silent a → Silent b → Silent (a ++ b)
+silent-append [] b first later = later
+silent-append (e ∷ a) b first later = (first.0, silent-append a b first.1 later)
 
 abbrev Quiet : HostEvent → Type 0
 Quiet e = (h : HostState) → answers h e ≡ []

@@ -12,11 +12,11 @@ use Rattle.world_lines.specs.Spoken.{after_all, transcript_of}
 use Rattle.proof_spoken.proofs.SpokenLines.{all_after, all_lines, all_may, lines_of}
 use Rattle.proof_world.specs.Restarts.{AreHeld, IsHeld}
 use Rattle.proof_world.proofs.HeldRecords.{one_reading}
-use Rattle.proof_records.specs.Records.{TellsCancelled, cancelled_by}
-use Rattle.proof_records.proofs.Cancelled.{all_cancelled}
-use Rattle.proof_records.proofs.Shown.{shows}
-use Rattle.proof_records.proofs.Walking.{lines_tell}
-use Rattle.proof_records.proofs.records.records_are_what_is_shown.Goals as goal
+use Rattle.proof_transcript.specs.Records.{TellsCancelled, cancelled_by}
+use Rattle.proof_transcript.proofs.CancelledRecords.{all_cancelled}
+use Rattle.proof_transcript.proofs.RecordsShown.{shows}
+use Rattle.proof_transcript.proofs.RecordsWalking.{lines_tell}
+use Rattle.proof_transcript.proofs.records.records_are_what_is_shown.Goals as goal
 
 pub returns : goal.returns
 returns c = λ keys devices lines are whole.

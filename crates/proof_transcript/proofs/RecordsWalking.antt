@@ -14,7 +14,7 @@ use Rattle.host_keep.specs.Legal.{AreTextsOf}
 use Rattle.host_keep.specs.declared.record.Record.{Record}
 use Rattle.host_model.specs.State.{HostState}
 use Rattle.host_model.specs.Events.{HostEvent}
-use Rattle.host_model.specs.Outs.{outs}
+use Rattle.host_model.specs.Outs.{outs, answers}
 use Rattle.host_model.specs.Records.{records_at}
 use Rattle.host_model.specs.declared.out.HostOut.{HostOut}
 use Rattle.host_model.specs.Did.{MayAll as MayAllHost, records_all, texts_of}
@@ -23,8 +23,8 @@ use Rattle.outside_model.specs.State.{Outside}
 use Rattle.outside_model.specs.Events.{Host_notes, entries as entries_outside, outcome}
 use Rattle.outside_model.specs.Did.{entries_all as entries_all_outside}
 use Rattle.world_model.specs.State.{Machine, host_does, host_entries, routed, with_texts}
-use Rattle.world_model.specs.Events.{Event, Outside_does, Host_does, Host_takes, Decoder_ticks, Refuses, Shows_values, Restarts, answers, fed, shown_values, happens, entries, May}
-use Rattle.world_model.proofs.Silence.{judged_silent}
+use Rattle.world_model.specs.Events.{Event, Outside_does, Host_does, Host_takes, Decoder_ticks, Refuses, Shows_values, Restarts, fed, shown_values, happens, entries, May}
+use Rattle.host_model.proofs.Silence.{judged_silent}
 use Rattle.world_lines.specs.Spoken.{Spoken, after_all, transcript_of}
 use Rattle.world_lines.specs.Done.{AreDone}
 use Rattle.world_lines.specs.Whole.{AreWhole}
@@ -35,8 +35,8 @@ use Rattle.proof_world.proofs.Notes.{Trailing, event_following}
 use Rattle.proof_walk.specs.Phases.{Phase, Between, Goes, Turns}
 use Rattle.proof_walk.specs.Walk.{Walk}
 use Rattle.proof_walk.proofs.Lines.{lines_lead}
-use Rattle.proof_records.specs.Records.{TellsCancelled, cancelled_by}
-use Rattle.proof_records.proofs.Cancelled.{asides_none, event_cancels, host_cancels, trailing_same}
+use Rattle.proof_transcript.specs.Records.{TellsCancelled, cancelled_by}
+use Rattle.proof_transcript.proofs.CancelledRecords.{asides_none, event_cancels, host_cancels, trailing_same}
 
 -- these entries take nothing back
 silent : (past es : List Entry) (records : Option (List (List ℕ))) → shown cancelled_at es ≡ [] → TellsCancelled past records → TellsCancelled (past ++ es) records

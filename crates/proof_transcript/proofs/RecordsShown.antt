@@ -13,8 +13,8 @@ use Rattle.proof_host.specs.Facts.{AreShown, Facts}
 use Rattle.proof_host.specs.Laws.{HostLaws, numbers_for}
 use Rattle.proof_once.specs.ByTable.{IsTable}
 use Rattle.proof_spoken.specs.Said.{AreSaid, KnowsListing}
-use Rattle.proof_records.proofs.Ended.{node_ended}
-use Rattle.proof_records.proofs.Orders.{orders_are}
+use Rattle.proof_transcript.proofs.EndedRecords.{node_ended}
+use Rattle.proof_transcript.proofs.OrderRecords.{orders_are}
 
 -- a node is known to have classes where it was interviewed, and node 2 from the start
 said_so : (interview : Option Interview) → is_some (classes_said interview) ≡ is_some interview

@@ -18,19 +18,19 @@ use Rattle.host_model.specs.Events.{HostEvent, Accepts, Cancels, Joins, Queues, 
 use Rattle.host_model.specs.Records.{records_at, seen_records}
 use Rattle.host_model.specs.After.{after}
 use Rattle.host_model.specs.Did.{records_all}
-use Rattle.host_model.specs.Outs.{outs, ended_of}
+use Rattle.host_model.specs.Outs.{outs, ended_of, answers}
 use Rattle.host_model.specs.declared.out.HostOut.{HostOut}
 use Rattle.host_model.specs.declared.out.HostOut.TheVariants.{Write, Note}
+use Rattle.host_model.proofs.Silence.{Silent}
 use Rattle.proof_host.specs.Entries.{IsAside, note_of, notes_of, entries_at}
 use Rattle.proof_device.proofs.HostOuts.{OutIs, OutsAre, OwnIs, SharedAre, outs_are}
 use Rattle.world_model.specs.State.{Machine, host_does, host_entries, routed}
-use Rattle.world_model.specs.Events.{answers}
-use Rattle.world_model.proofs.Hosting.{Silent, entries_cons}
+use Rattle.world_model.proofs.Hosting.{entries_cons}
 use Rattle.outside_model.specs.Events.{Host_notes}
 use Rattle.outside_model.specs.Did.{entries_all as entries_all_outside}
 use Rattle.proof_world.proofs.Aside.{Asides}
 use Rattle.proof_world.proofs.Notes.{Trailing, event_following}
-use Rattle.proof_records.specs.Records.{cancelled_by}
+use Rattle.proof_transcript.specs.Records.{cancelled_by}
 
 -- ---- what records give
 

@@ -1,9 +1,9 @@
 -- How the sessions of a node ended by the records is how the transcript shows their commands to have ended.
-use Rattle.std.proofs.Common.{◌≡◌, ℕ, ◌==◌, ◌||◌, Bool, true, false, if◌then◌else◌, List, [], ◌∷◌, ◌++◌, map, Option, Some, None, refl, sym, ap, ap₂, subst, ◌∙◌, arith}
-use Rattle.std.specs.Prelude.{All, ◌<◌}
+use Rattle.std.proofs.Common.{◌≡◌, ℕ, ◌==◌, ◌||◌, Bool, true, false, if◌then◌else◌, List, [], ◌∷◌, ◌++◌, map, Option, Some, None, refl, sym, ap, ap₂, subst, ◌∙◌}
+use Rattle.std.specs.Prelude.{All}
 use Rattle.std.specs.Option.{option_or}
 use Rattle.std.proofs.lemmas.Bool.{eq-eqb, eqb-true}
-use Rattle.std.proofs.lemmas.List.Elements.{All-cons, All-head, All-nil, All-tail}
+use Rattle.std.proofs.lemmas.List.Elements.{All-head, All-tail}
 use Rattle.zw_text.specs.declared.entry.Entry.{Entry}
 use Rattle.zw_text.specs.declared.entry.Outcome.{Outcome}
 use Rattle.zw_text.specs.declared.entry.Outcome.TheVariants as outcomes
@@ -15,45 +15,12 @@ use Rattle.host_keep.specs.declared.final_status.FinalStatus.TheVariants as fina
 use Rattle.host_model.specs.State.{HostState, Command, command_at, node_of}
 use Rattle.host_model.specs.Facts.{HostFacts, IsCommandOf}
 use Rattle.host_model.specs.Holding.{Holds, Rise, as_kept, commands_of, ended_in, outcome_by, outcome_kept}
+use Rattle.host_model.proofs.Rising.{not_below, not_later, rise-left}
+use Rattle.host_model.proofs.Begun.{ended_so}
 use Rattle.proof_host.specs.Facts.{AreShown}
 use Rattle.proof_host.specs.Tables.{outcome_in, outcome_by as outcome_of_one, recorded}
 
 -- ---- sessions whose commands rise
-
-all-left : (P : ℕ → Type 0) (a b : List ℕ) → All P (a ++ b) → All P a
-all-left P [] b all = All-nil P
-all-left P (first ∷ rest) b all = All-cons P first rest (All-head P first (rest ++ b) all) (all-left P rest b (All-tail P first (rest ++ b) all))
-
-all-right : (P : ℕ → Type 0) (a b : List ℕ) → All P (a ++ b) → All P b
-all-right P [] b all = all
-all-right P (first ∷ rest) b all = all-right P rest b (All-tail P first (rest ++ b) all)
-
-rise-left : (a b : List ℕ) → Rise (a ++ b) → Rise a
-rise-left [] b rise = tt
-rise-left (first ∷ rest) b rise = (all-left (λ other. first < other) rest b rise.0, rise-left rest b rise.1)
-
-differs : (a b : ℕ) → b < a → (a == b) ≡ false
-differs a b below = by (a == b) refl
-  where
-    by : (t : Bool) → (a == b) ≡ t → t ≡ false
-    by true e = let same = eqb-true a b e in absurd (omega (arith, same, below))
-    by false e = refl
-
--- a number below all of these is none of them
-not_below : (number : ℕ) (numbers : List ℕ) → All (λ other. number < other) numbers → is_among numbers number ≡ false
-not_below number [] all = refl
-not_below number (first ∷ rest) all =
-    ap (λ (t : Bool). t || is_among rest number) (differs first number (All-head (λ other. number < other) first rest all))
-    ∙ not_below number rest (All-tail (λ other. number < other) first rest all)
-
--- none of the first ones is among the later ones
-not_later : (a b : List ℕ) (number : ℕ) → Rise (a ++ b) → is_among a number ≡ true → is_among b number ≡ false
-not_later [] b number rise among = absurd cc
-not_later (first ∷ rest) b number rise among = by (first == number) refl among (not_later rest b number rise.1)
-  where
-    by : (t : Bool) → (first == number) ≡ t → (t || is_among rest number) ≡ true → (is_among rest number ≡ true → is_among b number ≡ false) → is_among b number ≡ false
-    by true same is later = not_below number b (subst (λ (n : ℕ). All (λ other. n < other) b) (eqb-true first number same) (all-right (λ other. first < other) rest b rise.0))
-    by false other is later = later is
 
 -- a command of none of these sessions has no end in them
 not_begun : (sessions : List Session) (number : ℕ) → is_among (commands_of sessions) number ≡ false → ended_in sessions number ≡ None
@@ -108,11 +75,6 @@ final_by (Some final.Success) = refl
 final_by (Some final.Fail) = refl
 final_by (Some final.NoSupport) = refl
 
--- a command that does not wait is kept as its session ended
-kept_by : (node : KeptNode) (number : ℕ) (ended : Option FinalStatus) → is_among node.waiting number ≡ false → ended_in node.sessions number ≡ Some ended → outcome_kept node number ≡ outcome_by (Some ended)
-kept_by node number ended apart is =
-    ap (λ (b : Bool). if b then outcomes.Waiting else outcome_by (ended_in node.sessions number)) apart ∙ ap (λ (o : Option (Option FinalStatus)). outcome_by o) is
-
 -- one of these is so
 one_is : (P : ℕ → Type 0) (numbers : List ℕ) (number : ℕ) → All P numbers → is_among numbers number ≡ true → P number
 one_is P [] number all among = absurd cc
@@ -142,7 +104,7 @@ module _ (past : List Entry) (h : HostState) (kept : Kept) (facts : HostFacts h)
       ∙ (ap final_of (sym (tables.outcomes number))
       ∙ (final_recorded (outcome_in h.commands number)
       ∙ (ap final_of in_table
-      ∙ (sym (final_kept own.command.outcome) ∙ (ap final_of (kept_so ∙ kept_by node number ended apart is) ∙ final_by ended)))))
+      ∙ (sym (final_kept own.command.outcome) ∙ (ap final_of (kept_so ∙ ended_so node number (Some ended) apart is) ∙ final_by ended)))))
 
   pub node_ended : map (λ (session : Session). session.ended) node.sessions ≡ map (λ number. final_of (outcome number past)) (commands_of node.sessions)
   node_ended = ended_are (λ number. final_of (outcome number past)) node.sessions (rise-left (commands_of node.sessions) node.waiting (holds.order n)) ended_is

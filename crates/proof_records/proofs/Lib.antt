@@ -1,5 +1,0 @@
-mod Cancelled
-mod Walking
-mod Orders
-mod Ended
-pub mod Shown
