@@ -36,7 +36,17 @@ impl Model for Ledger {
 
     ghost Value = { Kept };
 
-    ghost view = { λ l. record { scene = l.scene; orders = l.orders; endings = l.endings; sessions = l.sessions; changes = l.changes; air = l.air; payloads = l.payloads; stores = l.stores; closing = l.closing } };
+    ghost view = { λ l. record {
+      scene = l.scene;
+      orders = l.orders;
+      endings = l.endings;
+      sessions = l.sessions;
+      changes = l.changes;
+      air = l.air;
+      payloads = l.payloads;
+      stores = l.stores;
+      closing = l.closing;
+    } };
 }
 
 impl Ledger {

@@ -53,7 +53,18 @@ impl Model for Chip {
 
     ghost coded = { Prim.hlevel (codes, network_code) };
 
-    ghost view = { λ c. record { decoder = c.port.decoder; state = record { port = c.port.port; table = c.table; joined = c.joined; listening = c.listening; failing = c.failing; sending = c.sending; aborted = c.aborted } } };
+    ghost view = { λ c. record {
+      decoder = c.port.decoder;
+      state = record {
+        port = c.port.port;
+        table = c.table;
+        joined = c.joined;
+        listening = c.listening;
+        failing = c.failing;
+        sending = c.sending;
+        aborted = c.aborted;
+      };
+    } };
 }
 
 impl Chip {

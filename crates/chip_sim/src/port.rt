@@ -53,7 +53,8 @@ impl Port {
     /// Asks for a collision.
     pub fn collide(&mut self)
         requires { self.old.port.side.collisions + 1 < 2 ^ 64 }
-        ensures { self.new ≡ record self.old { port = record self.old.port { side = record self.old.port.side { collisions = self.old.port.side.collisions + 1 } } } }
+        ensures { self.new ≡
+            record self.old { port = record self.old.port { side = record self.old.port.side { collisions = self.old.port.side.collisions + 1 } } } }
     {
         self.link.collide();
     }

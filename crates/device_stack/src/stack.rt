@@ -40,7 +40,21 @@ impl Model for Stack {
 
     ghost Value = { State };
 
-    ghost view = { λ s. record { node = s.node; kind = s.kind; key = s.key; sessions = s.sessions; work_left = s.work_left; work = s.work; given = s.given; sealing = s.sealing; reassembly = s.reassembly; clock = s.clock; active_at = s.active_at; awake = s.awake; journal = s.journal } };
+    ghost view = { λ s. record {
+      node = s.node;
+      kind = s.kind;
+      key = s.key;
+      sessions = s.sessions;
+      work_left = s.work_left;
+      work = s.work;
+      given = s.given;
+      sealing = s.sealing;
+      reassembly = s.reassembly;
+      clock = s.clock;
+      active_at = s.active_at;
+      awake = s.awake;
+      journal = s.journal;
+    } };
 
     ghost invariant = { λ s. ForSome s.sealing.pending IsShort };
 }

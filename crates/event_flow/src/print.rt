@@ -114,7 +114,8 @@ fn print_row(
     known: u64,
 ) -> Result<Bytes, NoMemory>
     ensures { IfOk result (λ text. text ≡
-        join_with_byte 32 (codes "node" ∷ decimal node ∷ codes "queued" ∷ decimal queued ∷ codes "taken" ∷ decimal taken ∷ codes "known" ∷ decimal known ∷ [])) }
+        join_with_byte 32
+        (codes "node" ∷ decimal node ∷ codes "queued" ∷ decimal queued ∷ codes "taken" ∷ decimal taken ∷ codes "known" ∷ decimal known ∷ [])) }
 {
     let node = node.number();
     let text = format!(in alloc; "node {node} queued {queued} taken {taken} known {known}")?;

@@ -171,7 +171,8 @@ impl<S: Store> Keeper for FileKeeper<S> {
         ensures kept { self.new.is_open ≡ true → IsKept (S.held self.new.store) (S.synced self.new.store) self.new.records }
         ensures closed { self.old.is_open ≡ false → (result ≡ Err KeepFault.Failed) × (self.new ≡ record self.old { faults = raised self.old.faults }) }
         ensures refused { ¬ IsOneLine bytes.now → (result ≡ Err KeepFault.Failed) × (self.new ≡ record self.old { faults = raised self.old.faults }) }
-        ensures why { result ≡ Err KeepFault.Failed → (self.old.is_open ≡ false) ⊎ ((¬ IsOneLine bytes.now) ⊎ Rose (S.faults self.old.store) (S.faults self.new.store)) }
+        ensures why { result ≡ Err KeepFault.Failed →
+            (self.old.is_open ≡ false) ⊎ ((¬ IsOneLine bytes.now) ⊎ Rose (S.faults self.old.store) (S.faults self.new.store)) }
         ensures counted { result ≡ Err KeepFault.Failed → self.new.faults ≡ raised self.old.faults }
         ensures uncounted { OnOk result (self.new.faults ≡ self.old.faults) }
         ensures no_memory { result ≡ Err KeepFault.NoMemory → self.new ≡ self.old }

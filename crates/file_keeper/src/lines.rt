@@ -37,7 +37,9 @@ pub(crate) fn split(alloc: Global, bytes: &[u8]) -> Result<Parts, NoMemory>
 
 // Goes on by one byte more.
 fn take_byte(alloc: Global, byte: u8, found: &mut Parts) -> Result<(), NoMemory>
-    ensures { OnOk result ((bytes : Items ℕ) → IsSplit bytes found.old.lines.items found.old.torn → IsSplit (bytes ++ byte ∷ []) found.new.lines.items found.new.torn) }
+    ensures { OnOk result ((bytes : Items ℕ) →
+        IsSplit bytes found.old.lines.items found.old.torn →
+        IsSplit (bytes ++ byte ∷ []) found.new.lines.items found.new.torn) }
 {
     if byte != LINE_FEED {
         found.torn.push(byte)?;

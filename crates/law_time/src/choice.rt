@@ -109,13 +109,13 @@ pub fn worked_choice()
     ensures following_abort { SendsInTurn (listing_of (the_switch ∷ [])) begun_after_abort }
 {}
 
-/// Each of these breaks one part of the law: where an attempt is due, the Set of an earlier line is sent again, or a Nonce Get to a node that
-/// lists no Security 0, or a message unsealed to one that does; an attempt begins while the last one is under way, a tick too early, while the
-/// node has told that it is at work, as a Get has failed, or after three; a segment is sent before the first, twice, beyond the last, or when the third attempt is
-/// over; what is sent for a nonce is not sealed; a message is sealed for no nonce, for another one, for one that was not kept or not counted,
-/// twice for one, for a second one, or when its attempt is over; a node is served twice while another one has work, or before a lower one, also after a restart;
-/// and a session begins out of order, before a request or an abort, of a node that is asleep, while the last one is open, or in the tick in which
-/// the keeper has failed.
+/// Each of these breaks one part of the law: where an attempt is due, the Set of an earlier line is sent again, or a Nonce Get to a node that lists
+/// no Security 0, or a message unsealed to one that does; an attempt begins while the last one is under way, a tick too early, while the node has
+/// told that it is at work, as a Get has failed, or after three; a segment is sent before the first, twice, beyond the last, or when the third
+/// attempt is over; what is sent for a nonce is not sealed; a message is sealed for no nonce, for another one, for one that was not kept or not
+/// counted, twice for one, for a second one, or when its attempt is over; a node is served twice while another one has work, or before a lower one,
+/// also after a restart; and a session begins out of order, before a request or an abort, of a node that is asleep, while the last one is open, or in
+/// the tick in which the keeper has failed.
 pub fn rejected_choice()
     ensures set { SendsInTurn (listing_of (the_switch ∷ [])) set_repeated → ⊥ }
     ensures nonce_get { SendsInTurn (listing_of (the_switch ∷ [])) nonce_asked_plainly → ⊥ }

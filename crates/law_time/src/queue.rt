@@ -109,9 +109,9 @@ ghost use Rattle.law_time.specs.WrongTurns.{
 };
 ghost use Rattle.zw_text.specs.Transcript.{endings};
 
-/// In worked transcripts lines are refused, and messages dropped, where 64 requests wait: a line that asks for a place too many, No More
-/// Information to a node that wakes, and a Nonce Report, after a lost acknowledgement too, and after a value that the same payload told. It is not dropped where the keeper fails, and a
-/// line may be refused for something else.
+/// In worked transcripts lines are refused, and messages dropped, where 64 requests wait: a line that asks for a place too many, No More Information
+/// to a node that wakes, and a Nonce Report, after a lost acknowledgement too, and after a value that the same payload told. It is not dropped where
+/// the keeper fails, and a line may be refused for something else.
 pub fn worked_queue()
     ensures full { FitsQueue (listing_of (the_switch ∷ [])) full_queue }
     ensures answered { FitsQueue (listing_of (the_switch ∷ [])) answered_errands }

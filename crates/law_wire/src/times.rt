@@ -4,7 +4,18 @@ ghost use Rattle.std.specs.Prelude.{false, codes};
 ghost use Rattle.zw_text.specs.declared.entry.Entry.TheVariants.{Heard, Said, Time};
 ghost use Rattle.law_wire.specs.Clearing.{ClearsLine};
 ghost use Rattle.law_wire.specs.Times.{MayBeTold, TellsTime};
-ghost use Rattle.law_wire.specs.WorkedLinks.{both_cleared, cleared_again, cleared_in_part, cleared_in_turn, just_told, miscounted, not_told, one_cleared, one_told, two_ticks};
+ghost use Rattle.law_wire.specs.WorkedLinks.{
+  both_cleared,
+  cleared_again,
+  cleared_in_part,
+  cleared_in_turn,
+  just_told,
+  miscounted,
+  not_told,
+  one_cleared,
+  one_told,
+  two_ticks,
+};
 
 /// The number of a tick stands before its first entry, over two lines, and of a tick without one it may be left out.
 pub fn worked_times()

@@ -83,8 +83,10 @@ impl Air {
         out: &mut List<AirEvent>,
     ) -> Result<(), NoMemory>
         requires few { length devices.old.items < 2 ^ 64 }
-        ensures ok { OnOk result ((drawn : Items ℕ) × (route : Option TheRoute) × IsHeardAgain self.old.state (map (λ d. state d) devices.old.items)
-            self.new.state (map (λ d. state d) devices.new.items) arrival.now.number arrival.now.node arrival.now.payload drawn route out.old.items out.new.items) }
+        ensures ok { OnOk result ((drawn : Items ℕ) × (route : Option TheRoute) × IsHeardAgain
+            self.old.state (map (λ d. state d) devices.old.items)
+            self.new.state (map (λ d. state d) devices.new.items)
+            arrival.now.number arrival.now.node arrival.now.payload drawn route out.old.items out.new.items) }
         ensures err { OnErr result (self.new.state ≡ self.old.state) }
         ensures no_outs { OnErr result (out.new.items ≡ out.old.items) }
         ensures cut { OnErr result (IsHeardPerhaps self.old.state (map (λ d. state d) devices.old.items)

@@ -26,12 +26,13 @@ pub fn lines_lose_marked_frames()
         LosesMarked (transcript_of (first_machine keys records devices) lines) }
 {}
 
-/// Over any such lines, each frame that is on the air when a tick begins has one fate in it, in order of numbers, and what is heard besides answers a line that
-/// repeats a fresh frame: where no line repeats one, and where sessions are numbered in order.
+/// Over any such lines, each frame that is on the air when a tick begins has one fate in it, in order of numbers, and what is heard besides answers a
+/// line that repeats a fresh frame: where no line repeats one, and where sessions are numbered in order.
 pub fn ticks_decide_each_frame()
     ensures once { (keys : Keys) (records : Option (List (List ℕ))) (devices : List State) (lines : List Spoken) → AllByRecursion RepeatsNone lines →
         AreDone (first_machine keys records devices) lines → FaresInTurn (transcript_of (first_machine keys records devices) lines) }
-    ensures again { (keys : Keys) (records : Option (List (List ℕ))) (devices : List State) (lines : List Spoken) → AreDone (first_machine keys records devices) lines →
+    ensures again { (keys : Keys) (records : Option (List (List ℕ))) (devices : List State) (lines : List Spoken) →
+        AreDone (first_machine keys records devices) lines →
         KeepsSessions (transcript_of (first_machine keys records devices) lines) → FaresInTurn (transcript_of (first_machine keys records devices) lines) }
 {
     lines_number_frames();

@@ -2,12 +2,12 @@
 //!
 //! It promises that the events of every line, whole or cut short by an allocation failure, are such a path (`lines_are_paths`), and what is
 //! known of time at each phase (`time_goes_on`). There is no code here.
-//! The definitions are in `specs/`: `Phases` (where in a line the machine is, which events may come there, and which part begins next), `Paths`, `Walk` (what a law
-//! owes: something for the words of a line, for each event where it may come, and for each part that begins), `ByLine` (less, for a law that tells apart only what a
-//! line has done), `Outside` (what a law owes of what happens outside the host, with the number of the tick dealt with once; less where only the link of the chip
-//! concerns it) and `Time`. `proofs/Lines` has what a walk gives of lines that are said one after another: `lines_stand`, and `lines_lead` where all were run whole;
-//! `proofs/Over` puts one walk on the ground of another.
-//! `proofs/Machines` has `machine_keeps`: what is owed outside the host, with the units and notes of the host, is enough for each event of the machine.
+//! The definitions are in `specs/`: `Phases` (where in a line the machine is, which events may come there, and which part begins next), `Paths`,
+//! `Walk` (what a law owes: something for the words of a line, for each event where it may come, and for each part that begins), `ByLine` (less, for
+//! a law that tells apart only what a line has done), `Outside` (what a law owes of what happens outside the host, with the number of the tick dealt
+//! with once; less where only the link of the chip concerns it) and `Time`. `proofs/Lines` has what a walk gives of lines that are said one after
+//! another: `lines_stand`, and `lines_lead` where all were run whole; `proofs/Over` puts one walk on the ground of another. `proofs/Machines` has
+//! `machine_keeps`: what is owed outside the host, with the units and notes of the host, is enough for each event of the machine.
 #![tactic(auto)]
 
 mod paths;

@@ -8,8 +8,8 @@ ghost use Rattle.proof_walk.specs.Phases.{Between};
 ghost use Rattle.proof_walk.specs.Walk.{Walk};
 ghost use Rattle.proof_walk.specs.Time.{MayCount, KnowTime};
 
-/// At each phase of a line, so many ticks have begun as lines have asked for, but for those that are still to come; the number of a tick is above those before it,
-/// and lines have asked for so many.
+/// At each phase of a line, so many ticks have begun as lines have asked for, but for those that are still to come; the number of a tick is above
+/// those before it, and lines have asked for so many.
 pub fn time_goes_on()
     ensures walk { Walk MayCount KnowTime }
     ensures first { (keys : Keys) (records : Option (List (List ℕ))) (devices : List State) → KnowTime Between [] (first_machine keys records devices) }

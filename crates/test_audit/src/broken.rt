@@ -31,7 +31,13 @@ const TABLE: &str =
 const SEGMENT: &str = "air 1 2>1 via - 55C0\n";
 
 const THIRTEEN: &str =
-    "> set 2 on\naccepted 1 node 2\nbegin 2 1 1\nout 1 fail\n> set 2 on\naccepted 2 node 2\nbegin 2 2 2\nout 2 fail\n> set 2 on\naccepted 3 node 2\nbegin 2 3 3\nout 3 fail\n> set 2 on\naccepted 4 node 2\nbegin 2 4 4\nout 4 fail\n> set 2 on\naccepted 5 node 2\nbegin 2 5 5\nout 5 fail\n> set 2 on\naccepted 6 node 2\nbegin 2 6 6\nout 6 fail\n> set 2 on\naccepted 7 node 2\nbegin 2 7 7\nout 7 fail\n> set 2 on\naccepted 8 node 2\nbegin 2 8 8\nout 8 fail\n> set 2 on\naccepted 9 node 2\nbegin 2 9 9\nout 9 fail\n> set 2 on\naccepted 10 node 2\nbegin 2 10 10\nout 10 fail\n> set 2 on\naccepted 11 node 2\nbegin 2 11 11\nout 11 fail\n> set 2 on\naccepted 12 node 2\nbegin 2 12 12\nout 12 fail\n> set 2 on\naccepted 13 node 2\nbegin 2 13 13\nout 13 fail\n";
+    "> set 2 on\naccepted 1 node 2\nbegin 2 1 1\nout 1 fail\n> set 2 on\naccepted 2 node 2\nbegin 2 2 2\nout 2 fail\n\
+     > set 2 on\naccepted 3 node 2\nbegin 2 3 3\nout 3 fail\n> set 2 on\naccepted 4 node 2\nbegin 2 4 4\nout 4 fail\n\
+     > set 2 on\naccepted 5 node 2\nbegin 2 5 5\nout 5 fail\n> set 2 on\naccepted 6 node 2\nbegin 2 6 6\nout 6 fail\n\
+     > set 2 on\naccepted 7 node 2\nbegin 2 7 7\nout 7 fail\n> set 2 on\naccepted 8 node 2\nbegin 2 8 8\nout 8 fail\n\
+     > set 2 on\naccepted 9 node 2\nbegin 2 9 9\nout 9 fail\n> set 2 on\naccepted 10 node 2\nbegin 2 10 10\nout 10 fail\n\
+     > set 2 on\naccepted 11 node 2\nbegin 2 11 11\nout 11 fail\n> set 2 on\naccepted 12 node 2\nbegin 2 12 12\nout 12 fail\n\
+     > set 2 on\naccepted 13 node 2\nbegin 2 13 13\nout 13 fail\n";
 
 const FOURTEENTH: &str = "> set 2 on\naccepted 14 node 2\nbegin 2 14 14\n";
 

@@ -126,7 +126,8 @@ const ANSWERS: &[(&str, &str, Status, &str)] = &[
         "sim|--quiet",
         SWITCHES_ON,
         Status::Ok,
-        "> set 2 on\naccepted 1 node 2\nbegin 2 1 1\n> tick 2\nt 1\ndev 2 1 0/switch 255\nt 2\nout 1 success\nstore 2 0/switch 255\nend 2\nnode 2 sessions 1\nvalue 2 0/switch confirmed 255 heard -\ndevice 2 0/switch 255\n",
+        "> set 2 on\naccepted 1 node 2\nbegin 2 1 1\n> tick 2\nt 1\ndev 2 1 0/switch 255\nt 2\nout 1 success\nstore 2 0/switch 255\n\
+         end 2\nnode 2 sessions 1\nvalue 2 0/switch confirmed 255 heard -\ndevice 2 0/switch 255\n",
     ),
     ("check", "01030015E8", Status::Ok, "badsum want E9 got E8\n"),
     (

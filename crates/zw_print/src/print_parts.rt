@@ -174,7 +174,8 @@ pub fn print_value(
     heard: Option<u32>,
 ) -> Result<Bytes, NoMemory>
     ensures { IfOk result (λ text. text ≡
-        join_with_byte 32 (codes "value" ∷ decimal node ∷ property_word property ∷ codes "confirmed" ∷ number_word confirmed ∷ codes "heard" ∷ number_word heard ∷ [])) }
+        join_with_byte 32
+        (codes "value" ∷ decimal node ∷ property_word property ∷ codes "confirmed" ∷ number_word confirmed ∷ codes "heard" ∷ number_word heard ∷ [])) }
 {
     let node = node.number();
     let property = show_property(alloc, property)?;

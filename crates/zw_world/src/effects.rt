@@ -39,8 +39,9 @@ impl World {
             (scene self.new (map (λ d. state d) devices.new.items) (P.records keeper.new) out.new.items (P.faults keeper.new))) }
         ensures kept { length devices.new.items ≡ length devices.old.items }
         ensures goes_on { GoesOn (P.number keeper.old) (P.number keeper.new) (P.reads keeper.old) (P.reads keeper.new) }
-        ensures keeps { OnOk result (self.old.outer.in_tick ≡ false → KeepsOrRefuses line.now out.old.items out.new.items (P.number keeper.old) (P.number keeper.new)
-            (P.reads keeper.old) (P.reads keeper.new)) }
+        ensures keeps { OnOk result (self.old.outer.in_tick ≡ false →
+            KeepsOrRefuses line.now out.old.items out.new.items
+            (P.number keeper.old) (P.number keeper.new) (P.reads keeper.old) (P.reads keeper.new)) }
     {
         match line {
             Line::Command { order } => self.command(order, keeper, out),
@@ -125,8 +126,9 @@ impl World {
             (scene self.new ds (P.records keeper.new) out.new.items (P.faults keeper.new))) }
         ensures never_fewer { P.number keeper.old ≤ P.number keeper.new }
         ensures reads { P.reads keeper.new ≡ P.reads keeper.old }
-        ensures keeps { OnOk result (self.old.outer.in_tick ≡ false → KeepsOrRefuses (line.Command order.now) out.old.items out.new.items (P.number keeper.old) (P.number keeper.new)
-            (P.reads keeper.old) (P.reads keeper.new)) }
+        ensures keeps { OnOk result (self.old.outer.in_tick ≡ false →
+            KeepsOrRefuses (line.Command order.now) out.old.items out.new.items
+            (P.number keeper.old) (P.number keeper.new) (P.reads keeper.old) (P.reads keeper.new)) }
     {
         match self.sides.host.command(order, keeper) {
             Ok(command) => self.sides.outer.note(

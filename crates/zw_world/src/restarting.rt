@@ -35,8 +35,9 @@ impl World {
             Stops RestartPrefix (scene self.old ds (P.records keeper.old) out.old.items (P.faults keeper.old))
             (scene self.new ds (P.records keeper.new) out.new.items (P.faults keeper.new))) }
         ensures goes_on { GoesOn (P.number keeper.old) (P.number keeper.new) (P.reads keeper.old) (P.reads keeper.new) }
-        ensures keeps { OnOk result (self.old.outer.in_tick ≡ false → KeepsOrRefuses line.Restart out.old.items out.new.items (P.number keeper.old) (P.number keeper.new)
-            (P.reads keeper.old) (P.reads keeper.new)) }
+        ensures keeps { OnOk result (self.old.outer.in_tick ≡ false →
+            KeepsOrRefuses line.Restart out.old.items out.new.items
+            (P.number keeper.old) (P.number keeper.new) (P.reads keeper.old) (P.reads keeper.new)) }
     {
         match Host::open(self.sides.alloc, self.key, keeper) {
             Ok(host) => self.go_on_with(host, out),

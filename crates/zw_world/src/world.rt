@@ -96,8 +96,9 @@ impl World {
             (scene self.new (map (λ d. state d) devices.new.items) (P.records keeper.new) out.new.items (P.faults keeper.new))) }
         ensures kept { length devices.new.items ≡ length devices.old.items }
         ensures goes_on { GoesOn (P.number keeper.old) (P.number keeper.new) (P.reads keeper.old) (P.reads keeper.new) }
-        ensures keeps { OnOk result (self.old.outer.in_tick ≡ false → KeepsOrRefuses line.now out.old.items out.new.items (P.number keeper.old) (P.number keeper.new)
-            (P.reads keeper.old) (P.reads keeper.new)) }
+        ensures keeps { OnOk result (self.old.outer.in_tick ≡ false →
+            KeepsOrRefuses line.now out.old.items out.new.items
+            (P.number keeper.old) (P.number keeper.new) (P.reads keeper.old) (P.reads keeper.new)) }
     {
         if let Line::Tick { count } = line {
             return self.sides.ticks(*count, devices, draw, keeper, out);

@@ -42,7 +42,9 @@ impl<K: Sink> Gathered<K> {
 
     /// Takes a piece: it waits, or it is written after all that waits.
     fn take(&mut self, piece: &[u8]) -> Result<(), Failed>
-        ensures ok { OnOk result (Appends (handed (K.written self.old.sink) self.old.waiting.items) (handed (K.written self.new.sink) self.new.waiting.items) piece.now) }
+        ensures ok { OnOk result (Appends
+            (handed (K.written self.old.sink) self.old.waiting.items)
+            (handed (K.written self.new.sink) self.new.waiting.items) piece.now) }
         ensures err { OnErr result (AppendsPrefix (K.written self.old.sink) (K.written self.new.sink) (self.old.waiting.items ++ piece.now)) }
         ensures failed { OnErr result (self.new.has_failed ≡ true) }
     {
